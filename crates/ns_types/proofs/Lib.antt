@@ -1,0 +1,5 @@
+pub mod Ids
+pub mod Lists
+pub mod Named
+pub mod ReadingLemmas
+pub mod Tables

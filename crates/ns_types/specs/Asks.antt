@@ -1,0 +1,130 @@
+-- What is asked in one namespace.
+use Rattle.std.specs.Prelude.{ℕ, ◌+◌, Bool, true, false, not, ◌&&◌, if◌then◌else◌, Option, Some, None, nat_eq, nat_le, unwrap_or}
+use Rattle.std.specs.Option.{option_map_or}
+use Rattle.std.specs.FinMap.{get, remove, contains_key, len}
+use Rattle.ns_types.specs.declared.acl.Rights.{Rights}
+use Rattle.ns_types.specs.declared.allocation.DesiredStatus.TheVariants as desires
+use Rattle.ns_types.specs.declared.evaluation.Trigger.TheVariants as triggers
+use Rattle.ns_types.specs.declared.job.Document.{Document}
+use Rattle.ns_types.specs.declared.job.Job.{Job}
+use Rattle.ns_types.specs.declared.job.Registration.{Registration}
+use Rattle.ns_types.specs.declared.refusal.Member.TheVariants as members
+use Rattle.ns_types.specs.declared.refusal.Refusal.TheVariants as refusals
+use Rattle.ns_types.specs.declared.reply.Content.TheVariants as contents
+use Rattle.ns_types.specs.declared.step.AskCommand.{AskCommand}
+use Rattle.ns_types.specs.declared.step.AskCommand.TheVariants as asks
+use Rattle.ns_types.specs.Making.{with_job, with_desired, evaluation_of, evaluation_for, make_in}
+use Rattle.ns_types.specs.Names.{Name, same_number}
+use Rattle.ns_types.specs.Outcome.{Outcome, Done, unless, found, in_tenant}
+use Rattle.ns_types.specs.Reads.{list_jobs, read_job, job_allocations, job_evaluations, list_evaluations, read_evaluation, list_allocations, read_allocation, read_namespace, quota_usage, events_from}
+use Rattle.ns_types.specs.Rights.{has_any}
+use Rattle.ns_types.specs.Rows.{World, Tenant, is_live}
+use Rattle.ns_types.specs.Same.{same_document}
+use Rattle.ns_types.specs.Sharing.{permits}
+
+-- ---- registration
+
+-- the job's pool, or the namespace's default
+abbrev pub pool_of : Tenant → Registration → Name
+pool_of t r = unwrap_or r.pool t.namespace.default_pool
+
+abbrev pub document_of : Tenant → Registration → Document
+document_of t r = record { kind = r.kind; priority = r.priority; pool = pool_of t r; constraints = r.constraints; groups = r.groups }
+
+-- the stored job has the demanded index; zero demands that there is none, stopped or not
+abbrev pub meets : Option Job → ℕ → Bool
+meets None index = nat_eq index 0
+meets (Some job) index = same_number job.modify_index index && not (nat_eq index 0)
+
+-- the job as a registration leaves it. One that says the same of an unstopped job changes nothing
+abbrev pub registered_job : ℕ → Document → Option Job → Job
+registered_job index document None =
+    record { document = document; stop = false; version = 0; create_index = index; modify_index = index }
+registered_job index document (Some job) =
+    if same_document document job.document && not job.stop then job
+    else record { document = document; stop = false; version = job.version + 1; create_index = job.create_index; modify_index = index }
+
+abbrev pub most_jobs : ℕ
+most_jobs = 1000
+
+-- the evaluation is the namespace's next, and so is the index
+abbrev pub registered_with : Name → Registration → World → Tenant → Job → Outcome World
+registered_with ns r w t job =
+    Done (contents.Registered (t.evaluation_number + 1) (t.index + 1) job.modify_index)
+    (make_in ns (evaluation_of r.id job.document triggers.JobRegister) w (with_job r.id job t))
+
+abbrev pub register : Name → Registration → World → Tenant → Outcome World
+register ns r w t =
+    unless (not (permits t.namespace (pool_of t r))) refusals.PoolNotPermitted (
+    unless (not (contains_key w.pools (pool_of t r))) (refusals.BadField members.NodePool) (
+    unless (option_map_or (λ index. not (meets (get t.jobs r.id) index)) r.enforced false) refusals.Conflict (
+    unless (not (contains_key t.jobs r.id) && nat_le most_jobs (len t.jobs)) refusals.Full (
+    registered_with ns r w t (registered_job (t.index + 1) (document_of t r) (get t.jobs r.id))))))
+
+-- ---- deregistration
+
+abbrev pub stopped_job : ℕ → Job → Job
+stopped_job index job = if job.stop then job else record job { stop = true; modify_index = index }
+
+-- the job is stopped, or with purge removed; then the index told is the step's
+abbrev pub deregistered : Bool → Name → Job → Tenant → Tenant
+deregistered true id job t = record t { jobs = remove t.jobs id }
+deregistered false id job t = with_job id (stopped_job (t.index + 1) job) t
+
+abbrev pub index_told : Bool → ℕ → Job → ℕ
+index_told true index job = index
+index_told false index job = (stopped_job index job).modify_index
+
+abbrev pub deregister_job : Name → Name → Bool → World → Tenant → Job → Outcome World
+deregister_job ns id purge w t job =
+    Done (contents.Registered (t.evaluation_number + 1) (t.index + 1) (index_told purge (t.index + 1) job))
+    (make_in ns (evaluation_of id job.document triggers.JobDeregister) w (deregistered purge id job t))
+
+abbrev pub deregister : Name → Name → Bool → World → Tenant → Outcome World
+deregister ns id purge w t = found (get t.jobs id) (deregister_job ns id purge w t)
+
+-- ---- stopping an allocation
+
+abbrev pub stop_allocation : Name → ℕ → World → Tenant → Outcome World
+stop_allocation ns n w t = found (get t.allocations n) (λ a.
+    unless (not (is_live a)) refusals.Conflict (
+    Done (contents.Stopped (t.evaluation_number + 1) (t.index + 1))
+    (make_in ns (evaluation_for t a triggers.AllocStop) w (with_desired n desires.Stop t))))
+
+-- ---- all that is asked
+
+abbrev pub asked_in : Name → AskCommand → World → Tenant → Outcome World
+asked_in ns (asks.ListJobs prefix) w t = Done (list_jobs ns prefix t) w
+asked_in ns (asks.Register r) w t = register ns r w t
+asked_in ns (asks.ReadJob id) w t = read_job ns id w t
+asked_in ns (asks.Deregister id purge) w t = deregister ns id purge w t
+asked_in ns (asks.JobAllocations id) w t = Done (job_allocations ns id t) w
+asked_in ns (asks.JobEvaluations id) w t = Done (job_evaluations ns id t) w
+asked_in ns (asks.ListEvaluations prefix) w t = Done (list_evaluations ns prefix t) w
+asked_in ns (asks.ReadEvaluation n) w t = read_evaluation ns n w t
+asked_in ns (asks.ListAllocations prefix) w t = Done (list_allocations ns prefix t) w
+asked_in ns (asks.ReadAllocation n) w t = read_allocation ns n w t
+asked_in ns (asks.StopAllocation n) w t = stop_allocation ns n w t
+asked_in ns asks.ReadNamespace w t = Done (read_namespace ns t) w
+asked_in ns (asks.QuotaUsage quota) w t = quota_usage quota w t
+asked_in ns (asks.Events index) w t = Done (events_from ns index t) w
+
+unfoldable pub ask : Name → AskCommand → World → Outcome World
+ask ns command w = in_tenant w ns (asked_in ns command w)
+
+-- the right that each needs
+abbrev pub right_of : AskCommand → Rights → Bool
+right_of (asks.ListJobs prefix) rights = rights.list_jobs
+right_of (asks.Register r) rights = rights.submit_job
+right_of (asks.ReadJob id) rights = rights.read_job
+right_of (asks.Deregister id purge) rights = rights.submit_job
+right_of (asks.JobAllocations id) rights = rights.read_job
+right_of (asks.JobEvaluations id) rights = rights.read_job
+right_of (asks.ListEvaluations prefix) rights = rights.read_job
+right_of (asks.ReadEvaluation n) rights = rights.read_job
+right_of (asks.ListAllocations prefix) rights = rights.read_job
+right_of (asks.ReadAllocation n) rights = rights.read_job
+right_of (asks.StopAllocation n) rights = rights.alloc_lifecycle
+right_of asks.ReadNamespace rights = has_any rights
+right_of (asks.QuotaUsage quota) rights = rights.read_job
+right_of (asks.Events index) rights = rights.read_job

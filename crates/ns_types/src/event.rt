@@ -1,0 +1,17 @@
+//! Events: one for each changed row.
+
+use crate::text::Text;
+
+#[derive(Drop)]
+pub enum Topic {
+    JobRegistered(Text),
+    JobDeregistered(Text),
+    EvaluationUpdated(u64),
+    AllocationUpdated(u64),
+}
+
+#[derive(Drop)]
+pub struct Event {
+    pub index: u64,
+    pub topic: Topic,
+}

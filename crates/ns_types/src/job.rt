@@ -1,0 +1,156 @@
+//! Jobs, as they are registered and as they are kept.
+
+ghost use Rattle.std.specs.Prelude.{◌≡◌};
+
+use crate::resources::Resources;
+use crate::rows::Rows;
+use crate::text::Text;
+use std::alloc::AllocError;
+
+#[derive(Clone, Copy, Debug, PartialEq, Eq)]
+pub enum JobKind {
+    Service,
+    Batch,
+}
+
+#[derive(Drop)]
+pub struct Task {
+    pub name: Text,
+    pub resources: Resources,
+}
+
+impl Clone for Task {
+    ghost is_clone = { λ a b. b ≡ a };
+
+    fn clone(&self) -> Result<Task, AllocError> {
+        Ok(Task {
+            name: self.name.clone()?,
+            resources: self.resources,
+        })
+    }
+}
+
+#[derive(Drop)]
+pub struct Group {
+    pub name: Text,
+    pub count: u64,
+    pub tasks: Rows<Task>,
+}
+
+impl Clone for Group {
+    ghost is_clone = { λ a b. b ≡ a };
+
+    fn clone(&self) -> Result<Group, AllocError> {
+        Ok(Group {
+            name: self.name.clone()?,
+            count: self.count,
+            tasks: self.tasks.clone()?,
+        })
+    }
+}
+
+#[derive(Clone, Copy, Debug, PartialEq, Eq)]
+pub enum Operand {
+    Equal,
+    NotEqual,
+}
+
+/// What a constraint looks at on a node.
+#[derive(Drop)]
+pub enum Target {
+    NodeClass,
+    NodeName,
+    Attribute(Text),
+}
+
+impl Clone for Target {
+    ghost is_clone = { λ a b. b ≡ a };
+
+    fn clone(&self) -> Result<Target, AllocError> {
+        match self {
+            Target::NodeClass => Ok(Target::NodeClass),
+            Target::NodeName => Ok(Target::NodeName),
+            Target::Attribute(key) => Ok(Target::Attribute(key.clone()?)),
+        }
+    }
+}
+
+#[derive(Drop)]
+pub struct Constraint {
+    pub target: Target,
+    pub operand: Operand,
+    pub value: Text,
+}
+
+impl Clone for Constraint {
+    ghost is_clone = { λ a b. b ≡ a };
+
+    fn clone(&self) -> Result<Constraint, AllocError> {
+        Ok(Constraint {
+            target: self.target.clone()?,
+            operand: self.operand,
+            value: self.value.clone()?,
+        })
+    }
+}
+
+/// What a registration says of a job, with its pool filled in.
+#[derive(Drop)]
+pub struct Document {
+    pub kind: JobKind,
+    pub priority: u64,
+    pub pool: Text,
+    pub constraints: Rows<Constraint>,
+    pub groups: Rows<Group>,
+}
+
+impl Clone for Document {
+    ghost is_clone = { λ a b. b ≡ a };
+
+    fn clone(&self) -> Result<Document, AllocError> {
+        Ok(Document {
+            kind: self.kind,
+            priority: self.priority,
+            pool: self.pool.clone()?,
+            constraints: self.constraints.clone()?,
+            groups: self.groups.clone()?,
+        })
+    }
+}
+
+/// A row of a namespace, by the job's id.
+#[derive(Drop)]
+pub struct Job {
+    pub document: Document,
+    pub stop: bool,
+    pub version: u64,
+    pub create_index: u64,
+    pub modify_index: u64,
+}
+
+impl Clone for Job {
+    ghost is_clone = { λ a b. b ≡ a };
+
+    fn clone(&self) -> Result<Job, AllocError> {
+        Ok(Job {
+            document: self.document.clone()?,
+            stop: self.stop,
+            version: self.version,
+            create_index: self.create_index,
+            modify_index: self.modify_index,
+        })
+    }
+}
+
+/// A registration as it is asked. Without a pool it is the namespace's default.
+#[derive(Drop)]
+pub struct Registration {
+    pub id: Text,
+    pub kind: JobKind,
+    pub priority: u64,
+    pub pool: Option<Text>,
+    pub constraints: Rows<Constraint>,
+    pub groups: Rows<Group>,
+    /// The index that is demanded of the stored job. Zero: there is no such job.
+    pub enforced: Option<u64>,
+}

@@ -1,0 +1,23 @@
+//! What the crates of the server share: the rows of its state, its steps and its answers.
+#![tactic(auto)]
+
+pub mod acl;
+pub mod allocation;
+pub mod evaluation;
+pub mod event;
+pub mod id;
+pub mod job;
+pub mod key;
+pub mod laws;
+pub mod name;
+pub mod node;
+pub mod plan;
+pub mod records;
+pub mod refusal;
+pub mod reply;
+pub mod resources;
+pub mod rows;
+pub mod snapshot;
+pub mod step;
+pub mod text;
+pub mod worker;

@@ -1,0 +1,151 @@
+//! What a step answers.
+
+use crate::acl::{Policy, TokenKind};
+use crate::allocation::Allocation;
+use crate::evaluation::{Evaluation, Status};
+use crate::event::Event;
+use crate::job::Job;
+use crate::node::Node;
+use crate::records::{Namespace, Pool, Quota};
+use crate::refusal::Refusal;
+use crate::resources::Resources;
+use crate::rows::Rows;
+use crate::text::Text;
+use std::alloc::{Allocator, Global};
+
+#[derive(Clone, Copy, Debug, PartialEq, Eq)]
+pub enum JobStatus {
+    Dead,
+    Running,
+    Pending,
+}
+
+#[derive(Drop)]
+pub struct JobShown {
+    pub namespace: Text,
+    pub id: Text,
+    pub row: Job,
+    pub status: JobStatus,
+}
+
+#[derive(Drop)]
+pub struct EvaluationShown {
+    pub namespace: Text,
+    pub number: u64,
+    pub row: Evaluation,
+}
+
+#[derive(Drop)]
+pub struct AllocationShown {
+    pub namespace: Text,
+    pub number: u64,
+    pub row: Allocation,
+}
+
+#[derive(Drop)]
+pub struct NamespaceShown {
+    pub name: Text,
+    pub row: Namespace,
+}
+
+#[derive(Drop)]
+pub struct QuotaShown {
+    pub name: Text,
+    pub row: Quota,
+}
+
+#[derive(Drop)]
+pub struct PoolShown {
+    pub name: Text,
+    pub row: Pool,
+}
+
+#[derive(Drop)]
+pub struct NodeShown {
+    pub pool: Text,
+    pub name: Text,
+    pub row: Node,
+    pub used: Resources,
+}
+
+#[derive(Drop)]
+pub struct PolicyShown {
+    pub name: Text,
+    pub row: Policy,
+}
+
+#[derive(Drop)]
+pub struct TokenShown {
+    pub accessor: Text,
+    pub secret: Text,
+    pub name: Text,
+    pub kind: TokenKind,
+    pub policies: Rows<Text>,
+}
+
+/// What a step says beside the index.
+#[derive(Drop)]
+pub enum Content {
+    /// The number of the evaluation that was made, its index, and the job's.
+    Registered(u64, u64, u64),
+    /// The number of the evaluation that was made, and its index.
+    Stopped(u64, u64),
+    Job(JobShown),
+    Jobs(Rows<JobShown>),
+    Evaluation(EvaluationShown),
+    Evaluations(Rows<EvaluationShown>),
+    Allocation(AllocationShown),
+    Allocations(Rows<AllocationShown>),
+    Namespace(NamespaceShown),
+    Namespaces(Rows<NamespaceShown>),
+    Quota(QuotaShown),
+    Quotas(Rows<QuotaShown>),
+    Usage(Text, Resources),
+    Pool(PoolShown),
+    Pools(Rows<PoolShown>),
+    Nodes(Rows<NodeShown>),
+    Policy(PolicyShown),
+    Token(TokenShown),
+    /// Of that namespace.
+    Events(Text, Rows<Event>),
+    /// A write that has nothing to say.
+    Written,
+    Took(u64),
+    Snapped(u64),
+    Queued(u64),
+    /// The numbers of the allocations that were made, and the nodes that were dropped, by name.
+    Applied(Rows<u64>, Rows<Text>),
+    /// How the evaluation ended, and the evaluation that follows it.
+    Finished(Status, Option<u64>),
+    Nacked(Status),
+}
+
+#[derive(Drop)]
+pub struct Reply {
+    /// The namespace's index after the step, for what was asked in one.
+    pub index: Option<u64>,
+    pub content: Content,
+}
+
+/// An answer as bytes.
+#[derive(Drop)]
+pub struct Rendered {
+    pub status: u16,
+    pub index: Option<u64>,
+    pub body: Text,
+}
+
+/// What answers a request: the index and the body of a reply of status 200, or a refusal, which takes no memory.
+#[derive(Drop)]
+pub enum Response<A: Allocator = Global> {
+    Done(Option<u64>, String<A>),
+    Refused(Refusal),
+}
+
+/// Why the head of a request is refused.
+#[derive(Clone, Copy, Debug, PartialEq, Eq)]
+pub enum HeadFault {
+    BadHead,
+    NeedLength,
+    TooLarge,
+}

@@ -1,0 +1,96 @@
+//! The steps of the server.
+
+use crate::acl::{Policy, TokenKind};
+use crate::allocation::ClientStatus;
+use crate::job::Registration;
+use crate::node::{NodeStatus, Offer};
+use crate::records::{Namespace, Pool, Quota};
+use crate::rows::Rows;
+use crate::text::Text;
+
+/// What is asked in one namespace.
+#[derive(Drop)]
+pub enum AskCommand {
+    /// Those whose ids begin with the text.
+    ListJobs(Text),
+    Register(Registration),
+    ReadJob(Text),
+    /// With purge the job is removed.
+    Deregister(Text, bool),
+    JobAllocations(Text),
+    JobEvaluations(Text),
+    ListEvaluations(Text),
+    ReadEvaluation(u64),
+    ListAllocations(Text),
+    ReadAllocation(u64),
+    StopAllocation(u64),
+    ReadNamespace,
+    QuotaUsage(Text),
+    /// From the index on.
+    Events(u64),
+}
+
+/// A token to be made, with the two texts drawn for it.
+#[derive(Drop)]
+pub struct NewToken {
+    pub accessor: Text,
+    pub secret: Text,
+    pub name: Text,
+    pub kind: TokenKind,
+    pub policies: Rows<Text>,
+}
+
+/// What administrators ask.
+#[derive(Drop)]
+pub enum AdminCommand {
+    ListNamespaces,
+    PutNamespace(Text, Namespace),
+    DeleteNamespace(Text),
+    ListQuotas,
+    ReadQuota(Text),
+    PutQuota(Text, Quota),
+    DeleteQuota(Text),
+    ListPools,
+    PutPool(Text, Pool),
+    DeletePool(Text),
+    ReadPolicy(Text),
+    PutPolicy(Text, Policy),
+    DeletePolicy(Text),
+    CreateToken(NewToken),
+    /// By accessor.
+    DeleteToken(Text),
+}
+
+/// A client's word of an allocation.
+#[derive(Drop)]
+pub struct Report {
+    pub namespace: Text,
+    pub number: u64,
+    pub client: ClientStatus,
+}
+
+/// What is told of one pool and its nodes.
+#[derive(Drop)]
+pub enum NodeCommand {
+    ReadPool,
+    ListNodes,
+    PutNode(Text, Offer),
+    DeleteNode(Text),
+    SetStatus(Text, NodeStatus),
+    SetEligible(Text, bool),
+    Report(Text, Report),
+}
+
+/// One event of the server. A worker's step names the worker and the namespace that it works for.
+#[derive(Drop)]
+pub enum Step {
+    Ask(Text, Option<Text>, AskCommand),
+    Admin(Option<Text>, AdminCommand),
+    Node(Text, Option<Text>, NodeCommand),
+    Dequeue(u64, Text, u64),
+    Snap(u64, Text),
+    Submit(u64, Text),
+    Apply(u64, Text),
+    Finish(u64, Text),
+    Nack(u64, Text),
+}
