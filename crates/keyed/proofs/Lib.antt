@@ -1,0 +1,4 @@
+pub mod Counted
+pub mod Ordered
+pub mod Places
+pub mod Tables

@@ -1,0 +1,15 @@
+use Rattle.std.proofs.Common.{◌∙◌, T, sym, ap, subst}
+use Rattle.std.specs.FinMap as table
+use Rattle.std.specs.FinMap.Entries.{is_sorted}
+use Rattle.ns_types.specs.Names.{name_cmp}
+use Rattle.ns_types.proofs.Named.{names, one_name}
+use Rattle.keyed.specs.Table.{without_vacant}
+use Rattle.keyed.proofs.Tables.{sorted-without_vacant, from_sorted-without_vacant}
+use Rattle.keyed.proofs.names.NameTable.clear_slot.Goals as goal
+
+pub invariant_of-self : goal.invariant_of-self
+invariant_of-self g c = subst (λ es. T (is_sorted name_cmp es)) (sym c.clear_slot.ensures) (sorted-without_vacant names c.args.key.now _ c.self.invariant)
+
+pub returns : goal.returns
+returns g c =
+    ap table.from_sorted c.clear_slot.ensures ∙ from_sorted-without_vacant names one_name c.args.key.now _ c.self.invariant ∙ ap (λ m. without_vacant m c.args.key.now) c.self.view_is

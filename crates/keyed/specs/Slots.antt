@@ -1,0 +1,65 @@
+-- Words on a table: a list of slots whose keys strictly rise. A slot has a row, or is vacant: room for a row.
+use Rattle.std.specs.Prelude.{◌≡◌, ℕ, ◌<◌, ◌≤◌, T, length, Bool, cond, not, List, is_some, Result, Ok, Err, Option, Some, None}
+use Rattle.std.specs.declared.cmp.Ordering.{Ordering}
+use Rattle.std.specs.Ordering.{eq_by_cmp}
+use Rattle.std.specs.List.{filter, insert, remove}
+use Rattle.std.proofs.Common.{get_or, set}
+use Rattle.std.specs.FinMap.Entries.{find, put, is_sorted}
+use Rattle.keyed.specs.Table.{flat}
+
+module _ {K X : Type 0} (R : K → K → Ordering) where
+  -- the entries without the key
+  abbrev pub without : K → List (K × X) → List (K × X)
+  without k = filter (λ e. not (eq_by_cmp R k e.0))
+
+module _ {K X : Type 0} (R : K → K → Ordering) where
+  -- the entry of the key stands at i
+  pub record Stands (k : K) (es : List (K × X)) (i : ℕ) : Type 0 where
+    pub within : i < length es
+    pub find_is : (d : K × X) → find R k es ≡ Some (get_or es i d).1
+    pub put_is : (v : X) (d : K × X) → set es i ((get_or es i d).0, v) ≡ put R k v es
+    pub without_is : remove es i ≡ without R k es
+    pub put_sorted : (v : X) → T (is_sorted R (put R k v es))
+    pub without_sorted : T (is_sorted R (without R k es))
+
+  -- no entry has the key, which belongs at i
+  pub record Belongs (k : K) (es : List (K × X)) (i : ℕ) : Type 0 where
+    pub within : i ≤ length es
+    pub find_is : find R k es ≡ None
+    pub put_is : (v : X) → insert es i (k, v) ≡ put R k v es
+    pub without_is : without R k es ≡ es
+    pub put_sorted : (v : X) → T (is_sorted R (put R k v es))
+
+  -- what a search for the key found
+  abbrev pub Placed : K → List (K × X) → Result ℕ ℕ → Type 0
+  Placed k es (Ok i) = Stands k es i
+  Placed k es (Err i) = Belongs k es i
+
+module _ {K V : Type 0} (R : K → K → Ordering) where
+  -- whether a slot has this key
+  abbrev pub has_slot : K → List (K × Option V) → Bool
+  has_slot k es = is_some (find R k es)
+
+  -- with a slot for the key, which is vacant unless it was there
+  abbrev pub with_slot : K → List (K × Option V) → List (K × Option V)
+  with_slot k es = cond (has_slot k es) es (put R k None es)
+
+  -- with the slot of the key vacant, where there is one
+  abbrev pub emptied : K → List (K × Option V) → List (K × Option V)
+  emptied k es = cond (has_slot k es) (put R k None es) es
+
+  -- without the slot of the key, where it is vacant
+  abbrev pub without_vacant : K → List (K × Option V) → List (K × Option V)
+  without_vacant k es = cond (is_some (flat (find R k es))) es (without R k es)
+
+  -- the row at the key
+  abbrev pub row : K → List (K × Option V) → Option V
+  row k es = flat (find R k es)
+
+module _ {K V : Type 0} where
+  abbrev pub is_row : K × Option V → Bool
+  is_row e = is_some e.1
+
+  -- the slots that have a row
+  abbrev pub filled : List (K × Option V) → List (K × Option V)
+  filled es = filter is_row es

@@ -1,0 +1,54 @@
+-- Words on tables: finite maps from keys to slots. A slot has a row, or is vacant: room for a row.
+use Rattle.std.specs.Prelude.{IsTrue, Bool, false, cond, List, [], ◌∷◌, is_some, Option, Some, None}
+use Rattle.std.specs.declared.cmp.Ordering.{Ordering}
+use Rattle.std.specs.FinMap as table
+use Rattle.std.specs.FinMap.{FinMap}
+
+-- a row behind a slot
+abbrev pub flat : {X : Type 0} → Option (Option X) → Option X
+flat None = None
+flat (Some x) = x
+
+module _ {K V : Type 0} where
+  -- the slots' rows, with their keys
+  abbrev pub with_row : K → Option V → List (K × V) → List (K × V)
+  with_row k None es = es
+  with_row k (Some v) es = (k, v) ∷ es
+
+  abbrev pub row_list : List (K × Option V) → List (K × V)
+  row_list [] = []
+  row_list (e ∷ es) = with_row e.0 e.1 (row_list es)
+
+  -- a test of a row, at a slot
+  abbrev pub at_slot : (K × V → Bool) → K × Option V → Bool
+  at_slot p (k, None) = false
+  at_slot p (k, Some v) = p (k, v)
+
+module _ {K V : Type 0} {R : K → K → Ordering} where
+  -- the rows of a table
+  unfoldable pub rows : FinMap R (Option V) → FinMap R V
+  rows m = table.from_sorted (row_list (table.entries m))
+
+  -- whether a row at the key needs no memory
+  abbrev pub has_slot : FinMap R (Option V) → K → Bool
+  has_slot m k = table.contains_key m k
+
+  -- with a slot for the key
+  abbrev pub with_slot : FinMap R (Option V) → K → FinMap R (Option V)
+  with_slot m k = cond (has_slot m k) m (table.insert m k None)
+
+  -- with the slot of the key vacant, where there is one
+  abbrev pub emptied : FinMap R (Option V) → K → FinMap R (Option V)
+  emptied m k = cond (has_slot m k) (table.insert m k None) m
+
+  -- without the slot of the key, where it is vacant
+  abbrev pub without_vacant : FinMap R (Option V) → K → FinMap R (Option V)
+  without_vacant m k = cond (is_some (flat (table.get m k))) m (table.remove m k)
+
+  -- the row at the key
+  abbrev pub row_at : FinMap R (Option V) → K → Option V
+  row_at m k = flat (table.get m k)
+
+  -- no room is lost
+  abbrev pub KeepsSlots : FinMap R (Option V) → FinMap R (Option V) → Type 0
+  KeepsSlots old new = (k : K) → IsTrue (has_slot old k) → IsTrue (has_slot new k)

@@ -1,0 +1,13 @@
+//! Tables by key, in plain sorted `Vec`s, which contracts see as finite maps from keys to slots.
+//! A slot has a row, or is vacant: room for a row, made before it is needed.
+#![tactic(auto)]
+
+mod names;
+mod numbers;
+mod slots;
+
+pub use names::NameTable;
+pub use numbers::NumberTable;
+
+#[cfg(test)]
+mod tests;

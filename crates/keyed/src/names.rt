@@ -1,0 +1,128 @@
+// Tables by name.
+ghost use Rattle.std.specs.Prelude.{◌≡◌, IsTrue, OnOk, OnErr, is_some, option_copied};
+ghost use Rattle.std.specs.FinMap as table;
+ghost use Rattle.keyed.specs.Table.{rows, row_at, has_slot, with_slot, emptied, without_vacant};
+ghost use Rattle.ns_types.specs.Names.{Name};
+
+use crate::slots::Slots;
+use ns_types::text::Text;
+use std::alloc::{AllocError, Global};
+use std::marker::Model;
+
+/// A table by name: slots that have a row, or are vacant. A look-up is a binary search.
+#[derive(Drop)]
+pub struct NameTable<V> {
+    slots: Slots<Text, V>,
+}
+
+impl<V> Model for NameTable<V> {
+    ghost use Rattle.std.specs.Prelude.{Option, T};
+    ghost use Rattle.std.specs.Coded.{codes};
+    ghost use Rattle.std.specs.FinMap as table;
+    ghost use Rattle.std.specs.FinMap.Entries.{is_sorted};
+    ghost use Rattle.ns_types.specs.Names.{name_cmp};
+
+    ghost Value = { table.FinMap name_cmp (Option V) };
+
+    ghost coded = { Prim.hlevel (codes, table.code, V.code) };
+
+    ghost view = { λ t. table.from_sorted t.slots };
+
+    ghost invariant = { λ t. T (is_sorted name_cmp t.slots) };
+}
+
+impl<V: Drop> NameTable<V> {
+    ghost use Rattle.std.specs.Borrow.{LendsIf, sem};
+    ghost use Rattle.std.specs.Option.{option_copied_mut};
+    ghost use Rattle.keyed.specs.contracts.names.NameTable.{the_row};
+
+    /// No slots. It takes no memory.
+    pub fn new(alloc: Global) -> NameTable<V>
+        ensures { result ≡ table.empty }
+    {
+        NameTable {
+            slots: Slots::new(alloc),
+        }
+    }
+
+    /// The slots with their keys, which rise.
+    pub fn as_slice(&self) -> &[(Text, Option<V>)]
+        ensures { result.now ≡ table.entries self.now }
+    {
+        self.slots.as_slice()
+    }
+
+    /// The number of rows.
+    pub fn len(&self) -> usize
+        ensures { result ≡ table.len (rows self.now) }
+    {
+        self.slots.len()
+    }
+
+    /// The row at `key`.
+    pub fn get(&self, key: &Text) -> Option<&V>
+        ensures { option_copied result ≡ row_at self.now key.now }
+    {
+        self.slots.get(key)
+    }
+
+    /// The row at `key`, to be changed where it stands.
+    pub fn get_mut(&mut self, key: &Text) -> Option<&mut V>
+        ensures* writes_back { sem 𝓛 (LendsIf (the_row V.row) V.row self.entry result (λ w. table.insert self.old key.now (Some w)) self.old) }
+        ensures value { option_copied_mut result ≡ row_at self.old key.now }
+    {
+        self.slots.get_mut(key)
+    }
+
+    /// Makes room for a row at `key`, unless it is there: the key is copied only where it is not.
+    /// Want of memory is the only error.
+    pub fn reserve(&mut self, key: &Text) -> Result<(), AllocError>
+        ensures ok { OnOk result (self.new ≡ with_slot self.old key.now) }
+        ensures err { OnErr result (self.new ≡ self.old) }
+    {
+        if self.slots.has_slot(key) {
+            return Ok(());
+        }
+        let copy = key.clone()?;
+        self.slots.reserve(copy)?;
+        Ok(())
+    }
+
+    /// Writes the row at `key`. It takes no memory.
+    pub fn set(&mut self, key: &Text, row: V)
+        requires { IsTrue (has_slot self.old key.now) }
+        ensures { self.new ≡ table.insert self.old key.now (Some row) }
+    {
+        self.slots.set(key, row);
+    }
+
+    /// Takes the row at `key` out, to be changed and set again. Its slot stays, vacant.
+    pub fn take(&mut self, key: &Text) -> Option<V>
+        ensures row { result ≡ row_at self.old key.now }
+        ensures slots { self.new ≡ emptied self.old key.now }
+    {
+        self.slots.take(key)
+    }
+
+    /// Takes the slot at `key` out, with its row.
+    pub fn remove(&mut self, key: &Text)
+        ensures { self.new ≡ table.remove self.old key.now }
+    {
+        self.slots.remove(key);
+    }
+
+    /// Takes the slot at `key` out, if it is vacant.
+    pub fn clear_slot(&mut self, key: &Text)
+        ensures { self.new ≡ without_vacant self.old key.now }
+    {
+        self.slots.clear_slot(key);
+    }
+
+    /// Takes all vacant slots out.
+    pub fn clear_room(&mut self)
+        ensures rows { rows self.new ≡ rows self.old }
+        ensures slots { (key : Name) → has_slot self.new key ≡ is_some (row_at self.old key) }
+    {
+        self.slots.clear_room();
+    }
+}

@@ -1,0 +1,179 @@
+// Slots in the order of their keys, in a plain `Vec`.
+ghost use Rattle.std.specs.Prelude.{◌≡◌, [], IsTrue, T, OnOk, OnErr, length, option_copied};
+ghost use Rattle.std.specs.FinMap.Entries.{put, is_sorted};
+ghost use Rattle.keyed.specs.Slots.{Placed, has_slot, with_slot, row, without, without_vacant, emptied, filled};
+ghost use Rattle.keyed.specs.Table.{row_list};
+
+use std::alloc::{AllocError, Global};
+use std::cmp::Ordering;
+use std::marker::Model;
+
+/// The slots of a table in the order of their keys, with the number of those that have a row.
+#[derive(Drop)]
+pub(crate) struct Slots<K: Ord, V> {
+    slots: Vec<(K, Option<V>)>,
+    filled: usize,
+}
+
+impl<K: Ord, V> Model for Slots<K, V> {
+    ghost use Rattle.std.specs.Prelude.{◌≡◌, List, Option, T, length};
+    ghost use Rattle.std.specs.FinMap.Entries.{is_sorted};
+    ghost use Rattle.keyed.specs.Table.{row_list};
+
+    ghost Value = { List (K × Option V) };
+
+    ghost view = { λ a. a.slots.items };
+
+    ghost invariant = { λ a. T (is_sorted K.cmp a.slots.items) × (a.filled ≡ length (row_list a.slots.items)) };
+}
+
+/// Where the slot of `key` stands, or where it belongs: a binary search.
+fn place_in<K: Ord, X>(slots: &[(K, X)], key: &K) -> Result<usize, usize>
+    requires { T (is_sorted K.cmp slots.now) }
+    ensures { Placed K.cmp key.now slots.now result }
+{
+    let mut low = 0;
+    let mut high = slots.len();
+    while low < high {
+        let middle = low + (high - low) / 2;
+        match key.cmp(&slots[middle].0) {
+            Ordering::Less => high = middle,
+            Ordering::Equal => return Ok(middle),
+            Ordering::Greater => low = middle + 1,
+        }
+    }
+    Err(low)
+}
+
+impl<K: Ord + Drop, V: Drop> Slots<K, V> {
+    ghost use Rattle.std.specs.Borrow.{LendsIf, sem};
+    ghost use Rattle.std.specs.Option.{option_copied_mut};
+    ghost use Rattle.keyed.specs.contracts.slots.Slots.{the_row};
+
+    pub(crate) fn new(alloc: Global) -> Slots<K, V>
+        ensures { result ≡ [] }
+    {
+        Slots {
+            slots: Vec::new(alloc),
+            filled: 0,
+        }
+    }
+
+    pub(crate) fn as_slice(&self) -> &[(K, Option<V>)]
+        ensures { result.now ≡ self.now }
+    {
+        self.slots.as_slice()
+    }
+
+    /// The number of rows.
+    pub(crate) fn len(&self) -> usize
+        ensures { result ≡ length (row_list self.now) }
+    {
+        self.filled
+    }
+
+    fn place(&self, key: &K) -> Result<usize, usize>
+        ensures { Placed K.cmp key.now self.now result }
+    {
+        place_in(self.slots.as_slice(), key)
+    }
+
+    pub(crate) fn has_slot(&self, key: &K) -> bool
+        ensures { result ≡ has_slot K.cmp key.now self.now }
+    {
+        self.place(key).is_ok()
+    }
+
+    pub(crate) fn get(&self, key: &K) -> Option<&V>
+        ensures { option_copied result ≡ row K.cmp key.now self.now }
+    {
+        match self.place(key) {
+            Ok(i) => self.slots[i].1.as_ref(),
+            Err(_) => None,
+        }
+    }
+
+    /// The row at `key`, to be changed where it stands.
+    pub(crate) fn get_mut(&mut self, key: &K) -> Option<&mut V>
+        ensures* writes_back { sem 𝓛 (LendsIf (the_row K.row V.row (record { cmp = K.cmp }) (record { eq = K.eq }) (record { partial_cmp = K.partial_cmp })) V.row self.entry result (λ w. put K.cmp key.now (Some w) self.old) self.old) }
+        ensures value { option_copied_mut result ≡ row K.cmp key.now self.old }
+    {
+        let Ok(i) = self.place(key) else {
+            return None;
+        };
+        if self.slots[i].1.is_none() {
+            return None;
+        }
+        let slot = &mut self.slots[i];
+        slot.1.as_mut()
+    }
+
+    /// Makes room for a row at `key`, unless it is there.
+    pub(crate) fn reserve(&mut self, key: K) -> Result<(), AllocError>
+        ensures ok { OnOk result (self.new ≡ with_slot K.cmp key self.old) }
+        ensures err { OnErr result (self.new ≡ self.old) }
+    {
+        if let Err(i) = self.place(&key) {
+            self.slots.insert(i, (key, None))?;
+        }
+        Ok(())
+    }
+
+    /// Writes the row at `key`. It takes no memory.
+    pub(crate) fn set(&mut self, key: &K, row: V)
+        requires { IsTrue (has_slot K.cmp key.now self.old) }
+        ensures { self.new ≡ put K.cmp key.now (Some row) self.old }
+    {
+        if let Ok(i) = self.place(key) {
+            let earlier = self.slots[i].1.replace(row);
+            if earlier.is_none() {
+                self.filled += 1;
+            }
+        }
+    }
+
+    /// Takes the row at `key` out. Its slot stays, vacant.
+    pub(crate) fn take(&mut self, key: &K) -> Option<V>
+        ensures row { result ≡ row K.cmp key.now self.old }
+        ensures slots { self.new ≡ emptied K.cmp key.now self.old }
+    {
+        let Ok(i) = self.place(key) else {
+            return None;
+        };
+        let row = self.slots[i].1.take();
+        if row.is_some() {
+            self.filled -= 1;
+        }
+        row
+    }
+
+    /// Takes the slot of `key` out, with its row.
+    pub(crate) fn remove(&mut self, key: &K)
+        ensures { self.new ≡ without K.cmp key.now self.old }
+    {
+        if let Ok(i) = self.place(key) {
+            let slot = self.slots.remove(i);
+            if slot.1.is_some() {
+                self.filled -= 1;
+            }
+        }
+    }
+
+    /// Takes the slot of `key` out, if it is vacant.
+    pub(crate) fn clear_slot(&mut self, key: &K)
+        ensures { self.new ≡ without_vacant K.cmp key.now self.old }
+    {
+        if let Ok(i) = self.place(key) {
+            if self.slots[i].1.is_none() {
+                self.slots.remove(i);
+            }
+        }
+    }
+
+    /// Takes the vacant slots out.
+    pub(crate) fn clear_room(&mut self)
+        ensures { self.new ≡ filled self.old }
+    {
+        self.slots.retain(|slot| slot.1.is_some());
+    }
+}

@@ -1,0 +1,10 @@
+pub mod Ids
+pub mod Parts
+pub mod Queries
+pub mod Seeking
+pub mod Spelling
+pub mod Routing
+pub mod Runs
+pub mod Connections
+pub mod Answered
+pub mod Steps

@@ -1,0 +1,12 @@
+pub mod Methods
+pub mod Parts
+pub mod Endpoints
+pub mod Routes
+pub mod Targets
+pub mod Queries
+pub mod Secrets
+pub mod Gives
+pub mod Asking
+pub mod Answering
+pub mod Served
+pub mod Serving

@@ -1,0 +1,5 @@
+use Rattle.ns_audit.proofs.Heading.{other_step}
+use Rattle.ns_audit.proofs.laws.other_step.Goals as goal
+
+pub returns : goal.returns
+returns c = other_step

@@ -1,0 +1,5 @@
+use Rattle.ns_audit.proofs.Stepping.{other_step_apart}
+use Rattle.ns_audit.proofs.laws.other_step_apart.Goals as goal
+
+pub returns : goal.returns
+returns c = other_step_apart

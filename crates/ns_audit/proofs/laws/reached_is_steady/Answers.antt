@@ -1,0 +1,5 @@
+use Rattle.ns_audit.proofs.Opening.{reached_is_steady}
+use Rattle.ns_audit.proofs.laws.reached_is_steady.Goals as goal
+
+pub returns : goal.returns
+returns c = reached_is_steady

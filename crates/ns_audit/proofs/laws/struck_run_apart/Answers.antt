@@ -1,0 +1,5 @@
+use Rattle.ns_audit.proofs.Stepping.{struck_run_apart}
+use Rattle.ns_audit.proofs.laws.struck_run_apart.Goals as goal
+
+pub returns : goal.returns
+returns c = struck_run_apart

@@ -1,0 +1,5 @@
+use Rattle.ns_audit.proofs.Running.{unshared_is_apart}
+use Rattle.ns_audit.proofs.laws.unshared_is_apart.Goals as goal
+
+pub returns : goal.returns
+returns c = unshared_is_apart

@@ -1,0 +1,60 @@
+-- A choice of owners over whose border nothing reaches, and what a step's own change may do to it.
+use Rattle.std.specs.Prelude.{◌≡◌, ℕ, true, not, Option, Some, option_map}
+use Rattle.std.specs.FinMap.{get}
+use Rattle.ns_types.specs.declared.allocation.Allocation.{Allocation}
+use Rattle.ns_types.specs.declared.evaluation.Evaluation.{Evaluation}
+use Rattle.ns_types.specs.declared.job.Job.{Job}
+use Rattle.ns_types.specs.declared.snapshot.Snapshot.{Snapshot}
+use Rattle.ns_types.specs.declared.worker.Worker.{Worker}
+use Rattle.ns_types.specs.Isolation.{Part, alone_in}
+use Rattle.ns_types.specs.Lists.{Each}
+use Rattle.ns_types.specs.Names.{Name}
+use Rattle.ns_types.specs.Outcome.{Outcome, NotEnabled, Refused, Done}
+use Rattle.ns_types.specs.Rows.{World, Tenant, is_live, is_held, evaluation_at}
+use Rattle.ns_types.specs.Sharing.{permits}
+
+-- the owners that are not chosen
+abbrev pub rest : Part → Part
+rest part = record { spaces = λ ns. not (part.spaces ns); pools = λ pool. not (part.pools pool); quotas = λ quota. not (part.quotas quota) }
+
+-- a pool, and a quota if there is one, that are chosen exactly where the namespace is
+pub record IsWith (part : Part) (ns pool : Name) (quota : Option Name) : Type 0 where
+  pub pool_with : part.pools pool ≡ part.spaces ns
+  pub quota_with : (q : Name) → quota ≡ Some q → part.quotas q ≡ part.spaces ns
+
+-- a kept snapshot is of its namespace, and of a pool and a quota of its side
+pub record IsKeptWith (part : Part) (ns : Name) (kept : Snapshot) : Type 0 where
+  pub namespace : kept.namespace ≡ ns
+  pub with : IsWith part ns kept.pool (option_map (λ q. q.name) kept.quota)
+
+-- no namespace reaches over the border of the choice
+pub record IsApart (part : Part) (w : World) : Type 0 where
+  pub quota : (ns : Name) (t : Tenant) (q : Name) → get w.tenants ns ≡ Some t → t.namespace.quota ≡ Some q → part.quotas q ≡ part.spaces ns
+  pub pool : (ns : Name) (t : Tenant) (p : Name) → get w.tenants ns ≡ Some t → permits t.namespace p ≡ true → part.pools p ≡ part.spaces ns
+  pub blocked : Each (λ key. (e : Evaluation) → evaluation_at w key ≡ Some e → IsWith part key.0 e.pool e.quota) w.blocked
+  pub allocation : (ns : Name) (t : Tenant) (n : ℕ) (a : Allocation) → get w.tenants ns ≡ Some t → get t.allocations n ≡ Some a → is_live a ≡ true
+      → part.pools a.pool ≡ part.spaces ns
+  pub job : (ns : Name) (t : Tenant) (id : Name) (j : Job) → get w.tenants ns ≡ Some t → get t.jobs id ≡ Some j → part.pools j.document.pool ≡ part.spaces ns
+  pub held : (ns : Name) (t : Tenant) (n : ℕ) (worker : Worker) (e : Evaluation) → get w.tenants ns ≡ Some t → get t.workers n ≡ Some worker
+      → get t.evaluations worker.evaluation ≡ Some e → part.pools e.pool ≡ part.spaces ns
+  pub kept : (ns : Name) (t : Tenant) (n : ℕ) (worker : Worker) (kept : Snapshot) → get w.tenants ns ≡ Some t → get t.workers n ≡ Some worker
+      → worker.kept ≡ Some kept → IsKeptWith part ns kept
+
+-- what a client has not ended of the chosen namespaces is on chosen pools, whatever is desired of it
+abbrev pub IsAtHome : Part → World → Type 0
+IsAtHome part w = (ns : Name) (t : Tenant) (n : ℕ) (a : Allocation) → get w.tenants ns ≡ Some t → get t.allocations n ≡ Some a → is_held a.client ≡ true
+    → part.spaces ns ≡ true → part.pools a.pool ≡ true
+
+-- ---- what a step's own change may do
+
+-- nothing of the chosen owners is changed
+unfoldable pub Leaves : Part → World → Outcome World → Type 0
+Leaves part w (NotEnabled) = Unit {0}
+Leaves part w (Refused refusal) = Unit {0}
+Leaves part w (Done content w') = alone_in part w' ≡ alone_in part w
+
+-- the same step is answered alike among the chosen owners, wherever it is enabled among all
+unfoldable pub Follows : Part → Outcome World → Outcome World → Type 0
+Follows part NotEnabled o = Unit {0}
+Follows part (Refused refusal) o = o ≡ Refused refusal
+Follows part (Done content w') o = o ≡ Done content (alone_in part w')

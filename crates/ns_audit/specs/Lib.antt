@@ -1,0 +1,4 @@
+pub mod Apart
+pub mod Laws
+pub mod Orderly
+pub mod Headline

@@ -1,0 +1,48 @@
+-- Whether an evaluation of a job is ready, as the tables tell it.
+use Rattle.std.specs.Prelude.{◌≡◌, Bool, true, false, ◌&&◌, ◌||◌, List, Option, Some, None, is_some, option_map}
+use Rattle.std.proofs.Common.{refl, sym, ap, ◌∙◌}
+use Rattle.std.specs.List.{list_any}
+use Rattle.std.specs.Option.{option_map_or, option_and_then}
+use Rattle.std.specs.FinMap.{contains_key, get}
+use Rattle.keyed.specs.Table.{row_at, rows}
+use Rattle.keyed.proofs.Tables.{get-rows}
+use Rattle.ns_types.proofs.Named.{names, numbers, one_name, one_number, same_name_is}
+use Rattle.ns_types.proofs.Tables.{get-table_of}
+use Rattle.ns_types.specs.declared.records.Pool.{Pool}
+use Rattle.ns_types.specs.Admins.{with_pool}
+use Rattle.ns_types.specs.Tables.{any_row}
+use Rattle.ns_types.specs.Names.{Name, Key, same_name}
+use Rattle.ns_types.specs.Queue.{is_busy, is_of_job}
+use Rattle.ns_types.specs.Rows.{World, Tenant, evaluation_at}
+use Rattle.ns_core.specs.declared.tables.Tables.{Tables}
+use Rattle.ns_core.specs.declared.tables.TenantRows.{TenantRows}
+use Rattle.ns_core.specs.Viewed.{entry_of_job, tenant_of, world_of}
+use Rattle.ns_core.proofs.Viewing.{any_row-empty, get_mapped}
+
+-- whether there is a pool of a name
+pub pool_at : (t : Tables) (name : Name) (x : Option Pool) → row_at t.pools name ≡ x → contains_key (world_of t).pools name ≡ is_some x
+pool_at t name x e = get_mapped names one_name (λ _ p. with_pool p None) (rows t.pools) name ∙ ap is_some (get-rows names t.pools name ∙ e)
+
+-- the tenant at a name
+pub tenant_at : (t : Tables) (ns : Name) (x : TenantRows) → row_at t.tenants ns ≡ Some x → get (world_of t).tenants ns ≡ Some (tenant_of x)
+tenant_at t ns x e = get-table_of names one_name (λ _ x. tenant_of x) (rows t.tenants) ns ∙ ap (option_map tenant_of) (get-rows names t.tenants ns ∙ e)
+
+module _ (t' : Tables) (ns id : Name) (x : TenantRows) (at : row_at t'.tenants ns ≡ Some x) where
+  -- an entry is of the job where the namespace's own rows say so
+  same_entry : (key : Key) → entry_of_job ns id x.rows key ≡ is_of_job (world_of t') ns id key
+  same_entry key = by (same_name ns key.0) refl
+    where
+      by : (b : Bool) → same_name ns key.0 ≡ b → (b && option_map_or (λ e. same_name id e.job) (get (rows x.rows.evaluations) key.1) false) ≡ (b && option_map_or (λ e. same_name id e.job) (evaluation_at (world_of t') key) false)
+      by true e = ap (λ r. option_map_or (λ e. same_name id e.job) (option_and_then (λ t. get t.evaluations key.1) r) false) (sym (ap (get (world_of t').tenants) (sym (same_name_is ns key.0 e)) ∙ tenant_at t' ns x at))
+      by false e = refl
+
+  no_worker : option_map_or (λ t. any_row (λ _ worker. is_of_job (world_of t') ns id (ns, worker.evaluation)) t.workers) (get (world_of t').tenants ns) false ≡ false
+  no_worker = ap (λ r. option_map_or (λ t. any_row (λ _ worker. is_of_job (world_of t') ns id (ns, worker.evaluation)) t.workers) r false) (tenant_at t' ns x at)
+      ∙ any_row-empty numbers one_number (λ _ worker. is_of_job (world_of t') ns id (ns, worker.evaluation))
+
+  or_none : (b : Bool) → b ≡ (b || false)
+  or_none true = refl
+  or_none false = refl
+
+  pub busy_is : list_any (entry_of_job ns id x.rows) t'.ready.items ≡ is_busy (world_of t') ns id
+  busy_is = ap (λ f. list_any f t'.ready.items) (λ i key. same_entry key i) ∙ or_none _ ∙ ap (λ b. list_any (is_of_job (world_of t') ns id) t'.ready.items || b) (sym no_worker)

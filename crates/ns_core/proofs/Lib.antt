@@ -1,0 +1,9 @@
+pub mod Answering
+pub mod Asked
+pub mod Busy
+pub mod Lists
+pub mod Opening
+pub mod Putting
+pub mod Rights
+pub mod Ties
+pub mod Viewing

@@ -1,0 +1,141 @@
+-- A namespace's rows, taken out of the tables, changed and set back.
+use Rattle.std.specs.Prelude.{◌≡◌, ℕ, ◌+◌, ◌≤◌, ◌<◌, ◌^◌, ◌-◌, ◌||◌, ◌&&◌, not, Bool, true, false, cond, if◌then◌else◌, List, [], ◌∷◌, ◌++◌, map, nat_lt, Option, Some, None, Ok, IsTrue, option_map}
+use Rattle.std.proofs.Common.{refl, sym, ap, subst, ◌∙◌, arith}
+use Rattle.std.specs.FinMap.{FinMap, get, get-insert, insert}
+use Rattle.std.specs.Ordering.{eq_by_cmp}
+use Rattle.keyed.specs.Table.{emptied, has_slot, row_at, rows}
+use Rattle.keyed.proofs.Tables.{has_slot-insert_here, has_slot-row, rows-put_back}
+use Rattle.ns_types.specs.declared.event.Event.{Event}
+use Rattle.ns_types.specs.declared.event.Topic.TheVariants as topics
+use Rattle.ns_types.specs.declared.job.Document.{Document}
+use Rattle.ns_types.specs.declared.job.Job.{Job}
+use Rattle.ns_types.specs.declared.job.Registration.{Registration}
+use Rattle.ns_types.proofs.Named.{names, one_name}
+use Rattle.ns_types.proofs.Tables.{insert_same, tied}
+use Rattle.ns_types.specs.Asks.{document_of, registered_job}
+use Rattle.ns_types.specs.Lists.{last}
+use Rattle.ns_types.specs.Names.{Name, name_cmp}
+use Rattle.ns_types.specs.Queue.{is_busy}
+use Rattle.ns_types.specs.Rows.{World, Tenant}
+use Rattle.ns_types.specs.Same.{same_document}
+use Rattle.ns_types.specs.Tables.{table_of}
+use Rattle.ns_steps.specs.Early.{IsEarly}
+use Rattle.ns_steps.specs.Registered.{is_news, job_of, made_events, next_index, next_number, registered_reply, registered_state, registered_tenant, registered_world}
+use Rattle.ns_steps.proofs.Early.{registered_early}
+use Rattle.ns_steps.proofs.Rows.{same_Some}
+use Rattle.ns_core.specs.declared.registering.Made.{Made}
+use Rattle.ns_core.specs.declared.tables.Tables.{Tables}
+use Rattle.ns_core.specs.declared.tables.TenantRows.{TenantRows}
+use Rattle.ns_core.specs.Held.{HasFewVersions, IsHeld}
+use Rattle.ns_core.specs.Making.{IsMade, events_made, job_event_of, with_made}
+use Rattle.ns_core.specs.Puts.{PutsMade, PutsRows, reply_with}
+use Rattle.ns_core.specs.Refusing.{passes_bound}
+use Rattle.ns_core.specs.Viewed.{state_of, tenant_of, world_of}
+use Rattle.ns_core.proofs.Busy.{tenant_at}
+use Rattle.ns_core.proofs.Viewing.{table_of-insert}
+
+module _ {V : Type 0} where
+  pub slot_kept : (m n : FinMap name_cmp (Option V)) (k : Name) (x : V) → row_at m k ≡ Some x → n ≡ emptied m k → IsTrue (has_slot n k)
+  slot_kept m n k x is e = subst (λ n. IsTrue (has_slot n k)) (sym (e ∙ ap (λ b. cond b (insert m k None) m) (has_slot-row m k x is))) (has_slot-insert_here names m k None)
+
+module _ (t : Tables) (ns : Name) (x y : TenantRows) (at : row_at t.tenants ns ≡ Some x) where
+  pub put_back : (m n : FinMap name_cmp (Option TenantRows)) → m ≡ emptied t.tenants ns → n ≡ insert m ns (Some y)
+      → table_of (λ _ x. tenant_of x) (rows n) ≡ insert (world_of t).tenants ns (tenant_of y)
+  put_back m n e f = ap (λ m. table_of (λ _ x. tenant_of x) (rows m)) (f ∙ ap (λ m. insert m ns (Some y)) e)
+      ∙ ap (λ m. table_of (λ _ x. tenant_of x) m) (rows-put_back names one_name t.tenants ns y)
+      ∙ table_of-insert names one_name (λ _ x. tenant_of x) (rows t.tenants) ns y
+
+  pub put_same : (m n : FinMap name_cmp (Option TenantRows)) → m ≡ emptied t.tenants ns → n ≡ insert m ns (Some y) → tenant_of y ≡ tenant_of x
+      → table_of (λ _ x. tenant_of x) (rows n) ≡ (world_of t).tenants
+  put_same m n e f same = put_back m n e f ∙ insert_same names one_name (world_of t).tenants ns (tenant_of y) (tenant_at t ns x at ∙ ap Some (sym same))
+
+-- rows set back as they were leave the state
+pub kept_state : (old new : Tables) → (world_of new).tenants ≡ (world_of old).tenants → new.ready.items ≡ old.ready.items → new.pools ≡ old.pools → new.tokens ≡ old.tokens → state_of new ≡ state_of old
+kept_state old new tenants ready pools tokens = λ i. record {
+  acl = (state_of (record old { tokens = tokens i })).acl;
+  world = record (world_of old) { tenants = tenants i; pools = (world_of (record old { pools = pools i })).pools; ready = ready i };
+}
+
+-- the tables afterwards, where nothing else was changed
+pub puts_rows : (old new : Tables) (ns id : Name) (made : Made) (waits : Bool) (x y : TenantRows) (m : FinMap name_cmp (Option TenantRows))
+    → row_at old.tenants ns ≡ Some x → m ≡ emptied old.tenants ns → new.tenants ≡ insert m ns (Some y)
+    → tenant_of y ≡ with_made id (x.rows.index + 1) made (tenant_of x)
+    → new.ready.items ≡ (if waits then old.ready.items else old.ready.items ++ made.key ∷ [])
+    → new.pools ≡ old.pools → new.tokens ≡ old.tokens → PutsMade old ns id made waits new
+puts_rows old new ns id made waits x y m at e f tenant ready pools tokens = λ z is. subst (PutsRows old ns id made waits new) (same_Some _ _ (sym at ∙ is)) (record {
+  tenants = put_back old ns x y at m new.tenants e f ∙ ap (λ t. insert (world_of old).tenants ns t) tenant;
+  ready = ready;
+  pools = pools;
+  tokens = tokens;
+})
+
+-- ---- what was made is the registration's
+
+module _ (made : Made) (ns : Name) (r : Registration) (t : Tenant) (is : IsMade made ns r t) where
+  events_by : (b : Bool) → is_news (document_of t r) (get t.jobs r.id) ≡ b
+      → events_made (job_event_of b r.id (next_index t)) (record { index = next_index t; topic = topics.EvaluationUpdated (next_number t) }) ≡ made_events r t
+  events_by true e = ap (λ b. map (λ topic. record { index = next_index t; topic = topic }) ((if b then topics.JobRegistered r.id ∷ [] else []) ++ topics.EvaluationUpdated (next_number t) ∷ [])) (sym e)
+  events_by false e = ap (λ b. map (λ topic. record { index = next_index t; topic = topic }) ((if b then topics.JobRegistered r.id ∷ [] else []) ++ topics.EvaluationUpdated (next_number t) ∷ [])) (sym e)
+
+  events_are : events_made made.job_event made.evaluation_event ≡ made_events r t
+  events_are = (λ i. events_made (is.job_event i) (is.evaluation_event i)) ∙ events_by (is_news (document_of t r) (get t.jobs r.id)) refl
+
+  pub tenant_made : with_made r.id (t.index + 1) made t ≡ registered_tenant r t
+  unfolding registered_tenant
+  tenant_made = λ i. record t {
+    index = t.index + 1;
+    evaluation_number = t.evaluation_number + 1;
+    jobs = insert t.jobs r.id (is.job i);
+    evaluations = insert t.evaluations (t.evaluation_number + 1) (is.evaluation i);
+    events = last 100 (t.events ++ events_are i);
+  }
+
+  pub reply_made : reply_with made t ≡ registered_reply r t
+  reply_made = ap (λ job. reply_with (record made { job = job }) t) is.job
+
+-- ---- the state afterwards
+
+module _ (old new : Tables) (ns : Name) (r : Registration) (made : Made) (x : TenantRows)
+    (is : IsMade made ns r (tenant_of x)) (puts : PutsRows old ns r.id made (is_busy (world_of old) ns r.id) new x) where
+  pub world_made : world_of new ≡ registered_world ns r (world_of old) (tenant_of x)
+  unfolding registered_world
+  world_made = λ i. record (world_of old) {
+    tenants = (puts.tenants ∙ ap (λ t. insert (world_of old).tenants ns t) (tenant_made made ns r (tenant_of x) is)) i;
+    pools = ap (λ pools. (world_of (record old { pools = pools })).pools) puts.pools i;
+    ready = (puts.ready ∙ ap (λ key. if is_busy (world_of old) ns r.id then old.ready.items else old.ready.items ++ key ∷ []) is.key) i;
+  }
+
+  pub state_made : state_of new ≡ registered_state ns r (state_of old) (tenant_of x)
+  state_made = λ i. record { acl = (state_of (record old { tokens = puts.tokens i })).acl; world = world_made i }
+
+-- ---- what stays true
+
+few : (r : Registration) (t : Tenant) → HasFewVersions t → (job_of r t).version ≤ t.index + 1
+few r t h = by (get t.jobs r.id) refl
+  where
+    by : (old : Option Job) → get t.jobs r.id ≡ old → (registered_job (next_index t) (document_of t r) old).version ≤ t.index + 1
+    by None e = omega arith
+    by (Some job) e = at (same_document (document_of t r) job.document && not job.stop)
+      where
+        at : (b : Bool) → (if b then job else record { document = document_of t r; stop = false; version = job.version + 1; create_index = job.create_index; modify_index = next_index t }).version ≤ t.index + 1
+        at true = let v : job.version ≤ t.index = h r.id job e in omega (arith, v)
+        at false = let v : job.version ≤ t.index = h r.id job e in omega (arith, v)
+
+few_registered : (r : Registration) (t : Tenant) → HasFewVersions t → HasFewVersions (registered_tenant r t)
+unfolding registered_tenant
+few_registered r t h id job e = by (eq_by_cmp name_cmp id r.id) refl (sym (get-insert names t.jobs r.id (job_of r t) id) ∙ e)
+  where
+    by : (b : Bool) → eq_by_cmp name_cmp id r.id ≡ b → cond b (Some (job_of r t)) (get t.jobs id) ≡ Some job → job.version ≤ t.index + 1
+    by true same e = subst (λ j. j.version ≤ t.index + 1) (same_Some _ _ e) (few r t h)
+    by false other e = let v : job.version ≤ t.index = h id job e in omega (arith, v)
+
+pub held_registered : (ns : Name) (r : Registration) (w : World) (t : Tenant) → IsHeld w → get w.tenants ns ≡ Some t → passes_bound t ≡ false → IsHeld (registered_world ns r w t)
+unfolding registered_world
+held_registered ns r w t held at within = record {
+  early = registered_early ns r w t held.early at within;
+  versions = λ other t' e. by other t' (eq_by_cmp name_cmp other ns) refl (sym (get-insert names w.tenants ns (registered_tenant r t) other) ∙ e);
+}
+  where
+    by : (other : Name) (t' : Tenant) (b : Bool) → eq_by_cmp name_cmp other ns ≡ b → cond b (Some (registered_tenant r t)) (get w.tenants other) ≡ Some t' → HasFewVersions t'
+    by other t' true same e = subst HasFewVersions (same_Some _ _ e) (few_registered r t (held.versions ns t at))
+    by other t' false apart e = held.versions other t' e

@@ -1,0 +1,7 @@
+use Rattle.std.proofs.Common.{sym, subst}
+use Rattle.ns_core.specs.Held.{IsHeld}
+use Rattle.ns_core.proofs.Opening.{opening_held}
+use Rattle.ns_core.proofs.server.Core.new.Goals as goal
+
+pub invariant_of-result : goal.invariant_of-result
+invariant_of-result c = subst (λ s. IsHeld s.world) (sym c.in_ok-tables.ensures) (opening_held c.args.bootstrap.now)

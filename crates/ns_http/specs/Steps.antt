@@ -1,0 +1,63 @@
+-- What the engine does between two reads.
+use Rattle.std.specs.Prelude.{◌≡◌, ℕ, ◌+◌, ◌<◌, Bool, true, false, List, [], ◌∷◌, ◌++◌, length, Option, Some, None}
+use Rattle.std.specs.Io.KnownBytes.{Appends}
+use Rattle.ns_types.specs.Http.{Asked}
+use Rattle.ns_types.specs.declared.reply.Rendered.{Rendered}
+use Rattle.ns_types.specs.Wire.{Exchange, wires}
+use Rattle.ns_http.specs.declared.engine.Step.{Step}
+use Rattle.ns_http.specs.declared.engine.Step.TheVariants as Did
+use Rattle.ns_http.specs.Head.{Waits}
+use Rattle.ns_http.specs.Conversation.{Serves}
+use Rattle.ns_http.specs.Output.{WritesSome, Queues}
+
+-- these exchanges were made from the first input to the second, and their replies written
+pub record Makes
+    {S : Type 0} (answers : S → Asked → Rendered → S → Type 0) (old new : S) (input rest : List ℕ)
+    (before after : Option (List ℕ)) (answered answered' : ℕ) (exchanges : List Exchange) (closed : Bool) : Type 0 where
+  pub serves : Serves answers old new input exchanges closed rest
+  pub writes : Appends before after (wires exchanges)
+  pub count : answered' ≡ answered + length exchanges
+
+-- the same, where replies may wait
+pub record Queued
+    {S : Type 0} (answers : S → Asked → Rendered → S → Type 0) (old new : S) (input rest : List ℕ)
+    (before after : Option (List ℕ)) (waiting waiting' : List ℕ) (answered answered' : ℕ)
+    (exchanges : List Exchange) (closed : Bool) : Type 0 where
+  pub serves : Serves answers old new input exchanges closed rest
+  pub writes : Queues before after waiting waiting' (wires exchanges)
+  pub count : answered' ≡ answered + length exchanges
+
+-- the input is those exchanges and then the new input, which waits for so many bytes, or the last of them closed the connection
+abbrev pub Advances :
+    {S : Type 0} → (S → Asked → Rendered → S → Type 0) → S → S → List ℕ → List ℕ
+    → Option (List ℕ) → Option (List ℕ) → ℕ → ℕ → Option ℕ → Type 0
+Advances answers old new input input' before after answered answered' None =
+    (exchanges : List Exchange) × (rest : List ℕ)
+    × Makes answers old new input rest before after answered answered' exchanges true
+Advances answers old new input input' before after answered answered' (Some wanted) =
+    (exchanges : List Exchange)
+    × Makes answers old new input input' before after answered answered' exchanges false
+    × Waits input' wanted × (answered' + length input' < answered + length input + 1)
+
+-- one step
+abbrev pub Steps :
+    {S : Type 0} → (S → Asked → Rendered → S → Type 0) → S → S → List ℕ → List ℕ
+    → Option (List ℕ) → Option (List ℕ) → List ℕ → List ℕ → ℕ → ℕ → Step → Type 0
+Steps answers old new input input' before after waiting waiting' answered answered' Did.Answered =
+    (x : Exchange)
+    × Queued answers old new input input' before after waiting waiting' answered answered' (x ∷ []) false
+    × (length input' < length input)
+Steps answers old new input input' before after waiting waiting' answered answered' Did.Closed =
+    (x : Exchange) × (rest : List ℕ)
+    × Queued answers old new input rest before after waiting waiting' answered answered' (x ∷ []) true
+Steps answers old new input input' before after waiting waiting' answered answered' (Did.Waits wanted) =
+    (new ≡ old) × (input' ≡ input) × (after ≡ before) × (waiting' ≡ waiting) × (answered' ≡ answered) × Waits input wanted
+
+-- the writer failed while the last of these exchanges was made, or after it
+abbrev pub CutsShort :
+    {S : Type 0} → (S → Asked → Rendered → S → Type 0) → S → S → List ℕ
+    → Option (List ℕ) → Option (List ℕ) → List ℕ → Type 0
+CutsShort answers old new input before after waiting =
+    (exchanges : List Exchange) × (closed : Bool) × (rest : List ℕ)
+    × Serves answers old new input exchanges closed rest
+    × WritesSome before after (waiting ++ wires exchanges)

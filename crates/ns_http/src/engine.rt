@@ -1,0 +1,239 @@
+//! One connection, from its first byte to its end.
+ghost use Rattle.std.specs.Prelude.{◌≡◌, ℕ, ◌+◌, ◌-◌, ◌^◌, ◌<◌, ◌≤◌, [], length, IfOk, OnOk, OnErr, IsErrOf, IsTrue, false};
+ghost use Rattle.ns_types.specs.Http.{End};
+ghost use Rattle.ns_http.specs.Conversation.{streams_of, Conversation, CutShort, EndsWell, IsReadFault};
+ghost use Rattle.ns_http.specs.Counts.{HasFailed, IsOpen};
+
+use crate::counting::{Counted, is_interruption};
+use crate::head::{Front, Request, read_front};
+use crate::input::Input;
+use crate::output::{Output, WriteFault};
+use crate::response::Outgoing;
+use ns_types::reply::Response;
+use std::alloc::{AllocError, Allocator};
+use std::io::{Read, Write};
+
+/// How many reads one connection may make.
+pub const READ_LIMIT: u64 = 16_777_216;
+
+/// Why a connection was given up.
+#[derive(Clone, Copy, Debug, PartialEq, Eq)]
+pub enum ConnFault {
+    /// The reader failed, or ended inside a request, or the reads ran out.
+    Read,
+    /// The writer failed, or took no byte of some.
+    Write,
+    /// There is no memory for the buffers. Nothing was read, asked or written.
+    Memory,
+}
+
+impl From<AllocError> for ConnFault {
+    ghost use Rattle.std.specs.Prelude.{◌≡◌};
+    ghost use Rattle.ns_http.specs.declared.engine.ConnFault.TheVariants.{Memory};
+
+    ghost from_gives = { λ _ fault. fault ≡ Memory };
+
+    fn from(_: AllocError) -> ConnFault {
+        ConnFault::Memory
+    }
+}
+
+impl From<WriteFault> for ConnFault {
+    ghost use Rattle.std.specs.Prelude.{◌≡◌};
+    ghost use Rattle.ns_http.specs.declared.engine.ConnFault.TheVariants.{Write};
+
+    ghost from_gives = { λ _ fault. fault ≡ Write };
+
+    fn from(_: WriteFault) -> ConnFault {
+        ConnFault::Write
+    }
+}
+
+/// What answers requests: a state, and a relation between a request, its reply and the states before and after.
+pub trait Answer {
+    ghost use Rattle.ns_types.specs.Http.{Asked};
+    ghost use Rattle.ns_types.specs.declared.reply.Rendered.{Rendered};
+    ghost use Rattle.ns_types.specs.Wire.{rendered_of};
+    ghost use Rattle.ns_http.specs.Head.{asked};
+
+    // From the first state, the reply answers the request and leaves the second state.
+    ghost answers: { Self → Asked → Rendered → Self → Type 0 };
+
+    /// Where the texts of the replies lie.
+    type A: Allocator;
+
+    /// Answers one request. The request lends the connection's buffer.
+    fn answer(&mut self, request: &Request<'_>) -> Response<Self::A>
+        ensures { answers self.old (asked request.now) (rendered_of result) self.new };
+}
+
+/// What one step did.
+#[derive(Clone, Copy)]
+enum Step {
+    /// A request was answered, and the next may follow.
+    Answered,
+    /// A request was answered, and the connection closes.
+    Closed,
+    /// No whole request is there, and none before there are so many bytes.
+    Waits(usize),
+}
+
+/// The buffers of a connection, and how many requests it has answered.
+#[derive(Drop)]
+struct Connection<A: Allocator> {
+    input: Input<A>,
+    output: Output<A>,
+    answered: u64,
+}
+
+impl<A: Allocator> Connection<A> {
+    ghost use Rattle.ns_http.specs.Input.{unread};
+    ghost use Rattle.ns_http.specs.Waiting.{waiting};
+    ghost use Rattle.ns_http.specs.Steps.{Steps, Advances, CutsShort};
+
+    /// Answers the request at the front, if it is whole.
+    fn step<W: Write, H: Answer>(
+        &mut self,
+        writer: &mut Counted<W>,
+        handler: &mut H,
+    ) -> Result<Step, WriteFault>
+        requires { self.old.answered + length (unread self.old.input) < 2 ^ 64 - 1 }
+        ensures ok { IfOk result (λ step. Steps H.answers handler.old handler.new (unread self.old.input) (unread self.new.input)
+            (W.contents writer.old.inner) (W.contents writer.new.inner) (waiting self.old.output) (waiting self.new.output)
+            self.old.answered self.new.answered step) }
+        ensures err { OnErr result (CutsShort H.answers handler.old handler.new (unread self.old.input)
+            (W.contents writer.old.inner) (W.contents writer.new.inner) (waiting self.old.output)) }
+        ensures failed { OnErr result (HasFailed writer.old.counts writer.new.counts) }
+        ensures faults { writer.old.counts.faults ≤ writer.new.counts.faults }
+        ensures open { OnOk result (IsOpen writer.old.counts → IsOpen writer.new.counts) }
+        ensures stops { IsOpen writer.old.counts → writer.new.counts.went_on ≡ false }
+    {
+        match read_front(self.input.unread()) {
+            Front::Partial(wanted) => Ok(Step::Waits(wanted)),
+            Front::Refused(fault) => {
+                self.output.send(writer, &Outgoing::fault(fault), true)?;
+                self.answered += 1;
+                Ok(Step::Closed)
+            }
+            Front::Whole {
+                request,
+                len,
+                close,
+            } => {
+                let response = handler.answer(&request);
+                self.output.send(writer, &Outgoing::of(&response), close)?;
+                self.input.consume(len);
+                self.answered += 1;
+                if close {
+                    return Ok(Step::Closed);
+                }
+                Ok(Step::Answered)
+            }
+        }
+    }
+
+    /// Answers each whole request that was read, sends the replies, and says how many bytes the next
+    /// one takes at least. It says nothing once the connection closes.
+    fn advance<W: Write, H: Answer>(
+        &mut self,
+        writer: &mut Counted<W>,
+        handler: &mut H,
+    ) -> Result<Option<usize>, WriteFault>
+        requires count { self.old.answered + length (unread self.old.input) < 2 ^ 64 - 1 }
+        requires sent { waiting self.old.output ≡ [] }
+        ensures sent { OnOk result (waiting self.new.output ≡ []) }
+        ensures ok { IfOk result (λ wanted. Advances H.answers handler.old handler.new (unread self.old.input) (unread self.new.input)
+            (W.contents writer.old.inner) (W.contents writer.new.inner) self.old.answered self.new.answered wanted) }
+        ensures err { OnErr result (CutsShort H.answers handler.old handler.new (unread self.old.input)
+            (W.contents writer.old.inner) (W.contents writer.new.inner) []) }
+        ensures failed { OnErr result (HasFailed writer.old.counts writer.new.counts) }
+        ensures faults { writer.old.counts.faults ≤ writer.new.counts.faults }
+        ensures open { OnOk result (IsOpen writer.old.counts → IsOpen writer.new.counts) }
+        ensures stops { IsOpen writer.old.counts → writer.new.counts.went_on ≡ false }
+    {
+        loop {
+            match self.step(writer, handler)? {
+                Step::Answered => {}
+                Step::Closed => {
+                    self.output.flush(writer)?;
+                    return Ok(None);
+                }
+                Step::Waits(wanted) => {
+                    self.output.flush(writer)?;
+                    return Ok(Some(wanted));
+                }
+            }
+        }
+    }
+}
+
+/// Answers the requests of a connection, one after the other and in order, and says how many there were.
+///
+/// It reads at most `READ_LIMIT` times and takes memory only before the first read. It ends well where the input ends
+/// between two requests, or after a request that closes the connection. Heads that are refused it answers itself. An
+/// interrupted read or write is made again.
+///
+/// # Errors
+///
+/// `Read` where the reader failed, the input ended inside a request, or the reads ran out: the whole requests before
+/// it are answered. `Write` where the writer failed: a first part of the replies is written. `Memory` where there is
+/// none for the buffers.
+pub fn serve<A: Allocator + Copy, R: Read, W: Write, H: Answer>(
+    alloc: A,
+    reader: &mut Counted<R>,
+    writer: &mut Counted<W>,
+    handler: &mut H,
+) -> Result<u64, ConnFault>
+    ensures ok { IfOk result (λ count. (end : End)
+        × (c : Conversation H.answers handler.old handler.new
+        (streams_of (R.remaining reader.old.inner) (R.remaining reader.new.inner)
+        (W.contents writer.old.inner) (W.contents writer.new.inner)) end)
+        × EndsWell end (R.remaining reader.new.inner) reader.new.counts × (count ≡ length c.exchanges)) }
+    ensures read { IsErrOf result ConnFault.Read → (end : End)
+        × Conversation H.answers handler.old handler.new
+        (streams_of (R.remaining reader.old.inner) (R.remaining reader.new.inner)
+        (W.contents writer.old.inner) (W.contents writer.new.inner)) end
+        × IsReadFault end (R.remaining reader.new.inner) reader.old.counts reader.new.counts }
+    ensures write { IsErrOf result ConnFault.Write
+        → CutShort H.answers handler.old handler.new
+        (streams_of (R.remaining reader.old.inner) (R.remaining reader.new.inner)
+        (W.contents writer.old.inner) (W.contents writer.new.inner))
+        × HasFailed writer.old.counts writer.new.counts }
+    ensures memory { IsErrOf result ConnFault.Memory
+        → (reader.new ≡ reader.old) × (writer.new ≡ writer.old) × (handler.new ≡ handler.old) }
+    // No read follows one that found the end, or that failed otherwise than by interruption, and no write one that failed so.
+    ensures stops { IsOpen reader.old.counts → reader.new.counts.went_on ≡ false }
+    ensures write_stops { IsOpen writer.old.counts → writer.new.counts.went_on ≡ false }
+    // And such a failure is the fault that is named.
+    ensures broken { IsOpen reader.old.counts → IsTrue reader.new.counts.broken → result ≡ Err ConnFault.Read }
+    ensures write_broken { IsOpen writer.old.counts → IsTrue writer.new.counts.broken → result ≡ Err ConnFault.Write }
+    ensures reads { reader.new.counts.calls ≤ reader.old.counts.calls + READ_LIMIT }
+{
+    let mut connection = Connection {
+        input: Input::new(alloc)?,
+        output: Output::new(alloc)?,
+        answered: 0,
+    };
+    let mut wanted = 0;
+    for _ in 0..READ_LIMIT {
+        let count = match connection.input.fill(reader) {
+            Ok(count) => count,
+            Err(error) if is_interruption(&error) => continue,
+            Err(_) => return Err(ConnFault::Read),
+        };
+        if count == 0 {
+            if connection.input.unread().is_empty() {
+                return Ok(connection.answered);
+            }
+            return Err(ConnFault::Read);
+        }
+        if connection.input.unread().len() < wanted {
+            continue;
+        }
+        match connection.advance(writer, handler)? {
+            Some(next) => wanted = next,
+            None => return Ok(connection.answered),
+        }
+    }
+    Err(ConnFault::Read)
+}

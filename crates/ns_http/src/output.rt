@@ -1,0 +1,184 @@
+//! Responses as bytes.
+ghost use Rattle.std.specs.Prelude.{◌≡◌, ◌<◌, ◌≤◌, ◌+◌, ℕ, List, [], ◌++◌, length, IfOk, OnOk, OnErr, vec_len, vec_capacity, decimal, false};
+ghost use Rattle.std.specs.Io.KnownBytes.{Appends};
+ghost use Rattle.ns_types.specs.Wire.{index_line, close_line, response_head, wire};
+ghost use Rattle.ns_http.specs.Counts.{HasFailed, IsOpen};
+ghost use Rattle.ns_http.specs.Output.{rendered_by, WritesSome, Queues};
+
+use crate::counting::{Counted, is_interruption};
+use crate::response::{Outgoing, content_type, phrase};
+use itoa::Buffer;
+use std::alloc::{AllocError, Allocator};
+use std::io::Write;
+
+/// Room for the longest head of a response, and for a short body behind it.
+pub(crate) const OUTPUT_LEN: usize = 65_536;
+
+/// What a head of a response takes at most.
+const MAX_RESPONSE_HEAD: usize = 512;
+
+/// How many interrupted writes of one text are tried again.
+const WRITE_TRIES: u32 = 1_024;
+
+/// Writes all the bytes.
+fn write_all<W: Write>(writer: &mut Counted<W>, bytes: &[u8]) -> Result<(), WriteFault>
+    ensures ok { OnOk result (Appends (W.contents writer.old.inner) (W.contents writer.new.inner) bytes.now) }
+    ensures err { OnErr result (WritesSome (W.contents writer.old.inner) (W.contents writer.new.inner) bytes.now) }
+    ensures failed { OnErr result (HasFailed writer.old.counts writer.new.counts) }
+    ensures faults { writer.old.counts.faults ≤ writer.new.counts.faults }
+    ensures open { OnOk result (IsOpen writer.old.counts → IsOpen writer.new.counts) }
+    ensures stops { IsOpen writer.old.counts → writer.new.counts.went_on ≡ false }
+{
+    let mut rest = bytes;
+    let mut tries = WRITE_TRIES;
+    while !rest.is_empty() {
+        match writer.write(rest) {
+            Ok(count) if count > 0 => rest = &rest[count..],
+            Err(error) if is_interruption(&error) && tries > 0 => tries -= 1,
+            _ => return Err(WriteFault),
+        }
+    }
+    Ok(())
+}
+
+/// The writer failed.
+#[derive(Clone, Copy, Debug, PartialEq, Eq)]
+pub(crate) struct WriteFault;
+
+/// A buffer in which responses wait, so that those of several requests go out in one write.
+#[derive(Drop)]
+pub(crate) struct Output<A: Allocator> {
+    bytes: Vec<u8, A>,
+    ghost room: { 65536 ≤ vec_capacity bytes },
+    ghost fits: { vec_len bytes ≤ 65536 },
+}
+
+impl<A: Allocator> Output<A> {
+    ghost use Rattle.ns_http.specs.Waiting.{waiting};
+
+    pub(crate) fn new(alloc: A) -> Result<Output<A>, AllocError>
+        ensures { IfOk result (λ output. waiting output ≡ []) }
+    {
+        let bytes = Vec::with_capacity(alloc, OUTPUT_LEN)?;
+        Ok(Output { bytes })
+    }
+
+    fn put(&mut self, bytes: &[u8])
+        requires { vec_len self.old.bytes + length bytes.now ≤ OUTPUT_LEN }
+        ensures value { self.new.bytes.items ≡ self.old.bytes.items ++ bytes.now }
+        ensures len { vec_len self.new.bytes ≡ vec_len self.old.bytes + length bytes.now }
+    {
+        let _ = self.bytes.extend_from_slice(bytes);
+    }
+
+    fn put_number(&mut self, n: u64)
+        requires { vec_len self.old.bytes + 20 ≤ OUTPUT_LEN }
+        ensures value { self.new.bytes.items ≡ self.old.bytes.items ++ decimal n }
+        ensures len { vec_len self.new.bytes ≤ vec_len self.old.bytes + 20 }
+    {
+        let mut buffer = Buffer::new();
+        self.put(buffer.format(n).as_bytes());
+    }
+
+    fn put_index(&mut self, index: Option<u64>)
+        requires { vec_len self.old.bytes + 40 ≤ OUTPUT_LEN }
+        ensures value { self.new.bytes.items ≡ self.old.bytes.items ++ index_line index }
+        ensures len { vec_len self.new.bytes ≤ vec_len self.old.bytes + 40 }
+    {
+        if let Some(index) = index {
+            self.put(b"\r\nX-Nomad-Index: ");
+            self.put_number(index);
+        }
+    }
+
+    fn put_close(&mut self, close: bool)
+        requires { vec_len self.old.bytes + 20 ≤ OUTPUT_LEN }
+        ensures value { self.new.bytes.items ≡ self.old.bytes.items ++ close_line close }
+        ensures len { vec_len self.new.bytes ≤ vec_len self.old.bytes + 20 }
+    {
+        if close {
+            self.put(b"\r\nConnection: close");
+        }
+    }
+
+    fn put_head(&mut self, reply: &Outgoing<'_>, close: bool)
+        requires { vec_len self.old.bytes + 512 ≤ OUTPUT_LEN }
+        ensures value { self.new.bytes.items ≡ self.old.bytes.items
+            ++ response_head reply.now.status reply.now.index (length reply.now.body.now) close }
+        ensures len { vec_len self.new.bytes ≤ vec_len self.old.bytes + 512 }
+    {
+        self.put(b"HTTP/1.1 ");
+        self.put_number(u64::from(reply.status));
+        self.put(b" ");
+        self.put(phrase(reply.status));
+        self.put(b"\r\nContent-Type: ");
+        self.put(content_type(reply.status));
+        self.put_index(reply.index);
+        self.put(b"\r\nContent-Length: ");
+        self.put_number(reply.body.len() as u64);
+        self.put_close(close);
+        self.put(b"\r\n\r\n");
+    }
+
+    /// Sends what waits.
+    pub(crate) fn flush<W: Write>(&mut self, writer: &mut Counted<W>) -> Result<(), WriteFault>
+        ensures empty { OnOk result (waiting self.new ≡ []) }
+        ensures ok { OnOk result (Appends (W.contents writer.old.inner) (W.contents writer.new.inner) (waiting self.old)) }
+        ensures err { OnErr result (WritesSome (W.contents writer.old.inner) (W.contents writer.new.inner) (waiting self.old)) }
+        ensures failed { OnErr result (HasFailed writer.old.counts writer.new.counts) }
+        ensures faults { writer.old.counts.faults ≤ writer.new.counts.faults }
+        ensures open { OnOk result (IsOpen writer.old.counts → IsOpen writer.new.counts) }
+        ensures stops { IsOpen writer.old.counts → writer.new.counts.went_on ≡ false }
+    {
+        write_all(writer, &self.bytes)?;
+        self.bytes.clear();
+        Ok(())
+    }
+
+    /// Makes room for the head, and for the body if it is short.
+    fn make_room<W: Write>(
+        &mut self,
+        writer: &mut Counted<W>,
+        body_len: usize,
+    ) -> Result<(), WriteFault>
+        ensures room { OnOk result (vec_len self.new.bytes + 512 ≤ OUTPUT_LEN) }
+        ensures ok { OnOk result (Queues (W.contents writer.old.inner) (W.contents writer.new.inner) (waiting self.old) (waiting self.new) []) }
+        ensures err { OnErr result (WritesSome (W.contents writer.old.inner) (W.contents writer.new.inner) (waiting self.old)) }
+        ensures failed { OnErr result (HasFailed writer.old.counts writer.new.counts) }
+        ensures faults { writer.old.counts.faults ≤ writer.new.counts.faults }
+        ensures open { OnOk result (IsOpen writer.old.counts → IsOpen writer.new.counts) }
+        ensures stops { IsOpen writer.old.counts → writer.new.counts.went_on ≡ false }
+    {
+        let room = OUTPUT_LEN - self.bytes.len();
+        if room < MAX_RESPONSE_HEAD || room - MAX_RESPONSE_HEAD < body_len {
+            self.flush(writer)?;
+        }
+        Ok(())
+    }
+
+    /// Adds a response to what waits, and sends what has no room.
+    pub(crate) fn send<W: Write>(
+        &mut self,
+        writer: &mut Counted<W>,
+        reply: &Outgoing<'_>,
+        close: bool,
+    ) -> Result<(), WriteFault>
+        ensures ok { OnOk result (Queues (W.contents writer.old.inner) (W.contents writer.new.inner)
+            (waiting self.old) (waiting self.new) (wire (rendered_by reply.now) close)) }
+        ensures err { OnErr result (WritesSome (W.contents writer.old.inner) (W.contents writer.new.inner)
+            (waiting self.old ++ wire (rendered_by reply.now) close)) }
+        ensures failed { OnErr result (HasFailed writer.old.counts writer.new.counts) }
+        ensures faults { writer.old.counts.faults ≤ writer.new.counts.faults }
+        ensures open { OnOk result (IsOpen writer.old.counts → IsOpen writer.new.counts) }
+        ensures stops { IsOpen writer.old.counts → writer.new.counts.went_on ≡ false }
+    {
+        self.make_room(writer, reply.body.len())?;
+        self.put_head(reply, close);
+        if reply.body.len() <= OUTPUT_LEN - self.bytes.len() {
+            self.put(reply.body);
+            return Ok(());
+        }
+        self.flush(writer)?;
+        write_all(writer, reply.body)
+    }
+}

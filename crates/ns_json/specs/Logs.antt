@@ -1,0 +1,156 @@
+-- The text of a log: a first line with the bootstrap secret, then one line for each entry.
+use Rattle.std.specs.Prelude.{ℕ, List, [], ◌∷◌, ◌++◌, Option, Some, None, flat_map, codes}
+use Rattle.serde_json.specs.Data.{Data, null, boolean, string}
+use Rattle.serde_json.specs.Written.{compact_text}
+use Rattle.ns_types.specs.declared.job.Registration.{Registration}
+use Rattle.ns_types.specs.declared.node.Offer.{Offer}
+use Rattle.ns_types.specs.declared.step.AdminCommand.{AdminCommand}
+use Rattle.ns_types.specs.declared.step.AdminCommand.TheVariants as admins
+use Rattle.ns_types.specs.declared.step.AskCommand.{AskCommand}
+use Rattle.ns_types.specs.declared.step.AskCommand.TheVariants as asks
+use Rattle.ns_types.specs.declared.step.NewToken.{NewToken}
+use Rattle.ns_types.specs.declared.step.NodeCommand.{NodeCommand}
+use Rattle.ns_types.specs.declared.step.NodeCommand.TheVariants as tells
+use Rattle.ns_types.specs.declared.step.Report.{Report}
+use Rattle.ns_types.specs.declared.step.Step.{Step}
+use Rattle.ns_types.specs.declared.step.Step.TheVariants as steps
+use Rattle.ns_types.specs.Names.{Name}
+use Rattle.ns_json.specs.Rendering.{number_of, object_of, list_of, text_or_empty, constraint_json, group_json, namespace_json, quota_json, pool_json, attributes_json, policy_json, token_json}
+use Rattle.ns_json.specs.Replies.{Entry}
+use Rattle.ns_types.specs.Words.{kind_text, node_status_text, eligibility_text, client_text}
+
+-- what is asked or told: its name and its arguments
+abbrev pub Call : Type 0
+Call = Name × List (Name × Data)
+
+abbrev pub named : Name → (Name × Data)
+named name = (codes "Name", string name)
+
+abbrev pub with_id : Name → (Name × Data)
+with_id id = (codes "ID", string id)
+
+abbrev pub with_prefix : Name → (Name × Data)
+with_prefix prefix = (codes "Prefix", string prefix)
+
+abbrev pub numbered : ℕ → (Name × Data)
+numbered n = (codes "Number", number_of n)
+
+abbrev pub documented : Data → (Name × Data)
+documented json = (codes "Doc", json)
+
+abbrev pub number_or_null : Option ℕ → Data
+number_or_null None = null
+number_or_null (Some n) = number_of n
+
+abbrev pub text_or_null : Option Name → Data
+text_or_null None = null
+text_or_null (Some text) = string text
+
+-- ---- documents
+
+unfoldable pub registration_json : Registration → Data
+registration_json r = object_of (
+    (codes "Constraints", list_of constraint_json r.constraints) ∷
+    (codes "ID", string r.id) ∷
+    (codes "NodePool", text_or_empty r.pool) ∷
+    (codes "Priority", number_of r.priority) ∷
+    (codes "TaskGroups", list_of group_json r.groups) ∷
+    (codes "Type", string (kind_text r.kind)) ∷ [])
+
+unfoldable pub offer_json : Offer → Data
+offer_json o = object_of (
+    (codes "Attributes", attributes_json o.attributes) ∷
+    (codes "CPU", number_of o.capacity.cpu) ∷
+    (codes "MemoryMB", number_of o.capacity.memory) ∷
+    (codes "NodeClass", string o.class) ∷ [])
+
+abbrev pub new_token_json : NewToken → Data
+new_token_json t = token_json (record { accessor = t.accessor; secret = t.secret; name = t.name; kind = t.kind; policies = t.policies })
+
+abbrev pub report_members : Name → Report → List (Name × Data)
+report_members name r =
+    (codes "ClientStatus", string (client_text r.client)) ∷ named name ∷ (codes "Namespace", string r.namespace) ∷ numbered r.number ∷ []
+
+-- ---- commands
+
+unfoldable pub asked : AskCommand → Call
+asked (asks.ListJobs prefix) = (codes "ListJobs", with_prefix prefix ∷ [])
+asked (asks.Register r) = (codes "Register", documented (registration_json r) ∷ (codes "Enforce", number_or_null r.enforced) ∷ [])
+asked (asks.ReadJob id) = (codes "ReadJob", with_id id ∷ [])
+asked (asks.Deregister id purge) = (codes "Deregister", with_id id ∷ (codes "Purge", boolean purge) ∷ [])
+asked (asks.JobAllocations id) = (codes "JobAllocations", with_id id ∷ [])
+asked (asks.JobEvaluations id) = (codes "JobEvaluations", with_id id ∷ [])
+asked (asks.ListEvaluations prefix) = (codes "ListEvaluations", with_prefix prefix ∷ [])
+asked (asks.ReadEvaluation n) = (codes "ReadEvaluation", numbered n ∷ [])
+asked (asks.ListAllocations prefix) = (codes "ListAllocations", with_prefix prefix ∷ [])
+asked (asks.ReadAllocation n) = (codes "ReadAllocation", numbered n ∷ [])
+asked (asks.StopAllocation n) = (codes "StopAllocation", numbered n ∷ [])
+asked asks.ReadNamespace = (codes "ReadNamespace", [])
+asked (asks.QuotaUsage quota) = (codes "QuotaUsage", named quota ∷ [])
+asked (asks.Events index) = (codes "Events", (codes "From", number_of index) ∷ [])
+
+unfoldable pub administered : AdminCommand → Call
+administered admins.ListNamespaces = (codes "ListNamespaces", [])
+administered (admins.PutNamespace name n) = (codes "PutNamespace", documented (namespace_json (record { name = name; row = n })) ∷ [])
+administered (admins.DeleteNamespace name) = (codes "DeleteNamespace", named name ∷ [])
+administered admins.ListQuotas = (codes "ListQuotas", [])
+administered (admins.ReadQuota name) = (codes "ReadQuota", named name ∷ [])
+administered (admins.PutQuota name q) = (codes "PutQuota", documented (quota_json (record { name = name; row = q })) ∷ [])
+administered (admins.DeleteQuota name) = (codes "DeleteQuota", named name ∷ [])
+administered admins.ListPools = (codes "ListPools", [])
+administered (admins.PutPool name p) = (codes "PutPool", documented (pool_json (record { name = name; row = p })) ∷ [])
+administered (admins.DeletePool name) = (codes "DeletePool", named name ∷ [])
+administered (admins.ReadPolicy name) = (codes "ReadPolicy", named name ∷ [])
+administered (admins.PutPolicy name p) = (codes "PutPolicy", documented (policy_json (record { name = name; row = p })) ∷ [])
+administered (admins.DeletePolicy name) = (codes "DeletePolicy", named name ∷ [])
+administered (admins.CreateToken t) = (codes "CreateToken", documented (new_token_json t) ∷ [])
+administered (admins.DeleteToken accessor) = (codes "DeleteToken", (codes "AccessorID", string accessor) ∷ [])
+
+unfoldable pub told : NodeCommand → Call
+told tells.ReadPool = (codes "ReadPool", [])
+told tells.ListNodes = (codes "ListNodes", [])
+told (tells.PutNode name offer) = (codes "PutNode", documented (offer_json offer) ∷ named name ∷ [])
+told (tells.DeleteNode name) = (codes "DeleteNode", named name ∷ [])
+told (tells.SetStatus name status) = (codes "SetStatus", named name ∷ (codes "Status", string (node_status_text status)) ∷ [])
+told (tells.SetEligible name eligible) = (codes "SetEligible", (codes "Eligibility", string (eligibility_text eligible)) ∷ named name ∷ [])
+told (tells.Report name r) = (codes "Report", report_members name r)
+
+-- ---- steps
+
+abbrev pub call_members : Call → List (Name × Data) → List (Name × Data)
+call_members call others = (codes "Args", object_of call.1) ∷ (codes "Do", string call.0) ∷ others
+
+abbrev pub kind : Name → (Name × Data)
+kind word = (codes "Kind", string word)
+
+abbrev pub with_secret : Option Name → (Name × Data)
+with_secret secret = (codes "Secret", text_or_null secret)
+
+abbrev pub work_members : Name → ℕ → Name → List (Name × Data)
+work_members word worker ns = kind word ∷ (codes "Ns", string ns) ∷ (codes "Worker", number_of worker) ∷ []
+
+unfoldable pub step_members : Step → List (Name × Data)
+step_members (steps.Ask ns secret command) = call_members (asked command) (kind (codes "Ask") ∷ (codes "Ns", string ns) ∷ with_secret secret ∷ [])
+step_members (steps.Admin secret command) = call_members (administered command) (kind (codes "Admin") ∷ with_secret secret ∷ [])
+step_members (steps.Node pool secret command) = call_members (told command) (kind (codes "Node") ∷ (codes "Pool", string pool) ∷ with_secret secret ∷ [])
+step_members (steps.Dequeue worker ns n) = (codes "Eval", number_of n) ∷ work_members (codes "Dequeue") worker ns
+step_members (steps.Snap worker ns) = work_members (codes "Snap") worker ns
+step_members (steps.Submit worker ns) = work_members (codes "Submit") worker ns
+step_members (steps.Apply worker ns) = work_members (codes "Apply") worker ns
+step_members (steps.Finish worker ns) = work_members (codes "Finish") worker ns
+step_members (steps.Nack worker ns) = work_members (codes "Nack") worker ns
+
+unfoldable pub entry_json : Entry → Data
+entry_json e = object_of (
+    (codes "Body", string e.1.body) ∷
+    (codes "Index", number_or_null e.1.index) ∷
+    (codes "Status", number_of e.1.status) ∷
+    (codes "Step", object_of (step_members e.0)) ∷ [])
+
+-- ---- the text
+
+abbrev pub line_of : Name → Name
+line_of text = text ++ 10 ∷ []
+
+unfoldable pub log_text : Name → List Entry → Name
+log_text secret log = line_of (codes "nsd-log 1 " ++ secret) ++ flat_map (λ e. line_of (compact_text (entry_json e))) log

@@ -1,0 +1,186 @@
+-- The document of a registration.
+use Rattle.std.specs.Prelude.{ℕ, ◌^◌, ◌-◌, ◌==◌, eqb, List, [], length, take, drop, codes, Bool, true, false, Option, Some, None, option_and_then, Ok, Err, if◌then◌else◌}
+use Rattle.std.specs.List.{starts_with, ends_with}
+use Rattle.std.specs.Str.{bytes_eq}
+use Rattle.serde_json.specs.Data.{Data}
+use Rattle.ns_types.specs.declared.refusal.Member.{Member}
+use Rattle.ns_types.specs.declared.refusal.Member.TheVariants as members
+use Rattle.ns_types.specs.declared.refusal.Refusal.TheVariants.{BadField}
+use Rattle.ns_types.specs.declared.name.NameKind.{NameKind}
+use Rattle.ns_types.specs.declared.name.NameKind.TheVariants as kinds
+use Rattle.ns_types.specs.declared.job.JobKind.{JobKind}
+use Rattle.ns_types.specs.declared.job.JobKind.TheVariants.{Service, Batch}
+use Rattle.ns_types.specs.declared.job.Operand.{Operand}
+use Rattle.ns_types.specs.declared.job.Operand.TheVariants.{Equal, NotEqual}
+use Rattle.ns_types.specs.declared.job.Target.{Target}
+use Rattle.ns_types.specs.declared.job.Target.TheVariants.{NodeClass, NodeName, Attribute}
+use Rattle.ns_types.specs.declared.resources.Resources.{Resources}
+use Rattle.ns_types.specs.declared.job.Task.{Task}
+use Rattle.ns_types.specs.declared.job.Group.{Group}
+use Rattle.ns_types.specs.declared.job.Constraint.{Constraint}
+use Rattle.ns_types.specs.declared.job.Registration.{Registration}
+use Rattle.ns_json.specs.declared.registration.RegistrationDocument.{RegistrationDocument}
+use Rattle.ns_json.specs.Reading.{◌>>=◌, Read, top, present, demanded, or_else, some, or_refuse, an_object, a_flag, a_number, a_text, a_name, has_name, unless, a_list, each}
+
+abbrev pub max_quantity : ℕ
+max_quantity = 2147483647
+
+abbrev pub max_index : ℕ
+max_index = 2 ^ 64 - 1
+
+-- ---- tasks and groups
+
+unfoldable pub resources_in : Data → Read Resources
+resources_in d = do
+  r ← an_object members.Resources d
+  cpu ← or_else 100 (a_number members.Cpu 1 max_quantity) (present members.Cpu r)
+  memory ← or_else 300 (a_number members.MemoryMb 1 max_quantity) (present members.MemoryMb r)
+  Ok (record { cpu = cpu; memory = memory })
+
+abbrev pub default_resources : Resources
+default_resources = record { cpu = 100; memory = 300 }
+
+-- no constraints stand on groups and tasks
+unfoldable pub no_constraints : Data → Read (Unit {0})
+no_constraints d = or_else tt (λ c. a_list members.Constraints 0 0 c >>= λ ds. Ok tt) (present members.Constraints d)
+
+-- a task, after those of its group that stand before it
+unfoldable pub task_in : List Task → Data → Read Task
+task_in before d = do
+  t ← an_object members.Tasks d
+  name ← demanded members.Name t
+  name ← a_name members.Name kinds.Task name
+  name ← unless (has_name (λ x. x.name) before name) members.Name name
+  none ← no_constraints t
+  resources ← or_else default_resources resources_in (present members.Resources t)
+  Ok (record { name = name; resources = resources })
+
+unfoldable pub tasks_in : Data → Read (List Task)
+tasks_in d = do
+  ds ← a_list members.Tasks 1 16 d
+  each task_in [] ds
+
+unfoldable pub group_in : List Group → Data → Read Group
+group_in before d = do
+  g ← an_object members.TaskGroups d
+  name ← demanded members.Name g
+  name ← a_name members.Name kinds.Group name
+  name ← unless (has_name (λ x. x.name) before name) members.Name name
+  count ← or_else 1 (a_number members.Count 0 1000) (present members.Count g)
+  none ← no_constraints g
+  tasks ← demanded members.Tasks g
+  tasks ← tasks_in tasks
+  Ok (record { name = name; count = count; tasks = tasks })
+
+-- ---- constraints
+
+-- a text without what it begins with, or ends with
+abbrev pub without_prefix : List ℕ → List ℕ → Option (List ℕ)
+without_prefix p s = if starts_with eqb s p then Some (drop (length p) s) else None
+
+abbrev pub without_suffix : List ℕ → List ℕ → Option (List ℕ)
+without_suffix p s = if ends_with eqb s p then Some (take (length s - length p) s) else None
+
+-- the key of `${attr.KEY}`
+unfoldable pub attribute_key : List ℕ → Option (List ℕ)
+attribute_key s = option_and_then (without_suffix (codes "}")) (without_prefix (codes "${attr.") s)
+
+unfoldable pub target_of : List ℕ → Option Target
+target_of s =
+    if bytes_eq s (codes "${node.class}") then Some NodeClass
+    else if bytes_eq s (codes "${node.unique.name}") then Some NodeName
+    else option_and_then (λ k. Some (Attribute k)) (attribute_key s)
+
+unfoldable pub operand_of : List ℕ → Option Operand
+operand_of s = if bytes_eq s (codes "=") then Some Equal else if bytes_eq s (codes "!=") then Some NotEqual else None
+
+unfoldable pub constraint_in : Data → Read Constraint
+constraint_in d = do
+  c ← an_object members.Constraints d
+  target ← demanded members.LeftTarget c
+  target ← a_text members.LeftTarget target
+  target ← or_refuse members.LeftTarget (target_of target)
+  value ← demanded members.RightTarget c
+  value ← a_text members.RightTarget value
+  operand ← demanded members.Operand c
+  operand ← a_text members.Operand operand
+  operand ← or_refuse members.Operand (operand_of operand)
+  Ok (record { target = target; operand = operand; value = value })
+
+-- ---- the job
+
+unfoldable pub kind_of : List ℕ → Option JobKind
+kind_of s = if bytes_eq s (codes "service") then Some Service else if bytes_eq s (codes "batch") then Some Batch else None
+
+unfoldable pub kind_in : Data → Read JobKind
+kind_in d = do
+  s ← a_text members.Type d
+  or_refuse members.Type (kind_of s)
+
+-- an empty name counts as absent
+unfoldable pub name_if_any : Member → NameKind → Data → Read (Option (List ℕ))
+name_if_any m kind d = do
+  s ← a_text m d
+  if length s == 0 then Ok None else some (a_name m kind d)
+
+-- the pool that a job names; none is called `all`
+abbrev pub not_all : Option (List ℕ) → Read (Option (List ℕ))
+not_all None = Ok None
+not_all (Some s) = if bytes_eq s (codes "all") then Err (BadField members.NodePool) else Ok (Some s)
+
+unfoldable pub pool_in : Data → Read (Option (List ℕ))
+pool_in d = name_if_any members.NodePool kinds.Pool d >>= not_all
+
+abbrev pub absent : Member → Option Data → Read (Unit {0})
+absent m None = Ok tt
+absent m (Some d) = Err (BadField m)
+
+abbrev pub constraint_after : List Constraint → Data → Read Constraint
+constraint_after before d = constraint_in d
+
+unfoldable pub constraints_in : Data → Read (List Constraint)
+constraints_in d = do
+  ds ← a_list members.Constraints 0 16 d
+  each constraint_after [] ds
+
+unfoldable pub groups_in : Data → Read (List Group)
+groups_in d = do
+  ds ← a_list members.TaskGroups 1 16 d
+  each group_in [] ds
+
+-- what the job says, where no index is demanded
+unfoldable pub job_in : Data → Read RegistrationDocument
+job_in d = do
+  j ← an_object members.Job d
+  id ← demanded members.Id j
+  id ← a_name members.Id kinds.Job id
+  namespace ← or_else None (name_if_any members.Namespace kinds.Namespace) (present members.Namespace j)
+  kind ← or_else Service kind_in (present members.Type j)
+  priority ← or_else 50 (a_number members.Priority 1 100) (present members.Priority j)
+  pool ← or_else None pool_in (present members.NodePool j)
+  constraints ← or_else [] constraints_in (present members.Constraints j)
+  periodic ← absent members.Periodic (present members.Periodic j)
+  parameterized ← absent members.ParameterizedJob (present members.ParameterizedJob j)
+  groups ← demanded members.TaskGroups j
+  groups ← groups_in groups
+  Ok (record {
+    namespace = namespace;
+    registration = record { id = id; kind = kind; priority = priority; pool = pool; constraints = constraints; groups = groups; enforced = None };
+  })
+
+-- the index that is demanded, where one is
+abbrev pub enforced : Bool → ℕ → Option ℕ
+enforced true n = Some n
+enforced false n = None
+
+abbrev pub demanding : Option ℕ → Registration → Registration
+demanding index r = record r { enforced = index }
+
+unfoldable pub registration_in : Data → Read RegistrationDocument
+registration_in d = do
+  top ← top d
+  job ← demanded members.Job top
+  job ← job_in job
+  enforce ← or_else false (a_flag members.EnforceIndex) (present members.EnforceIndex top)
+  index ← or_else 0 (a_number members.JobModifyIndex 0 max_index) (present members.JobModifyIndex top)
+  Ok (record { namespace = job.namespace; registration = demanding (enforced enforce index) job.registration })

@@ -1,0 +1,17 @@
+-- Which replies are rendered.
+use Rattle.std.specs.Prelude.{ℕ}
+use Rattle.ns_types.specs.declared.reply.Content.{Content}
+use Rattle.ns_types.specs.declared.reply.Content.TheVariants as contents
+
+abbrev pub IsRegistered : Content → Type 0
+IsRegistered (contents.Registered evaluation index job_index) = Unit {0}
+IsRegistered _ = ⊥
+
+abbrev pub IsRendered : Content → Type 0
+IsRendered (contents.Registered evaluation index job_index) = Unit {0}
+IsRendered (contents.Job job) = Unit {0}
+IsRendered _ = ⊥
+
+-- the bytes of the longest body that answers a registration
+abbrev pub longest_registered : ℕ
+longest_registered = 126

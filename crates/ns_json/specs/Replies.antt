@@ -1,0 +1,110 @@
+-- Answers as status, index and body.
+use Rattle.std.specs.Prelude.{◌≡◌, ℕ, List, [], ◌∷◌, ◌++◌, Option, map, flat_map, codes, Ok, Err}
+use Rattle.serde_json.specs.Data.{Data, string}
+use Rattle.serde_json.specs.Written.{compact_text}
+use Rattle.ns_types.specs.declared.event.Event.{Event}
+use Rattle.ns_types.specs.declared.event.Topic.{Topic}
+use Rattle.ns_types.specs.declared.event.Topic.TheVariants as topics
+use Rattle.ns_types.specs.declared.evaluation.Status.{Status}
+use Rattle.ns_types.specs.declared.id.IdKind.TheVariants as ids
+use Rattle.ns_types.specs.declared.reply.Content.{Content}
+use Rattle.ns_types.specs.declared.reply.Content.TheVariants as contents
+use Rattle.ns_types.specs.declared.reply.Rendered.{Rendered}
+use Rattle.ns_types.specs.declared.step.Step.{Step}
+use Rattle.ns_types.specs.Id.{id_text}
+use Rattle.ns_types.specs.Refused.{refused}
+use Rattle.ns_types.specs.Names.{Name}
+use Rattle.ns_json.specs.Rendering.{number_of, object_of, list_of, texts_of, id_or_empty, registered_json, stopped_json, job_json, listed_job_json, evaluation_json, allocation_json, namespace_json, quota_json, usage_json, pool_json, node_json, policy_json, token_json}
+use Rattle.ns_types.specs.Rows.{State}
+use Rattle.ns_types.specs.Steps.{Answer, Run}
+use Rattle.ns_types.specs.Words.{status_text}
+
+-- ---- events
+
+abbrev pub topic_word : Topic → Name
+topic_word (topics.JobRegistered id) = codes "Job"
+topic_word (topics.JobDeregistered id) = codes "Job"
+topic_word (topics.EvaluationUpdated n) = codes "Evaluation"
+topic_word (topics.AllocationUpdated n) = codes "Allocation"
+
+abbrev pub type_word : Topic → Name
+type_word (topics.JobRegistered id) = codes "JobRegistered"
+type_word (topics.JobDeregistered id) = codes "JobDeregistered"
+type_word (topics.EvaluationUpdated n) = codes "EvaluationUpdated"
+type_word (topics.AllocationUpdated n) = codes "AllocationUpdated"
+
+abbrev pub key_text : Topic → Name
+key_text (topics.JobRegistered id) = id
+key_text (topics.JobDeregistered id) = id
+key_text (topics.EvaluationUpdated n) = id_text ids.Evaluation n
+key_text (topics.AllocationUpdated n) = id_text ids.Allocation n
+
+unfoldable pub event_json : Name → Event → Data
+event_json ns e = object_of (
+    (codes "Index", number_of e.index) ∷
+    (codes "Key", string (key_text e.topic)) ∷
+    (codes "Namespace", string ns) ∷
+    (codes "Topic", string (topic_word e.topic)) ∷
+    (codes "Type", string (type_word e.topic)) ∷ [])
+
+unfoldable pub event_line : Name → Event → Name
+event_line ns e = compact_text (object_of ((codes "Events", list_of (event_json ns) (e ∷ [])) ∷ (codes "Index", number_of e.index) ∷ [])) ++ 10 ∷ []
+
+-- ---- what workers' steps say
+
+abbrev pub one_id : Name → ℕ → Data
+one_id name n = object_of ((name, string (id_text ids.Evaluation n)) ∷ [])
+
+abbrev pub applied_json : List ℕ → List Name → Data
+applied_json made dropped = object_of ((codes "Committed", list_of (λ n. string (id_text ids.Allocation n)) made) ∷ (codes "Dropped", texts_of dropped) ∷ [])
+
+abbrev pub finished_json : Status → Option ℕ → Data
+finished_json status follower = object_of ((codes "Follower", id_or_empty follower) ∷ (codes "Status", string (status_text status)) ∷ [])
+
+-- ---- bodies
+
+unfoldable pub body_of : Content → Name
+body_of (contents.Registered evaluation index job_index) = compact_text (registered_json evaluation index job_index)
+body_of (contents.Stopped evaluation index) = compact_text (stopped_json evaluation index)
+body_of (contents.Job job) = compact_text (job_json job)
+body_of (contents.Jobs jobs) = compact_text (list_of listed_job_json jobs)
+body_of (contents.Evaluation e) = compact_text (evaluation_json e)
+body_of (contents.Evaluations es) = compact_text (list_of evaluation_json es)
+body_of (contents.Allocation a) = compact_text (allocation_json a)
+body_of (contents.Allocations as_) = compact_text (list_of allocation_json as_)
+body_of (contents.Namespace n) = compact_text (namespace_json n)
+body_of (contents.Namespaces ns) = compact_text (list_of namespace_json ns)
+body_of (contents.Quota q) = compact_text (quota_json q)
+body_of (contents.Quotas qs) = compact_text (list_of quota_json qs)
+body_of (contents.Usage name used) = compact_text (usage_json name used)
+body_of (contents.Pool p) = compact_text (pool_json p)
+body_of (contents.Pools ps) = compact_text (list_of pool_json ps)
+body_of (contents.Nodes ns) = compact_text (list_of node_json ns)
+body_of (contents.Policy p) = compact_text (policy_json p)
+body_of (contents.Token t) = compact_text (token_json t)
+body_of (contents.Events ns es) = flat_map (event_line ns) es
+body_of contents.Written = codes "{}"
+body_of (contents.Took n) = compact_text (one_id (codes "Took") n)
+body_of (contents.Snapped n) = compact_text (one_id (codes "Snapped") n)
+body_of (contents.Queued n) = compact_text (one_id (codes "Queued") n)
+body_of (contents.Applied made dropped) = compact_text (applied_json made dropped)
+body_of (contents.Finished status follower) = compact_text (finished_json status follower)
+body_of (contents.Nacked status) = compact_text (object_of ((codes "Status", string (status_text status)) ∷ []))
+
+-- ---- answers
+
+unfoldable pub rendered : Answer → Rendered
+rendered (Ok reply) = record { status = 200; index = reply.index; body = body_of reply.content }
+rendered (Err refusal) = refused refusal
+
+-- ---- logs
+
+-- an entry is a step with the rendering of its answer
+abbrev pub Entry : Type 0
+Entry = Step × Rendered
+
+-- the log's steps and rendered answers are a run from the base to the state
+pub record IsKept (base : State) (log : List Entry) (s : State) : Type 0 where
+  pub answers : List Answer
+  pub run : Run base (map (λ e. e.0) log) answers s
+  pub rendering : map rendered answers ≡ map (λ e. e.1) log

@@ -1,0 +1,234 @@
+//! A job as it is replied.
+
+ghost use Rattle.std.specs.Prelude.{◌≡◌, IfOk, OnOk, string_bytes, ◌∷◌, []};
+ghost use Rattle.std.specs.List.{flat_map};
+ghost use Rattle.json.specs.Token.{string};
+ghost use Rattle.serde_json.specs.Written.{compact_text};
+ghost use Rattle.ns_types.specs.Words.{target_text as text_of_target, operand_text as text_of_operand, kind_text as text_of_kind, job_status_text as text_of_status};
+ghost use Rattle.ns_json.specs.Part.{Adds, Follows, tokens_of, member_tokens};
+ghost use Rattle.ns_json.specs.Rendering.{constraint_json, task_json, group_json, job_json};
+
+use crate::part::{Part, write_parts};
+use json::Writer;
+use ns_types::job::{Constraint, Group, JobKind, Operand, Target, Task};
+use ns_types::reply::{JobShown, JobStatus};
+use std::alloc::{AllocError, Global};
+
+fn status_text<'a>(status: JobStatus) -> &'a str
+    ensures { result.now ≡ text_of_status status }
+{
+    match status {
+        JobStatus::Dead => "dead",
+        JobStatus::Running => "running",
+        JobStatus::Pending => "pending",
+    }
+}
+
+fn kind_text(kind: JobKind) -> &'static str
+    ensures { result.now ≡ text_of_kind kind }
+{
+    match kind {
+        JobKind::Service => "service",
+        JobKind::Batch => "batch",
+    }
+}
+
+fn operand_text<'a>(operand: Operand) -> &'a str
+    ensures { result.now ≡ text_of_operand operand }
+{
+    match operand {
+        Operand::Equal => "=",
+        Operand::NotEqual => "!=",
+    }
+}
+
+fn target_text(alloc: Global, target: &Target) -> Result<String, AllocError>
+    ensures { IfOk result (λ s. string_bytes s ≡ text_of_target target.now) }
+{
+    match target {
+        Target::NodeClass => String::from_str(alloc, "${node.class}"),
+        Target::NodeName => String::from_str(alloc, "${node.unique.name}"),
+        Target::Attribute(key) => {
+            let mut text = String::from_str(alloc, "${attr.")?;
+            text.push_str(key.as_str())?;
+            text.push_str("}")?;
+            Ok(text)
+        }
+    }
+}
+
+fn write_text(out: &mut Writer, text: &String) -> Result<(), AllocError>
+    ensures { Adds result out.old out.new (string (string_bytes text.now) ∷ []) }
+{
+    write_parts(out, &[Part::Text(text.as_str())])
+}
+
+#[tactic(auto, unfolding(crate::specs::Rendering::constraint_json))]
+fn write_constraint(
+    out: &mut Writer,
+    alloc: Global,
+    constraint: &Constraint,
+) -> Result<(), AllocError>
+    ensures { OnOk result (Follows out.old out.new (tokens_of (constraint_json constraint.now))) }
+{
+    let target = target_text(alloc, &constraint.target)?;
+    write_parts(out, &[Part::BeginObject, Part::Key("LTarget")])?;
+    write_text(out, &target)?;
+    write_parts(
+        out,
+        &[
+            Part::Key("Operand"),
+            Part::Text(operand_text(constraint.operand)),
+            Part::Key("RTarget"),
+            Part::Text(constraint.value.as_str()),
+            Part::EndObject,
+        ],
+    )
+}
+
+fn write_constraints(
+    out: &mut Writer,
+    alloc: Global,
+    constraints: &[Constraint],
+) -> Result<(), AllocError>
+    ensures { OnOk result (Follows out.old out.new
+        (flat_map (λ c. tokens_of (constraint_json c)) constraints.now)) }
+{
+    for constraint in constraints {
+        write_constraint(out, alloc, constraint)?;
+    }
+    Ok(())
+}
+
+#[tactic(auto, unfolding(crate::specs::Rendering::task_json))]
+fn write_task(out: &mut Writer, task: &Task) -> Result<(), AllocError>
+    ensures { OnOk result (Follows out.old out.new (tokens_of (task_json task.now))) }
+{
+    write_parts(
+        out,
+        &[
+            Part::BeginObject,
+            Part::Key("Name"),
+            Part::Text(task.name.as_str()),
+            Part::Key("Resources"),
+            Part::BeginObject,
+            Part::Key("CPU"),
+            Part::Number(task.resources.cpu),
+            Part::Key("MemoryMB"),
+            Part::Number(task.resources.memory),
+            Part::EndObject,
+            Part::EndObject,
+        ],
+    )
+}
+
+fn write_tasks(out: &mut Writer, tasks: &[Task]) -> Result<(), AllocError>
+    ensures { OnOk result (Follows out.old out.new
+        (flat_map (λ t. tokens_of (task_json t)) tasks.now)) }
+{
+    for task in tasks {
+        write_task(out, task)?;
+    }
+    Ok(())
+}
+
+#[tactic(auto, unfolding(crate::specs::Rendering::group_json))]
+fn write_group(out: &mut Writer, group: &Group) -> Result<(), AllocError>
+    ensures { OnOk result (Follows out.old out.new (tokens_of (group_json group.now))) }
+{
+    write_parts(
+        out,
+        &[
+            Part::BeginObject,
+            Part::Key("Count"),
+            Part::Number(group.count),
+            Part::Key("Name"),
+            Part::Text(group.name.as_str()),
+            Part::Key("Tasks"),
+            Part::BeginArray,
+        ],
+    )?;
+    write_tasks(out, group.tasks.as_slice())?;
+    write_parts(out, &[Part::EndArray, Part::EndObject])
+}
+
+fn write_groups(out: &mut Writer, groups: &[Group]) -> Result<(), AllocError>
+    ensures { OnOk result (Follows out.old out.new
+        (flat_map (λ g. tokens_of (group_json g)) groups.now)) }
+{
+    for group in groups {
+        write_group(out, group)?;
+    }
+    Ok(())
+}
+
+/// The members between the constraints and the groups.
+#[tactic(auto, unfolding(crate::specs::Part::member_tokens))]
+fn write_members(out: &mut Writer, job: &JobShown) -> Result<(), AllocError>
+    ensures { Adds result out.old out.new (member_tokens job.now) }
+{
+    write_parts(
+        out,
+        &[
+            Part::EndArray,
+            Part::Key("CreateIndex"),
+            Part::Number(job.row.create_index),
+            Part::Key("ID"),
+            Part::Text(job.id.as_str()),
+            Part::Key("JobModifyIndex"),
+            Part::Number(job.row.modify_index),
+            Part::Key("Namespace"),
+            Part::Text(job.namespace.as_str()),
+            Part::Key("NodePool"),
+            Part::Text(job.row.document.pool.as_str()),
+            Part::Key("Priority"),
+            Part::Number(job.row.document.priority),
+            Part::Key("Status"),
+            Part::Text(status_text(job.status)),
+            Part::Key("Stop"),
+            Part::Flag(job.row.stop),
+            Part::Key("TaskGroups"),
+            Part::BeginArray,
+        ],
+    )
+}
+
+#[tactic(auto, unfolding(crate::specs::Rendering::job_json))]
+fn write_job(out: &mut Writer, alloc: Global, job: &JobShown) -> Result<(), AllocError>
+    ensures { OnOk result (Follows out.old out.new (tokens_of (job_json job.now))) }
+{
+    write_parts(
+        out,
+        &[
+            Part::BeginObject,
+            Part::Key("Constraints"),
+            Part::BeginArray,
+        ],
+    )?;
+    write_constraints(out, alloc, job.row.document.constraints.as_slice())?;
+    write_members(out, job)?;
+    write_groups(out, job.row.document.groups.as_slice())?;
+    write_parts(
+        out,
+        &[
+            Part::EndArray,
+            Part::Key("Type"),
+            Part::Text(kind_text(job.row.document.kind)),
+            Part::Key("Version"),
+            Part::Number(job.row.version),
+            Part::EndObject,
+        ],
+    )
+}
+
+/// The text of a job.
+pub fn job_text(alloc: Global, job: &JobShown) -> Result<String, AllocError>
+    ensures { IfOk result (λ s. string_bytes s ≡ compact_text (job_json job.now)) }
+{
+    let mut out = Writer::new(Vec::new(alloc));
+    write_job(&mut out, alloc, job)?;
+    match String::from_utf8(out.into_inner()) {
+        Ok(text) => Ok(text),
+        Err(_) => unreachable!(),
+    }
+}

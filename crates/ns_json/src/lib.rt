@@ -1,0 +1,16 @@
+//! Documents and replies as JSON.
+#![tactic(auto)]
+
+mod constraint;
+mod group;
+mod job_reply;
+mod member;
+mod part;
+mod registration;
+mod reply;
+
+pub use registration::{RegistrationDocument, read_registration};
+pub use reply::{Room, render};
+
+#[cfg(test)]
+mod tests;

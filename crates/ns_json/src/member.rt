@@ -1,0 +1,148 @@
+//! Members of documents, and the values of each kind.
+
+ghost use Rattle.std.specs.Prelude.{◌≡◌, ℕ, List, Option, option_map, map, false};
+ghost use Rattle.serde_json.specs.View.{view, items_view};
+ghost use Rattle.ns_json.specs.Reading.{Gives, same, present as present_in, demanded as demanded_in, an_object, a_flag, a_number, a_text, a_name, a_list, or_else, top, json_in};
+
+use ns_types::name::{Name, NameKind};
+use ns_types::refusal::{Member, Refusal};
+use ns_types::text::Text;
+use serde_json::Value;
+use std::alloc::Global;
+
+/// The JSON value of a body.
+#[tactic(auto, unfolding(crate::specs::Reading::json_in))]
+pub fn read_json(alloc: Global, body: &[u8]) -> Result<Value, Refusal>
+    ensures { Gives view result (json_in body.now) }
+{
+    match Value::from_slice(alloc, body) {
+        Ok(value) => Ok(value),
+        Err(e) => {
+            if e.is_memory() {
+                Err(Refusal::Memory)
+            } else {
+                Err(Refusal::BadJson)
+            }
+        }
+    }
+}
+
+/// The member, where it is there and not null.
+#[tactic(auto, unfolding(crate::specs::Reading::present))]
+pub fn present(object: &Value, member: Member) -> Option<&Value>
+    ensures { option_map (λ v. view v.now) result ≡ present_in member (view object.now) }
+{
+    match object.get(member.name()) {
+        Some(Value::Null) | None => None,
+        Some(value) => Some(value),
+    }
+}
+
+/// The member, which has to be there.
+#[tactic(auto, unfolding(crate::specs::Reading::demanded))]
+pub fn demanded(object: &Value, member: Member) -> Result<&Value, Refusal>
+    ensures { Gives (λ v. view v.now) result (demanded_in member (view object.now)) }
+{
+    present(object, member).ok_or(Refusal::BadField(member))
+}
+
+/// The top of a document, which is an object.
+#[tactic(auto, unfolding(crate::specs::Reading::top))]
+pub fn document(value: &Value) -> Result<&Value, Refusal>
+    ensures { Gives (λ v. view v.now) result (top (view value.now)) }
+{
+    if value.is_object() {
+        Ok(value)
+    } else {
+        Err(Refusal::BadJson)
+    }
+}
+
+#[tactic(auto, unfolding(crate::specs::Reading::an_object))]
+pub fn object(value: &Value, member: Member) -> Result<&Value, Refusal>
+    ensures { Gives (λ v. view v.now) result (an_object member (view value.now)) }
+{
+    if value.is_object() {
+        Ok(value)
+    } else {
+        Err(Refusal::BadField(member))
+    }
+}
+
+#[tactic(auto, unfolding(crate::specs::Reading::a_flag))]
+pub fn flag(value: &Value, member: Member) -> Result<bool, Refusal>
+    ensures { Gives same result (a_flag member (view value.now)) }
+{
+    value.as_bool().ok_or(Refusal::BadField(member))
+}
+
+/// A whole number from low to high.
+#[tactic(auto, unfolding(crate::specs::Reading::a_number))]
+pub fn number(value: &Value, member: Member, low: u64, high: u64) -> Result<u64, Refusal>
+    ensures { Gives same result (a_number member low high (view value.now)) }
+{
+    match value.as_u64() {
+        Some(n) if low <= n && n <= high => Ok(n),
+        _ => Err(Refusal::BadField(member)),
+    }
+}
+
+const MAX_TEXT: usize = 256;
+
+#[tactic(auto, unfolding(crate::specs::Reading::a_text))]
+pub fn text(value: &Value, member: Member) -> Result<&str, Refusal>
+    ensures { Gives (λ s. s.now) result (a_text member (view value.now)) }
+{
+    match value.as_str() {
+        Some(text) if text.len() <= MAX_TEXT => Ok(text),
+        _ => Err(Refusal::BadField(member)),
+    }
+}
+
+#[tactic(auto, unfolding(crate::specs::Reading::a_name))]
+pub fn name(alloc: Global, value: &Value, member: Member, kind: NameKind) -> Result<Text, Refusal>
+    ensures { Gives same result (a_name member kind (view value.now)) }
+{
+    let text = value.as_str().ok_or(Refusal::BadField(member))?;
+    let name = Name::read(kind, text).ok_or(Refusal::BadField(member))?;
+    Ok(Text::from_str(alloc, name.as_str())?)
+}
+
+/// A list of low to high items.
+#[tactic(auto, using(crate::proofs::Items::counts), unfolding(crate::specs::Reading::a_list))]
+pub fn list(value: &Value, member: Member, low: usize, high: usize) -> Result<&[Value], Refusal>
+    ensures { Gives (λ s. items_view s.now) result (a_list member low high (view value.now)) }
+{
+    match value.as_array() {
+        Some(list) if low <= list.len() && list.len() <= high => Ok(list.as_slice()),
+        _ => Err(Refusal::BadField(member)),
+    }
+}
+
+/// A whole number from low to high, or what an absent one stands for.
+pub fn number_or(
+    object: &Value,
+    member: Member,
+    low: u64,
+    high: u64,
+    default: u64,
+) -> Result<u64, Refusal>
+    ensures { Gives same result
+        (or_else default (a_number member low high) (present_in member (view object.now))) }
+{
+    match present(object, member) {
+        None => Ok(default),
+        Some(value) => number(value, member, low, high),
+    }
+}
+
+/// Whether a flag is set, which is no where it is absent.
+pub fn flag_or_false(object: &Value, member: Member) -> Result<bool, Refusal>
+    ensures { Gives same result
+        (or_else false (a_flag member) (present_in member (view object.now))) }
+{
+    match present(object, member) {
+        None => Ok(false),
+        Some(value) => flag(value, member),
+    }
+}

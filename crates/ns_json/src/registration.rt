@@ -1,0 +1,169 @@
+//! The document of a registration.
+
+ghost use Rattle.std.specs.Prelude.{◌≡◌, [], None, IfErr};
+ghost use Rattle.serde_json.specs.View.{view};
+ghost use Rattle.ns_types.specs.declared.job.JobKind.TheVariants.{Service};
+ghost use Rattle.ns_json.specs.Reading.{Gives, same, present as present_in, or_else, body_in, IsOfDocument};
+ghost use Rattle.ns_json.specs.Registration.{name_if_any as name_if_any_in, pool_in, kind_in, absent as absent_in, constraints_in, job_in, registration_in};
+
+use crate::constraint::constraints;
+use crate::group::groups;
+use crate::member;
+use crate::member::{
+    demanded, document, flag_or_false, number_or, object, present, read_json, text,
+};
+use ns_types::job::{Constraint, JobKind, Registration};
+use ns_types::name::NameKind;
+use ns_types::refusal::{Member, Refusal};
+use ns_types::rows::Rows;
+use ns_types::text::Text;
+use serde_json::Value;
+use std::alloc::Global;
+
+/// A registration, and the namespace that the job names.
+#[derive(Drop)]
+pub struct RegistrationDocument {
+    pub namespace: Option<Text>,
+    pub registration: Registration,
+}
+
+/// A name, where an empty one counts as absent.
+#[tactic(auto, unfolding(crate::specs::Registration::name_if_any))]
+fn name_if_any(
+    alloc: Global,
+    value: &Value,
+    member: Member,
+    kind: NameKind,
+) -> Result<Option<Text>, Refusal>
+    ensures { Gives same result (name_if_any_in member kind (view value.now)) }
+{
+    if text(value, member)?.is_empty() {
+        return Ok(None);
+    }
+    let name = member::name(alloc, value, member, kind)?;
+    Ok(Some(name))
+}
+
+fn namespace(alloc: Global, job: &Value) -> Result<Option<Text>, Refusal>
+    ensures { Gives same result
+        (or_else None (name_if_any_in Member.Namespace NameKind.Namespace)
+        (present_in Member.Namespace (view job.now))) }
+{
+    match present(job, Member::Namespace) {
+        None => Ok(None),
+        Some(value) => name_if_any(alloc, value, Member::Namespace, NameKind::Namespace),
+    }
+}
+
+#[tactic(auto, unfolding(crate::specs::Registration::pool_in))]
+fn pool(alloc: Global, value: &Value) -> Result<Option<Text>, Refusal>
+    ensures { Gives same result (pool_in (view value.now)) }
+{
+    match name_if_any(alloc, value, Member::NodePool, NameKind::Pool)? {
+        Some(pool) if pool.as_str() == "all" => Err(Refusal::BadField(Member::NodePool)),
+        pool => Ok(pool),
+    }
+}
+
+fn node_pool(alloc: Global, job: &Value) -> Result<Option<Text>, Refusal>
+    ensures { Gives same result
+        (or_else None pool_in (present_in Member.NodePool (view job.now))) }
+{
+    match present(job, Member::NodePool) {
+        None => Ok(None),
+        Some(value) => pool(alloc, value),
+    }
+}
+
+#[tactic(auto, unfolding(crate::specs::Registration::kind_in, crate::specs::Registration::kind_of))]
+fn job_kind(value: &Value) -> Result<JobKind, Refusal>
+    ensures { Gives same result (kind_in (view value.now)) }
+{
+    let text = text(value, Member::Type)?;
+    if text == "service" {
+        return Ok(JobKind::Service);
+    }
+    if text == "batch" {
+        return Ok(JobKind::Batch);
+    }
+    Err(Refusal::BadField(Member::Type))
+}
+
+fn kind_or_service(job: &Value) -> Result<JobKind, Refusal>
+    ensures { Gives same result (or_else Service kind_in (present_in Member.Type (view job.now))) }
+{
+    match present(job, Member::Type) {
+        None => Ok(JobKind::Service),
+        Some(value) => job_kind(value),
+    }
+}
+
+fn constraints_or_none(alloc: Global, job: &Value) -> Result<Rows<Constraint>, Refusal>
+    ensures { Gives same result
+        (or_else [] constraints_in (present_in Member.Constraints (view job.now))) }
+{
+    match present(job, Member::Constraints) {
+        None => Ok(Rows::new(alloc)),
+        Some(value) => constraints(alloc, value),
+    }
+}
+
+fn absent(job: &Value, member: Member) -> Result<(), Refusal>
+    ensures { Gives same result (absent_in member (present_in member (view job.now))) }
+{
+    match present(job, member) {
+        None => Ok(()),
+        Some(_) => Err(Refusal::BadField(member)),
+    }
+}
+
+/// What the job says. No index is demanded yet.
+#[tactic(auto, unfolding(crate::specs::Registration::job_in))]
+fn job(alloc: Global, value: &Value) -> Result<RegistrationDocument, Refusal>
+    ensures { Gives same result (job_in (view value.now)) }
+{
+    let job = object(value, Member::Job)?;
+    let id = member::name(alloc, demanded(job, Member::Id)?, Member::Id, NameKind::Job)?;
+    let namespace = namespace(alloc, job)?;
+    let kind = kind_or_service(job)?;
+    let priority = number_or(job, Member::Priority, 1, 100, 50)?;
+    let pool = node_pool(alloc, job)?;
+    let constraints = constraints_or_none(alloc, job)?;
+    absent(job, Member::Periodic)?;
+    absent(job, Member::ParameterizedJob)?;
+    let groups = groups(alloc, demanded(job, Member::TaskGroups)?)?;
+    Ok(RegistrationDocument {
+        namespace,
+        registration: Registration {
+            id,
+            kind,
+            priority,
+            pool,
+            constraints,
+            groups,
+            enforced: None,
+        },
+    })
+}
+
+#[tactic(auto, unfolding(crate::specs::Registration::registration_in))]
+fn registration(alloc: Global, value: &Value) -> Result<RegistrationDocument, Refusal>
+    ensures { Gives same result (registration_in (view value.now)) }
+{
+    let top = document(value)?;
+    let mut document = job(alloc, demanded(top, Member::Job)?)?;
+    let enforce = flag_or_false(top, Member::EnforceIndex)?;
+    let index = number_or(top, Member::JobModifyIndex, 0, u64::MAX, 0)?;
+    document.registration.enforced = enforce.then_some(index);
+    Ok(document)
+}
+
+/// The registration that a body is, or the first refusal.
+#[tactic(auto, unfolding(crate::specs::Reading::body_in))]
+pub fn read_registration(alloc: Global, body: &[u8]) -> Result<RegistrationDocument, Refusal>
+    ensures value { Gives same result (body_in registration_in body.now) }
+    // What the refusal can be.
+    ensures kinds { IfErr result IsOfDocument }
+{
+    registration(alloc, &read_json(alloc, body)?)
+}

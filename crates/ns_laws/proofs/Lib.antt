@@ -1,0 +1,12 @@
+pub mod Elements
+pub mod StepLemmas
+pub mod QueueLemmas
+pub mod ChoiceLemmas
+pub mod PlacementLemmas
+pub mod EvictableLemmas
+pub mod RightsLemmas
+pub mod SharingLemmas
+pub mod RefusalLemmas
+pub mod SumLemmas
+pub mod RegisterLemmas
+pub mod OrderedLemmas

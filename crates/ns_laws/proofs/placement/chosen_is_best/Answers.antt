@@ -1,0 +1,5 @@
+use Rattle.ns_laws.proofs.PlacementLemmas.{chosen_is_best}
+use Rattle.ns_laws.proofs.placement.chosen_is_best.Goals as goal
+
+pub returns : goal.returns
+returns c = chosen_is_best

@@ -1,0 +1,5 @@
+use Rattle.ns_laws.proofs.PlacementLemmas.{fewest_are_victims}
+use Rattle.ns_laws.proofs.placement.fewest_are_victims.Goals as goal
+
+pub returns : goal.returns
+returns c = fewest_are_victims

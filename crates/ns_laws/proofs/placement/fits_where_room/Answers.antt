@@ -1,0 +1,5 @@
+use Rattle.ns_laws.proofs.PlacementLemmas.{fits_where_room}
+use Rattle.ns_laws.proofs.placement.fits_where_room.Goals as goal
+
+pub returns : goal.returns
+returns c = fits_where_room

@@ -1,0 +1,5 @@
+use Rattle.ns_laws.proofs.PlacementLemmas.{no_victims_no_room}
+use Rattle.ns_laws.proofs.placement.no_victims_no_room.Goals as goal
+
+pub returns : goal.returns
+returns c = no_victims_no_room

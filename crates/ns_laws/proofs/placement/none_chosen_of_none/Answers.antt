@@ -1,0 +1,5 @@
+use Rattle.ns_laws.proofs.PlacementLemmas.{none_chosen_of_none}
+use Rattle.ns_laws.proofs.placement.none_chosen_of_none.Goals as goal
+
+pub returns : goal.returns
+returns c = none_chosen_of_none

@@ -1,0 +1,5 @@
+use Rattle.ns_laws.proofs.PlacementLemmas.{room_before_victims}
+use Rattle.ns_laws.proofs.placement.room_before_victims.Goals as goal
+
+pub returns : goal.returns
+returns c = room_before_victims

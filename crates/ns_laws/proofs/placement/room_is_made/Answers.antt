@@ -1,0 +1,5 @@
+use Rattle.ns_laws.proofs.PlacementLemmas.{room_is_made}
+use Rattle.ns_laws.proofs.placement.room_is_made.Goals as goal
+
+pub returns : goal.returns
+returns c = room_is_made

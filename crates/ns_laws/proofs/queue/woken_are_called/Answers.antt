@@ -1,0 +1,5 @@
+use Rattle.ns_laws.proofs.QueueLemmas.{woken_are_called}
+use Rattle.ns_laws.proofs.queue.woken_are_called.Goals as goal
+
+pub returns : goal.returns
+returns c = woken_are_called

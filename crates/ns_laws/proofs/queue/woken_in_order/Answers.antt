@@ -1,0 +1,5 @@
+use Rattle.ns_laws.proofs.QueueLemmas.{woken_in_order}
+use Rattle.ns_laws.proofs.queue.woken_in_order.Goals as goal
+
+pub returns : goal.returns
+returns c = woken_in_order

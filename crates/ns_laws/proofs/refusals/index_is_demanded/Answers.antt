@@ -1,0 +1,5 @@
+use Rattle.ns_laws.proofs.RegisterLemmas.{index_is_demanded}
+use Rattle.ns_laws.proofs.refusals.index_is_demanded.Goals as goal
+
+pub returns : goal.returns
+returns c = index_is_demanded

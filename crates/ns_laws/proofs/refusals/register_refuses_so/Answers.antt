@@ -1,0 +1,5 @@
+use Rattle.ns_laws.proofs.RegisterLemmas.{register_refuses_so}
+use Rattle.ns_laws.proofs.refusals.register_refuses_so.Goals as goal
+
+pub returns : goal.returns
+returns c = register_refuses_so

@@ -1,0 +1,5 @@
+use Rattle.ns_laws.proofs.RightsLemmas.{exact_before_stars}
+use Rattle.ns_laws.proofs.rights.exact_before_stars.Goals as goal
+
+pub returns : goal.returns
+returns c = exact_before_stars

@@ -1,0 +1,5 @@
+use Rattle.ns_laws.proofs.RightsLemmas.{longest_star_counts}
+use Rattle.ns_laws.proofs.rights.longest_star_counts.Goals as goal
+
+pub returns : goal.returns
+returns c = longest_star_counts

@@ -1,0 +1,5 @@
+use Rattle.ns_laws.proofs.StepLemmas.{refusal_leaves_all}
+use Rattle.ns_laws.proofs.steps.refusal_leaves_all.Goals as goal
+
+pub returns : goal.returns
+returns c = refusal_leaves_all

@@ -1,0 +1,9 @@
+pub mod Sublist
+pub mod Steps
+pub mod Queue
+pub mod Placement
+pub mod Rights
+pub mod Sharing
+pub mod Refusals
+pub mod Sums
+pub mod Nodes

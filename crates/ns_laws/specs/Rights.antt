@@ -1,0 +1,90 @@
+-- Laws of rights: what a secret may do.
+use Rattle.std.specs.Prelude.{◌≡◌, ◌≤◌, List, ◌∷◌, ◌++◌, Option, Some, None, Err, IsTrue, IsFalse, length, false}
+use Rattle.std.specs.FinMap.{get}
+use Rattle.std.specs.List.{list_any}
+use Rattle.ns_types.specs.declared.acl.Grants.{Grants}
+use Rattle.ns_types.specs.declared.acl.Pattern.{Pattern}
+use Rattle.ns_types.specs.declared.acl.PoolRights.{PoolRights}
+use Rattle.ns_types.specs.declared.acl.Rule.{Rule}
+use Rattle.ns_types.specs.declared.acl.RuleKind.{RuleKind}
+use Rattle.ns_types.specs.declared.acl.Token.{Token}
+use Rattle.ns_types.specs.declared.acl.TokenKind.TheVariants as tokens
+use Rattle.ns_types.specs.declared.refusal.Refusal.TheVariants as refusals
+use Rattle.ns_types.specs.declared.step.Step.{Step}
+use Rattle.ns_types.specs.declared.step.Step.TheVariants as steps
+use Rattle.ns_types.specs.Lists.{Each}
+use Rattle.ns_types.specs.Names.{Name}
+use Rattle.ns_types.specs.Rights.{is_exact, is_match, counting, rules_of, no_grants, granted, rights_of, pool_rights_of, no_rights}
+use Rattle.ns_types.specs.Rows.{Acl, State}
+use Rattle.ns_types.specs.Steps.{after, said, is_allowed}
+
+-- ---- whom a secret stands for
+
+-- the step is asked with that secret
+abbrev pub IsBy : Option Name → Step → Type 0
+IsBy secret (steps.Ask ns by command) = by ≡ secret
+IsBy secret (steps.Admin by command) = by ≡ secret
+IsBy secret (steps.Node pool by command) = by ≡ secret
+IsBy secret _ = ⊥
+
+-- whatever is asked with an unknown secret is denied
+abbrev pub UnknownIsDenied : Type 0
+UnknownIsDenied = (s : State) (secret : Name) (step : Step) → get s.acl.tokens secret ≡ None → IsBy (Some secret) step
+    → after step s ≡ said (Err refusals.Denied) s
+
+-- with a token of the kind `management` nothing is denied
+abbrev pub ManagerIsAllowed : Type 0
+ManagerIsAllowed = (acl : Acl) (secret : Name) (token : Token) (step : Step) → get acl.tokens secret ≡ Some token → token.kind ≡ tokens.Management
+    → IsBy (Some secret) step → IsTrue (is_allowed step acl)
+
+-- ---- what rules give
+
+-- where a rule that counts denies, nothing is given
+abbrev pub DenyGivesNothing : Type 0
+DenyGivesNothing = (acl : Acl) (kind : RuleKind) (policies : List Name) (target : Name)
+    → IsTrue (list_any (λ rule. rule.grants.deny) (counting target (rules_of acl kind policies))) → granted acl kind policies target ≡ no_grants
+
+-- what is given is what some of the rules give
+pub record IsGivenBySome (grants : Grants) (rules : List Rule) : Type 0 where
+  pub list_jobs : grants.list_jobs ≡ list_any (λ rule. rule.grants.list_jobs) rules
+  pub read_job : grants.read_job ≡ list_any (λ rule. rule.grants.read_job) rules
+  pub submit_job : grants.submit_job ≡ list_any (λ rule. rule.grants.submit_job) rules
+  pub alloc_lifecycle : grants.alloc_lifecycle ≡ list_any (λ rule. rule.grants.alloc_lifecycle) rules
+  pub read_pool : grants.read_pool ≡ list_any (λ rule. rule.grants.read_pool) rules
+  pub write_pool : grants.write_pool ≡ list_any (λ rule. rule.grants.write_pool) rules
+
+-- where none denies, each right is given that some rule that counts gives, and no other
+abbrev pub SomeRuleGives : Type 0
+SomeRuleGives = (acl : Acl) (kind : RuleKind) (policies : List Name) (target : Name)
+    → IsFalse (list_any (λ rule. rule.grants.deny) (counting target (rules_of acl kind policies)))
+    → IsGivenBySome (granted acl kind policies target) (counting target (rules_of acl kind policies))
+
+-- where there is a rule of the exact name, one with a star changes nothing
+abbrev pub ExactBeforeStars : Type 0
+ExactBeforeStars = (target : Name) (before later : List Rule) (rule : Rule) → IsTrue (list_any (is_exact target) (before ++ later)) → IsTrue rule.pattern.is_prefix
+    → counting target (before ++ rule ∷ later) ≡ counting target (before ++ later)
+
+-- without one, those count whose star matches, of which none that matches is longer
+abbrev pub LongestStarCounts : Type 0
+LongestStarCounts = (target : Name) (rules : List Rule) → IsFalse (list_any (is_exact target) rules)
+    → Each (λ rule. IsTrue (is_match target rule) × Each (λ other. IsTrue (is_match target other) → length other.pattern.text ≤ length rule.pattern.text) rules) (counting target rules)
+
+-- a rule that does not match changes nothing
+abbrev pub OthersDoNotCount : Type 0
+OthersDoNotCount = (target : Name) (before later : List Rule) (rule : Rule) → IsFalse (is_exact target rule) → IsFalse (is_match target rule)
+    → counting target (before ++ rule ∷ later) ≡ counting target (before ++ later)
+
+abbrev pub SamePattern : Pattern → Pattern → Type 0
+SamePattern a b = (a.text ≡ b.text) × (a.is_prefix ≡ b.is_prefix)
+
+-- those that count have one pattern
+abbrev pub OnePatternCounts : Type 0
+OnePatternCounts = (target : Name) (rules : List Rule) → Each (λ a. Each (λ b. SamePattern a.pattern b.pattern) (counting target rules)) (counting target rules)
+
+abbrev pub no_pool_rights : PoolRights
+no_pool_rights = record { read = false; write = false }
+
+-- an unknown secret has no right in any namespace or pool
+abbrev pub UnknownHasNoRight : Type 0
+UnknownHasNoRight = (acl : Acl) (secret name : Name) → get acl.tokens secret ≡ None
+    → (rights_of acl (Some secret) name ≡ no_rights) × (pool_rights_of acl (Some secret) name ≡ no_pool_rights)

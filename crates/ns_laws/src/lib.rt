@@ -1,0 +1,12 @@
+//! Small laws of the model: that its definitions say what they should. Each is the contract of a function that does
+//! nothing.
+#![tactic(auto)]
+
+pub mod nodes;
+pub mod placement;
+pub mod queue;
+pub mod refusals;
+pub mod rights;
+pub mod sharing;
+pub mod steps;
+pub mod sums;

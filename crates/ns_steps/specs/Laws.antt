@@ -1,0 +1,43 @@
+-- Laws of a registration and of a read of a job.
+use Rattle.std.specs.Prelude.{◌≡◌, ◌||◌, false, if◌then◌else◌, [], Some, nat_lt, Ok, Err, Option}
+use Rattle.std.specs.FinMap.{get}
+use Rattle.ns_types.specs.declared.job.Registration.{Registration}
+use Rattle.ns_types.specs.declared.refusal.Refusal.{Refusal}
+use Rattle.ns_types.specs.declared.refusal.Refusal.TheVariants as refusals
+use Rattle.ns_types.specs.declared.step.AskCommand.TheVariants as asks
+use Rattle.ns_types.specs.declared.step.Step.TheVariants as steps
+use Rattle.ns_types.specs.declared.evaluation.Trigger.TheVariants as triggers
+use Rattle.ns_types.specs.Making.{evaluation_of, make_in, with_job}
+use Rattle.ns_types.specs.Names.{Name}
+use Rattle.ns_types.specs.Releases.{released_classes, releases_quota, woken}
+use Rattle.ns_types.specs.Rows.{World, State, Tenant, PoolRows, QuotaRows}
+use Rattle.ns_types.specs.Steps.{Answer, after, greatest, is_over, said}
+use Rattle.ns_steps.specs.Early.{IsFresh}
+use Rattle.ns_steps.specs.Registered.{IsRegistrable, Refuses, job_of, next_index, next_number, registered_reply, registered_state}
+
+-- the world with the rows of a registration put, before the step settles
+abbrev pub put_world : Name → Registration → World → Tenant → World
+put_world ns r w t = make_in ns (evaluation_of r.id (job_of r t).document triggers.JobRegister) w (with_job r.id (job_of r t) t)
+
+pub record ReleasesNothing (w w' : World) : Type 0 where
+  pub classes : (name : Name) (pool : PoolRows) → get w'.pools name ≡ Some pool → released_classes w w' name pool ≡ []
+  pub quotas : (name : Name) (quota : QuotaRows) → get w'.quotas name ≡ Some quota → releases_quota w w' name quota ≡ false
+  pub wakes : woken w w' ≡ []
+
+abbrev pub RegistrationReleasesNothing : Type 0
+RegistrationReleasesNothing = (ns : Name) (r : Registration) (w : World) (t : Tenant) → get w.tenants ns ≡ Some t → ReleasesNothing w (put_world ns r w t)
+
+abbrev pub ReadChangesNothing : Type 0
+ReadChangesNothing = (s s' : State) (ns : Name) (secret : Option Name) (id : Name) (answer : Answer) → after (steps.Ask ns secret (asks.ReadJob id)) s ≡ said answer s' → s' ≡ s
+
+abbrev pub RegistrationRefused : Type 0
+RegistrationRefused = (s : State) (ns : Name) (secret : Option Name) (r : Registration) (refusal : Refusal)
+    → Refuses s ns secret r refusal → after (steps.Ask ns secret (asks.Register r)) s ≡ said (Err refusal) s
+
+-- it is made, unless a counter would pass its bound
+abbrev pub RegistrationIs : Type 0
+RegistrationIs = (s : State) (ns : Name) (secret : Option Name) (r : Registration) (t : Tenant)
+    → IsRegistrable s ns secret r t → IsFresh s.world ns t → is_over s.world ≡ false
+    → after (steps.Ask ns secret (asks.Register r)) s
+    ≡ (if nat_lt greatest (next_index t) || nat_lt greatest (next_number t) then said (Err refusals.Full) s
+    else said (Ok (registered_reply r t)) (registered_state ns r s t))

@@ -1,0 +1,4 @@
+pub mod Told
+pub mod Registered
+pub mod Early
+pub mod Laws

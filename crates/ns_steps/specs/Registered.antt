@@ -1,0 +1,113 @@
+-- The world as a registration leaves it, once the step has settled, and when a registration is refused.
+use Rattle.std.specs.Prelude.{◌≡◌, ℕ, ◌+◌, Bool, true, false, not, ◌&&◌, if◌then◌else◌, List, [], ◌∷◌, ◌++◌, Option, Some, None, map, nat_le}
+use Rattle.std.specs.Option.{option_map_or}
+use Rattle.std.specs.FinMap.{get, insert, contains_key, len}
+use Rattle.ns_types.specs.declared.evaluation.Evaluation.{Evaluation}
+use Rattle.ns_types.specs.declared.evaluation.Trigger.TheVariants as triggers
+use Rattle.ns_types.specs.declared.event.Event.{Event}
+use Rattle.ns_types.specs.declared.event.Topic.{Topic}
+use Rattle.ns_types.specs.declared.event.Topic.TheVariants as topics
+use Rattle.ns_types.specs.declared.job.Document.{Document}
+use Rattle.ns_types.specs.declared.job.Job.{Job}
+use Rattle.ns_types.specs.declared.job.Registration.{Registration}
+use Rattle.ns_types.specs.declared.refusal.Member.TheVariants as members
+use Rattle.ns_types.specs.declared.refusal.Refusal.{Refusal}
+use Rattle.ns_types.specs.declared.refusal.Refusal.TheVariants as refusals
+use Rattle.ns_types.specs.declared.reply.Content.TheVariants as contents
+use Rattle.ns_types.specs.declared.reply.Reply.{Reply}
+use Rattle.ns_types.specs.Asks.{document_of, meets, most_jobs, pool_of, registered_job}
+use Rattle.ns_types.specs.Lists.{last}
+use Rattle.ns_types.specs.Making.{evaluation_of}
+use Rattle.ns_types.specs.Names.{Name}
+use Rattle.ns_types.specs.Queue.{is_busy}
+use Rattle.ns_types.specs.Rights.{rights_of}
+use Rattle.ns_types.specs.Rows.{State, World, Tenant}
+use Rattle.ns_types.specs.Same.{same_document}
+use Rattle.ns_types.specs.Sharing.{permits}
+
+-- ---- what it makes
+
+-- the evaluation's number, and the index of all that the step changes: each is the namespace's next
+abbrev pub next_number : Tenant → ℕ
+next_number t = t.evaluation_number + 1
+
+abbrev pub next_index : Tenant → ℕ
+next_index t = t.index + 1
+
+-- the job as the namespace has it from then on
+abbrev pub job_of : Registration → Tenant → Job
+job_of r t = registered_job (next_index t) (document_of t r) (get t.jobs r.id)
+
+-- the job is new, says something else than before, or was stopped
+abbrev pub is_news : Document → Option Job → Bool
+is_news document None = true
+is_news document (Some old) = not (same_document document old.document && not old.stop)
+
+-- pending, with the job's type, priority and pool
+abbrev pub made_evaluation : Registration → Tenant → Evaluation
+made_evaluation r t = record (evaluation_of r.id (job_of r t).document triggers.JobRegister) { create_index = next_index t; modify_index = next_index t }
+
+-- the job's event where there is news of it, and then the evaluation's
+abbrev pub job_topics : Registration → Tenant → List Topic
+job_topics r t = if is_news (document_of t r) (get t.jobs r.id) then topics.JobRegistered r.id ∷ [] else []
+
+abbrev pub made_events : Registration → Tenant → List Event
+made_events r t = map (λ topic. record { index = next_index t; topic = topic }) (job_topics r t ++ topics.EvaluationUpdated (next_number t) ∷ [])
+
+-- ---- what it leaves
+
+-- both counters are one up, the job and its evaluation are in their tables, and the last hundred events are kept
+unfoldable pub registered_tenant : Registration → Tenant → Tenant
+registered_tenant r t = record t {
+  index = next_index t;
+  evaluation_number = next_number t;
+  jobs = insert t.jobs r.id (job_of r t);
+  evaluations = insert t.evaluations (next_number t) (made_evaluation r t);
+  events = last 100 (t.events ++ made_events r t);
+}
+
+-- the evaluation is ready, or waits for another of its job
+unfoldable pub registered_world : Name → Registration → World → Tenant → World
+registered_world ns r w t = record w {
+  tenants = insert w.tenants ns (registered_tenant r t);
+  ready = if is_busy w ns r.id then w.ready else w.ready ++ (ns, next_number t) ∷ [];
+}
+
+abbrev pub registered_state : Name → Registration → State → Tenant → State
+registered_state ns r s t = record s { world = registered_world ns r s.world t }
+
+-- the numbers of the evaluation, of the step's index, and of the index at which the job was last changed
+abbrev pub registered_reply : Registration → Tenant → Reply
+registered_reply r t = record { index = Some (next_index t); content = contents.Registered (next_number t) (next_index t) (job_of r t).modify_index }
+
+-- ---- when it is refused
+
+-- the demanded index is not the job's
+abbrev pub is_outdated : Registration → Tenant → Bool
+is_outdated r t = option_map_or (λ index. not (meets (get t.jobs r.id) index)) r.enforced false
+
+-- the job is new, and the namespace has a thousand already
+abbrev pub has_no_room : Registration → Tenant → Bool
+has_no_room r t = not (contains_key t.jobs r.id) && nat_le most_jobs (len t.jobs)
+
+-- no test refuses it, but for that of the counters, which comes last
+pub record IsRegistrable (s : State) (ns : Name) (secret : Option Name) (r : Registration) (t : Tenant) : Type 0 where
+  pub allowed : (rights_of s.acl secret ns).submit_job ≡ true
+  pub tenant : get s.world.tenants ns ≡ Some t
+  pub permitted : permits t.namespace (pool_of t r) ≡ true
+  pub pool : contains_key s.world.pools (pool_of t r) ≡ true
+  pub current : is_outdated r t ≡ false
+  pub room : has_no_room r t ≡ false
+
+-- why a registration is refused: each reason where none before it holds. A counter that would pass its bound comes after them
+pub data Refuses (s : State) (ns : Name) (secret : Option Name) (r : Registration) : Refusal → Type 0 where
+  denied : (rights_of s.acl secret ns).submit_job ≡ false → Refuses s ns secret r refusals.Denied
+  nowhere : (rights_of s.acl secret ns).submit_job ≡ true → get s.world.tenants ns ≡ None → Refuses s ns secret r refusals.NotFound
+  not_permitted : (t : Tenant) → (rights_of s.acl secret ns).submit_job ≡ true → get s.world.tenants ns ≡ Some t
+      → permits t.namespace (pool_of t r) ≡ false → Refuses s ns secret r refusals.PoolNotPermitted
+  no_pool : (t : Tenant) → (rights_of s.acl secret ns).submit_job ≡ true → get s.world.tenants ns ≡ Some t
+      → permits t.namespace (pool_of t r) ≡ true → contains_key s.world.pools (pool_of t r) ≡ false → Refuses s ns secret r (refusals.BadField members.NodePool)
+  outdated : (t : Tenant) → (rights_of s.acl secret ns).submit_job ≡ true → get s.world.tenants ns ≡ Some t
+      → permits t.namespace (pool_of t r) ≡ true → contains_key s.world.pools (pool_of t r) ≡ true → is_outdated r t ≡ true → Refuses s ns secret r refusals.Conflict
+  no_room : (t : Tenant) → (rights_of s.acl secret ns).submit_job ≡ true → get s.world.tenants ns ≡ Some t
+      → permits t.namespace (pool_of t r) ≡ true → contains_key s.world.pools (pool_of t r) ≡ true → is_outdated r t ≡ false → has_no_room r t ≡ true → Refuses s ns secret r refusals.Full

@@ -1,0 +1,23 @@
+//! Laws of a registration and of a read, each the contract of a function that does nothing.
+
+ghost use Rattle.ns_steps.specs.Laws.{RegistrationReleasesNothing, ReadChangesNothing, RegistrationIs, RegistrationRefused};
+
+/// A registration releases no class of a pool and no quota, and wakes no blocked evaluation.
+pub fn registration_releases_nothing()
+    ensures { RegistrationReleasesNothing }
+{}
+
+/// A read of a job leaves the state as it is, whatever it answers.
+pub fn read_changes_nothing()
+    ensures { ReadChangesNothing }
+{}
+
+/// A registration that some test refuses is answered with the refusal of the first such test, and changes nothing.
+pub fn registration_refused()
+    ensures { RegistrationRefused }
+{}
+
+/// A registration that no test refuses leads to the one state, with the one reply, unless a counter would pass its bound.
+pub fn registration_is()
+    ensures { RegistrationIs }
+{}

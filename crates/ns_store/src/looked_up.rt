@@ -1,0 +1,70 @@
+// Looks at the slots of evaluations.
+ghost use Rattle.std.specs.Prelude.{◌≡◌, IfOk, map};
+ghost use Rattle.std.specs.List.{filter, list_any};
+ghost use Rattle.keyed.specs.Table.{at_slot};
+ghost use Rattle.ns_store.specs.Stored.{is_of, has_status, is_waiting};
+
+use ns_types::evaluation::{Evaluation, Status};
+use ns_types::text::Text;
+use std::alloc::{AllocError, Global};
+
+/// A number with its evaluation, or with room for one.
+type Slot = (u64, Option<Evaluation>);
+
+fn is_of_job(slot: &Slot, job: &Text) -> bool
+    ensures { result ≡ at_slot (is_of job.now) slot.now }
+{
+    match &slot.1 {
+        Some(evaluation) => *job == evaluation.job,
+        None => false,
+    }
+}
+
+fn has_this_status(slot: &Slot, status: Status) -> bool
+    ensures { result ≡ at_slot (has_status status) slot.now }
+{
+    match &slot.1 {
+        Some(evaluation) => evaluation.status == status,
+        None => false,
+    }
+}
+
+fn is_pending_of_job(slot: &Slot, job: &Text) -> bool
+    ensures { result ≡ at_slot (is_waiting job.now) slot.now }
+{
+    is_of_job(slot, job) && has_this_status(slot, Status::Pending)
+}
+
+pub(crate) fn numbers_of_job(
+    alloc: Global,
+    slots: &[Slot],
+    job: &Text,
+) -> Result<Vec<u64>, AllocError>
+    ensures { IfOk result (λ numbers. numbers.items ≡ map (λ slot. slot.0) (filter (at_slot (is_of job.now)) slots.now)) }
+{
+    slots
+        .iter()
+        .filter(|slot| is_of_job(slot, job))
+        .map(|slot| slot.0)
+        .collect(alloc)
+}
+
+pub(crate) fn numbers_of_status(
+    alloc: Global,
+    slots: &[Slot],
+    status: Status,
+) -> Result<Vec<u64>, AllocError>
+    ensures { IfOk result (λ numbers. numbers.items ≡ map (λ slot. slot.0) (filter (at_slot (has_status status)) slots.now)) }
+{
+    slots
+        .iter()
+        .filter(|slot| has_this_status(slot, status))
+        .map(|slot| slot.0)
+        .collect(alloc)
+}
+
+pub(crate) fn any_pending(slots: &[Slot], job: &Text) -> bool
+    ensures { result ≡ list_any (at_slot (is_waiting job.now)) slots.now }
+{
+    slots.iter().any(|slot| is_pending_of_job(slot, job))
+}

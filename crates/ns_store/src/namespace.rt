@@ -1,0 +1,209 @@
+// The rows of one namespace.
+ghost use Rattle.std.specs.Prelude.{◌≡◌, ◌+◌, ◌^◌, ◌<◌, ◌≤◌, ◌++◌, ◌∷◌, [], IsTrue, OnOk, IfOk, length, option_copied};
+ghost use Rattle.std.specs.FinMap as table;
+ghost use Rattle.keyed.specs.Table.{rows, has_slot, without_vacant, KeepsSlots};
+ghost use Rattle.ns_types.specs.Lists.{last};
+ghost use Rattle.ns_store.specs.Stored.{nothing_stored, numbers_of_job, numbers_of_status, has_pending};
+
+use crate::events::Events;
+use crate::looked_up;
+use keyed::{NameTable, NumberTable};
+use ns_types::evaluation::{Evaluation, Status};
+use ns_types::event::Event;
+use ns_types::job::Job;
+use ns_types::text::Text;
+use std::alloc::{AllocError, Global};
+use std::marker::Model;
+
+/// What is kept of one namespace. Room for a row or an event is made before it is needed.
+#[derive(Drop)]
+pub struct NamespaceRows {
+    alloc: Global,
+    index: u64,
+    evaluation_number: u64,
+    allocation_number: u64,
+    jobs: NameTable<Job>,
+    evaluations: NumberTable<Evaluation>,
+    events: Events,
+}
+
+impl Model for NamespaceRows {
+    ghost use Rattle.std.specs.Coded.{codes};
+    ghost use Rattle.std.specs.FinMap as table;
+    ghost use Rattle.ns_store.specs.Stored.{Stored};
+
+    ghost Value = { Stored };
+
+    ghost coded = { Prim.hlevel (codes, table.code) };
+
+    ghost view = { λ s. record { index = s.index; evaluation_number = s.evaluation_number; allocation_number = s.allocation_number; jobs = s.jobs; evaluations = s.evaluations; events = s.events.events; room = s.events.room } };
+}
+
+impl NamespaceRows {
+    /// No rows, and the index and the last numbers at 0.
+    pub fn new(alloc: Global) -> NamespaceRows
+        ensures { result ≡ record nothing_stored { room = result.room } }
+    {
+        NamespaceRows {
+            alloc,
+            index: 0,
+            evaluation_number: 0,
+            allocation_number: 0,
+            jobs: NameTable::new(alloc),
+            evaluations: NumberTable::new(alloc),
+            events: Events::new(alloc),
+        }
+    }
+
+    /// The index of the last step that changed a row.
+    pub fn index(&self) -> u64
+        ensures { result ≡ self.now.index }
+    {
+        self.index
+    }
+
+    /// The last number given to an evaluation.
+    pub fn evaluation_number(&self) -> u64
+        ensures { result ≡ self.now.evaluation_number }
+    {
+        self.evaluation_number
+    }
+
+    /// The last number given to an allocation.
+    pub fn allocation_number(&self) -> u64
+        ensures { result ≡ self.now.allocation_number }
+    {
+        self.allocation_number
+    }
+
+    pub fn job(&self, id: &Text) -> Option<&Job>
+        ensures { option_copied result ≡ table.get (rows self.now.jobs) id.now }
+    {
+        self.jobs.get(id)
+    }
+
+    /// The number of jobs.
+    pub fn job_count(&self) -> usize
+        ensures { result ≡ table.len (rows self.now.jobs) }
+    {
+        self.jobs.len()
+    }
+
+    pub fn evaluation(&self, number: u64) -> Option<&Evaluation>
+        ensures { option_copied result ≡ table.get (rows self.now.evaluations) number }
+    {
+        self.evaluations.get(number)
+    }
+
+    /// The numbers of the job's evaluations, rising.
+    pub fn by_job(&self, id: &Text) -> Result<Vec<u64>, AllocError>
+        ensures { IfOk result (λ numbers. numbers.items ≡ numbers_of_job (rows self.now.evaluations) id.now) }
+    {
+        looked_up::numbers_of_job(self.alloc, self.evaluations.as_slice(), id)
+    }
+
+    /// The numbers of the evaluations with that status, rising.
+    pub fn by_status(&self, status: Status) -> Result<Vec<u64>, AllocError>
+        ensures { IfOk result (λ numbers. numbers.items ≡ numbers_of_status (rows self.now.evaluations) status) }
+    {
+        looked_up::numbers_of_status(self.alloc, self.evaluations.as_slice(), status)
+    }
+
+    /// Whether an evaluation of the job is pending.
+    pub fn has_pending(&self, id: &Text) -> bool
+        ensures { result ≡ has_pending (rows self.now.evaluations) id.now }
+    {
+        looked_up::any_pending(self.evaluations.as_slice(), id)
+    }
+
+    /// The last events, at most a hundred, the newest last.
+    pub fn events(&self) -> &[Event]
+        ensures all { result.now ≡ self.now.events }
+        ensures bound { length result.now ≤ 100 }
+    {
+        self.events.as_slice()
+    }
+
+    /// Makes room for a job.
+    pub fn reserve_job(&mut self, id: &Text) -> Result<(), AllocError>
+        ensures rows { rows self.new.jobs ≡ rows self.old.jobs }
+        ensures slot { OnOk result (IsTrue (has_slot self.new.jobs id.now)) }
+        ensures kept { KeepsSlots self.old.jobs self.new.jobs }
+        ensures others { self.new ≡ record self.old { jobs = self.new.jobs } }
+    {
+        self.jobs.reserve(id)?;
+        Ok(())
+    }
+
+    /// Makes room for an evaluation.
+    pub fn reserve_evaluation(&mut self, number: u64) -> Result<(), AllocError>
+        ensures rows { rows self.new.evaluations ≡ rows self.old.evaluations }
+        ensures slot { OnOk result (IsTrue (has_slot self.new.evaluations number)) }
+        ensures kept { KeepsSlots self.old.evaluations self.new.evaluations }
+        ensures others { self.new ≡ record self.old { evaluations = self.new.evaluations } }
+    {
+        self.evaluations.reserve(number)?;
+        Ok(())
+    }
+
+    /// Makes room for that many more events.
+    pub fn reserve_events(&mut self, count: usize) -> Result<(), AllocError>
+        ensures room { OnOk result (count ≤ self.new.room) }
+        ensures kept { self.old.room ≤ self.new.room }
+        ensures others { self.new ≡ record self.old { room = self.new.room } }
+    {
+        self.events.reserve(count)?;
+        Ok(())
+    }
+
+    /// Writes the job's row. It takes no memory.
+    pub fn put_job(&mut self, id: &Text, job: Job)
+        requires { IsTrue (has_slot self.old.jobs id.now) }
+        ensures rows { rows self.new.jobs ≡ table.insert (rows self.old.jobs) id.now job }
+        ensures kept { KeepsSlots self.old.jobs self.new.jobs }
+        ensures others { self.new ≡ record self.old { jobs = self.new.jobs } }
+    {
+        self.jobs.set(id, job);
+    }
+
+    /// Adds an evaluation under the next number. It takes no memory.
+    pub fn add_evaluation(&mut self, evaluation: Evaluation)
+        requires slot { IsTrue (has_slot self.old.evaluations (self.old.evaluation_number + 1)) }
+        requires number { self.old.evaluation_number + 1 < 2 ^ 64 }
+        ensures number { self.new.evaluation_number ≡ self.old.evaluation_number + 1 }
+        ensures rows { rows self.new.evaluations ≡ table.insert (rows self.old.evaluations) (self.old.evaluation_number + 1) evaluation }
+        ensures kept { KeepsSlots self.old.evaluations self.new.evaluations }
+        ensures others { self.new ≡ record self.old { evaluation_number = self.new.evaluation_number; evaluations = self.new.evaluations } }
+    {
+        self.evaluation_number += 1;
+        self.evaluations.set(self.evaluation_number, evaluation);
+    }
+
+    pub fn set_index(&mut self, index: u64)
+        ensures { self.new ≡ record self.old { index = index } }
+    {
+        self.index = index;
+    }
+
+    /// Adds an event. Of more than a hundred the oldest goes. It takes no memory.
+    pub fn push_event(&mut self, event: Event)
+        requires { 0 < self.old.room }
+        ensures events { self.new.events ≡ last 100 (self.old.events ++ event ∷ []) }
+        ensures room { self.old.room ≤ self.new.room + 1 }
+        ensures others { self.new ≡ record self.old { events = self.new.events; room = self.new.room } }
+    {
+        self.events.push(event);
+    }
+
+    /// Takes the slots of a job and of an evaluation out, where they are vacant.
+    pub fn clear_room(&mut self, id: &Text, number: u64)
+        ensures jobs { rows self.new.jobs ≡ rows self.old.jobs }
+        ensures job_slots { self.new.jobs ≡ without_vacant self.old.jobs id.now }
+        ensures evaluations { rows self.new.evaluations ≡ rows self.old.evaluations }
+        ensures evaluation_slots { self.new.evaluations ≡ without_vacant self.old.evaluations number }
+        ensures others { self.new ≡ record self.old { jobs = self.new.jobs; evaluations = self.new.evaluations } }
+    {
+        self.jobs.clear_slot(id);
+        self.evaluations.clear_slot(number);
+    }
+}

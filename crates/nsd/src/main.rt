@@ -1,0 +1,37 @@
+//! The program `nsd`.
+#![tactic(auto)]
+
+mod run;
+mod words;
+
+use crate::run::{OUT_OF_MEMORY, READ_FAULT, run_words};
+use std::alloc::{AllocError, Global};
+use std::env;
+use std::process::ExitCode;
+
+/// The words as texts.
+fn texts<'a>(alloc: Global, words: &'a [String]) -> Result<Vec<&'a str>, AllocError> {
+    words.iter().map(|word| word.as_str()).collect(alloc)
+}
+
+fn main(rt: HostRuntime) -> ExitCode {
+    let Ok(args) = env::args(&rt) else {
+        return ExitCode::from(READ_FAULT);
+    };
+    let words: Result<Vec<String>, AllocError> = args.collect(rt.alloc());
+    let Ok(words) = words else {
+        return ExitCode::from(OUT_OF_MEMORY);
+    };
+    let Ok(texts) = texts(rt.alloc(), words.as_slice()) else {
+        return ExitCode::from(OUT_OF_MEMORY);
+    };
+    let mut errors = rt.stderr();
+    let status = run_words(
+        rt.alloc(),
+        texts.as_slice(),
+        rt.stdin(),
+        rt.stdout(),
+        &mut errors,
+    );
+    ExitCode::from(status)
+}
