@@ -1,4 +1,7 @@
 // Steps with ample memory, and with each growth refused in turn: a refused call is made again, and then answers.
+ghost use Rattle.std.specs.Prelude.{IfOk};
+ghost use Rattle.ns_core.specs.Served.{IsServed};
+
 use crate::Core;
 use ns_types::job::{Group, JobKind, Registration, Task};
 use ns_types::refusal::Refusal;
@@ -10,7 +13,9 @@ use ns_types::text::Text;
 use std::alloc::{AllocError, Global};
 use std::rt::HostRuntime;
 
-fn registration(alloc: Global, enforced: Option<u64>) -> Result<AskCommand, AllocError> {
+fn registration(alloc: Global, enforced: Option<u64>) -> Result<AskCommand, AllocError>
+    ensures { IfOk result IsServed }
+{
     let mut tasks = Rows::new(alloc);
     tasks.push(Task {
         name: Text::from_str(alloc, "t")?,
@@ -42,7 +47,9 @@ fn asked(
     secret: Option<&Text>,
     namespace: &Text,
     command: &AskCommand,
-) -> Result<Reply, Refusal> {
+) -> Result<Reply, Refusal>
+    requires { IsServed command.now }
+{
     match core.ask(namespace, secret, command) {
         Err(Refusal::Memory) => core.ask(namespace, secret, command),
         answer => answer,

@@ -2,6 +2,8 @@
 #![tactic(auto)]
 
 mod run;
+#[cfg(test)]
+mod tests;
 mod words;
 
 use crate::run::{OUT_OF_MEMORY, READ_FAULT, run_words};
