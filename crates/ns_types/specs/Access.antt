@@ -1,4 +1,5 @@
 -- What administrators ask of policies and tokens, and all that they ask.
+-- Nomad's pages on the ACL policies and ACL tokens HTTP API.
 use Rattle.std.specs.Prelude.{Bool, ◌||◌, Option, find, option_map, codes, nat_le}
 use Rattle.std.specs.FinMap.{get, insert, remove, contains_key, entries, len}
 use Rattle.ns_types.specs.declared.acl.Policy.{Policy}

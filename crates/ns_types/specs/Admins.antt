@@ -1,4 +1,5 @@
 -- What administrators ask of namespaces, quotas and pools.
+-- Nomad's pages on the namespaces, quotas and node pools HTTP API.
 use Rattle.std.specs.Prelude.{ℕ, Bool, true, false, not, ◌&&◌, ◌||◌, [], Option, Some, None, filter, map, nat_le}
 use Rattle.std.specs.Option.{option_map_or, option_eq}
 use Rattle.std.specs.List.{list_all}

@@ -1,4 +1,5 @@
 -- What is asked in one namespace.
+-- Nomad's page on the jobs HTTP API.
 use Rattle.std.specs.Prelude.{ℕ, ◌+◌, Bool, true, false, not, ◌&&◌, if◌then◌else◌, Option, Some, None, nat_eq, nat_le, unwrap_or}
 use Rattle.std.specs.Option.{option_map_or}
 use Rattle.std.specs.FinMap.{get, remove, contains_key, len}

@@ -1,4 +1,5 @@
 -- Apply: what of a plan is done in the present state. Each node does its whole part or none of it.
+-- Nomad's page "Scheduling in Nomad", of the plan queue.
 use Rattle.std.specs.Prelude.{ℕ, ◌+◌, ◌-◌, Bool, true, false, not, ◌&&◌, ◌||◌, if◌then◌else◌, List, [], ◌∷◌, ◌++◌, Option, Some, None, filter, filter_map, flat_map, fold, map, slice_get, option_map}
 use Rattle.std.specs.Option.{option_map_or, option_and_then}
 use Rattle.std.specs.FinMap.{get, insert}

@@ -1,4 +1,5 @@
 -- New evaluations, and rows put back. New rows have the index 0 until the step settles.
+-- Nomad's page on the evaluations HTTP API.
 use Rattle.std.specs.Prelude.{ℕ, ◌+◌, false, true, List, [], Option, None, option_map, find}
 use Rattle.std.specs.Option.{option_map_or}
 use Rattle.std.specs.FinMap.{get, insert, entries, from_entries}

@@ -1,4 +1,5 @@
 -- The plan of a snapshot: the stops, and then the missing allocations placed in what the stops leave.
+-- Nomad's page "Scheduling in Nomad".
 use Rattle.std.specs.Prelude.{ℕ, ◌==◌, Bool, not, ◌&&◌, ◌||◌, List, [], Option, Some, None, filter, map}
 use Rattle.std.specs.List.{list_any}
 use Rattle.std.specs.Option.{unwrap_or}

@@ -1,4 +1,5 @@
 -- What a plan places: the missing allocations one by one, each in the state that the ones before it leave.
+-- Nomad's page "Scheduling in Nomad".
 use Rattle.std.specs.Prelude.{ℕ, zero, suc, Bool, true, false, not, List, [], ◌∷◌, Option, Some, if◌then◌else◌, drop, filter, length, map, slice_get}
 use Rattle.std.specs.List.{list_any}
 use Rattle.std.specs.Option.{option_map, option_and_then, option_map_or}

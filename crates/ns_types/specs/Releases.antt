@@ -1,4 +1,5 @@
 -- What a step releases, found by comparing the rows before and after it, and whom that wakes.
+-- Nomad's page "Scheduling in Nomad", of blocked evaluations.
 use Rattle.std.specs.Prelude.{Bool, true, false, not, ◌&&◌, ◌||◌, List, [], Option, Some, None, filter, map, nat_lt}
 use Rattle.std.specs.Option.{option_map_or}
 use Rattle.std.specs.Cmp.Lexicographic.{pointwise}

@@ -1,4 +1,5 @@
 -- Who may do what: the rules of a secret's policies, merged by pattern.
+-- Nomad's page on the ACL policy specification.
 use Rattle.std.specs.Prelude.{ℕ, max, Bool, true, false, not, ◌&&◌, ◌||◌, if◌then◌else◌, List, [], ◌∷◌, Option, Some, None, filter, flat_map, fold, length, codes}
 use Rattle.std.specs.Option.{option_map_or}
 use Rattle.std.specs.FinMap.{get}

@@ -1,5 +1,6 @@
 -- What every step does at its end: blocked evaluations wake, releases are numbered,
 -- changed rows get their namespace's next index, and each of them gives an event.
+-- Nomad's page on the event stream HTTP API.
 use Rattle.std.specs.Prelude.{ℕ, ◌+◌, Bool, true, not, ◌||◌, if◌then◌else◌, List, [], ◌∷◌, ◌++◌, Option, fold, filter, map}
 use Rattle.std.specs.Option.{option_map_or}
 use Rattle.std.specs.FinMap.{get, insert, entries, contains_key, keys, from_entries}

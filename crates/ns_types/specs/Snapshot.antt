@@ -1,4 +1,5 @@
 -- What a worker looks at: one evaluation's part of the state.
+-- Nomad's page "Scheduling in Nomad".
 use Rattle.std.specs.Prelude.{ℕ, Bool, false, ◌&&◌, ◌||◌, List, [], Option, Some, None, filter, map, flat_map, option_map}
 use Rattle.std.specs.Option.{option_map_or, option_and_then}
 use Rattle.std.specs.FinMap.{get, entries}

@@ -1,4 +1,5 @@
 -- A worker's steps, but for Apply: it takes an evaluation, looks, hands in its plan, and finishes or gives up.
+-- Nomad's page "Scheduling in Nomad", of workers.
 use Rattle.std.specs.Prelude.{ℕ, ◌+◌, Bool, true, false, not, ◌&&◌, ◌||◌, if◌then◌else◌, List, [], ◌∷◌, ◌++◌, Option, Some, None, nat_eq, nat_lt, nat_le, filter, option_map, find}
 use Rattle.std.specs.Option.{option_map_or}
 use Rattle.std.specs.FinMap.{get, insert, remove, contains_key, entries}
