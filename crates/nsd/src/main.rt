@@ -6,7 +6,7 @@ mod run;
 mod tests;
 mod words;
 
-use crate::run::{OUT_OF_MEMORY, READ_FAULT, run_words};
+use crate::run::{run_words, tell_memory, tell_no_words};
 use std::alloc::{AllocError, Global};
 use std::env;
 use std::process::ExitCode;
@@ -17,17 +17,18 @@ fn texts<'a>(alloc: Global, words: &'a [String]) -> Result<Vec<&'a str>, AllocEr
 }
 
 fn main(rt: HostRuntime) -> ExitCode {
-    let Ok(args) = env::args(&rt) else {
-        return ExitCode::from(READ_FAULT);
+    let mut errors = rt.stderr();
+    let args = match env::args(&rt) {
+        Ok(args) => args,
+        Err(error) => return ExitCode::from(tell_no_words(&error, &mut errors)),
     };
     let words: Result<Vec<String>, AllocError> = args.collect(rt.alloc());
     let Ok(words) = words else {
-        return ExitCode::from(OUT_OF_MEMORY);
+        return ExitCode::from(tell_memory(&mut errors));
     };
     let Ok(texts) = texts(rt.alloc(), words.as_slice()) else {
-        return ExitCode::from(OUT_OF_MEMORY);
+        return ExitCode::from(tell_memory(&mut errors));
     };
-    let mut errors = rt.stderr();
     let status = run_words(
         rt.alloc(),
         texts.as_slice(),

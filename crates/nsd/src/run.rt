@@ -18,7 +18,7 @@ use ns_http::{ConnFault, Counted};
 use ns_types::name::Name;
 use ns_types::text::Text;
 use std::alloc::{AllocError, Global};
-use std::io::{Read, Write};
+use std::io::{self, Read, Write};
 
 /// Served to the end.
 pub const SERVED: u8 = 0;
@@ -42,6 +42,25 @@ fn opened(alloc: Global, bootstrap: &Name<'_>) -> Result<Api<Core>, AllocError>
 /// Writes a line, if it can be written.
 fn say<E: Write>(errors: &mut E, line: &[u8]) {
     let _ = errors.write_all(line);
+}
+
+/// Tells of want of memory.
+pub fn tell_memory<E: Write>(errors: &mut E) -> u8
+    ensures { result ≡ OUT_OF_MEMORY }
+{
+    say(errors, b"out of memory\n");
+    OUT_OF_MEMORY
+}
+
+/// Tells why the words could not be had.
+pub fn tell_no_words<E: Write>(error: &io::Error, errors: &mut E) -> u8
+    ensures { IsTold result }
+{
+    if error.kind() == io::ErrorKind::OutOfMemory {
+        return tell_memory(errors);
+    }
+    say(errors, b"error: a word is no text\n");
+    BAD_WORDS
 }
 
 /// Serves one connection with a new server, and says the exit status.
@@ -68,8 +87,7 @@ pub fn pipe<R: Read, W: Write, E: Write>(
     ensures out_of_memory { result ≡ OUT_OF_MEMORY → (reader.new ≡ reader.old) × (writer.new ≡ writer.old) }
 {
     let Ok(mut api) = opened(alloc, bootstrap) else {
-        say(errors, b"out of memory\n");
-        return OUT_OF_MEMORY;
+        return tell_memory(errors);
     };
     match serve(alloc, reader, writer, &mut api) {
         Ok(_) => SERVED,
@@ -81,10 +99,7 @@ pub fn pipe<R: Read, W: Write, E: Write>(
             say(errors, b"write fault\n");
             WRITE_FAULT
         }
-        Err(ConnFault::Memory) => {
-            say(errors, b"out of memory\n");
-            OUT_OF_MEMORY
-        }
+        Err(ConnFault::Memory) => tell_memory(errors),
     }
 }
 
@@ -93,12 +108,10 @@ fn tell<W: Write, E: Write>(alloc: Global, error: &Error, writer: &mut W, errors
     ensures { IsTold result }
 {
     if error.kind() == ErrorKind::OutOfMemory {
-        say(errors, b"out of memory\n");
-        return OUT_OF_MEMORY;
+        return tell_memory(errors);
     }
     let Ok(text) = format!(in alloc; "{error}") else {
-        say(errors, b"out of memory\n");
-        return OUT_OF_MEMORY;
+        return tell_memory(errors);
     };
     if error.use_stderr() {
         say(errors, text.as_str().as_bytes());
