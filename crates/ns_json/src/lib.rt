@@ -4,8 +4,8 @@
 mod constraint;
 mod group;
 mod job_reply;
-mod member;
-mod part;
+pub mod member;
+pub mod part;
 mod registration;
 mod reply;
 

@@ -3,6 +3,7 @@
 ghost use Rattle.std.specs.Prelude.{◌≡◌, ℕ, List, Option, option_map, map, false};
 ghost use Rattle.serde_json.specs.View.{view, items_view};
 ghost use Rattle.ns_json.specs.Reading.{Gives, same, present as present_in, demanded as demanded_in, an_object, a_flag, a_number, a_text, a_name, a_list, or_else, top, json_in};
+ghost use Rattle.ns_json.specs.Registration.{name_if_any as name_if_any_in};
 
 use ns_types::name::{Name, NameKind};
 use ns_types::refusal::{Member, Refusal};
@@ -58,6 +59,7 @@ pub fn document(value: &Value) -> Result<&Value, Refusal>
     }
 }
 
+/// A member that is an object.
 #[tactic(auto, unfolding(crate::specs::Reading::an_object))]
 pub fn object(value: &Value, member: Member) -> Result<&Value, Refusal>
     ensures { Gives (λ v. view v.now) result (an_object member (view value.now)) }
@@ -69,6 +71,7 @@ pub fn object(value: &Value, member: Member) -> Result<&Value, Refusal>
     }
 }
 
+/// A member that is `true` or `false`.
 #[tactic(auto, unfolding(crate::specs::Reading::a_flag))]
 pub fn flag(value: &Value, member: Member) -> Result<bool, Refusal>
     ensures { Gives same result (a_flag member (view value.now)) }
@@ -89,6 +92,7 @@ pub fn number(value: &Value, member: Member, low: u64, high: u64) -> Result<u64,
 
 const MAX_TEXT: usize = 256;
 
+/// A text of at most 256 bytes.
 #[tactic(auto, unfolding(crate::specs::Reading::a_text))]
 pub fn text(value: &Value, member: Member) -> Result<&str, Refusal>
     ensures { Gives (λ s. s.now) result (a_text member (view value.now)) }
@@ -99,6 +103,7 @@ pub fn text(value: &Value, member: Member) -> Result<&str, Refusal>
     }
 }
 
+/// A name of that kind.
 #[tactic(auto, unfolding(crate::specs::Reading::a_name))]
 pub fn name(alloc: Global, value: &Value, member: Member, kind: NameKind) -> Result<Text, Refusal>
     ensures { Gives same result (a_name member kind (view value.now)) }
@@ -145,4 +150,21 @@ pub fn flag_or_false(object: &Value, member: Member) -> Result<bool, Refusal>
         None => Ok(false),
         Some(value) => flag(value, member),
     }
+}
+
+/// A name, where an empty one counts as absent.
+#[tactic(auto, unfolding(crate::specs::Registration::name_if_any))]
+pub fn name_if_any(
+    alloc: Global,
+    value: &Value,
+    member: Member,
+    kind: NameKind,
+) -> Result<Option<Text>, Refusal>
+    ensures { Gives same result (name_if_any_in member kind (view value.now)) }
+{
+    if text(value, member)?.is_empty() {
+        return Ok(None);
+    }
+    let name = name(alloc, value, member, kind)?;
+    Ok(Some(name))
 }

@@ -10,7 +10,7 @@ use crate::constraint::constraints;
 use crate::group::groups;
 use crate::member;
 use crate::member::{
-    demanded, document, flag_or_false, number_or, object, present, read_json, text,
+    demanded, document, flag_or_false, name_if_any, number_or, object, present, read_json, text,
 };
 use ns_types::job::{Constraint, JobKind, Registration};
 use ns_types::name::NameKind;
@@ -25,23 +25,6 @@ use std::alloc::Global;
 pub struct RegistrationDocument {
     pub namespace: Option<Text>,
     pub registration: Registration,
-}
-
-/// A name, where an empty one counts as absent.
-#[tactic(auto, unfolding(crate::specs::Registration::name_if_any))]
-fn name_if_any(
-    alloc: Global,
-    value: &Value,
-    member: Member,
-    kind: NameKind,
-) -> Result<Option<Text>, Refusal>
-    ensures { Gives same result (name_if_any_in member kind (view value.now)) }
-{
-    if text(value, member)?.is_empty() {
-        return Ok(None);
-    }
-    let name = member::name(alloc, value, member, kind)?;
-    Ok(Some(name))
 }
 
 fn namespace(alloc: Global, job: &Value) -> Result<Option<Text>, Refusal>

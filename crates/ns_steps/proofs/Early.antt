@@ -1,9 +1,9 @@
 -- The opening world is early, and a registration keeps a world early.
-use Rattle.std.specs.Prelude.{◌≡◌, ◌≢◌, ℕ, ◌+◌, ◌≤◌, Bool, true, false, cond, ◌||◌, [], ◌∷◌, ◌++◌, Option, Some, None, is_some, nat_lt}
+use Rattle.std.specs.Prelude.{◌≡◌, ◌≢◌, ℕ, ◌+◌, ◌≤◌, Bool, true, false, cond, if◌then◌else◌, ◌||◌, [], ◌∷◌, ◌++◌, Option, Some, None, is_some, nat_lt}
 use Rattle.std.proofs.Common.{refl, sym, ap, subst, ◌∙◌, ⊎_elim, arith}
 use Rattle.std.proofs.lemmas.Bool.{and_parts}
 use Rattle.std.specs.Option.{option_and_then}
-use Rattle.std.specs.Ordering.{eq_by_cmp}
+use Rattle.std.specs.Ordering.{eq_by_cmp, nat_cmp}
 use Rattle.std.specs.FinMap.{empty, get, get-empty, insert}
 use Rattle.ns_types.specs.declared.evaluation.Evaluation.{Evaluation}
 use Rattle.ns_types.specs.declared.job.Registration.{Registration}
@@ -11,9 +11,9 @@ use Rattle.ns_types.specs.declared.node.Node.{Node}
 use Rattle.ns_types.specs.declared.worker.Worker.{Worker}
 use Rattle.ns_types.specs.Names.{Name, Key, default_name, has_key, name_cmp, same_key, same_name, same_number}
 use Rattle.ns_types.specs.Queue.{is_busy}
-use Rattle.ns_types.specs.Rows.{World, Tenant, QuotaRows, evaluation_at}
+use Rattle.ns_types.specs.Rows.{World, Tenant, QuotaRows, is_pending}
 use Rattle.ns_types.specs.Steps.{greatest, is_over, is_over_pool, is_over_tenant, opening, opening_pool, opening_tenant, opening_world}
-use Rattle.ns_types.specs.Validity.{IsSound}
+use Rattle.ns_types.specs.Validity.{IsReady, IsSound}
 use Rattle.ns_types.proofs.Lists.{not_both}
 use Rattle.ns_types.proofs.Named.{names, numbers, one_name, one_number}
 use Rattle.ns_types.proofs.Tables.{tied}
@@ -39,7 +39,7 @@ fresh w ns t early is = record { row = none; entry = entry (has_key w.ready (ns,
 
     entry : (b : Bool) → has_key w.ready (ns, next_number t) ≡ b → b ≡ false
     entry false e = refl
-    entry true e = not_both (early.ready (ns, next_number t) e) (ap is_some (ap (option_and_then (λ x. get x.evaluations (next_number t))) is ∙ none))
+    entry true e = not_both (ap is_some (early.ready (ns, next_number t) e).is_row) (ap is_some (ap (option_and_then (λ x. get x.evaluations (next_number t))) is ∙ none))
 
     worker : (k : ℕ) (x : Worker) → get t.workers k ≡ Some x → x.evaluation ≢ next_number t
     worker k x at e = not_both (early.worker ns t k x is at) (ap is_some (ap (get t.evaluations) e ∙ none))
@@ -75,27 +75,49 @@ module _ (ns : Name) (r : Registration) (w : World) (t : Tenant) (early : IsEarl
   unfolding registered_tenant
   own_row n there = stays numbers one_number t.evaluations (next_number t) (made_evaluation r t) n there
 
-  -- a row that was there is there
-  row_stays : (key : Key) → is_some (evaluation_at w key) ≡ true → is_some (evaluation_at (registered_world ns r w t) key) ≡ true
-  unfolding registered_world
-  row_stays key there = by (eq_by_cmp name_cmp key.0 ns) refl
+  -- what is pending in the namespace stays so, and so is the new evaluation
+  own_pending : (n : ℕ) (e : Evaluation) → get t.evaluations n ≡ Some e → is_pending e.status ≡ true → (x : Evaluation) × (get (registered_tenant r t).evaluations n ≡ Some x) × (is_pending x.status ≡ true)
+  unfolding registered_tenant
+  own_pending n e at pending = by (eq_by_cmp nat_cmp n (next_number t)) refl
     where
-      by : (b : Bool) → eq_by_cmp name_cmp key.0 ns ≡ b → is_some (option_and_then (λ x. get x.evaluations key.1) (get (insert w.tenants ns (registered_tenant r t)) key.0)) ≡ true
-      by true e = ap (λ o. is_some (option_and_then (λ x. get x.evaluations key.1) o)) (ap (get (insert w.tenants ns (registered_tenant r t))) (tied one_name key.0 ns e) ∙ get_put names one_name w.tenants ns (registered_tenant r t))
-          ∙ own_row key.1 (sym (ap (λ o. is_some (option_and_then (λ x. get x.evaluations key.1) o)) (ap (get w.tenants) (tied one_name key.0 ns e) ∙ is)) ∙ there)
-      by false e = ap (λ o. is_some (option_and_then (λ x. get x.evaluations key.1) o)) (get_other names one_name w.tenants ns (registered_tenant r t) key.0 e) ∙ there
+      by : (b : Bool) → eq_by_cmp nat_cmp n (next_number t) ≡ b → (x : Evaluation) × (get (insert t.evaluations (next_number t) (made_evaluation r t)) n ≡ Some x) × (is_pending x.status ≡ true)
+      by true same = (made_evaluation r t, ap (get (insert t.evaluations (next_number t) (made_evaluation r t))) (tied one_number n (next_number t) same) ∙ get_put numbers one_number t.evaluations (next_number t) (made_evaluation r t), refl)
+      by false other = (e, get_other numbers one_number t.evaluations (next_number t) (made_evaluation r t) n other ∙ at, pending)
+
+  -- an entry that was ready is ready
+  row_stays : (key : Key) → IsReady w key → IsReady (registered_world ns r w t) key
+  unfolding registered_world
+  row_stays key ready = by (eq_by_cmp name_cmp key.0 ns) refl
+    where
+      by : (b : Bool) → eq_by_cmp name_cmp key.0 ns ≡ b → IsReady (record w { tenants = insert w.tenants ns (registered_tenant r t); ready = if is_busy w ns r.id then w.ready else w.ready ++ (ns, next_number t) ∷ [] }) key
+      by true e =
+          let row = own_pending key.1 ready.row (sym (ap (λ o. option_and_then (λ x. get x.evaluations key.1) o) (ap (get w.tenants) (tied one_name key.0 ns e) ∙ is)) ∙ ready.is_row) ready.pending in
+          record {
+            row = row.0;
+            is_row = ap (λ o. option_and_then (λ x. get x.evaluations key.1) o) (ap (get (insert w.tenants ns (registered_tenant r t))) (tied one_name key.0 ns e) ∙ get_put names one_name w.tenants ns (registered_tenant r t)) ∙ row.1;
+            pending = row.2;
+          }
+      by false e = record {
+        row = ready.row;
+        is_row = ap (λ o. option_and_then (λ x. get x.evaluations key.1) o) (get_other names one_name w.tenants ns (registered_tenant r t) key.0 e) ∙ ready.is_row;
+        pending = ready.pending;
+      }
 
   made_row : get (registered_tenant r t).evaluations (next_number t) ≡ Some (made_evaluation r t)
   unfolding registered_tenant
   made_row = get_put numbers one_number t.evaluations (next_number t) (made_evaluation r t)
 
-  new_row : (key : Key) → same_key key (ns, next_number t) ≡ true → is_some (evaluation_at (registered_world ns r w t) key) ≡ true
+  new_row : (key : Key) → same_key key (ns, next_number t) ≡ true → IsReady (registered_world ns r w t) key
   unfolding registered_world
   new_row key same =
       let parts = and_parts (same_name key.0 ns) (same_number key.1 (next_number t)) same in
-      (λ i. is_some (option_and_then (λ x. get x.evaluations (tied one_number key.1 (next_number t) parts.1 i)) (get (insert w.tenants ns (registered_tenant r t)) (tied one_name key.0 ns parts.0 i))))
-      ∙ ap (λ o. is_some (option_and_then (λ x. get x.evaluations (next_number t)) o)) (get_put names one_name w.tenants ns (registered_tenant r t))
-      ∙ ap is_some made_row
+      record {
+        row = made_evaluation r t;
+        is_row = (λ i. option_and_then (λ x. get x.evaluations (tied one_number key.1 (next_number t) parts.1 i)) (get (insert w.tenants ns (registered_tenant r t)) (tied one_name key.0 ns parts.0 i)))
+            ∙ ap (λ o. option_and_then (λ x. get x.evaluations (next_number t)) o) (get_put names one_name w.tenants ns (registered_tenant r t))
+            ∙ made_row;
+        pending = refl;
+      }
 
   own_below : (n : ℕ) (e : Evaluation) → get (registered_tenant r t).evaluations n ≡ Some e → n ≤ (registered_tenant r t).evaluation_number
   unfolding registered_tenant
@@ -106,11 +128,11 @@ module _ (ns : Name) (r : Registration) (w : World) (t : Tenant) (early : IsEarl
   unfolding registered_tenant
   own_worker k x at = own_row x.evaluation (early.worker ns t k x is at)
 
-  entry : (key : Key) → has_key (registered_world ns r w t).ready key ≡ true → is_some (evaluation_at (registered_world ns r w t) key) ≡ true
+  entry : (key : Key) → has_key (registered_world ns r w t).ready key ≡ true → IsReady (registered_world ns r w t) key
   unfolding registered_world
   entry key h = by (is_busy w ns r.id) h
     where
-      by : (b : Bool) → has_key (cond b w.ready (w.ready ++ (ns, next_number t) ∷ [])) key ≡ true → is_some (evaluation_at (registered_world ns r w t) key) ≡ true
+      by : (b : Bool) → has_key (cond b w.ready (w.ready ++ (ns, next_number t) ∷ [])) key ≡ true → IsReady (registered_world ns r w t) key
       by true h = row_stays key (early.ready key h)
       by false h = ⊎_elim (λ before. row_stays key (early.ready key before)) (λ own. new_row key (sym (or_none (same_key key (ns, next_number t))) ∙ own)) (any_append (same_key key) w.ready ((ns, next_number t) ∷ []) h)
 
@@ -142,7 +164,7 @@ pub sound_early : (w : World) → IsSound w → w.plans ≡ [] → w.blocked ≡
 sound_early w sound plans blocked = record {
   within = sound.within;
   below = λ ns t n e is at. ((sound.tenant ns t is).evaluation n e at).below;
-  ready = λ key h. ap is_some (sound.ready key h).is_row;
+  ready = sound.ready;
   worker = λ ns t k x is at. ap is_some ((sound.tenant ns t is).worker k x at).is_row;
   plans = plans;
   blocked = blocked;

@@ -4,3 +4,6 @@ pub mod Settling
 pub mod Registering
 pub mod Steps
 pub mod Early
+pub mod Resting
+pub mod Administering
+pub mod Concluding

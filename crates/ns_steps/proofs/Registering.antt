@@ -221,7 +221,7 @@ module _ (ns : Name) (r : Registration) (w : World) (t : Tenant) where
 
 -- ---- the bound of the counters
 
-all_within : (w : World) → is_over w ≡ false → (any_row (λ _ t. is_over_tenant t) w.tenants ≡ false) × (any_row (λ _ p. is_over_pool p) w.pools ≡ false) × (any_row (λ _ q. nat_lt greatest q.release) w.quotas ≡ false)
+pub all_within : (w : World) → is_over w ≡ false → (any_row (λ _ t. is_over_tenant t) w.tenants ≡ false) × (any_row (λ _ p. is_over_pool p) w.pools ≡ false) × (any_row (λ _ q. nat_lt greatest q.release) w.quotas ≡ false)
 unfolding is_over
 all_within w within = by _ _ _ within
   where

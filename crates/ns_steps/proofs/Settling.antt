@@ -13,7 +13,7 @@ use Rattle.ns_types.specs.declared.records.Namespace.{Namespace}
 use Rattle.ns_types.specs.Names.{Name, Key, name_cmp, has_key}
 use Rattle.ns_types.specs.Releases.{ends, is_on, counts_in, changes_limits, gives_room, released_classes, classes_of, releases_quota, is_released_quota, same_offer, wakes, wakes_by, woken}
 use Rattle.ns_types.specs.Resources.{limits_in}
-use Rattle.ns_types.specs.Rows.{World, Tenant, PoolRows, QuotaRows, is_live, is_free, allocation_at, evaluation_at, class_of}
+use Rattle.ns_types.specs.Rows.{World, Tenant, PoolRows, QuotaRows, is_live, is_free, allocation_at, evaluation_at, node_at, class_of}
 use Rattle.ns_types.specs.Same.{same_job, same_evaluation, same_allocation}
 use Rattle.ns_types.specs.Settle.{after_release, after_quota_release, changes_job, changes_evaluation, changes_allocation, is_changed, is_touched, number_releases, settle, stamp, stamp_tenant, stamped, wake}
 use Rattle.ns_types.specs.Tables.{map_rows}
@@ -23,13 +23,17 @@ use Rattle.ns_types.proofs.Tables.{any_row-none, map_rows_idle, tied}
 use Rattle.ns_steps.proofs.Alike.{same_job_refl, same_evaluation_refl, same_allocation_refl, same_limits_refl, same_offer_refl}
 use Rattle.ns_steps.proofs.Rows.{filter_no_row, get_other, get_put, map_rows-put, same_Some}
 
--- pools and quotas are as they were, and what was live is live
+-- what was live is live
+abbrev pub KeepsLive : World → World → Type 0
+KeepsLive w w' = (ns : Name) (t : Tenant) (n : ℕ) (a : Allocation) → get w.tenants ns ≡ Some t → get t.allocations n ≡ Some a → is_live a ≡ true → option_map_or is_live (allocation_at w' (ns, n)) false ≡ true
+
+-- and pools and quotas are as they were
 pub record KeepsRoom (w w' : World) : Type 0 where
   pub pools : w'.pools ≡ w.pools
   pub quotas : w'.quotas ≡ w.quotas
-  pub live : (ns : Name) (t : Tenant) (n : ℕ) (a : Allocation) → get w.tenants ns ≡ Some t → get t.allocations n ≡ Some a → is_live a ≡ true → option_map_or is_live (allocation_at w' (ns, n)) false ≡ true
+  pub live : KeepsLive w w'
 
-live_in : (t : Tenant) (n : ℕ) (a : Allocation) (found : Option Tenant) → found ≡ Some t → get t.allocations n ≡ Some a → is_live a ≡ true
+pub live_in : (t : Tenant) (n : ℕ) (a : Allocation) (found : Option Tenant) → found ≡ Some t → get t.allocations n ≡ Some a → is_live a ≡ true
     → option_map_or is_live (option_and_then (λ t. get t.allocations n) found) false ≡ true
 live_in t n a found is at live = (λ i. option_map_or is_live (option_and_then (λ t. get t.allocations n) (is i)) false) ∙ ap (λ x. option_map_or is_live x false) at ∙ live
 
@@ -51,23 +55,29 @@ never : (a b : Bool) → (a ≡ true → b ≡ false) → (a && b) ≡ false
 never true b h = h refl
 never false b h = refl
 
--- ---- where room is kept nothing is released
+-- ---- where nothing ends, a node gives room only if it is new or changed
 
-module _ (w w' : World) (keeps : KeepsRoom w w') where
-  ends_none : (passes : Namespace → Allocation → Bool) → ends w w' passes ≡ false
+module _ (w w' : World) (live : KeepsLive w w') where
+  pub ends_none : (passes : Namespace → Allocation → Bool) → ends w w' passes ≡ false
   unfolding ends
   ends_none passes = any_row-none names one_name _ w.tenants (λ ns t is. any_row-none numbers one_number _ t.allocations (λ n a at. by ns t n a is at (is_live a) refl (passes t.namespace a)))
     where
       by : (ns : Name) (t : Tenant) (n : ℕ) (a : Allocation) → get w.tenants ns ≡ Some t → get t.allocations n ≡ Some a → (l : Bool) → is_live a ≡ l → (p : Bool)
           → (l && p && not (option_map_or is_live (allocation_at w' (ns, n)) false)) ≡ false
-      by ns t n a is at false live p = refl
-      by ns t n a is at true live false = refl
-      by ns t n a is at true live true = ap not (keeps.live ns t n a is at live)
+      by ns t n a is at false l p = refl
+      by ns t n a is at true l false = refl
+      by ns t n a is at true l true = ap not (live ns t n a is at l)
 
-  room_none : (name : Name) (pool : PoolRows) (n : Name) (node : Node) → get w.pools name ≡ Some pool → get pool.nodes n ≡ Some node → gives_room w w' name n node ≡ false
-  room_none name pool n node is at = never (is_free node) _ (λ free.
-      (λ i. option_map_or (λ old. not (is_free old) || not (same_offer old.offer node.offer)) ((ap (option_and_then (λ p. get p.nodes n)) is ∙ at) i) true || ends_none (is_on name n) i)
+  pub node_gives_none : (name n : Name) (node : Node) → node_at w name n ≡ Some node → gives_room w w' name n node ≡ false
+  node_gives_none name n node at = never (is_free node) _ (λ free.
+      (λ i. option_map_or (λ old. not (is_free old) || not (same_offer old.offer node.offer)) (at i) true || ends_none (is_on name n) i)
       ∙ (λ i. (not (free i) || not (same_offer_refl node.offer i)) || false))
+
+-- ---- where room is kept nothing is released
+
+module _ (w w' : World) (keeps : KeepsRoom w w') where
+  room_none : (name : Name) (pool : PoolRows) (n : Name) (node : Node) → get w.pools name ≡ Some pool → get pool.nodes n ≡ Some node → gives_room w w' name n node ≡ false
+  room_none name pool n node is at = node_gives_none w w' keeps.live name n node (ap (option_and_then (λ p. get p.nodes n)) is ∙ at)
 
   pub classes_none : (name : Name) (pool : PoolRows) → get w'.pools name ≡ Some pool → released_classes w w' name pool ≡ []
   unfolding released_classes
@@ -75,7 +85,7 @@ module _ (w w' : World) (keeps : KeepsRoom w w') where
 
   pub quota_none : (name : Name) (quota : QuotaRows) → get w'.quotas name ≡ Some quota → releases_quota w w' name quota ≡ false
   unfolding releases_quota
-  quota_none name quota is = (λ i. option_map_or (λ old. changes_limits old quota) ((ap (λ m. get m name) (sym keeps.quotas) ∙ is) i) false || ends_none (counts_in name) i)
+  quota_none name quota is = (λ i. option_map_or (λ old. changes_limits old quota) ((ap (λ m. get m name) (sym keeps.quotas) ∙ is) i) false || ends_none w w' keeps.live (counts_in name) i)
       ∙ ap (λ b. not b || false) (same_limits_refl (limits_in quota.quota.limits))
 
   classes_of_none : (name : Name) → classes_of w w' name ≡ []
@@ -119,7 +129,7 @@ module _ (w w' : World) (keeps : KeepsRoom w w') where
     quotas = map_rows_idle names one_name _ w'.quotas (λ name quota is. ap (λ b. after_quota_release b quota) (quota_none name quota is)) i;
   }
 
-wake_none : (w : World) → wake [] w ≡ w
+pub wake_none : (w : World) → wake [] w ≡ w
 unfolding wake
 wake_none w = λ i. record w {
   tenants = map_rows_idle names one_name _ w.tenants (λ ns t is i. record t { evaluations = map_rows_idle numbers one_number (λ n e. e) t.evaluations (λ n e at. refl) i }) i;
@@ -149,7 +159,7 @@ kept_evaluation t n e is = unchanged same_evaluation e _ is (same_evaluation_ref
 pub kept_allocation : (t : Tenant) (n : ℕ) (a : Allocation) → get t.allocations n ≡ Some a → changes_allocation t n a ≡ false
 kept_allocation t n a is = unchanged same_allocation a _ is (same_allocation_refl a)
 
-untouched : (t : Tenant) → is_touched t t ≡ false
+pub untouched : (t : Tenant) → is_touched t t ≡ false
 untouched t = λ i.
     any_row-none names one_name (λ id _. changes_job t t id) t.jobs (λ id job is. kept_job t id) i
     || any_row-none names one_name (λ id _. changes_job t t id) t.jobs (λ id job is. kept_job t id) i

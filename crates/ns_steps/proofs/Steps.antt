@@ -114,12 +114,12 @@ module _ (s : State) (ns : Name) (secret : Option Name) where
       → after (steps.Ask ns secret command) s ≡ said (Err refusals.NotFound) s
   ask_nowhere command allowed none = found_ask command None allowed none
 
-  refused_ask : (command : AskCommand) (t : Tenant) (refusal : Refusal) → right_of command (rights_of s.acl secret ns) ≡ true → get s.world.tenants ns ≡ Some t
+  pub refused_ask : (command : AskCommand) (t : Tenant) (refusal : Refusal) → right_of command (rights_of s.acl secret ns) ≡ true → get s.world.tenants ns ≡ Some t
       → asked_in ns command s.world t ≡ Refused refusal → after (steps.Ask ns secret command) s ≡ said (Err refusal) s
   refused_ask command t refusal allowed is refused = found_ask command (Some t) allowed is
       ∙ ap (λ o. concluded (steps.Ask ns secret command) s (lift (with_world s.acl) o)) refused
 
-  done_ask : (command : AskCommand) (t : Tenant) (content : Content) (w w' : World) → right_of command (rights_of s.acl secret ns) ≡ true → get s.world.tenants ns ≡ Some t
+  pub done_ask : (command : AskCommand) (t : Tenant) (content : Content) (w w' : World) → right_of command (rights_of s.acl secret ns) ≡ true → get s.world.tenants ns ≡ Some t
       → asked_in ns command s.world t ≡ Done content w → settle s.world w ≡ w'
       → after (steps.Ask ns secret command) s ≡ concluded_with (steps.Ask ns secret command) s content (record s { world = w' })
   done_ask command t content w w' allowed is done settles = found_ask command (Some t) allowed is
@@ -207,6 +207,15 @@ module _ (s : State) (ns : Name) (secret : Option Name) where
         (ap (λ o. option_map_or (λ job. Done (contents.Job (job_shown ns t id job)) s.world) o (Refused refusals.NotFound)) is) (settle_same s.world)
         ∙ ap (λ b. cond b (said (Err refusals.Full) s) (said (Ok (reply_of (steps.Ask ns secret (asks.ReadJob id)) (contents.Job (job_shown ns t id job)) s.world)) s)) within
         ∙ ap (λ o. said (Ok (record { index = option_map (λ t. t.index) o; content = contents.Job (job_shown ns t id job) })) s) tenant
+
+  -- ---- every read
+
+  pub ask_reads : (command : AskCommand) (t : Tenant) (content : Content) → right_of command (rights_of s.acl secret ns) ≡ true → get s.world.tenants ns ≡ Some t → is_over s.world ≡ false
+      → asked_in ns command s.world t ≡ Done content s.world
+      → after (steps.Ask ns secret command) s ≡ said (Ok (record { index = Some t.index; content = content })) s
+  ask_reads command t content allowed tenant within is = done_ask command t content s.world s.world allowed tenant is (settle_same s.world)
+      ∙ ap (λ b. cond b (said (Err refusals.Full) s) (said (Ok (reply_of (steps.Ask ns secret command) content s.world)) s)) within
+      ∙ ap (λ o. said (Ok (record { index = option_map (λ t. t.index) o; content = content })) s) tenant
 
   -- ---- what replies hold, and what they leave
 

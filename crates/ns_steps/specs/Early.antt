@@ -4,8 +4,9 @@ use Rattle.std.specs.FinMap.{get}
 use Rattle.ns_types.specs.declared.evaluation.Evaluation.{Evaluation}
 use Rattle.ns_types.specs.declared.worker.Worker.{Worker}
 use Rattle.ns_types.specs.Names.{Name, Key, has_key}
-use Rattle.ns_types.specs.Rows.{World, Tenant, evaluation_at}
+use Rattle.ns_types.specs.Rows.{World, Tenant}
 use Rattle.ns_types.specs.Steps.{is_over}
+use Rattle.ns_types.specs.Validity.{IsReady}
 use Rattle.ns_steps.specs.Registered.{next_number}
 
 -- the namespace's next number is given to no evaluation yet, none with it is ready, and no worker has it
@@ -18,8 +19,8 @@ pub record IsEarly (w : World) : Type 0 where
   pub within : is_over w ≡ false
   -- numbers of evaluations are at or under the counter
   pub below : (ns : Name) (t : Tenant) (n : ℕ) (e : Evaluation) → get w.tenants ns ≡ Some t → get t.evaluations n ≡ Some e → n ≤ t.evaluation_number
-  -- an entry of `ready` names a row, and so does a worker
-  pub ready : (key : Key) → has_key w.ready key ≡ true → is_some (evaluation_at w key) ≡ true
+  -- an entry of `ready` names a pending evaluation, and a worker has one that is there
+  pub ready : (key : Key) → has_key w.ready key ≡ true → IsReady w key
   pub worker : (ns : Name) (t : Tenant) (k : ℕ) (worker : Worker) → get w.tenants ns ≡ Some t → get t.workers k ≡ Some worker → is_some (get t.evaluations worker.evaluation) ≡ true
   -- these two hold only until workers are served
   pub plans : w.plans ≡ []

@@ -1,18 +1,26 @@
 -- Laws of a registration and of a read of a job.
-use Rattle.std.specs.Prelude.{◌≡◌, ◌||◌, false, if◌then◌else◌, [], Some, nat_lt, Ok, Err, Option}
+use Rattle.std.specs.Prelude.{◌≡◌, ◌||◌, true, false, if◌then◌else◌, [], Some, None, nat_lt, Result, Ok, Err, Option}
 use Rattle.std.specs.FinMap.{get}
 use Rattle.ns_types.specs.declared.job.Registration.{Registration}
 use Rattle.ns_types.specs.declared.refusal.Refusal.{Refusal}
 use Rattle.ns_types.specs.declared.refusal.Refusal.TheVariants as refusals
+use Rattle.ns_types.specs.declared.records.Quota.{Quota}
+use Rattle.ns_types.specs.declared.reply.Content.{Content}
+use Rattle.ns_types.specs.declared.step.AdminCommand.{AdminCommand}
+use Rattle.ns_types.specs.declared.step.AdminCommand.TheVariants as admins
 use Rattle.ns_types.specs.declared.step.AskCommand.TheVariants as asks
 use Rattle.ns_types.specs.declared.step.Step.TheVariants as steps
 use Rattle.ns_types.specs.declared.evaluation.Trigger.TheVariants as triggers
 use Rattle.ns_types.specs.Making.{evaluation_of, make_in, with_job}
+use Rattle.ns_types.specs.Access.{administer, may_administer}
+use Rattle.ns_types.specs.Admins.{put_quota}
 use Rattle.ns_types.specs.Names.{Name}
+use Rattle.ns_types.specs.Outcome.{Changes, Done}
 use Rattle.ns_types.specs.Releases.{released_classes, releases_quota, woken}
 use Rattle.ns_types.specs.Rows.{World, State, Tenant, PoolRows, QuotaRows}
-use Rattle.ns_types.specs.Steps.{Answer, after, greatest, is_over, said}
-use Rattle.ns_steps.specs.Early.{IsFresh}
+use Rattle.ns_types.specs.Steps.{Answer, Makes, after, greatest, is_over, said}
+use Rattle.ns_steps.specs.Administered.{IsCalm, plain, relimited, relimited_state}
+use Rattle.ns_steps.specs.Early.{IsEarly, IsFresh}
 use Rattle.ns_steps.specs.Registered.{IsRegistrable, Refuses, job_of, next_index, next_number, registered_reply, registered_state}
 
 -- the world with the rows of a registration put, before the step settles
@@ -41,3 +49,17 @@ RegistrationIs = (s : State) (ns : Name) (secret : Option Name) (r : Registratio
     → after (steps.Ask ns secret (asks.Register r)) s
     ≡ (if nat_lt greatest (next_index t) || nat_lt greatest (next_number t) then said (Err refusals.Full) s
     else said (Ok (registered_reply r t)) (registered_state ns r s t))
+
+-- ---- administrators
+
+-- a step that releases nothing answers what its change says and leaves what it leaves, and the world stays early
+abbrev pub AdministrationMakes : Type 0
+AdministrationMakes = (s s' : State) (secret : Option Name) (command : AdminCommand) (result : Result Content Refusal)
+    → may_administer s.acl secret command ≡ true → IsEarly s.world → IsCalm command → Changes (administer secret command s) s result s'
+    → Makes (steps.Admin secret command) s (plain result) s' × IsEarly s'.world
+
+-- a quota with other limits has one more release
+abbrev pub QuotaPutIs : Type 0
+QuotaPutIs = (s : State) (secret : Option Name) (name : Name) (quota : Quota) (content : Content) (w : World)
+    → may_administer s.acl secret (admins.PutQuota name quota) ≡ true → IsEarly s.world → nat_lt greatest (relimited s.world name quota).release ≡ false
+    → put_quota name quota s.world ≡ Done content w → after (steps.Admin secret (admins.PutQuota name quota)) s ≡ said (Ok (record { index = None; content = content })) (relimited_state s name quota)

@@ -1,4 +1,5 @@
 pub mod Told
 pub mod Registered
 pub mod Early
+pub mod Administered
 pub mod Laws

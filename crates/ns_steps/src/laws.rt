@@ -1,6 +1,6 @@
-//! Laws of a registration and of a read, each the contract of a function that does nothing.
+//! Laws of a registration, of a read, and of administrators' steps, each the contract of a function that does nothing.
 
-ghost use Rattle.ns_steps.specs.Laws.{RegistrationReleasesNothing, ReadChangesNothing, RegistrationIs, RegistrationRefused};
+ghost use Rattle.ns_steps.specs.Laws.{AdministrationMakes, QuotaPutIs, RegistrationReleasesNothing, ReadChangesNothing, RegistrationIs, RegistrationRefused};
 
 /// A registration releases no class of a pool and no quota, and wakes no blocked evaluation.
 pub fn registration_releases_nothing()
@@ -20,4 +20,14 @@ pub fn registration_refused()
 /// A registration that no test refuses leads to the one state, with the one reply, unless a counter would pass its bound.
 pub fn registration_is()
     ensures { RegistrationIs }
+{}
+
+/// An administrator's step that releases nothing answers what its change says, and leaves what it leaves.
+pub fn administration_makes()
+    ensures { AdministrationMakes }
+{}
+
+/// A put of a quota leaves the quota, with one more release where its limits are others.
+pub fn quota_put_is()
+    ensures { QuotaPutIs }
 {}

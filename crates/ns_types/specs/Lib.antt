@@ -33,6 +33,7 @@ pub mod Steps
 pub mod Name
 pub mod Limits
 pub mod Validity
+pub mod Within
 pub mod Isolation
 pub mod Member
 pub mod Looks

@@ -1,7 +1,10 @@
 //! Policies and tokens.
 
+ghost use Rattle.std.specs.Prelude.{◌≡◌};
+
 use crate::rows::Rows;
 use crate::text::Text;
+use std::alloc::AllocError;
 
 #[derive(Clone, Copy, Debug, PartialEq, Eq)]
 pub enum RuleKind {
@@ -14,6 +17,17 @@ pub enum RuleKind {
 pub struct Pattern {
     pub text: Text,
     pub is_prefix: bool,
+}
+
+impl Clone for Pattern {
+    ghost is_clone = { λ a b. b ≡ a };
+
+    fn clone(&self) -> Result<Pattern, AllocError> {
+        Ok(Pattern {
+            text: self.text.clone()?,
+            is_prefix: self.is_prefix,
+        })
+    }
 }
 
 /// What a rule gives.
@@ -35,6 +49,18 @@ pub struct Rule {
     pub grants: Grants,
 }
 
+impl Clone for Rule {
+    ghost is_clone = { λ a b. b ≡ a };
+
+    fn clone(&self) -> Result<Rule, AllocError> {
+        Ok(Rule {
+            kind: self.kind,
+            pattern: self.pattern.clone()?,
+            grants: self.grants,
+        })
+    }
+}
+
 /// By name.
 #[derive(Drop)]
 pub struct Policy {
@@ -42,6 +68,18 @@ pub struct Policy {
     /// The text of the rules, as given.
     pub text: Text,
     pub rules: Rows<Rule>,
+}
+
+impl Clone for Policy {
+    ghost is_clone = { λ a b. b ≡ a };
+
+    fn clone(&self) -> Result<Policy, AllocError> {
+        Ok(Policy {
+            description: self.description.clone()?,
+            text: self.text.clone()?,
+            rules: self.rules.clone()?,
+        })
+    }
 }
 
 #[derive(Clone, Copy, Debug, PartialEq, Eq)]

@@ -1,8 +1,11 @@
 //! The records that administrators write: namespaces, quotas and pools, by name.
 
+ghost use Rattle.std.specs.Prelude.{◌≡◌};
+
 use crate::resources::Limits;
 use crate::rows::Rows;
 use crate::text::Text;
+use std::alloc::AllocError;
 
 #[derive(Drop)]
 pub struct Namespace {
@@ -13,6 +16,20 @@ pub struct Namespace {
     pub denied: Rows<Text>,
 }
 
+impl Clone for Namespace {
+    ghost is_clone = { λ a b. b ≡ a };
+
+    fn clone(&self) -> Result<Namespace, AllocError> {
+        Ok(Namespace {
+            description: self.description.clone()?,
+            quota: self.quota.clone()?,
+            default_pool: self.default_pool.clone()?,
+            allowed: self.allowed.clone()?,
+            denied: self.denied.clone()?,
+        })
+    }
+}
+
 #[derive(Drop)]
 pub struct Quota {
     pub description: Text,
@@ -20,7 +37,28 @@ pub struct Quota {
     pub limits: Option<Limits>,
 }
 
+impl Clone for Quota {
+    ghost is_clone = { λ a b. b ≡ a };
+
+    fn clone(&self) -> Result<Quota, AllocError> {
+        Ok(Quota {
+            description: self.description.clone()?,
+            limits: self.limits,
+        })
+    }
+}
+
 #[derive(Drop)]
 pub struct Pool {
     pub description: Text,
+}
+
+impl Clone for Pool {
+    ghost is_clone = { λ a b. b ≡ a };
+
+    fn clone(&self) -> Result<Pool, AllocError> {
+        Ok(Pool {
+            description: self.description.clone()?,
+        })
+    }
 }
