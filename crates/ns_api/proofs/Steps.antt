@@ -1,12 +1,15 @@
--- The steps that requests ask for.
-use Rattle.std.proofs.Common.{◌≡◌, ℕ, List, true, refl, subst}
-use Rattle.std.specs.Prelude.{IsUtf8, Err}
+-- The parts of paths, as texts and as UUIDs.
+use Rattle.std.proofs.Common.{◌≡◌, ◌&&◌, Bool, ℕ, List, [], ◌∷◌, true, false, is_some, refl, subst}
+use Rattle.std.specs.Prelude.{IsUtf8, Err, Option, Some, None, option_map}
+use Rattle.std.specs.Int.{w128, from_be_bytes}
 use Rattle.std.specs.Str.{is_utf8}
 use Rattle.std.proofs.lemmas.Str.{IsUtf8-from_is_utf8}
 use Rattle.percent_encoding.specs.Percent.{percent_decode}
-use Rattle.ns_types.specs.declared.name.NameKind.TheVariants as kinds
+use Rattle.uuid.specs.Text.{parsed}
 use Rattle.ns_types.specs.declared.refusal.Refusal.TheVariants as refusals
+use Rattle.ns_types.proofs.Lists.{not_both}
 use Rattle.ns_types.specs.Http.{Asked}
+use Rattle.ns_types.specs.Id.{uuid_number}
 use Rattle.ns_api.specs.declared.endpoint.Endpoint.{Endpoint}
 use Rattle.ns_api.specs.declared.endpoint.Endpoint.TheVariants as endpoints
 use Rattle.ns_api.specs.declared.method.Method.{Method}
@@ -14,22 +17,49 @@ use Rattle.ns_api.specs.declared.part.Part.{Part}
 use Rattle.ns_api.specs.declared.part.Part.TheVariants as parts
 use Rattle.ns_api.specs.Parts.{is_part, is_good, segment_at}
 use Rattle.ns_api.specs.Targets.{has_good_parts, text_at}
-use Rattle.ns_api.specs.Asking.{asked_of}
+use Rattle.ns_api.specs.Asking.{asked_of, not_served}
 use Rattle.ns_api.proofs.Spelling.{and_true}
 
-part_text : (part : Part) (segment : List ℕ) → is_part part segment ≡ true → IsUtf8 (percent_decode segment)
+-- a part that follows its rule is text
+pub part_text : (part : Part) (place : ℕ) (path : List ℕ) → (b : Bool) → (is_part part (segment_at place path) && b) ≡ true → IsUtf8 (text_at place path)
 unfolding is_part
-part_text part segment h = IsUtf8-from_is_utf8 (percent_decode segment) (and_true (is_utf8 (percent_decode segment)) (is_good part (percent_decode segment)) h).0
+part_text part place path b h = IsUtf8-from_is_utf8 (percent_decode (segment_at place path))
+    (and_true (is_utf8 (percent_decode (segment_at place path))) (is_good part (percent_decode (segment_at place path))) (and_true (is_part part (segment_at place path)) b h).0).0
 
--- the id of a job is text
-pub job_text : (endpoint : Endpoint) (path : List ℕ) → endpoint ≡ endpoints.Job → has_good_parts endpoint path ≡ true → IsUtf8 (text_at 3 path)
-job_text endpoint path is h =
-    let good = subst (λ e. has_good_parts e path ≡ true) is h in
-    part_text (parts.Name kinds.Job) (segment_at 3 path) (and_true (is_part (parts.Name kinds.Job) (segment_at 3 path)) true good).0
+-- an accessor is a UUID
+pub accessor_parsed : (place : ℕ) (path : List ℕ) → (b : Bool) → (is_part parts.Accessor (segment_at place path) && b) ≡ true → is_some (parsed (text_at place path)) ≡ true
+unfolding is_part is_good
+accessor_parsed place path b h = by (parsed (text_at place path))
+    (and_true (is_utf8 (percent_decode (segment_at place path))) (is_some (uuid_number (text_at place path))) (and_true (is_part parts.Accessor (segment_at place path)) b h).0).1
+  where
+    by : (o : Option (List ℕ)) → is_some (option_map (from_be_bytes w128) o) ≡ true → is_some o ≡ true
+    by None e = e
+    by (Some x) e = refl
 
-pub asked_elsewhere : (endpoint : Endpoint) (method : Method) (a : Asked) → (endpoint ≡ endpoints.Jobs → ⊥) → (endpoint ≡ endpoints.Job → ⊥)
-    → asked_of endpoint method a ≡ Err refusals.NotServed
+-- what is read as a UUID can't be refused
+pub unparsed : (o : Option (List ℕ)) → is_some o ≡ true → ((u : List ℕ) × (o ≡ Some u) → false ≡ true) → ⊥
+unparsed None e refused = not_both e refl
+unparsed (Some u) e refused = not_both (refused (u, refl)) refl
+
+-- what is not built
+pub asked_elsewhere : (endpoint : Endpoint) (method : Method) (a : Asked)
+    → (endpoint ≡ endpoints.Jobs → ⊥) → (endpoint ≡ endpoints.Job → ⊥) → (endpoint ≡ endpoints.Namespaces → ⊥) → (endpoint ≡ endpoints.NewNamespace → ⊥) → (endpoint ≡ endpoints.Namespace → ⊥)
+    → (endpoint ≡ endpoints.Quotas → ⊥) → (endpoint ≡ endpoints.NewQuota → ⊥) → (endpoint ≡ endpoints.Quota → ⊥) → (endpoint ≡ endpoints.QuotaUsage → ⊥)
+    → (endpoint ≡ endpoints.Pools → ⊥) → (endpoint ≡ endpoints.Pool → ⊥) → (endpoint ≡ endpoints.Policy → ⊥) → (endpoint ≡ endpoints.NewToken → ⊥) → (endpoint ≡ endpoints.Token → ⊥)
+    → asked_of endpoint method a ≡ not_served
 unfolding asked_of
-asked_elsewhere endpoints.Jobs _ a f g = absurd (f refl)
-asked_elsewhere endpoints.Job _ a f g = absurd (g refl)
-asked_elsewhere _ _ a f g = refl
+asked_elsewhere endpoints.Jobs _ a f _ _ _ _ _ _ _ _ _ _ _ _ _ = absurd (f refl)
+asked_elsewhere endpoints.Job _ a _ f _ _ _ _ _ _ _ _ _ _ _ _ = absurd (f refl)
+asked_elsewhere endpoints.Namespaces _ a _ _ f _ _ _ _ _ _ _ _ _ _ _ = absurd (f refl)
+asked_elsewhere endpoints.NewNamespace _ a _ _ _ f _ _ _ _ _ _ _ _ _ _ = absurd (f refl)
+asked_elsewhere endpoints.Namespace _ a _ _ _ _ f _ _ _ _ _ _ _ _ _ = absurd (f refl)
+asked_elsewhere endpoints.Quotas _ a _ _ _ _ _ f _ _ _ _ _ _ _ _ = absurd (f refl)
+asked_elsewhere endpoints.NewQuota _ a _ _ _ _ _ _ f _ _ _ _ _ _ _ = absurd (f refl)
+asked_elsewhere endpoints.Quota _ a _ _ _ _ _ _ _ f _ _ _ _ _ _ = absurd (f refl)
+asked_elsewhere endpoints.QuotaUsage _ a _ _ _ _ _ _ _ _ f _ _ _ _ _ = absurd (f refl)
+asked_elsewhere endpoints.Pools _ a _ _ _ _ _ _ _ _ _ f _ _ _ _ = absurd (f refl)
+asked_elsewhere endpoints.Pool _ a _ _ _ _ _ _ _ _ _ _ f _ _ _ = absurd (f refl)
+asked_elsewhere endpoints.Policy _ a _ _ _ _ _ _ _ _ _ _ _ f _ _ = absurd (f refl)
+asked_elsewhere endpoints.NewToken _ a _ _ _ _ _ _ _ _ _ _ _ _ f _ = absurd (f refl)
+asked_elsewhere endpoints.Token _ a _ _ _ _ _ _ _ _ _ _ _ _ _ f = absurd (f refl)
+asked_elsewhere _ _ a _ _ _ _ _ _ _ _ _ _ _ _ _ _ = refl

@@ -11,13 +11,18 @@ use Rattle.ns_types.specs.Steps.{Answer, after, said, Run}
 use Rattle.ns_types.specs.Wire.{Exchange, refusal_of}
 use Rattle.ns_json.specs.Replies.{rendered}
 use Rattle.ns_api.specs.Asking.{asked}
+use Rattle.ns_api.specs.Drawing.{Draws}
 
 -- ---- one request
 
--- the refusal that needs no state, which leaves it; or the answer of the step, which leads to the next state
+-- the answer of the step, which leads to the next state
+abbrev pub AnswersStep : Step → State → Rendered → State → Type 0
+AnswersStep step s reply s' = (answer : Answer) × (after step s ≡ said answer s') × (reply ≡ rendered answer)
+
+-- the refusal that needs no state, which leaves it; or the answer of the step that is asked for
 abbrev pub AnswersAsked : Result Step Refusal → State → Rendered → State → Type 0
 AnswersAsked (Err refusal) s reply s' = (reply ≡ refused refusal) × (s' ≡ s)
-AnswersAsked (Ok step) s reply s' = (answer : Answer) × (after step s ≡ said answer s') × (reply ≡ rendered answer)
+AnswersAsked (Ok step) s reply s' = (made : Step) × Draws step made × AnswersStep made s reply s'
 
 -- want of memory changes nothing
 abbrev pub WantsMemory : State → Rendered → State → Type 0
@@ -26,9 +31,9 @@ WantsMemory s reply s' = (reply ≡ refused Memory) × (s' ≡ s)
 abbrev pub Answers : State → Asked → Rendered → State → Type 0
 Answers s a reply s' = AnswersAsked (asked a) s reply s' ⊎ WantsMemory s reply s'
 
--- the same of a step that is asked for
-abbrev pub AnswersStep : Step → State → Rendered → State → Type 0
-AnswersStep step s reply s' = AnswersAsked (Ok step) s reply s' ⊎ WantsMemory s reply s'
+-- the same of a step, with all that was drawn for it
+abbrev pub AnswersOrWants : Step → State → Rendered → State → Type 0
+AnswersOrWants step s reply s' = AnswersStep step s reply s' ⊎ WantsMemory s reply s'
 
 -- ---- a connection
 
@@ -39,9 +44,11 @@ MakesNone (Ok step) reply = reply ≡ refused Memory
 
 -- a request that made the first of these steps, whose answer it got
 pub record MakesFirst (asks : Result Step Refusal) (reply : Rendered) (steps : List Step) (answers : List Answer) (steps' : List Step) (answers' : List Answer) : Type 0 where
+  pub wanted : Step
   pub made : Step
   pub told : Answer
-  pub asks_made : asks ≡ Ok made
+  pub asks_wanted : asks ≡ Ok wanted
+  pub draws_made : Draws wanted made
   pub shows_told : reply ≡ rendered told
   pub made_first : steps ≡ made ∷ steps'
   pub told_first : answers ≡ told ∷ answers'

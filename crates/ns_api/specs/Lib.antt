@@ -7,6 +7,7 @@ pub mod Queries
 pub mod Secrets
 pub mod Gives
 pub mod Asking
+pub mod Drawing
+pub mod Rooms
 pub mod Answering
-pub mod Served
 pub mod Serving

@@ -1,25 +1,23 @@
 //! Answers requests, over anything that takes the steps which they ask for.
 
-ghost use Rattle.std.specs.Prelude.{◌≡◌, IfOk};
-ghost use Rattle.std.specs.Option.{option_copied};
-ghost use Rattle.ns_types.specs.declared.step.Step.TheVariants as steps;
+ghost use Rattle.std.specs.Prelude.{◌≡◌, IfOk, true, false};
 ghost use Rattle.ns_types.specs.Steps.{Makes};
 ghost use Rattle.ns_types.specs.Wire.{rendered_of};
-ghost use Rattle.ns_api.specs.Answering.{AnswersStep};
-ghost use Rattle.ns_api.specs.Asking.{step_of};
-ghost use Rattle.ns_api.specs.Served.{IsServed, IsRegister, IsRead};
+ghost use Rattle.ns_steps.specs.Served.{IsServed};
+ghost use Rattle.ns_api.specs.Answering.{AnswersOrWants};
+ghost use Rattle.ns_api.specs.Rooms.{is_reading, room_of};
 
-use crate::asking::{Asking, asked};
+use crate::asking::asked;
+use crate::drawing::{Draws, drawn};
 use crate::routes::Routes;
 use ns_http::{Answer, Request};
-use ns_json::{Room, render};
+use ns_replies::{Room, render};
 use ns_types::refusal::Refusal;
 use ns_types::reply::{Reply, Response};
-use ns_types::step::AskCommand;
-use ns_types::text::Text;
+use ns_types::step::{AdminCommand, AskCommand, Step};
 use std::alloc::{AllocError, Global};
 
-/// What takes a step in a namespace.
+/// What takes steps.
 pub trait Takes {
     ghost use Rattle.ns_types.specs.Rows.{State};
 
@@ -27,65 +25,87 @@ pub trait Takes {
     ghost state: { Self → State };
 
     /// Makes the step. A refusal leaves the state as it is.
-    fn ask(
-        &mut self,
-        namespace: &Text,
-        secret: Option<&Text>,
-        command: &AskCommand,
-    ) -> Result<Reply, Refusal>
-        requires { IsServed command.now }
-        ensures { Makes (steps.Ask namespace.now (option_copied secret.entry) command.now) (state self.old) result (state self.new) };
+    fn take(&mut self, step: &Step) -> Result<Reply, Refusal>
+        requires { IsServed step.now }
+        ensures { Makes step.now (state self.old) result (state self.new) };
 }
 
-/// Answers requests over what takes their steps.
+/// Answers requests over what takes their steps, with the random bits that new tokens need.
 #[derive(Drop)]
-pub struct Api<T> {
+pub struct Api<T, D> {
     taker: T,
+    draws: D,
     routes: Routes,
     alloc: Global,
 }
 
-impl<T: Takes> Api<T> {
+/// Whether the step only reads.
+fn is_read(step: &Step) -> bool
+    ensures { result ≡ is_reading step.now }
+{
+    match step {
+        Step::Ask(_, _, command) => !matches!(command, AskCommand::Register(_)),
+        Step::Admin(_, command) => matches!(
+            command,
+            AdminCommand::ListNamespaces
+                | AdminCommand::ListQuotas
+                | AdminCommand::ReadQuota(_)
+                | AdminCommand::ListPools
+                | AdminCommand::ReadPolicy(_)
+        ),
+        _ => true,
+    }
+}
+
+/// Room for the reply to a write.
+fn room_for(alloc: Global, step: &Step) -> Result<Room, AllocError>
+    ensures { IfOk result (λ room. room ≡ room_of step.now) }
+{
+    match step {
+        Step::Admin(_, AdminCommand::CreateToken(new)) => Room::for_token(alloc, new),
+        _ => Room::new(alloc),
+    }
+}
+
+impl<T: Takes, D: Draws> Api<T, D> {
     /// The table of the paths is made here, and no later.
-    pub fn new(alloc: Global, taker: T) -> Result<Api<T>, AllocError>
+    pub fn new(alloc: Global, taker: T, draws: D) -> Result<Api<T, D>, AllocError>
     where
         T: Drop,
+        D: Drop,
         ensures { IfOk result (λ api. api.taker ≡ taker) }
     {
         let routes = Routes::new(alloc)?;
         Ok(Api {
             taker,
+            draws,
             routes,
             alloc,
         })
     }
 
-    /// Registers a job. The room of the reply is reserved before the step, so a registration that was made is answered.
-    fn register(&mut self, asking: &Asking) -> Response
-        requires { IsRegister asking.now.command }
-        ensures { AnswersStep (step_of asking.now) (T.state self.old.taker) (rendered_of result) (T.state self.new.taker) }
+    /// The room of the reply is taken before the step, so a write that was made is answered.
+    fn write(&mut self, step: &Step) -> Response
+        requires served { IsServed step.now }
+        requires writes { is_reading step.now ≡ false }
+        ensures { AnswersOrWants step.now (T.state self.old.taker) (rendered_of result) (T.state self.new.taker) }
     {
-        let Ok(room) = Room::new(self.alloc) else {
+        let Ok(room) = room_for(self.alloc, step) else {
             return Response::Refused(Refusal::Memory);
         };
-        match self
-            .taker
-            .ask(&asking.namespace, asking.secret.as_ref(), &asking.command)
-        {
+        match self.taker.take(step) {
             Ok(reply) => room.render(&reply),
             Err(refusal) => Response::Refused(refusal),
         }
     }
 
-    /// Reads a job, which changes nothing.
-    fn read(&mut self, asking: &Asking) -> Response
-        requires { IsRead asking.now.command }
-        ensures { AnswersStep (step_of asking.now) (T.state self.old.taker) (rendered_of result) (T.state self.new.taker) }
+    /// A read changes nothing, so its reply may still be refused for want of memory.
+    fn read(&mut self, step: &Step) -> Response
+        requires served { IsServed step.now }
+        requires reads { is_reading step.now ≡ true }
+        ensures { AnswersOrWants step.now (T.state self.old.taker) (rendered_of result) (T.state self.new.taker) }
     {
-        match self
-            .taker
-            .ask(&asking.namespace, asking.secret.as_ref(), &asking.command)
-        {
+        match self.taker.take(step) {
             Ok(reply) => match render(self.alloc, &reply) {
                 Ok(response) => response,
                 Err(_) => Response::Refused(Refusal::Memory),
@@ -94,19 +114,19 @@ impl<T: Takes> Api<T> {
         }
     }
 
-    fn step(&mut self, asking: &Asking) -> Response
-        requires { IsServed asking.now.command }
-        ensures { AnswersStep (step_of asking.now) (T.state self.old.taker) (rendered_of result) (T.state self.new.taker) }
+    fn step(&mut self, step: &Step) -> Response
+        requires { IsServed step.now }
+        ensures { AnswersOrWants step.now (T.state self.old.taker) (rendered_of result) (T.state self.new.taker) }
     {
-        match &asking.command {
-            AskCommand::Register(_) => self.register(asking),
-            AskCommand::ReadJob(_) => self.read(asking),
-            _ => unreachable!(),
+        if is_read(step) {
+            self.read(step)
+        } else {
+            self.write(step)
         }
     }
 }
 
-impl<T: Takes> Answer for Api<T> {
+impl<T: Takes, D: Draws> Answer for Api<T, D> {
     ghost use Rattle.ns_api.specs.Answering.{Answers};
 
     ghost answers = { λ old asks reply new. Answers (T.state old.taker) asks reply (T.state new.taker) };
@@ -114,9 +134,13 @@ impl<T: Takes> Answer for Api<T> {
     type A = Global;
 
     fn answer(&mut self, request: &Request<'_>) -> Response {
-        match asked(self.alloc, &self.routes, request) {
-            Ok(asking) => self.step(&asking),
-            Err(refusal) => Response::Refused(refusal),
+        let wanted = match asked(self.alloc, &self.routes, request) {
+            Ok(wanted) => wanted,
+            Err(refusal) => return Response::Refused(refusal),
+        };
+        match drawn(self.alloc, &mut self.draws, wanted) {
+            Ok(step) => self.step(&step),
+            Err(_) => Response::Refused(Refusal::Memory),
         }
     }
 }

@@ -7,16 +7,17 @@ ghost use Rattle.ns_http.specs.Counts.{HasFailed, IsOpen};
 ghost use Rattle.ns_api.specs.Serving.{Served, ServedInPart};
 
 use crate::answering::{Api, Takes};
+use crate::drawing::Draws;
 use ns_http::{ConnFault, Counted};
 use std::alloc::Allocator;
 use std::io::{Read, Write};
 
 /// Answers the requests of a connection, one after the other, and says how many there were. What they made is a run.
-pub fn serve<A: Allocator + Copy, R: Read, W: Write, T: Takes>(
+pub fn serve<A: Allocator + Copy, R: Read, W: Write, T: Takes, D: Draws>(
     alloc: A,
     reader: &mut Counted<R>,
     writer: &mut Counted<W>,
-    api: &mut Api<T>,
+    api: &mut Api<T, D>,
 ) -> Result<u64, ConnFault>
     ensures ok { IfOk result (λ count. (end : End)
         × (c : Served (T.state api.old.taker) (T.state api.new.taker)

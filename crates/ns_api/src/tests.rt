@@ -1,8 +1,8 @@
 // Each call may be refused for want of memory once, and then answers as with ample memory.
-use crate::{Asking, Routes, asked};
+use crate::{Routes, asked};
 use ns_http::Request;
 use ns_types::refusal::{Member, Refusal};
-use ns_types::step::AskCommand;
+use ns_types::step::{AskCommand, Step};
 use std::alloc::{AllocError, Global};
 use std::test::Fail;
 
@@ -16,7 +16,7 @@ fn routes(alloc: Global) -> Result<Routes, AllocError> {
     }
 }
 
-fn ask(alloc: Global, routes: &Routes, request: &Request<'_>) -> Result<Asking, Refusal> {
+fn ask(alloc: Global, routes: &Routes, request: &Request<'_>) -> Result<Step, Refusal> {
     match asked(alloc, routes, request) {
         Err(Refusal::Memory) => asked(alloc, routes, request),
         answer => answer,
@@ -44,25 +44,25 @@ fn refusal_of(
 
 /// Whether the answer is a step in that namespace, with that secret, about that job.
 fn is_step(
-    answer: &Result<Asking, Refusal>,
+    answer: &Result<Step, Refusal>,
     namespace: &str,
     secret: Option<&str>,
     id: &str,
 ) -> bool {
-    let Ok(asking) = answer else {
+    let Ok(Step::Ask(named, bearer, command)) = answer else {
         return false;
     };
-    let asked_id = match &asking.command {
+    let asked_id = match command {
         AskCommand::Register(registration) => registration.id.as_str(),
         AskCommand::ReadJob(id) => id.as_str(),
         _ => "",
     };
-    let same_secret = match (&asking.secret, secret) {
+    let same_secret = match (bearer, secret) {
         (Some(is), Some(wanted)) => is.as_str() == wanted,
         (None, None) => true,
         _ => false,
     };
-    asking.namespace.as_str() == namespace && same_secret && asked_id == id
+    named.as_str() == namespace && same_secret && asked_id == id
 }
 
 #[test]
@@ -71,10 +71,10 @@ fn asks_as_in_the_stored_run(rt: HostRuntime) -> Result<(), Fail> {
     let routes = routes(alloc)?;
     let made = ask(alloc, &routes, &request(b"POST", "/v1/jobs", WEB));
     assert!(rt; is_step(&made, "default", Some("root"), "web"));
-    assert!(rt; made.is_ok_and(|asking| matches!(asking.command, AskCommand::Register(_))));
+    assert!(rt; matches!(made, Ok(Step::Ask(_, _, AskCommand::Register(_)))));
     let read = ask(alloc, &routes, &request(b"GET", "/v1/job/web", b""));
     assert!(rt; is_step(&read, "default", Some("root"), "web"));
-    assert!(rt; read.is_ok_and(|asking| matches!(asking.command, AskCommand::ReadJob(_))));
+    assert!(rt; matches!(read, Ok(Step::Ask(_, _, AskCommand::ReadJob(_)))));
     Ok(())
 }
 
@@ -149,7 +149,7 @@ fn refusals_of_targets_and_methods(rt: HostRuntime) -> Result<(), Fail> {
         (b"GET", "/v1/jobs?namespace=*", Refusal::NotServed),
         (b"PATCH", "/v1/jobs?filter=a", Refusal::NotServed),
         (b"GET", "/v1/job/web?index=00", Refusal::NotServed),
-        (b"GET", "/v1/jobs", Refusal::NotServed),
+        (b"GET", "/v1/evaluations", Refusal::NotServed),
         (b"DELETE", "/v1/job/web", Refusal::NotServed),
         (b"PATCH", "/v1/jobs", Refusal::BadMethod),
         (b"HEAD", "/v1/job/web", Refusal::BadMethod),

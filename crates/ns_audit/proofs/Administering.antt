@@ -14,7 +14,7 @@ use Rattle.ns_types.specs.Access.{with_world, with_acl, administer}
 use Rattle.ns_types.specs.Admins.{with_namespace, put_namespace, delete_namespace, with_quota, put_quota, delete_quota, read_quota, with_pool, put_pool_record, delete_pool}
 use Rattle.ns_types.specs.Isolation.{Part, alone_in, namespace_at, pool_record, quota_record}
 use Rattle.ns_types.specs.Names.{Name, ByName}
-use Rattle.ns_types.specs.Outcome.{Outcome, NotEnabled, Refused, Done, unless, found, lift}
+use Rattle.ns_types.specs.Outcome.{Outcome, NotEnabled, Refused, Done, unless, lift}
 use Rattle.ns_types.specs.Rows.{State, World, Acl, Tenant, PoolRows}
 use Rattle.ns_types.specs.Settle.{settle}
 use Rattle.ns_types.specs.Steps.{Answer, said, act, after, is_allowed, concluded, reply_of, is_over}
@@ -23,6 +23,7 @@ use Rattle.ns_types.proofs.Tables.{retain-insert, insert_same}
 use Rattle.ns_audit.specs.Apart.{IsApart}
 use Rattle.ns_audit.specs.Laws.{KeepsTables}
 use Rattle.ns_audit.proofs.Chosen.{no_path, same_Some, retain-remove}
+use Rattle.ns_audit.proofs.Outcomes.{Leads, leads_unless, leads_found}
 use Rattle.ns_audit.proofs.Recording.{namespace_settled, pool_settled, quota_settled}
 use Rattle.ns_audit.proofs.Sides.{settled_leaves}
 
@@ -63,23 +64,16 @@ record RecordsKept (part : Part) (w x : World) : Type 0 where
   quotas : (quota : Name) → part.quotas quota ≡ true → quota_record x quota ≡ quota_record w quota
   pools : (pool : Name) → part.pools pool ≡ true → pool_record x pool ≡ pool_record w pool
 
+-- so the chosen owners alone are as before
+abbrev AloneKept : Part → World → World → Type 0
+AloneKept part w x = RecordsKept part w x → alone_in part x ≡ alone_in part w
+
 abbrev Alters : Part → World → Outcome World → Type 0
-Alters part w NotEnabled = Unit {0}
-Alters part w (Refused refusal) = Unit {0}
-Alters part w (Done content x) = RecordsKept part w x → alone_in part x ≡ alone_in part w
+Alters part w = Leads (AloneKept part w)
 
 module _ (part : Part) (w : World) where
   alters_unless : (b : Bool) (refusal : Refusal) (o : Outcome World) → Alters part w o → Alters part w (unless b refusal o)
-  unfolding unless
-  alters_unless true refusal o h = tt
-  alters_unless false refusal o h = h
-
-  alters_found : {A : Type 0} (x : Option A) (f : A → Outcome World) → ((a : A) → x ≡ Some a → Alters part w (f a)) → Alters part w (found x f)
-  alters_found {A = A} x f h = by x refl
-    where
-      by : (y : Option A) → x ≡ y → Alters part w (found y f)
-      by None is = tt
-      by (Some a) is = h a is
+  alters_unless b refusal o h = leads_unless (AloneKept part w) b refusal o (λ _. h)
 
   namespace_put : (name : Name) (namespace : Namespace) → Alters part w (put_namespace name namespace w)
   unfolding put_namespace
@@ -92,7 +86,7 @@ module _ (part : Part) (w : World) where
 
   namespace_deleted : (name : Name) → Alters part w (delete_namespace name w)
   unfolding delete_namespace
-  namespace_deleted name = alters_found (get w.tenants name) _ (λ t is. alters_unless _ _ _ (alters_unless _ _ _ (λ kept i.
+  namespace_deleted name = leads_found (AloneKept part w) (get w.tenants name) _ (λ t is. alters_unless _ _ _ (alters_unless _ _ _ (λ kept i.
       record (alone_in part w) { tenants = removed_kept w.tenants part.spaces name (λ t. t.namespace) t is (kept.spaces name) i })))
 
   quota_put : (name : Name) (quota : Quota) → Alters part w (put_quota name quota w)
@@ -102,7 +96,7 @@ module _ (part : Part) (w : World) where
 
   quota_deleted : (name : Name) → Alters part w (delete_quota name w)
   unfolding delete_quota
-  quota_deleted name = alters_found (get w.quotas name) _ (λ q is. alters_unless _ _ _ (λ kept i.
+  quota_deleted name = leads_found (AloneKept part w) (get w.quotas name) _ (λ q is. alters_unless _ _ _ (λ kept i.
       record (alone_in part w) { quotas = removed_kept w.quotas part.quotas name (λ q. q.quota) q is (kept.quotas name) i }))
 
   pool_put : (name : Name) (pool : Pool) → Alters part w (put_pool_record name pool w)
@@ -116,16 +110,14 @@ module _ (part : Part) (w : World) where
 
   pool_deleted : (name : Name) → Alters part w (delete_pool name w)
   unfolding delete_pool
-  pool_deleted name = alters_found (get w.pools name) _ (λ p is. alters_unless _ _ _ (alters_unless _ _ _ (λ kept i.
+  pool_deleted name = leads_found (AloneKept part w) (get w.pools name) _ (λ p is. alters_unless _ _ _ (alters_unless _ _ _ (λ kept i.
       record (alone_in part w) { pools = removed_kept w.pools part.pools name (λ p. p.pool) p is (kept.pools name) i })))
 
   quota_read : (name : Name) → Alters part w (read_quota name w)
-  quota_read name = alters_found (get w.quotas name) _ (λ q is kept. refl)
+  quota_read name = leads_found (AloneKept part w) (get w.quotas name) _ (λ q is kept. refl)
 
 abbrev AltersState : Part → State → Outcome State → Type 0
-AltersState part s NotEnabled = Unit {0}
-AltersState part s (Refused refusal) = Unit {0}
-AltersState part s (Done content x) = RecordsKept part s.world x.world → alone_in part x.world ≡ alone_in part s.world
+AltersState part s = Leads (λ (x : State). AloneKept part s.world x.world)
 
 module _ (part : Part) (s : State) where
   of_world : (o : Outcome World) → Alters part s.world o → AltersState part s (lift (with_world s.acl) o)

@@ -25,6 +25,7 @@ use Rattle.ns_types.specs.Sums.{names_quota}
 use Rattle.ns_types.proofs.Lists.{cond_same}
 use Rattle.ns_audit.specs.Apart.{IsApart}
 use Rattle.ns_audit.proofs.Chosen.{tenant_alone, pool_alone, GoesAlone, goes_then, goes_put, goes_with, tenant_seen}
+use Rattle.ns_audit.proofs.Every.{on}
 use Rattle.ns_audit.proofs.Going.{Goes, goes_refused, goes_done, goes_by, goes_read, goes_unless, goes_found, goes_either}
 use Rattle.ns_audit.proofs.Settling.{goes_queue}
 use Rattle.ns_audit.proofs.Summing.{quota_use_alone, its_quota}
@@ -47,10 +48,6 @@ module _ (part : Part) (b : Bool) (ns : Name) (side : part.spaces ns ≡ b) wher
         goes_unless part w b (not (contains_key t.jobs r.id) && nat_le most_jobs (len t.jobs)) _ refusals.Full _ _ (λ _. refl) (λ _.
         with_the_job (registered_job (t.index + 1) (document_of t r) (get t.jobs r.id))))))
       where
-        on : (d : Bool) → not d ≡ false → d ≡ true
-        on true e = refl
-        on false e = sym e
-
         with_the_job : (job : Job) → Goes part w b (registered_with ns r w t job) (registered_with ns r (alone_in part w) t job)
         with_the_job job = goes_by part w b (contents.Registered (t.evaluation_number + 1) (t.index + 1) job.modify_index)
             (λ x. make_in ns (evaluation_of r.id job.document triggers.JobRegister) x (with_job r.id job t))

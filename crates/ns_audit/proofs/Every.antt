@@ -1,6 +1,6 @@
--- What holds of each element of a list, and where the rows of a table come from.
-use Rattle.std.specs.Prelude.{◌≡◌, Bool, true, false, cond, List, [], ◌∷◌, ◌++◌, map, Some, filter, flat_map}
-use Rattle.std.proofs.Common.{◌⊎◌, inl, inr, refl, sym, subst, ◌∙◌}
+-- What holds of each element of a list, where the rows of a table come from, and what tests say.
+use Rattle.std.specs.Prelude.{◌≡◌, suc, ◌≤◌, Bool, true, false, cond, not, T, ◌&&◌, List, [], ◌∷◌, ◌++◌, map, Some, filter, flat_map, length}
+use Rattle.std.proofs.Common.{◌⊎◌, inl, inr, refl, sym, subst, ◌∙◌, arith}
 use Rattle.std.specs.Cmp.{IsTotalOrder}
 use Rattle.std.specs.declared.cmp.Ordering.{Ordering}
 use Rattle.std.specs.FinMap.{FinMap, IsAntisymmetric, get, get-insert, insert}
@@ -71,3 +71,32 @@ found_of {X = X} R P (e ∷ es) k x h is = by (found_of R P es k x h.1) (eq_by_c
     by : (find R k es ≡ Some x → P x) → (b : Bool) → cond b (Some e.1) (find R k es) ≡ Some x → P x
     by later true is = subst P (same_Some e.1 x is) h.0
     by later false is = later is
+
+-- ---- what is left of a list
+
+module _ {A : Type 0} where
+  pub filter_shorter : (p : A → Bool) (xs : List A) → length (filter p xs) ≤ length xs
+  filter_shorter p [] = omega arith
+  filter_shorter p (x ∷ xs) = by (p x) (filter_shorter p xs)
+    where
+      by : (b : Bool) → length (filter p xs) ≤ length xs → length (cond b (x ∷ filter p xs) (filter p xs)) ≤ suc (length xs)
+      by true h = omega arith
+      by false h = omega arith
+
+  pub first_shorter : (same : A → A → Bool) (xs : List A) → length (first_each same xs) ≤ length xs
+  first_shorter same [] = omega arith
+  first_shorter same (x ∷ xs) = let a = filter_shorter (λ y. not (same x y)) (first_each same xs) in let b = first_shorter same xs in omega (arith, a, b)
+
+-- ---- tests
+
+pub first : (a b : Bool) → T (a && b) → T a
+first true b p = tt
+first false b p = p
+
+pub second : (a b : Bool) → T (a && b) → T b
+second true b p = p
+second false b p = absurd p
+
+pub on : (b : Bool) → not b ≡ false → b ≡ true
+on true e = refl
+on false e = sym e

@@ -88,7 +88,7 @@ same_job_refl : (j : Job) → same_job j j ≡ true
 unfolding same_job
 same_job_refl j = and_true (and_true (and_true (and_true (same_document_refl j.document) (same_flag_refl j.stop)) (same_number_refl j.version)) (same_number_refl j.create_index)) (same_number_refl j.modify_index)
 
-same_evaluation_refl : (e : Evaluation) → same_evaluation e e ≡ true
+pub same_evaluation_refl : (e : Evaluation) → same_evaluation e e ≡ true
 unfolding same_evaluation
 same_evaluation_refl e = and_true (and_true (and_true (and_true (and_true (and_true (and_true (and_true (and_true (same_name_refl e.job) (same_name_refl (kind_text e.kind))) (same_number_refl e.priority)) (same_name_refl e.pool))
     (same_name_refl (trigger_text e.trigger))) (same_name_refl (status_text e.status))) (option_refl _ same_number_refl e.previous)) (option_refl _ same_number_refl e.follower)) (option_refl _ same_name_refl e.quota)) (same_flag_refl e.escapes)

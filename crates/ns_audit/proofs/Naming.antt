@@ -31,7 +31,7 @@ use Rattle.ns_types.specs.Names.{Name}
 use Rattle.std.specs.Prelude.{not}
 use Rattle.ns_types.specs.Rows.{allocation_at}
 use Rattle.ns_types.specs.Nodes.{is_on, report_of, same_client, may_become, lose, lost, losses, go_down, reported, calls_for_one, told_in, tell}
-use Rattle.ns_types.specs.Outcome.{Outcome, NotEnabled, Refused, Done, unless, found}
+use Rattle.ns_types.specs.Outcome.{Outcome, NotEnabled, Refused, Done, unless}
 use Rattle.ns_types.specs.Queue.{promote, first_waiting, is_busy}
 use Rattle.ns_types.specs.Rows.{World, Tenant, PoolRows}
 use Rattle.ns_types.specs.Tables.{map_rows}
@@ -50,6 +50,7 @@ use Rattle.ns_types.specs.Snapshot.{snapshot_of}
 use Rattle.ns_types.specs.Work.{workers_end, is_idle, new_worker, taken, may_snap, with_snapshot, may_submit, submitted, is_submitted, most_nacks, given_up, given_back, may_finish, needs_follower, finished, snap_for, submit_for, finish_for, nack_for, follower_of, end_of, without_key, at_work, with_worker, without_worker, cancel_blocked, blocked_of, without_blocked, ended, with_follower, followed, dequeue_in, dequeue, snap, submit, finish, nack, with_nack}
 use Rattle.ns_types.specs.declared.records.Namespace.{Namespace}
 use Rattle.ns_audit.proofs.Fixed.{fixed_put, fixed_change, fixed_make_in, fixed_make, fixed_each, fixed_desired, fixed_stops, fixed_decided, fixed_placed, fixed_commit}
+use Rattle.ns_audit.proofs.Outcomes.{Leads, leads_unless, leads_found, leads_there, leads_if}
 use Rattle.ns_audit.proofs.Recording.{record_kept}
 use Rattle.ns_audit.proofs.Sides.{change}
 
@@ -121,55 +122,36 @@ deregistered_same false id job t = refl
 -- ---- outcomes
 
 abbrev pub Named : World → Outcome World → Type 0
-Named w NotEnabled = Unit {0}
-Named w (Refused refusal) = Unit {0}
-Named w (Done content x) = SameNamed w x
+Named w = Leads (SameNamed w)
 
 module _ (w : World) where
   named_unless : (b : Bool) (refusal : Refusal) (o : Outcome World) → Named w o → Named w (unless b refusal o)
-  unfolding unless
-  named_unless true refusal o h = tt
-  named_unless false refusal o h = h
-
-  named_found : {A : Type 0} (x : Option A) (f : A → Outcome World) → ((a : A) → x ≡ Some a → Named w (f a)) → Named w (found x f)
-  named_found {A = A} x f h = by x refl
-    where
-      by : (y : Option A) → x ≡ y → Named w (found y f)
-      by None is = tt
-      by (Some a) is = h a is
-
-  named_there : {A : Type 0} (x : Option A) (f : A → Outcome World) → ((a : A) → x ≡ Some a → Named w (f a)) → Named w (option_map_or f x NotEnabled)
-  named_there {A = A} x f h = by x refl
-    where
-      by : (y : Option A) → x ≡ y → Named w (option_map_or f y NotEnabled)
-      by None is = tt
-      by (Some a) is = h a is
+  named_unless b refusal o h = leads_unless (SameNamed w) b refusal o (λ _. h)
 
   named_either : (b : Bool) (o p : Outcome World) → Named w o → Named w p → Named w (cond b o p)
-  named_either true o p h k = h
-  named_either false o p h k = k
+  named_either b o p h k = leads_if (SameNamed w) b o p (λ _. h) (λ _. k)
 
   named_at_work : (number : ℕ) (ns : Name) (act : Tenant → Worker → Evaluation → Outcome World) → ((t : Tenant) (worker : Worker) (e : Evaluation) → get w.tenants ns ≡ Some t → Named w (act t worker e)) → Named w (at_work number ns w act)
-  named_at_work number ns act h = named_there (get w.tenants ns) _ (λ t is. named_there (get t.workers number) _ (λ worker _. named_there (get t.evaluations worker.evaluation) (act t worker) (λ e _. h t worker e is)))
+  named_at_work number ns act h = leads_there (SameNamed w) (get w.tenants ns) _ (λ t is. leads_there (SameNamed w) (get t.workers number) _ (λ worker _. leads_there (SameNamed w) (get t.evaluations worker.evaluation) (act t worker) (λ e _. h t worker e is)))
 
   named_keeping : (number : ℕ) (ns : Name) (act : Tenant → Worker → Evaluation → Snapshot → Outcome World) → ((t : Tenant) (worker : Worker) (e : Evaluation) (kept : Snapshot) → get w.tenants ns ≡ Some t → Named w (act t worker e kept))
       → Named w (at_work number ns w (λ t worker e. option_map_or (act t worker e) worker.kept NotEnabled))
-  named_keeping number ns act h = named_at_work number ns (λ t worker e. option_map_or (act t worker e) worker.kept NotEnabled) (λ t worker e is. named_there worker.kept (act t worker e) (λ kept _. h t worker e kept is))
+  named_keeping number ns act h = named_at_work number ns (λ t worker e. option_map_or (act t worker e) worker.kept NotEnabled) (λ t worker e is. leads_there (SameNamed w) worker.kept (act t worker e) (λ kept _. h t worker e kept is))
 
   -- ---- what is asked and told
 
   named_asked : (ns : Name) (command : AskCommand) (t : Tenant) → get w.tenants ns ≡ Some t → Named w (asked_in ns command w t)
   named_asked ns (asks.ListJobs prefix) t is = λ k. refl
   named_asked ns (asks.Register r) t is = named_unless _ _ _ (named_unless _ _ _ (named_unless _ _ _ (named_unless _ _ _ (named_make_in ns _ t _ w is refl))))
-  named_asked ns (asks.ReadJob id) t is = named_found (get t.jobs id) _ (λ job _ k. refl)
-  named_asked ns (asks.Deregister id purge) t is = named_found (get t.jobs id) _ (λ job _. named_make_in ns _ t (deregistered purge id job t) w is (deregistered_same purge id job t))
+  named_asked ns (asks.ReadJob id) t is = leads_found (SameNamed w) (get t.jobs id) _ (λ job _ k. refl)
+  named_asked ns (asks.Deregister id purge) t is = leads_found (SameNamed w) (get t.jobs id) _ (λ job _. named_make_in ns _ t (deregistered purge id job t) w is (deregistered_same purge id job t))
   named_asked ns (asks.JobAllocations id) t is = λ k. refl
   named_asked ns (asks.JobEvaluations id) t is = λ k. refl
   named_asked ns (asks.ListEvaluations prefix) t is = λ k. refl
-  named_asked ns (asks.ReadEvaluation n) t is = named_found (get t.evaluations n) _ (λ e _ k. refl)
+  named_asked ns (asks.ReadEvaluation n) t is = leads_found (SameNamed w) (get t.evaluations n) _ (λ e _ k. refl)
   named_asked ns (asks.ListAllocations prefix) t is = λ k. refl
-  named_asked ns (asks.ReadAllocation n) t is = named_found (get t.allocations n) _ (λ a _ k. refl)
-  named_asked ns (asks.StopAllocation n) t is = named_found (get t.allocations n) _ (λ a _. named_unless _ _ _ (named_make_in ns _ t (with_desired n desires.Stop t) w is (desired_same n desires.Stop t)))
+  named_asked ns (asks.ReadAllocation n) t is = leads_found (SameNamed w) (get t.allocations n) _ (λ a _ k. refl)
+  named_asked ns (asks.StopAllocation n) t is = leads_found (SameNamed w) (get t.allocations n) _ (λ a _. named_unless _ _ _ (named_make_in ns _ t (with_desired n desires.Stop t) w is (desired_same n desires.Stop t)))
   named_asked ns asks.ReadNamespace t is = λ k. refl
   named_asked ns (asks.QuotaUsage quota) t is = named_either (names_quota quota t.namespace) (Done (contents.Usage quota (quota_use w quota)) w) (Refused refusals.NotFound) (λ k. refl) tt
   named_asked ns (asks.Events index) t is = λ k. refl
@@ -190,14 +172,14 @@ module _ (w : World) where
   named_told pool tells.ReadPool p = λ k. refl
   named_told pool tells.ListNodes p = λ k. refl
   named_told pool (tells.PutNode name offer) p = named_unless _ _ _ (named_unless _ _ _ (λ k. refl))
-  named_told pool (tells.DeleteNode name) p = named_found (get p.nodes name) _ (λ node _. named_unless _ _ _ (λ k. refl))
-  named_told pool (tells.SetStatus name status) p = named_found (get p.nodes name) _ (λ node _. by (put_pool pool (record p { nodes = insert p.nodes name (record node { status = status }) }) w) (λ k. refl) (is_ready status))
+  named_told pool (tells.DeleteNode name) p = leads_found (SameNamed w) (get p.nodes name) _ (λ node _. named_unless _ _ _ (λ k. refl))
+  named_told pool (tells.SetStatus name status) p = leads_found (SameNamed w) (get p.nodes name) _ (λ node _. by (put_pool pool (record p { nodes = insert p.nodes name (record node { status = status }) }) w) (λ k. refl) (is_ready status))
     where
       by : (x : World) → SameNamed w x → (b : Bool) → SameNamed w (cond b x (go_down pool name x))
       by x same true = same
       by x same false = λ k. named_down pool name x k ∙ same k
-  named_told pool (tells.SetEligible name eligible) p = named_found (get p.nodes name) _ (λ node _ k. refl)
-  named_told pool (tells.Report name r) p = named_found (get p.nodes name) _ (λ node _. named_found (allocation_at w (r.namespace, r.number)) (λ x. unless (not (is_on pool name x)) refusals.NotFound (report_of r w x)) (λ a _. named_unless (not (is_on pool name a)) refusals.NotFound (report_of r w a) (named_either (same_client a.client r.client) (Done contents.Written w) (unless (not (may_become a.client r.client)) refusals.Conflict (Done contents.Written (reported r a w))) (λ k. refl) (named_unless _ _ _ (named_reported r a)))))
+  named_told pool (tells.SetEligible name eligible) p = leads_found (SameNamed w) (get p.nodes name) _ (λ node _ k. refl)
+  named_told pool (tells.Report name r) p = leads_found (SameNamed w) (get p.nodes name) _ (λ node _. leads_found (SameNamed w) (allocation_at w (r.namespace, r.number)) (λ x. unless (not (is_on pool name x)) refusals.NotFound (report_of r w x)) (λ a _. named_unless (not (is_on pool name a)) refusals.NotFound (report_of r w a) (named_either (same_client a.client r.client) (Done contents.Written w) (unless (not (may_become a.client r.client)) refusals.Conflict (Done contents.Written (reported r a w))) (λ k. refl) (named_unless _ _ _ (named_reported r a)))))
 
   -- ---- what a worker does
 
@@ -250,11 +232,11 @@ named_apply w number ns = named_keeping w number ns (apply_for number ns w) (λ 
 
 pub change_named : (step : Step) (w : World) → Named w (change step w)
 unfolding ask tell dequeue snap submit
-change_named (steps.Ask ns secret command) w = named_found w (get w.tenants ns) _ (λ t is. named_asked w ns command t is)
+change_named (steps.Ask ns secret command) w = leads_found (SameNamed w) (get w.tenants ns) _ (λ t is. named_asked w ns command t is)
 change_named (steps.Admin secret command) w = tt
-change_named (steps.Node pool secret command) w = named_found w (get w.pools pool) _ (λ p is. named_told w pool command p)
+change_named (steps.Node pool secret command) w = leads_found (SameNamed w) (get w.pools pool) _ (λ p is. named_told w pool command p)
 change_named (steps.Dequeue worker ns n) w = named_either w (nat_lt worker workers_end && is_idle w worker && is_served w w.ready (ns, n)) (option_map_or (dequeue_in worker (ns, n) w) (get w.tenants ns) NotEnabled) NotEnabled
-    (named_there w (get w.tenants ns) (dequeue_in worker (ns, n) w) (λ t is. named_there w (get t.evaluations n) (λ e. Done (contents.Took n) (taken worker (ns, n) w t e)) (λ e _. named_put ns t (with_worker worker (new_worker n e) t) w is refl))) tt
+    (leads_there (SameNamed w) (get w.tenants ns) (dequeue_in worker (ns, n) w) (λ t is. leads_there (SameNamed w) (get t.evaluations n) (λ e. Done (contents.Took n) (taken worker (ns, n) w t e)) (λ e _. named_put ns t (with_worker worker (new_worker n e) t) w is refl))) tt
 change_named (steps.Snap worker ns) w = named_at_work w worker ns (snap_for worker ns w) (λ t x e is.
     let t' = with_worker worker (with_snapshot (snapshot_of w ns t x.evaluation e) x) t in
     named_either w (may_snap x.tries x.phase) (Done (contents.Snapped x.evaluation) (put_tenant ns t' w)) NotEnabled (named_put ns t t' w is refl) tt)

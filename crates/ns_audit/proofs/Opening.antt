@@ -21,7 +21,7 @@ none_below : (n : ℕ) → nat_lt n 0 ≡ false
 none_below n = grind arith
 
 -- the one row of a table
-only_row : {X : Type 0} (k : Name) (v : X) (q : Name) (x : X) → get (insert (empty {R = name_cmp}) k v) q ≡ Some x → v ≡ x
+pub only_row : {X : Type 0} (k : Name) (v : X) (q : Name) (x : X) → get (insert (empty {R = name_cmp}) k v) q ≡ Some x → v ≡ x
 only_row {X = X} k v q x at = by (row_of_insert names one_name (empty {R = name_cmp}) k v q x at)
   where
     by : ((q ≡ k) × (v ≡ x)) ⊎ (get (empty {X = X} {R = name_cmp}) q ≡ Some x) → v ≡ x

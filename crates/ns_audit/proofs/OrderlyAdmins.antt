@@ -24,7 +24,8 @@ use Rattle.ns_audit.specs.Orderly.{IsAllowedTo, IsOrderlyTenant, IsReadyIn, IsBl
 use Rattle.ns_audit.proofs.Chosen.{no_path, same_Some}
 use Rattle.ns_audit.proofs.Every.{row_of_insert}
 use Rattle.ns_audit.proofs.Keeping.{KeepsTenant, put_orderly}
-use Rattle.ns_audit.proofs.OrderlyAsks.{KeepsOrder, order_unless, order_found}
+use Rattle.ns_audit.proofs.OrderlyAsks.{KeepsOrder}
+use Rattle.ns_audit.proofs.Outcomes.{Leads, leads_unless, leads_found}
 use Rattle.ns_audit.proofs.Resting.{same_orderly}
 
 -- ---- a namespace's record is put anew
@@ -155,7 +156,7 @@ removed_orderly w ns t s is none = record {
 module _ (w : World) (s : IsOrderly w) where
   namespace_put : (name : Name) (namespace : Namespace) → KeepsOrder (put_namespace name namespace w)
   unfolding put_namespace
-  namespace_put name namespace = order_unless _ _ _ (λ _. order_unless _ _ _ (λ _. order_unless _ _ _ (λ _. order_unless _ _ _ (λ free. order_unless _ _ _ (λ _. by (get w.tenants name) refl free)))))
+  namespace_put name namespace = leads_unless IsOrderly _ _ _ (λ _. leads_unless IsOrderly _ _ _ (λ _. leads_unless IsOrderly _ _ _ (λ _. leads_unless IsOrderly _ _ _ (λ free. leads_unless IsOrderly _ _ _ (λ _. by (get w.tenants name) refl free)))))
     where
       by : (o : Option Tenant) → get w.tenants name ≡ o → option_map_or (forbids_put namespace) o false ≡ false → IsOrderly (put_tenant name (with_namespace namespace o) w)
       by None is free = added_orderly w name namespace s is
@@ -163,15 +164,13 @@ module _ (w : World) (s : IsOrderly w) where
 
   namespace_deleted : (name : Name) → KeepsOrder (delete_namespace name w)
   unfolding delete_namespace
-  namespace_deleted name = order_found (get w.tenants name) _ (λ t is. order_unless _ _ _ (λ _. order_unless _ _ _ (λ idle. removed_orderly w name t s is (right_none _ _ (left_none _ _ idle)))))
+  namespace_deleted name = leads_found IsOrderly (get w.tenants name) _ (λ t is. leads_unless IsOrderly _ _ _ (λ _. leads_unless IsOrderly _ _ _ (λ idle. removed_orderly w name t s is (right_none _ _ (left_none _ _ idle)))))
 
   rest_orderly : (x : World) → x.tenants ≡ w.tenants → x.ready ≡ w.ready → x.blocked ≡ w.blocked → IsOrderly x
   rest_orderly x tenants ready blocked = same_orderly w x tenants (λ key has. ap (λ keys. has_key keys key) (sym ready) ∙ has) (λ key has. ap (λ keys. has_key keys key) (sym blocked) ∙ has) s
 
 abbrev pub KeepsOrderState : Outcome State → Type 0
-KeepsOrderState NotEnabled = Unit {0}
-KeepsOrderState (Refused refusal) = Unit {0}
-KeepsOrderState (Done content x) = IsOrderly x.world
+KeepsOrderState = Leads (λ (x : State). IsOrderly x.world)
 
 module _ (s : State) (o : IsOrderly s.world) where
   pub of_world : (c : Outcome World) → KeepsOrder c → KeepsOrderState (lift (with_world s.acl) c)
@@ -190,12 +189,12 @@ module _ (s : State) (o : IsOrderly s.world) where
   administer_orderly secret (admins.PutNamespace name namespace) = of_world _ (namespace_put s.world o name namespace)
   administer_orderly secret (admins.DeleteNamespace name) = of_world _ (namespace_deleted s.world o name)
   administer_orderly secret admins.ListQuotas = o
-  administer_orderly secret (admins.ReadQuota name) = of_world (read_quota name s.world) (order_found (get s.world.quotas name) _ (λ q _. o))
-  administer_orderly secret (admins.PutQuota name quota) = of_world (put_quota name quota s.world) (order_unless _ _ _ (λ _. rest_orderly s.world o _ refl refl refl))
-  administer_orderly secret (admins.DeleteQuota name) = of_world (delete_quota name s.world) (order_found (get s.world.quotas name) _ (λ q _. order_unless _ _ _ (λ _. rest_orderly s.world o _ refl refl refl)))
+  administer_orderly secret (admins.ReadQuota name) = of_world (read_quota name s.world) (leads_found IsOrderly (get s.world.quotas name) _ (λ q _. o))
+  administer_orderly secret (admins.PutQuota name quota) = of_world (put_quota name quota s.world) (leads_unless IsOrderly _ _ _ (λ _. rest_orderly s.world o _ refl refl refl))
+  administer_orderly secret (admins.DeleteQuota name) = of_world (delete_quota name s.world) (leads_found IsOrderly (get s.world.quotas name) _ (λ q _. leads_unless IsOrderly _ _ _ (λ _. rest_orderly s.world o _ refl refl refl)))
   administer_orderly secret admins.ListPools = o
-  administer_orderly secret (admins.PutPool name pool) = of_world (put_pool_record name pool s.world) (order_unless _ _ _ (λ _. rest_orderly s.world o _ refl refl refl))
-  administer_orderly secret (admins.DeletePool name) = of_world (delete_pool name s.world) (order_found (get s.world.pools name) _ (λ p _. order_unless _ _ _ (λ _. order_unless _ _ _ (λ _. rest_orderly s.world o _ refl refl refl))))
+  administer_orderly secret (admins.PutPool name pool) = of_world (put_pool_record name pool s.world) (leads_unless IsOrderly _ _ _ (λ _. rest_orderly s.world o _ refl refl refl))
+  administer_orderly secret (admins.DeletePool name) = of_world (delete_pool name s.world) (leads_found IsOrderly (get s.world.pools name) _ (λ p _. leads_unless IsOrderly _ _ _ (λ _. leads_unless IsOrderly _ _ _ (λ _. rest_orderly s.world o _ refl refl refl))))
   administer_orderly secret (admins.ReadPolicy name) = of_acl _
   administer_orderly secret (admins.PutPolicy name policy) = of_acl _
   administer_orderly secret (admins.DeletePolicy name) = of_acl _

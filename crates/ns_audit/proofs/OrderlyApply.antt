@@ -35,10 +35,11 @@ use Rattle.ns_audit.proofs.Every.{row_of_insert, each_passes, each_of, each_firs
 use Rattle.ns_audit.proofs.Keeping.{KeepsTenant, keeps_same, keeps_then, keeps_rows, put_orderly}
 use Rattle.ns_audit.proofs.Fixed.{SameIn, fixed_commit}
 use Rattle.ns_audit.proofs.Naming.{SameNamed, named_change, named_placed, named_decided, stops_same, named_each}
-use Rattle.ns_audit.proofs.OrderlyAsks.{KeepsOrder, order_if, keeps_desired, PermitsAt}
+use Rattle.ns_audit.proofs.OrderlyAsks.{KeepsOrder, keeps_desired, PermitsAt}
 use Rattle.ns_audit.proofs.OrderlyNodes.{permits_still, makes_orderly}
 use Rattle.ns_audit.proofs.OrderlyWork.{keeping_orderly, keeps_worker}
 use Rattle.ns_audit.proofs.OrderlyWorkers.{find_each}
+use Rattle.ns_audit.proofs.Outcomes.{leads_if}
 use Rattle.ns_audit.proofs.Resting.{same_orderly}
 
 pub change_orderly : (w : World) (ns : Name) (f : Tenant → Tenant) → IsOrderly w → ((t : Tenant) → get w.tenants ns ≡ Some t → KeepsTenant ns (λ n. has_key w.ready (ns, n)) (λ n. has_key w.blocked (ns, n)) t (f t)) → IsOrderly (change_tenant ns f w)
@@ -146,7 +147,7 @@ module _ (x : World) (s : IsOrderly x) (kept : Snapshot) where
       (λ p. each_of (λ e. counts x kept.pool (node_name kept p.node) e ≡ true) Stands (λ e c. stands (node_name kept p.node) e c)
       (filter (counts x kept.pool (node_name kept p.node)) p.evictions) (each_passes (counts x kept.pool (node_name kept p.node)) p.evictions)) ps)
 
-least_is : (P : Allocation → Type 0) (xs : List (ℕ × Allocation)) → Each (λ e. P e.1) xs → (a : Allocation) → least xs ≡ Some a → P a
+pub least_is : (P : Allocation → Type 0) (xs : List (ℕ × Allocation)) → Each (λ e. P e.1) xs → (a : Allocation) → least xs ≡ Some a → P a
 least_is P xs h a is = by (find (λ e. true) (entries (from_entries {R = nat_cmp} xs))) refl is
   where
     rows : Each (λ (e : ℕ × Allocation). P e.1) (entries (from_entries {R = nat_cmp} xs))
@@ -205,7 +206,7 @@ pub apply_orderly : (w : World) → IsOrderly w → (ns : Name) (number : ℕ) �
 unfolding apply
 apply_orderly w s ns number = keeping_orderly w number ns (apply_for number ns w) (λ t worker e kept is has at keeps.
     let k = (s.tenant ns t is).snapshot number worker kept has keeps in
-    order_if (is_submitted worker.phase && is_served w w.plans (ns, worker.evaluation)) (applied number ns worker e (commit kept (plan kept) w t)) NotEnabled
+    leads_if IsOrderly (is_submitted worker.phase && is_served w w.plans (ns, worker.evaluation)) (applied number ns worker e (commit kept (plan kept) w t)) NotEnabled
     (λ _. by t worker e is has (commit kept (plan kept) w t) (fixed_commit its_workers (λ x n y. refl) (λ x n y. refl) kept (plan kept) w t) (commit_orderly kept (plan kept) w t s
     (λ namespace named. subst (λ n. permits n kept.pool ≡ true) (same_Some _ _ (sym (ap (option_map (λ (t : Tenant). t.namespace)) (ap (get w.tenants) k.namespace ∙ is)) ∙ named)) k.allowed.permitted))) (λ _. tt))
   where

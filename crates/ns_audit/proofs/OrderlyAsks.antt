@@ -15,7 +15,6 @@ use Rattle.ns_types.specs.declared.job.Job.{Job}
 use Rattle.ns_types.specs.declared.job.JobKind.TheVariants as kinds
 use Rattle.ns_types.specs.declared.job.Registration.{Registration}
 use Rattle.ns_types.specs.declared.records.Namespace.{Namespace}
-use Rattle.ns_types.specs.declared.refusal.Refusal.{Refusal}
 use Rattle.ns_types.specs.declared.refusal.Refusal.TheVariants as refusals
 use Rattle.ns_types.specs.declared.reply.Content.TheVariants as contents
 use Rattle.ns_types.specs.declared.step.AskCommand.{AskCommand}
@@ -24,7 +23,7 @@ use Rattle.ns_types.specs.Asks.{pool_of, document_of, registered_job, registered
 use Rattle.ns_types.specs.Isolation.{namespace_at}
 use Rattle.ns_types.specs.Making.{with_job, with_desired, new_evaluation, evaluation_of, evaluation_for, make_in, make}
 use Rattle.ns_types.specs.Names.{Name, ByName, name_cmp}
-use Rattle.ns_types.specs.Outcome.{Outcome, NotEnabled, Refused, Done, unless, found}
+use Rattle.ns_types.specs.Outcome.{Outcome, Refused, Done}
 use Rattle.ns_types.specs.Rows.{World, Tenant, is_live, is_run, is_held}
 use Rattle.ns_types.specs.Same.{same_document}
 use Rattle.ns_types.specs.Sharing.{permits}
@@ -33,43 +32,19 @@ use Rattle.ns_types.proofs.Lists.{not_both}
 use Rattle.ns_types.proofs.Named.{names, one_name, numbers as numbers_, one_number}
 use Rattle.ns_audit.specs.Orderly.{IsAllowedTo, IsOrderlyTenant, IsOrderly}
 use Rattle.ns_audit.proofs.Chosen.{no_path}
-use Rattle.ns_audit.proofs.Every.{row_of_insert}
+use Rattle.ns_audit.proofs.Every.{row_of_insert, on}
 use Rattle.ns_audit.proofs.Naming.{deregistered_same, desired_same}
 use Rattle.ns_audit.proofs.Keeping.{KeepsTenant, keeps_same, keeps_rows, make_in_orderly}
+use Rattle.ns_audit.proofs.Outcomes.{Leads, leads_unless, leads_found, leads_if}
 
 -- ---- outcomes
 
 abbrev pub KeepsOrder : Outcome World → Type 0
-KeepsOrder NotEnabled = Unit {0}
-KeepsOrder (Refused refusal) = Unit {0}
-KeepsOrder (Done content w) = IsOrderly w
-
-pub order_unless : (b : Bool) (refusal : Refusal) (o : Outcome World) → (b ≡ false → KeepsOrder o) → KeepsOrder (unless b refusal o)
-unfolding unless
-order_unless true refusal o h = tt
-order_unless false refusal o h = h refl
-
-pub order_found : {A : Type 0} (x : Option A) (f : A → Outcome World) → ((a : A) → x ≡ Some a → KeepsOrder (f a)) → KeepsOrder (found x f)
-order_found {A = A} x f h = by x refl
-  where
-    by : (y : Option A) → x ≡ y → KeepsOrder (found y f)
-    by None is = tt
-    by (Some a) is = h a is
-
-pub order_there : {A : Type 0} (x : Option A) (f : A → Outcome World) → ((a : A) → x ≡ Some a → KeepsOrder (f a)) → KeepsOrder (option_map_or f x NotEnabled)
-order_there {A = A} x f h = by x refl
-  where
-    by : (y : Option A) → x ≡ y → KeepsOrder (option_map_or f y NotEnabled)
-    by None is = tt
-    by (Some a) is = h a is
-
-pub order_if : (b : Bool) (o p : Outcome World) → (b ≡ true → KeepsOrder o) → (b ≡ false → KeepsOrder p) → KeepsOrder (cond b o p)
-order_if true o p h k = h refl
-order_if false o p h k = k refl
+KeepsOrder = Leads IsOrderly
 
 -- ---- rows
 
-row_of_remove : {X : Type 0} (m : ByName X) (k q : Name) (x : X) → get (remove m k) q ≡ Some x → get m q ≡ Some x
+pub row_of_remove : {X : Type 0} (m : ByName X) (k q : Name) (x : X) → get (remove m k) q ≡ Some x → get m q ≡ Some x
 row_of_remove {X = X} m k q x is = by (eq_by_cmp name_cmp q k) (sym (get-remove names m k q) ∙ is)
   where
     by : (b : Bool) → cond b None (get m q) ≡ Some x → get m q ≡ Some x
@@ -139,13 +114,9 @@ module _ (w : World) (s : IsOrderly w) (ns : Name) (t : Tenant) (is : get w.tena
   its = s.tenant ns t is
 
   registration_orderly : (r : Registration) → KeepsOrder (register ns r w t)
-  registration_orderly r = order_unless _ refusals.PoolNotPermitted _ (λ permitted. order_unless _ _ _ (λ _. order_unless _ _ _ (λ _. order_unless _ _ _ (λ _.
+  registration_orderly r = leads_unless IsOrderly _ refusals.PoolNotPermitted _ (λ permitted. leads_unless IsOrderly _ _ _ (λ _. leads_unless IsOrderly _ _ _ (λ _. leads_unless IsOrderly _ _ _ (λ _.
       by (registered_job (t.index + 1) (document_of t r) (get t.jobs r.id)) (document_allowed (on _ permitted) (get t.jobs r.id) refl)))))
     where
-      on : (b : Bool) → not b ≡ false → b ≡ true
-      on true e = refl
-      on false e = sym e
-
       document_allowed : permits t.namespace (pool_of t r) ≡ true → (j : Option Job) → get t.jobs r.id ≡ j → permits t.namespace (registered_job (t.index + 1) (document_of t r) j).document.pool ≡ true
       document_allowed allowed None at = allowed
       document_allowed allowed (Some j) at = elim (same_document (document_of t r) j.document && not j.stop) as
@@ -156,36 +127,32 @@ module _ (w : World) (s : IsOrderly w) (ns : Name) (t : Tenant) (is : get w.tena
           (record { permitted = allowed; its_quota = λ q at. absurd (no_path at) })
 
   deregistration_orderly : (id : Name) (purge : Bool) → KeepsOrder (deregister ns id purge w t)
-  deregistration_orderly id purge = order_found (get t.jobs id) (deregister_job ns id purge w t) (λ job at.
+  deregistration_orderly id purge = leads_found IsOrderly (get t.jobs id) (deregister_job ns id purge w t) (λ job at.
       make_in_orderly w ns (evaluation_of id job.document triggers.JobDeregister) t (deregistered purge id job t) s is (keeps_deregistered ns _ _ t its purge id job at) refl
       (subst (λ namespace. IsAllowedTo namespace job.document.pool None) (sym (deregistered_same purge id job t)) (record { permitted = its.job id job at; its_quota = λ q at. absurd (no_path at) })))
 
   stop_orderly : (n : ℕ) → KeepsOrder (stop_allocation ns n w t)
-  stop_orderly n = order_found (get t.allocations n) _ (λ a at. order_unless (not (is_live a)) refusals.Conflict _ (λ live.
+  stop_orderly n = leads_found IsOrderly (get t.allocations n) _ (λ a at. leads_unless IsOrderly (not (is_live a)) refusals.Conflict _ (λ live.
       make_in_orderly w ns (evaluation_for t a triggers.AllocStop) t (with_desired n desires.Stop t) s is (keeps_desired ns _ _ t its n desires.Stop refl) (pending_for ns t its a triggers.AllocStop)
       (subst (λ namespace. IsAllowedTo namespace (evaluation_for t a triggers.AllocStop).pool (evaluation_for t a triggers.AllocStop).quota) (sym (desired_same n desires.Stop t))
       (allowed_for ns t its a triggers.AllocStop (its.allocation n a at (on (is_live a) live))))))
-    where
-      on : (b : Bool) → not b ≡ false → b ≡ true
-      on true e = refl
-      on false e = sym e
 
   asked_orderly : (command : AskCommand) → KeepsOrder (asked_in ns command w t)
   asked_orderly (asks.ListJobs prefix) = s
   asked_orderly (asks.Register r) = registration_orderly r
-  asked_orderly (asks.ReadJob id) = order_found (get t.jobs id) _ (λ job _. s)
+  asked_orderly (asks.ReadJob id) = leads_found IsOrderly (get t.jobs id) _ (λ job _. s)
   asked_orderly (asks.Deregister id purge) = deregistration_orderly id purge
   asked_orderly (asks.JobAllocations id) = s
   asked_orderly (asks.JobEvaluations id) = s
   asked_orderly (asks.ListEvaluations prefix) = s
-  asked_orderly (asks.ReadEvaluation n) = order_found (get t.evaluations n) _ (λ e _. s)
+  asked_orderly (asks.ReadEvaluation n) = leads_found IsOrderly (get t.evaluations n) _ (λ e _. s)
   asked_orderly (asks.ListAllocations prefix) = s
-  asked_orderly (asks.ReadAllocation n) = order_found (get t.allocations n) _ (λ a _. s)
+  asked_orderly (asks.ReadAllocation n) = leads_found IsOrderly (get t.allocations n) _ (λ a _. s)
   asked_orderly (asks.StopAllocation n) = stop_orderly n
   asked_orderly asks.ReadNamespace = s
-  asked_orderly (asks.QuotaUsage quota) = order_if (names_quota quota t.namespace) (Done (contents.Usage quota (quota_use w quota)) w) (Refused refusals.NotFound) (λ _. s) (λ _. tt)
+  asked_orderly (asks.QuotaUsage quota) = leads_if IsOrderly (names_quota quota t.namespace) (Done (contents.Usage quota (quota_use w quota)) w) (Refused refusals.NotFound) (λ _. s) (λ _. tt)
   asked_orderly (asks.Events index) = s
 
 pub ask_orderly : (w : World) → IsOrderly w → (ns : Name) (command : AskCommand) → KeepsOrder (ask ns command w)
 unfolding ask
-ask_orderly w s ns command = order_found (get w.tenants ns) (asked_in ns command w) (λ t is. asked_orderly w s ns t is command)
+ask_orderly w s ns command = leads_found IsOrderly (get w.tenants ns) (asked_in ns command w) (λ t is. asked_orderly w s ns t is command)

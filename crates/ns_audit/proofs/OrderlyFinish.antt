@@ -23,7 +23,8 @@ use Rattle.ns_types.proofs.Tables.{each_row}
 use Rattle.ns_audit.specs.Orderly.{IsAllowedTo, IsKeptBy, IsOrderlyTenant, IsReadyIn, IsBlockedIn, IsOrderly}
 use Rattle.ns_audit.proofs.Chosen.{no_path, same_Some, off}
 use Rattle.ns_audit.proofs.Keeping.{at_inserted, KeepsTenant, keeps_same, keeps_then, keeps_with_evaluation, put_orderly, has_key_filter, blocked_orderly}
-use Rattle.ns_audit.proofs.OrderlyAsks.{KeepsOrder, order_if}
+use Rattle.ns_audit.proofs.OrderlyAsks.{KeepsOrder}
+use Rattle.ns_audit.proofs.Outcomes.{leads_if}
 use Rattle.ns_audit.proofs.Owning.{blocked_is}
 use Rattle.ns_audit.proofs.Resting.{same_orderly}
 use Rattle.ns_audit.proofs.OrderlyWork.{pending_not_blocked, keeping_orderly, keeps_row, keeps_other}
@@ -33,7 +34,7 @@ use Rattle.ns_audit.proofs.Looking.{limits_by}
 
 -- ---- the job's blocked evaluation
 
-blocked_row : (t : Tenant) (job : Name) (n : ℕ) → blocked_of t job ≡ Some n → IsBlockedIn t n
+pub blocked_row : (t : Tenant) (job : Name) (n : ℕ) → blocked_of t job ≡ Some n → IsBlockedIn t n
 blocked_row t job n is = by (find f (entries t.evaluations)) refl is
   where
     f : (ℕ × Evaluation) → Bool
@@ -46,7 +47,7 @@ blocked_row t job n is = by (find f (entries t.evaluations)) refl is
         subst (λ n. IsBlockedIn t n) (same_Some _ _ is) (record { row = x.1; is_row = y.0; is_blocked = blocked_is x.1.status (second_of_both (same_name job x.1.job) _ y.1) })
 
 -- is the same once a pending one has ended
-same_blocked : (t t' : Tenant) (job : Name) (n : ℕ) (e : Evaluation) (status : Status) → get t.evaluations n ≡ Some e → e.status ≡ statuses.Pending → is_blocked status ≡ false
+pub same_blocked : (t t' : Tenant) (job : Name) (n : ℕ) (e : Evaluation) (status : Status) → get t.evaluations n ≡ Some e → e.status ≡ statuses.Pending → is_blocked status ≡ false
     → t'.evaluations ≡ insert t.evaluations n (record e { status = status }) → blocked_of t' job ≡ blocked_of t job
 same_blocked t t' job n e status at pending shut is = ap (option_map (λ (x : ℕ × Evaluation). x.0)) (ap (λ m. find (λ x. passes x.1) (entries m)) is
     ∙ ap (find (λ x. passes x.1)) (entries-insert numbers_ t.evaluations n (record e { status = status }))
@@ -123,7 +124,7 @@ module _ (ns job : Name) (t : Tenant) (w : World) where
 
 -- ---- Finish
 
-shut_end : (worker : Worker) → (is_open (end_of worker) ≡ false) × (is_blocked (end_of worker) ≡ false)
+pub shut_end : (worker : Worker) → (is_open (end_of worker) ≡ false) × (is_blocked (end_of worker) ≡ false)
 shut_end worker = elim (has_failed worker) as (λ b. (is_open (cond b statuses.Failed statuses.Complete) ≡ false) × (is_blocked (cond b statuses.Failed statuses.Complete) ≡ false)) [ true ↦ (refl, refl) | false ↦ (refl, refl) ]
 
 module _ (w : World) (s : IsOrderly w) (ns : Name) (number : ℕ) (t : Tenant) (worker : Worker) (e : Evaluation) (kept : Snapshot)
@@ -179,7 +180,7 @@ module _ (w : World) (s : IsOrderly w) (ns : Name) (number : ℕ) (t : Tenant) (
       })
 
   finished_orderly : KeepsOrder (finished number ns w t worker e kept)
-  finished_orderly = order_if (needs_follower worker kept)
+  finished_orderly = leads_if IsOrderly (needs_follower worker kept)
       (Done (contents.Finished (end_of worker) (Some (t.evaluation_number + 1))) (promote ns e.job (followed ns worker (follower_of e worker kept) t2 (missed w kept (follower_of e worker kept)) w1)))
       (Done (contents.Finished (end_of worker) None) (promote ns e.job (put_tenant ns t2 w1)))
       (λ _. promote_orderly ns e.job _ (followed_orderly (missed w kept (follower_of e worker kept))))
@@ -188,4 +189,4 @@ module _ (w : World) (s : IsOrderly w) (ns : Name) (number : ℕ) (t : Tenant) (
 pub finish_orderly : (w : World) → IsOrderly w → (ns : Name) (number : ℕ) → KeepsOrder (finish number ns w)
 unfolding finish
 finish_orderly w s ns number = keeping_orderly w number ns (finish_for number ns w) (λ t worker e kept is has at keeps.
-    order_if (may_finish worker kept) (finished number ns w t worker e kept) NotEnabled (λ _. finished_orderly w s ns number t worker e kept is has at keeps) (λ _. tt))
+    leads_if IsOrderly (may_finish worker kept) (finished number ns w t worker e kept) NotEnabled (λ _. finished_orderly w s ns number t worker e kept is has at keeps) (λ _. tt))

@@ -26,11 +26,12 @@ use Rattle.ns_types.proofs.Lists.{not_both}
 use Rattle.ns_types.proofs.Named.{names, one_name, numbers as numbers_, one_number, first_of_both}
 use Rattle.ns_types.proofs.Tables.{each_row}
 use Rattle.ns_audit.specs.Orderly.{IsOrderlyTenant, IsOrderly}
-use Rattle.ns_audit.proofs.Every.{each_of, each_mapped, each_left, each_flat, found_of}
+use Rattle.ns_audit.proofs.Every.{each_of, each_mapped, each_left, each_flat, found_of, on}
 use Rattle.ns_audit.proofs.Chosen.{no_path, same_Some}
 use Rattle.ns_audit.proofs.Keeping.{row_of_map, keeps_rows, put_orderly}
 use Rattle.ns_audit.proofs.Naming.{SameNamed, named_make, named_change, client_same}
-use Rattle.ns_audit.proofs.OrderlyAsks.{KeepsOrder, order_unless, order_found, order_if, keeps_with_row, PermitsAt, make_orderly}
+use Rattle.ns_audit.proofs.OrderlyAsks.{KeepsOrder, keeps_with_row, PermitsAt, make_orderly}
+use Rattle.ns_audit.proofs.Outcomes.{leads_unless, leads_found, leads_if}
 use Rattle.ns_audit.proofs.Recording.{record_kept}
 use Rattle.ns_audit.proofs.Resting.{same_orderly, map_orderly}
 
@@ -94,14 +95,14 @@ down_orderly pool node w s = makes_orderly (λ (loss : Name × Allocation). loss
 
 -- ---- reports
 
-held_before : (a b : ClientStatus) → may_become a b ≡ true → is_held a ≡ true
+pub held_before : (a b : ClientStatus) → may_become a b ≡ true → is_held a ≡ true
 held_before clients.Pending b e = refl
 held_before clients.Running b e = refl
 held_before clients.Complete b e = absurd (subst T (sym e) tt)
 held_before clients.Failed b e = absurd (subst T (sym e) tt)
 held_before clients.Lost b e = absurd (subst T (sym e) tt)
 
-run_before : (t : Tenant) (a : Allocation) (c : ClientStatus) → calls_for_one t a c ≡ true → is_run a.desired ≡ true
+pub run_before : (t : Tenant) (a : Allocation) (c : ClientStatus) → calls_for_one t a c ≡ true → is_run a.desired ≡ true
 run_before t a clients.Pending e = absurd (subst T (sym e) tt)
 run_before t a clients.Running e = absurd (subst T (sym e) tt)
 run_before t a clients.Complete e = first_of_both (is_run a.desired) _ e
@@ -135,15 +136,11 @@ module _ (w : World) (s : IsOrderly w) (r : Report) where
       by false calls e = subst (λ b. IsOrderly (cond b (make r.namespace (λ t. evaluation_for t a triggers.AllocFailure) x) x)) (sym (e ∙ calls)) changed
 
   report_orderly : (pool name : Name) (p : PoolRows) → KeepsOrder (report pool name r w p)
-  report_orderly pool name p = order_found (get p.nodes name) _ (λ node _. order_found (allocation_at w (r.namespace, r.number)) (λ x. unless (not (is_on pool name x)) refusals.NotFound (report_of r w x)) (λ a at.
-      order_unless (not (is_on pool name a)) refusals.NotFound (report_of r w a) (λ _.
-      order_if (same_client a.client r.client) (Done contents.Written w) (unless (not (may_become a.client r.client)) refusals.Conflict (Done contents.Written (reported r a w))) (λ _. s) (λ _.
-      order_unless (not (may_become a.client r.client)) refusals.Conflict (Done contents.Written (reported r a w)) (λ becomes. by a (get w.tenants r.namespace) refl at (held_before a.client r.client (on _ becomes)))))))
+  report_orderly pool name p = leads_found IsOrderly (get p.nodes name) _ (λ node _. leads_found IsOrderly (allocation_at w (r.namespace, r.number)) (λ x. unless (not (is_on pool name x)) refusals.NotFound (report_of r w x)) (λ a at.
+      leads_unless IsOrderly (not (is_on pool name a)) refusals.NotFound (report_of r w a) (λ _.
+      leads_if IsOrderly (same_client a.client r.client) (Done contents.Written w) (unless (not (may_become a.client r.client)) refusals.Conflict (Done contents.Written (reported r a w))) (λ _. s) (λ _.
+      leads_unless IsOrderly (not (may_become a.client r.client)) refusals.Conflict (Done contents.Written (reported r a w)) (λ becomes. by a (get w.tenants r.namespace) refl at (held_before a.client r.client (on _ becomes)))))))
     where
-      on : (b : Bool) → not b ≡ false → b ≡ true
-      on true e = refl
-      on false e = sym e
-
       by : (a : Allocation) (o : Option Tenant) → get w.tenants r.namespace ≡ o → option_and_then (λ t. get t.allocations r.number) o ≡ Some a → is_held a.client ≡ true → IsOrderly (reported r a w)
       by a None is at held = absurd (no_path at)
       by a (Some t) is at held = reported_orderly t a is at held
@@ -156,16 +153,16 @@ put_pool_orderly pool p w s = same_orderly w (put_pool pool p w) refl (λ key ha
 told_orderly : (w : World) → IsOrderly w → (pool : Name) (command : NodeCommand) (p : PoolRows) → KeepsOrder (told_in pool command w p)
 told_orderly w s pool tells.ReadPool p = s
 told_orderly w s pool tells.ListNodes p = s
-told_orderly w s pool (tells.PutNode name offer) p = order_unless _ _ _ (λ _. order_unless _ _ _ (λ _. put_pool_orderly pool _ w s))
-told_orderly w s pool (tells.DeleteNode name) p = order_found (get p.nodes name) _ (λ node _. order_unless _ _ _ (λ _. put_pool_orderly pool _ w s))
-told_orderly w s pool (tells.SetStatus name status) p = order_found (get p.nodes name) _ (λ node _. by (with_node name (record node { status = status }) p) (is_ready status))
+told_orderly w s pool (tells.PutNode name offer) p = leads_unless IsOrderly _ _ _ (λ _. leads_unless IsOrderly _ _ _ (λ _. put_pool_orderly pool _ w s))
+told_orderly w s pool (tells.DeleteNode name) p = leads_found IsOrderly (get p.nodes name) _ (λ node _. leads_unless IsOrderly _ _ _ (λ _. put_pool_orderly pool _ w s))
+told_orderly w s pool (tells.SetStatus name status) p = leads_found IsOrderly (get p.nodes name) _ (λ node _. by (with_node name (record node { status = status }) p) (is_ready status))
   where
     by : (p' : PoolRows) (b : Bool) → IsOrderly (cond b (put_pool pool p' w) (go_down pool name (put_pool pool p' w)))
     by p' true = put_pool_orderly pool p' w s
     by p' false = down_orderly pool name (put_pool pool p' w) (put_pool_orderly pool p' w s)
-told_orderly w s pool (tells.SetEligible name eligible) p = order_found (get p.nodes name) _ (λ node _. put_pool_orderly pool _ w s)
+told_orderly w s pool (tells.SetEligible name eligible) p = leads_found IsOrderly (get p.nodes name) _ (λ node _. put_pool_orderly pool _ w s)
 told_orderly w s pool (tells.Report name r) p = report_orderly w s r pool name p
 
 pub tell_orderly : (w : World) → IsOrderly w → (pool : Name) (command : NodeCommand) → KeepsOrder (tell pool command w)
 unfolding tell
-tell_orderly w s pool command = order_found (get w.pools pool) (told_in pool command w) (λ p _. told_orderly w s pool command p)
+tell_orderly w s pool command = leads_found IsOrderly (get w.pools pool) (told_in pool command w) (λ p _. told_orderly w s pool command p)

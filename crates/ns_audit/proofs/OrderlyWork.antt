@@ -16,11 +16,12 @@ use Rattle.ns_types.specs.Work.{with_worker, without_worker, at_work}
 use Rattle.ns_types.proofs.Lists.{not_both}
 use Rattle.ns_types.proofs.Named.{numbers as numbers_, one_number, same_number_refl}
 use Rattle.ns_types.proofs.Tables.{tied}
-use Rattle.ns_audit.specs.Orderly.{IsAllowedTo, IsKeptBy, IsPendingIn, IsOrderlyTenant, IsReadyIn, IsBlockedIn}
+use Rattle.ns_audit.specs.Orderly.{IsAllowedTo, IsKeptBy, IsPendingIn, IsOrderlyTenant, IsReadyIn, IsBlockedIn, IsOrderly}
 use Rattle.ns_audit.proofs.Chosen.{no_path, same_Some}
 use Rattle.ns_audit.proofs.Every.{row_of_insert}
 use Rattle.ns_audit.proofs.Keeping.{at_inserted, elsewhere, KeepsTenant}
-use Rattle.ns_audit.proofs.OrderlyAsks.{KeepsOrder, order_there}
+use Rattle.ns_audit.proofs.OrderlyAsks.{KeepsOrder}
+use Rattle.ns_audit.proofs.Outcomes.{leads_there}
 
 pub removed_row : {X : Type 0} (m : ByNumber X) (k q : ℕ) (x : X) → get (remove m k) q ≡ Some x → (get m q ≡ Some x) × (q ≢ k)
 removed_row m k q x is = by (eq_by_cmp nat_cmp q k) refl (sym (get-remove numbers_ m k q) ∙ is)
@@ -34,12 +35,12 @@ pending_not_blocked s p b = not_both (ap is_pending p) (ap is_pending b)
 
 pub at_work_orderly : (w : World) (number : ℕ) (ns : Name) (act : Tenant → Worker → Evaluation → Outcome World)
     → ((t : Tenant) (worker : Worker) (e : Evaluation) → get w.tenants ns ≡ Some t → get t.workers number ≡ Some worker → get t.evaluations worker.evaluation ≡ Some e → KeepsOrder (act t worker e)) → KeepsOrder (at_work number ns w act)
-at_work_orderly w number ns act h = order_there (get w.tenants ns) _ (λ t is. order_there (get t.workers number) _ (λ worker at. order_there (get t.evaluations worker.evaluation) (act t worker) (λ e row. h t worker e is at row)))
+at_work_orderly w number ns act h = leads_there IsOrderly (get w.tenants ns) _ (λ t is. leads_there IsOrderly (get t.workers number) _ (λ worker at. leads_there IsOrderly (get t.evaluations worker.evaluation) (act t worker) (λ e row. h t worker e is at row)))
 
 pub keeping_orderly : (w : World) (number : ℕ) (ns : Name) (act : Tenant → Worker → Evaluation → Snapshot → Outcome World)
     → ((t : Tenant) (worker : Worker) (e : Evaluation) (kept : Snapshot) → get w.tenants ns ≡ Some t → get t.workers number ≡ Some worker → get t.evaluations worker.evaluation ≡ Some e → worker.kept ≡ Some kept → KeepsOrder (act t worker e kept))
     → KeepsOrder (at_work number ns w (λ t worker e. option_map_or (act t worker e) worker.kept NotEnabled))
-keeping_orderly w number ns act h = at_work_orderly w number ns (λ t worker e. option_map_or (act t worker e) worker.kept NotEnabled) (λ t worker e is at row. order_there worker.kept (act t worker e) (λ kept has. h t worker e kept is at row has))
+keeping_orderly w number ns act h = at_work_orderly w number ns (λ t worker e. option_map_or (act t worker e) worker.kept NotEnabled) (λ t worker e is at row. leads_there IsOrderly worker.kept (act t worker e) (λ kept has. h t worker e kept is at row has))
 
 -- ---- workers come, change and go
 

@@ -32,7 +32,8 @@ use Rattle.ns_types.proofs.Tables.{each_row}
 use Rattle.ns_audit.specs.Orderly.{IsKeptBy, IsPendingIn, IsOrderlyTenant, IsReadyIn, IsBlockedIn, IsListed, IsOrderly}
 use Rattle.ns_audit.proofs.Chosen.{no_path, same_Some, off}
 use Rattle.ns_audit.proofs.Keeping.{at_inserted, KeepsTenant, keeps_then, put_orderly, or_true, same_key_is, same_key_refl, has_key_filter, ready_orderly, free_of}
-use Rattle.ns_audit.proofs.OrderlyAsks.{KeepsOrder, order_there, order_if}
+use Rattle.ns_audit.proofs.OrderlyAsks.{KeepsOrder}
+use Rattle.ns_audit.proofs.Outcomes.{leads_there, leads_if}
 use Rattle.ns_audit.proofs.Owning.{pending_is}
 use Rattle.ns_audit.proofs.Resting.{same_orderly}
 use Rattle.ns_audit.proofs.OrderlyWork.{removed_row, pending_not_blocked, at_work_orderly, keeping_orderly, keeps_taken, keeps_worker, keeps_without_worker, keeps_row, keeps_other}
@@ -106,7 +107,7 @@ served_in priority (x ∷ xs) key e = by (served_in priority xs key) (list_all (
     by later true e = ap (λ b. b || has_key xs key) (subst (λ k. same_key k x ≡ true) (same_Some x key e) (same_key_refl x))
     by later false e = or_true (same_key key x) _ (later e)
 
-in_ready : (w : World) (key : Key) → is_served w w.ready key ≡ true → has_key w.ready key ≡ true
+pub in_ready : (w : World) (key : Key) → is_served w w.ready key ≡ true → has_key w.ready key ≡ true
 in_ready w key e = by (first_of_greatest (priority_at w) w.ready) refl e
   where
     by : (k : Option Key) → first_of_greatest (priority_at w) w.ready ≡ k → option_map_or (same_key key) k false ≡ true → has_key w.ready key ≡ true
@@ -129,8 +130,8 @@ module _ (w : World) (s : IsOrderly w) (ns : Name) where
 
   pub dequeue_orderly : (number n : ℕ) → KeepsOrder (dequeue number (ns, n) w)
   unfolding dequeue
-  dequeue_orderly number n = order_if (nat_lt number workers_end && is_idle w number && is_served w w.ready (ns, n)) (option_map_or (dequeue_in number (ns, n) w) (get w.tenants ns) NotEnabled) NotEnabled (λ h.
-      order_there (get w.tenants ns) (dequeue_in number (ns, n) w) (λ t is. order_there (get t.evaluations n) _ (λ e row. taken_orderly number n t e is (in_ready w (ns, n) (second_of_both (nat_lt number workers_end && is_idle w number) _ h))))) (λ _. tt)
+  dequeue_orderly number n = leads_if IsOrderly (nat_lt number workers_end && is_idle w number && is_served w w.ready (ns, n)) (option_map_or (dequeue_in number (ns, n) w) (get w.tenants ns) NotEnabled) NotEnabled (λ h.
+      leads_there IsOrderly (get w.tenants ns) (dequeue_in number (ns, n) w) (λ t is. leads_there IsOrderly (get t.evaluations n) _ (λ e row. taken_orderly number n t e is (in_ready w (ns, n) (second_of_both (nat_lt number workers_end && is_idle w number) _ h))))) (λ _. tt)
 
   -- ---- Snap, Submit
 
@@ -156,13 +157,13 @@ module _ (w : World) (s : IsOrderly w) (ns : Name) where
   unfolding snap
   snap_orderly number = at_work_orderly w number ns (snap_for number ns w) (λ t worker e is has at.
       let kept = snapshot_of w ns t worker.evaluation e in
-      order_if (may_snap worker.tries worker.phase) (Done (contents.Snapped worker.evaluation) (put_tenant ns (with_worker number (with_snapshot kept worker) t) w)) NotEnabled
+      leads_if IsOrderly (may_snap worker.tries worker.phase) (Done (contents.Snapped worker.evaluation) (put_tenant ns (with_worker number (with_snapshot kept worker) t) w)) NotEnabled
       (λ _. put_orderly w ns t (with_worker number (with_snapshot kept worker) t) is s (keeps_worker ns _ _ t (s.tenant ns t is) number worker (with_snapshot kept worker) has refl (λ k keeps. subst (IsKeptBy ns t) (same_Some _ _ keeps) (seen t number worker e is has at)))) (λ _. tt))
 
   pub submit_orderly : (number : ℕ) → KeepsOrder (submit number ns w)
   unfolding submit
   submit_orderly number = keeping_orderly w number ns (λ t worker e. submit_for number ns w t worker) (λ t worker e kept is has at keeps.
-      order_if (may_submit worker kept) (Done (contents.Queued worker.evaluation) (submitted number ns w t worker)) NotEnabled
+      leads_if IsOrderly (may_submit worker kept) (Done (contents.Queued worker.evaluation) (submitted number ns w t worker)) NotEnabled
       (λ _. same_orderly (put_tenant ns (with_worker number (record worker { phase = phases.Submitted }) t) w) (submitted number ns w t worker) refl (λ key listed. listed) (λ key listed. listed)
       (put_orderly w ns t (with_worker number (record worker { phase = phases.Submitted }) t) is s (keeps_worker ns _ _ t (s.tenant ns t is) number worker (record worker { phase = phases.Submitted }) has refl (λ k k_has. (s.tenant ns t is).snapshot number worker k has k_has)))) (λ _. tt))
 
@@ -228,6 +229,6 @@ module _ (w : World) (s : IsOrderly w) (ns : Name) (number : ℕ) (t : Tenant) (
 pub nack_orderly : (w : World) → IsOrderly w → (ns : Name) (number : ℕ) → KeepsOrder (nack number ns w)
 unfolding nack
 nack_orderly w s ns number = at_work_orderly w number ns (nack_for number ns w) (λ t worker e is has at.
-    order_if (is_submitted worker.phase) NotEnabled _ (λ _. tt) (λ _.
-    order_if (nat_le most_nacks (e.nacks + 1)) (given_up number ns w (with_nack worker.evaluation e t) worker e) (given_back number ns w (with_nack worker.evaluation e t) worker)
+    leads_if IsOrderly (is_submitted worker.phase) NotEnabled _ (λ _. tt) (λ _.
+    leads_if IsOrderly (nat_le most_nacks (e.nacks + 1)) (given_up number ns w (with_nack worker.evaluation e t) worker e) (given_back number ns w (with_nack worker.evaluation e t) worker)
     (λ _. up_orderly w s ns number t worker is has e at) (λ _. back_orderly w s ns number t worker is has e at)))

@@ -94,7 +94,7 @@ among f p (x ∷ xs) has none = by (λ e. among f p xs e (right_none (f x) _ non
     by later true same e = ap f (same_name_is p x same) ∙ left_none (f x) _ none
     by later false _ e = later e
 
-turned_name : (a b : Name) → same_name a b ≡ false → same_name b a ≡ false
+pub turned_name : (a b : Name) → same_name a b ≡ false → same_name b a ≡ false
 turned_name a b e = by (same_name b a) refl
   where
     by : (c : Bool) → same_name b a ≡ c → c ≡ false

@@ -1,5 +1,5 @@
 -- The one that is served of a list is served of any part of the list that has it.
-use Rattle.std.specs.Prelude.{◌≡◌, ℕ, Bool, true, false, cond, T, List, [], ◌∷◌, Some, None, ◌&&◌, filter, nat_le, is_some, unwrap_or}
+use Rattle.std.specs.Prelude.{◌≡◌, ℕ, Bool, true, false, cond, List, [], ◌∷◌, Some, ◌&&◌, filter, nat_le}
 use Rattle.std.proofs.Common.{refl, sym, ap, subst, ◌∙◌, arith}
 use Rattle.std.specs.List.{list_all}
 use Rattle.ns_types.specs.Names.{Key}
@@ -7,6 +7,7 @@ use Rattle.ns_types.specs.Queue.{first_of_greatest}
 use Rattle.ns_types.specs.Lists.{Each}
 use Rattle.ns_types.proofs.Lists.{not_both}
 use Rattle.ns_types.proofs.Named.{first_of_both, second_of_both}
+use Rattle.ns_audit.proofs.Chosen.{no_path, same_Some}
 
 nat_le_trans : (a b c : ℕ) → nat_le a b ≡ true → nat_le b c ≡ true → nat_le a c ≡ true
 nat_le_trans a b c p q = grind arith
@@ -23,12 +24,6 @@ module _ {A : Type 0} where
     | false ↦ all_at f p xs (second_of_both (f x) _ e)
   ]
 
-same_Some : {A : Type 0} (x y : A) → Some x ≡ Some y → x ≡ y
-same_Some x y e = ap (λ o. unwrap_or o x) e
-
-no_Some : {A : Type 0} {x : A} → None ≡ Some x → ⊥
-no_Some e = subst T (sym (ap is_some e)) tt
-
 nat_le_refl : (a : ℕ) → nat_le a a ≡ true
 nat_le_refl a = grind arith
 
@@ -41,7 +36,7 @@ module _ (priority : Key → ℕ) where
 
   -- what holds of all holds of the one that is served
   all_served : (f : Key → Bool) (keys : List Key) (key : Key) → first_of_greatest priority keys ≡ Some key → list_all f keys ≡ true → f key ≡ true
-  all_served f [] key e h = absurd (no_Some e)
+  all_served f [] key e h = absurd (no_path e)
   all_served f (x ∷ xs) key e h = by (λ e'. all_served f xs key e' (second_of_both (f x) _ h)) (list_all (λ other. nat_le (priority other) (priority x)) xs) e
     where
       by : (first_of_greatest priority xs ≡ Some key → f key ≡ true) → (b : Bool) → cond b (Some x) (first_of_greatest priority xs) ≡ Some key → f key ≡ true

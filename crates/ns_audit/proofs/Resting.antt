@@ -155,7 +155,7 @@ wake_orderly keys w inside s = queues_orderly keys (record less { tenants = map_
           };
         }
 
-woken_of_blocked : (w w' : World) (key : Key) → has_key (woken w w') key ≡ true → has_key w'.blocked key ≡ true
+pub woken_of_blocked : (w w' : World) (key : Key) → has_key (woken w w') key ≡ true → has_key w'.blocked key ≡ true
 unfolding woken
 woken_of_blocked w w' key has = first_of_both _ _ (has_key_filter _ w.blocked key has).1
 

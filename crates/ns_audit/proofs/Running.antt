@@ -23,7 +23,7 @@ use Rattle.ns_audit.proofs.OrderlyWorkers.{dequeue_orderly, snap_orderly, submit
 use Rattle.ns_audit.proofs.Owning.{orderly, fit_of}
 use Rattle.ns_audit.proofs.Resting.{settle_orderly}
 
-act_orderly : (s : State) → IsOrderly s.world → (step : Step) → KeepsOrderState (act step s)
+pub act_orderly : (s : State) → IsOrderly s.world → (step : Step) → KeepsOrderState (act step s)
 unfolding act
 act_orderly s o (steps.Ask ns secret command) = of_world s o _ (ask_orderly s.world o ns command)
 act_orderly s o (steps.Admin secret command) = administer_orderly s o secret command

@@ -1,8 +1,9 @@
 //! A choice of owners over whose border nothing reaches runs as if it were alone, and a namespace that shares no pool
-//! and no quota is such a choice.
+//! and no quota is such a choice. Every state that the server reaches is valid.
 
 ghost use Rattle.ns_audit.specs.Headline.{OtherStep, OwnStep, ReachedIsSteady, SteadyStep, StruckRun, StruckSteadyRun, UnsharedIsApart, ValidIsSteady};
 ghost use Rattle.ns_audit.specs.Laws.{OwnStepApart, OtherStepApart, StruckRunApart, SettlesAlone, SettlesIdle};
+ghost use Rattle.ns_audit.specs.Valid.{OpeningValid, ReachedIsValid, ValidStep};
 
 /// What a step does at its end, it does to the chosen owners as if there were no others.
 pub fn settling_goes_alone()
@@ -71,4 +72,19 @@ pub fn struck_run()
 /// The same from every state that has what isolation rests on, as each that the server reaches has.
 pub fn struck_steady_run()
     ensures { StruckSteadyRun }
+{}
+
+/// Each step whose names, members and lists are within the limits leads from a valid state to a valid one, whatever it is answered.
+pub fn valid_step()
+    ensures { ValidStep }
+{}
+
+/// The state in which the server begins is valid, if its secret is one.
+pub fn opening_is_valid()
+    ensures { OpeningValid }
+{}
+
+/// So each state that the server reaches from its opening by such steps is valid.
+pub fn reached_is_valid()
+    ensures { ReachedIsValid }
 {}

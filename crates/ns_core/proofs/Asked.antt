@@ -1,85 +1,100 @@
--- What a secret may ask, and what a read of a job answers, over the tables.
-use Rattle.std.specs.Prelude.{◌≡◌, Bool, true, false, Option, Some, None, Ok, Err, option_map, cond, ◌&&◌}
+-- What is answered in a namespace, over the parts.
+use Rattle.std.specs.Prelude.{◌≡◌, ℕ, ◌+◌, if◌then◌else◌, Bool, true, false, Option, Some, None, Ok, Err, List, [], ◌∷◌, filter, map, option_map, cond, ◌&&◌, ◌||◌, sum_by}
 use Rattle.std.proofs.Common.{refl, sym, ap, ◌∙◌}
-use Rattle.std.specs.FinMap.{get, empty}
-use Rattle.keyed.specs.Table.{row_at, rows}
-use Rattle.keyed.proofs.Tables.{get-rows}
+use Rattle.std.specs.FinMap.{get, entries}
+use Rattle.std.specs.Option.{option_map_or}
+use Rattle.std.proofs.lemmas.List.Sums.{sum_by-cons}
+use Rattle.keyed.specs.Table.{row_at, row_list, rows}
+use Rattle.keyed.proofs.Tables.{entries-rows}
+use Rattle.ns_types.specs.declared.allocation.Allocation.{Allocation}
 use Rattle.ns_types.specs.declared.job.Job.{Job}
-use Rattle.ns_types.specs.declared.job.Registration.{Registration}
 use Rattle.ns_types.specs.declared.refusal.Refusal.TheVariants as refusals
+use Rattle.ns_types.specs.declared.reply.Content.{Content}
 use Rattle.ns_types.specs.declared.reply.Content.TheVariants as contents
 use Rattle.ns_types.specs.declared.reply.JobShown.{JobShown}
 use Rattle.ns_types.specs.declared.reply.JobStatus.TheVariants as lives
+use Rattle.ns_types.specs.declared.resources.Resources.{Resources}
+use Rattle.ns_types.specs.declared.step.AskCommand.{AskCommand}
 use Rattle.ns_types.specs.declared.step.AskCommand.TheVariants as asks
 use Rattle.ns_types.specs.declared.step.Step.TheVariants as steps
-use Rattle.ns_types.proofs.Named.{names, one_name, numbers, one_number}
-use Rattle.ns_types.proofs.Tables.{get-table_of}
-use Rattle.ns_types.specs.Names.{Name, same_name}
-use Rattle.ns_types.specs.Reads.{job_shown, job_status}
-use Rattle.ns_types.specs.Rights.{is_manager, rights_of}
+use Rattle.ns_types.proofs.Named.{numbers, one_number}
+use Rattle.ns_types.specs.Names.{Name, begins_with, same_name}
+use Rattle.ns_types.specs.Asks.{asked_in, right_of}
+use Rattle.ns_types.specs.Outcome.{Done, Refused}
+use Rattle.ns_types.specs.Reads.{job_shown}
+use Rattle.ns_types.specs.Rights.{rights_of}
 use Rattle.ns_types.specs.Rows.{Tenant, is_live}
 use Rattle.ns_types.specs.Steps.{after, said}
-use Rattle.ns_types.specs.Tables.{any_row}
-use Rattle.ns_steps.proofs.Steps.{ask_denied, ask_nowhere, read_done, read_no_job}
-use Rattle.ns_core.specs.declared.tables.Tables.{Tables}
-use Rattle.ns_core.specs.declared.tables.TenantRows.{TenantRows}
+use Rattle.ns_types.specs.Sums.{names_quota, quota_sum, quota_use, tenant_sum}
+use Rattle.ns_types.proofs.Tables.{entries-table_of}
+use Rattle.ns_steps.proofs.Rows.{entries_empty}
+use Rattle.ns_steps.proofs.Steps.{ask_reads}
+use Rattle.ns_tables.specs.declared.tables.TenantRows.{TenantRows}
+use Rattle.ns_tables.specs.Viewed.{tenant_of}
+use Rattle.ns_tables.proofs.Viewing.{any_row-empty}
+use Rattle.ns_core.specs.declared.parts.Parts.{Parts}
 use Rattle.ns_core.specs.Held.{IsHeld}
-use Rattle.ns_core.specs.Refusing.{refusal_of}
-use Rattle.ns_core.specs.Viewed.{state_of, status_without_allocations, tenant_of, world_of}
-use Rattle.ns_core.proofs.Answering.{Concludes, concludes}
+use Rattle.ns_core.specs.Viewed.{shown_in, state_of, status_without_allocations, world_of}
 use Rattle.ns_core.proofs.Busy.{tenant_at}
-use Rattle.ns_core.proofs.Rights.{rights_by, rights_without}
-use Rattle.ns_core.proofs.Viewing.{any_row-empty}
 
-module _ (t : Tables) (ns : Name) (secret : Option Name) where
-  pub may_register : (b : Bool) → is_manager (state_of t).acl secret ≡ b → (rights_of (state_of t).acl secret ns).submit_job ≡ b
-  may_register b e = ap (λ r. r.submit_job) (rights_without (state_of t).acl refl secret ns ∙ ap rights_by e) ∙ by b
+-- nothing is placed, so a job is dead or pending
+pub shown_is : (ns id : Name) (x : TenantRows) (job : Job) → record { namespace = ns; id = id; row = job; status = status_without_allocations job } ≡ job_shown ns (tenant_of x) id job
+shown_is ns id x job = λ i. record {
+  namespace = ns;
+  id = id;
+  row = job;
+  status = cond job.stop lives.Dead (cond (sym (any_row-empty numbers one_number (λ _ a. same_name id a.job && is_live a)) i) lives.Running lives.Pending);
+}
+
+-- ---- the use of a quota is none
+
+module _ (quota : Name) (amount : Resources → ℕ) where
+  of_tenant : (x : TenantRows) → tenant_sum is_live amount (tenant_of x) ≡ 0
+  of_tenant x = ap (sum_by {X = ℕ × Allocation} (λ e. cond (is_live e.1) (amount e.1.size) 0)) (entries_empty numbers one_number)
+
+  of_all : (es : List (Name × TenantRows)) → sum_by {X = Name × Tenant} (λ e. cond (names_quota quota e.1.namespace) (tenant_sum is_live amount e.1) 0) (map (λ e. (e.0, tenant_of e.1)) es) ≡ 0
+  of_all [] = refl
+  of_all (e ∷ es) = sum_by-cons (λ e. cond (names_quota quota e.1.namespace) (tenant_sum is_live amount e.1) 0) (e.0, tenant_of e.1) (map (λ e. (e.0, tenant_of e.1)) es)
+      ∙ (λ i. cond (names_quota quota e.1.namespace) (of_tenant e.1 i) 0 + of_all es i) ∙ by (names_quota quota e.1.namespace)
     where
-      by : (b : Bool) → (rights_by b).submit_job ≡ b
+      by : (b : Bool) → cond b 0 0 + 0 ≡ 0
       by true = refl
       by false = refl
 
-  pub may_read : (b : Bool) → is_manager (state_of t).acl secret ≡ b → (rights_of (state_of t).acl secret ns).read_job ≡ b
-  may_read b e = ap (λ r. r.read_job) (rights_without (state_of t).acl refl secret ns ∙ ap rights_by e) ∙ by b
-    where
-      by : (b : Bool) → (rights_by b).read_job ≡ b
-      by true = refl
-      by false = refl
+none_used : (t : Parts) (quota : Name) → quota_use (world_of t) quota ≡ record { cpu = 0; memory = 0 }
+unfolding quota_sum
+none_used t quota = λ i. record { cpu = by (λ r. r.cpu) i; memory = by (λ r. r.memory) i }
+  where
+    by : (amount : Resources → ℕ) → sum_by {X = Name × Tenant} (λ e. cond (names_quota quota e.1.namespace) (tenant_sum is_live amount e.1) 0) (entries (world_of t).tenants) ≡ 0
+    by amount = ap (sum_by {X = Name × Tenant} (λ e. cond (names_quota quota e.1.namespace) (tenant_sum is_live amount e.1) 0)) (entries-table_of (λ _ x. tenant_of x) (rows t.tables.tenants)) ∙ of_all quota amount (entries (rows t.tables.tenants))
 
-  pub nowhere : row_at t.tenants ns ≡ None → get (state_of t).world.tenants ns ≡ None
-  nowhere e = get-table_of names one_name (λ _ x. tenant_of x) (rows t.tenants) ns ∙ ap (λ o. option_map tenant_of o) (get-rows names t.tenants ns ∙ e)
+-- ---- reads
 
-  module _ (id : Name) where
-    pub read_denied : is_manager (state_of t).acl secret ≡ false → after (steps.Ask ns secret (asks.ReadJob id)) (state_of t) ≡ said (Err refusals.Denied) (state_of t)
-    read_denied e = ask_denied (state_of t) ns secret (asks.ReadJob id) (may_read false e)
+module _ (t : Parts) (ns : Name) (secret : Option Name) (x : TenantRows) (at : row_at t.tables.tenants ns ≡ Some x) where
+  -- a read that says so
+  pub reads : (command : AskCommand) (content : Content) → right_of command (rights_of t.acl secret ns) ≡ true → IsHeld (world_of t) → asked_in ns command (world_of t) (tenant_of x) ≡ Done content (world_of t)
+      → (index : ℕ) → index ≡ x.rows.index → after (steps.Ask ns secret command) (state_of t) ≡ said (Ok (record { index = Some index; content = content })) (state_of t)
+  reads command content allowed held is index same = ask_reads (state_of t) ns secret command (tenant_of x) content allowed (tenant_at t ns x at) held.early.within is
+      ∙ ap (λ n. said (Ok (record { index = Some n; content = content })) (state_of t)) (sym same)
 
-    pub read_nowhere : is_manager (state_of t).acl secret ≡ true → row_at t.tenants ns ≡ None → after (steps.Ask ns secret (asks.ReadJob id)) (state_of t) ≡ said (Err refusals.NotFound) (state_of t)
-    read_nowhere e n = ask_nowhere (state_of t) ns secret (asks.ReadJob id) (may_read true e) (nowhere n)
+  pub job_told : (id : Name) (job : Job) (shown : JobShown) → get (rows x.rows.jobs) id ≡ Some job → shown ≡ record { namespace = ns; id = id; row = job; status = status_without_allocations job }
+      → asked_in ns (asks.ReadJob id) (world_of t) (tenant_of x) ≡ Done (contents.Job shown) (world_of t)
+  job_told id job shown is e = ap (λ o. option_map_or (λ job. Done (contents.Job (job_shown ns (tenant_of x) id job)) (world_of t)) o (Refused refusals.NotFound)) is
+      ∙ ap (λ s. Done (contents.Job s) (world_of t)) (sym (e ∙ shown_is ns id x job))
 
-    module _ (x : TenantRows) (manager : is_manager (state_of t).acl secret ≡ true) (at : row_at t.tenants ns ≡ Some x) where
-      pub read_nothing : get (rows x.rows.jobs) id ≡ None → after (steps.Ask ns secret (asks.ReadJob id)) (state_of t) ≡ said (Err refusals.NotFound) (state_of t)
-      read_nothing n = read_no_job (state_of t) ns secret id (tenant_of x) (may_read true manager) (tenant_at t ns x at) n
+  -- the jobs of the slots are those of the rows
+  pub jobs_listed : (prefix : Name) (slots : List (Name × Option Job)) (jobs : List JobShown) → slots ≡ entries x.rows.jobs
+      → jobs ≡ map (shown_in ns) (filter (λ e. begins_with prefix e.0) (row_list slots))
+      → asked_in ns (asks.ListJobs prefix) (world_of t) (tenant_of x) ≡ Done (contents.Jobs jobs) (world_of t)
+  jobs_listed prefix slots jobs is e = ap (λ shown. Done (contents.Jobs shown) (world_of t)) (sym (e
+      ∙ ap (λ es. map (shown_in ns) (filter (λ e. begins_with prefix e.0) (row_list es))) is
+      ∙ ap (λ es. map (shown_in ns) (filter (λ e. begins_with prefix e.0) es)) (sym (entries-rows x.rows.jobs))
+      ∙ (λ i. map (λ e. shown_is ns e.0 x e.1 i) (filter (λ e. begins_with prefix e.0) (entries (rows x.rows.jobs))))))
 
-      shown_is : (job : Job) → record { namespace = ns; id = id; row = job; status = status_without_allocations job } ≡ job_shown ns (tenant_of x) id job
-      shown_is job = λ i. record {
-        namespace = ns;
-        id = id;
-        row = job;
-        status = cond job.stop lives.Dead (cond (sym (any_row-empty numbers one_number (λ _ a. same_name id a.job && is_live a)) i) lives.Running lives.Pending);
-      }
+  pub usage_told : (quota name : Name) → names_quota quota x.namespace ≡ true → name ≡ quota
+      → asked_in ns (asks.QuotaUsage quota) (world_of t) (tenant_of x) ≡ Done (contents.Usage name (record { cpu = 0; memory = 0 })) (world_of t)
+  usage_told quota name named same = ap (λ b. if b then Done (contents.Usage quota (quota_use (world_of t) quota)) (world_of t) else Refused refusals.NotFound) named
+      ∙ (λ i. Done (contents.Usage (sym same i) (none_used t quota i)) (world_of t))
 
-      pub read_job_done : (job : Job) (shown : JobShown) (held : IsHeld (world_of t)) → get (rows x.rows.jobs) id ≡ Some job
-          → shown ≡ record { namespace = ns; id = id; row = job; status = status_without_allocations job }
-          → after (steps.Ask ns secret (asks.ReadJob id)) (state_of t) ≡ said (Ok (record { index = Some x.rows.index; content = contents.Job shown })) (state_of t)
-      read_job_done job shown held j e = read_done (state_of t) ns secret id (tenant_of x) (may_read true manager) (tenant_at t ns x at) job j held.early.within
-          ∙ ap (λ s. said (Ok (record { index = Some x.rows.index; content = contents.Job s })) (state_of t)) (sym (e ∙ shown_is job))
-
-  pub register_denied : (r : Registration) → is_manager (state_of t).acl secret ≡ false → after (steps.Ask ns secret (asks.Register r)) (state_of t) ≡ said (Err refusals.Denied) (state_of t)
-  register_denied r e = ask_denied (state_of t) ns secret (asks.Register r) (may_register false e)
-
-  pub register_nowhere : (r : Registration) → is_manager (state_of t).acl secret ≡ true → row_at t.tenants ns ≡ None → after (steps.Ask ns secret (asks.Register r)) (state_of t) ≡ said (Err refusals.NotFound) (state_of t)
-  register_nowhere r e n = ask_nowhere (state_of t) ns secret (asks.Register r) (may_register true e) (nowhere n)
-
-  pub register_concludes : (r : Registration) (x : TenantRows) (held : IsHeld (world_of t)) → is_manager (state_of t).acl secret ≡ true → row_at t.tenants ns ≡ Some x
-      → Concludes (state_of t) ns secret r (tenant_of x) (refusal_of (world_of t) (tenant_of x) r)
-  register_concludes r x held manager at = concludes (state_of t) ns secret r (tenant_of x) (may_register true manager) (tenant_at t ns x at) held.early
+  pub usage_refused : (quota : Name) → names_quota quota x.namespace ≡ false → asked_in ns (asks.QuotaUsage quota) (world_of t) (tenant_of x) ≡ Refused refusals.NotFound
+  usage_refused quota other = ap (λ b. if b then Done (contents.Usage quota (quota_use (world_of t) quota)) (world_of t) else Refused refusals.NotFound) other

@@ -14,20 +14,30 @@ use Rattle.ns_types.specs.Tables.{any_row}
 use Rattle.ns_types.specs.Names.{Name, Key, same_name}
 use Rattle.ns_types.specs.Queue.{is_busy, is_of_job}
 use Rattle.ns_types.specs.Rows.{World, Tenant, evaluation_at}
-use Rattle.ns_core.specs.declared.tables.Tables.{Tables}
-use Rattle.ns_core.specs.declared.tables.TenantRows.{TenantRows}
-use Rattle.ns_core.specs.Viewed.{entry_of_job, tenant_of, world_of}
-use Rattle.ns_core.proofs.Viewing.{any_row-empty, get_mapped}
+use Rattle.ns_tables.specs.declared.tables.TenantRows.{TenantRows}
+use Rattle.ns_tables.specs.Viewed.{tenant_of}
+use Rattle.ns_tables.proofs.Viewing.{any_row-empty}
+use Rattle.ns_tables.proofs.World.{pool_at as pool_at_name, tenant_at as tenant_at_name}
+use Rattle.ns_core.specs.declared.parts.Parts.{Parts}
+use Rattle.ns_core.specs.Viewed.{entry_of_job, world_of}
 
 -- whether there is a pool of a name
-pub pool_at : (t : Tables) (name : Name) (x : Option Pool) → row_at t.pools name ≡ x → contains_key (world_of t).pools name ≡ is_some x
-pool_at t name x e = get_mapped names one_name (λ _ p. with_pool p None) (rows t.pools) name ∙ ap is_some (get-rows names t.pools name ∙ e)
+pub pool_at : (t : Parts) (name : Name) (x : Option Pool) → row_at t.tables.pools name ≡ x → contains_key (world_of t).pools name ≡ is_some x
+pool_at t name x e = ap is_some (pool_at_name t.tables t.ready.items name x e) ∙ by x
+  where
+    by : (x : Option Pool) → is_some (option_map (λ p. with_pool p None) x) ≡ is_some x
+    by None = refl
+    by (Some p) = refl
 
 -- the tenant at a name
-pub tenant_at : (t : Tables) (ns : Name) (x : TenantRows) → row_at t.tenants ns ≡ Some x → get (world_of t).tenants ns ≡ Some (tenant_of x)
-tenant_at t ns x e = get-table_of names one_name (λ _ x. tenant_of x) (rows t.tenants) ns ∙ ap (option_map tenant_of) (get-rows names t.tenants ns ∙ e)
+pub tenant_at : (t : Parts) (ns : Name) (x : TenantRows) → row_at t.tables.tenants ns ≡ Some x → get (world_of t).tenants ns ≡ Some (tenant_of x)
+tenant_at t ns x e = tenant_at_name t.tables t.ready.items ns (Some x) e
 
-module _ (t' : Tables) (ns id : Name) (x : TenantRows) (at : row_at t'.tenants ns ≡ Some x) where
+-- there is none
+pub nowhere : (t : Parts) (ns : Name) → row_at t.tables.tenants ns ≡ None → get (world_of t).tenants ns ≡ None
+nowhere t ns e = tenant_at_name t.tables t.ready.items ns None e
+
+module _ (t' : Parts) (ns id : Name) (x : TenantRows) (at : row_at t'.tables.tenants ns ≡ Some x) where
   -- an entry is of the job where the namespace's own rows say so
   same_entry : (key : Key) → entry_of_job ns id x.rows key ≡ is_of_job (world_of t') ns id key
   same_entry key = by (same_name ns key.0) refl

@@ -4,6 +4,6 @@ pub mod Busy
 pub mod Lists
 pub mod Opening
 pub mod Putting
-pub mod Rights
 pub mod Ties
-pub mod Viewing
+pub mod Changing
+pub mod Quotas

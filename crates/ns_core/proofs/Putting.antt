@@ -24,49 +24,57 @@ use Rattle.ns_steps.specs.Registered.{is_news, job_of, made_events, next_index, 
 use Rattle.ns_steps.proofs.Early.{registered_early}
 use Rattle.ns_steps.proofs.Rows.{same_Some}
 use Rattle.ns_core.specs.declared.registering.Made.{Made}
-use Rattle.ns_core.specs.declared.tables.Tables.{Tables}
-use Rattle.ns_core.specs.declared.tables.TenantRows.{TenantRows}
+use Rattle.ns_tables.specs.Viewed.{tenant_of}
+use Rattle.ns_tables.proofs.Viewing.{table_of-insert}
+use Rattle.ns_core.specs.declared.parts.Parts.{Parts}
+use Rattle.ns_tables.specs.declared.tables.TenantRows.{TenantRows}
 use Rattle.ns_core.specs.Held.{HasFewVersions, IsHeld}
 use Rattle.ns_core.specs.Making.{IsMade, events_made, job_event_of, with_made}
 use Rattle.ns_core.specs.Puts.{PutsMade, PutsRows, reply_with}
 use Rattle.ns_core.specs.Refusing.{passes_bound}
-use Rattle.ns_core.specs.Viewed.{state_of, tenant_of, world_of}
+use Rattle.ns_core.specs.Viewed.{state_of, world_of}
 use Rattle.ns_core.proofs.Busy.{tenant_at}
-use Rattle.ns_core.proofs.Viewing.{table_of-insert}
 
 module _ {V : Type 0} where
   pub slot_kept : (m n : FinMap name_cmp (Option V)) (k : Name) (x : V) → row_at m k ≡ Some x → n ≡ emptied m k → IsTrue (has_slot n k)
   slot_kept m n k x is e = subst (λ n. IsTrue (has_slot n k)) (sym (e ∙ ap (λ b. cond b (insert m k None) m) (has_slot-row m k x is))) (has_slot-insert_here names m k None)
 
-module _ (t : Tables) (ns : Name) (x y : TenantRows) (at : row_at t.tenants ns ≡ Some x) where
-  pub put_back : (m n : FinMap name_cmp (Option TenantRows)) → m ≡ emptied t.tenants ns → n ≡ insert m ns (Some y)
+module _ (t : Parts) (ns : Name) (x y : TenantRows) (at : row_at t.tables.tenants ns ≡ Some x) where
+  pub put_back : (m n : FinMap name_cmp (Option TenantRows)) → m ≡ emptied t.tables.tenants ns → n ≡ insert m ns (Some y)
       → table_of (λ _ x. tenant_of x) (rows n) ≡ insert (world_of t).tenants ns (tenant_of y)
   put_back m n e f = ap (λ m. table_of (λ _ x. tenant_of x) (rows m)) (f ∙ ap (λ m. insert m ns (Some y)) e)
-      ∙ ap (λ m. table_of (λ _ x. tenant_of x) m) (rows-put_back names one_name t.tenants ns y)
-      ∙ table_of-insert names one_name (λ _ x. tenant_of x) (rows t.tenants) ns y
+      ∙ ap (λ m. table_of (λ _ x. tenant_of x) m) (rows-put_back names one_name t.tables.tenants ns y)
+      ∙ table_of-insert names one_name (λ _ x. tenant_of x) (rows t.tables.tenants) ns y
 
-  pub put_same : (m n : FinMap name_cmp (Option TenantRows)) → m ≡ emptied t.tenants ns → n ≡ insert m ns (Some y) → tenant_of y ≡ tenant_of x
+  pub put_same : (m n : FinMap name_cmp (Option TenantRows)) → m ≡ emptied t.tables.tenants ns → n ≡ insert m ns (Some y) → tenant_of y ≡ tenant_of x
       → table_of (λ _ x. tenant_of x) (rows n) ≡ (world_of t).tenants
   put_same m n e f same = put_back m n e f ∙ insert_same names one_name (world_of t).tenants ns (tenant_of y) (tenant_at t ns x at ∙ ap Some (sym same))
 
 -- rows set back as they were leave the state
-pub kept_state : (old new : Tables) → (world_of new).tenants ≡ (world_of old).tenants → new.ready.items ≡ old.ready.items → new.pools ≡ old.pools → new.tokens ≡ old.tokens → state_of new ≡ state_of old
-kept_state old new tenants ready pools tokens = λ i. record {
-  acl = (state_of (record old { tokens = tokens i })).acl;
-  world = record (world_of old) { tenants = tenants i; pools = (world_of (record old { pools = pools i })).pools; ready = ready i };
+pub kept_state : (old new : Parts) → (world_of new).tenants ≡ (world_of old).tenants → new.ready.items ≡ old.ready.items → new.tables.pools ≡ old.tables.pools → new.tables.quotas ≡ old.tables.quotas → new.acl ≡ old.acl
+    → state_of new ≡ state_of old
+kept_state old new tenants ready pools quotas acl = λ i. record {
+  acl = acl i;
+  world = record (world_of old) {
+    tenants = tenants i;
+    pools = (world_of (record old { tables = record old.tables { pools = pools i } })).pools;
+    quotas = (world_of (record old { tables = record old.tables { quotas = quotas i } })).quotas;
+    ready = ready i;
+  };
 }
 
 -- the tables afterwards, where nothing else was changed
-pub puts_rows : (old new : Tables) (ns id : Name) (made : Made) (waits : Bool) (x y : TenantRows) (m : FinMap name_cmp (Option TenantRows))
-    → row_at old.tenants ns ≡ Some x → m ≡ emptied old.tenants ns → new.tenants ≡ insert m ns (Some y)
+pub puts_rows : (old new : Parts) (ns id : Name) (made : Made) (waits : Bool) (x y : TenantRows) (m : FinMap name_cmp (Option TenantRows))
+    → row_at old.tables.tenants ns ≡ Some x → m ≡ emptied old.tables.tenants ns → new.tables.tenants ≡ insert m ns (Some y)
     → tenant_of y ≡ with_made id (x.rows.index + 1) made (tenant_of x)
     → new.ready.items ≡ (if waits then old.ready.items else old.ready.items ++ made.key ∷ [])
-    → new.pools ≡ old.pools → new.tokens ≡ old.tokens → PutsMade old ns id made waits new
-puts_rows old new ns id made waits x y m at e f tenant ready pools tokens = λ z is. subst (PutsRows old ns id made waits new) (same_Some _ _ (sym at ∙ is)) (record {
-  tenants = put_back old ns x y at m new.tenants e f ∙ ap (λ t. insert (world_of old).tenants ns t) tenant;
+    → new.tables.pools ≡ old.tables.pools → new.tables.quotas ≡ old.tables.quotas → new.acl ≡ old.acl → PutsMade old ns id made waits new
+puts_rows old new ns id made waits x y m at e f tenant ready pools quotas acl = λ z is. subst (PutsRows old ns id made waits new) (same_Some _ _ (sym at ∙ is)) (record {
+  tenants = put_back old ns x y at m new.tables.tenants e f ∙ ap (λ t. insert (world_of old).tenants ns t) tenant;
   ready = ready;
   pools = pools;
-  tokens = tokens;
+  quotas = quotas;
+  acl = acl;
 })
 
 -- ---- what was made is the registration's
@@ -95,18 +103,19 @@ module _ (made : Made) (ns : Name) (r : Registration) (t : Tenant) (is : IsMade 
 
 -- ---- the state afterwards
 
-module _ (old new : Tables) (ns : Name) (r : Registration) (made : Made) (x : TenantRows)
+module _ (old new : Parts) (ns : Name) (r : Registration) (made : Made) (x : TenantRows)
     (is : IsMade made ns r (tenant_of x)) (puts : PutsRows old ns r.id made (is_busy (world_of old) ns r.id) new x) where
   pub world_made : world_of new ≡ registered_world ns r (world_of old) (tenant_of x)
   unfolding registered_world
   world_made = λ i. record (world_of old) {
     tenants = (puts.tenants ∙ ap (λ t. insert (world_of old).tenants ns t) (tenant_made made ns r (tenant_of x) is)) i;
-    pools = ap (λ pools. (world_of (record old { pools = pools })).pools) puts.pools i;
+    pools = ap (λ pools. (world_of (record old { tables = record old.tables { pools = pools } })).pools) puts.pools i;
+    quotas = ap (λ quotas. (world_of (record old { tables = record old.tables { quotas = quotas } })).quotas) puts.quotas i;
     ready = (puts.ready ∙ ap (λ key. if is_busy (world_of old) ns r.id then old.ready.items else old.ready.items ++ key ∷ []) is.key) i;
   }
 
   pub state_made : state_of new ≡ registered_state ns r (state_of old) (tenant_of x)
-  state_made = λ i. record { acl = (state_of (record old { tokens = puts.tokens i })).acl; world = world_made i }
+  state_made = λ i. record { acl = puts.acl i; world = world_made i }
 
 -- ---- what stays true
 

@@ -2,5 +2,4 @@ pub mod Held
 pub mod Making
 pub mod Puts
 pub mod Refusing
-pub mod Served
 pub mod Viewed

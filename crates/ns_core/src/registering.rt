@@ -7,10 +7,10 @@ ghost use Rattle.ns_types.specs.Asks.{document_of, meets, pool_of as pool_named,
 ghost use Rattle.ns_steps.specs.Registered.{has_no_room as is_without_room, is_news as is_told, is_outdated as is_behind};
 ghost use Rattle.ns_core.specs.Making.{IsMade, evaluation_at_index, events_made, job_event_of, with_events, with_made, with_rows};
 ghost use Rattle.ns_core.specs.Held.{HasFewVersions};
-ghost use Rattle.ns_core.specs.Viewed.{tenant_of};
+ghost use Rattle.ns_tables.specs.Viewed.{tenant_of};
 
 use crate::alike::{same_document, same_number};
-use crate::tables::TenantRows;
+use ns_tables::TenantRows;
 use ns_types::evaluation::{Evaluation, Status, Trigger};
 use ns_types::event::{Event, Topic};
 use ns_types::job::{Document, Job, Registration};
@@ -192,68 +192,66 @@ pub fn make(
     })
 }
 
-impl TenantRows {
-    /// Makes room for the rows of a registration.
-    fn reserve(&mut self, id: &Text, number: u64) -> Result<(), AllocError>
-        ensures namespace { self.new.namespace ≡ self.old.namespace }
-        ensures tenant { tenant_of self.new ≡ tenant_of self.old }
-        ensures job_slot { OnOk result (IsTrue (has_slot self.new.rows.jobs id.now)) }
-        ensures evaluation_slot { OnOk result (IsTrue (has_slot self.new.rows.evaluations number)) }
-        ensures room { OnOk result (2 ≤ self.new.rows.room) }
-    {
-        self.rows.reserve_job(id)?;
-        self.rows.reserve_evaluation(number)?;
-        self.rows.reserve_events(2)?;
-        Ok(())
-    }
+/// Makes room for the rows of a registration.
+fn reserve(tenant: &mut TenantRows, id: &Text, number: u64) -> Result<(), AllocError>
+    ensures namespace { tenant.new.namespace ≡ tenant.old.namespace }
+    ensures tenant { tenant_of tenant.new ≡ tenant_of tenant.old }
+    ensures job_slot { OnOk result (IsTrue (has_slot tenant.new.rows.jobs id.now)) }
+    ensures evaluation_slot { OnOk result (IsTrue (has_slot tenant.new.rows.evaluations number)) }
+    ensures room { OnOk result (2 ≤ tenant.new.rows.room) }
+{
+    tenant.rows.reserve_job(id)?;
+    tenant.rows.reserve_evaluation(number)?;
+    tenant.rows.reserve_events(2)?;
+    Ok(())
+}
 
-    /// Puts the job and its evaluation. It takes no memory.
-    fn put(&mut self, id: &Text, index: u64, job: Job, evaluation: Evaluation)
-        requires job_slot { IsTrue (has_slot self.old.rows.jobs id.now) }
-        requires evaluation_slot { IsTrue (has_slot self.old.rows.evaluations (self.old.rows.evaluation_number + 1)) }
-        requires number { self.old.rows.evaluation_number + 1 < 2 ^ 64 }
-        ensures tenant { tenant_of self.new ≡ with_rows id.now index job evaluation (tenant_of self.old) }
-        ensures room { self.new.rows.room ≡ self.old.rows.room }
-    {
-        self.rows.put_job(id, job);
-        self.rows.add_evaluation(evaluation);
-        self.rows.set_index(index);
-    }
+/// Puts the job and its evaluation. It takes no memory.
+fn put(tenant: &mut TenantRows, id: &Text, index: u64, job: Job, evaluation: Evaluation)
+    requires job_slot { IsTrue (has_slot tenant.old.rows.jobs id.now) }
+    requires evaluation_slot { IsTrue (has_slot tenant.old.rows.evaluations (tenant.old.rows.evaluation_number + 1)) }
+    requires number { tenant.old.rows.evaluation_number + 1 < 2 ^ 64 }
+    ensures tenant { tenant_of tenant.new ≡ with_rows id.now index job evaluation (tenant_of tenant.old) }
+    ensures room { tenant.new.rows.room ≡ tenant.old.rows.room }
+{
+    tenant.rows.put_job(id, job);
+    tenant.rows.add_evaluation(evaluation);
+    tenant.rows.set_index(index);
+}
 
-    /// Adds the events. It takes no memory.
-    fn tell(&mut self, job_event: Option<Event>, evaluation_event: Event)
-        requires { 2 ≤ self.old.rows.room }
-        ensures { tenant_of self.new ≡ with_events (events_made job_event evaluation_event) (tenant_of self.old) }
-    {
-        if let Some(event) = job_event {
-            self.rows.push_event(event);
-        }
-        self.rows.push_event(evaluation_event);
+/// Adds the events. It takes no memory.
+fn tell(tenant: &mut TenantRows, job_event: Option<Event>, evaluation_event: Event)
+    requires { 2 ≤ tenant.old.rows.room }
+    ensures { tenant_of tenant.new ≡ with_events (events_made job_event evaluation_event) (tenant_of tenant.old) }
+{
+    if let Some(event) = job_event {
+        tenant.rows.push_event(event);
     }
+    tenant.rows.push_event(evaluation_event);
+}
 
-    /// Registers the job in the namespace, or leaves its rows as they are.
-    pub fn register(&mut self, id: &Text, made: Made) -> Result<EvalKey, AllocError>
-        requires index { self.old.rows.index + 1 < 2 ^ 64 }
-        requires number { self.old.rows.evaluation_number + 1 < 2 ^ 64 }
-        ensures key { IfOk result (λ key. key ≡ made.key) }
-        ensures done { OnOk result (tenant_of self.new ≡ with_made id.now (self.old.rows.index + 1) made (tenant_of self.old)) }
-        ensures refused { OnErr result (tenant_of self.new ≡ tenant_of self.old) }
-    {
-        let index = self.rows.index() + 1;
-        let number = self.rows.evaluation_number() + 1;
-        if let Err(refused) = self.reserve(id, number) {
-            self.rows.clear_room(id, number);
-            return Err(refused);
-        }
-        let Made {
-            job,
-            evaluation,
-            job_event,
-            evaluation_event,
-            key,
-        } = made;
-        self.put(id, index, job, evaluation);
-        self.tell(job_event, evaluation_event);
-        Ok(key)
+/// Registers the job in the namespace, or leaves its rows as they are.
+pub fn register(tenant: &mut TenantRows, id: &Text, made: Made) -> Result<EvalKey, AllocError>
+    requires index { tenant.old.rows.index + 1 < 2 ^ 64 }
+    requires number { tenant.old.rows.evaluation_number + 1 < 2 ^ 64 }
+    ensures key { IfOk result (λ key. key ≡ made.key) }
+    ensures done { OnOk result (tenant_of tenant.new ≡ with_made id.now (tenant.old.rows.index + 1) made (tenant_of tenant.old)) }
+    ensures refused { OnErr result (tenant_of tenant.new ≡ tenant_of tenant.old) }
+{
+    let index = tenant.rows.index() + 1;
+    let number = tenant.rows.evaluation_number() + 1;
+    if let Err(refused) = reserve(tenant, id, number) {
+        tenant.rows.clear_room(id, number);
+        return Err(refused);
     }
+    let Made {
+        job,
+        evaluation,
+        job_event,
+        evaluation_event,
+        key,
+    } = made;
+    put(tenant, id, index, job, evaluation);
+    tell(tenant, job_event, evaluation_event);
+    Ok(key)
 }

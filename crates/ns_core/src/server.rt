@@ -3,12 +3,12 @@
 ghost use Rattle.std.specs.Prelude.{◌≡◌, IfOk, option_copied};
 ghost use Rattle.ns_types.specs.declared.step.Step.TheVariants as steps;
 ghost use Rattle.ns_types.specs.Steps.{Makes, opening};
-ghost use Rattle.ns_core.specs.Served.{IsServed};
+ghost use Rattle.ns_steps.specs.Served.{IsServedAsk, IsServedTelling};
 
-use crate::tables::Tables;
+use crate::parts::Parts;
 use ns_types::refusal::Refusal;
 use ns_types::reply::Reply;
-use ns_types::step::AskCommand;
+use ns_types::step::{AdminCommand, AskCommand, NodeCommand};
 use ns_types::text::Text;
 use std::alloc::{AllocError, Global};
 use std::marker::Model;
@@ -16,7 +16,7 @@ use std::marker::Model;
 /// A scheduling server. Each call is one step of the model, or is refused and changes nothing.
 #[derive(Drop)]
 pub struct Core {
-    tables: Tables,
+    parts: Parts,
 }
 
 impl Model for Core {
@@ -31,9 +31,9 @@ impl Model for Core {
     ghost use Rattle.ns_core.specs.Held.{IsHeld};
     ghost use Rattle.ns_core.specs.Viewed.{state_of, world_of};
 
-    ghost view = { λ c. state_of c.tables };
+    ghost view = { λ c. state_of c.parts };
 
-    ghost invariant = { λ c. IsHeld (world_of c.tables) };
+    ghost invariant = { λ c. IsHeld (world_of c.parts) };
 }
 
 impl Core {
@@ -41,8 +41,8 @@ impl Core {
     pub fn new(alloc: Global, bootstrap: &Text) -> Result<Core, AllocError>
         ensures { IfOk result (λ core. core ≡ opening bootstrap.now) }
     {
-        let tables = Tables::opening(alloc, bootstrap)?;
-        Ok(Core { tables })
+        let parts = Parts::opening(alloc, bootstrap)?;
+        Ok(Core { parts })
     }
 
     /// Makes the step that is asked in a namespace by a secret.
@@ -52,10 +52,35 @@ impl Core {
         secret: Option<&Text>,
         command: &AskCommand,
     ) -> Result<Reply, Refusal>
-        requires { IsServed command.now }
+        requires { IsServedAsk command.now }
         ensures { Makes (steps.Ask namespace.now (option_copied secret.entry) command.now) self.old result self.new }
     {
-        let tables = &mut self.tables;
-        tables.ask(namespace, secret, command)
+        let parts = &mut self.parts;
+        parts.ask(namespace, secret, command)
+    }
+
+    /// Makes the step that an administrator asks with a secret.
+    pub fn admin(&mut self, secret: Option<&Text>, command: &AdminCommand) -> Result<Reply, Refusal>
+        ensures { Makes (steps.Admin (option_copied secret.entry) command.now) self.old result self.new }
+    {
+        let parts = &mut self.parts;
+        parts.admin(secret, command)
+    }
+
+    /// Makes the step that is told of a pool with a secret. So far the pool itself is read.
+    pub fn node(
+        &mut self,
+        pool: &Text,
+        secret: Option<&Text>,
+        command: &NodeCommand,
+    ) -> Result<Reply, Refusal>
+        requires { IsServedTelling command.now }
+        ensures { Makes (steps.Node pool.now (option_copied secret.entry) command.now) self.old result self.new }
+    {
+        let parts = &mut self.parts;
+        match command {
+            NodeCommand::ReadPool => parts.read_pool(pool, secret),
+            _ => unreachable!(),
+        }
     }
 }

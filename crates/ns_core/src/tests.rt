@@ -1,20 +1,21 @@
 // Steps with ample memory, and with each growth refused in turn: a refused call is made again, and then answers.
 ghost use Rattle.std.specs.Prelude.{IfOk};
-ghost use Rattle.ns_core.specs.Served.{IsServed};
+ghost use Rattle.ns_steps.specs.Served.{IsServedAsk};
 
 use crate::Core;
 use ns_types::job::{Group, JobKind, Registration, Task};
+use ns_types::records::{Namespace, Pool, Quota};
 use ns_types::refusal::Refusal;
 use ns_types::reply::{Content, JobStatus, Reply};
 use ns_types::resources::Resources;
 use ns_types::rows::Rows;
-use ns_types::step::AskCommand;
+use ns_types::step::{AdminCommand, AskCommand, NodeCommand};
 use ns_types::text::Text;
 use std::alloc::{AllocError, Global};
 use std::rt::HostRuntime;
 
 fn registration(alloc: Global, enforced: Option<u64>) -> Result<AskCommand, AllocError>
-    ensures { IfOk result IsServed }
+    ensures { IfOk result IsServedAsk }
 {
     let mut tasks = Rows::new(alloc);
     tasks.push(Task {
@@ -48,7 +49,7 @@ fn asked(
     namespace: &Text,
     command: &AskCommand,
 ) -> Result<Reply, Refusal>
-    requires { IsServed command.now }
+    requires { IsServedAsk command.now }
 {
     match core.ask(namespace, secret, command) {
         Err(Refusal::Memory) => core.ask(namespace, secret, command),
@@ -120,4 +121,71 @@ fn registers_and_reads(rt: HostRuntime) {
         answered => answered,
     };
     assert!(&rt; matches!(answered, Ok(true)));
+}
+
+fn administered(core: &mut Core, secret: &Text, command: &AdminCommand) -> Option<Content> {
+    let answer = match core.admin(Some(secret), command) {
+        Err(Refusal::Memory) => core.admin(Some(secret), command),
+        answer => answer,
+    };
+    match answer {
+        Ok(reply) => Some(reply.content),
+        Err(_) => None,
+    }
+}
+
+fn is_written(answer: Option<Content>) -> bool {
+    matches!(answer, Some(Content::Written))
+}
+
+fn namespace_in(alloc: Global, pool: &Text, quota: &Text) -> Result<Namespace, AllocError> {
+    Ok(Namespace {
+        description: Text::from_str(alloc, "")?,
+        quota: Some(quota.clone()?),
+        default_pool: pool.clone()?,
+        allowed: None,
+        denied: Rows::new(alloc),
+    })
+}
+
+/// A pool, a quota and a namespace are put, and the pool is read.
+fn lays_out(alloc: Global) -> Result<bool, AllocError> {
+    let root = Text::from_str(alloc, "root")?;
+    let east = Text::from_str(alloc, "east")?;
+    let ta = Text::from_str(alloc, "ta")?;
+    let description = Text::from_str(alloc, "")?;
+    let pool = AdminCommand::PutPool(east.clone()?, Pool { description });
+    let description = Text::from_str(alloc, "")?;
+    let quota = Quota {
+        description,
+        limits: None,
+    };
+    let quota = AdminCommand::PutQuota(ta.clone()?, quota);
+    let namespace = AdminCommand::PutNamespace(ta.clone()?, namespace_in(alloc, &east, &ta)?);
+    let delete = AdminCommand::DeletePool(east.clone()?);
+    let mut core = Core::new(alloc, &root)?;
+    let mut right = administered(&mut core, &root, &namespace).is_none();
+    right &= is_written(administered(&mut core, &root, &pool));
+    right &= is_written(administered(&mut core, &root, &quota));
+    right &= is_written(administered(&mut core, &root, &namespace));
+    right &= administered(&mut core, &root, &delete).is_none();
+    right &= administered(&mut core, &ta, &delete).is_none();
+    let read = match core.node(&east, Some(&root), &NodeCommand::ReadPool) {
+        Err(Refusal::Memory) => core.node(&east, Some(&root), &NodeCommand::ReadPool),
+        answer => answer,
+    };
+    right &= match read {
+        Ok(reply) => matches!(reply.content, Content::Pool(_)),
+        Err(_) => false,
+    };
+    Ok(right)
+}
+
+#[test]
+fn administers(rt: HostRuntime) {
+    let laid_out = match lays_out(rt.alloc()) {
+        Err(AllocError) => lays_out(rt.alloc()),
+        laid_out => laid_out,
+    };
+    assert!(&rt; matches!(laid_out, Ok(true)));
 }

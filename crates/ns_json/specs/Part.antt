@@ -1,5 +1,6 @@
 -- Parts of JSON texts, and what writing them adds.
 use Rattle.std.specs.Prelude.{◌≡◌, ◌+◌, ◌<◌, ◌≤◌, List, [], ◌∷◌, ◌++◌, Result, MatchResult, OnOk, codes, decimal}
+use Rattle.std.specs.Fmt.{signed_decimal}
 use Rattle.json.specs.Token.{Token}
 use Rattle.json.specs.Tree.{room, json_tokens}
 use Rattle.json.specs.Written.{Written}
@@ -18,7 +19,9 @@ token_of parts.EndArray = Token.end_array
 token_of (parts.Key s) = Token.key s.now
 token_of (parts.Text s) = Token.string s.now
 token_of (parts.Number n) = Token.number (decimal n)
+token_of (parts.Signed n) = Token.number (signed_decimal n)
 token_of (parts.Flag b) = Token.boolean b
+token_of parts.Null = Token.null
 
 abbrev pub tokens_of : Data → List Token
 tokens_of d = json_tokens (outline d)

@@ -14,7 +14,8 @@ use ns_types::job::{Constraint, Group, JobKind, Operand, Target, Task};
 use ns_types::reply::{JobShown, JobStatus};
 use std::alloc::{AllocError, Global};
 
-fn status_text<'a>(status: JobStatus) -> &'a str
+/// The word for a job's status.
+pub fn status_text<'a>(status: JobStatus) -> &'a str
     ensures { result.now ≡ text_of_status status }
 {
     match status {
@@ -24,7 +25,8 @@ fn status_text<'a>(status: JobStatus) -> &'a str
     }
 }
 
-fn kind_text(kind: JobKind) -> &'static str
+/// The word for a job's type.
+pub fn kind_text(kind: JobKind) -> &'static str
     ensures { result.now ≡ text_of_kind kind }
 {
     match kind {

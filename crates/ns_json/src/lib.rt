@@ -3,7 +3,7 @@
 
 mod constraint;
 mod group;
-mod job_reply;
+pub mod job_reply;
 pub mod member;
 pub mod part;
 mod registration;

@@ -30,6 +30,15 @@ impl Room {
         Ok(Room { bytes })
     }
 
+    /// The room as a buffer, for the replies of other writes.
+    pub fn into_bytes(self) -> Vec<u8>
+        ensures empty { result.items ≡ [] }
+        ensures enough { 320 ≤ vec_capacity result }
+    {
+        let Room { bytes } = self;
+        bytes
+    }
+
     /// The response to a write, in the room that was made for it. It takes no memory.
     #[tactic(auto, unfolding(crate::specs::Replies::rendered, crate::specs::Replies::body_of))]
     pub fn render(self, reply: &Reply) -> Response

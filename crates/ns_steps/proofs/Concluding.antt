@@ -156,6 +156,17 @@ module _ (s : State) (secret : Option Name) (command : AdminCommand) (allowed : 
       by refusals.Memory h = (h, subst (λ x. IsEarly x.world) (sym h) early)
       by r h = refuses_so r s' h.0 h.1
 
+-- whatever it answers, it leaves all but records alone
+pub admin_rests : (s : State) (secret : Option Name) (command : AdminCommand) → IsCalm command → (result : Result Content Refusal) (s' : State) → Changes (administer secret command s) s result s' → Rests s.world s'.world
+admin_rests s secret command calm (Ok content) s' is =
+    let left : Rests s.world s'.world × KeepsQuotas s.world s'.world = subst (LeavesState s) is (calm_leaves secret command s calm) in
+    left.0
+admin_rests s secret command calm (Err refusal) s' h = subst (λ x. Rests s.world x.world) (sym (by refusal h)) (nothing_changes s.world).0
+  where
+    by : (r : Refusal) → Changes (administer secret command s) s (Err r) s' → s' ≡ s
+    by refusals.Memory h = h
+    by r h = h.1
+
 -- ---- a put of a quota
 
 module _ (s : State) (name : Name) (quota : Quota) where
@@ -241,6 +252,9 @@ module _ (s : State) (name : Name) (quota : Quota) where
           by true full = not_both refl (sym (ap is_refused (sym e ∙ put_cases_of true full)))
           by false room = subst (λ c. after (steps.Admin secret (admins.PutQuota name quota)) s ≡ said (Ok (record { index = None; content = c })) (relimited_state s name quota)) (ap content_of (sym (put_cases_of false room) ∙ e))
               (admin_done s secret (admins.PutQuota name quota) allowed contents.Written (record s { world = put_world }) (relimited_state s name quota).world (put_is false room) quota_settles (over_is ∙ within))
+
+    pub relimited_rests : Rests s.world (relimited_state s name quota).world
+    relimited_rests = put_quota_rests s.world name (relimited s.world name quota)
 
     quotas_within : (q : QuotaRows) → nat_lt greatest q.release ≡ false → any_row (λ _ q. nat_lt greatest q.release) (insert s.world.quotas name q) ≡ false
     quotas_within q within = any_row-put names one_name (λ _ q. nat_lt greatest q.release) s.world.quotas name q (all_within s.world early.within).2 ∙ within

@@ -7,3 +7,4 @@ pub mod Early
 pub mod Resting
 pub mod Administering
 pub mod Concluding
+pub mod Telling

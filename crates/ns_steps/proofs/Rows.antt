@@ -145,7 +145,7 @@ module _ {K X : Type 0} {R : K → K → Ordering} (o : IsTotalOrder R) (same : 
   pub filter_no_row : (f : K → X → Bool) (m : FinMap R X) → ((k : K) (x : X) → get m k ≡ Some x → f k x ≡ false) → filter (λ e. f e.0 e.1) (entries m) ≡ []
   filter_no_row f m none = filter_none (λ e. f e.0 e.1) (entries m) (each_row o same (λ k x. f k x ≡ false) m none)
 
-  entries_empty : entries (empty {X = X} {R = R}) ≡ []
+  pub entries_empty : entries (empty {X = X} {R = R}) ≡ []
   entries_empty = no_entries _ (sym (len-entries empty) ∙ len-empty R X)
 
   retain_one : (m : FinMap R X) (k : K) (x : X) → get m k ≡ Some x → retain_keys m (λ q. eq_by_cmp R q k) ≡ insert empty k x

@@ -46,7 +46,7 @@ passes b refusal rest e = ap (λ b. cond b (Refused refusal) rest) e
 
 -- ---- what every outcome of a command says or leaves
 
-abbrev Says : (Content → Type 0) → Outcome World → Type 0
+abbrev pub Says : (Content → Type 0) → Outcome World → Type 0
 Says P NotEnabled = Unit {0}
 Says P (Refused refusal) = Unit {0}
 Says P (Done content w) = P content
@@ -61,7 +61,7 @@ unfolding unless
 says_unless P true refusal rest h = tt
 says_unless P false refusal rest h = h
 
-abbrev told : Reply → Answer → Reply
+abbrev pub told : Reply → Answer → Reply
 told other (Ok reply) = reply
 told other (Err refusal) = other
 
@@ -222,7 +222,7 @@ module _ (s : State) (ns : Name) (secret : Option Name) where
   abbrev asked : AskCommand → Outcome World
   asked command = option_map_or (asked_in ns command s.world) (get s.world.tenants ns) (Refused refusals.NotFound)
 
-  says_asked : (P : Content → Type 0) (command : AskCommand) (reply : Reply) (s' : State) → Says P (asked command) → after (steps.Ask ns secret command) s ≡ said (Ok reply) s' → P reply.content
+  pub says_asked : (P : Content → Type 0) (command : AskCommand) (reply : Reply) (s' : State) → Says P (asked command) → after (steps.Ask ns secret command) s ≡ said (Ok reply) s' → P reply.content
   says_asked P command reply s' h e = by (right_of command (rights_of s.acl secret ns)) refl
     where
       by : (b : Bool) → right_of command (rights_of s.acl secret ns) ≡ b → P reply.content

@@ -1,5 +1,5 @@
 -- Laws of a registration and of a read of a job.
-use Rattle.std.specs.Prelude.{◌≡◌, ◌||◌, true, false, if◌then◌else◌, [], Some, None, nat_lt, Result, Ok, Err, Option}
+use Rattle.std.specs.Prelude.{◌≡◌, ◌≢◌, ◌||◌, true, false, if◌then◌else◌, [], Some, None, nat_lt, Result, Ok, Err, Option}
 use Rattle.std.specs.FinMap.{get}
 use Rattle.ns_types.specs.declared.job.Registration.{Registration}
 use Rattle.ns_types.specs.declared.refusal.Refusal.{Refusal}
@@ -9,6 +9,8 @@ use Rattle.ns_types.specs.declared.reply.Content.{Content}
 use Rattle.ns_types.specs.declared.step.AdminCommand.{AdminCommand}
 use Rattle.ns_types.specs.declared.step.AdminCommand.TheVariants as admins
 use Rattle.ns_types.specs.declared.step.AskCommand.TheVariants as asks
+use Rattle.ns_types.specs.declared.reply.Reply.{Reply}
+use Rattle.ns_types.specs.declared.step.Step.{Step}
 use Rattle.ns_types.specs.declared.step.Step.TheVariants as steps
 use Rattle.ns_types.specs.declared.evaluation.Trigger.TheVariants as triggers
 use Rattle.ns_types.specs.Making.{evaluation_of, make_in, with_job}
@@ -21,6 +23,7 @@ use Rattle.ns_types.specs.Rows.{World, State, Tenant, PoolRows, QuotaRows}
 use Rattle.ns_types.specs.Steps.{Answer, Makes, after, greatest, is_over, said}
 use Rattle.ns_steps.specs.Administered.{IsCalm, plain, relimited, relimited_state}
 use Rattle.ns_steps.specs.Early.{IsEarly, IsFresh}
+use Rattle.ns_steps.specs.Served.{IsReading, IsServed, IsToldBy}
 use Rattle.ns_steps.specs.Registered.{IsRegistrable, Refuses, job_of, next_index, next_number, registered_reply, registered_state}
 
 -- the world with the rows of a registration put, before the step settles
@@ -34,9 +37,6 @@ pub record ReleasesNothing (w w' : World) : Type 0 where
 
 abbrev pub RegistrationReleasesNothing : Type 0
 RegistrationReleasesNothing = (ns : Name) (r : Registration) (w : World) (t : Tenant) → get w.tenants ns ≡ Some t → ReleasesNothing w (put_world ns r w t)
-
-abbrev pub ReadChangesNothing : Type 0
-ReadChangesNothing = (s s' : State) (ns : Name) (secret : Option Name) (id : Name) (answer : Answer) → after (steps.Ask ns secret (asks.ReadJob id)) s ≡ said answer s' → s' ≡ s
 
 abbrev pub RegistrationRefused : Type 0
 RegistrationRefused = (s : State) (ns : Name) (secret : Option Name) (r : Registration) (refusal : Refusal)
@@ -63,3 +63,15 @@ abbrev pub QuotaPutIs : Type 0
 QuotaPutIs = (s : State) (secret : Option Name) (name : Name) (quota : Quota) (content : Content) (w : World)
     → may_administer s.acl secret (admins.PutQuota name quota) ≡ true → IsEarly s.world → nat_lt greatest (relimited s.world name quota).release ≡ false
     → put_quota name quota s.world ≡ Done content w → after (steps.Admin secret (admins.PutQuota name quota)) s ≡ said (Ok (record { index = None; content = content })) (relimited_state s name quota)
+
+-- ---- every step that is served
+
+-- its reply says what it should, it is never out of turn, and a read changes nothing
+abbrev pub ServedTells : Type 0
+ServedTells = (step : Step) (s s' : State) (reply : Reply) → IsServed step → after step s ≡ said (Ok reply) s' → IsToldBy step reply.content
+
+abbrev pub ServedDecides : Type 0
+ServedDecides = (step : Step) (s : State) → IsServed step → after step s ≢ None
+
+abbrev pub ReadingRests : Type 0
+ReadingRests = (step : Step) (s s' : State) (answer : Answer) → IsReading step → after step s ≡ said answer s' → s' ≡ s

@@ -3,3 +3,4 @@ pub mod Registered
 pub mod Early
 pub mod Administered
 pub mod Laws
+pub mod Served

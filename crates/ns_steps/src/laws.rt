@@ -1,15 +1,25 @@
 //! Laws of a registration, of a read, and of administrators' steps, each the contract of a function that does nothing.
 
-ghost use Rattle.ns_steps.specs.Laws.{AdministrationMakes, QuotaPutIs, RegistrationReleasesNothing, ReadChangesNothing, RegistrationIs, RegistrationRefused};
+ghost use Rattle.ns_steps.specs.Laws.{AdministrationMakes, QuotaPutIs, ReadingRests, RegistrationIs, RegistrationRefused, RegistrationReleasesNothing, ServedDecides, ServedTells};
 
 /// A registration releases no class of a pool and no quota, and wakes no blocked evaluation.
 pub fn registration_releases_nothing()
     ensures { RegistrationReleasesNothing }
 {}
 
-/// A read of a job leaves the state as it is, whatever it answers.
-pub fn read_changes_nothing()
-    ensures { ReadChangesNothing }
+/// The reply to a step that is served says what it should.
+pub fn served_tells()
+    ensures { ServedTells }
+{}
+
+/// A step that is served is never out of turn.
+pub fn served_decides()
+    ensures { ServedDecides }
+{}
+
+/// A read leaves the state as it is, whatever it answers.
+pub fn reading_rests()
+    ensures { ReadingRests }
 {}
 
 /// A registration that some test refuses is answered with the refusal of the first such test, and changes nothing.

@@ -11,7 +11,7 @@ use Rattle.ns_types.specs.declared.evaluation.Status.TheVariants.{Pending, Block
 use Rattle.ns_types.specs.declared.event.Event.{Event}
 use Rattle.ns_types.specs.declared.job.Job.{Job}
 use Rattle.ns_types.specs.Names.{Name, ByNumber, name_cmp, same_name}
-use Rattle.ns_types.specs.Rows.{is_pending}
+use Rattle.ns_types.specs.Rows.{is_open, is_pending}
 use Rattle.ns_types.specs.Tables.{any_row}
 
 -- the last events, and how many can be added without memory
@@ -58,6 +58,9 @@ has_status status e = same_status status e.1.status
 abbrev pub is_waiting : Name → ℕ × Evaluation → Bool
 is_waiting job e = same_name job e.1.job && is_pending e.1.status
 
+abbrev pub is_unfinished : ℕ × Evaluation → Bool
+is_unfinished e = is_open e.1.status
+
 -- ---- look-ups
 
 abbrev pub numbers_of_job : ByNumber Evaluation → Name → List ℕ
@@ -68,3 +71,6 @@ numbers_of_status evaluations status = map (λ e. e.0) (filter (has_status statu
 
 abbrev pub has_pending : ByNumber Evaluation → Name → Bool
 has_pending evaluations job = any_row (λ n e. is_waiting job (n, e)) evaluations
+
+abbrev pub has_open : ByNumber Evaluation → Bool
+has_open evaluations = any_row (λ _ e. is_open e.status) evaluations

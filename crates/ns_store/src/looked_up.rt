@@ -2,7 +2,7 @@
 ghost use Rattle.std.specs.Prelude.{◌≡◌, IfOk, map};
 ghost use Rattle.std.specs.List.{filter, list_any};
 ghost use Rattle.keyed.specs.Table.{at_slot};
-ghost use Rattle.ns_store.specs.Stored.{is_of, has_status, is_waiting};
+ghost use Rattle.ns_store.specs.Stored.{is_of, has_status, is_unfinished, is_waiting};
 
 use ns_types::evaluation::{Evaluation, Status};
 use ns_types::text::Text;
@@ -25,6 +25,15 @@ fn has_this_status(slot: &Slot, status: Status) -> bool
 {
     match &slot.1 {
         Some(evaluation) => evaluation.status == status,
+        None => false,
+    }
+}
+
+fn is_open(slot: &Slot) -> bool
+    ensures { result ≡ at_slot is_unfinished slot.now }
+{
+    match &slot.1 {
+        Some(evaluation) => matches!(evaluation.status, Status::Pending | Status::Blocked),
         None => false,
     }
 }
@@ -67,4 +76,10 @@ pub(crate) fn any_pending(slots: &[Slot], job: &Text) -> bool
     ensures { result ≡ list_any (at_slot (is_waiting job.now)) slots.now }
 {
     slots.iter().any(|slot| is_pending_of_job(slot, job))
+}
+
+pub(crate) fn any_open(slots: &[Slot]) -> bool
+    ensures { result ≡ list_any (at_slot is_unfinished) slots.now }
+{
+    slots.iter().any(|slot| is_open(slot))
 }

@@ -3,7 +3,7 @@ ghost use Rattle.std.specs.Prelude.{◌≡◌, ◌+◌, ◌^◌, ◌<◌, ◌≤
 ghost use Rattle.std.specs.FinMap as table;
 ghost use Rattle.keyed.specs.Table.{rows, has_slot, without_vacant, KeepsSlots};
 ghost use Rattle.ns_types.specs.Lists.{last};
-ghost use Rattle.ns_store.specs.Stored.{nothing_stored, numbers_of_job, numbers_of_status, has_pending};
+ghost use Rattle.ns_store.specs.Stored.{nothing_stored, numbers_of_job, numbers_of_status, has_open, has_pending};
 
 use crate::events::Events;
 use crate::looked_up;
@@ -107,6 +107,27 @@ impl NamespaceRows {
         ensures { IfOk result (λ numbers. numbers.items ≡ numbers_of_status (rows self.now.evaluations) status) }
     {
         looked_up::numbers_of_status(self.alloc, self.evaluations.as_slice(), status)
+    }
+
+    /// The slots of the jobs by id, rising. A slot has a job, or is vacant.
+    pub fn job_slots(&self) -> &[(Text, Option<Job>)]
+        ensures { result.now ≡ table.entries self.now.jobs }
+    {
+        self.jobs.as_slice()
+    }
+
+    /// The slots of the evaluations by number, rising. A slot has an evaluation, or is vacant.
+    pub fn evaluation_slots(&self) -> &[(u64, Option<Evaluation>)]
+        ensures { result.now ≡ table.entries self.now.evaluations }
+    {
+        self.evaluations.as_slice()
+    }
+
+    /// Whether an evaluation is pending or blocked.
+    pub fn has_open(&self) -> bool
+        ensures { result ≡ has_open (rows self.now.evaluations) }
+    {
+        looked_up::any_open(self.evaluations.as_slice())
     }
 
     /// Whether an evaluation of the job is pending.

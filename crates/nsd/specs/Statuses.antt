@@ -9,5 +9,9 @@ IsEnd status = (status ≡ 0) ⊎ (status ≡ 3) ⊎ (status ≡ 4) ⊎ (status 
 abbrev pub IsTold : ℕ → Type 0
 IsTold status = (status ≡ 0) ⊎ (status ≡ 2) ⊎ (status ≡ 4) ⊎ (status ≡ 5)
 
+-- of a mistake in the words
+abbrev pub IsMistake : ℕ → Type 0
+IsMistake status = (status ≡ 2) ⊎ (status ≡ 5)
+
 abbrev pub IsStatus : ℕ → Type 0
 IsStatus status = IsEnd status ⊎ IsTold status

@@ -1,12 +1,16 @@
 //! The program `nsd`.
 #![tactic(auto)]
 
+mod random;
 mod run;
 #[cfg(test)]
 mod tests;
 mod words;
 
-use crate::run::{run_words, tell_memory, tell_no_words};
+use crate::random::Random;
+use crate::run::{run_words, tell_memory, tell_no_random, tell_no_words};
+use rand::make_rng;
+use rand::rngs::StdRng;
 use std::alloc::{AllocError, Global};
 use std::env;
 use std::process::ExitCode;
@@ -29,9 +33,14 @@ fn main(rt: HostRuntime) -> ExitCode {
     let Ok(texts) = texts(rt.alloc(), words.as_slice()) else {
         return ExitCode::from(tell_memory(&mut errors));
     };
+    let generator: StdRng = match make_rng(&rt) {
+        Ok(generator) => generator,
+        Err(_) => return ExitCode::from(tell_no_random(&mut errors)),
+    };
     let status = run_words(
         rt.alloc(),
         texts.as_slice(),
+        Random::new(generator),
         rt.stdin(),
         rt.stdout(),
         &mut errors,

@@ -1,24 +1,26 @@
 //! A run of the program over any reader and writer.
 
-ghost use Rattle.std.specs.Prelude.{◌≡◌, IfOk};
+ghost use Rattle.std.specs.Prelude.{◌≡◌, ◌≢◌, IfOk};
 ghost use Rattle.ns_http.specs.Conversation.{streams_of, EndsWell, IsReadFault};
 ghost use Rattle.ns_http.specs.Counts.{HasFailed};
 ghost use Rattle.ns_types.specs.Http.{End};
 ghost use Rattle.ns_types.specs.Rows.{State};
 ghost use Rattle.ns_types.specs.Steps.{opening};
 ghost use Rattle.ns_api.specs.Serving.{Served, ServedInPart};
-ghost use Rattle.nsd.specs.Statuses.{IsEnd, IsStatus, IsTold};
+ghost use Rattle.std.specs.IoError.{error_kind};
+ghost use Rattle.clap.specs.Values.{kind_of};
+ghost use Rattle.nsd.specs.Statuses.{IsEnd, IsMistake, IsStatus, IsTold};
 
 use crate::words::{Asked, read};
 use clap::Error;
 use clap::error::ErrorKind;
-use ns_api::{Api, serve};
+use ns_api::{Api, Draws, serve};
 use ns_core::Core;
 use ns_http::{ConnFault, Counted};
 use ns_types::name::Name;
 use ns_types::text::Text;
 use std::alloc::{AllocError, Global};
-use std::io::{self, Read, Write};
+use std::io::{self, ErrorKind as IoErrorKind, Read, Write};
 
 /// Served to the end.
 pub const SERVED: u8 = 0;
@@ -31,12 +33,16 @@ pub const WRITE_FAULT: u8 = 4;
 /// There was no memory to begin with.
 pub const OUT_OF_MEMORY: u8 = 5;
 
-fn opened(alloc: Global, bootstrap: &Name<'_>) -> Result<Api<Core>, AllocError>
+fn opened<D: Draws + Drop>(
+    alloc: Global,
+    bootstrap: &Name<'_>,
+    draws: D,
+) -> Result<Api<Core, D>, AllocError>
     ensures { IfOk result (λ api. api.taker ≡ opening bootstrap.now) }
 {
     let secret = Text::from_str(alloc, bootstrap.as_str())?;
     let core = Core::new(alloc, &secret)?;
-    Api::new(alloc, core)
+    Api::new(alloc, core, draws)
 }
 
 /// Writes a line, if it can be written.
@@ -52,11 +58,20 @@ pub fn tell_memory<E: Write>(errors: &mut E) -> u8
     OUT_OF_MEMORY
 }
 
+/// Tells that the system gave no random bits.
+pub fn tell_no_random<E: Write>(errors: &mut E) -> u8
+    ensures { result ≡ READ_FAULT }
+{
+    say(errors, b"read fault\n");
+    READ_FAULT
+}
+
 /// Tells why the words could not be had.
 pub fn tell_no_words<E: Write>(error: &io::Error, errors: &mut E) -> u8
-    ensures { IsTold result }
+    ensures out_of_memory { error_kind error.now ≡ IoErrorKind.OutOfMemory → result ≡ OUT_OF_MEMORY }
+    ensures bad_words { error_kind error.now ≢ IoErrorKind.OutOfMemory → result ≡ BAD_WORDS }
 {
-    if error.kind() == io::ErrorKind::OutOfMemory {
+    if error.kind() == IoErrorKind::OutOfMemory {
         return tell_memory(errors);
     }
     say(errors, b"error: a word is no text\n");
@@ -64,9 +79,10 @@ pub fn tell_no_words<E: Write>(error: &io::Error, errors: &mut E) -> u8
 }
 
 /// Serves one connection with a new server, and says the exit status.
-pub fn pipe<R: Read, W: Write, E: Write>(
+pub fn pipe<D: Draws + Drop, R: Read, W: Write, E: Write>(
     alloc: Global,
     bootstrap: &Name<'_>,
+    draws: D,
     reader: &mut Counted<R>,
     writer: &mut Counted<W>,
     errors: &mut E,
@@ -86,7 +102,7 @@ pub fn pipe<R: Read, W: Write, E: Write>(
         × HasFailed writer.old.counts writer.new.counts }
     ensures out_of_memory { result ≡ OUT_OF_MEMORY → (reader.new ≡ reader.old) × (writer.new ≡ writer.old) }
 {
-    let Ok(mut api) = opened(alloc, bootstrap) else {
+    let Ok(mut api) = opened(alloc, bootstrap, draws) else {
         return tell_memory(errors);
     };
     match serve(alloc, reader, writer, &mut api) {
@@ -105,7 +121,10 @@ pub fn pipe<R: Read, W: Write, E: Write>(
 
 /// Tells of words that ask for nothing: help on the output, a mistake among the errors. No input is read.
 fn tell<W: Write, E: Write>(alloc: Global, error: &Error, writer: &mut W, errors: &mut E) -> u8
-    ensures { IsTold result }
+    ensures out_of_memory { kind_of error.now ≡ ErrorKind.OutOfMemory → result ≡ OUT_OF_MEMORY }
+    ensures mistake { kind_of error.now ≢ ErrorKind.DisplayHelp → kind_of error.now ≢ ErrorKind.DisplayVersion → IsMistake result × (writer.new ≡ writer.old) }
+    ensures told { IsTold result }
+    ensures help { result ≡ BAD_WORDS → (kind_of error.now ≢ ErrorKind.DisplayHelp) × (kind_of error.now ≢ ErrorKind.DisplayVersion) }
 {
     if error.kind() == ErrorKind::OutOfMemory {
         return tell_memory(errors);
@@ -128,9 +147,10 @@ fn tell<W: Write, E: Write>(alloc: Global, error: &Error, writer: &mut W, errors
 
 /// Runs the program with these words, of which the first is its own name, and says the exit status.
 /// Words that ask for nothing are told before any input is read.
-pub fn run_words<R: Read + Drop, W: Write + Drop, E: Write>(
+pub fn run_words<D: Draws + Drop, R: Read + Drop, W: Write + Drop, E: Write>(
     alloc: Global,
     words: &[&str],
+    draws: D,
     reader: R,
     mut writer: W,
     errors: &mut E,
@@ -141,7 +161,7 @@ pub fn run_words<R: Read + Drop, W: Write + Drop, E: Write>(
         Ok(Asked::Pipe(bootstrap)) => {
             let mut reader = Counted::new(reader);
             let mut writer = Counted::new(writer);
-            pipe(alloc, &bootstrap, &mut reader, &mut writer, errors)
+            pipe(alloc, &bootstrap, draws, &mut reader, &mut writer, errors)
         }
         Err(error) => tell(alloc, &error, &mut writer, errors),
     }

@@ -1,5 +1,10 @@
 // Whole runs of the program over memory. Expected bytes are written from the formats, not from the program.
+mod exchange;
+mod policies;
+mod tenants;
+
 use crate::run::run_words;
+use crate::tests::exchange::SameBytes;
 use std::alloc::{AllocError, Global};
 use std::io::{self, Read};
 use std::rt::HostRuntime;
@@ -48,10 +53,20 @@ struct Ended {
 }
 
 fn run(alloc: Global, words: &[&str], input: &[u8], step: usize) -> Ended {
+    run_drawing(alloc, words, SameBytes::new(1), input, step)
+}
+
+fn run_drawing(
+    alloc: Global,
+    words: &[&str],
+    draws: SameBytes,
+    input: &[u8],
+    step: usize,
+) -> Ended {
     let mut written = Vec::new(alloc);
     let mut errors = Vec::new(alloc);
     let reader = Slow { rest: input, step };
-    let status = run_words(alloc, words, reader, &mut written, &mut errors);
+    let status = run_words(alloc, words, draws, reader, &mut written, &mut errors);
     Ended {
         status,
         written,

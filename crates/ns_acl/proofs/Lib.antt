@@ -1,0 +1,5 @@
+pub mod Answering
+pub mod Counting
+pub mod Slotted
+pub mod Standing
+pub mod Texts

@@ -1,0 +1,26 @@
+use Rattle.std.proofs.Common.{refl, sym, ap, ◌∙◌}
+use Rattle.std.specs.FinMap.{insert, len}
+use Rattle.std.specs.Prelude.{nat_le}
+use Rattle.ns_types.specs.Admins.{most_rows}
+use Rattle.keyed.specs.Table.{rows}
+use Rattle.ns_acl.proofs.Answering.{token_created, token_full, token_taken}
+use Rattle.ns_acl.proofs.acl.Acl.create_token.Goals as goal
+
+pub returns-then-is_taken : goal.returns-then-is_taken
+returns-then-is_taken c = (token_taken c.args.self.now c.args.new.now (sym c.is_taken.ensures ∙ c.if-is_taken.true), refl)
+
+pub returns-then-has_no_room : goal.returns-then-has_no_room
+returns-then-has_no_room c = (
+  token_full c.args.self.now c.args.new.now (sym c.is_taken.ensures ∙ c.if-is_taken.false)
+      (ap (λ acl. nat_le most_rows (len acl.tokens)) (sym c.self.view_is) ∙ sym c.has_no_room.ensures ∙ c.if-has_no_room.true),
+  refl,
+)
+
+pub returns : goal.returns
+returns c = token_created c.args.self.now c.args.new.now c.in_ok-content.content c.in_ok-token.token (record { policies = rows c.self.inside.policies; tokens = rows c.put.new.table })
+    (sym c.is_taken.ensures ∙ c.if-is_taken.false)
+    (ap (λ acl. nat_le most_rows (len acl.tokens)) (sym c.self.view_is) ∙ sym c.has_no_room.ensures ∙ c.if-has_no_room.false)
+    c.in_ok-content.ensures
+    c.in_ok-token.ensures
+    (ap (λ acl. acl.policies) c.self.view_is)
+    (c.in_ok-put.ensures.ok ∙ ap (λ acl. insert acl.tokens c.args.new.now.secret c.in_ok-token.token) c.self.view_is)

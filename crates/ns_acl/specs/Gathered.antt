@@ -1,0 +1,23 @@
+-- What rules of one kind give for a name, before it is known which of them count.
+use Rattle.std.specs.Prelude.{◌≡◌, if◌then◌else◌, List, ◌++◌, Option, Some, None, filter}
+use Rattle.ns_types.specs.declared.acl.Grants.{Grants}
+use Rattle.ns_types.specs.declared.acl.Rule.{Rule}
+use Rattle.ns_types.specs.Lists.{is_empty}
+use Rattle.ns_types.specs.Names.{Name}
+use Rattle.ns_types.specs.Rights.{is_exact, is_match, longest, longest_match, merged}
+use Rattle.ns_acl.specs.declared.gathering.Gathered.{Gathered}
+
+abbrev pub merged_if_any : List Rule → Option Grants
+merged_if_any rules = if is_empty rules then None else Some (merged rules)
+
+-- of the exact name, and of the longest match
+abbrev pub gathered : Name → List Rule → Gathered
+gathered target rules = record {
+  exact = merged_if_any (filter (is_exact target) rules);
+  longest = longest (filter (is_match target) rules);
+  matching = merged (longest_match target rules);
+}
+
+-- what was of some rules is then of these too
+abbrev pub Adds : Name → List Rule → Gathered → Gathered → Type 0
+Adds target rules old new = (before : List Rule) → old ≡ gathered target before → new ≡ gathered target (before ++ rules)

@@ -1,0 +1,2 @@
+pub mod Bearers
+pub mod Gathered

@@ -1,0 +1,261 @@
+//! Policies by name and tokens by secret.
+
+ghost use Rattle.std.specs.Prelude.{◌≡◌, ◌||◌, IfOk, option_copied};
+ghost use Rattle.std.specs.FinMap.{contains_key};
+ghost use Rattle.ns_types.specs.Access.{create_token, delete_policy, delete_token, has_accessor, put_policy, read_policy, secret_of};
+ghost use Rattle.ns_types.specs.Outcome.{Changes};
+ghost use Rattle.ns_types.specs.Rights.{bearer, granted, is_known, is_manager, pool_rights_of, rights_in as rights_given, rights_of};
+ghost use Rattle.ns_types.specs.Steps.{opening_acl};
+ghost use Rattle.ns_acl.specs.Bearers.{bearer_of};
+
+use crate::bearer::{Bearer, of_token};
+use crate::gathering::Gathered;
+use crate::shown::{new_row, policy_content, token_content};
+use crate::tables::{has_no_room, has_row, is_full, put};
+use crate::tokens;
+use keyed::NameTable;
+use ns_types::acl::{Grants, Policy, PoolRights, Rights, RuleKind, Token};
+use ns_types::refusal::Refusal;
+use ns_types::reply::Content;
+use ns_types::rows::Rows;
+use ns_types::step::NewToken;
+use ns_types::text::Text;
+use std::alloc::{AllocError, Global};
+use std::marker::Model;
+
+/// The policy that counts where there is no secret.
+const ANONYMOUS: &str = "anonymous";
+
+const NO_RIGHTS: Rights = Rights {
+    list_jobs: false,
+    read_job: false,
+    submit_job: false,
+    alloc_lifecycle: false,
+};
+
+const ALL_RIGHTS: Rights = Rights {
+    list_jobs: true,
+    read_job: true,
+    submit_job: true,
+    alloc_lifecycle: true,
+};
+
+/// Policies by name and tokens by secret.
+#[derive(Drop)]
+pub struct Acl {
+    policies: NameTable<Policy>,
+    /// By secret.
+    tokens: NameTable<Token>,
+    /// The names of the policies that count where there is no secret.
+    anonymous: Rows<Text>,
+}
+
+impl Model for Acl {
+    ghost use Rattle.std.specs.Prelude.{◌≡◌, ◌∷◌, [], codes};
+    ghost use Rattle.std.specs.Coded as coding;
+    ghost use Rattle.std.specs.FinMap as table;
+    ghost use Rattle.keyed.specs.Table.{rows};
+    ghost use Rattle.ns_types.specs.Rows as model;
+
+    ghost Value = { model.Acl };
+
+    ghost coded = { Prim.hlevel (coding.codes, table.code) };
+
+    ghost view = { λ a. record { policies = rows a.policies; tokens = rows a.tokens } };
+
+    ghost invariant = { λ a. a.anonymous ≡ codes "anonymous" ∷ [] };
+}
+
+fn rights_in(grants: Grants) -> Rights
+    ensures { result ≡ rights_given grants }
+{
+    Rights {
+        list_jobs: grants.list_jobs,
+        read_job: grants.read_job,
+        submit_job: grants.submit_job,
+        alloc_lifecycle: grants.alloc_lifecycle,
+    }
+}
+
+impl Acl {
+    /// No policies, and one token, a manager's, with that secret.
+    pub fn new(alloc: Global, bootstrap: &Text) -> Result<Acl, AllocError>
+        ensures { IfOk result (λ acl. acl ≡ opening_acl bootstrap.now) }
+    {
+        let mut tokens = NameTable::new(alloc);
+        put(&mut tokens, bootstrap, tokens::bootstrap_token(alloc)?)?;
+        let mut anonymous = Rows::new(alloc);
+        anonymous.push(Text::from_str(alloc, ANONYMOUS)?)?;
+        Ok(Acl {
+            policies: NameTable::new(alloc),
+            tokens,
+            anonymous,
+        })
+    }
+
+    /// Whom the secret stands for. Without one it is the policy `anonymous`.
+    fn bearer<'a>(&'a self, secret: Option<&Text>) -> Bearer<'a>
+        ensures { bearer_of result ≡ bearer self.now (option_copied secret.entry) }
+    {
+        let Some(secret) = secret else {
+            return Bearer::Holder(self.anonymous.as_slice());
+        };
+        match self.tokens.get(secret) {
+            None => Bearer::Unknown,
+            Some(token) => of_token(token),
+        }
+    }
+
+    /// What the policies with these names give for a name, of those that exist.
+    fn granted(&self, kind: RuleKind, policies: &[Text], target: &Text) -> Grants
+        ensures { result ≡ granted self.now kind policies.now target.now }
+    {
+        let mut gathered = Gathered::new();
+        for name in policies {
+            if let Some(policy) = self.policies.get(name) {
+                gathered = gathered.with_rules(kind, target, policy.rules.as_slice());
+            }
+        }
+        gathered.grants()
+    }
+
+    /// What the secret may do in the namespace, which need not exist. It takes no memory.
+    pub fn rights(&self, secret: Option<&Text>, namespace: &Text) -> Rights
+        ensures { result ≡ rights_of self.now (option_copied secret.entry) namespace.now }
+    {
+        match self.bearer(secret) {
+            Bearer::Unknown => NO_RIGHTS,
+            Bearer::Manager => ALL_RIGHTS,
+            Bearer::Holder(policies) => {
+                rights_in(self.granted(RuleKind::Namespace, policies, namespace))
+            }
+        }
+    }
+
+    /// What the secret may do in the pool, which need not exist. It takes no memory.
+    pub fn pool_rights(&self, secret: Option<&Text>, pool: &Text) -> PoolRights
+        ensures { result ≡ pool_rights_of self.now (option_copied secret.entry) pool.now }
+    {
+        match self.bearer(secret) {
+            Bearer::Unknown => PoolRights {
+                read: false,
+                write: false,
+            },
+            Bearer::Manager => PoolRights {
+                read: true,
+                write: true,
+            },
+            Bearer::Holder(policies) => {
+                let grants = self.granted(RuleKind::Pool, policies, pool);
+                PoolRights {
+                    read: grants.read_pool,
+                    write: grants.write_pool,
+                }
+            }
+        }
+    }
+
+    /// Whether the secret is a token's, or absent.
+    pub fn is_known(&self, secret: Option<&Text>) -> bool
+        ensures { result ≡ is_known self.now (option_copied secret.entry) }
+    {
+        match self.bearer(secret) {
+            Bearer::Unknown => false,
+            Bearer::Manager | Bearer::Holder(_) => true,
+        }
+    }
+
+    /// Whether the secret is a management token's.
+    pub fn is_manager(&self, secret: Option<&Text>) -> bool
+        ensures { result ≡ is_manager self.now (option_copied secret.entry) }
+    {
+        match self.bearer(secret) {
+            Bearer::Manager => true,
+            Bearer::Unknown | Bearer::Holder(_) => false,
+        }
+    }
+
+    /// The policy, with its name. `NotFound` where there is none.
+    pub fn read_policy(&self, name: &Text) -> Result<Content, Refusal>
+        ensures { Changes (read_policy name.now self.now) self.now result self.now }
+    {
+        let Some(policy) = self.policies.get(name) else {
+            return Err(Refusal::NotFound);
+        };
+        let content = policy_content(name, policy)?;
+        Ok(content)
+    }
+
+    /// Writes the policy, over the one that is there. `Full` where it is new and has no room.
+    pub fn put_policy(&mut self, name: &Text, policy: Policy) -> Result<Content, Refusal>
+        ensures { Changes (put_policy name.now policy self.old) self.old result self.new }
+    {
+        if is_full(&self.policies, name) {
+            return Err(Refusal::Full);
+        }
+        put(&mut self.policies, name, policy)?;
+        Ok(Content::Written)
+    }
+
+    /// Takes the policy out. `NotFound` where there is none.
+    pub fn delete_policy(&mut self, name: &Text) -> Result<Content, Refusal>
+        ensures { Changes (delete_policy name.now self.old) self.old result self.new }
+    {
+        if !has_row(&self.policies, name) {
+            return Err(Refusal::NotFound);
+        }
+        self.policies.remove(name);
+        Ok(Content::Written)
+    }
+
+    /// Whether a token has that accessor.
+    fn has_accessor(&self, accessor: &Text) -> bool
+        ensures { result ≡ has_accessor self.now accessor.now }
+    {
+        tokens::has_accessor(self.tokens.as_slice(), accessor)
+    }
+
+    /// The secret of the token with that accessor.
+    fn secret_of(&self, accessor: &Text) -> Option<&Text>
+        ensures { option_copied result ≡ secret_of self.now accessor.now }
+    {
+        tokens::secret_of(self.tokens.as_slice(), accessor)
+    }
+
+    fn is_taken(&self, new: &NewToken) -> bool
+        ensures { result ≡ (contains_key self.now.tokens new.now.secret || has_accessor self.now new.now.accessor) }
+    {
+        has_row(&self.tokens, &new.secret) || self.has_accessor(&new.accessor)
+    }
+
+    /// Makes the token. `Conflict` where its secret or its accessor is taken, and `Full` where it has no room.
+    pub fn create_token(&mut self, new: &NewToken) -> Result<Content, Refusal>
+        ensures { Changes (create_token new.now self.old) self.old result self.new }
+    {
+        if self.is_taken(new) {
+            return Err(Refusal::Conflict);
+        }
+        if has_no_room(&self.tokens) {
+            return Err(Refusal::Full);
+        }
+        let content = token_content(new)?;
+        let token = new_row(new)?;
+        put(&mut self.tokens, &new.secret, token)?;
+        Ok(content)
+    }
+
+    /// Takes the token out. `NotFound` where no token has that accessor, and `InUse` for the bootstrap token.
+    pub fn delete_token(&mut self, accessor: &Text) -> Result<Content, Refusal>
+        ensures { Changes (delete_token accessor.now self.old) self.old result self.new }
+    {
+        let Some(secret) = self.secret_of(accessor) else {
+            return Err(Refusal::NotFound);
+        };
+        if tokens::is_bootstrap(accessor) {
+            return Err(Refusal::InUse);
+        }
+        let secret = secret.clone()?;
+        self.tokens.remove(&secret);
+        Ok(Content::Written)
+    }
+}

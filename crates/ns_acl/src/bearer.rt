@@ -1,0 +1,27 @@
+//! Whom a secret stands for.
+
+ghost use Rattle.std.specs.Prelude.{◌≡◌};
+ghost use Rattle.ns_types.specs.Rights.{bearer_with};
+ghost use Rattle.ns_acl.specs.Bearers.{bearer_of};
+
+use ns_types::acl::{Token, TokenKind};
+use ns_types::text::Text;
+
+/// Whom a secret stands for.
+#[derive(Clone, Copy)]
+pub(crate) enum Bearer<'a> {
+    Unknown,
+    Manager,
+    /// Of the policies with these names.
+    Holder(&'a [Text]),
+}
+
+/// Whom a token's secret stands for.
+pub(crate) fn of_token(token: &Token) -> Bearer<'_>
+    ensures { bearer_of result ≡ bearer_with token.now.kind token.now.policies }
+{
+    match token.kind {
+        TokenKind::Management => Bearer::Manager,
+        TokenKind::Client => Bearer::Holder(token.policies.as_slice()),
+    }
+}

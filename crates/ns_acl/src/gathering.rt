@@ -1,0 +1,138 @@
+//! What the rules of policies give for one name.
+
+ghost use Rattle.std.specs.Prelude.{◌≡◌, ◌∷◌, [], List, filter};
+ghost use Rattle.ns_types.specs.Names.{Name};
+ghost use Rattle.ns_types.specs.declared.acl.Rule.{Rule as RuleValue};
+ghost use Rattle.ns_types.specs.Rights.{both as both_of, counting, is_exact as has_exact_name, is_match as has_matching_star, is_of_kind as has_kind, merged, unless_denied as grants_unless_denied};
+ghost use Rattle.ns_acl.specs.Gathered.{Adds, gathered};
+
+use ns_types::acl::{Grants, Rule, RuleKind};
+use ns_types::text::Text;
+
+const NO_GRANTS: Grants = Grants {
+    list_jobs: false,
+    read_job: false,
+    submit_job: false,
+    alloc_lifecycle: false,
+    read_pool: false,
+    write_pool: false,
+    deny: false,
+};
+
+/// What the rules that were seen give for a name.
+#[derive(Clone, Copy)]
+pub(crate) struct Gathered {
+    /// Of the rules of the exact name, once there is one.
+    exact: Option<Grants>,
+    /// The length of the longest pattern with a star that matches, in bytes.
+    longest: usize,
+    /// Of the rules whose pattern matches and is that long.
+    matching: Grants,
+}
+
+fn both(a: Grants, b: Grants) -> Grants
+    ensures { result ≡ both_of a b }
+{
+    Grants {
+        list_jobs: a.list_jobs || b.list_jobs,
+        read_job: a.read_job || b.read_job,
+        submit_job: a.submit_job || b.submit_job,
+        alloc_lifecycle: a.alloc_lifecycle || b.alloc_lifecycle,
+        read_pool: a.read_pool || b.read_pool,
+        write_pool: a.write_pool || b.write_pool,
+        deny: a.deny || b.deny,
+    }
+}
+
+fn unless_denied(grants: Grants) -> Grants
+    ensures { result ≡ grants_unless_denied grants }
+{
+    if grants.deny { NO_GRANTS } else { grants }
+}
+
+fn is_of_kind(kind: RuleKind, rule: &Rule) -> bool
+    ensures { result ≡ has_kind kind rule.now }
+{
+    match kind {
+        RuleKind::Namespace => matches!(rule.kind, RuleKind::Namespace),
+        RuleKind::Pool => matches!(rule.kind, RuleKind::Pool),
+    }
+}
+
+#[tactic(auto, using(crate::proofs::Texts::text_ties))]
+fn is_exact(target: &Text, rule: &Rule) -> bool
+    ensures { result ≡ has_exact_name target.now rule.now }
+{
+    !rule.pattern.is_prefix && rule.pattern.text == *target
+}
+
+fn is_match(target: &Text, rule: &Rule) -> bool
+    ensures { result ≡ has_matching_star target.now rule.now }
+{
+    let prefix = rule.pattern.text.as_str().as_bytes();
+    rule.pattern.is_prefix && target.as_str().as_bytes().starts_with(prefix)
+}
+
+impl Gathered {
+    /// Of no rules.
+    pub(crate) fn new() -> Gathered
+        ensures { (target : Name) → result ≡ gathered target [] }
+    {
+        Gathered {
+            exact: None,
+            longest: 0,
+            matching: NO_GRANTS,
+        }
+    }
+
+    fn with_rule(self, target: &Text, rule: &Rule) -> Gathered
+        ensures { Adds target.now (rule.now ∷ []) self result }
+    {
+        if is_exact(target, rule) {
+            let earlier = self.exact.unwrap_or(NO_GRANTS);
+            return Gathered {
+                exact: Some(both(earlier, rule.grants)),
+                ..self
+            };
+        }
+        if !is_match(target, rule) {
+            return self;
+        }
+        let length = rule.pattern.text.as_str().len();
+        if length < self.longest {
+            return self;
+        }
+        if length > self.longest {
+            return Gathered {
+                longest: length,
+                matching: rule.grants,
+                ..self
+            };
+        }
+        Gathered {
+            matching: both(self.matching, rule.grants),
+            ..self
+        }
+    }
+
+    /// With the rules of that kind.
+    pub(crate) fn with_rules(self, kind: RuleKind, target: &Text, rules: &[Rule]) -> Gathered
+        ensures { Adds target.now (filter (has_kind kind) rules.now) self result }
+    {
+        let mut all = self;
+        for rule in rules {
+            if is_of_kind(kind, rule) {
+                all = all.with_rule(target, rule);
+            }
+        }
+        all
+    }
+
+    /// What counts of it.
+    pub(crate) fn grants(self) -> Grants
+        ensures { (target : Name) (rules : List RuleValue) → self ≡ gathered target rules
+            → result ≡ grants_unless_denied (merged (counting target rules)) }
+    {
+        unless_denied(self.exact.unwrap_or(self.matching))
+    }
+}

@@ -1,0 +1,14 @@
+//! Policies, tokens and rights: whom a secret stands for, and what it may do.
+#![tactic(auto)]
+
+mod acl;
+mod bearer;
+mod gathering;
+mod shown;
+mod tables;
+mod tokens;
+
+pub use acl::Acl;
+
+#[cfg(test)]
+mod tests;

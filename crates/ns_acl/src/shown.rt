@@ -1,0 +1,45 @@
+//! What is answered of policies and tokens, and the token that is stored.
+
+ghost use Rattle.std.specs.Prelude.{◌≡◌, IfOk};
+ghost use Rattle.ns_types.specs.declared.reply.Content.TheVariants as contents;
+ghost use Rattle.ns_types.specs.Access.{token_of};
+
+use ns_types::acl::{Policy, Token};
+use ns_types::reply::{Content, PolicyShown, TokenShown};
+use ns_types::step::NewToken;
+use ns_types::text::Text;
+use std::alloc::AllocError;
+
+pub(crate) fn policy_content(name: &Text, policy: &Policy) -> Result<Content, AllocError>
+    ensures { IfOk result (λ content. content ≡ contents.Policy (record { name = name.now; row = policy.now })) }
+{
+    Ok(Content::Policy(PolicyShown {
+        name: name.clone()?,
+        row: policy.clone()?,
+    }))
+}
+
+/// The answer to a new token: all of it, with its secret.
+pub(crate) fn token_content(new: &NewToken) -> Result<Content, AllocError>
+    ensures { IfOk result (λ content. content ≡ contents.Token (record { accessor = new.now.accessor; secret = new.now.secret; name = new.now.name; kind = new.now.kind; policies = new.now.policies })) }
+{
+    Ok(Content::Token(TokenShown {
+        accessor: new.accessor.clone()?,
+        secret: new.secret.clone()?,
+        name: new.name.clone()?,
+        kind: new.kind,
+        policies: new.policies.clone()?,
+    }))
+}
+
+/// The row of a new token.
+pub(crate) fn new_row(new: &NewToken) -> Result<Token, AllocError>
+    ensures { IfOk result (λ token. token ≡ token_of new.now) }
+{
+    Ok(Token {
+        accessor: new.accessor.clone()?,
+        name: new.name.clone()?,
+        kind: new.kind,
+        policies: new.policies.clone()?,
+    })
+}

@@ -1,0 +1,43 @@
+//! Rows of tables that hold ten thousand at most.
+
+ghost use Rattle.std.specs.Prelude.{◌≡◌, OnOk, OnErr, nat_le};
+ghost use Rattle.std.specs.FinMap.{contains_key, insert, len};
+ghost use Rattle.keyed.specs.Table.{rows};
+ghost use Rattle.ns_types.specs.Admins.{is_full as is_full_for, most_rows};
+
+use keyed::NameTable;
+use ns_types::text::Text;
+use std::alloc::AllocError;
+
+/// How many rows a table has at most.
+const MOST_ROWS: usize = 10_000;
+
+pub(crate) fn has_row<V: Drop>(table: &NameTable<V>, key: &Text) -> bool
+    ensures { result ≡ contains_key (rows table.now) key.now }
+{
+    table.get(key).is_some()
+}
+
+/// Whether there is no room for a new row.
+pub(crate) fn has_no_room<V: Drop>(table: &NameTable<V>) -> bool
+    ensures { result ≡ nat_le most_rows (len (rows table.now)) }
+{
+    table.len() >= MOST_ROWS
+}
+
+/// Whether there is no room for a row at `key`.
+pub(crate) fn is_full<V: Drop>(table: &NameTable<V>, key: &Text) -> bool
+    ensures { result ≡ is_full_for (rows table.now) key.now }
+{
+    !has_row(table, key) && has_no_room(table)
+}
+
+/// Writes the row at `key`, or leaves the rows as they are.
+pub(crate) fn put<V: Drop>(table: &mut NameTable<V>, key: &Text, row: V) -> Result<(), AllocError>
+    ensures ok { OnOk result (rows table.new ≡ insert (rows table.old) key.now row) }
+    ensures err { OnErr result (rows table.new ≡ rows table.old) }
+{
+    table.reserve(key)?;
+    table.set(key, row);
+    Ok(())
+}

@@ -1,0 +1,92 @@
+-- What the parts' tables change, as changes of the state.
+use Rattle.std.specs.Prelude.{◌≡◌, ℕ, ◌+◌, ◌-◌, ◌<◌, ◌≤◌, ◌^◌, nat_le, not, Bool, true, false, cond, ◌&&◌, Option, Some, None, Result, Ok, Err, is_some, nat_lt}
+use Rattle.std.proofs.lemmas.Bool.Decides.{leb_tells}
+use Rattle.std.proofs.Common.{arith, inl, inr, refl, sym, ap, subst, ◌∙◌}
+use Rattle.std.specs.Option.{option_map_or}
+use Rattle.std.specs.Ordering.{eq_by_cmp}
+use Rattle.std.specs.FinMap.{get, get-empty, get-insert, insert, same_map}
+use Rattle.ns_types.specs.declared.job.Job.{Job}
+use Rattle.ns_types.specs.declared.records.Quota.{Quota}
+use Rattle.ns_types.specs.declared.refusal.Refusal.{Refusal}
+use Rattle.ns_types.specs.declared.refusal.Refusal.TheVariants as refusals
+use Rattle.ns_types.specs.declared.reply.Content.{Content}
+use Rattle.ns_types.specs.declared.step.AdminCommand.{AdminCommand}
+use Rattle.ns_types.specs.declared.step.AdminCommand.TheVariants as admins
+use Rattle.ns_types.specs.Access.{administer}
+use Rattle.ns_types.specs.Admins.{with_quota}
+use Rattle.ns_types.specs.Names.{Name, ByName, name_cmp}
+use Rattle.ns_types.specs.Outcome.{Changes, Outcome, lift}
+use Rattle.ns_types.specs.Rows.{State, World, Tenant, QuotaRows}
+use Rattle.ns_types.specs.Settle.{after_quota_release}
+use Rattle.ns_types.specs.Steps.{greatest, is_over}
+use Rattle.ns_types.proofs.Lists.{not_both}
+use Rattle.ns_types.proofs.Named.{names, one_name}
+use Rattle.ns_types.proofs.Tables.{none_of_any, tied}
+use Rattle.ns_steps.specs.Administered.{IsCalm, IsTenantOf, is_relimited, relimited}
+use Rattle.ns_steps.specs.Early.{IsEarly}
+use Rattle.ns_steps.proofs.Registering.{all_within}
+use Rattle.ns_steps.proofs.Resting.{Rests}
+use Rattle.ns_core.specs.Held.{HasFewVersions, IsHeld}
+use Rattle.ns_core.specs.Viewed.{is_exhausted}
+
+-- ---- a change of a part is one of the whole
+
+module _ {A B : Type 0} (whole : A → B) where
+  pub changes_lift : (o : Outcome A) (a a' : A) (result : Result Content Refusal) → Changes o a result a' → Changes (lift whole o) (whole a) result (whole a')
+  changes_lift o a a' (Ok content) h = ap (lift whole) h
+  changes_lift o a a' (Err refusal) h = by refusal h
+    where
+      by : (r : Refusal) → Changes o a (Err r) a' → Changes (lift whole o) (whole a) (Err r) (whole a')
+      by refusals.Memory h = ap whole h
+      by r h = (ap (lift whole) h.0, ap whole h.1)
+
+-- ---- a quota's release number
+
+module _ (w : World) (name : Name) (quota : Quota) (early : IsEarly w) where
+  -- it passes its bound exactly where the limits change and it is the last
+  pub release_passes : nat_lt greatest (relimited w name quota).release ≡ (is_relimited w name quota && is_exhausted w name)
+  release_passes = by (get w.quotas name) refl (is_relimited w name quota)
+    where
+      fits : (old : QuotaRows) → get w.quotas name ≡ Some old → nat_lt greatest old.release ≡ false
+      fits old is = none_of_any one_name (λ _ q. nat_lt greatest q.release) w.quotas name old (all_within w early.within).2 is
+
+      by : (o : Option QuotaRows) → get w.quotas name ≡ o → (b : Bool)
+          → nat_lt greatest (after_quota_release b (with_quota quota (get w.quotas name))).release ≡ (b && is_exhausted w name)
+      by None is true = ap (λ o. nat_lt greatest (option_map_or (λ q. q.release) o 0 + 1)) is ∙ sym (ap (λ o. option_map_or (λ q. nat_lt greatest (q.release + 1)) o false) is)
+      by None is false = ap (λ o. nat_lt greatest (option_map_or (λ q. q.release) o 0)) is
+      by (Some old) is true = ap (λ o. nat_lt greatest (option_map_or (λ q. q.release) o 0 + 1)) is ∙ sym (ap (λ o. option_map_or (λ q. nat_lt greatest (q.release + 1)) o false) is)
+      by (Some old) is false = ap (λ o. nat_lt greatest (option_map_or (λ q. q.release) o 0)) is ∙ fits old is
+
+-- the last number is the greatest
+pub last_release : (n : ℕ) → nat_le (2 ^ 64 - 1) n ≡ nat_lt greatest (n + 1)
+last_release n = elim (leb_tells greatest n) [
+  | inl is ↦ elim (leb_tells (2 ^ 64) (n + 1)) [ inl more ↦ is.0 ∙ sym more.0 | inr less ↦ let a : greatest ≤ n = is.1 in let b : n + 1 < 2 ^ 64 = less.1 in absurd (omega arith) ]
+  | inr not ↦ elim (leb_tells (2 ^ 64) (n + 1)) [ inl more ↦ let a : n < greatest = not.1 in let b : 2 ^ 64 ≤ n + 1 = more.1 in absurd (omega arith) | inr less ↦ not.0 ∙ sym less.0 ]
+]
+
+pub not-not : (b : Bool) → not (not b) ≡ b
+not-not true = refl
+not-not false = refl
+
+-- a row put twice is put once
+pub put_twice : {X : Type 0} (m : ByName X) (k : Name) (u v : X) → insert (insert m k u) k v ≡ insert m k v
+put_twice m k u v = same_map names one_name _ _ (λ q. get-insert names (insert m k u) k v q ∙ by q (eq_by_cmp name_cmp q k) refl ∙ sym (get-insert names m k v q))
+  where
+    by : (q : Name) (b : Bool) → eq_by_cmp name_cmp q k ≡ b → cond b (Some v) (get (insert m k u) q) ≡ cond b (Some v) (get m q)
+    by q true e = refl
+    by q false e = get-insert names m k u q ∙ ap (λ b. cond b (Some u) (get m q)) e
+
+-- ---- what stays true
+
+-- where records alone change, jobs have as few versions as before
+pub rests_held : (w w' : World) → Rests w w' → IsEarly w' → IsHeld w → IsHeld w'
+rests_held w w' rests early held = record { early = early; versions = λ ns t' is. by ns t' (get w.tenants ns) refl (rests.tenant ns t' is) }
+  where
+    by : (ns : Name) (t' : Tenant) (o : Option Tenant) → get w.tenants ns ≡ o → IsTenantOf o t' → HasFewVersions t'
+    by ns t' None none new = λ id job at. not_both refl (ap is_some (sym at ∙ ap (λ t. get t.jobs id) new ∙ get-empty name_cmp id))
+    by ns t' (Some t) there same = subst HasFewVersions (sym same) (λ id job at. held.versions ns t there id job at)
+
+-- any other command releases nothing
+pub calm_of : (command : AdminCommand) → ((name : Name) (quota : Quota) → command ≡ admins.PutQuota name quota → ⊥) → IsCalm command
+calm_of (admins.PutQuota name quota) other = other name quota refl
+calm_of _ other = tt

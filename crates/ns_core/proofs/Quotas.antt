@@ -1,0 +1,96 @@
+-- A put of a quota, and the release after it.
+use Rattle.std.specs.Prelude.{◌≡◌, ℕ, ◌+◌, ◌-◌, ◌<◌, ◌≤◌, ◌^◌, Bool, true, false, cond, if◌then◌else◌, Option, Some, None, Result, Ok, Err, nat_lt}
+use Rattle.std.proofs.Common.{arith, inl, inr, refl, sym, ap, subst, ◌∙◌}
+use Rattle.std.proofs.lemmas.Bool.Decides.{leb_tells}
+use Rattle.std.specs.Option.{option_map_or}
+use Rattle.std.specs.FinMap.{get, insert}
+use Rattle.ns_types.specs.declared.records.Quota.{Quota}
+use Rattle.ns_types.specs.declared.refusal.Refusal.{Refusal}
+use Rattle.ns_types.specs.declared.refusal.Refusal.TheVariants as refusals
+use Rattle.ns_types.specs.declared.reply.Content.{Content}
+use Rattle.ns_types.specs.declared.reply.Content.TheVariants as contents
+use Rattle.ns_types.specs.declared.step.AdminCommand.TheVariants as admins
+use Rattle.ns_types.specs.declared.step.Step.TheVariants as steps
+use Rattle.ns_types.specs.Access.{may_administer}
+use Rattle.ns_types.specs.Admins.{is_full, put_quota, with_quota}
+use Rattle.ns_types.specs.Names.{Name}
+use Rattle.ns_types.specs.Outcome.{Changes, Outcome, NotEnabled, Refused, Done, unless}
+use Rattle.ns_types.specs.Rows.{State, World, QuotaRows}
+use Rattle.ns_types.specs.Releases.{changes_limits}
+use Rattle.ns_types.specs.Settle.{after_quota_release}
+use Rattle.ns_types.specs.Steps.{Makes, greatest}
+use Rattle.ns_types.proofs.Lists.{not_both}
+use Rattle.ns_types.proofs.Named.{names, one_name}
+use Rattle.ns_steps.specs.Administered.{is_relimited, relimited, relimited_state}
+use Rattle.ns_steps.specs.Early.{IsEarly}
+use Rattle.ns_steps.proofs.Concluding.{quota_refused}
+use Rattle.ns_steps.proofs.Rows.{get_put, same_Some}
+use Rattle.ns_tables.specs.Viewed.{with_release}
+use Rattle.ns_core.specs.Viewed.{is_exhausted}
+use Rattle.ns_core.proofs.Changing.{put_twice}
+
+-- ---- what a put that is done leaves
+
+module _ (w w' : World) (name : Name) (quota : Quota) (content : Content) (done : put_quota name quota w ≡ Done content w') where
+  abbrev put : World
+  put = record w { quotas = insert w.quotas name (with_quota quota (get w.quotas name)) }
+
+  pub world_left : w' ≡ put
+  unfolding put_quota unless
+  world_left = by (is_full w.quotas name) (sym (cases (is_full w.quotas name) refl) ∙ done)
+    where
+      is_refused : Outcome World → Bool
+      is_refused (Refused refusal) = true
+      is_refused _ = false
+
+      world_in : Outcome World → World
+      world_in (Done content x) = x
+      world_in _ = w
+
+      cases : (b : Bool) → is_full w.quotas name ≡ b → put_quota name quota w ≡ cond b (Refused refusals.Full) (Done contents.Written put)
+      cases b is = ap (λ b. cond b (Refused refusals.Full) (Done contents.Written put)) is
+
+      by : (b : Bool) → cond b (Refused refusals.Full) (Done contents.Written put) ≡ Done content w' → w' ≡ put
+      by true e = not_both refl (ap is_refused e)
+      by false e = sym (ap world_in e)
+
+  found : get w'.quotas name ≡ Some (with_quota quota (get w.quotas name))
+  found = ap (λ x. get x.quotas name) world_left ∙ get_put names one_name w.quotas name (with_quota quota (get w.quotas name))
+
+  -- a release number that is not the last may rise
+  pub may_release : is_relimited w name quota ≡ true → is_exhausted w name ≡ false → (q : QuotaRows) → get w'.quotas name ≡ Some q → q.release < 2 ^ 64 - 1
+  may_release other room q is = by (get w.quotas name) refl
+    where
+      same : q ≡ with_quota quota (get w.quotas name)
+      same = same_Some q _ (sym is ∙ found)
+
+      by : (o : Option QuotaRows) → get w.quotas name ≡ o → q.release < 2 ^ 64 - 1
+      by None none = not_both other (ap (λ o. option_map_or (λ old. changes_limits old (with_quota quota (Some old))) o false) none)
+      by (Some old) there =
+          let number : q.release ≡ old.release = ap (λ x. x.release) same ∙ ap (λ o. option_map_or (λ x. x.release) o 0) there in
+          let fits : nat_lt greatest (old.release + 1) ≡ false = sym (ap (λ o. option_map_or (λ x. nat_lt greatest (x.release + 1)) o false) there) ∙ room in
+          elim (leb_tells (2 ^ 64) (old.release + 1)) [ inl more ↦ not_both more.0 fits | inr less ↦ let b : old.release + 1 < 2 ^ 64 = less.1 in omega (arith, number) ]
+
+  pub release_settles : (b : Bool) → is_relimited w name quota ≡ b → (if b then with_release name w' else w') ≡ record w { quotas = insert w.quotas name (relimited w name quota) }
+  release_settles false is = world_left ∙ (λ i. record w { quotas = insert w.quotas name (after_quota_release (sym is i) (with_quota quota (get w.quotas name))) })
+  release_settles true is = ap {A = Option QuotaRows} (λ o. option_map_or (λ q. record w' { quotas = insert w'.quotas name (record q { release = q.release + 1 }) }) o w') found
+      ∙ ap {A = World} (λ x. record x { quotas = insert x.quotas name (record (with_quota quota (get w.quotas name)) { release = (with_quota quota (get w.quotas name)).release + 1 }) }) world_left
+      ∙ (λ i. record w { quotas = put_twice w.quotas name (with_quota quota (get w.quotas name)) (after_quota_release true (with_quota quota (get w.quotas name))) i })
+      ∙ (λ i. record w { quotas = insert w.quotas name (after_quota_release (sym is i) (with_quota quota (get w.quotas name))) })
+
+-- ---- a put that is refused
+
+module _ (s : State) (name : Name) (quota : Quota) (early : IsEarly s.world) (secret : Option Name) (allowed : may_administer s.acl secret (admins.PutQuota name quota) ≡ true) where
+  pub put_refused : (refusal : Refusal) (w' : World) → Changes (put_quota name quota s.world) s.world (Err refusal) w' → Makes (steps.Admin secret (admins.PutQuota name quota)) s (Err refusal) (record s { world = w' })
+  put_refused refusal w' h = by refusal h
+    where
+      by : (r : Refusal) → Changes (put_quota name quota s.world) s.world (Err r) w' → Makes (steps.Admin secret (admins.PutQuota name quota)) s (Err r) (record s { world = w' })
+      by refusals.Memory h = λ i. record s { world = h i }
+      by r h = quota_refused s name quota early secret allowed r h.0 (record s { world = w' }) (λ i. record s { world = h.1 i })
+
+  pub put_keeps : (refusal : Refusal) (w' : World) → Changes (put_quota name quota s.world) s.world (Err refusal) w' → w' ≡ s.world
+  put_keeps refusal w' h = by refusal h
+    where
+      by : (r : Refusal) → Changes (put_quota name quota s.world) s.world (Err r) w' → w' ≡ s.world
+      by refusals.Memory h = h
+      by r h = h.1

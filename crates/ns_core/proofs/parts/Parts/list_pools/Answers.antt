@@ -1,0 +1,11 @@
+use Rattle.std.proofs.Common.{refl, sym, ap, ◌∙◌}
+use Rattle.std.specs.Option.{option_copied}
+use Rattle.ns_types.specs.Access.{administer}
+use Rattle.ns_types.specs.Outcome.{Done}
+use Rattle.ns_types.specs.Rights.{pool_rights_of}
+use Rattle.ns_core.specs.Viewed.{state_of}
+use Rattle.ns_core.proofs.parts.Parts.list_pools.Goals as goal
+
+pub returns : goal.returns
+unfolding administer
+returns c = ap (λ content. Done content (state_of c.args.self.now)) (sym (c.in_ok-list_pools.ensures (λ pool. (pool_rights_of c.args.self.now.acl (option_copied c.args.secret) pool).read) (λ name b returned. returned.says.met ∙ ap (λ ns. (pool_rights_of c.args.self.now.acl (option_copied c.args.secret) ns).read) returned.shows) c.args.self.now.ready.items))

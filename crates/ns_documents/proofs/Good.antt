@@ -1,0 +1,397 @@
+-- What is read is within the limits.
+use Rattle.std.proofs.Common.{◌≡◌, ℕ, ◌+◌, ◌≤◌, ◌==◌, ℤ, pos, negsuc, List, [], ◌∷◌, ◌++◌, length, Bool, true, false, not, ◌&&◌, ◌||◌, nat_le, Option, Some, None, is_some, Ok, Err, IfOk, codes, if◌then◌else◌, refl, sym, ◌∙◌, subst, true≢false, arith, length-append, option_and_then}
+use Rattle.std.specs.Bool.{IsTrue}
+use Rattle.std.specs.List.{list_all}
+use Rattle.std.specs.Option.{option_map_or, is_none}
+use Rattle.std.specs.Str.{bytes_eq}
+use Rattle.std.proofs.lemmas.Bool.{eqb-false, le-leb, not_from_false}
+use Rattle.std.proofs.lemmas.Bool.Decides.{nat_tests}
+use Rattle.std.proofs.lemmas.List.Folds.{list_all-append}
+use Rattle.std.proofs.lemmas.Slice.Eq.{bytes_eq-Decides}
+use Rattle.serde_json.specs.Data.{Data, Items, no_items, item}
+use Rattle.serde_json.specs.Events.{items_len}
+use Rattle.serde_json.specs.Find.{as_str, as_array, as_number, as_i64}
+use Rattle.ns_types.specs.declared.acl.Policy.{Policy}
+use Rattle.ns_types.specs.declared.acl.TokenKind.TheVariants as tokens
+use Rattle.ns_types.specs.declared.name.NameKind.{NameKind}
+use Rattle.ns_types.specs.declared.name.NameKind.TheVariants as kinds
+use Rattle.ns_types.specs.declared.refusal.Member.{Member}
+use Rattle.ns_types.specs.declared.refusal.Member.TheVariants as members
+use Rattle.ns_types.specs.declared.refusal.Refusal.{Refusal}
+use Rattle.ns_types.specs.declared.resources.Limit.{Limit}
+use Rattle.ns_types.specs.declared.resources.Limit.TheVariants as limits
+use Rattle.ns_types.specs.declared.resources.Limits.{Limits}
+use Rattle.ns_types.specs.Limits.{is_text, is_pool_name, is_pool_list, is_good_namespace, is_limit, is_good_quota, is_good_policy, is_good_token}
+use Rattle.ns_types.specs.Lists.{is_empty}
+use Rattle.ns_types.specs.Name.{is_name}
+use Rattle.ns_types.specs.Names.{Name, same_name, default_name}
+use Rattle.ns_types.specs.Names as names
+use Rattle.ns_types.specs.Resources.{limits_in, unlimited}
+use Rattle.ns_types.proofs.Lists.{left_none, right_none}
+use Rattle.ns_types.proofs.Named.{same_name_is}
+use Rattle.ns_json.specs.Reading.{◌>>=◌, Read, Gives, same, top, present, demanded, or_else, or_refuse, some, an_object, a_text, a_name, has_name, unless, a_list, each}
+use Rattle.ns_json.specs.Registration.{name_if_any}
+use Rattle.ns_policy.specs.Json.{rules_of}
+use Rattle.ns_documents.specs.declared.namespace.NamedNamespace.{NamedNamespace}
+use Rattle.ns_documents.specs.declared.pools.PoolConfiguration.{PoolConfiguration}
+use Rattle.ns_documents.specs.declared.quota.NamedQuota.{NamedQuota}
+use Rattle.ns_documents.specs.declared.pool.NamedPool.{NamedPool}
+use Rattle.ns_documents.specs.declared.token.TokenDocument.{TokenDocument}
+use Rattle.ns_documents.specs.Members.{is_path_name, repeated, named, description_in, listed_name, names_in}
+use Rattle.ns_documents.specs.Records.{is_all, pool_or_default, default_pool_in, pools_in, configuration_in, every_pool, namespace_in, max_limit, limit_of, limit_in, region_limit_in, region_in, entry_in, first_entry, entries_in, quota_in, pool_in}
+use Rattle.ns_documents.specs.Access.{with_accessor, rules_text_in, or_bad_rules, policy_in, token_kind_in, token_in}
+use Rattle.ns_documents.proofs.Distinct.{Distinct, distinct_more, distinct_is, pools_without_all}
+
+-- ---- what holds of the value, where there is one
+
+abbrev Post : {A : Type 0} → Read A → (A → Type 0) → Type 0
+Post (Ok x) P = P x
+Post (Err e) P = Unit {0}
+
+post_then : {A B : Type 0} {P : A → Type 0} (r : Read A) (f : A → Read B) (Q : B → Type 0) → Post r P → ((x : A) → P x → Post (f x) Q) → Post (r >>= f) Q
+post_then (Ok x) f Q p h = h x p
+post_then (Err e) f Q p h = tt
+
+post_any : {A B : Type 0} (r : Read A) (f : A → Read B) (Q : B → Type 0) → ((x : A) → Post (f x) Q) → Post (r >>= f) Q
+post_any (Ok x) f Q h = h x
+post_any (Err e) f Q h = tt
+
+post_map : {A : Type 0} (r : Read A) (P Q : A → Type 0) → ((x : A) → P x → Q x) → Post r P → Post r Q
+post_map (Ok x) P Q f h = f x h
+post_map (Err e) P Q f h = tt
+
+post_both : {A : Type 0} (r : Read A) (P Q : A → Type 0) → Post r P → Post r Q → Post r (λ x. P x × Q x)
+post_both (Ok x) P Q h k = (h, k)
+post_both (Err e) P Q h k = tt
+
+post_if : {A : Type 0} (c : Bool) (x : A) (e : Refusal) (P : A → Type 0) → (c ≡ true → P x) → Post (if c then Ok x else Err e) P
+post_if true x e P h = h refl
+post_if false x e P h = tt
+
+post_unless : {A : Type 0} (bad : Bool) (m : Member) (x : A) (P : A → Type 0) → (bad ≡ false → P x) → Post (unless bad m x) P
+post_unless true m x P h = tt
+post_unless false m x P h = h refl
+
+post_else : {A : Type 0} (default : A) (read : Data → Read A) (P : A → Type 0) (d : Option Data) → P default → ((v : Data) → Post (read v) P) → Post (or_else default read d) P
+post_else default read P None h k = h
+post_else default read P (Some v) h k = k v
+
+post_some : {A : Type 0} (r : Read A) (P : A → Type 0) (Q : Option A → Type 0) → ((x : A) → P x → Q (Some x)) → Post r P → Post (some r) Q
+post_some (Ok x) P Q f h = f x h
+post_some (Err e) P Q f h = tt
+
+read_so : {A : Type 0} (r read : Read A) (P : A → Type 0) → Gives same r read → Post read P → IfOk r P
+read_so (Ok x) read P h post = subst (λ q. Post q P) h post
+read_so (Err e) read P h post = tt
+
+read_if : {A : Type 0} (H : Type 0) (r read : Read A) (P : A → Type 0) → Gives same r read → (H → Post read P) → IfOk r (λ x. H → P x)
+read_if H (Ok x) read P h post = λ k. subst (λ q. Post q P) h (post k)
+read_if H (Err e) read P h post = tt
+
+-- ---- names and texts
+
+text_good : (m : Member) (d : Data) → Post (a_text m d) (λ s. IsTrue (is_text s))
+unfolding a_text
+text_good m d = post_any (or_refuse m (as_str d)) _ _ (λ s. post_if (nat_le (length s) 256) s _ _ (λ h. h))
+
+name_good : (m : Member) (kind : NameKind) (d : Data) → Post (a_name m kind d) (λ s. IsTrue (is_name kind s))
+unfolding a_name
+name_good m kind d = post_any (or_refuse m (as_str d)) _ _ (λ s. post_if (is_name kind s) s _ _ (λ h. h))
+
+name_at : (c : Bool) (m : Member) (kind : NameKind) (d : Data) → Post (if c then Ok None else some (a_name m kind d)) (λ o. IsTrue (option_map_or (is_name kind) o true))
+name_at true m kind d = refl
+name_at false m kind d = post_some (a_name m kind d) (λ s. IsTrue (is_name kind s)) _ (λ s h. h) (name_good m kind d)
+
+name_if_any_good : (m : Member) (kind : NameKind) (d : Data) → Post (name_if_any m kind d) (λ o. IsTrue (option_map_or (is_name kind) o true))
+unfolding name_if_any
+name_if_any_good m kind d = post_any (a_text m d) _ _ (λ s. name_at (length s == 0) m kind d)
+
+description_good : (d : Data) → Post (description_in d) (λ s. IsTrue (is_text s))
+unfolding description_in
+description_good d = post_else [] (a_text members.Description) (λ s. IsTrue (is_text s)) (present members.Description d) refl (text_good members.Description)
+
+repeated_good : (path : Name) (d : Data) (P : Name → Type 0) → P path → Post (repeated path d) P
+unfolding repeated
+repeated_good path d P h = post_any (or_refuse members.Name (as_str d)) _ _ (λ s. post_unless (not (bytes_eq s path)) members.Name path P (λ k. h))
+
+named_good : (kind : NameKind) (path : Option Name) (d : Data) → IsTrue (is_path_name kind path) → Post (named kind path d) (λ s. IsTrue (is_name kind s))
+unfolding named
+named_good kind None d h = post_any (demanded members.Name d) _ _ (λ s. name_good members.Name kind s)
+named_good kind (Some path) d h = post_else path (repeated path) (λ s. IsTrue (is_name kind s)) (present members.Name d) h (λ v. repeated_good path v (λ s. IsTrue (is_name kind s)) h)
+
+-- ---- lists of names
+
+each_good : {A : Type 0} (read : List A → Data → Read A) (P : List A → Type 0) (done : List A) (ds : Items) → ((before : List A) (d : Data) → P before → Post (read before d) (λ x. P (before ++ x ∷ []))) → P done → Post (each read done ds) P
+unfolding each
+each_good read P done no_items step h = h
+each_good read P done (item d ds) step h = post_then (read done d) _ P (step done d h) (λ x k. each_good read P (done ++ x ∷ []) ds step k)
+
+each_length : {A : Type 0} (read : List A → Data → Read A) (done : List A) (ds : Items) → Post (each read done ds) (λ xs. length xs ≡ length done + items_len ds)
+unfolding each
+each_length read done no_items = omega arith
+each_length read done (item d ds) =
+    post_any (read done d) _ _ (λ x. post_map (each read (done ++ x ∷ []) ds) (λ xs. length xs ≡ length (done ++ x ∷ []) + items_len ds) _ (λ xs e. omega (arith, e, length-append done (x ∷ []))) (each_length read (done ++ x ∷ []) ds))
+
+abbrev AllNamed : NameKind → List Name → Type 0
+AllNamed kind xs = IsTrue (list_all (is_name kind) xs) × Distinct xs
+
+all_more : (kind : NameKind) (xs : List Name) (x : Name) → IsTrue (list_all (is_name kind) xs) → IsTrue (is_name kind x) → IsTrue (list_all (is_name kind) (xs ++ x ∷ []))
+all_more kind xs x h k = list_all-append (is_name kind) xs (x ∷ []) ∙ rw (h, k) refl
+
+listed_good : (m : Member) (kind : NameKind) (before : List Name) (d : Data) → AllNamed kind before → Post (listed_name m kind before d) (λ x. AllNamed kind (before ++ x ∷ []))
+unfolding listed_name
+listed_good m kind before d h =
+    post_then (a_name m kind d) _ _ (name_good m kind d)
+    (λ x k. post_unless (has_name same before x) m x (λ y. AllNamed kind (before ++ y ∷ [])) (λ new. (all_more kind before x h.0 k, distinct_more before x h.1 new)))
+
+list_good : (m : Member) (most : ℕ) (d : Data) → Post (a_list m 0 most d) (λ ds. items_len ds ≤ most)
+unfolding a_list
+list_good m most d = post_any (or_refuse m (as_array d)) _ _ (λ ds. post_if (nat_le 0 (items_len ds) && nat_le (items_len ds) most) ds _ _ (λ h. grind (arith, nat_tests)))
+
+abbrev Listed : NameKind → ℕ → List Name → Type 0
+Listed kind most xs = AllNamed kind xs × (length xs ≤ most)
+
+names_good : (m : Member) (kind : NameKind) (most : ℕ) (d : Data) → Post (names_in m kind most d) (Listed kind most)
+unfolding names_in
+names_good m kind most d =
+    post_then (a_list m 0 most d) _ _ (list_good m most d)
+    (λ ds fits. post_map (each (listed_name m kind) [] ds) _ (Listed kind most) (λ xs (k : AllNamed kind xs × (length xs ≡ 0 + items_len ds)). (k.0, omega arith))
+    (post_both (each (listed_name m kind) [] ds) (AllNamed kind) (λ xs. length xs ≡ 0 + items_len ds)
+    (each_good (listed_name m kind) (AllNamed kind) [] ds (listed_good m kind) (refl, tt)) (each_length (listed_name m kind) [] ds)))
+
+-- ---- the pools of a namespace
+
+pool_list : (xs : List Name) → Listed kinds.Pool 1000 xs → has_name same xs (codes "all") ≡ false → IsTrue (is_pool_list xs)
+pool_list xs h none =
+    let fits : nat_le (length xs) 1000 ≡ true = le-leb (length xs) 1000 h.1 in
+    rw (fits, pools_without_all xs h.0.0 none, distinct_is xs h.0.1) refl
+
+pools_good : (m : Member) (d : Data) → Post (pools_in m d) (λ xs. IsTrue (is_pool_list xs))
+unfolding pools_in
+pools_good m d =
+    post_then (names_in m kinds.Pool 1000 d) _ _ (names_good m kinds.Pool 1000 d)
+    (λ xs h. post_unless (has_name same xs (codes "all")) m xs (λ ys. IsTrue (is_pool_list ys)) (λ none. pool_list xs h none))
+
+pool_name : (s : Name) → IsTrue (is_name kinds.Pool s) → is_all s ≡ false → IsTrue (is_pool_name s)
+pool_name s h other = rw (h, other) refl
+
+pool_or_default_good : (o : Option Name) → IsTrue (option_map_or (is_name kinds.Pool) o true) → Post (pool_or_default o) (λ s. IsTrue (is_pool_name s))
+pool_or_default_good None h = refl
+pool_or_default_good (Some s) h = post_unless (is_all s) members.Default s (λ t. IsTrue (is_pool_name t)) (λ other. pool_name s h other)
+
+default_pool_good : (d : Data) → Post (default_pool_in d) (λ s. IsTrue (is_pool_name s))
+unfolding default_pool_in
+default_pool_good d = post_then (name_if_any members.Default kinds.Pool d) _ _ (name_if_any_good members.Default kinds.Pool d) (λ o h. pool_or_default_good o h)
+
+other_way : (x y : Name) → bytes_eq y x ≡ false → same_name x y ≡ false
+other_way x y h = by (same_name x y) refl
+  where
+    by : (b : Bool) → same_name x y ≡ b → b ≡ false
+    by true e = absurd (true≢false (sym ((bytes_eq-Decides y x).1 (sym (same_name_is x y e))) ∙ h))
+    by false e = refl
+
+-- the two ways of looking a name up
+any_other : (xs : List Name) (x : Name) → has_name same xs x ≡ false → names.has_name xs x ≡ false
+any_other [] x h = refl
+any_other (y ∷ ys) x h =
+    let here : same_name x y ≡ false = other_way x y (left_none (bytes_eq y x) (has_name same ys x) h) in
+    let more : names.has_name ys x ≡ false = any_other ys x (right_none (bytes_eq y x) (has_name same ys x) h) in
+    rw (here, more) refl
+
+abbrev IsGood : PoolConfiguration → Type 0
+IsGood c = IsTrue (is_pool_name c.default_pool) × IsTrue (option_map_or is_pool_list c.allowed true) × IsTrue (is_pool_list c.denied) × IsTrue (is_none c.allowed || is_empty c.denied) × IsTrue (not (names.has_name c.denied c.default_pool))
+
+one_list : (a b : Bool) → (a && not b) ≡ false → (not a || b) ≡ true
+one_list true true h = refl
+one_list true false h = sym h
+one_list false b h = refl
+
+configuration_good : (d : Data) → Post (configuration_in d) IsGood
+unfolding configuration_in
+configuration_good d =
+    post_any (an_object members.NodePoolConfiguration d) _ _ (λ c.
+    post_then (or_else default_name default_pool_in (present members.Default c)) _ _ (post_else default_name default_pool_in (λ s. IsTrue (is_pool_name s)) (present members.Default c) refl default_pool_good) (λ default h.
+    post_then (or_else None (λ a. some (pools_in members.Allowed a)) (present members.Allowed c)) _ _ (post_else None (λ a. some (pools_in members.Allowed a)) (λ o. IsTrue (option_map_or is_pool_list o true)) (present members.Allowed c) refl (λ a. post_some (pools_in members.Allowed a) (λ xs. IsTrue (is_pool_list xs)) _ (λ xs k. k) (pools_good members.Allowed a))) (λ allowed k.
+    post_then (or_else [] (pools_in members.Denied) (present members.Denied c)) _ _ (post_else [] (pools_in members.Denied) (λ xs. IsTrue (is_pool_list xs)) (present members.Denied c) refl (pools_good members.Denied)) (λ denied l.
+    post_unless ((is_some allowed && not (is_empty denied)) || has_name same denied default) members.Denied _ IsGood
+    (λ n. (
+      h,
+      k,
+      l,
+      one_list (is_some allowed) (is_empty denied) (left_none (is_some allowed && not (is_empty denied)) (has_name same denied default) n),
+      not_from_false _ (any_other denied default (right_none (is_some allowed && not (is_empty denied)) (has_name same denied default) n)),
+    ))))))
+
+namespace_from : (description : Name) (quota : Option Name) (c : PoolConfiguration) → IsTrue (is_text description) → IsTrue (option_map_or (is_name kinds.Quota) quota true) → IsGood c
+    → IsTrue (is_good_namespace (record { description = description; quota = quota; default_pool = c.default_pool; allowed = c.allowed; denied = c.denied }))
+namespace_from description quota c h k g = rw (h, k, g.0, g.1, g.2, g.3, g.4) refl
+
+namespace_post : (path : Option Name) (d : Data) → Post (namespace_in path d) (λ n. IsTrue (is_good_namespace n.namespace))
+unfolding namespace_in
+namespace_post path d =
+    post_any (top d) _ _ (λ t. post_any (named kinds.Namespace path t) _ _ (λ name.
+    post_then (description_in t) _ _ (description_good t) (λ description h.
+    post_then (or_else None (name_if_any members.Quota kinds.Quota) (present members.Quota t)) _ _ (post_else None (name_if_any members.Quota kinds.Quota) (λ o. IsTrue (option_map_or (is_name kinds.Quota) o true)) (present members.Quota t) refl (name_if_any_good members.Quota kinds.Quota)) (λ quota k.
+    post_then (or_else every_pool configuration_in (present members.NodePoolConfiguration t)) _ _ (post_else every_pool configuration_in IsGood (present members.NodePoolConfiguration t) (refl, refl, refl, refl, refl) configuration_good) (λ c g.
+    namespace_from description quota c h k g)))))
+
+-- ---- quotas
+
+limit_of_good : (z : ℤ) → IsTrue (option_map_or is_limit (limit_of z) true)
+limit_of_good (pos n) = by (n == 0) (nat_le n max_limit) refl refl
+  where
+    by : (a b : Bool) → (n == 0) ≡ a → nat_le n max_limit ≡ b → IsTrue (option_map_or is_limit (if a then Some limits.Unlimited else if b then Some (limits.AtMost n) else None) true)
+    by true b e f = refl
+    by false true e f =
+        let some : n ≡ 0 → ⊥ = eqb-false n 0 e in
+        let low : nat_le 1 n ≡ true = le-leb 1 n (omega arith) in
+        rw (low, f) refl
+    by false false e f = refl
+limit_of_good (negsuc n) = by (n == 0)
+  where
+    by : (a : Bool) → IsTrue (option_map_or is_limit (if a then Some limits.Nothing else None) true)
+    by true = refl
+    by false = refl
+
+limit_or_refused : (m : Member) (o : Option Limit) → IsTrue (option_map_or is_limit o true) → Post (or_refuse m o) (λ l. IsTrue (is_limit l))
+limit_or_refused m None h = tt
+limit_or_refused m (Some l) h = h
+
+limit_read : (m : Member) (o : Option ℤ) → Post (or_refuse m (option_and_then limit_of o)) (λ l. IsTrue (is_limit l))
+limit_read m None = tt
+limit_read m (Some z) = limit_or_refused m (limit_of z) (limit_of_good z)
+
+limit_good : (m : Member) (d : Data) → Post (limit_in m d) (λ l. IsTrue (is_limit l))
+unfolding limit_in
+limit_good m d = limit_read m (option_and_then as_i64 (as_number d))
+
+abbrev AreLimits : Limits → Type 0
+AreLimits l = IsTrue (is_limit l.cpu) × IsTrue (is_limit l.memory)
+
+limit_or_unlimited_good : (m : Member) (o : Option Data) → Post (or_else limits.Unlimited (limit_in m) o) (λ l. IsTrue (is_limit l))
+limit_or_unlimited_good m o = post_else limits.Unlimited (limit_in m) (λ l. IsTrue (is_limit l)) o refl (limit_good m)
+
+region_limit_good : (d : Data) → Post (region_limit_in d) AreLimits
+unfolding region_limit_in
+region_limit_good d =
+    post_any (an_object members.RegionLimit d) _ _ (λ r.
+    post_then (or_else limits.Unlimited (limit_in members.Cpu) (present members.Cpu r)) _ _ (limit_or_unlimited_good members.Cpu (present members.Cpu r)) (λ cpu h.
+    post_then (or_else limits.Unlimited (limit_in members.MemoryMb) (present members.MemoryMb r)) _ _ (limit_or_unlimited_good members.MemoryMb (present members.MemoryMb r)) (λ memory k. (h, k))))
+
+entry_good : (d : Data) → Post (entry_in d) AreLimits
+unfolding entry_in
+entry_good d =
+    post_any (an_object members.Limits d) _ _ (λ entry.
+    post_any (or_else tt region_in (present members.Region entry)) _ _ (λ region.
+    post_else unlimited region_limit_in AreLimits (present members.RegionLimit entry) (refl, refl) region_limit_good))
+
+abbrev AreLimitsIn : Option Limits → Type 0
+AreLimitsIn o = AreLimits (limits_in o)
+
+first_entry_good : (ds : Items) → Post (first_entry ds) AreLimitsIn
+first_entry_good no_items = (refl, refl)
+first_entry_good (item d ds) = post_some (entry_in d) AreLimits AreLimitsIn (λ l h. h) (entry_good d)
+
+entries_good : (d : Data) → Post (entries_in d) AreLimitsIn
+unfolding entries_in
+entries_good d = post_any (a_list members.Limits 0 1 d) _ _ first_entry_good
+
+quota_from : (description : Name) (limits : Option Limits) → IsTrue (is_text description) → AreLimitsIn limits → IsTrue (is_good_quota (record { description = description; limits = limits }))
+quota_from description limits h k = rw (h, k.0, k.1) refl
+
+quota_post : (path : Option Name) (d : Data) → Post (quota_in path d) (λ q. IsTrue (is_good_quota q.quota))
+unfolding quota_in
+quota_post path d =
+    post_any (top d) _ _ (λ t. post_any (named kinds.Quota path t) _ _ (λ name.
+    post_then (description_in t) _ _ (description_good t) (λ description h.
+    post_then (or_else None entries_in (present members.Limits t)) _ _ (post_else None entries_in AreLimitsIn (present members.Limits t) (refl, refl) entries_good) (λ limits k.
+    quota_from description limits h k))))
+
+-- ---- pools
+
+pool_post : (path : Option Name) (d : Data) → Post (pool_in path d) (λ p. IsTrue (is_text p.pool.description))
+unfolding pool_in
+pool_post path d =
+    post_any (top d) _ _ (λ t. post_any (named kinds.Pool path t) _ _ (λ name. post_any (unless (is_all name) members.Name name) _ _ (λ checked.
+    post_then (description_in t) _ _ (description_good t) (λ description h. h))))
+
+-- ---- policies and tokens
+
+rules_text_good : (d : Data) → Post (rules_text_in d) (λ s. IsTrue (nat_le (length s) 65536))
+unfolding rules_text_in
+rules_text_good d = post_any (or_refuse members.Rules (as_str d)) _ _ (λ s. post_unless (not (nat_le (length s) 65536)) members.Rules s _ (λ h. is_true (nat_le (length s) 65536) h))
+  where
+    is_true : (b : Bool) → not b ≡ false → b ≡ true
+    is_true true h = refl
+    is_true false h = sym h
+
+policy_from : (p : Policy) → IsTrue (is_text p.description) → IsTrue (nat_le (length p.text) 65536) → IsTrue (is_good_policy p)
+policy_from p h k = rw (h, k) refl
+
+policy_post : (d : Data) → Post (policy_in d) (λ p. IsTrue (is_good_policy p))
+unfolding policy_in
+policy_post d =
+    post_any (top d) _ _ (λ t. post_then (description_in t) _ _ (description_good t) (λ description h.
+    post_any (demanded members.Rules t) _ _ (λ v. post_then (rules_text_in v) _ _ (rules_text_good v) (λ text k.
+    post_any (or_bad_rules (rules_of text)) _ _ (λ rules. policy_from (record { description = description; text = text; rules = rules }) h k)))))
+
+token_from : (accessor : Name) (t : TokenDocument) → IsTrue (is_text t.name) → Listed kinds.Policy 64 t.policies → IsTrue (is_good_token (with_accessor accessor t))
+token_from accessor t h k =
+    let fits : nat_le (length t.policies) 64 ≡ true = le-leb (length t.policies) 64 k.1 in
+    rw (h, fits, k.0.0, distinct_is t.policies k.0.1) refl
+
+token_post : (d : Data) → Post (token_in d) (λ t. (accessor : Name) → IsTrue (is_good_token (with_accessor accessor t)))
+unfolding token_in
+token_post d =
+    post_any (top d) _ _ (λ t. post_then (or_else [] (a_text members.Name) (present members.Name t)) _ _ (post_else [] (a_text members.Name) (λ s. IsTrue (is_text s)) (present members.Name t) refl (text_good members.Name)) (λ name h.
+    post_any (or_else tokens.Client token_kind_in (present members.Type t)) _ _ (λ kind.
+    post_then (or_else [] (names_in members.Policies kinds.Policy 64) (present members.Policies t)) _ _ (post_else [] (names_in members.Policies kinds.Policy 64) (Listed kinds.Policy 64) (present members.Policies t) ((refl, tt), omega arith) (names_good members.Policies kinds.Policy 64)) (λ policies k.
+    λ accessor. token_from accessor (record { name = name; kind = kind; policies = policies }) h k))))
+
+-- ---- names
+
+namespace_named : (path : Option Name) (d : Data) → IsTrue (is_path_name kinds.Namespace path) → Post (namespace_in path d) (λ n. IsTrue (is_name kinds.Namespace n.name))
+unfolding namespace_in
+namespace_named path d h =
+    post_any (top d) _ _ (λ t. post_then (named kinds.Namespace path t) _ _ (named_good kinds.Namespace path t h) (λ name k.
+    post_any (description_in t) _ _ (λ description. post_any (or_else None (name_if_any members.Quota kinds.Quota) (present members.Quota t)) _ _ (λ quota.
+    post_any (or_else every_pool configuration_in (present members.NodePoolConfiguration t)) _ _ (λ c. k)))))
+
+quota_named : (path : Option Name) (d : Data) → IsTrue (is_path_name kinds.Quota path) → Post (quota_in path d) (λ q. IsTrue (is_name kinds.Quota q.name))
+unfolding quota_in
+quota_named path d h =
+    post_any (top d) _ _ (λ t. post_then (named kinds.Quota path t) _ _ (named_good kinds.Quota path t h) (λ name k.
+    post_any (description_in t) _ _ (λ description. post_any (or_else None entries_in (present members.Limits t)) _ _ (λ limits. k))))
+
+pool_named : (path : Option Name) (d : Data) → IsTrue (is_path_name kinds.Pool path) → Post (pool_in path d) (λ p. IsTrue (is_pool_name p.name))
+unfolding pool_in
+pool_named path d h =
+    post_any (top d) _ _ (λ t. post_then (named kinds.Pool path t) _ _ (named_good kinds.Pool path t h) (λ name k.
+    post_then (unless (is_all name) members.Name name) _ _ (post_unless (is_all name) members.Name name (λ s. IsTrue (is_pool_name s)) (λ other. pool_name name k other)) (λ checked l.
+    post_any (description_in t) _ _ (λ description. l))))
+
+-- ---- what is read
+
+pub namespace_good : (r : Read NamedNamespace) (path : Option Name) (d : Data) → Gives same r (namespace_in path d) → IfOk r (λ n. IsTrue (is_good_namespace n.namespace))
+namespace_good r path d h = read_so r (namespace_in path d) _ h (namespace_post path d)
+
+pub namespace_has_name : (r : Read NamedNamespace) (path : Option Name) (d : Data) → Gives same r (namespace_in path d) → IfOk r (λ n. IsTrue (is_path_name kinds.Namespace path) → IsTrue (is_name kinds.Namespace n.name))
+namespace_has_name r path d h = read_if (IsTrue (is_path_name kinds.Namespace path)) r (namespace_in path d) (λ n. IsTrue (is_name kinds.Namespace n.name)) h (namespace_named path d)
+
+pub quota_good : (r : Read NamedQuota) (path : Option Name) (d : Data) → Gives same r (quota_in path d) → IfOk r (λ q. IsTrue (is_good_quota q.quota))
+quota_good r path d h = read_so r (quota_in path d) _ h (quota_post path d)
+
+pub quota_has_name : (r : Read NamedQuota) (path : Option Name) (d : Data) → Gives same r (quota_in path d) → IfOk r (λ q. IsTrue (is_path_name kinds.Quota path) → IsTrue (is_name kinds.Quota q.name))
+quota_has_name r path d h = read_if (IsTrue (is_path_name kinds.Quota path)) r (quota_in path d) (λ q. IsTrue (is_name kinds.Quota q.name)) h (quota_named path d)
+
+pub pool_good : (r : Read NamedPool) (path : Option Name) (d : Data) → Gives same r (pool_in path d) → IfOk r (λ p. IsTrue (is_text p.pool.description))
+pool_good r path d h = read_so r (pool_in path d) _ h (pool_post path d)
+
+pub pool_has_name : (r : Read NamedPool) (path : Option Name) (d : Data) → Gives same r (pool_in path d) → IfOk r (λ p. IsTrue (is_path_name kinds.Pool path) → IsTrue (is_pool_name p.name))
+pool_has_name r path d h = read_if (IsTrue (is_path_name kinds.Pool path)) r (pool_in path d) (λ p. IsTrue (is_pool_name p.name)) h (pool_named path d)
+
+pub policy_good : (r : Read Policy) (d : Data) → Gives same r (policy_in d) → IfOk r (λ p. IsTrue (is_good_policy p))
+policy_good r d h = read_so r (policy_in d) _ h (policy_post d)
+
+pub token_good : (r : Read TokenDocument) (d : Data) → Gives same r (token_in d) → IfOk r (λ t. (accessor : Name) → IsTrue (is_good_token (with_accessor accessor t)))
+token_good r d h = read_so r (token_in d) _ h (token_post d)

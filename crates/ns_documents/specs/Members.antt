@@ -1,0 +1,43 @@
+-- Members that several documents have.
+use Rattle.std.specs.Prelude.{ℕ, List, [], Bool, true, Option, Some, None, not}
+use Rattle.std.specs.Option.{option_map_or}
+use Rattle.std.specs.Str.{bytes_eq}
+use Rattle.serde_json.specs.Data.{Data}
+use Rattle.serde_json.specs.Find.{as_str}
+use Rattle.ns_types.specs.declared.name.NameKind.{NameKind}
+use Rattle.ns_types.specs.declared.refusal.Member.{Member}
+use Rattle.ns_types.specs.declared.refusal.Member.TheVariants as members
+use Rattle.ns_types.specs.Name.{is_name}
+use Rattle.ns_json.specs.Reading.{◌>>=◌, Read, same, present, demanded, or_else, or_refuse, a_text, a_name, has_name, unless, a_list, each}
+
+-- the path holds no name, or one of that kind
+abbrev pub is_path_name : NameKind → Option (List ℕ) → Bool
+is_path_name kind path = option_map_or (is_name kind) path true
+
+-- the name that the path holds, where the document repeats it
+unfoldable pub repeated : List ℕ → Data → Read (List ℕ)
+repeated path d = do
+  name ← or_refuse members.Name (as_str d)
+  unless (not (bytes_eq name path)) members.Name path
+
+-- the name of what is written: the path's, which the document may repeat, or else the document's
+unfoldable pub named : NameKind → Option (List ℕ) → Data → Read (List ℕ)
+named kind None d = do
+  name ← demanded members.Name d
+  a_name members.Name kind name
+named kind (Some path) d = or_else path (repeated path) (present members.Name d)
+
+unfoldable pub description_in : Data → Read (List ℕ)
+description_in d = or_else [] (a_text members.Description) (present members.Description d)
+
+-- a name of a list, after those that stand before it
+unfoldable pub listed_name : Member → NameKind → List (List ℕ) → Data → Read (List ℕ)
+listed_name m kind before d = do
+  name ← a_name m kind d
+  unless (has_name same before name) m name
+
+-- so many names at most, none twice
+unfoldable pub names_in : Member → NameKind → ℕ → Data → Read (List (List ℕ))
+names_in m kind most d = do
+  ds ← a_list m 0 most d
+  each (listed_name m kind) [] ds

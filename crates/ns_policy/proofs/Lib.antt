@@ -1,0 +1,10 @@
+pub mod Patterns
+pub mod Turns
+pub mod Members
+pub mod Steps
+pub mod TreeLaws
+pub mod Inverse
+pub mod Layouts
+pub mod Relayout
+pub mod Both
+pub mod Readings

@@ -1,0 +1,413 @@
+//! Reading rules: one token after the other.
+
+ghost use Rattle.std.specs.Prelude.{◌≡◌, Ok, []};
+ghost use Rattle.ns_policy.specs.Tokens.{seen};
+ghost use Rattle.ns_policy.specs.Rules.{Gives, same};
+ghost use Rattle.ns_policy.specs.Grammar.{role_of, start, at, blocks, read_on, next as next_in, finish as finish_in, step as step_in, with_rule as with_rule_in, step_item as step_item_in, step_name as step_name_in, step_label as step_label_in, step_value as step_value_in, step_before as step_before_in, step_after as step_after_in, close_list as close_list_in, set_policy as set_policy_in, begin_capabilities as begin_capabilities_in, add_capability as add_capability_in, enter as enter_in, leave as leave_in, named as named_in, is_flag as is_flag_in};
+
+use crate::fault::RuleFault;
+use crate::lex::{Token, skip_blanks, token_at};
+use crate::rule::{NO_GRANTS, read_pattern, with_capability, with_policy};
+use ns_types::acl::{Grants, Pattern, Rule, RuleKind};
+use ns_types::rows::Rows;
+use std::alloc::Global;
+
+/// What the word of an item says.
+#[derive(Clone, Copy, Debug, PartialEq, Eq)]
+pub enum Role {
+    Block(RuleKind),
+    Policy,
+    Capabilities,
+    Other,
+}
+
+/// Where the next token stands.
+#[derive(Clone, Copy, Debug, PartialEq, Eq)]
+pub enum Place {
+    /// An item may begin here, or the block or the text end.
+    Item,
+    /// After the word of an item.
+    Name(Role),
+    /// After a label.
+    Label(Role),
+    /// After `=`.
+    Value(Role),
+    /// In so many open lists, before a value.
+    Before(Role, u64),
+    /// In so many open lists, after a value.
+    After(Role, u64),
+}
+
+/// A rule whose block is open, or is about to be.
+#[derive(Drop)]
+pub struct Draft {
+    pub kind: RuleKind,
+    pub pattern: Pattern,
+    pub grants: Grants,
+    pub has_policy: bool,
+    pub has_capabilities: bool,
+}
+
+/// What has been read.
+#[derive(Drop)]
+pub struct State {
+    pub rules: Rows<Rule>,
+    pub draft: Option<Draft>,
+    pub depth: u64,
+    pub place: Place,
+}
+
+const MAX_DEPTH: u64 = 16;
+
+#[tactic(auto, unfolding(crate::specs::Grammar::role_of))]
+fn role_at(depth: u64, in_rule: bool, word: &[u8]) -> Role
+    ensures { result ≡ role_of depth in_rule word.now }
+{
+    if depth == 0 {
+        if word == b"namespace".as_slice() {
+            return Role::Block(RuleKind::Namespace);
+        }
+        if word == b"node_pool".as_slice() {
+            return Role::Block(RuleKind::Pool);
+        }
+        return Role::Other;
+    }
+    if depth == 1 && in_rule {
+        if word == b"policy".as_slice() {
+            return Role::Policy;
+        }
+        if word == b"capabilities".as_slice() {
+            return Role::Capabilities;
+        }
+    }
+    Role::Other
+}
+
+fn is_flag(word: &[u8]) -> bool
+    ensures { result ≡ is_flag_in word.now }
+{
+    word == b"true".as_slice() || word == b"false".as_slice()
+}
+
+/// A block opens.
+#[tactic(auto, unfolding(crate::specs::Grammar::enter))]
+fn enter(state: State) -> Result<State, RuleFault>
+    ensures { Gives same result (enter_in state) }
+{
+    if state.depth >= MAX_DEPTH {
+        return Err(RuleFault::Syntax);
+    }
+    Ok(State {
+        depth: state.depth + 1,
+        place: Place::Item,
+        ..state
+    })
+}
+
+/// The rule of a block that closes comes last.
+fn with_rule(rules: Rows<Rule>, draft: Option<Draft>) -> Result<Rows<Rule>, RuleFault>
+    ensures { Gives same result (Ok (with_rule_in rules draft)) }
+{
+    let mut rules = rules;
+    if let Some(draft) = draft {
+        rules.push(Rule {
+            kind: draft.kind,
+            pattern: draft.pattern,
+            grants: draft.grants,
+        })?;
+    }
+    Ok(rules)
+}
+
+/// A block closes, and with it the rule that it states.
+#[tactic(auto, unfolding(crate::specs::Grammar::leave))]
+fn leave(state: State) -> Result<State, RuleFault>
+    ensures { Gives same result (leave_in state) }
+{
+    if state.depth == 0 {
+        return Err(RuleFault::Syntax);
+    }
+    if state.depth > 1 {
+        return Ok(State {
+            depth: state.depth - 1,
+            place: Place::Item,
+            ..state
+        });
+    }
+    Ok(State {
+        rules: with_rule(state.rules, state.draft)?,
+        draft: None,
+        depth: 0,
+        place: Place::Item,
+    })
+}
+
+#[tactic(auto, unfolding(crate::specs::Grammar::step_item))]
+fn step_item(state: State, token: Token<'_>) -> Result<State, RuleFault>
+    ensures { Gives same result (step_item_in state (seen token.entry)) }
+{
+    match token {
+        Token::Word(word) => {
+            let role = role_at(state.depth, state.draft.is_some(), word);
+            Ok(State {
+                place: Place::Name(role),
+                ..state
+            })
+        }
+        Token::CloseBlock => leave(state),
+        _ => Err(RuleFault::Syntax),
+    }
+}
+
+/// The label of a block that states a rule.
+#[tactic(auto, unfolding(crate::specs::Grammar::named))]
+fn named(alloc: Global, state: State, kind: RuleKind, label: &[u8]) -> Result<State, RuleFault>
+    ensures { Gives same result (named_in state kind label.now) }
+{
+    let pattern = read_pattern(alloc, kind, label)?;
+    Ok(State {
+        draft: Some(Draft {
+            kind,
+            pattern,
+            grants: NO_GRANTS,
+            has_policy: false,
+            has_capabilities: false,
+        }),
+        place: Place::Label(Role::Block(kind)),
+        ..state
+    })
+}
+
+#[tactic(auto, unfolding(crate::specs::Grammar::step_name))]
+fn step_name(alloc: Global, state: State, role: Role, token: Token<'_>) -> Result<State, RuleFault>
+    ensures { Gives same result (step_name_in state role (seen token.entry)) }
+{
+    match (token, role) {
+        (Token::Equals, _) => Ok(State {
+            place: Place::Value(role),
+            ..state
+        }),
+        (Token::Text(label), Role::Block(kind)) => named(alloc, state, kind, label),
+        (Token::Text(_), Role::Other) => Ok(State {
+            place: Place::Label(role),
+            ..state
+        }),
+        (Token::OpenBlock, Role::Other) => enter(state),
+        (Token::Text(_) | Token::OpenBlock, _) => Err(RuleFault::Value),
+        _ => Err(RuleFault::Syntax),
+    }
+}
+
+#[tactic(auto, unfolding(crate::specs::Grammar::step_label))]
+fn step_label(state: State, role: Role, token: Token<'_>) -> Result<State, RuleFault>
+    ensures { Gives same result (step_label_in state role (seen token.entry)) }
+{
+    match (token, role) {
+        (Token::Text(_), Role::Other) => Ok(state),
+        (Token::Text(_), _) => Err(RuleFault::Value),
+        (Token::OpenBlock, _) => enter(state),
+        _ => Err(RuleFault::Syntax),
+    }
+}
+
+/// The policy of the rule whose block is open.
+#[tactic(auto, unfolding(crate::specs::Grammar::set_policy))]
+fn set_policy(state: State, word: &[u8]) -> Result<State, RuleFault>
+    ensures { Gives same result (set_policy_in state word.now) }
+{
+    let draft = state.draft.ok_or(RuleFault::Value)?;
+    if draft.has_policy {
+        return Err(RuleFault::Value);
+    }
+    let grants = with_policy(draft.kind, draft.grants, word)?;
+    Ok(State {
+        rules: state.rules,
+        draft: Some(Draft {
+            kind: draft.kind,
+            pattern: draft.pattern,
+            grants,
+            has_policy: true,
+            has_capabilities: draft.has_capabilities,
+        }),
+        depth: state.depth,
+        place: Place::Item,
+    })
+}
+
+/// The list of capabilities begins.
+#[tactic(auto, unfolding(crate::specs::Grammar::begin_capabilities))]
+fn begin_capabilities(state: State) -> Result<State, RuleFault>
+    ensures { Gives same result (begin_capabilities_in state) }
+{
+    let draft = state.draft.ok_or(RuleFault::Value)?;
+    if draft.has_capabilities {
+        return Err(RuleFault::Value);
+    }
+    Ok(State {
+        rules: state.rules,
+        draft: Some(Draft {
+            kind: draft.kind,
+            pattern: draft.pattern,
+            grants: draft.grants,
+            has_policy: draft.has_policy,
+            has_capabilities: true,
+        }),
+        depth: state.depth,
+        place: Place::Before(Role::Capabilities, 1),
+    })
+}
+
+/// One capability of the list that is open.
+#[tactic(auto, unfolding(crate::specs::Grammar::add_capability))]
+fn add_capability(state: State, word: &[u8]) -> Result<State, RuleFault>
+    ensures { Gives same result (add_capability_in state word.now) }
+{
+    let draft = state.draft.ok_or(RuleFault::Value)?;
+    let grants = with_capability(draft.kind, draft.grants, word)?;
+    Ok(State {
+        rules: state.rules,
+        draft: Some(Draft {
+            kind: draft.kind,
+            pattern: draft.pattern,
+            grants,
+            has_policy: draft.has_policy,
+            has_capabilities: draft.has_capabilities,
+        }),
+        depth: state.depth,
+        place: Place::After(Role::Capabilities, 1),
+    })
+}
+
+fn move_to(state: State, place: Place) -> State
+    ensures { result ≡ at state place }
+{
+    State { place, ..state }
+}
+
+#[tactic(auto, unfolding(crate::specs::Grammar::step_value))]
+fn step_value(state: State, role: Role, token: Token<'_>) -> Result<State, RuleFault>
+    ensures { Gives same result (step_value_in state role (seen token.entry)) }
+{
+    match (token, role) {
+        (Token::Text(word), Role::Policy) => set_policy(state, word),
+        (Token::BeginList, Role::Capabilities) => begin_capabilities(state),
+        (Token::Text(_) | Token::Number | Token::BeginList, Role::Policy | Role::Capabilities) => {
+            Err(RuleFault::Value)
+        }
+        (Token::Text(_) | Token::Number, _) => Ok(move_to(state, Place::Item)),
+        (Token::BeginList, _) => Ok(move_to(state, Place::Before(role, 1))),
+        (Token::Word(word), Role::Policy | Role::Capabilities) if is_flag(word) => {
+            Err(RuleFault::Value)
+        }
+        (Token::Word(word), _) if is_flag(word) => Ok(move_to(state, Place::Item)),
+        _ => Err(RuleFault::Syntax),
+    }
+}
+
+/// A list closes, the last of so many open ones.
+fn close_list(state: State, role: Role, lists: u64) -> State
+    ensures { result ≡ close_list_in state role lists }
+{
+    if lists > 1 {
+        move_to(state, Place::After(role, lists - 1))
+    } else {
+        move_to(state, Place::Item)
+    }
+}
+
+#[tactic(auto, unfolding(crate::specs::Grammar::step_before))]
+fn step_before(state: State, role: Role, lists: u64, token: Token<'_>) -> Result<State, RuleFault>
+    ensures { Gives same result (step_before_in state role lists (seen token.entry)) }
+{
+    match (token, role) {
+        (Token::EndList, _) => Ok(close_list(state, role, lists)),
+        (Token::Text(word), Role::Capabilities) => add_capability(state, word),
+        (Token::Number | Token::BeginList, Role::Capabilities) => Err(RuleFault::Value),
+        (Token::Text(_) | Token::Number, _) => Ok(move_to(state, Place::After(role, lists))),
+        (Token::BeginList, _) => match lists.checked_add(1) {
+            Some(lists) => Ok(move_to(state, Place::Before(role, lists))),
+            None => Err(RuleFault::Syntax),
+        },
+        (Token::Word(word), Role::Capabilities) if is_flag(word) => Err(RuleFault::Value),
+        (Token::Word(word), _) if is_flag(word) => Ok(move_to(state, Place::After(role, lists))),
+        _ => Err(RuleFault::Syntax),
+    }
+}
+
+#[tactic(auto, unfolding(crate::specs::Grammar::step_after))]
+fn step_after(state: State, role: Role, lists: u64, token: Token<'_>) -> Result<State, RuleFault>
+    ensures { Gives same result (step_after_in state role lists (seen token.entry)) }
+{
+    match token {
+        Token::Comma => Ok(move_to(state, Place::Before(role, lists))),
+        Token::EndList => Ok(close_list(state, role, lists)),
+        _ => Err(RuleFault::Syntax),
+    }
+}
+
+#[tactic(auto, unfolding(crate::specs::Grammar::step))]
+fn step(alloc: Global, state: State, token: Token<'_>) -> Result<State, RuleFault>
+    ensures { Gives same result (step_in state (seen token.entry)) }
+{
+    match state.place {
+        Place::Item => step_item(state, token),
+        Place::Name(role) => step_name(alloc, state, role, token),
+        Place::Label(role) => step_label(state, role, token),
+        Place::Value(role) => step_value(state, role, token),
+        Place::Before(role, lists) => step_before(state, role, lists, token),
+        Place::After(role, lists) => step_after(state, role, lists, token),
+    }
+}
+
+/// The rules, where no item is begun and no block is open.
+#[tactic(auto, unfolding(crate::specs::Grammar::finish))]
+fn finish(state: State) -> Result<Rows<Rule>, RuleFault>
+    ensures { Gives same result (finish_in state) }
+{
+    if state.place == Place::Item && state.depth == 0 {
+        Ok(state.rules)
+    } else {
+        Err(RuleFault::Syntax)
+    }
+}
+
+/// The first token of a text, and what follows it.
+#[tactic(auto, unfolding(crate::specs::Grammar::next))]
+fn next(text: &[u8]) -> Result<(Token<'_>, &[u8]), RuleFault>
+    ensures { Gives (λ x. (seen x.0, x.1.now)) result (next_in text.now) }
+{
+    token_at(text).ok_or(RuleFault::Syntax)
+}
+
+/// The rules of a text of blocks.
+#[tactic(auto, unfolding(crate::specs::Grammar::blocks))]
+pub fn read_blocks(alloc: Global, text: &[u8]) -> Result<Rows<Rule>, RuleFault>
+    ensures { Gives same result (blocks text.now) }
+{
+    finish(read_tokens(alloc, skip_blanks(text), text.len())?)
+}
+
+fn read_tokens(alloc: Global, text: &[u8], turns: usize) -> Result<State, RuleFault>
+    ensures { Gives same result (read_on turns start text.now) }
+{
+    let mut state = State {
+        rules: Rows::new(alloc),
+        draft: None,
+        depth: 0,
+        place: Place::Item,
+    };
+    let mut rest = text;
+    for _ in 0..turns {
+        if rest.is_empty() {
+            return Ok(state);
+        }
+        let (token, others) = next(rest)?;
+        state = step(alloc, state, token)?;
+        rest = skip_blanks(others);
+    }
+    if rest.is_empty() {
+        Ok(state)
+    } else {
+        Err(RuleFault::Syntax)
+    }
+}

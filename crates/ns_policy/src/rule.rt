@@ -1,0 +1,171 @@
+//! What the words of a rule give, and on which names.
+
+ghost use Rattle.std.specs.Prelude.{◌≡◌};
+ghost use Rattle.ns_types.specs.Rights.{no_grants};
+ghost use Rattle.ns_policy.specs.Rules.{Gives, same, name_kind as name_kind_of, namespace_policy as namespace_policy_in, pool_policy as pool_policy_in, with_policy as with_policy_in, namespace_capability as namespace_capability_in, pool_capability as pool_capability_in, with_capability as with_capability_in, pattern_of};
+
+use crate::fault::RuleFault;
+use ns_types::acl::{Grants, Pattern, RuleKind};
+use ns_types::name::{NameKind, has_name_bytes};
+use ns_types::text::Text;
+use std::alloc::Global;
+
+pub const NO_GRANTS: Grants = Grants {
+    list_jobs: false,
+    read_job: false,
+    submit_job: false,
+    alloc_lifecycle: false,
+    read_pool: false,
+    write_pool: false,
+    deny: false,
+};
+
+fn namespace_policy(grants: Grants, word: &[u8]) -> Result<Grants, RuleFault>
+    ensures { Gives same result (namespace_policy_in word.now grants) }
+{
+    if word == b"deny".as_slice() {
+        return Ok(Grants {
+            deny: true,
+            ..grants
+        });
+    }
+    if word == b"read".as_slice() {
+        return Ok(Grants {
+            list_jobs: true,
+            read_job: true,
+            ..grants
+        });
+    }
+    if word == b"write".as_slice() {
+        return Ok(Grants {
+            list_jobs: true,
+            read_job: true,
+            submit_job: true,
+            alloc_lifecycle: true,
+            ..grants
+        });
+    }
+    if word == b"scale".as_slice() {
+        return Ok(grants);
+    }
+    Err(RuleFault::Value)
+}
+
+fn pool_policy(grants: Grants, word: &[u8]) -> Result<Grants, RuleFault>
+    ensures { Gives same result (pool_policy_in word.now grants) }
+{
+    if word == b"deny".as_slice() {
+        return Ok(Grants {
+            deny: true,
+            ..grants
+        });
+    }
+    if word == b"read".as_slice() {
+        return Ok(Grants {
+            read_pool: true,
+            ..grants
+        });
+    }
+    if word == b"write".as_slice() {
+        return Ok(Grants {
+            read_pool: true,
+            write_pool: true,
+            ..grants
+        });
+    }
+    Err(RuleFault::Value)
+}
+
+/// What a rule gives with that policy.
+#[tactic(auto, unfolding(crate::specs::Rules::with_policy))]
+pub fn with_policy(kind: RuleKind, grants: Grants, word: &[u8]) -> Result<Grants, RuleFault>
+    ensures { Gives same result (with_policy_in kind word.now grants) }
+{
+    match kind {
+        RuleKind::Namespace => namespace_policy(grants, word),
+        RuleKind::Pool => pool_policy(grants, word),
+    }
+}
+
+fn namespace_capability(grants: Grants, word: &[u8]) -> Grants
+    ensures { result ≡ namespace_capability_in word.now grants }
+{
+    if word == b"deny".as_slice() {
+        return Grants {
+            deny: true,
+            ..grants
+        };
+    }
+    if word == b"list-jobs".as_slice() {
+        return Grants {
+            list_jobs: true,
+            ..grants
+        };
+    }
+    if word == b"read-job".as_slice() {
+        return Grants {
+            read_job: true,
+            ..grants
+        };
+    }
+    if word == b"submit-job".as_slice() {
+        return Grants {
+            submit_job: true,
+            ..grants
+        };
+    }
+    if word == b"alloc-lifecycle".as_slice() {
+        return Grants {
+            alloc_lifecycle: true,
+            ..grants
+        };
+    }
+    grants
+}
+
+fn pool_capability(grants: Grants, word: &[u8]) -> Result<Grants, RuleFault>
+    ensures { Gives same result (pool_capability_in word.now grants) }
+{
+    if word == b"delete".as_slice() {
+        return Ok(grants);
+    }
+    pool_policy(grants, word)
+}
+
+/// What a rule gives with one more capability.
+#[tactic(auto, unfolding(crate::specs::Rules::with_capability))]
+pub fn with_capability(kind: RuleKind, grants: Grants, word: &[u8]) -> Result<Grants, RuleFault>
+    ensures { Gives same result (with_capability_in kind word.now grants) }
+{
+    match kind {
+        RuleKind::Namespace => Ok(namespace_capability(grants, word)),
+        RuleKind::Pool => pool_capability(grants, word),
+    }
+}
+
+fn name_kind(kind: RuleKind) -> NameKind
+    ensures { result ≡ name_kind_of kind }
+{
+    match kind {
+        RuleKind::Namespace => NameKind::Namespace,
+        RuleKind::Pool => NameKind::Pool,
+    }
+}
+
+const MAX_NAME: usize = 128;
+
+/// The pattern that a label is.
+#[tactic(auto, using(crate::proofs::Patterns::names_are_utf8), unfolding(crate::specs::Rules::pattern_of))]
+pub fn read_pattern(alloc: Global, kind: RuleKind, label: &[u8]) -> Result<Pattern, RuleFault>
+    ensures { Gives same result (pattern_of kind label.now) }
+{
+    let (last, front) = label.split_last().ok_or(RuleFault::Value)?;
+    let is_prefix = *last == b'*';
+    let name = if is_prefix { front } else { label };
+    if label.len() > MAX_NAME || !has_name_bytes(name_kind(kind), name) {
+        return Err(RuleFault::Value);
+    }
+    let name = str::from_utf8(name).map_err(|_| RuleFault::Value)?;
+    let text = Text::from_str(alloc, name)?;
+    Ok(Pattern { text, is_prefix })
+}

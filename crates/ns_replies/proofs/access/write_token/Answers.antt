@@ -1,0 +1,11 @@
+use Rattle.std.proofs.Common.{refl}
+use Rattle.ns_json.specs.Rendering.{token_json}
+use Rattle.ns_json.proofs.Parts.{follows_ok, follows_more, follows_last}
+use Rattle.ns_replies.proofs.access.write_token.Goals as goal
+
+pub returns : goal.returns
+unfolding token_json
+returns c =
+    let head = follows_ok _ _ _ _ c.in_ok-write_parts.ensures in
+    let policies = follows_more _ _ _ _ _ head c.in_ok-write_json.ensures in
+    follows_last _ _ _ _ _ _ _ (rw (c.as_str.ensures, c.as_str-2.ensures, c.as_str-3.ensures, c.token_kind_text.ensures) refl) policies c.write_parts-2.ensures

@@ -1,0 +1,36 @@
+//! Jobs as lists show them.
+
+ghost use Rattle.ns_json.specs.Rendering.{listed_job_json};
+
+use crate::shown::Shown;
+use json::Writer;
+use ns_json::job_reply::{kind_text, status_text};
+use ns_json::part::{Part, write_parts};
+use ns_types::reply::JobShown;
+use std::alloc::AllocError;
+
+impl Shown for JobShown {
+    ghost json = { λ job. listed_job_json job };
+
+    fn write_json(&self, out: &mut Writer) -> Result<(), AllocError> {
+        write_parts(
+            out,
+            &[
+                Part::BeginObject,
+                Part::Key("ID"),
+                Part::Text(self.id.as_str()),
+                Part::Key("JobModifyIndex"),
+                Part::Number(self.row.modify_index),
+                Part::Key("Namespace"),
+                Part::Text(self.namespace.as_str()),
+                Part::Key("Priority"),
+                Part::Number(self.row.document.priority),
+                Part::Key("Status"),
+                Part::Text(status_text(self.status)),
+                Part::Key("Type"),
+                Part::Text(kind_text(self.row.document.kind)),
+                Part::EndObject,
+            ],
+        )
+    }
+}

@@ -1,0 +1,122 @@
+//! Room for the reply of a write, which is made before its step.
+
+ghost use Rattle.std.specs.Prelude.{◌≡◌, ◌≤◌, IfOk, Ok, Some, None, string_bytes, vec_capacity, length, map, []};
+ghost use Rattle.json.specs.Print.{print};
+ghost use Rattle.json.specs.Tree as tree;
+ghost use Rattle.ns_types.specs.declared.reply.Content.TheVariants as contents;
+ghost use Rattle.ns_types.specs.Wire.{rendered_of};
+ghost use Rattle.ns_json.specs.Part.{token_of};
+ghost use Rattle.ns_json.specs.Rendered.{IsRegistered, longest_registered};
+ghost use Rattle.ns_json.specs.Replies.{body_of, rendered};
+ghost use Rattle.ns_replies.specs.Made.{made_token};
+ghost use Rattle.ns_replies.specs.Rendered.{HasRoom};
+
+use crate::shown::{text_of, written_text};
+use json::Writer;
+use ns_json::part::{Part, write_parts};
+use ns_types::id::{IdKind, id_str};
+use ns_types::reply::{Content, Reply, Response};
+use ns_types::step::NewToken;
+use std::alloc::{AllocError, Global};
+use std::marker::Model;
+
+/// Room for the reply of a write, which is made before its step. Each has room for numbers, and for
+/// a reply that says nothing. The room of a token also holds the body that is to answer it.
+#[derive(Debug, Drop)]
+pub struct Room {
+    numbers: ns_json::Room,
+    token: Option<String>,
+}
+
+impl Model for Room {
+    ghost use Rattle.std.specs.Prelude.{List, ℕ, Option, option_map, string_bytes};
+
+    ghost Value = { Option (List ℕ) };
+
+    ghost view = { λ room. option_map string_bytes room.token };
+}
+
+impl Room {
+    /// Room for what answers a registration, a stop, and a write that has nothing to say.
+    pub fn new(alloc: Global) -> Result<Room, AllocError>
+        ensures { IfOk result (λ room. room ≡ None) }
+    {
+        let numbers = ns_json::Room::new(alloc)?;
+        Ok(Room {
+            numbers,
+            token: None,
+        })
+    }
+
+    /// The same, and room for what answers the making of that token.
+    #[tactic(auto, unfolding(ns_json::specs::Replies::body_of))]
+    pub fn for_token(alloc: Global, new: &NewToken) -> Result<Room, AllocError>
+        ensures { IfOk result (λ room. room ≡ Some (body_of (contents.Token (made_token new.now)))) }
+    {
+        let numbers = ns_json::Room::new(alloc)?;
+        let body = text_of(alloc, new)?;
+        Ok(Room {
+            numbers,
+            token: Some(body),
+        })
+    }
+
+    /// The response to a write, in the room that was made for it. It takes no memory.
+    #[tactic(auto, unfolding(ns_json::specs::Replies::rendered, ns_json::specs::Replies::body_of))]
+    pub fn render(self, reply: &Reply) -> Response
+        requires { HasRoom self reply.now.content }
+        ensures bytes { rendered_of result ≡ rendered (Ok reply.now) }
+        ensures short { IsRegistered reply.now.content → length (rendered_of result).body ≤ longest_registered }
+    {
+        let Room { numbers, token } = self;
+        match &reply.content {
+            Content::Registered(_, _, _) => numbers.render(reply),
+            Content::Stopped(evaluation, index) => {
+                let body = stopped_text(numbers, *evaluation, *index);
+                Response::Done(reply.index, body)
+            }
+            Content::Written => Response::Done(reply.index, nothing_text(numbers)),
+            Content::Token(_) => {
+                let Some(body) = token else { unreachable!() };
+                Response::Done(reply.index, body)
+            }
+            _ => unreachable!(),
+        }
+    }
+}
+
+/// The text of some parts, in a buffer with room for them.
+fn parts_text(bytes: Vec<u8>, parts: &[Part<'_>]) -> String
+    requires empty { bytes.items ≡ [] }
+    requires fits { tree.room (map token_of parts.now) ≤ vec_capacity bytes }
+    ensures { string_bytes result ≡ print (map token_of parts.now) }
+{
+    let mut out = Writer::new(bytes);
+    let written = write_parts(&mut out, parts);
+    prove!(written.is_ok());
+    written_text(out)
+}
+
+fn nothing_text(numbers: ns_json::Room) -> String
+    ensures { string_bytes result ≡ body_of contents.Written }
+{
+    parts_text(numbers.into_bytes(), &[Part::BeginObject, Part::EndObject])
+}
+
+fn stopped_text(numbers: ns_json::Room, evaluation: u64, index: u64) -> String
+    ensures { string_bytes result ≡ body_of (contents.Stopped evaluation index) }
+{
+    let mut buffer = [0; 36];
+    let id = id_str(IdKind::Evaluation, evaluation, &mut buffer);
+    parts_text(
+        numbers.into_bytes(),
+        &[
+            Part::BeginObject,
+            Part::Key("EvalID"),
+            Part::Text(id),
+            Part::Key("Index"),
+            Part::Number(index),
+            Part::EndObject,
+        ],
+    )
+}

@@ -1,0 +1,31 @@
+-- What a step comes to, test by test.
+use Rattle.std.specs.Prelude.{◌≡◌, Bool, true, false, T, Option, Some, None, is_some, if◌then◌else◌}
+use Rattle.std.proofs.Common.{refl, sym, ap, subst}
+use Rattle.std.specs.Option.{option_map_or}
+use Rattle.ns_types.specs.declared.refusal.Refusal.{Refusal}
+use Rattle.ns_types.specs.declared.refusal.Refusal.TheVariants as refusals
+use Rattle.ns_types.specs.Outcome.{Outcome, Refused, found, unless}
+
+module _ {S : Type 0} where
+  pub unless_so : (b : Bool) (r : Refusal) (rest : Outcome S) → b ≡ true → unless b r rest ≡ Refused r
+  unfolding unless
+  unless_so b r rest e = ap (λ b. if b then Refused r else rest) e
+
+  pub unless_not : (b : Bool) (r : Refusal) (rest : Outcome S) → b ≡ false → unless b r rest ≡ rest
+  unfolding unless
+  unless_not b r rest e = ap (λ b. if b then Refused r else rest) e
+
+  pub found_none : {A : Type 0} (thing : Option A) (go : A → Outcome S) → thing ≡ None → found thing go ≡ Refused refusals.NotFound
+  found_none thing go e = ap (λ x. option_map_or go x (Refused refusals.NotFound)) e
+
+  pub found_some : {A : Type 0} (thing : Option A) (go : A → Outcome S) (x : A) → thing ≡ Some x → found thing go ≡ go x
+  found_some thing go x e = ap (λ x. option_map_or go x (Refused refusals.NotFound)) e
+
+  pub found_absent : {A : Type 0} (thing : Option A) (go : A → Outcome S) → is_some thing ≡ false → found thing go ≡ Refused refusals.NotFound
+  found_absent None go e = refl
+  found_absent (Some x) go e = absurd (subst T e tt)
+
+  -- where what follows does not look at what was found
+  pub found_there : {A : Type 0} (thing : Option A) (next : Outcome S) → is_some thing ≡ true → found thing (λ _. next) ≡ next
+  found_there None next e = absurd (subst T (sym e) tt)
+  found_there (Some x) next e = refl

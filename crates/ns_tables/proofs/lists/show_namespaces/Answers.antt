@@ -1,0 +1,20 @@
+use Rattle.std.proofs.Common.{sym, ◌∙◌, ◌++◌, ◌∷◌, []}
+use Rattle.ns_tables.specs.Viewed.{namespace_shown}
+use Rattle.ns_tables.proofs.Listing.{row_added, row_left_out}
+use Rattle.ns_tables.proofs.lists.show_namespaces.Goals as goal
+
+pub loop-name-preserved-in_ok-push : goal.loop-name-preserved-in_ok-push
+loop-name-preserved-in_ok-push g c passes shows =
+    row_added namespace_shown passes c.loop-name.shown _ c.in-Some.name c.in-Some-row.tenant c.loop-name.rest.now c.in-Some.others.now
+    (c.in-Some.ensures.cases.0 ∙ (λ i. (c.in-Some.name-is i, c.in-Some-row.is i) ∷ c.in-Some.others.now))
+    (c.loop-name.invariant passes shows)
+    c.push.new.self
+    (c.in_ok-push.ensures.ok ∙ (λ i. c.loop-name.shown ++ record { name = (c.in_ok-clone.ensures.cases ∙ c.in-Some.name-is) i; row = c.in_ok-clone-2.ensures.cases i } ∷ []))
+    (sym (shows c.in-Some.name c.shows.result (record { shown = _; shows = c.in-Some.name-is; says = record { met = c.shows.ensures } })) ∙ c.if-shows.true)
+
+pub loop-name-preserved-else-shows : goal.loop-name-preserved-else-shows
+loop-name-preserved-else-shows g c passes shows =
+    row_left_out namespace_shown passes c.loop-name.shown _ c.in-Some.name c.in-Some-row.tenant c.loop-name.rest.now c.in-Some.others.now
+    (c.in-Some.ensures.cases.0 ∙ (λ i. (c.in-Some.name-is i, c.in-Some-row.is i) ∷ c.in-Some.others.now))
+    (c.loop-name.invariant passes shows)
+    (sym (shows c.in-Some.name c.shows.result (record { shown = _; shows = c.in-Some.name-is; says = record { met = c.shows.ensures } })) ∙ c.if-shows.false)

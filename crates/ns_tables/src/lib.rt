@@ -1,0 +1,18 @@
+//! Namespaces, quotas and pools: the tables that administrators write.
+#![tactic(auto)]
+
+mod held;
+mod lists;
+mod namespaces;
+mod pools;
+mod quotas;
+mod sharing;
+mod tables;
+
+pub use sharing::{
+    is_confined, is_withdrawn, names_pool, names_quota, overlaps, permits, same_quota, same_text,
+};
+pub use tables::{QuotaRows, Tables, TenantRows};
+
+#[cfg(test)]
+mod tests;

@@ -1,0 +1,70 @@
+//! What administrators ask of pools.
+
+ghost use Rattle.std.specs.Prelude.{◌≡◌, List};
+ghost use Rattle.std.specs.List.{list_any};
+ghost use Rattle.keyed.specs.Table.{at_slot};
+ghost use Rattle.ns_types.specs.Admins.{delete_pool, is_pool_in_use, put_pool_record};
+ghost use Rattle.ns_types.specs.Names.{Key};
+ghost use Rattle.ns_types.specs.Outcome.{Changes};
+ghost use Rattle.ns_tables.specs.Viewed.{tenant_uses_pool, world_of};
+
+use crate::held::looks_to_pool;
+use crate::sharing::names_pool;
+use crate::tables::{Slot, Tables, TenantRows, is_default, is_full};
+use ns_types::records::Pool;
+use ns_types::refusal::Refusal;
+use ns_types::reply::Content;
+use ns_types::text::Text;
+
+fn uses_pool(slot: &Slot<TenantRows>, pool: &Text) -> bool
+    ensures { result ≡ at_slot (tenant_uses_pool pool.now) slot.now }
+{
+    match &slot.1 {
+        Some(tenant) => names_pool(pool, &tenant.namespace) || looks_to_pool(tenant, pool),
+        None => false,
+    }
+}
+
+fn any_uses_pool(slots: &[Slot<TenantRows>], pool: &Text) -> bool
+    ensures { result ≡ list_any (at_slot (tenant_uses_pool pool.now)) slots.now }
+{
+    slots.iter().any(|slot| uses_pool(slot, pool))
+}
+
+impl Tables {
+    /// Whether a namespace, or a job or an open evaluation of one, names the pool.
+    fn is_pool_in_use(&self, name: &Text) -> bool
+        ensures { (ready : List Key) → result ≡ is_pool_in_use name.now (world_of ready self.now) }
+    {
+        any_uses_pool(self.tenants.as_slice(), name)
+    }
+
+    /// Makes the pool, or writes its record in place of the old one. `Full` is the only refusal beside want of memory.
+    pub fn put_pool(&mut self, name: &Text, pool: Pool) -> Result<Content, Refusal>
+        ensures { (ready : List Key) → Changes (put_pool_record name.now pool (world_of ready self.old)) (world_of ready self.old) result (world_of ready self.new) }
+    {
+        if is_full(&self.pools, name) {
+            return Err(Refusal::Full);
+        }
+        self.pools.reserve(name)?;
+        self.pools.set(name, pool);
+        Ok(Content::Written)
+    }
+
+    /// Deletes the pool. One that is not there is `NotFound`, and `default` and one that is named are `InUse`.
+    pub fn delete_pool(&mut self, name: &Text) -> Result<Content, Refusal>
+        ensures { (ready : List Key) → Changes (delete_pool name.now (world_of ready self.old)) (world_of ready self.old) result (world_of ready self.new) }
+    {
+        if !self.has_pool(name) {
+            return Err(Refusal::NotFound);
+        }
+        if is_default(name) {
+            return Err(Refusal::InUse);
+        }
+        if self.is_pool_in_use(name) {
+            return Err(Refusal::InUse);
+        }
+        self.pools.remove(name);
+        Ok(Content::Written)
+    }
+}

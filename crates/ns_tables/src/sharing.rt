@@ -1,0 +1,120 @@
+//! What a namespace's record permits, names and shares. Nothing here takes memory.
+
+ghost use Rattle.std.specs.Prelude.{◌≡◌, false};
+ghost use Rattle.std.specs.List.{list_any};
+ghost use Rattle.std.specs.Option.{option_map_or};
+ghost use Rattle.ns_types.specs.Admins.{is_withdrawn as withdraws, names_pool as pool_is_named, same_quota as quota_is};
+ghost use Rattle.ns_types.specs.Names.{has_name as is_listed, same_name};
+ghost use Rattle.ns_types.specs.Sharing.{is_confined as confines, overlaps as is_overlap, permits as permits_pool, pools_of};
+ghost use Rattle.ns_types.specs.Sums.{names_quota as quota_is_named};
+
+use ns_types::records::Namespace;
+use ns_types::text::Text;
+
+/// Whether the texts have the same bytes.
+#[tactic(auto, using(crate::proofs::Ties::text_ties))]
+pub fn same_text(a: &Text, b: &Text) -> bool
+    ensures { result ≡ same_name a.now b.now }
+{
+    a == b
+}
+
+fn has_name(names: &[Text], name: &Text) -> bool
+    ensures { result ≡ is_listed names.now name.now }
+{
+    names.iter().any(|other| same_text(name, other))
+}
+
+/// Whether the namespace may use the pool, which need not exist.
+pub fn permits(namespace: &Namespace, pool: &Text) -> bool
+    ensures { result ≡ permits_pool namespace.now pool.now }
+{
+    match &namespace.allowed {
+        Some(allowed) => {
+            same_text(pool, &namespace.default_pool) || has_name(allowed.as_slice(), pool)
+        }
+        None => !has_name(namespace.denied.as_slice(), pool),
+    }
+}
+
+/// Whether the namespace has a list of the pools that it may use.
+pub fn is_confined(namespace: &Namespace) -> bool
+    ensures { result ≡ confines namespace.now }
+{
+    namespace.allowed.is_some()
+}
+
+/// Whether the pool is permitted by the old record, and not by the new one.
+pub fn is_withdrawn(old: &Namespace, new: &Namespace, pool: &Text) -> bool
+    ensures { result ≡ withdraws old.now new.now pool.now }
+{
+    permits(old, pool) && !permits(new, pool)
+}
+
+/// Whether both name the same quota, or neither names one.
+pub fn same_quota(a: &Namespace, b: &Namespace) -> bool
+    ensures { result ≡ quota_is a.now b.now }
+{
+    match (&a.quota, &b.quota) {
+        (None, None) => true,
+        (Some(quota), Some(other)) => same_text(quota, other),
+        _ => false,
+    }
+}
+
+/// Whether the namespace names the quota.
+pub fn names_quota(quota: &Text, namespace: &Namespace) -> bool
+    ensures { result ≡ quota_is_named quota.now namespace.now }
+{
+    match &namespace.quota {
+        Some(named) => same_text(quota, named),
+        None => false,
+    }
+}
+
+/// Whether the pool is the namespace's default, or on its list of allowed pools.
+pub fn names_pool(pool: &Text, namespace: &Namespace) -> bool
+    ensures { result ≡ pool_is_named pool.now namespace.now }
+{
+    if same_text(pool, &namespace.default_pool) {
+        return true;
+    }
+    match &namespace.allowed {
+        Some(allowed) => has_name(allowed.as_slice(), pool),
+        None => false,
+    }
+}
+
+fn permits_any(namespace: &Namespace, pools: &[Text]) -> bool
+    ensures { result ≡ list_any (permits_pool namespace.now) pools.now }
+{
+    pools.iter().any(|pool| permits(namespace, pool))
+}
+
+/// Whether the other may use a pool of the namespace, if that is confined.
+fn shares_pool(namespace: &Namespace, other: &Namespace) -> bool
+    ensures { result ≡ list_any (permits_pool other.now) (pools_of namespace.now) }
+{
+    match &namespace.allowed {
+        Some(allowed) => {
+            permits(other, &namespace.default_pool) || permits_any(other, allowed.as_slice())
+        }
+        None => false,
+    }
+}
+
+fn shares_quota(namespace: &Namespace, other: &Namespace) -> bool
+    ensures { result ≡ option_map_or (λ quota. quota_is_named quota other.now) namespace.now.quota false }
+{
+    match &namespace.quota {
+        Some(quota) => names_quota(quota, other),
+        None => false,
+    }
+}
+
+/// Whether a pool or the quota of the confined namespace is the other's too.
+pub fn overlaps(namespace: &Namespace, other: &Namespace) -> bool
+    ensures { result ≡ is_overlap namespace.now other.now }
+{
+    shares_pool(namespace, other) || shares_quota(namespace, other)
+}
