@@ -1,5 +1,5 @@
 -- Capabilities and rules of the JSON form, one after the other.
-use Rattle.std.proofs.Common.{◌≡◌, ℕ, ◌+◌, ◌<◌, ◌≤◌, List, [], ◌∷◌, ◌++◌, length, get_or, drop, Ok, String, Global, string_bytes, refl, sym, ap, ◌∙◌, codes, Some}
+use Rattle.std.proofs.Common.{◌≡◌, ℕ, ◌+◌, ◌<◌, ◌≤◌, List, [], ◌∷◌, length, get_or, drop, Ok, String, Global, string_bytes, refl, sym, ap, ◌∙◌, codes, Some}
 use Rattle.std.proofs.lemmas.List.{drop_more, drop_all}
 use Rattle.serde_json.specs.Data.{Data, item, Items}
 use Rattle.serde_json.specs.Find.{as_array}
@@ -11,7 +11,7 @@ use Rattle.ns_types.specs.declared.acl.RuleKind.{RuleKind}
 use Rattle.ns_types.specs.declared.acl.Grants.{Grants}
 use Rattle.ns_types.specs.declared.acl.Rule.{Rule}
 use Rattle.ns_policy.specs.Rules.{Read, ◌>>=◌, Fails}
-use Rattle.ns_policy.specs.Json.{each_capability, one_capability, each_rule, rule_in, present, or_value, capabilities_in}
+use Rattle.ns_policy.specs.Json.{each_capability, one_capability, each_rule, with_rule, present, or_value, capabilities_in}
 
 -- where the first step of a reading fails, so does the whole
 pub fails_first : {A B : Type 0} (f : RuleFault) (first : Read A) (more : A → Read B) (whole : Read B) → whole ≡ (first >>= more) → Fails f first → Fails f whole
@@ -43,17 +43,17 @@ abbrev Entry : Type 0
 Entry = String Global × Value
 
 rule_turn : (kind : RuleKind) (done : List Rule) (left rest : List Entry) (e : Entry) → left ≡ e ∷ rest
-    → each_rule kind done (members_view left) ≡ (rule_in kind (string_bytes e.0) (view e.1) >>= λ r. each_rule kind (done ++ r ∷ []) (members_view rest))
+    → each_rule kind done (members_view left) ≡ (with_rule kind done (string_bytes e.0) (view e.1) >>= λ rules. each_rule kind rules (members_view rest))
 unfolding each_rule
 rule_turn kind done left rest e is = rw is refl
 
-pub rule_more : (kind : RuleKind) (done : List Rule) (left rest : List Entry) (e : Entry) (r : Rule) (total : Read (List Rule)) → left ≡ e ∷ rest → rule_in kind (string_bytes e.0) (view e.1) ≡ Ok r
-    → each_rule kind done (members_view left) ≡ total → each_rule kind (done ++ r ∷ []) (members_view rest) ≡ total
-rule_more kind done left rest e r total is one so_far = sym (rule_turn kind done left rest e is ∙ rw one refl) ∙ so_far
+pub rule_more : (kind : RuleKind) (done more : List Rule) (left rest : List Entry) (e : Entry) (total : Read (List Rule)) → left ≡ e ∷ rest → with_rule kind done (string_bytes e.0) (view e.1) ≡ Ok more
+    → each_rule kind done (members_view left) ≡ total → each_rule kind more (members_view rest) ≡ total
+rule_more kind done more left rest e total is one so_far = sym (rule_turn kind done left rest e is ∙ rw one refl) ∙ so_far
 
-pub rule_bad : (f : RuleFault) (kind : RuleKind) (done : List Rule) (left rest : List Entry) (e : Entry) (total : Read (List Rule)) → left ≡ e ∷ rest → Fails f (rule_in kind (string_bytes e.0) (view e.1))
+pub rule_bad : (f : RuleFault) (kind : RuleKind) (done : List Rule) (left rest : List Entry) (e : Entry) (total : Read (List Rule)) → left ≡ e ∷ rest → Fails f (with_rule kind done (string_bytes e.0) (view e.1))
     → each_rule kind done (members_view left) ≡ total → Fails f total
-rule_bad f kind done left rest e total is bad so_far = fails_first f (rule_in kind (string_bytes e.0) (view e.1)) _ total (sym so_far ∙ rule_turn kind done left rest e is) bad
+rule_bad f kind done left rest e total is bad so_far = fails_first f (with_rule kind done (string_bytes e.0) (view e.1)) _ total (sym so_far ∙ rule_turn kind done left rest e is) bad
 
 pub rule_done : (kind : RuleKind) (done : List Rule) (left : List Entry) (total : Read (List Rule)) → left ≡ [] → each_rule kind done (members_view left) ≡ total → total ≡ Ok done
 unfolding each_rule

@@ -59,9 +59,17 @@ rule_in kind label d = do
   grants ← capabilities_in kind grants d
   Ok (record { kind = kind; pattern = pattern; grants = grants })
 
+abbrev pub with_rule_from : RuleKind → List Rule → List ℕ → Option Data → Read (List Rule)
+with_rule_from kind done label None = Ok done
+with_rule_from kind done label (Some d) = rule_in kind label d >>= λ r. Ok (done ++ r ∷ [])
+
+-- the rules with the one of the next pattern, if anything stands for it
+unfoldable pub with_rule : RuleKind → List Rule → List ℕ → Data → Read (List Rule)
+with_rule kind done label d = with_rule_from kind done label (unless_null d)
+
 unfoldable pub each_rule : RuleKind → List Rule → Members → Read (List Rule)
 each_rule kind done no_members = Ok done
-each_rule kind done (member k d ms) = rule_in kind k d >>= λ r. each_rule kind (done ++ r ∷ []) ms
+each_rule kind done (member k d ms) = with_rule kind done k d >>= λ rules. each_rule kind rules ms
 
 abbrev pub member_name : RuleKind → List ℕ
 member_name Namespace = codes "namespace"

@@ -4,7 +4,7 @@ ghost use Rattle.std.specs.Prelude.{◌≡◌, [], option_map};
 ghost use Rattle.serde_json.specs.View.{view, items_view, members_view};
 ghost use Rattle.ns_policy.specs.Rules.{Gives, same};
 ghost use Rattle.serde_json.specs.Find.{as_array};
-ghost use Rattle.ns_policy.specs.Json.{or_value, present as present_in, policy_in, capabilities_in, each_capability, one_capability, json_form, rule_in, each_rule, kind_rules as kind_rules_in, member_name, json_rules as json_rules_in, json_text};
+ghost use Rattle.ns_policy.specs.Json.{or_value, present as present_in, policy_in, capabilities_in, each_capability, one_capability, json_form, rule_in, with_rule, each_rule, kind_rules as kind_rules_in, member_name, json_rules as json_rules_in, json_text};
 
 use crate::fault::RuleFault;
 use crate::rule::{NO_GRANTS, read_pattern, with_capability, with_policy};
@@ -93,6 +93,26 @@ fn rule_of(alloc: Global, kind: RuleKind, label: &str, value: &Value) -> Result<
     })
 }
 
+/// The rules with that of the pattern, which is absent where its value is null.
+#[tactic(auto, unfolding(crate::specs::Json::with_rule))]
+fn add_rule(
+    alloc: Global,
+    rules: Rows<Rule>,
+    kind: RuleKind,
+    label: &str,
+    value: &Value,
+) -> Result<Rows<Rule>, RuleFault>
+    ensures { Gives same result (with_rule kind rules label.now (view value.now)) }
+{
+    if value.is_null() {
+        return Ok(rules);
+    }
+    let rule = rule_of(alloc, kind, label, value)?;
+    let mut all = rules;
+    all.push(rule)?;
+    Ok(all)
+}
+
 fn add_rules(
     alloc: Global,
     rules: Rows<Rule>,
@@ -103,8 +123,7 @@ fn add_rules(
 {
     let mut all = rules;
     for (label, value) in members.iter() {
-        let rule = rule_of(alloc, kind, label.as_str(), value)?;
-        all.push(rule)?;
+        all = add_rule(alloc, all, kind, label.as_str(), value)?;
     }
     Ok(all)
 }

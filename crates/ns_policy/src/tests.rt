@@ -47,6 +47,8 @@ fn reads_both_forms_alike(rt: HostRuntime) -> Result<(), Fail> {
         " \t\r\n{\"namespace\":{\"a*\":{\"policy\":\"write\"},\"default\":{\"policy\":\"read\",\"capabilities\":[\"submit-job\",\"dispatch-job\"]}},\"node_pool\":{\"east_1\":{\"policy\":null,\"capabilities\":[\"read\",\"deny\"]}},\"quota\":1}";
     assert!(rt; is_read_alike(alloc, blocks, json)?);
     assert!(rt; !is_read_alike(alloc, blocks, "")?);
+    let absent = "{\"namespace\":{\"a\":null,\"b!\":null},\"node_pool\":null}";
+    assert!(rt; is_read_alike(alloc, absent, "")?);
     let rules = read(alloc, blocks)?;
     assert_eq!(rt; rules.as_slice().len(), 3);
     if let [first, second, third] = rules.as_slice() {
