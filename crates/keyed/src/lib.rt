@@ -8,6 +8,3 @@ mod slots;
 
 pub use names::NameTable;
 pub use numbers::NumberTable;
-
-#[cfg(test)]
-mod tests;

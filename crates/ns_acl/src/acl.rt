@@ -10,9 +10,9 @@ ghost use Rattle.ns_acl.specs.Bearers.{bearer_of};
 
 use crate::bearer::{Bearer, of_token};
 use crate::gathering::Gathered;
-use crate::shown::{new_row, policy_content, token_content};
+use crate::shown::{policy_content, token_shown};
 use crate::tables::{has_no_room, has_row, is_full, put};
-use crate::tokens;
+use crate::tokens::{self, add_token};
 use keyed::NameTable;
 use ns_types::acl::{Grants, Policy, PoolRights, Rights, RuleKind, Token};
 use ns_types::refusal::Refusal;
@@ -238,10 +238,9 @@ impl Acl {
         if has_no_room(&self.tokens) {
             return Err(Refusal::Full);
         }
-        let content = token_content(new)?;
-        let token = new_row(new)?;
-        put(&mut self.tokens, &new.secret, token)?;
-        Ok(content)
+        let shown = token_shown(new)?;
+        add_token(&mut self.tokens, new)?;
+        Ok(Content::Token(shown))
     }
 
     /// Takes the token out. `NotFound` where no token has that accessor, and `InUse` for the bootstrap token.

@@ -9,6 +9,3 @@ mod tables;
 mod tokens;
 
 pub use acl::Acl;
-
-#[cfg(test)]
-mod tests;

@@ -19,17 +19,17 @@ pub(crate) fn policy_content(name: &Text, policy: &Policy) -> Result<Content, Al
     }))
 }
 
-/// The answer to a new token: all of it, with its secret.
-pub(crate) fn token_content(new: &NewToken) -> Result<Content, AllocError>
-    ensures { IfOk result (λ content. content ≡ contents.Token (record { accessor = new.now.accessor; secret = new.now.secret; name = new.now.name; kind = new.now.kind; policies = new.now.policies })) }
+/// What is answered of a new token: all of it, with its secret.
+pub(crate) fn token_shown(new: &NewToken) -> Result<TokenShown, AllocError>
+    ensures { IfOk result (λ shown. shown ≡ record { accessor = new.now.accessor; secret = new.now.secret; name = new.now.name; kind = new.now.kind; policies = new.now.policies }) }
 {
-    Ok(Content::Token(TokenShown {
+    Ok(TokenShown {
         accessor: new.accessor.clone()?,
         secret: new.secret.clone()?,
         name: new.name.clone()?,
         kind: new.kind,
         policies: new.policies.clone()?,
-    }))
+    })
 }
 
 /// The row of a new token.

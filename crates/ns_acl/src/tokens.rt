@@ -1,14 +1,19 @@
 //! Tokens by their accessors, and the bootstrap token.
 
-ghost use Rattle.std.specs.Prelude.{◌≡◌, IfOk, find, option_copied, option_map};
+ghost use Rattle.std.specs.Prelude.{◌≡◌, IfOk, OnOk, OnErr, find, option_copied, option_map};
+ghost use Rattle.std.specs.FinMap.{insert};
 ghost use Rattle.std.specs.List.{list_any};
-ghost use Rattle.keyed.specs.Table.{at_slot};
-ghost use Rattle.ns_types.specs.Access.{bootstrap_accessor};
+ghost use Rattle.keyed.specs.Table.{at_slot, rows};
+ghost use Rattle.ns_types.specs.Access.{bootstrap_accessor, token_of};
 ghost use Rattle.ns_types.specs.Names.{same_name};
 ghost use Rattle.ns_acl.specs.Bearers.{first_token};
 
+use crate::shown::new_row;
+use crate::tables::put;
+use keyed::NameTable;
 use ns_types::acl::{Token, TokenKind};
 use ns_types::rows::Rows;
+use ns_types::step::NewToken;
 use ns_types::text::Text;
 use std::alloc::{AllocError, Global};
 
@@ -62,4 +67,13 @@ pub(crate) fn secret_of<'a>(slots: &'a [Slot], accessor: &Text) -> Option<&'a Te
         .iter()
         .find(|slot| is_of(slot, accessor))
         .map(|slot| &slot.0)
+}
+
+/// Writes the row of a new token, or leaves the rows as they are.
+pub(crate) fn add_token(tokens: &mut NameTable<Token>, new: &NewToken) -> Result<(), AllocError>
+    ensures ok { OnOk result (rows tokens.new ≡ insert (rows tokens.old) new.now.secret (token_of new.now)) }
+    ensures err { OnErr result (rows tokens.new ≡ rows tokens.old) }
+{
+    let token = new_row(new)?;
+    put(tokens, &new.secret, token)
 }

@@ -1,9 +1,10 @@
 -- Answers of steps.
-use Rattle.std.proofs.Common.{◌≡◌, inl, inr, Option, Some, None, Result, Ok, Err, Bool, true, false, refl, sym, subst}
+use Rattle.std.proofs.Common.{◌≡◌, inl, inr, Option, Some, None, Result, Ok, Err, Bool, true, false, refl, sym, subst, ◌∙◌, IfOk}
 use Rattle.ns_types.specs.declared.refusal.Refusal.{Refusal}
 use Rattle.ns_types.specs.declared.refusal.Refusal.TheVariants as refusals
 use Rattle.ns_types.specs.declared.reply.Content.{Content}
 use Rattle.ns_types.specs.declared.reply.Content.TheVariants as contents
+use Rattle.ns_types.specs.declared.reply.Rendered.{Rendered}
 use Rattle.ns_types.specs.declared.reply.Reply.{Reply}
 use Rattle.ns_types.specs.declared.step.AdminCommand.TheVariants as admins
 use Rattle.ns_types.specs.declared.step.AskCommand.TheVariants as asks
@@ -13,17 +14,21 @@ use Rattle.ns_types.specs.declared.step.Step.TheVariants as steps
 use Rattle.ns_types.specs.Names.{Name}
 use Rattle.ns_types.specs.Refused.{refused}
 use Rattle.ns_types.specs.Rows.{State}
-use Rattle.ns_types.specs.Steps.{after, said, Makes}
+use Rattle.ns_types.specs.Steps.{Answer, after, said, Makes}
 use Rattle.ns_types.proofs.Lists.{not_both}
 use Rattle.ns_json.specs.Replies.{body_of, rendered}
 use Rattle.ns_replies.specs.Rendered.{HasRoom, IsRendered}
 use Rattle.ns_steps.specs.Served.{IsReading, IsServed, IsToldBy}
 use Rattle.ns_steps.specs.Told as Told
 use Rattle.ns_steps.proofs.Telling.{reading_rests, served_decides, served_tells}
-use Rattle.ns_api.specs.Answering.{AnswersOrWants}
+use Rattle.ns_api.specs.Answering.{AnswersOrWants, ShowsOrWants}
 use Rattle.ns_api.specs.Rooms.{is_reading, room_of}
 
 -- ---- refusals
+
+rendered_refusal : (refusal : Refusal) → rendered (Err refusal) ≡ refused refusal
+unfolding rendered
+rendered_refusal refusal = refl
 
 refused_so : (step : Step) (s s' : State) (refusal : Refusal) → (after step s ≡ said (Err refusal) s) × (s' ≡ s) → AnswersOrWants step s (refused refusal) s'
 unfolding rendered
@@ -71,9 +76,11 @@ reads (steps.Node pool secret tells.ReadPool) served e = tt
 reads (steps.Node pool secret _) served e = absurd served
 reads _ served e = absurd served
 
--- a read whose reply found no memory
-pub answers_memory : (step : Step) (s s' : State) (reply : Reply) → IsServed step → is_reading step ≡ true → Makes step s (Ok reply) s' → AnswersOrWants step s (refused refusals.Memory) s'
-answers_memory step s s' reply served reading m = inr (refl, reading_rests step s s' (Ok reply) (reads step served reading) m)
+-- a read may find no memory for its reply
+pub answers_read : (step : Step) (s s' : State) (answer : Answer) (reply : Rendered) → IsServed step → is_reading step ≡ true → Makes step s answer s' → ShowsOrWants answer reply → AnswersOrWants step s reply s'
+answers_read step s s' (Ok told) reply served reading m (inl e) = inl (Ok told, m, e)
+answers_read step s s' (Ok told) reply served reading m (inr e) = inr (e, reading_rests step s s' (Ok told) (reads step served reading) m)
+answers_read step s s' (Err refusal) reply served reading m e = subst (λ r. AnswersOrWants step s r s') (sym e) (answers_refused step s s' refusal served m)
 
 rendered_jobs : (content : Content) → Told.IsJobs content → IsRendered content
 rendered_jobs (contents.Jobs jobs) t = tt
@@ -131,8 +138,10 @@ read_rendered (steps.Node pool secret tells.ReadPool) content reading t = render
 read_rendered (steps.Node pool secret _) content reading t = absurd reading
 read_rendered _ content reading t = absurd reading
 
-pub shown : (step : Step) (s s' : State) (reply : Reply) → IsServed step → is_reading step ≡ true → Makes step s (Ok reply) s' → IsRendered reply.content
-shown step s s' reply served reading m = read_rendered step reply.content (reads step served reading) (served_tells step s s' reply served m)
+-- what a read answers can be rendered
+pub shows : (step : Step) (s s' : State) (answer : Answer) → IsServed step → is_reading step ≡ true → Makes step s answer s' → IfOk answer (λ reply. IsRendered reply.content)
+shows step s s' (Ok reply) served reading m = read_rendered step reply.content (reads step served reading) (served_tells step s s' reply served m)
+shows step s s' (Err refusal) served reading m = tt
 
 -- ---- writes
 
@@ -160,5 +169,11 @@ write_fits (steps.Admin secret (admins.DeleteToken accessor)) content served e t
 write_fits (steps.Admin secret _) content served e t = not_both refl e
 write_fits _ content served e t = not_both refl e
 
-pub fits : (step : Step) (s s' : State) (reply : Reply) (room : Option Name) → room ≡ room_of step → IsServed step → is_reading step ≡ false → Makes step s (Ok reply) s' → HasRoom room reply.content
-fits step s s' reply room is served writing m = subst (λ r. HasRoom r reply.content) (sym is) (write_fits step reply.content served writing (served_tells step s s' reply served m))
+-- what a write answers fits in the room of its step
+pub fits : (step : Step) (s s' : State) (answer : Answer) (room : Option Name) → room ≡ room_of step → IsServed step → is_reading step ≡ false → Makes step s answer s' → IfOk answer (λ reply. HasRoom room reply.content)
+fits step s s' (Ok reply) room is served writing m = subst (λ r. HasRoom r reply.content) (sym is) (write_fits step reply.content served writing (served_tells step s s' reply served m))
+fits step s s' (Err refusal) room is served writing m = tt
+
+pub answers_write : (step : Step) (s s' : State) (answer : Answer) (reply : Rendered) → IsServed step → Makes step s answer s' → reply ≡ rendered answer → AnswersOrWants step s reply s'
+answers_write step s s' (Ok told) reply served m e = inl (Ok told, m, e)
+answers_write step s s' (Err refusal) reply served m e = subst (λ r. AnswersOrWants step s r s') (sym (e ∙ rendered_refusal refusal)) (answers_refused step s s' refusal served m)

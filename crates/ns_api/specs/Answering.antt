@@ -35,6 +35,11 @@ Answers s a reply s' = AnswersAsked (asked a) s reply s' ⊎ WantsMemory s reply
 abbrev pub AnswersOrWants : Step → State → Rendered → State → Type 0
 AnswersOrWants step s reply s' = AnswersStep step s reply s' ⊎ WantsMemory s reply s'
 
+-- the rendering of an answer, where that of a reply may be refused for want of memory
+abbrev pub ShowsOrWants : Answer → Rendered → Type 0
+ShowsOrWants (Ok told) reply = (reply ≡ rendered (Ok told)) ⊎ (reply ≡ refused Memory)
+ShowsOrWants (Err refusal) reply = reply ≡ refused refusal
+
 -- ---- a connection
 
 -- a request that made no step: it was refused without the state, or for want of memory

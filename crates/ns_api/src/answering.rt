@@ -1,10 +1,12 @@
 //! Answers requests, over anything that takes the steps which they ask for.
 
-ghost use Rattle.std.specs.Prelude.{◌≡◌, IfOk, true, false};
+ghost use Rattle.std.specs.Prelude.{◌≡◌, ◌⊎◌, Ok, IfOk, true, false};
 ghost use Rattle.ns_types.specs.Steps.{Makes};
 ghost use Rattle.ns_types.specs.Wire.{rendered_of};
 ghost use Rattle.ns_steps.specs.Served.{IsServed};
-ghost use Rattle.ns_api.specs.Answering.{AnswersOrWants};
+ghost use Rattle.ns_json.specs.Replies.{rendered};
+ghost use Rattle.ns_replies.specs.Rendered.{HasRoom, IsRendered};
+ghost use Rattle.ns_api.specs.Answering.{AnswersAsked, AnswersOrWants, ShowsOrWants, WantsMemory};
 ghost use Rattle.ns_api.specs.Rooms.{is_reading, room_of};
 
 use crate::asking::asked;
@@ -67,6 +69,32 @@ fn room_for(alloc: Global, step: &Step) -> Result<Room, AllocError>
     }
 }
 
+/// The response to a read. Its reply may still be refused for want of memory.
+fn shown(alloc: Global, answer: &Result<Reply, Refusal>) -> Response
+    requires { IfOk answer.now (λ reply. IsRendered reply.content) }
+    ensures { ShowsOrWants answer.now (rendered_of result) }
+{
+    match answer {
+        Ok(reply) => match render(alloc, reply) {
+            Ok(response) => response,
+            Err(_) => Response::Refused(Refusal::Memory),
+        },
+        Err(refusal) => Response::Refused(*refusal),
+    }
+}
+
+/// The response to a write, in the room that was made for it.
+#[tactic(auto, unfolding(ns_json::specs::Replies::rendered))]
+fn shown_in(room: Room, answer: &Result<Reply, Refusal>) -> Response
+    requires { IfOk answer.now (λ reply. HasRoom room reply.content) }
+    ensures { rendered_of result ≡ rendered answer.now }
+{
+    match answer {
+        Ok(reply) => room.render(reply),
+        Err(refusal) => Response::Refused(*refusal),
+    }
+}
+
 impl<T: Takes, D: Draws> Api<T, D> {
     /// The table of the paths is made here, and no later.
     pub fn new(alloc: Global, taker: T, draws: D) -> Result<Api<T, D>, AllocError>
@@ -93,10 +121,10 @@ impl<T: Takes, D: Draws> Api<T, D> {
         let Ok(room) = room_for(self.alloc, step) else {
             return Response::Refused(Refusal::Memory);
         };
-        match self.taker.take(step) {
-            Ok(reply) => room.render(&reply),
-            Err(refusal) => Response::Refused(refusal),
-        }
+        let answer = self.taker.take(step);
+        let response = shown_in(room, &answer);
+        drop(answer);
+        response
     }
 
     /// A read changes nothing, so its reply may still be refused for want of memory.
@@ -105,15 +133,13 @@ impl<T: Takes, D: Draws> Api<T, D> {
         requires reads { is_reading step.now ≡ true }
         ensures { AnswersOrWants step.now (T.state self.old.taker) (rendered_of result) (T.state self.new.taker) }
     {
-        match self.taker.take(step) {
-            Ok(reply) => match render(self.alloc, &reply) {
-                Ok(response) => response,
-                Err(_) => Response::Refused(Refusal::Memory),
-            },
-            Err(refusal) => Response::Refused(refusal),
-        }
+        let answer = self.taker.take(step);
+        let response = shown(self.alloc, &answer);
+        drop(answer);
+        response
     }
 
+    /// Takes the step, by the way that it needs.
     fn step(&mut self, step: &Step) -> Response
         requires { IsServed step.now }
         ensures { AnswersOrWants step.now (T.state self.old.taker) (rendered_of result) (T.state self.new.taker) }
@@ -122,6 +148,21 @@ impl<T: Takes, D: Draws> Api<T, D> {
             self.read(step)
         } else {
             self.write(step)
+        }
+    }
+
+    /// Draws what the step lacks, and takes it.
+    fn make(&mut self, wanted: Step) -> Response
+        requires { IsServed wanted }
+        ensures { AnswersAsked (Ok wanted) (T.state self.old.taker) (rendered_of result) (T.state self.new.taker) ⊎ WantsMemory (T.state self.old.taker) (rendered_of result) (T.state self.new.taker) }
+    {
+        match drawn(self.alloc, &mut self.draws, wanted) {
+            Ok(step) => {
+                let response = self.step(&step);
+                drop(step);
+                response
+            }
+            Err(_) => Response::Refused(Refusal::Memory),
         }
     }
 }
@@ -134,13 +175,9 @@ impl<T: Takes, D: Draws> Answer for Api<T, D> {
     type A = Global;
 
     fn answer(&mut self, request: &Request<'_>) -> Response {
-        let wanted = match asked(self.alloc, &self.routes, request) {
-            Ok(wanted) => wanted,
-            Err(refusal) => return Response::Refused(refusal),
-        };
-        match drawn(self.alloc, &mut self.draws, wanted) {
-            Ok(step) => self.step(&step),
-            Err(_) => Response::Refused(Refusal::Memory),
+        match asked(self.alloc, &self.routes, request) {
+            Ok(wanted) => self.make(wanted),
+            Err(refusal) => Response::Refused(refusal),
         }
     }
 }

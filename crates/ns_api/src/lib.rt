@@ -25,6 +25,3 @@ pub use asking::asked;
 pub use drawing::Draws;
 pub use routes::Routes;
 pub use serving::serve;
-
-#[cfg(test)]
-mod tests;

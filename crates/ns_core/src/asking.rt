@@ -3,6 +3,7 @@
 ghost use Rattle.std.specs.Prelude.{◌≡◌, Some, OnOk, OnErr, option_copied};
 ghost use Rattle.std.specs.List.{list_any};
 ghost use Rattle.keyed.specs.Table.{row_at};
+ghost use Rattle.ns_types.specs.declared.reply.Content.TheVariants as contents;
 ghost use Rattle.ns_types.specs.declared.step.AskCommand.TheVariants as asks;
 ghost use Rattle.ns_types.specs.declared.step.Step.TheVariants as steps;
 ghost use Rattle.ns_types.specs.Queue.{is_busy as is_job_busy};
@@ -54,16 +55,32 @@ fn passes_bound(tenant: &TenantRows) -> bool
     tenant.rows.index() == u64::MAX || tenant.rows.evaluation_number() == u64::MAX
 }
 
-/// What a registration answers.
-fn registered(tenant: &TenantRows, made: &Made) -> Reply
+/// The numbers that a registration tells.
+#[derive(Clone, Copy)]
+struct Numbers {
+    evaluation: u64,
+    index: u64,
+    modified: u64,
+}
+
+fn numbers_of(tenant: &TenantRows, made: &Made) -> Numbers
     requires { HasBounds tenant.now }
-    ensures { result ≡ reply_with made.now (tenant_of tenant.now) }
+    ensures { record { index = Some result.index; content = contents.Registered result.evaluation result.index result.modified } ≡ reply_with made.now (tenant_of tenant.now) }
 {
-    let index = tenant.rows.index() + 1;
-    let number = tenant.rows.evaluation_number() + 1;
+    Numbers {
+        evaluation: tenant.rows.evaluation_number() + 1,
+        index: tenant.rows.index() + 1,
+        modified: made.job.modify_index,
+    }
+}
+
+/// What a registration answers.
+fn registered(numbers: Numbers) -> Reply
+    ensures { result ≡ record { index = Some numbers.index; content = contents.Registered numbers.evaluation numbers.index numbers.modified } }
+{
     Reply {
-        index: Some(index),
-        content: Content::Registered(number, index, made.job.modify_index),
+        index: Some(numbers.index),
+        content: Content::Registered(numbers.evaluation, numbers.index, numbers.modified),
     }
 }
 
@@ -150,10 +167,10 @@ impl Parts {
             return Err(refusal);
         }
         let made = make(self.alloc, namespace, tenant, registration)?;
-        let reply = registered(tenant, &made);
+        let numbers = numbers_of(tenant, &made);
         let waits = self.is_busy(namespace, tenant, &registration.id);
         self.put(namespace, &registration.id, made, waits)?;
-        Ok(reply)
+        Ok(registered(numbers))
     }
 
     /// Makes the step that is asked, or leaves the state as it is.

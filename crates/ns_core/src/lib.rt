@@ -11,6 +11,3 @@ mod server;
 mod telling;
 
 pub use server::Core;
-
-#[cfg(test)]
-mod tests;

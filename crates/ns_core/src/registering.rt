@@ -178,17 +178,19 @@ pub fn make(
     let number = tenant.rows.evaluation_number() + 1;
     let stored = tenant.rows.job(&registration.id);
     let document = document(alloc, pool_of(tenant, registration), registration)?;
-    let news = is_news(&document, stored);
+    let job_event = job_event(is_news(&document, stored), &registration.id, index)?;
+    let key = EvalKey::new(namespace.clone()?, number);
     let job = registered_job(index, document, stored)?;
+    let evaluation = evaluation(alloc, &registration.id, &job.document, index)?;
     Ok(Made {
-        evaluation: evaluation(alloc, &registration.id, &job.document, index)?,
         job,
-        job_event: job_event(news, &registration.id, index)?,
+        evaluation,
+        job_event,
         evaluation_event: Event {
             index,
             topic: Topic::EvaluationUpdated(number),
         },
-        key: EvalKey::new(namespace.clone()?, number),
+        key,
     })
 }
 

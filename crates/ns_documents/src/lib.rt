@@ -14,6 +14,3 @@ pub use policy::read_policy;
 pub use pool::{NamedPool, read_pool};
 pub use quota::{NamedQuota, read_quota};
 pub use token::{TokenDocument, read_token};
-
-#[cfg(test)]
-mod tests;

@@ -8,8 +8,6 @@ mod header;
 mod input;
 mod output;
 mod response;
-#[cfg(test)]
-mod tests;
 
 pub use crate::counting::Counted;
 pub use crate::engine::{Answer, ConnFault, serve};

@@ -11,6 +11,3 @@ mod reply;
 
 pub use registration::{RegistrationDocument, read_registration};
 pub use reply::{Room, render};
-
-#[cfg(test)]
-mod tests;

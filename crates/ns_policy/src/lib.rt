@@ -28,6 +28,3 @@ pub fn read_rules(alloc: Global, text: &str) -> Result<Rows<Rule>, RuleFault>
         parser::read_blocks(alloc, text.as_bytes())
     }
 }
-
-#[cfg(test)]
-mod tests;

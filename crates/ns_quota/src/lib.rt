@@ -4,6 +4,3 @@
 mod uses;
 
 pub use uses::{Uses, allows};
-
-#[cfg(test)]
-mod tests;

@@ -13,6 +13,3 @@ mod work;
 
 pub use reply::render;
 pub use room::Room;
-
-#[cfg(test)]
-mod tests;

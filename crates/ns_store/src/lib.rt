@@ -6,6 +6,3 @@ mod looked_up;
 mod namespace;
 
 pub use namespace::NamespaceRows;
-
-#[cfg(test)]
-mod tests;

@@ -13,6 +13,3 @@ pub use sharing::{
     is_confined, is_withdrawn, names_pool, names_quota, overlaps, permits, same_quota, same_text,
 };
 pub use tables::{QuotaRows, Tables, TenantRows};
-
-#[cfg(test)]
-mod tests;

@@ -42,8 +42,8 @@ returns-clause-answered c =
     (concludes (state_of c.args.self.now) c.args.namespace.now (option_copied c.args.secret) c.args.registration.now (tenant_of c.in-Some.tenant.now) (may _ _ c.rights.ensures true c.if-not-rights.false) (tenant_at c.args.self.now c.args.namespace.now c.in-Some.tenant.now at) c.requires.early) in
     let puts = subst (λ b. PutsRows c.args.self.now c.args.namespace.now c.args.registration.now.id c.in_ok-made.made b c.put.new.self c.in-Some.tenant.now) c.is_busy-waits.ensures (c.in_ok-put.ensures.done c.in-Some.tenant.now at) in
     concluded.1
-    ∙ ap (λ reply. said (Ok reply) (registered_state c.args.namespace.now c.args.registration.now (state_of c.args.self.now) (tenant_of c.in-Some.tenant.now))) (sym (c.registered-reply.ensures ∙ reply_made c.in_ok-made.made c.args.namespace.now c.args.registration.now (tenant_of c.in-Some.tenant.now) c.in_ok-made.ensures))
-    ∙ ap (λ s. said (Ok c.registered-reply.result) s) (sym (state_made c.args.self.now c.put.new.self c.args.namespace.now c.args.registration.now c.in_ok-made.made c.in-Some.tenant.now c.in_ok-made.ensures puts))
+    ∙ ap (λ reply. said (Ok reply) (registered_state c.args.namespace.now c.args.registration.now (state_of c.args.self.now) (tenant_of c.in-Some.tenant.now))) (sym (c.registered.ensures ∙ c.numbers_of-numbers.ensures ∙ reply_made c.in_ok-made.made c.args.namespace.now c.args.registration.now (tenant_of c.in-Some.tenant.now) c.in_ok-made.ensures))
+    ∙ ap (λ s. said (Ok c.registered.result) s) (sym (state_made c.args.self.now c.put.new.self c.args.namespace.now c.args.registration.now c.in_ok-made.made c.in-Some.tenant.now c.in_ok-made.ensures puts))
 
 pub returns-clause-held : goal.returns-clause-held
 returns-clause-held c =

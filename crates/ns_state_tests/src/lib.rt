@@ -1,0 +1,15 @@
+//! Tests of the crates that hold the state, through their public calls.
+#![tactic(auto)]
+
+#[cfg(test)]
+mod acl;
+#[cfg(test)]
+mod by_key;
+#[cfg(test)]
+mod quota;
+#[cfg(test)]
+mod server;
+#[cfg(test)]
+mod store;
+#[cfg(test)]
+mod tables;

@@ -1,0 +1,501 @@
+// Each call may be refused for want of memory once, and then answers as with ample memory.
+use ns_documents::{
+    NamedNamespace, NamedPool, NamedQuota, TokenDocument, read_namespace, read_policy, read_pool,
+    read_quota, read_token,
+};
+use ns_types::acl::{Policy, TokenKind};
+use ns_types::records::Namespace;
+use ns_types::refusal::{Member, Refusal};
+use ns_types::resources::{Limit, Limits};
+use ns_types::text::Text;
+use std::alloc::{AllocError, Global};
+use std::test::Fail;
+
+fn namespace(
+    alloc: Global,
+    path_name: Option<&Text>,
+    body: &str,
+) -> Result<NamedNamespace, Refusal> {
+    match read_namespace(alloc, path_name, body.as_bytes()) {
+        Err(Refusal::Memory) => read_namespace(alloc, path_name, body.as_bytes()),
+        answer => answer,
+    }
+}
+
+fn quota(alloc: Global, path_name: Option<&Text>, body: &str) -> Result<NamedQuota, Refusal> {
+    match read_quota(alloc, path_name, body.as_bytes()) {
+        Err(Refusal::Memory) => read_quota(alloc, path_name, body.as_bytes()),
+        answer => answer,
+    }
+}
+
+fn pool(alloc: Global, path_name: Option<&Text>, body: &str) -> Result<NamedPool, Refusal> {
+    match read_pool(alloc, path_name, body.as_bytes()) {
+        Err(Refusal::Memory) => read_pool(alloc, path_name, body.as_bytes()),
+        answer => answer,
+    }
+}
+
+fn policy(alloc: Global, body: &str) -> Result<Policy, Refusal> {
+    match read_policy(alloc, body.as_bytes()) {
+        Err(Refusal::Memory) => read_policy(alloc, body.as_bytes()),
+        answer => answer,
+    }
+}
+
+fn token(alloc: Global, body: &str) -> Result<TokenDocument, Refusal> {
+    match read_token(alloc, body.as_bytes()) {
+        Err(Refusal::Memory) => read_token(alloc, body.as_bytes()),
+        answer => answer,
+    }
+}
+
+fn namespace_fault(alloc: Global, path_name: Option<&Text>, body: &str) -> Option<Refusal> {
+    namespace(alloc, path_name, body).err()
+}
+
+fn quota_fault(alloc: Global, path_name: Option<&Text>, body: &str) -> Option<Refusal> {
+    quota(alloc, path_name, body).err()
+}
+
+fn pool_fault(alloc: Global, path_name: Option<&Text>, body: &str) -> Option<Refusal> {
+    pool(alloc, path_name, body).err()
+}
+
+fn policy_fault(alloc: Global, body: &str) -> Option<Refusal> {
+    policy(alloc, body).err()
+}
+
+fn token_fault(alloc: Global, body: &str) -> Option<Refusal> {
+    token(alloc, body).err()
+}
+
+/// Whether those are the names, in this order.
+fn are_names(names: &[Text], first: &str, second: &str) -> bool {
+    match names {
+        [a, b] => a.as_str() == first && b.as_str() == second,
+        _ => false,
+    }
+}
+
+/// Whether nothing is said but a name.
+fn is_plain(namespace: &Namespace) -> bool {
+    namespace.description.as_str() == ""
+        && namespace.quota.is_none()
+        && namespace.default_pool.as_str() == "default"
+        && namespace.allowed.is_none()
+        && namespace.denied.as_slice().is_empty()
+}
+
+fn is_confined_to_its_default(namespace: &Namespace) -> bool {
+    match &namespace.allowed {
+        Some(pools) => pools.as_slice().is_empty(),
+        None => false,
+    }
+}
+
+fn limits_of(alloc: Global, body: &str) -> Result<Option<Limits>, Refusal> {
+    let read = quota(alloc, None, body)?;
+    Ok(read.quota.limits)
+}
+
+fn text(alloc: Global, text: &str) -> Result<Text, AllocError> {
+    match Text::from_str(alloc, text) {
+        Ok(text) => Ok(text),
+        Err(_) => Text::from_str(alloc, text),
+    }
+}
+
+/// A text between others, so many times.
+fn joined(
+    alloc: Global,
+    before: &str,
+    repeated: &str,
+    times: usize,
+    after: &str,
+) -> Result<String, AllocError> {
+    let mut text = String::from_str(alloc, before)?;
+    for _ in 0..times {
+        text.push_str(repeated)?;
+    }
+    text.push_str(after)?;
+    Ok(text)
+}
+
+/// The same, built again where memory ran out.
+fn repeated(
+    alloc: Global,
+    before: &str,
+    item: &str,
+    times: usize,
+    after: &str,
+) -> Result<String, AllocError> {
+    match joined(alloc, before, item, times, after) {
+        Ok(text) => Ok(text),
+        Err(_) => joined(alloc, before, item, times, after),
+    }
+}
+
+/// A list of so many names.
+fn joined_list(
+    alloc: Global,
+    before: &str,
+    names: usize,
+    after: &str,
+) -> Result<String, AllocError> {
+    let mut text = String::from_str(alloc, before)?;
+    text.push_str("[\"last\"")?;
+    for index in 1..names {
+        let name = format!(in alloc; ",\"n{index}\"")?;
+        text.push_str(name.as_str())?;
+    }
+    text.push_str("]")?;
+    text.push_str(after)?;
+    Ok(text)
+}
+
+fn list(alloc: Global, before: &str, names: usize, after: &str) -> Result<String, AllocError> {
+    match joined_list(alloc, before, names, after) {
+        Ok(text) => Ok(text),
+        Err(_) => joined_list(alloc, before, names, after),
+    }
+}
+
+#[test]
+fn reads_a_namespace(rt: HostRuntime) -> Result<(), Fail> {
+    let alloc = rt.alloc();
+    let body =
+        "{\"Name\":\"t-1\",\"Description\":\"of a team\",\"Quota\":\"q_1\",\"NodePoolConfiguration\":{\"Default\":\"east\",\"Allowed\":[\"b\",\"a\"],\"Denied\":[]},\"Meta\":7}";
+    let NamedNamespace { name, namespace } = namespace(alloc, None, body)?;
+    assert_eq!(rt; name.as_str(), "t-1");
+    assert_eq!(rt; namespace.description.as_str(), "of a team");
+    assert!(rt; namespace.quota.is_some_and(|quota| quota.as_str() == "q_1"));
+    assert_eq!(rt; namespace.default_pool.as_str(), "east");
+    assert!(rt; namespace.denied.as_slice().is_empty());
+    assert!(rt;
+        namespace
+            .allowed
+            .is_some_and(|pools| are_names(pools.as_slice(), "b", "a"))
+    );
+    Ok(())
+}
+
+#[test]
+fn fills_in_what_a_namespace_leaves_out(rt: HostRuntime) -> Result<(), Fail> {
+    let alloc = rt.alloc();
+    let bodies = [
+        "{\"Name\":\"a\"}",
+        "{\"Name\":\"a\",\"Description\":null,\"Quota\":\"\",\"NodePoolConfiguration\":{}}",
+        "{\"Name\":\"a\",\"Quota\":null,\"NodePoolConfiguration\":{\"Default\":\"\",\"Allowed\":null,\"Denied\":[]}}",
+    ];
+    for body in &bodies {
+        let read = namespace(alloc, None, body)?;
+        assert!(rt; is_plain(&read.namespace), "{body}");
+    }
+    let confined = "{\"Name\":\"a\",\"NodePoolConfiguration\":{\"Allowed\":[]}}";
+    let read = namespace(alloc, None, confined)?;
+    assert!(rt; is_confined_to_its_default(&read.namespace));
+    Ok(())
+}
+
+#[test]
+fn refuses_faulty_namespaces(rt: HostRuntime) {
+    let alloc = rt.alloc();
+    let cases = [
+        ("{}", Member::Name),
+        ("{\"Name\":\"\"}", Member::Name),
+        ("{\"Name\":\"a_b\",\"Description\":7}", Member::Name),
+        (
+            "{\"Name\":\"a\",\"Description\":7,\"Quota\":7}",
+            Member::Description,
+        ),
+        (
+            "{\"Name\":\"a\",\"Quota\":\"a.b\",\"NodePoolConfiguration\":7}",
+            Member::Quota,
+        ),
+        (
+            "{\"Name\":\"a\",\"NodePoolConfiguration\":7}",
+            Member::NodePoolConfiguration,
+        ),
+    ];
+    for (body, member) in &cases {
+        let refused = Some(Refusal::BadField(*member));
+        assert_eq!(rt; namespace_fault(alloc, None, body), refused, "{body}");
+    }
+    assert_eq!(rt; namespace_fault(alloc, None, "[]"), Some(Refusal::BadJson));
+}
+
+#[test]
+fn refuses_faulty_pool_configurations(rt: HostRuntime) -> Result<(), Fail> {
+    let alloc = rt.alloc();
+    let cases = [
+        ("{\"Default\":\"all\",\"Allowed\":7}", Member::Default),
+        ("{\"Default\":\"a b\"}", Member::Default),
+        ("{\"Allowed\":{},\"Denied\":{}}", Member::Allowed),
+        ("{\"Allowed\":[\"a\",\"\"]}", Member::Allowed),
+        ("{\"Allowed\":[\"a\",\"all\"]}", Member::Allowed),
+        ("{\"Allowed\":[\"a*\"]}", Member::Allowed),
+        ("{\"Allowed\":[\"a\",\"b\",\"a\"]}", Member::Allowed),
+        ("{\"Denied\":[\"a\",\"a\"]}", Member::Denied),
+        ("{\"Allowed\":[],\"Denied\":[\"a\"]}", Member::Denied),
+        ("{\"Denied\":[\"default\"]}", Member::Denied),
+        (
+            "{\"Default\":\"b\",\"Denied\":[\"a\",\"b\"]}",
+            Member::Denied,
+        ),
+    ];
+    let before = "{\"Name\":\"a\",\"NodePoolConfiguration\":";
+    for (pools, member) in &cases {
+        let body = repeated(alloc, before, pools, 1, "}")?;
+        let refused = Some(Refusal::BadField(*member));
+        assert_eq!(rt;
+            namespace_fault(alloc, None, body.as_str()),
+            refused,
+            "{pools}"
+        );
+    }
+    Ok(())
+}
+
+/// Whether each of the three takes the path's name.
+fn take_the_name(alloc: Global, path_name: &Text, body: &str) -> Result<bool, Refusal> {
+    let namespace = namespace(alloc, Some(path_name), body)?;
+    let quota = quota(alloc, Some(path_name), body)?;
+    let pool = pool(alloc, Some(path_name), body)?;
+    Ok(namespace.name == *path_name && quota.name == *path_name && pool.name == *path_name)
+}
+
+#[test]
+fn takes_the_name_of_the_path(rt: HostRuntime) -> Result<(), Fail> {
+    let alloc = rt.alloc();
+    let path = text(alloc, "a")?;
+    let bodies = ["{}", "{\"Name\":null}", "{\"Name\":\"a\"}"];
+    for body in &bodies {
+        assert!(rt; take_the_name(alloc, &path, body)?, "{body}");
+    }
+    let others = ["{\"Name\":\"\"}", "{\"Name\":\"b\"}", "{\"Name\":7}"];
+    let refused = Some(Refusal::BadField(Member::Name));
+    for body in &others {
+        assert_eq!(rt;
+            namespace_fault(alloc, Some(&path), body),
+            refused,
+            "{body}"
+        );
+        assert_eq!(rt; quota_fault(alloc, Some(&path), body), refused, "{body}");
+        assert_eq!(rt; pool_fault(alloc, Some(&path), body), refused, "{body}");
+    }
+    Ok(())
+}
+
+#[test]
+fn reads_quotas(rt: HostRuntime) -> Result<(), Fail> {
+    let alloc = rt.alloc();
+    let unlimited = Limits {
+        cpu: Limit::Unlimited,
+        memory: Limit::Unlimited,
+    };
+    let most = Limits {
+        cpu: Limit::Nothing,
+        memory: Limit::AtMost(9_007_199_254_740_992),
+    };
+    let cases = [
+        ("null", None),
+        ("[]", None),
+        ("[{}]", Some(unlimited)),
+        (
+            "[{\"Region\":\"global\",\"RegionLimit\":{\"CPU\":0}}]",
+            Some(unlimited),
+        ),
+        (
+            "[{\"RegionLimit\":{\"CPU\":-1,\"MemoryMB\":9007199254740992}}]",
+            Some(most),
+        ),
+    ];
+    for (limits, read) in &cases {
+        let body = repeated(alloc, "{\"Name\":\"q\",\"Limits\":", limits, 1, "}")?;
+        assert_eq!(rt; limits_of(alloc, body.as_str())?, *read, "{limits}");
+    }
+    Ok(())
+}
+
+#[test]
+fn refuses_faulty_quotas(rt: HostRuntime) -> Result<(), Fail> {
+    let alloc = rt.alloc();
+    let cases = [
+        ("{}", Member::Limits),
+        ("[{},{}]", Member::Limits),
+        ("[7]", Member::Limits),
+        ("[{\"Region\":\"\",\"RegionLimit\":7}]", Member::Region),
+        ("[{\"Region\":\"east\"}]", Member::Region),
+        ("[{\"RegionLimit\":[]}]", Member::RegionLimit),
+        (
+            "[{\"RegionLimit\":{\"CPU\":-2,\"MemoryMB\":-2}}]",
+            Member::Cpu,
+        ),
+        (
+            "[{\"RegionLimit\":{\"CPU\":9007199254740993}}]",
+            Member::Cpu,
+        ),
+        ("[{\"RegionLimit\":{\"CPU\":-0}}]", Member::Cpu),
+        ("[{\"RegionLimit\":{\"MemoryMB\":1.0}}]", Member::MemoryMb),
+        (
+            "[{\"RegionLimit\":{\"MemoryMB\":18446744073709551616}}]",
+            Member::MemoryMb,
+        ),
+    ];
+    for (limits, member) in &cases {
+        let body = repeated(alloc, "{\"Name\":\"q\",\"Limits\":", limits, 1, "}")?;
+        let refused = Some(Refusal::BadField(*member));
+        assert_eq!(rt;
+            quota_fault(alloc, None, body.as_str()),
+            refused,
+            "{limits}"
+        );
+    }
+    assert_eq!(rt;
+        quota(
+            alloc,
+            None,
+            "{\"Name\":\"q\",\"Description\":[],\"Limits\":7}"
+        )
+        .err(),
+        Some(Refusal::BadField(Member::Description))
+    );
+    Ok(())
+}
+
+#[test]
+fn reads_pools(rt: HostRuntime) -> Result<(), Fail> {
+    let alloc = rt.alloc();
+    let body = "{\"Name\":\"east_1\",\"Description\":\"of the east\"}";
+    let NamedPool { name, pool } = pool(alloc, None, body)?;
+    assert_eq!(rt; name.as_str(), "east_1");
+    assert_eq!(rt; pool.description.as_str(), "of the east");
+    Ok(())
+}
+
+#[test]
+fn refuses_faulty_pools(rt: HostRuntime) {
+    let alloc = rt.alloc();
+    let cases = [
+        ("{\"Description\":7}", Member::Name),
+        ("{\"Name\":\"all\",\"Description\":7}", Member::Name),
+        ("{\"Name\":\"a\",\"Description\":7}", Member::Description),
+    ];
+    for (body, member) in &cases {
+        let refused = Some(Refusal::BadField(*member));
+        assert_eq!(rt; pool_fault(alloc, None, body), refused, "{body}");
+    }
+}
+
+#[test]
+fn reads_policies(rt: HostRuntime) -> Result<(), Fail> {
+    let alloc = rt.alloc();
+    let body =
+        "{\"Name\":7,\"Description\":\"d\",\"Rules\":\"namespace \\\"*\\\" { policy = \\\"read\\\" }\"}";
+    let Policy {
+        description,
+        text,
+        rules,
+    } = policy(alloc, body)?;
+    assert_eq!(rt; description.as_str(), "d");
+    assert_eq!(rt; text.as_str(), "namespace \"*\" { policy = \"read\" }");
+    assert_eq!(rt; rules.as_slice().len(), 1);
+    let empty = policy(alloc, "{\"Rules\":\"\"}")?;
+    assert!(rt; empty.rules.as_slice().is_empty());
+    Ok(())
+}
+
+#[test]
+fn refuses_faulty_policies(rt: HostRuntime) {
+    let alloc = rt.alloc();
+    let cases = [
+        ("{\"Description\":7}", Member::Description),
+        ("{}", Member::Rules),
+        ("{\"Rules\":{}}", Member::Rules),
+        ("{\"Rules\":\"namespace\"}", Member::Rules),
+        ("{\"Rules\":\"namespace \\\"a*b\\\" { }\"}", Member::Rules),
+    ];
+    for (body, member) in &cases {
+        let refused = Some(Refusal::BadField(*member));
+        assert_eq!(rt; policy_fault(alloc, body), refused, "{body}");
+    }
+}
+
+#[test]
+fn reads_tokens(rt: HostRuntime) -> Result<(), Fail> {
+    let alloc = rt.alloc();
+    let body = "{\"Name\":\"n\",\"Type\":\"management\",\"Policies\":[\"b\",\"a\"]}";
+    let read = token(alloc, body)?;
+    assert_eq!(rt; read.name.as_str(), "n");
+    assert_eq!(rt; read.kind, TokenKind::Management);
+    assert!(rt; are_names(read.policies.as_slice(), "b", "a"));
+    let empty = token(alloc, "{\"Name\":\"\"}")?;
+    assert_eq!(rt; empty.name.as_str(), "");
+    assert_eq!(rt; empty.kind, TokenKind::Client);
+    assert!(rt; empty.policies.as_slice().is_empty());
+    Ok(())
+}
+
+#[test]
+fn refuses_faulty_tokens(rt: HostRuntime) {
+    let alloc = rt.alloc();
+    let cases = [
+        ("{\"Name\":7,\"Type\":7}", Member::Name),
+        ("{\"Type\":\"\",\"Policies\":7}", Member::Type),
+        ("{\"Type\":\"Client\"}", Member::Type),
+        ("{\"Policies\":{}}", Member::Policies),
+        ("{\"Policies\":[\"a_b\"]}", Member::Policies),
+        ("{\"Policies\":[\"a\",\"b\",\"a\"]}", Member::Policies),
+    ];
+    for (body, member) in &cases {
+        let refused = Some(Refusal::BadField(*member));
+        assert_eq!(rt; token_fault(alloc, body), refused, "{body}");
+    }
+}
+
+#[test]
+fn bounds_texts(rt: HostRuntime) -> Result<(), Fail> {
+    let alloc = rt.alloc();
+    let before = "{\"Name\":\"a\",\"Description\":\"";
+    let most = repeated(alloc, before, "a", 256, "\"}")?;
+    assert_eq!(rt; pool_fault(alloc, None, most.as_str()), None);
+    let more = repeated(alloc, before, "a", 257, "\"}")?;
+    let refused = Some(Refusal::BadField(Member::Description));
+    assert_eq!(rt; pool_fault(alloc, None, more.as_str()), refused);
+    Ok(())
+}
+
+#[test]
+fn bounds_rules(rt: HostRuntime) -> Result<(), Fail> {
+    let alloc = rt.alloc();
+    let most = repeated(alloc, "{\"Rules\":\"", " ", 65_536, "\"}")?;
+    assert_eq!(rt; policy_fault(alloc, most.as_str()), None);
+    let more = repeated(alloc, "{\"Rules\":\"", " ", 65_537, "\"}")?;
+    let refused = Some(Refusal::BadField(Member::Rules));
+    assert_eq!(rt; policy_fault(alloc, more.as_str()), refused);
+    Ok(())
+}
+
+#[test]
+fn bounds_policies(rt: HostRuntime) -> Result<(), Fail> {
+    let alloc = rt.alloc();
+    let most = list(alloc, "{\"Policies\":", 64, "}")?;
+    assert_eq!(rt; token_fault(alloc, most.as_str()), None);
+    let more = list(alloc, "{\"Policies\":", 65, "}")?;
+    let refused = Some(Refusal::BadField(Member::Policies));
+    assert_eq!(rt; token_fault(alloc, more.as_str()), refused);
+    Ok(())
+}
+
+#[test]
+fn bounds_pools(rt: HostRuntime) -> Result<(), Fail> {
+    let alloc = rt.alloc();
+    let before = "{\"Name\":\"a\",\"NodePoolConfiguration\":{\"Denied\":";
+    let most = list(alloc, before, 1000, "}}")?;
+    assert_eq!(rt; namespace_fault(alloc, None, most.as_str()), None);
+    let more = list(alloc, before, 1001, "}}")?;
+    let refused = Some(Refusal::BadField(Member::Denied));
+    assert_eq!(rt; namespace_fault(alloc, None, more.as_str()), refused);
+    Ok(())
+}

@@ -1,0 +1,393 @@
+use linked_list_allocator::LocalHeap;
+use ns_http::{Answer, ConnFault, Counted, Request, serve};
+use ns_types::refusal::Refusal;
+use ns_types::reply::Response;
+use std::alloc::{AllocError, Allocator, Global};
+use std::io::{self, ErrorKind, Read, Write};
+use std::test::Fail;
+
+/// Shows each request back: method, target, token and body.
+#[derive(Drop)]
+struct Echo<A: Allocator> {
+    alloc: A,
+    steps: u64,
+}
+
+impl<A: Allocator + Copy> Echo<A> {
+    fn text(&self, request: &Request<'_>) -> Result<String<A>, AllocError> {
+        let mut bytes = Vec::new(self.alloc);
+        bytes.extend_from_slice(request.method)?;
+        bytes.push(b' ')?;
+        bytes.extend_from_slice(request.target.as_bytes())?;
+        bytes.push(b' ')?;
+        bytes.extend_from_slice(request.token.unwrap_or(b"-"))?;
+        bytes.push(b' ')?;
+        bytes.extend_from_slice(request.body)?;
+        match String::from_utf8(bytes) {
+            Ok(text) => Ok(text),
+            Err(_) => String::from_str(self.alloc, "no text"),
+        }
+    }
+}
+
+impl<A: Allocator + Copy> Answer for Echo<A> {
+    ghost answers = { λ _ _ _ _. Unit {0} };
+
+    type A = A;
+
+    fn answer(&mut self, request: &Request<'_>) -> Response<A> {
+        self.steps = self.steps.wrapping_add(1);
+        match self.text(request) {
+            Ok(body) => Response::Done(Some(self.steps), body),
+            Err(_) => Response::Refused(Refusal::Memory),
+        }
+    }
+}
+
+/// Gives at most `step` bytes a read, and fails after so many reads.
+#[derive(Drop)]
+struct Slow<'a> {
+    rest: &'a [u8],
+    step: usize,
+    left: usize,
+}
+
+impl Read for Slow<'_> {
+    fn read(&mut self, buf: &mut [u8]) -> io::Result<usize> {
+        if self.left == 0 {
+            return Err(io::Error::from(ErrorKind::ConnectionReset));
+        }
+        self.left -= 1;
+        let count = self.step.min(buf.len()).min(self.rest.len());
+        let (front, rest) = self.rest.split_at(count);
+        buf[..count].copy_from_slice(front);
+        self.rest = rest;
+        Ok(count)
+    }
+}
+
+/// Takes at most `step` bytes a write, and so many in all. Then it fails, or takes nothing.
+#[derive(Drop)]
+struct Narrow {
+    bytes: Vec<u8>,
+    step: usize,
+    room: usize,
+    fails: bool,
+}
+
+impl Write for Narrow {
+    fn write(&mut self, buf: &[u8]) -> io::Result<usize> {
+        if self.room == 0 && self.fails {
+            return Err(io::Error::from(ErrorKind::BrokenPipe));
+        }
+        let count = self.step.min(buf.len()).min(self.room);
+        self.room -= count;
+        self.bytes.extend_from_slice(&buf[..count])?;
+        Ok(count)
+    }
+
+    fn flush(&mut self) -> io::Result<()> {
+        Ok(())
+    }
+}
+
+#[derive(Drop)]
+struct Outcome {
+    result: Result<u64, ConnFault>,
+    steps: u64,
+    bytes: Vec<u8>,
+    writes: u64,
+    read_faults: u64,
+    write_faults: u64,
+}
+
+fn talk(alloc: Global, reader: Slow<'_>, writer: Narrow) -> Outcome {
+    let mut reader = Counted::new(reader);
+    let mut writer = Counted::new(writer);
+    let mut handler = Echo { alloc, steps: 0 };
+    let result = serve(alloc, &mut reader, &mut writer, &mut handler);
+    let (reads, writes) = (reader.counts(), writer.counts());
+    let Narrow { bytes, .. } = writer.into_inner();
+    Outcome {
+        result,
+        steps: handler.steps,
+        bytes,
+        writes: writes.calls(),
+        read_faults: reads.faults(),
+        write_faults: writes.faults(),
+    }
+}
+
+fn wide(alloc: Global) -> Narrow {
+    Narrow {
+        bytes: Vec::new(alloc),
+        step: usize::MAX,
+        room: usize::MAX,
+        fails: false,
+    }
+}
+
+fn giving(rest: &[u8], step: usize) -> Slow<'_> {
+    Slow {
+        rest,
+        step,
+        left: usize::MAX,
+    }
+}
+
+const INPUT: &[u8] =
+    b"POST /v1/jobs HTTP/1.1\r\nX-Nomad-Token: root\r\nContent-Length: 71\r\n\r\n{\"Job\":{\"ID\":\"web\",\"TaskGroups\":[{\"Name\":\"g\",\"Tasks\":[{\"Name\":\"t\"}]}]}}GET /v1/job/web HTTP/1.1\r\nX-Nomad-Token: root\r\nConnection: close\r\n\r\n";
+
+/// The length of the first request.
+const POST_LEN: usize = 138;
+
+const OUTPUT: &[u8] =
+    b"HTTP/1.1 200 OK\r\nContent-Type: application/json\r\nX-Nomad-Index: 1\r\nContent-Length: 90\r\n\r\nPOST /v1/jobs root {\"Job\":{\"ID\":\"web\",\"TaskGroups\":[{\"Name\":\"g\",\"Tasks\":[{\"Name\":\"t\"}]}]}}HTTP/1.1 200 OK\r\nContent-Type: application/json\r\nX-Nomad-Index: 2\r\nContent-Length: 21\r\nConnection: close\r\n\r\nGET /v1/job/web root ";
+
+/// The length of the first reply.
+const FIRST_LEN: usize = 179;
+
+#[test]
+fn any_cut(rt: HostRuntime) -> Result<(), Fail> {
+    for step in [1, 2, 3, 7, 64, 4096] {
+        let out = talk(rt.alloc(), giving(INPUT, step), wide(rt.alloc()));
+        assert_eq!(rt; out.result, Ok(2));
+        assert_eq!(rt; out.bytes.as_slice(), OUTPUT);
+        assert!(rt; out.writes <= 2);
+    }
+    Ok(())
+}
+
+#[test]
+fn every_prefix(rt: HostRuntime) -> Result<(), Fail> {
+    for len in 0..INPUT.len() {
+        let out = talk(rt.alloc(), giving(&INPUT[..len], 5), wide(rt.alloc()));
+        let (steps, shown) = if len < POST_LEN {
+            (0, 0)
+        } else {
+            (1, FIRST_LEN)
+        };
+        let result = if len == 0 || len == POST_LEN {
+            Ok(steps)
+        } else {
+            Err(ConnFault::Read)
+        };
+        assert_eq!(rt; out.result, result);
+        assert_eq!(rt; out.steps, steps);
+        assert_eq!(rt; out.bytes.as_slice(), &OUTPUT[..shown]);
+    }
+    Ok(())
+}
+
+#[test]
+fn each_read_failing(rt: HostRuntime) -> Result<(), Fail> {
+    for step in [1, 5, 64, 4096] {
+        for left in 0..INPUT.len().div_ceil(step) {
+            let reader = Slow {
+                rest: INPUT,
+                step,
+                left,
+            };
+            let out = talk(rt.alloc(), reader, wide(rt.alloc()));
+            let is_short = left.saturating_mul(step) < POST_LEN;
+            let (steps, shown) = if is_short { (0, 0) } else { (1, FIRST_LEN) };
+            assert_eq!(rt; out.result, Err(ConnFault::Read));
+            assert_eq!(rt; out.read_faults, 1);
+            assert_eq!(rt; out.steps, steps);
+            assert_eq!(rt; out.bytes.as_slice(), &OUTPUT[..shown]);
+        }
+    }
+    Ok(())
+}
+
+#[test]
+fn each_part_written(rt: HostRuntime) -> Result<(), Fail> {
+    for (read_step, fails) in [(POST_LEN, true), (4096, true), (4096, false)] {
+        for room in 0..OUTPUT.len() {
+            let writer = Narrow {
+                bytes: Vec::new(rt.alloc()),
+                step: 50,
+                room,
+                fails,
+            };
+            let out = talk(rt.alloc(), giving(INPUT, read_step), writer);
+            assert_eq!(rt; out.result, Err(ConnFault::Write));
+            assert_eq!(rt; out.write_faults, 1);
+            assert_eq!(rt; out.bytes.as_slice(), &OUTPUT[..room]);
+        }
+    }
+    Ok(())
+}
+
+/// Is interrupted at every other call.
+#[derive(Drop)]
+struct Interrupted<T> {
+    inner: T,
+    due: bool,
+}
+
+impl<R: Read> Read for Interrupted<R> {
+    fn read(&mut self, buf: &mut [u8]) -> io::Result<usize> {
+        self.due = !self.due;
+        if self.due {
+            return Err(io::Error::from(ErrorKind::Interrupted));
+        }
+        self.inner.read(buf)
+    }
+}
+
+impl<W: Write> Write for Interrupted<W> {
+    fn write(&mut self, buf: &[u8]) -> io::Result<usize> {
+        self.due = !self.due;
+        if self.due {
+            return Err(io::Error::from(ErrorKind::Interrupted));
+        }
+        self.inner.write(buf)
+    }
+
+    fn flush(&mut self) -> io::Result<()> {
+        self.inner.flush()
+    }
+}
+
+#[test]
+fn interruptions(rt: HostRuntime) -> Result<(), Fail> {
+    let mut narrow = wide(rt.alloc());
+    narrow.step = 5;
+    let mut reader = Counted::new(Interrupted {
+        inner: giving(INPUT, 7),
+        due: false,
+    });
+    let mut writer = Counted::new(Interrupted {
+        inner: narrow,
+        due: false,
+    });
+    let mut handler = Echo {
+        alloc: rt.alloc(),
+        steps: 0,
+    };
+    let result = serve(rt.alloc(), &mut reader, &mut writer, &mut handler);
+    assert_eq!(rt; result, Ok(2));
+    assert!(rt; !reader.counts().broken() && !writer.counts().broken());
+    let Narrow { bytes, .. } = writer.into_inner().inner;
+    assert_eq!(rt; bytes.as_slice(), OUTPUT);
+    Ok(())
+}
+
+const BAD: &[u8] =
+    b"HTTP/1.1 400 Bad Request\r\nContent-Type: text/plain; charset=utf-8\r\nContent-Length: 11\r\nConnection: close\r\n\r\nbad request";
+
+const LENGTH_REQUIRED: &[u8] =
+    b"HTTP/1.1 411 Length Required\r\nContent-Type: text/plain; charset=utf-8\r\nContent-Length: 15\r\nConnection: close\r\n\r\nlength required";
+
+const TOO_LARGE: &[u8] =
+    b"HTTP/1.1 413 Content Too Large\r\nContent-Type: text/plain; charset=utf-8\r\nContent-Length: 9\r\nConnection: close\r\n\r\ntoo large";
+
+fn refuses(alloc: Global, input: &[u8], reply: &[u8]) -> bool {
+    let out = talk(alloc, giving(input, 4096), wide(alloc));
+    out.result == Ok(1) && out.steps == 0 && out.bytes.as_slice() == reply
+}
+
+#[test]
+fn refused_heads(rt: HostRuntime) {
+    let heads: [(&[u8], &[u8]); 8] = [
+        (b"GET\r\n\r\n", BAD),
+        (b"POST / HTTP/1.1\r\nContent-Length: +5\r\n\r\nabcde", BAD),
+        (
+            b"POST / HTTP/1.1\r\nContent-Length: 1\r\ncontent-length: 1\r\n\r\na",
+            BAD,
+        ),
+        (
+            b"POST / HTTP/1.1\r\nContent-Length: 1\r\nTransfer-Encoding: chunked\r\n\r\na",
+            BAD,
+        ),
+        (
+            b"POST / HTTP/1.1\r\nContent-Length: 000000000000000000001\r\n\r\na",
+            BAD,
+        ),
+        (
+            b"POST / HTTP/1.1\r\nTransfer-Encoding: chunked\r\n\r\n",
+            LENGTH_REQUIRED,
+        ),
+        (
+            b"POST / HTTP/1.1\r\nContent-Length: 1048577\r\n\r\n",
+            TOO_LARGE,
+        ),
+        (
+            b"POST / HTTP/1.1\r\nContent-Length: 99999999999999999999\r\n\r\n",
+            TOO_LARGE,
+        ),
+    ];
+    for (head, reply) in heads {
+        assert!(rt; refuses(rt.alloc(), head, reply));
+    }
+}
+
+/// The front, so many times the middle, and the end.
+fn repeated(
+    alloc: Global,
+    (front, middle, end): (&[u8], &[u8], &[u8]),
+    count: usize,
+) -> Result<Vec<u8>, AllocError> {
+    let mut bytes = Vec::from_slice(alloc, front)?;
+    for _ in 0..count {
+        bytes.extend_from_slice(middle)?;
+    }
+    bytes.extend_from_slice(end)?;
+    Ok(bytes)
+}
+
+fn serves(alloc: Global, input: &[u8]) -> bool {
+    let out = talk(alloc, giving(input, 100_000), wide(alloc));
+    out.result == Ok(1) && out.steps == 1 && out.writes <= 2
+}
+
+#[test]
+fn limits(rt: HostRuntime) -> Result<(), Fail> {
+    let long: (&[u8], &[u8], &[u8]) = (b"GET / HTTP/1.1\r\nA: ", b"x", b"\r\n\r\n");
+    let head = repeated(rt.alloc(), long, 16_361)?;
+    assert_eq!(rt; head.len(), 16_384);
+    assert!(rt; serves(rt.alloc(), &head));
+    let head = repeated(rt.alloc(), long, 16_362)?;
+    assert!(rt; refuses(rt.alloc(), &head, TOO_LARGE));
+    let many: (&[u8], &[u8], &[u8]) = (b"GET / HTTP/1.0\r\n", b"A: b\r\n", b"\r\n");
+    let head = repeated(rt.alloc(), many, 64)?;
+    assert!(rt; serves(rt.alloc(), &head));
+    let head = repeated(rt.alloc(), many, 65)?;
+    assert!(rt; refuses(rt.alloc(), &head, TOO_LARGE));
+    let large: (&[u8], &[u8], &[u8]) = (
+        b"POST / HTTP/1.0\r\nContent-Length: 1048576\r\n\r\n",
+        b"x",
+        b"",
+    );
+    let request = repeated(rt.alloc(), large, 1_048_576)?;
+    assert!(rt; serves(rt.alloc(), &request));
+    Ok(())
+}
+
+#[test]
+fn each_budget(rt: HostRuntime) -> Result<(), Fail> {
+    let mut served = false;
+    for room in 0..40 {
+        let heap = LocalHeap::new(rt.alloc(), 32_768 * (room + 1))?;
+        let mut reader = Counted::new(INPUT);
+        let mut writer = Counted::new(wide(rt.alloc()));
+        let mut handler = Echo {
+            alloc: &heap,
+            steps: 0,
+        };
+        let result = serve(&heap, &mut reader, &mut writer, &mut handler);
+        if result == Err(ConnFault::Memory) {
+            assert!(rt; !served);
+            assert_eq!(rt; reader.counts().calls(), 0);
+            assert_eq!(rt; writer.counts().calls(), 0);
+            assert_eq!(rt; handler.steps, 0);
+        } else {
+            assert_eq!(rt; result, Ok(2));
+            served = true;
+        }
+        assert_eq!(rt; heap.used(), 0);
+    }
+    assert!(rt; served);
+    Ok(())
+}

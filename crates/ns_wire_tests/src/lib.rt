@@ -1,0 +1,15 @@
+//! Tests of the crates that read requests and write replies, through their public calls.
+#![tactic(auto)]
+
+#[cfg(test)]
+mod api;
+#[cfg(test)]
+mod documents;
+#[cfg(test)]
+mod http;
+#[cfg(test)]
+mod json;
+#[cfg(test)]
+mod policy;
+#[cfg(test)]
+mod replies;

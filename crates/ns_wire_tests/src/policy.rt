@@ -1,0 +1,198 @@
+// Each call may be refused for want of memory once, and then answers as with ample memory.
+use ns_policy::{RuleFault, read_rules};
+use ns_types::acl::{Grants, Rule, RuleKind};
+use ns_types::rows::Rows;
+use std::alloc::{AllocError, Global};
+use std::test::Fail;
+
+fn read(alloc: Global, text: &str) -> Result<Rows<Rule>, RuleFault> {
+    match read_rules(alloc, text) {
+        Err(RuleFault::Memory) => read_rules(alloc, text),
+        answer => answer,
+    }
+}
+
+fn fault_of(alloc: Global, text: &str) -> Option<RuleFault> {
+    read(alloc, text).err()
+}
+
+/// What the only rule of a text gives.
+fn grants_of(alloc: Global, text: &str) -> Option<Grants> {
+    let rules = read(alloc, text).ok()?;
+    match rules.as_slice() {
+        [rule] => Some(rule.grants),
+        _ => None,
+    }
+}
+
+fn is_same_rule(a: &Rule, b: &Rule) -> bool {
+    a.kind == b.kind
+        && a.pattern.text == b.pattern.text
+        && a.pattern.is_prefix == b.pattern.is_prefix
+        && a.grants == b.grants
+}
+
+fn is_read_alike(alloc: Global, text: &str, other: &str) -> Result<bool, RuleFault> {
+    let rules = read(alloc, text)?;
+    let others = read(alloc, other)?;
+    let mut pairs = rules.as_slice().iter().zip(others.as_slice());
+    Ok(rules.as_slice().len() == others.as_slice().len() && pairs.all(|(a, b)| is_same_rule(a, b)))
+}
+
+#[test]
+fn reads_both_forms_alike(rt: HostRuntime) -> Result<(), Fail> {
+    let alloc = rt.alloc();
+    let blocks =
+        "# a comment\nnamespace \"a*\" { policy = \"write\" }\r\nnamespace \"default\"{policy=\"read\"capabilities=[\"submit-job\",\"dispatch-job\",]}// another\nnode_pool \"east_1\" {\n\tcapabilities = [\"read\", \"deny\"]\n other { policy = \"none\" } x = [[1], true]\n}\nquota \"a\" \"b\" { }";
+    let json =
+        " \t\r\n{\"namespace\":{\"a*\":{\"policy\":\"write\"},\"default\":{\"policy\":\"read\",\"capabilities\":[\"submit-job\",\"dispatch-job\"]}},\"node_pool\":{\"east_1\":{\"policy\":null,\"capabilities\":[\"read\",\"deny\"]}},\"quota\":1}";
+    assert!(rt; is_read_alike(alloc, blocks, json)?);
+    assert!(rt; !is_read_alike(alloc, blocks, "")?);
+    let absent = "{\"namespace\":{\"a\":null,\"b!\":null},\"node_pool\":null}";
+    assert!(rt; is_read_alike(alloc, absent, "")?);
+    let rules = read(alloc, blocks)?;
+    assert_eq!(rt; rules.as_slice().len(), 3);
+    if let [first, second, third] = rules.as_slice() {
+        assert!(rt; first.pattern.is_prefix && first.pattern.text.as_str() == "a");
+        assert!(rt; first.grants.alloc_lifecycle && !first.grants.write_pool);
+        assert!(rt; !second.pattern.is_prefix && second.pattern.text.as_str() == "default");
+        assert!(rt; second.grants.submit_job && !second.grants.alloc_lifecycle);
+        assert!(rt; third.kind == RuleKind::Pool && third.grants.read_pool);
+        assert!(rt; third.grants.deny && !third.grants.write_pool);
+    }
+    Ok(())
+}
+
+#[test]
+fn gives_what_the_words_say(rt: HostRuntime) {
+    let alloc = rt.alloc();
+    let none = Grants {
+        list_jobs: false,
+        read_job: false,
+        submit_job: false,
+        alloc_lifecycle: false,
+        read_pool: false,
+        write_pool: false,
+        deny: false,
+    };
+    let scale = "namespace \"*\" { policy = \"scale\" }";
+    assert_eq!(rt; grants_of(alloc, scale), Some(none));
+    let delete = "node_pool \"*\" { capabilities = [\"delete\"] }";
+    assert_eq!(rt; grants_of(alloc, delete), Some(none));
+    let write = "node_pool \"a\" { policy = \"write\" }";
+    assert_eq!(rt;
+        grants_of(alloc, write),
+        Some(Grants {
+            read_pool: true,
+            write_pool: true,
+            ..none
+        })
+    );
+    let deny =
+        "{\"namespace\":{\"a\":{\"policy\":\"read\"},\"a\":{\"capabilities\":[\"deny\",\"read-job\"]}}}";
+    assert_eq!(rt;
+        grants_of(alloc, deny),
+        Some(Grants {
+            read_job: true,
+            deny: true,
+            ..none
+        })
+    );
+}
+
+#[test]
+fn refuses_what_is_no_text_of_the_grammar(rt: HostRuntime) {
+    let alloc = rt.alloc();
+    let texts = [
+        "x = \"a\\\\\"",
+        "x = \"a${b}\"",
+        "x = \"a\nb\"",
+        "namespace \"a\" {",
+        "x = [1,,]",
+        "x = -1",
+        "x { } }",
+        "# a comment\n{}",
+        "{\"namespace\":",
+        "x{x{x{x{x{x{x{x{x{x{x{x{x{x{x{x{x{}}}}}}}}}}}}}}}}}",
+    ];
+    for text in texts {
+        assert_eq!(rt; fault_of(alloc, text), Some(RuleFault::Syntax), "{text}");
+    }
+    assert_eq!(rt;
+        fault_of(alloc, "x{x{x{x{x{x{x{x{x{x{x{x{x{x{x{x{}}}}}}}}}}}}}}}}"),
+        None
+    );
+}
+
+#[test]
+fn refuses_values_that_say_nothing(rt: HostRuntime) {
+    let alloc = rt.alloc();
+    let texts = [
+        "namespace \"a*b\" { }",
+        "namespace \"a_b\" { }",
+        "namespace \"\" { }",
+        "namespace { }",
+        "namespace \"a\" \"b\" { }",
+        "namespace \"a\" { policy = \"all\" }",
+        "namespace \"a\" { policy = [] }",
+        "namespace \"a\" { policy { } }",
+        "namespace \"a\" { policy = \"read\" policy = \"read\" }",
+        "namespace \"a\" { capabilities = [1] }",
+        "node_pool \"a\" { policy = \"scale\" }",
+        "node_pool \"a\" { capabilities = [\"list-jobs\"] }",
+        "{\"node_pool\":{\"a\":[{\"policy\":\"read\"}]}}",
+        "{\"node_pool\":[]}",
+    ];
+    for text in texts {
+        assert_eq!(rt; fault_of(alloc, text), Some(RuleFault::Value), "{text}");
+    }
+}
+
+/// The attribute whose value is so many lists, one in the other.
+fn lists(alloc: Global, depth: usize) -> Result<String, AllocError> {
+    let mut text = String::from_str(alloc, "x=")?;
+    for _ in 0..depth {
+        text.push_str("[")?;
+    }
+    for _ in 0..depth {
+        text.push_str("]")?;
+    }
+    Ok(text)
+}
+
+#[test]
+fn reads_deep_lists(rt: HostRuntime) -> Result<(), Fail> {
+    let alloc = rt.alloc();
+    let mut text = lists(alloc, 30_000)?;
+    assert_eq!(rt; fault_of(alloc, text.as_str()), None);
+    text.push_str("]")?;
+    assert_eq!(rt; fault_of(alloc, text.as_str()), Some(RuleFault::Syntax));
+    Ok(())
+}
+
+/// A block of that label, so many times the letter and then a star or none.
+fn labelled(alloc: Global, letters: usize, star: &str) -> Result<String, AllocError> {
+    let mut text = String::from_str(alloc, "node_pool \"")?;
+    for _ in 0..letters {
+        text.push_str("a")?;
+    }
+    text.push_str(star)?;
+    text.push_str("\" { }")?;
+    Ok(text)
+}
+
+#[test]
+fn bounds_patterns(rt: HostRuntime) -> Result<(), Fail> {
+    let alloc = rt.alloc();
+    for (letters, star, fault) in [
+        (128, "", None),
+        (129, "", Some(RuleFault::Value)),
+        (127, "*", None),
+        (128, "*", Some(RuleFault::Value)),
+        (0, "*", None),
+    ] {
+        let text = labelled(alloc, letters, star)?;
+        assert_eq!(rt; fault_of(alloc, text.as_str()), fault);
+    }
+    Ok(())
+}
