@@ -136,6 +136,7 @@ impl Parts {
     {
         self.ready.reserve(1)?;
         let Some(mut tenant) = self.tables.tenants.take(namespace) else {
+            drop(made);
             return Ok(());
         };
         let registered = register(&mut tenant, id, made);

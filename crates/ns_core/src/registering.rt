@@ -244,6 +244,7 @@ pub fn register(tenant: &mut TenantRows, id: &Text, made: Made) -> Result<EvalKe
     let number = tenant.rows.evaluation_number() + 1;
     if let Err(refused) = reserve(tenant, id, number) {
         tenant.rows.clear_room(id, number);
+        drop(made);
         return Err(refused);
     }
     let Made {

@@ -9,7 +9,5 @@ mod quotas;
 mod sharing;
 mod tables;
 
-pub use sharing::{
-    is_confined, is_withdrawn, names_pool, names_quota, overlaps, permits, same_quota, same_text,
-};
+pub use sharing::{names_quota, overlaps, permits, same_quota, same_text};
 pub use tables::{QuotaRows, Tables, TenantRows};

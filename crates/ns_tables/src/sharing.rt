@@ -38,14 +38,14 @@ pub fn permits(namespace: &Namespace, pool: &Text) -> bool
 }
 
 /// Whether the namespace has a list of the pools that it may use.
-pub fn is_confined(namespace: &Namespace) -> bool
+pub(crate) fn is_confined(namespace: &Namespace) -> bool
     ensures { result ≡ confines namespace.now }
 {
     namespace.allowed.is_some()
 }
 
 /// Whether the pool is permitted by the old record, and not by the new one.
-pub fn is_withdrawn(old: &Namespace, new: &Namespace, pool: &Text) -> bool
+pub(crate) fn is_withdrawn(old: &Namespace, new: &Namespace, pool: &Text) -> bool
     ensures { result ≡ withdraws old.now new.now pool.now }
 {
     permits(old, pool) && !permits(new, pool)
@@ -73,7 +73,7 @@ pub fn names_quota(quota: &Text, namespace: &Namespace) -> bool
 }
 
 /// Whether the pool is the namespace's default, or on its list of allowed pools.
-pub fn names_pool(pool: &Text, namespace: &Namespace) -> bool
+pub(crate) fn names_pool(pool: &Text, namespace: &Namespace) -> bool
     ensures { result ≡ pool_is_named pool.now namespace.now }
 {
     if same_text(pool, &namespace.default_pool) {
