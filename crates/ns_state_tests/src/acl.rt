@@ -1,9 +1,10 @@
 // Worked examples of rights, and each change once where it succeeds.
 
+use crate::owned::{holds, seen};
 use ns_acl::Acl;
 use ns_types::acl::{Grants, Pattern, Policy, PoolRights, Rights, Rule, RuleKind, TokenKind};
 use ns_types::refusal::Refusal;
-use ns_types::reply::{Content, Reply};
+use ns_types::reply::Content;
 use ns_types::rows::Rows;
 use ns_types::step::NewToken;
 use ns_types::text::Text;
@@ -11,7 +12,7 @@ use std::alloc::{AllocError, Global};
 use std::test::Fail;
 
 /// What a call answers, in short.
-#[derive(Clone, Copy, Debug, PartialEq, Eq)]
+#[derive(Clone, Copy, PartialEq, Eq)]
 enum Said {
     Written,
     Policy,
@@ -20,8 +21,8 @@ enum Said {
     Refused(Refusal),
 }
 
-fn kind_of(reply: &Reply) -> Said {
-    match &reply.content {
+fn kind_of(content: &Content) -> Said {
+    match content {
         Content::Written => Said::Written,
         Content::Policy(_) => Said::Policy,
         Content::Token(_) => Said::Token,
@@ -29,14 +30,31 @@ fn kind_of(reply: &Reply) -> Said {
     }
 }
 
-fn in_short(answer: Result<Content, Refusal>) -> Said {
+fn in_short(answer: &Result<Content, Refusal>) -> Said {
     match answer {
-        Ok(content) => kind_of(&Reply {
-            index: None,
-            content,
-        }),
-        Err(refusal) => Said::Refused(refusal),
+        Ok(content) => kind_of(content),
+        Err(refusal) => Said::Refused(*refusal),
     }
+}
+
+fn put_policy(acl: &mut Acl, name: &Text, policy: Policy) -> Said {
+    seen(acl.put_policy(name, policy), in_short)
+}
+
+fn read_policy(acl: &Acl, name: &Text) -> Said {
+    seen(acl.read_policy(name), in_short)
+}
+
+fn delete_policy(acl: &mut Acl, name: &Text) -> Said {
+    seen(acl.delete_policy(name), in_short)
+}
+
+fn create_token(acl: &mut Acl, new: &NewToken) -> Said {
+    seen(acl.create_token(new), in_short)
+}
+
+fn delete_token(acl: &mut Acl, accessor: &Text) -> Said {
+    seen(acl.delete_token(accessor), in_short)
 }
 
 /// What a rule gives in a namespace: the first of these only, two, all four, or nothing at all.
@@ -73,61 +91,90 @@ fn given(word: Word) -> Rights {
     }
 }
 
-/// A policy of one rule, whose pattern ends with a star or has none.
-fn policy(alloc: Global, kind: RuleKind, pattern: &str, word: Word) -> Result<Policy, AllocError> {
-    let mut rules = Rows::new(alloc);
-    rules.push(Rule {
+/// A rule whose pattern ends with a star or has none.
+fn rule(alloc: Global, kind: RuleKind, pattern: &str, word: Word) -> Result<Rule, AllocError> {
+    Ok(Rule {
         kind,
         pattern: Pattern {
             text: Text::from_str(alloc, pattern.trim_end_matches('*'))?,
             is_prefix: pattern.ends_with('*'),
         },
         grants: grants(word),
-    })?;
-    Ok(Policy {
-        description: Text::from_str(alloc, "")?,
-        text: Text::from_str(alloc, "")?,
-        rules,
     })
 }
 
-/// Whether a policy of one rule is written.
+/// The rules of a policy of one rule.
+fn rules(
+    alloc: Global,
+    kind: RuleKind,
+    pattern: &str,
+    word: Word,
+) -> Result<Rows<Rule>, AllocError> {
+    let mut rules = Rows::new(alloc);
+    rules.push(rule(alloc, kind, pattern, word)?)?;
+    Ok(rules)
+}
+
+fn policy(alloc: Global, kind: RuleKind, pattern: &str, word: Word) -> Result<Policy, AllocError> {
+    Ok(Policy {
+        description: Text::from_str(alloc, "")?,
+        text: Text::from_str(alloc, "")?,
+        rules: rules(alloc, kind, pattern, word)?,
+    })
+}
+
+/// Writes a policy of one rule.
 fn put(
     acl: &mut Acl,
     alloc: Global,
     name: &str,
+    kind: RuleKind,
     pattern: &str,
     word: Word,
-) -> Result<bool, AllocError> {
+) -> Result<Said, AllocError> {
     let name = Text::from_str(alloc, name)?;
-    let policy = policy(alloc, RuleKind::Namespace, pattern, word)?;
-    Ok(in_short(acl.put_policy(&name, policy)) == Said::Written)
+    let policy = policy(alloc, kind, pattern, word)?;
+    Ok(put_policy(acl, &name, policy))
+}
+
+fn push_name(names: &mut Rows<Text>, alloc: Global, name: &str) -> Result<(), AllocError> {
+    names.push(Text::from_str(alloc, name)?)
+}
+
+fn push_names(names: &mut Rows<Text>, alloc: Global, texts: &[&str]) -> Result<(), AllocError> {
+    for text in texts {
+        push_name(names, alloc, text)?;
+    }
+    Ok(())
+}
+
+fn names(alloc: Global, texts: &[&str]) -> Result<Rows<Text>, AllocError> {
+    let mut names = Rows::new(alloc);
+    push_names(&mut names, alloc, texts)?;
+    Ok(names)
 }
 
 /// A client's token whose accessor is its secret.
 fn token(alloc: Global, secret: &str, policies: &[&str]) -> Result<NewToken, AllocError> {
-    let mut names = Rows::new(alloc);
-    for name in policies {
-        names.push(Text::from_str(alloc, name)?)?;
-    }
     Ok(NewToken {
         accessor: Text::from_str(alloc, secret)?,
         secret: Text::from_str(alloc, secret)?,
         name: Text::from_str(alloc, "")?,
         kind: TokenKind::Client,
-        policies: names,
+        policies: names(alloc, policies)?,
     })
 }
 
-/// Whether the token is made.
 fn create(
     acl: &mut Acl,
     alloc: Global,
     secret: &str,
     policies: &[&str],
-) -> Result<bool, AllocError> {
+) -> Result<Said, AllocError> {
     let new = token(alloc, secret, policies)?;
-    Ok(in_short(acl.create_token(&new)) == Said::Token)
+    let said = create_token(acl, &new);
+    drop(new);
+    Ok(said)
 }
 
 /// Whether the secret has in the namespace what the word gives.
@@ -148,52 +195,61 @@ fn opening(alloc: Global) -> Result<Acl, AllocError> {
     Acl::new(alloc, &root)
 }
 
+/// A name, a pattern and what it gives.
+const POLICIES: &[(&str, &str, Word)] = &[
+    ("p1", "default", Word::Read),
+    ("p2", "d*", Word::Write),
+    ("p3", "default", Word::Deny),
+    ("p4", "de*", Word::List),
+];
+
 fn puts_policies(acl: &mut Acl, alloc: Global) -> Result<bool, AllocError> {
-    Ok(
-        put(acl, alloc, "p1", "default", Word::Read)?
-            & put(acl, alloc, "p2", "d*", Word::Write)?
-            & put(acl, alloc, "p3", "default", Word::Deny)?
-            & put(acl, alloc, "p4", "de*", Word::List)?,
-    )
+    let mut right = true;
+    for &(name, pattern, word) in POLICIES {
+        right &= put(acl, alloc, name, RuleKind::Namespace, pattern, word)? == Said::Written;
+    }
+    Ok(right)
 }
 
 fn makes_tokens(acl: &mut Acl, alloc: Global) -> Result<bool, AllocError> {
     Ok(
-        create(acl, alloc, "read", &["p1", "p2"])?
-            & create(acl, alloc, "denied", &["p1", "p2", "p3"])?
-            & create(acl, alloc, "stars", &["p2", "p4"])?
-            & create(acl, alloc, "nothing", &["p5"])?,
+        (create(acl, alloc, "read", &["p1", "p2"])? == Said::Token)
+            & (create(acl, alloc, "denied", &["p1", "p2", "p3"])? == Said::Token)
+            & (create(acl, alloc, "stars", &["p2", "p4"])? == Said::Token)
+            & (create(acl, alloc, "nothing", &["p5"])? == Said::Token),
     )
 }
 
-fn exact_names_count_first(acl: &Acl, alloc: Global) -> Result<bool, AllocError> {
-    Ok(
-        has(acl, alloc, "read", "default", Word::Read)?
-            & has(acl, alloc, "read", "dev", Word::Write)?
-            & has(acl, alloc, "read", "test", Word::Deny)?
-            & has(acl, alloc, "denied", "default", Word::Deny)?
-            & has(acl, alloc, "denied", "dev", Word::Write)?,
-    )
+/// A secret, a namespace and what it has there: exact names count first, and then longer stars.
+const RIGHTS: &[(&str, &str, Word)] = &[
+    ("read", "default", Word::Read),
+    ("read", "dev", Word::Write),
+    ("read", "test", Word::Deny),
+    ("denied", "default", Word::Deny),
+    ("denied", "dev", Word::Write),
+    ("stars", "dev", Word::List),
+    ("stars", "data", Word::Write),
+    ("nothing", "default", Word::Deny),
+    ("unknown", "default", Word::Deny),
+    ("root", "test", Word::Write),
+];
+
+fn has_rights(acl: &Acl, alloc: Global) -> Result<bool, AllocError> {
+    let mut right = true;
+    for &(secret, namespace, word) in RIGHTS {
+        right &= has(acl, alloc, secret, namespace, word)?;
+    }
+    Ok(right)
 }
 
-fn longer_stars_count_first(acl: &Acl, alloc: Global) -> Result<bool, AllocError> {
-    Ok(
-        has(acl, alloc, "stars", "dev", Word::List)?
-            & has(acl, alloc, "stars", "data", Word::Write)?
-            & has(acl, alloc, "nothing", "default", Word::Deny)?
-            & has(acl, alloc, "unknown", "default", Word::Deny)?
-            & has(acl, alloc, "root", "test", Word::Write)?,
-    )
+fn gives_each_right(acl: &mut Acl, alloc: Global) -> Result<bool, AllocError> {
+    Ok(puts_policies(acl, alloc)? && makes_tokens(acl, alloc)? && has_rights(acl, alloc)?)
 }
 
 #[test]
 fn gives_rights(rt: HostRuntime) -> Result<(), Fail> {
     let alloc = rt.alloc();
-    let mut acl = opening(alloc)?;
-    assert!(rt; puts_policies(&mut acl, alloc)?);
-    assert!(rt; makes_tokens(&mut acl, alloc)?);
-    assert!(rt; exact_names_count_first(&acl, alloc)?);
-    assert!(rt; longer_stars_count_first(&acl, alloc)?);
+    assert!(rt; holds(opening(alloc), |acl| gives_each_right(acl, alloc))?);
     Ok(())
 }
 
@@ -207,19 +263,21 @@ fn has_without_secret(acl: &Acl, name: &Text, in_namespace: Word, in_pool: Word)
     acl.rights(None, name) == given(in_namespace) && acl.pool_rights(None, name) == pool_rights
 }
 
+fn gives_to_all(acl: &mut Acl, alloc: Global) -> Result<bool, AllocError> {
+    let name = "anonymous";
+    let west = Text::from_str(alloc, "west")?;
+    let mut right = has_without_secret(acl, &west, Word::Deny, Word::Deny);
+    right &= put(acl, alloc, name, RuleKind::Namespace, "*", Word::Read)? == Said::Written;
+    right &= has_without_secret(acl, &west, Word::Read, Word::Deny);
+    right &= put(acl, alloc, name, RuleKind::Pool, "w*", Word::Write)? == Said::Written;
+    right &= has_without_secret(acl, &west, Word::Deny, Word::Write);
+    Ok(right)
+}
+
 #[test]
 fn gives_rights_without_a_secret(rt: HostRuntime) -> Result<(), Fail> {
     let alloc = rt.alloc();
-    let anonymous = Text::from_str(alloc, "anonymous")?;
-    let west = Text::from_str(alloc, "west")?;
-    let mut acl = opening(alloc)?;
-    assert!(rt; has_without_secret(&acl, &west, Word::Deny, Word::Deny));
-    let first = policy(alloc, RuleKind::Namespace, "*", Word::Read)?;
-    assert!(rt; in_short(acl.put_policy(&anonymous, first)) == Said::Written);
-    assert!(rt; has_without_secret(&acl, &west, Word::Read, Word::Deny));
-    let second = policy(alloc, RuleKind::Pool, "w*", Word::Write)?;
-    assert!(rt; in_short(acl.put_policy(&anonymous, second)) == Said::Written);
-    assert!(rt; has_without_secret(&acl, &west, Word::Deny, Word::Write));
+    assert!(rt; holds(opening(alloc), |acl| gives_to_all(acl, alloc))?);
     Ok(())
 }
 
@@ -234,39 +292,59 @@ fn standing_of(acl: &Acl, alloc: Global, secret: &str) -> Result<(bool, bool), A
     Ok(standing(acl, Some(&secret)))
 }
 
+fn knows_root_alone(acl: &mut Acl, alloc: Global) -> Result<bool, AllocError> {
+    Ok(
+        standing(acl, None) == (true, false)
+            && standing_of(acl, alloc, "root")? == (true, true)
+            && standing_of(acl, alloc, "other")? == (false, false),
+    )
+}
+
 #[test]
 fn knows_tokens(rt: HostRuntime) -> Result<(), Fail> {
     let alloc = rt.alloc();
-    let acl = opening(alloc)?;
-    assert!(rt; standing(&acl, None) == (true, false));
-    assert!(rt; standing_of(&acl, alloc, "root")? == (true, true));
-    assert!(rt; standing_of(&acl, alloc, "other")? == (false, false));
+    assert!(rt; holds(opening(alloc), |acl| knows_root_alone(acl, alloc))?);
     Ok(())
+}
+
+fn changes_policy(acl: &mut Acl, alloc: Global) -> Result<bool, AllocError> {
+    let name = Text::from_str(alloc, "p1")?;
+    let namespace = RuleKind::Namespace;
+    let mut right = read_policy(acl, &name) == Said::Refused(Refusal::NotFound);
+    right &= put(acl, alloc, "p1", namespace, "*", Word::Read)? == Said::Written;
+    right &= read_policy(acl, &name) == Said::Policy;
+    right &= delete_policy(acl, &name) == Said::Written;
+    right &= delete_policy(acl, &name) == Said::Refused(Refusal::NotFound);
+    Ok(right)
 }
 
 #[test]
 fn changes_policies(rt: HostRuntime) -> Result<(), Fail> {
     let alloc = rt.alloc();
-    let name = Text::from_str(alloc, "p1")?;
-    let mut acl = opening(alloc)?;
-    assert!(rt; in_short(acl.read_policy(&name)) == Said::Refused(Refusal::NotFound));
-    assert!(rt; put(&mut acl, alloc, "p1", "*", Word::Read)?);
-    assert!(rt; in_short(acl.read_policy(&name)) == Said::Policy);
-    assert!(rt; in_short(acl.delete_policy(&name)) == Said::Written);
-    assert!(rt; in_short(acl.delete_policy(&name)) == Said::Refused(Refusal::NotFound));
+    assert!(rt; holds(opening(alloc), |acl| changes_policy(acl, alloc))?);
     Ok(())
+}
+
+fn changes_token(acl: &mut Acl, new: &NewToken, bootstrap: &Text) -> bool {
+    let mut right = create_token(acl, new) == Said::Token;
+    right &= create_token(acl, new) == Said::Refused(Refusal::Conflict);
+    right &= delete_token(acl, &new.accessor) == Said::Written;
+    right &= delete_token(acl, &new.accessor) == Said::Refused(Refusal::NotFound);
+    right &= delete_token(acl, bootstrap) == Said::Refused(Refusal::InUse);
+    right
+}
+
+fn changes_named_tokens(acl: &mut Acl, alloc: Global) -> Result<bool, AllocError> {
+    let bootstrap = Text::from_str(alloc, "00000000-0000-0000-0000-000000000000")?;
+    let new = token(alloc, "tom", &[])?;
+    let changes = changes_token(acl, &new, &bootstrap);
+    drop(new);
+    Ok(changes)
 }
 
 #[test]
 fn changes_tokens(rt: HostRuntime) -> Result<(), Fail> {
     let alloc = rt.alloc();
-    let bootstrap = Text::from_str(alloc, "00000000-0000-0000-0000-000000000000")?;
-    let new = token(alloc, "tom", &[])?;
-    let mut acl = opening(alloc)?;
-    assert!(rt; in_short(acl.create_token(&new)) == Said::Token);
-    assert!(rt; in_short(acl.create_token(&new)) == Said::Refused(Refusal::Conflict));
-    assert!(rt; in_short(acl.delete_token(&new.accessor)) == Said::Written);
-    assert!(rt; in_short(acl.delete_token(&new.accessor)) == Said::Refused(Refusal::NotFound));
-    assert!(rt; in_short(acl.delete_token(&bootstrap)) == Said::Refused(Refusal::InUse));
+    assert!(rt; holds(opening(alloc), |acl| changes_named_tokens(acl, alloc))?);
     Ok(())
 }

@@ -1,7 +1,8 @@
+use crate::owned::holds;
 use ns_quota::{Uses, allows};
 use ns_types::resources::{Limit, Limits, Resources};
 use ns_types::text::Text;
-use std::alloc::AllocError;
+use std::alloc::{AllocError, Global};
 use std::test::Fail;
 
 fn resources(cpu: u64, memory: u64) -> Resources {
@@ -25,20 +26,29 @@ fn release(uses: &mut Uses, quota: &Text, amount: Resources) {
     }
 }
 
+/// Whether what is charged is in use until it is released, under its own quota alone.
+fn counts_uses(uses: &mut Uses, qa: &Text, qb: &Text) -> Result<bool, AllocError> {
+    charge(uses, qa, resources(400, 256))?;
+    charge(uses, qa, resources(400, 256))?;
+    let charged = uses.use_of(qa) == resources(800, 512);
+    let other = uses.use_of(qb) == resources(0, 0);
+    release(uses, qa, resources(400, 256));
+    let released = uses.use_of(qa) == resources(400, 256);
+    release(uses, qa, resources(400, 256));
+    Ok(charged && other && released && uses.use_of(qa) == resources(0, 0))
+}
+
+fn counts_named_uses(uses: &mut Uses, alloc: Global) -> Result<bool, AllocError> {
+    let qa = Text::from_str(alloc, "qa")?;
+    let qb = Text::from_str(alloc, "qb")?;
+    counts_uses(uses, &qa, &qb)
+}
+
 #[test]
 fn keeps_totals(rt: HostRuntime) -> Result<(), Fail> {
     let alloc = rt.alloc();
-    let qa = Text::from_str(alloc, "qa")?;
-    let qb = Text::from_str(alloc, "qb")?;
-    let mut uses = Uses::new(alloc);
-    charge(&mut uses, &qa, resources(400, 256))?;
-    charge(&mut uses, &qa, resources(400, 256))?;
-    assert_eq!(rt; uses.use_of(&qa), resources(800, 512));
-    assert_eq!(rt; uses.use_of(&qb), resources(0, 0));
-    release(&mut uses, &qa, resources(400, 256));
-    assert_eq!(rt; uses.use_of(&qa), resources(400, 256));
-    release(&mut uses, &qa, resources(400, 256));
-    assert_eq!(rt; uses.use_of(&qa), resources(0, 0));
+    let uses = Uses::new(alloc);
+    assert!(rt; holds(Ok(uses), |uses| counts_named_uses(uses, alloc))?);
     Ok(())
 }
 

@@ -2,6 +2,7 @@
 ghost use Rattle.std.specs.Prelude.{IfOk};
 ghost use Rattle.ns_steps.specs.Served.{IsServedAsk};
 
+use crate::owned::{holds, seen};
 use ns_core::Core;
 use ns_types::job::{Group, JobKind, Registration, Task};
 use ns_types::records::{Namespace, Pool, Quota};
@@ -14,9 +15,7 @@ use ns_types::text::Text;
 use std::alloc::{AllocError, Global};
 use std::rt::HostRuntime;
 
-fn registration(alloc: Global, enforced: Option<u64>) -> Result<AskCommand, AllocError>
-    ensures { IfOk result IsServedAsk }
-{
+fn tasks(alloc: Global) -> Result<Rows<Task>, AllocError> {
     let mut tasks = Rows::new(alloc);
     tasks.push(Task {
         name: Text::from_str(alloc, "t")?,
@@ -25,19 +24,29 @@ fn registration(alloc: Global, enforced: Option<u64>) -> Result<AskCommand, Allo
             memory: 300,
         },
     })?;
+    Ok(tasks)
+}
+
+fn groups(alloc: Global) -> Result<Rows<Group>, AllocError> {
     let mut groups = Rows::new(alloc);
     groups.push(Group {
         name: Text::from_str(alloc, "g")?,
         count: 1,
-        tasks,
+        tasks: tasks(alloc)?,
     })?;
+    Ok(groups)
+}
+
+fn registration(alloc: Global, enforced: Option<u64>) -> Result<AskCommand, AllocError>
+    ensures { IfOk result IsServedAsk }
+{
     Ok(AskCommand::Register(Registration {
         id: Text::from_str(alloc, "web")?,
         kind: JobKind::Service,
         priority: 50,
         pool: None,
         constraints: Rows::new(alloc),
-        groups,
+        groups: groups(alloc)?,
         enforced,
     }))
 }
@@ -91,26 +100,119 @@ fn is_pending(answer: &Result<Reply, Refusal>, index: u64, modified: u64) -> boo
     }
 }
 
+fn is_refused(
+    core: &mut Core,
+    secret: Option<&Text>,
+    namespace: &Text,
+    command: &AskCommand,
+    wanted: Refusal,
+) -> bool
+    requires { IsServedAsk command.now }
+{
+    seen(asked(core, secret, namespace, command), refusal) == Some(wanted)
+}
+
+fn is_registered(
+    core: &mut Core,
+    secret: &Text,
+    namespace: &Text,
+    command: &AskCommand,
+    wanted: (u64, u64, u64),
+) -> bool
+    requires { IsServedAsk command.now }
+{
+    seen(asked(core, Some(secret), namespace, command), numbers) == Some(wanted)
+}
+
+fn reads_pending(
+    core: &mut Core,
+    secret: &Text,
+    namespace: &Text,
+    command: &AskCommand,
+    index: u64,
+) -> bool
+    requires { IsServedAsk command.now }
+{
+    seen(asked(core, Some(secret), namespace, command), |answer| {
+        is_pending(answer, index, 1)
+    })
+}
+
+fn read(alloc: Global) -> Result<AskCommand, AllocError>
+    ensures { IfOk result IsServedAsk }
+{
+    Ok(AskCommand::ReadJob(Text::from_str(alloc, "web")?))
+}
+
+/// Whether a job that is new is registered once.
+fn registers_new(
+    core: &mut Core,
+    alloc: Global,
+    root: &Text,
+    namespace: &Text,
+    read: &AskCommand,
+) -> Result<bool, AllocError>
+    requires { IsServedAsk read.now }
+{
+    let new = registration(alloc, Some(0))?;
+    let mut right = is_refused(core, Some(root), namespace, read, Refusal::NotFound);
+    right &= is_registered(core, root, namespace, &new, (1, 1, 1));
+    right &= is_refused(core, Some(root), namespace, &new, Refusal::Conflict);
+    right &= reads_pending(core, root, namespace, read, 1);
+    drop(new);
+    Ok(right)
+}
+
+/// Whether a job is registered once more, and what is not known is refused.
+fn registers_any(
+    core: &mut Core,
+    alloc: Global,
+    root: &Text,
+    other: &Text,
+    namespace: &Text,
+    read: &AskCommand,
+) -> Result<bool, AllocError>
+    requires { IsServedAsk read.now }
+{
+    let any = registration(alloc, None)?;
+    let mut right = is_registered(core, root, namespace, &any, (2, 2, 1));
+    right &= reads_pending(core, root, namespace, read, 2);
+    right &= is_refused(core, Some(other), namespace, &any, Refusal::Denied);
+    right &= is_refused(core, None, namespace, read, Refusal::Denied);
+    right &= is_refused(core, Some(root), other, read, Refusal::NotFound);
+    drop(any);
+    Ok(right)
+}
+
+fn answers_both(
+    core: &mut Core,
+    alloc: Global,
+    root: &Text,
+    read: &AskCommand,
+) -> Result<bool, AllocError>
+    requires { IsServedAsk read.now }
+{
+    let other = Text::from_str(alloc, "other")?;
+    let namespace = Text::from_str(alloc, "default")?;
+    Ok(
+        registers_new(core, alloc, root, &namespace, read)?
+            & registers_any(core, alloc, root, &other, &namespace, read)?,
+    )
+}
+
+fn answers_root(core: &mut Core, alloc: Global, root: &Text) -> Result<bool, AllocError> {
+    let read = read(alloc)?;
+    let answers = answers_both(core, alloc, root, &read);
+    drop(read);
+    answers
+}
+
 /// Whether each answer is the one that ample memory gives.
 fn answers(alloc: Global) -> Result<bool, AllocError> {
     let root = Text::from_str(alloc, "root")?;
-    let other = Text::from_str(alloc, "other")?;
-    let namespace = Text::from_str(alloc, "default")?;
-    let any = registration(alloc, None)?;
-    let new = registration(alloc, Some(0))?;
-    let read = AskCommand::ReadJob(Text::from_str(alloc, "web")?);
-    let mut core = Core::new(alloc, &root)?;
-    let mut right = refusal(&asked(&mut core, Some(&root), &namespace, &read))
-        == Some(Refusal::NotFound);
-    right &= numbers(&asked(&mut core, Some(&root), &namespace, &new)) == Some((1, 1, 1));
-    right &= refusal(&asked(&mut core, Some(&root), &namespace, &new)) == Some(Refusal::Conflict);
-    right &= is_pending(&asked(&mut core, Some(&root), &namespace, &read), 1, 1);
-    right &= numbers(&asked(&mut core, Some(&root), &namespace, &any)) == Some((2, 2, 1));
-    right &= is_pending(&asked(&mut core, Some(&root), &namespace, &read), 2, 1);
-    right &= refusal(&asked(&mut core, Some(&other), &namespace, &any)) == Some(Refusal::Denied);
-    right &= refusal(&asked(&mut core, None, &namespace, &read)) == Some(Refusal::Denied);
-    right &= refusal(&asked(&mut core, Some(&root), &other, &read)) == Some(Refusal::NotFound);
-    Ok(right)
+    holds(Core::new(alloc, &root), |core| {
+        answers_root(core, alloc, &root)
+    })
 }
 
 // One growth refused at most: what it stopped is done once more.
@@ -120,22 +222,33 @@ fn registers_and_reads(rt: HostRuntime) {
         Err(AllocError) => answers(rt.alloc()),
         answered => answered,
     };
-    assert!(&rt; matches!(answered, Ok(true)));
+    assert!(&rt; answered == Ok(true));
 }
 
-fn administered(core: &mut Core, secret: &Text, command: &AdminCommand) -> Option<Content> {
-    let answer = match core.admin(Some(secret), command) {
+/// The answer with ample memory: a call that was refused for memory is made again.
+fn administered(core: &mut Core, secret: &Text, command: &AdminCommand) -> Result<Reply, Refusal> {
+    match core.admin(Some(secret), command) {
         Err(Refusal::Memory) => core.admin(Some(secret), command),
         answer => answer,
-    };
-    match answer {
-        Ok(reply) => Some(reply.content),
-        Err(_) => None,
     }
 }
 
-fn is_written(answer: Option<Content>) -> bool {
-    matches!(answer, Some(Content::Written))
+fn is_written(answer: &Result<Reply, Refusal>) -> bool {
+    match answer {
+        Ok(reply) => matches!(&reply.content, Content::Written),
+        Err(_) => false,
+    }
+}
+
+fn writes(core: &mut Core, secret: &Text, command: &AdminCommand) -> bool {
+    seen(administered(core, secret, command), is_written)
+}
+
+fn refuses(core: &mut Core, secret: &Text, command: &AdminCommand) -> bool {
+    seen(
+        administered(core, secret, command),
+        |answer| answer.is_err(),
+    )
 }
 
 fn namespace_in(alloc: Global, pool: &Text, quota: &Text) -> Result<Namespace, AllocError> {
@@ -148,37 +261,88 @@ fn namespace_in(alloc: Global, pool: &Text, quota: &Text) -> Result<Namespace, A
     })
 }
 
-/// A pool, a quota and a namespace are put, and the pool is read.
-fn lays_out(alloc: Global) -> Result<bool, AllocError> {
-    let root = Text::from_str(alloc, "root")?;
-    let east = Text::from_str(alloc, "east")?;
-    let ta = Text::from_str(alloc, "ta")?;
+fn puts_pool(core: &mut Core, alloc: Global, root: &Text, east: &Text) -> Result<bool, AllocError> {
     let description = Text::from_str(alloc, "")?;
     let pool = AdminCommand::PutPool(east.clone()?, Pool { description });
-    let description = Text::from_str(alloc, "")?;
+    let writes = writes(core, root, &pool);
+    drop(pool);
+    Ok(writes)
+}
+
+fn puts_quota(core: &mut Core, alloc: Global, root: &Text, ta: &Text) -> Result<bool, AllocError> {
     let quota = Quota {
-        description,
+        description: Text::from_str(alloc, "")?,
         limits: None,
     };
     let quota = AdminCommand::PutQuota(ta.clone()?, quota);
-    let namespace = AdminCommand::PutNamespace(ta.clone()?, namespace_in(alloc, &east, &ta)?);
+    let writes = writes(core, root, &quota);
+    drop(quota);
+    Ok(writes)
+}
+
+fn puts_parts(
+    core: &mut Core,
+    alloc: Global,
+    root: &Text,
+    east: &Text,
+    ta: &Text,
+) -> Result<bool, AllocError> {
+    Ok(puts_pool(core, alloc, root, east)? & puts_quota(core, alloc, root, ta)?)
+}
+
+/// Whether a namespace is put once its pool and its quota are there.
+fn puts_namespace(
+    core: &mut Core,
+    alloc: Global,
+    root: &Text,
+    east: &Text,
+    ta: &Text,
+) -> Result<bool, AllocError> {
+    let namespace = AdminCommand::PutNamespace(ta.clone()?, namespace_in(alloc, east, ta)?);
+    let refuses = refuses(core, root, &namespace);
+    let puts_parts = puts_parts(core, alloc, root, east, ta);
+    let writes = writes(core, root, &namespace);
+    drop(namespace);
+    Ok(refuses & puts_parts? & writes)
+}
+
+/// Whether nobody deletes the pool, which is in use.
+fn keeps_pool(core: &mut Core, root: &Text, east: &Text, ta: &Text) -> Result<bool, AllocError> {
     let delete = AdminCommand::DeletePool(east.clone()?);
-    let mut core = Core::new(alloc, &root)?;
-    let mut right = administered(&mut core, &root, &namespace).is_none();
-    right &= is_written(administered(&mut core, &root, &pool));
-    right &= is_written(administered(&mut core, &root, &quota));
-    right &= is_written(administered(&mut core, &root, &namespace));
-    right &= administered(&mut core, &root, &delete).is_none();
-    right &= administered(&mut core, &ta, &delete).is_none();
-    let read = match core.node(&east, Some(&root), &NodeCommand::ReadPool) {
-        Err(Refusal::Memory) => core.node(&east, Some(&root), &NodeCommand::ReadPool),
+    let keeps = refuses(core, root, &delete) & refuses(core, ta, &delete);
+    drop(delete);
+    Ok(keeps)
+}
+
+fn has_pool(answer: &Result<Reply, Refusal>) -> bool {
+    match answer {
+        Ok(reply) => matches!(&reply.content, Content::Pool(_)),
+        Err(_) => false,
+    }
+}
+
+fn reads_pool(core: &mut Core, root: &Text, east: &Text) -> bool {
+    let read = match core.node(east, Some(root), &NodeCommand::ReadPool) {
+        Err(Refusal::Memory) => core.node(east, Some(root), &NodeCommand::ReadPool),
         answer => answer,
     };
-    right &= match read {
-        Ok(reply) => matches!(reply.content, Content::Pool(_)),
-        Err(_) => false,
-    };
-    Ok(right)
+    seen(read, has_pool)
+}
+
+fn lays_out_tenant(core: &mut Core, alloc: Global, root: &Text) -> Result<bool, AllocError> {
+    let east = Text::from_str(alloc, "east")?;
+    let ta = Text::from_str(alloc, "ta")?;
+    let puts = puts_namespace(core, alloc, root, &east, &ta)?;
+    let keeps = keeps_pool(core, root, &east, &ta)?;
+    Ok(puts & keeps & reads_pool(core, root, &east))
+}
+
+/// A pool, a quota and a namespace are put, and the pool is read.
+fn lays_out(alloc: Global) -> Result<bool, AllocError> {
+    let root = Text::from_str(alloc, "root")?;
+    holds(Core::new(alloc, &root), |core| {
+        lays_out_tenant(core, alloc, &root)
+    })
 }
 
 #[test]

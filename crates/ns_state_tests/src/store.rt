@@ -1,3 +1,4 @@
+use crate::owned::holds;
 use ns_store::NamespaceRows;
 use ns_types::evaluation::{Evaluation, Status, Trigger};
 use ns_types::event::{Event, Topic};
@@ -42,50 +43,114 @@ fn make_evaluation(alloc: Global, job: &Text, status: Status) -> Result<Evaluati
     })
 }
 
+fn add_job(
+    rows: &mut NamespaceRows,
+    alloc: Global,
+    id: &Text,
+    priority: u64,
+) -> Result<(), AllocError> {
+    rows.reserve_job(id)?;
+    rows.put_job(id, make_job(alloc, priority)?);
+    Ok(())
+}
+
+/// Adds an evaluation under the next number, if there is one.
+fn add_evaluation(
+    rows: &mut NamespaceRows,
+    alloc: Global,
+    job: &Text,
+    status: Status,
+) -> Result<(), AllocError> {
+    let last = rows.evaluation_number();
+    if last < u64::MAX {
+        rows.reserve_evaluation(last + 1)?;
+        rows.add_evaluation(make_evaluation(alloc, job, status)?);
+    }
+    Ok(())
+}
+
+fn priority_of(rows: &NamespaceRows, id: &Text) -> Option<u64> {
+    Some(rows.job(id)?.document.priority)
+}
+
+fn status_of(rows: &NamespaceRows, number: u64) -> Option<Status> {
+    Some(rows.evaluation(number)?.status)
+}
+
+/// Whether one job is there, and of the other not even its slot.
+fn keeps_one_job(
+    rows: &mut NamespaceRows,
+    alloc: Global,
+    web: &Text,
+    api: &Text,
+) -> Result<bool, AllocError> {
+    add_job(rows, alloc, web, 70)?;
+    rows.reserve_job(api)?;
+    rows.clear_room(api, 1);
+    rows.set_index(1);
+    Ok(
+        priority_of(rows, web) == Some(70)
+            && rows.job(api).is_none()
+            && rows.job_count() == 1
+            && rows.index() == 1
+            && rows.allocation_number() == 0,
+    )
+}
+
+fn keeps_named_job(rows: &mut NamespaceRows, alloc: Global) -> Result<bool, AllocError> {
+    let web = Text::from_str(alloc, "web")?;
+    let api = Text::from_str(alloc, "api")?;
+    keeps_one_job(rows, alloc, &web, &api)
+}
+
 #[test]
 fn keeps_jobs(rt: HostRuntime) -> Result<(), Fail> {
     let alloc = rt.alloc();
+    let rows = NamespaceRows::new(alloc);
+    assert!(rt; holds(Ok(rows), |rows| keeps_named_job(rows, alloc))?);
+    Ok(())
+}
+
+/// Whether the lists by job and by status have one number each.
+fn lists_numbers(rows: &NamespaceRows, job: &Text, status: Status) -> Result<bool, AllocError> {
+    let by_job = rows.by_job(job)?;
+    let by_status = rows.by_status(status)?;
+    Ok((by_job.as_slice() == [1].as_slice()) & (by_status.as_slice() == [2].as_slice()))
+}
+
+fn keeps_two_evaluations(
+    rows: &mut NamespaceRows,
+    alloc: Global,
+    web: &Text,
+    api: &Text,
+) -> Result<bool, AllocError> {
+    add_evaluation(rows, alloc, web, Status::Pending)?;
+    add_evaluation(rows, alloc, api, Status::Blocked)?;
+    Ok(
+        rows.evaluation_number() == 2
+            && status_of(rows, 2) == Some(Status::Blocked)
+            && lists_numbers(rows, web, Status::Blocked)?
+            && rows.has_pending(web)
+            && !rows.has_pending(api),
+    )
+}
+
+fn keeps_named_evaluations(rows: &mut NamespaceRows, alloc: Global) -> Result<bool, AllocError> {
     let web = Text::from_str(alloc, "web")?;
     let api = Text::from_str(alloc, "api")?;
-    let mut rows = NamespaceRows::new(alloc);
-    rows.reserve_job(&web)?;
-    rows.put_job(&web, make_job(alloc, 70)?);
-    rows.reserve_job(&api)?;
-    rows.clear_room(&api, 1);
-    rows.set_index(1);
-    assert_eq!(rt; rows.job(&web).map(|job| job.document.priority), Some(70));
-    assert!(rt; rows.job(&api).is_none());
-    assert_eq!(rt; rows.job_count(), 1);
-    assert_eq!(rt; rows.index(), 1);
-    assert_eq!(rt; rows.allocation_number(), 0);
-    Ok(())
+    keeps_two_evaluations(rows, alloc, &web, &api)
 }
 
 #[test]
 fn keeps_evaluations(rt: HostRuntime) -> Result<(), Fail> {
     let alloc = rt.alloc();
-    let web = Text::from_str(alloc, "web")?;
-    let api = Text::from_str(alloc, "api")?;
-    let mut rows = NamespaceRows::new(alloc);
-    rows.reserve_evaluation(1)?;
-    rows.add_evaluation(make_evaluation(alloc, &web, Status::Pending)?);
-    rows.reserve_evaluation(2)?;
-    rows.add_evaluation(make_evaluation(alloc, &api, Status::Blocked)?);
-    assert_eq!(rt; rows.evaluation_number(), 2);
-    assert_eq!(rt;
-        rows.evaluation(2).map(|evaluation| evaluation.status),
-        Some(Status::Blocked)
-    );
-    assert_eq!(rt; rows.by_job(&web)?.as_slice(), [1].as_slice());
-    assert_eq!(rt; rows.by_status(Status::Blocked)?.as_slice(), [2].as_slice());
-    assert!(rt; rows.has_pending(&web));
-    assert!(rt; !rows.has_pending(&api));
+    let rows = NamespaceRows::new(alloc);
+    assert!(rt; holds(Ok(rows), |rows| keeps_named_evaluations(rows, alloc))?);
     Ok(())
 }
 
-#[test]
-fn keeps_a_hundred_events(rt: HostRuntime) -> Result<(), Fail> {
-    let mut rows = NamespaceRows::new(rt.alloc());
+/// Adds the events 1 to 101.
+fn push_events(rows: &mut NamespaceRows) -> Result<(), AllocError> {
     for number in 1..102 {
         rows.reserve_events(1)?;
         rows.push_event(Event {
@@ -93,8 +158,24 @@ fn keeps_a_hundred_events(rt: HostRuntime) -> Result<(), Fail> {
             topic: Topic::EvaluationUpdated(number),
         });
     }
-    assert_eq!(rt; rows.events().len(), 100);
-    assert_eq!(rt; rows.events().first().map(|event| event.index), Some(2));
-    assert_eq!(rt; rows.events().last().map(|event| event.index), Some(101));
+    Ok(())
+}
+
+/// Whether the oldest event is gone, and no other.
+fn is_last_hundred(events: &[Event]) -> bool {
+    events.len() == 100
+        && events.first().map(|event| event.index) == Some(2)
+        && events.last().map(|event| event.index) == Some(101)
+}
+
+fn keeps_last_hundred(rows: &mut NamespaceRows) -> Result<bool, AllocError> {
+    push_events(rows)?;
+    Ok(is_last_hundred(rows.events()))
+}
+
+#[test]
+fn keeps_a_hundred_events(rt: HostRuntime) -> Result<(), Fail> {
+    let rows = NamespaceRows::new(rt.alloc());
+    assert!(rt; holds(Ok(rows), keeps_last_hundred)?);
     Ok(())
 }

@@ -4,6 +4,8 @@ ghost use Rattle.ns_types.specs.Admins.{list_namespaces};
 ghost use Rattle.ns_types.specs.Names.{Key, same_name};
 ghost use Rattle.ns_tables.specs.Viewed.{world_of};
 
+use crate::owned::{holds, seen};
+use ns_store::NamespaceRows;
 use ns_tables::{Tables, overlaps, same_quota, same_text};
 use ns_types::job::{Document, Job, JobKind};
 use ns_types::records::{Namespace, Pool, Quota};
@@ -15,17 +17,17 @@ use ns_types::text::Text;
 use std::alloc::{AllocError, Global};
 use std::test::Fail;
 
-fn refusal(answer: Result<Content, Refusal>) -> Option<Refusal> {
+fn refusal(answer: &Result<Content, Refusal>) -> Option<Refusal> {
     match answer {
         Ok(_) => None,
-        Err(refusal) => Some(refusal),
+        Err(refusal) => Some(*refusal),
     }
 }
 
 fn put_pool(tables: &mut Tables, name: &str) -> Result<Option<Refusal>, AllocError> {
     let name = Text::from_str(tables.alloc, name)?;
     let description = Text::from_str(tables.alloc, "")?;
-    Ok(refusal(tables.put_pool(&name, Pool { description })))
+    Ok(seen(tables.put_pool(&name, Pool { description }), refusal))
 }
 
 fn quota(alloc: Global, cpu: Limit) -> Result<Quota, AllocError> {
@@ -42,7 +44,13 @@ fn quota(alloc: Global, cpu: Limit) -> Result<Quota, AllocError> {
 fn put_quota(tables: &mut Tables, name: &str) -> Result<Option<Refusal>, AllocError> {
     let name = Text::from_str(tables.alloc, name)?;
     let quota = quota(tables.alloc, Limit::AtMost(1000))?;
-    Ok(refusal(tables.put_quota(&name, quota)))
+    Ok(seen(tables.put_quota(&name, quota), refusal))
+}
+
+fn one_name(alloc: Global, name: &str) -> Result<Rows<Text>, AllocError> {
+    let mut names = Rows::new(alloc);
+    names.push(Text::from_str(alloc, name)?)?;
+    Ok(names)
 }
 
 /// A namespace with that default pool, which may use one pool more.
@@ -52,13 +60,11 @@ fn confined(
     pool: &str,
     quota: Option<Text>,
 ) -> Result<Namespace, AllocError> {
-    let mut allowed = Rows::new(alloc);
-    allowed.push(Text::from_str(alloc, pool)?)?;
     Ok(Namespace {
         description: Text::from_str(alloc, "")?,
         quota,
         default_pool: Text::from_str(alloc, default_pool)?,
-        allowed: Some(allowed),
+        allowed: Some(one_name(alloc, pool)?),
         denied: Rows::new(alloc),
     })
 }
@@ -73,27 +79,27 @@ fn put(
     let name = Text::from_str(tables.alloc, name)?;
     let quota = Text::from_str(tables.alloc, quota)?;
     let namespace = confined(tables.alloc, pool, pool, Some(quota))?;
-    Ok(refusal(tables.put_namespace(&name, namespace)))
+    Ok(seen(tables.put_namespace(&name, namespace), refusal))
 }
 
 fn delete_namespace(tables: &mut Tables, name: &str) -> Result<Option<Refusal>, AllocError> {
     let name = Text::from_str(tables.alloc, name)?;
-    Ok(refusal(tables.delete_namespace(&name)))
+    Ok(seen(tables.delete_namespace(&name), refusal))
 }
 
 fn delete_pool(tables: &mut Tables, name: &str) -> Result<Option<Refusal>, AllocError> {
     let name = Text::from_str(tables.alloc, name)?;
-    Ok(refusal(tables.delete_pool(&name)))
+    Ok(seen(tables.delete_pool(&name), refusal))
 }
 
 fn delete_quota(tables: &mut Tables, name: &str) -> Result<Option<Refusal>, AllocError> {
     let name = Text::from_str(tables.alloc, name)?;
-    Ok(refusal(tables.delete_quota(&name)))
+    Ok(seen(tables.delete_quota(&name), refusal))
 }
 
 fn read_quota(tables: &Tables, name: &str) -> Result<Option<Refusal>, AllocError> {
     let name = Text::from_str(tables.alloc, name)?;
-    Ok(refusal(tables.read_quota(&name)))
+    Ok(seen(tables.read_quota(&name), refusal))
 }
 
 fn job(alloc: Global, pool: &str) -> Result<Job, AllocError> {
@@ -113,27 +119,36 @@ fn job(alloc: Global, pool: &str) -> Result<Job, AllocError> {
     })
 }
 
+fn put_job(
+    rows: &mut NamespaceRows,
+    alloc: Global,
+    id: &Text,
+    pool: &str,
+) -> Result<(), AllocError> {
+    rows.reserve_job(id)?;
+    rows.put_job(id, job(alloc, pool)?);
+    Ok(())
+}
+
 /// Puts a job into the namespace, if there is one of that name.
 fn register(tables: &mut Tables, namespace: &str, pool: &str) -> Result<(), AllocError> {
-    let namespace = Text::from_str(tables.alloc, namespace)?;
-    let job = job(tables.alloc, pool)?;
+    let alloc = tables.alloc;
+    let namespace = Text::from_str(alloc, namespace)?;
     if let Some(tenant) = tables.tenants.get_mut(&namespace) {
-        tenant.rows.reserve_job(&namespace)?;
-        tenant.rows.put_job(&namespace, job);
+        put_job(&mut tenant.rows, alloc, &namespace, pool)?;
     }
     Ok(())
 }
 
 /// Pools `east` and `west`, quotas `qa` and `qb`, and the namespaces `ta` and `tb` with one of each.
-fn laid_out(alloc: Global) -> Result<Tables, AllocError> {
-    let mut tables = Tables::opening(alloc)?;
-    put_pool(&mut tables, "east")?;
-    put_pool(&mut tables, "west")?;
-    put_quota(&mut tables, "qa")?;
-    put_quota(&mut tables, "qb")?;
-    put(&mut tables, "ta", "east", "qa")?;
-    put(&mut tables, "tb", "west", "qb")?;
-    Ok(tables)
+fn lay_out(tables: &mut Tables) -> Result<(), AllocError> {
+    put_pool(tables, "east")?;
+    put_pool(tables, "west")?;
+    put_quota(tables, "qa")?;
+    put_quota(tables, "qb")?;
+    put(tables, "ta", "east", "qa")?;
+    put(tables, "tb", "west", "qb")?;
+    Ok(())
 }
 
 /// Whether the namespace may use the pool, is confined, and shares something.
@@ -147,79 +162,108 @@ fn looks(tables: &Tables, name: &str, pool: &str) -> Result<(bool, bool, bool), 
     ))
 }
 
+fn looks_laid_out(tables: &mut Tables) -> Result<bool, AllocError> {
+    lay_out(tables)?;
+    Ok(
+        (looks(tables, "ta", "east")? == (true, true, true))
+            & put(tables, "default", "default", "qb")?.is_none()
+            & (looks(tables, "ta", "west")? == (false, true, false))
+            & (looks(tables, "tb", "west")? == (true, true, true))
+            & (looks(tables, "tc", "west")? == (false, false, true)),
+    )
+}
+
 #[test]
 fn lays_out_tenants(rt: HostRuntime) -> Result<(), Fail> {
-    let mut tables = laid_out(rt.alloc())?;
-    assert_eq!(rt; looks(&tables, "ta", "east")?, (true, true, true));
-    assert_eq!(rt; put(&mut tables, "default", "default", "qb")?, None);
-    assert_eq!(rt; looks(&tables, "ta", "west")?, (false, true, false));
-    assert_eq!(rt; looks(&tables, "tb", "west")?, (true, true, true));
-    assert_eq!(rt; looks(&tables, "tc", "west")?, (false, false, true));
+    assert!(rt; holds(Tables::opening(rt.alloc()), looks_laid_out)?);
     Ok(())
+}
+
+fn refuses_what_is_missing(tables: &mut Tables) -> Result<bool, AllocError> {
+    lay_out(tables)?;
+    let no_quota = Some(Refusal::BadField(Member::Quota));
+    let no_default = Some(Refusal::BadField(Member::Default));
+    Ok(
+        (put(tables, "tc", "east", "qc")? == no_quota)
+            & (put(tables, "tc", "north", "qa")? == no_default)
+            & (delete_namespace(tables, "tc")? == Some(Refusal::NotFound))
+            & (delete_pool(tables, "north")? == Some(Refusal::NotFound))
+            & (delete_quota(tables, "qc")? == Some(Refusal::NotFound))
+            & (read_quota(tables, "qc")? == Some(Refusal::NotFound)),
+    )
 }
 
 #[test]
 fn names_what_is_missing(rt: HostRuntime) -> Result<(), Fail> {
-    let mut tables = laid_out(rt.alloc())?;
-    let answer = put(&mut tables, "tc", "east", "qc")?;
-    assert_eq!(rt; answer, Some(Refusal::BadField(Member::Quota)));
-    let answer = put(&mut tables, "tc", "north", "qa")?;
-    assert_eq!(rt; answer, Some(Refusal::BadField(Member::Default)));
-    assert_eq!(rt;
-        delete_namespace(&mut tables, "tc")?,
-        Some(Refusal::NotFound)
-    );
-    assert_eq!(rt; delete_pool(&mut tables, "north")?, Some(Refusal::NotFound));
-    assert_eq!(rt; delete_quota(&mut tables, "qc")?, Some(Refusal::NotFound));
-    assert_eq!(rt; read_quota(&tables, "qc")?, Some(Refusal::NotFound));
+    assert!(rt; holds(Tables::opening(rt.alloc()), refuses_what_is_missing)?);
     Ok(())
+}
+
+fn refuses_allowed_pool(tables: &mut Tables) -> Result<bool, AllocError> {
+    lay_out(tables)?;
+    let name = Text::from_str(tables.alloc, "tc")?;
+    let namespace = confined(tables.alloc, "east", "north", None)?;
+    let answer = seen(tables.put_namespace(&name, namespace), refusal);
+    Ok(answer == Some(Refusal::BadField(Member::Allowed)))
 }
 
 #[test]
 fn names_a_missing_allowed_pool(rt: HostRuntime) -> Result<(), Fail> {
-    let mut tables = laid_out(rt.alloc())?;
-    let name = Text::from_str(rt.alloc(), "tc")?;
-    let namespace = confined(rt.alloc(), "east", "north", None)?;
-    let answer = refusal(tables.put_namespace(&name, namespace));
-    assert_eq!(rt; answer, Some(Refusal::BadField(Member::Allowed)));
+    assert!(rt; holds(Tables::opening(rt.alloc()), refuses_allowed_pool)?);
     Ok(())
+}
+
+fn refuses_what_is_in_use(tables: &mut Tables) -> Result<bool, AllocError> {
+    lay_out(tables)?;
+    register(tables, "ta", "east")?;
+    Ok(
+        (put(tables, "ta", "west", "qa")? == Some(Refusal::InUse))
+            & put(tables, "ta", "east", "qb")?.is_none()
+            & (delete_namespace(tables, "ta")? == Some(Refusal::InUse))
+            & (delete_namespace(tables, "default")? == Some(Refusal::InUse))
+            & (delete_pool(tables, "default")? == Some(Refusal::InUse))
+            & (delete_pool(tables, "west")? == Some(Refusal::InUse))
+            & (delete_quota(tables, "qb")? == Some(Refusal::InUse)),
+    )
 }
 
 #[test]
 fn keeps_what_is_in_use(rt: HostRuntime) -> Result<(), Fail> {
-    let mut tables = laid_out(rt.alloc())?;
-    register(&mut tables, "ta", "east")?;
-    assert_eq!(rt; put(&mut tables, "ta", "west", "qa")?, Some(Refusal::InUse));
-    assert_eq!(rt; put(&mut tables, "ta", "east", "qb")?, None);
-    assert_eq!(rt; delete_namespace(&mut tables, "ta")?, Some(Refusal::InUse));
-    assert_eq!(rt;
-        delete_namespace(&mut tables, "default")?,
-        Some(Refusal::InUse)
-    );
-    assert_eq!(rt; delete_pool(&mut tables, "default")?, Some(Refusal::InUse));
-    assert_eq!(rt; delete_pool(&mut tables, "west")?, Some(Refusal::InUse));
-    assert_eq!(rt; delete_quota(&mut tables, "qb")?, Some(Refusal::InUse));
+    assert!(rt; holds(Tables::opening(rt.alloc()), refuses_what_is_in_use)?);
     Ok(())
+}
+
+fn deletes_one_of_each(tables: &mut Tables) -> Result<bool, AllocError> {
+    lay_out(tables)?;
+    Ok(
+        delete_namespace(tables, "tb")?.is_none()
+            & delete_pool(tables, "west")?.is_none()
+            & read_quota(tables, "qb")?.is_none()
+            & delete_quota(tables, "qb")?.is_none()
+            & (tables.tenants.len() == 2),
+    )
 }
 
 #[test]
 fn deletes_what_is_unused(rt: HostRuntime) -> Result<(), Fail> {
-    let mut tables = laid_out(rt.alloc())?;
-    assert_eq!(rt; delete_namespace(&mut tables, "tb")?, None);
-    assert_eq!(rt; delete_pool(&mut tables, "west")?, None);
-    assert_eq!(rt; read_quota(&tables, "qb")?, None);
-    assert_eq!(rt; delete_quota(&mut tables, "qb")?, None);
-    assert_eq!(rt; tables.tenants.len(), 2);
+    assert!(rt; holds(Tables::opening(rt.alloc()), deletes_one_of_each)?);
     Ok(())
 }
 
-/// How many a list shows.
-fn count(content: Content) -> usize {
+fn length(content: &Content) -> usize {
     match content {
         Content::Namespaces(shown) => shown.as_slice().len(),
         Content::Quotas(shown) => shown.as_slice().len(),
         Content::Pools(shown) => shown.as_slice().len(),
         _ => 0,
+    }
+}
+
+/// How many a list shows.
+fn count(listed: &Result<Content, AllocError>) -> Result<usize, AllocError> {
+    match listed {
+        Ok(content) => Ok(length(content)),
+        Err(AllocError) => Err(AllocError),
     }
 }
 
@@ -230,13 +274,19 @@ fn list_one(tables: &Tables, name: &Text) -> Result<Content, AllocError>
     tables.list_namespaces(|other| same_text(name, other))
 }
 
+fn lists_tables(tables: &mut Tables) -> Result<bool, AllocError> {
+    lay_out(tables)?;
+    let name = Text::from_str(tables.alloc, "tb")?;
+    Ok(
+        (seen(list_one(tables, &name), count)? == 1)
+            & (seen(tables.list_pools(|_| true), count)? == 3)
+            & (seen(tables.list_quotas(), count)? == 2),
+    )
+}
+
 #[test]
 fn lists_what_passes(rt: HostRuntime) -> Result<(), Fail> {
-    let tables = laid_out(rt.alloc())?;
-    let name = Text::from_str(rt.alloc(), "tb")?;
-    assert_eq!(rt; count(list_one(&tables, &name)?), 1);
-    assert_eq!(rt; count(tables.list_pools(|_| true)?), 3);
-    assert_eq!(rt; count(tables.list_quotas()?), 2);
+    assert!(rt; holds(Tables::opening(rt.alloc()), lists_tables)?);
     Ok(())
 }
 
@@ -247,11 +297,14 @@ fn changes(tables: &Tables, cpu: Limit) -> Result<bool, AllocError> {
     Ok(tables.changes_limits(&name, &quota))
 }
 
+fn tells_limits_apart(tables: &mut Tables) -> Result<bool, AllocError> {
+    lay_out(tables)?;
+    Ok(changes(tables, Limit::Nothing)? && !changes(tables, Limit::AtMost(1000))?)
+}
+
 #[test]
 fn compares_limits(rt: HostRuntime) -> Result<(), Fail> {
-    let tables = laid_out(rt.alloc())?;
-    assert!(rt; changes(&tables, Limit::Nothing)?);
-    assert!(rt; !changes(&tables, Limit::AtMost(1000))?);
+    assert!(rt; holds(Tables::opening(rt.alloc()), tells_limits_apart)?);
     Ok(())
 }
 
@@ -265,20 +318,35 @@ fn released(tables: &mut Tables, name: &Text) -> Option<u64> {
     Some(quota.release)
 }
 
+fn counts_releases(tables: &mut Tables) -> Result<bool, AllocError> {
+    lay_out(tables)?;
+    let name = Text::from_str(tables.alloc, "qa")?;
+    Ok((released(tables, &name) == Some(1)) & (released(tables, &name) == Some(2)))
+}
+
 #[test]
 fn numbers_releases(rt: HostRuntime) -> Result<(), Fail> {
-    let mut tables = laid_out(rt.alloc())?;
-    let name = Text::from_str(rt.alloc(), "qa")?;
-    assert_eq!(rt; released(&mut tables, &name), Some(1));
-    assert_eq!(rt; released(&mut tables, &name), Some(2));
+    assert!(rt; holds(Tables::opening(rt.alloc()), counts_releases)?);
     Ok(())
+}
+
+fn shares_with_west(east: &Namespace, alloc: Global) -> Result<bool, AllocError> {
+    let west = confined(alloc, "west", "east", None)?;
+    let shares = same_quota(east, &west) & overlaps(east, &west);
+    drop(west);
+    Ok(shares)
+}
+
+/// Whether two namespaces share their quota, which is none, and a pool.
+fn share(alloc: Global) -> Result<bool, AllocError> {
+    let east = confined(alloc, "east", "east", None)?;
+    let shares = shares_with_west(&east, alloc);
+    drop(east);
+    shares
 }
 
 #[test]
 fn compares_records(rt: HostRuntime) -> Result<(), Fail> {
-    let east = confined(rt.alloc(), "east", "east", None)?;
-    let west = confined(rt.alloc(), "west", "east", None)?;
-    assert!(rt; same_quota(&east, &west));
-    assert!(rt; overlaps(&east, &west));
+    assert!(rt; share(rt.alloc())?);
     Ok(())
 }

@@ -105,7 +105,9 @@ pub fn pipe<D: Draws + Drop, R: Read, W: Write, E: Write>(
     let Ok(mut api) = opened(alloc, bootstrap, draws) else {
         return tell_memory(errors);
     };
-    match serve(alloc, reader, writer, &mut api) {
+    let ended = serve(alloc, reader, writer, &mut api);
+    drop(api);
+    match ended {
         Ok(_) => SERVED,
         Err(ConnFault::Read) => {
             say(errors, b"read fault\n");

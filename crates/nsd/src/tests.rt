@@ -45,32 +45,95 @@ impl Read for Slow<'_> {
     }
 }
 
-#[derive(Drop)]
+/// What the program is given.
+#[derive(Clone, Copy)]
+struct Given<'a> {
+    words: &'a [&'a str],
+    draws: SameBytes,
+    input: &'a [u8],
+    /// The most bytes that one read gives.
+    step: usize,
+}
+
+/// The exit status. The output and the errors go behind what these hold.
+fn run(alloc: Global, given: Given<'_>, written: &mut Vec<u8>, errors: &mut Vec<u8>) -> u8 {
+    let reader = Slow {
+        rest: given.input,
+        step: given.step,
+    };
+    run_words(alloc, given.words, given.draws, reader, written, errors)
+}
+
+/// What comes after these parts.
+fn after<'a>(bytes: &'a [u8], parts: &[&[u8]]) -> Option<&'a [u8]> {
+    let mut rest = bytes;
+    for part in parts {
+        rest = rest.strip_prefix(*part)?;
+    }
+    Some(rest)
+}
+
+/// How a run over the input ended.
+#[derive(Clone, Copy)]
 struct Ended {
     status: u8,
-    written: Vec<u8>,
-    errors: Vec<u8>,
+    /// How many bytes came after the parts, if those came first.
+    more: Option<usize>,
 }
 
-fn run(alloc: Global, words: &[&str], input: &[u8], step: usize) -> Ended {
-    run_drawing(alloc, words, SameBytes::new(1), input, step)
-}
-
-fn run_drawing(
-    alloc: Global,
-    words: &[&str],
-    draws: SameBytes,
-    input: &[u8],
-    step: usize,
-) -> Ended {
+/// Runs the program over the input, with output that is to begin with these parts.
+fn ending(alloc: Global, input: &[u8], step: usize, parts: &[&[u8]]) -> Ended {
     let mut written = Vec::new(alloc);
     let mut errors = Vec::new(alloc);
-    let reader = Slow { rest: input, step };
-    let status = run_words(alloc, words, draws, reader, &mut written, &mut errors);
-    Ended {
+    let given = Given {
+        words: &WORDS,
+        draws: SameBytes::new(1),
+        input,
+        step,
+    };
+    let status = run(alloc, given, &mut written, &mut errors);
+    let more = after(written.as_slice(), parts).map(|rest| rest.len());
+    Ended { status, more }
+}
+
+/// Whether the input is served to its end, and the output is these parts and nothing else.
+fn is_answered(alloc: Global, input: &[u8], step: usize, parts: &[&[u8]]) -> bool {
+    let ended = ending(alloc, input, step, parts);
+    ended.status == 0 && ended.more == Some(0)
+}
+
+/// As `is_answered`, at any step.
+fn is_answered_at_any_cut(alloc: Global, input: &[u8], parts: &[&[u8]]) -> bool {
+    for step in 1..=input.len() {
+        if !is_answered(alloc, input, step, parts) {
+            return false;
+        }
+    }
+    is_answered(alloc, input, usize::MAX, parts)
+}
+
+/// The status, and whether there were output and errors.
+#[derive(Clone, Copy)]
+struct Told {
+    status: u8,
+    has_output: bool,
+    has_errors: bool,
+}
+
+fn telling(alloc: Global, words: &[&str]) -> Told {
+    let mut written = Vec::new(alloc);
+    let mut errors = Vec::new(alloc);
+    let given = Given {
+        words,
+        draws: SameBytes::new(1),
+        input: REGISTER,
+        step: 1,
+    };
+    let status = run(alloc, given, &mut written, &mut errors);
+    Told {
         status,
-        written,
-        errors,
+        has_output: !written.is_empty(),
+        has_errors: !errors.is_empty(),
     }
 }
 
@@ -82,98 +145,116 @@ fn joined(alloc: Global, parts: &[&[u8]]) -> Result<Vec<u8>, AllocError> {
     Ok(bytes)
 }
 
+/// Whether the stored run is answered at any cut.
+fn is_stored_run_answered(alloc: Global) -> Result<bool, AllocError> {
+    let input = joined(alloc, &[REGISTER, READ])?;
+    let parts = [REGISTERED, SHOWN_HEAD, SHOWN, SHOWN_REST];
+    Ok(is_answered_at_any_cut(alloc, input.as_slice(), &parts))
+}
+
+/// The status of a run whose input ends inside a body, if it tells of that and writes nothing.
+fn status_of_short_body(alloc: Global) -> Option<u8> {
+    let mut written = Vec::new(alloc);
+    let mut errors = Vec::new(alloc);
+    let given = Given {
+        words: &WORDS,
+        draws: SameBytes::new(1),
+        input: &REGISTER[..REGISTER.len() - 1],
+        step: usize::MAX,
+    };
+    let status = run(alloc, given, &mut written, &mut errors);
+    let is_told = written.is_empty() && errors.as_slice() == b"read fault\n".as_slice();
+    if is_told { Some(status) } else { None }
+}
+
 #[test]
 fn stored_run_at_any_cut_and_short_body(rt: HostRuntime) -> Result<(), AllocError> {
-    let input = joined(rt.alloc(), &[REGISTER, READ])?;
-    let whole = run(rt.alloc(), &WORDS, input.as_slice(), usize::MAX);
-    let expected = joined(rt.alloc(), &[REGISTERED, SHOWN_HEAD, SHOWN, SHOWN_REST])?;
-    assert_eq!(rt; whole.status, 0);
-    assert!(rt; whole.written.as_slice() == expected.as_slice());
-    for step in 1..=input.len() {
-        let cut = run(rt.alloc(), &WORDS, input.as_slice(), step);
-        assert_eq!(rt; cut.status, 0);
-        assert!(rt; cut.written.as_slice() == whole.written.as_slice());
-    }
-    let short = run(
-        rt.alloc(),
-        &WORDS,
-        &REGISTER[..REGISTER.len() - 1],
-        usize::MAX,
-    );
-    assert_eq!(rt; short.status, 3);
-    assert!(rt; short.written.is_empty());
-    assert!(rt; short.errors.as_slice() == b"read fault\n".as_slice());
+    assert!(rt; is_stored_run_answered(rt.alloc())?);
+    assert!(rt; status_of_short_body(rt.alloc()) == Some(3));
     Ok(())
+}
+
+const ENFORCED: &[u8] =
+    b"{\"Job\":{\"ID\":\"web\",\"TaskGroups\":[{\"Name\":\"g\",\"Tasks\":[{\"Name\":\"t\"}]}]},\"EnforceIndex\":true,\"JobModifyIndex\":0}";
+
+const ENFORCED_HEAD: &[u8] =
+    b"POST /v1/jobs HTTP/1.1\r\nX-Nomad-Token: root\r\nContent-Length: 110\r\n\r\n";
+
+/// The reply to the second registration, and how the reply to the read begins.
+const CONFLICT_AND_SHOWN: &[u8] =
+    b"HTTP/1.1 409 Conflict\r\nContent-Type: text/plain; charset=utf-8\r\nContent-Length: 8\r\n\r\nconflictHTTP/1.1 200 OK\r\nContent-Type: application/json\r\nX-Nomad-Index: 1\r\nContent-Length: 282\r\nConnection: close\r\n\r\n";
+
+/// How the same registration at the index 0 ends when it comes twice.
+fn ended_twice(alloc: Global) -> Result<Ended, AllocError> {
+    let input = joined(
+        alloc,
+        &[ENFORCED_HEAD, ENFORCED, ENFORCED_HEAD, ENFORCED, READ],
+    )?;
+    let parts = [REGISTERED, CONFLICT_AND_SHOWN];
+    Ok(ending(alloc, input.as_slice(), usize::MAX, &parts))
 }
 
 #[test]
 fn enforce_index(rt: HostRuntime) -> Result<(), AllocError> {
-    let body: &[u8] =
-        b"{\"Job\":{\"ID\":\"web\",\"TaskGroups\":[{\"Name\":\"g\",\"Tasks\":[{\"Name\":\"t\"}]}]},\"EnforceIndex\":true,\"JobModifyIndex\":0}";
-    let head: &[u8] =
-        b"POST /v1/jobs HTTP/1.1\r\nX-Nomad-Token: root\r\nContent-Length: 110\r\n\r\n";
-    assert_eq!(rt; body.len(), 110);
-    let input = joined(rt.alloc(), &[head, body, head, body, READ])?;
-    let ended = run(rt.alloc(), &WORDS, input.as_slice(), usize::MAX);
-    let conflict: &[u8] =
-        b"HTTP/1.1 409 Conflict\r\nContent-Type: text/plain; charset=utf-8\r\nContent-Length: 8\r\n\r\nconflictHTTP/1.1 200 OK\r\nContent-Type: application/json\r\nX-Nomad-Index: 1\r\nContent-Length: 282\r\nConnection: close\r\n\r\n";
-    assert_eq!(rt; ended.status, 0);
-    let expected = joined(rt.alloc(), &[REGISTERED, conflict])?;
-    assert!(rt; ended.written.as_slice().starts_with(expected.as_slice()));
+    assert!(rt; ENFORCED.len() == 110);
+    let ended = ended_twice(rt.alloc())?;
+    assert!(rt; ended.status == 0);
+    assert!(rt; ended.more.is_some());
     Ok(())
 }
 
-#[test]
-fn refusals_on_the_wire(rt: HostRuntime) -> Result<(), AllocError> {
-    let asks: [(&[u8], &[u8]); 6] = [
-        (
-            b"GET /v1/jobs?namespace=* HTTP/1.1\r\n\r\n",
-            b"501 Not Implemented\r\nContent-Type: text/plain; charset=utf-8\r\nContent-Length: 10\r\n\r\nnot served",
-        ),
-        (
-            b"PATCH /v1/jobs HTTP/1.1\r\n\r\n",
-            b"405 Method Not Allowed\r\nContent-Type: text/plain; charset=utf-8\r\nContent-Length: 18\r\n\r\nmethod not allowed",
-        ),
-        (
-            b"GET /v1/nothing HTTP/1.1\r\n\r\n",
-            b"404 Not Found\r\nContent-Type: text/plain; charset=utf-8\r\nContent-Length: 9\r\n\r\nnot found",
-        ),
-        (
-            b"POST /v1/jobs HTTP/1.1\r\nContent-Length: 1\r\n\r\n{",
-            b"400 Bad Request\r\nContent-Type: text/plain; charset=utf-8\r\nContent-Length: 8\r\n\r\nbad json",
-        ),
-        (
-            b"GET /v1/job/web HTTP/1.1\r\n\r\n",
-            b"403 Forbidden\r\nContent-Type: text/plain; charset=utf-8\r\nContent-Length: 17\r\n\r\nPermission denied",
-        ),
-        (
-            b"GET /v1/jobs HTTP/1.1\r\nTransfer-Encoding: chunked\r\n\r\n",
-            b"411 Length Required\r\nContent-Type: text/plain; charset=utf-8\r\nContent-Length: 15\r\nConnection: close\r\n\r\nlength required",
-        ),
-    ];
-    for (ask, answer) in asks {
-        let ended = run(rt.alloc(), &WORDS, ask, usize::MAX);
-        let expected = joined(rt.alloc(), &[b"HTTP/1.1 ", answer])?;
-        assert_eq!(rt; ended.status, 0);
-        assert!(rt; ended.written.as_slice() == expected.as_slice());
+/// Requests that are refused, with their replies.
+const REFUSED: &[(&[u8], &[u8])] = &[
+    (
+        b"GET /v1/jobs?namespace=* HTTP/1.1\r\n\r\n",
+        b"501 Not Implemented\r\nContent-Type: text/plain; charset=utf-8\r\nContent-Length: 10\r\n\r\nnot served",
+    ),
+    (
+        b"PATCH /v1/jobs HTTP/1.1\r\n\r\n",
+        b"405 Method Not Allowed\r\nContent-Type: text/plain; charset=utf-8\r\nContent-Length: 18\r\n\r\nmethod not allowed",
+    ),
+    (
+        b"GET /v1/nothing HTTP/1.1\r\n\r\n",
+        b"404 Not Found\r\nContent-Type: text/plain; charset=utf-8\r\nContent-Length: 9\r\n\r\nnot found",
+    ),
+    (
+        b"POST /v1/jobs HTTP/1.1\r\nContent-Length: 1\r\n\r\n{",
+        b"400 Bad Request\r\nContent-Type: text/plain; charset=utf-8\r\nContent-Length: 8\r\n\r\nbad json",
+    ),
+    (
+        b"GET /v1/job/web HTTP/1.1\r\n\r\n",
+        b"403 Forbidden\r\nContent-Type: text/plain; charset=utf-8\r\nContent-Length: 17\r\n\r\nPermission denied",
+    ),
+    (
+        b"GET /v1/jobs HTTP/1.1\r\nTransfer-Encoding: chunked\r\n\r\n",
+        b"411 Length Required\r\nContent-Type: text/plain; charset=utf-8\r\nContent-Length: 15\r\nConnection: close\r\n\r\nlength required",
+    ),
+];
+
+/// Whether each of these requests has its reply.
+fn are_refused(alloc: Global, asks: &[(&[u8], &[u8])]) -> bool {
+    for (ask, answer) in asks.iter().copied() {
+        if !is_answered(alloc, ask, usize::MAX, &[b"HTTP/1.1 ", answer]) {
+            return false;
+        }
     }
-    Ok(())
+    true
+}
+
+#[test]
+fn refusals_on_the_wire(rt: HostRuntime) {
+    assert!(rt; are_refused(rt.alloc(), REFUSED));
 }
 
 #[test]
 fn bad_words(rt: HostRuntime) {
-    let none = run(rt.alloc(), &["nsd"], REGISTER, 1);
-    assert_eq!(rt; none.status, 2);
-    assert!(rt; none.written.is_empty());
-    let secret = run(
-        rt.alloc(),
-        &["nsd", "pipe", "--bootstrap", "a b"],
-        REGISTER,
-        1,
-    );
-    assert_eq!(rt; secret.status, 2);
-    assert!(rt; !secret.errors.is_empty());
-    let help = run(rt.alloc(), &["nsd", "--help"], REGISTER, 1);
-    assert_eq!(rt; help.status, 0);
-    assert!(rt; !help.written.is_empty());
+    let none = telling(rt.alloc(), &["nsd"]);
+    assert!(rt; none.status == 2);
+    assert!(rt; !none.has_output);
+    let secret = telling(rt.alloc(), &["nsd", "pipe", "--bootstrap", "a b"]);
+    assert!(rt; secret.status == 2);
+    assert!(rt; secret.has_errors);
+    let help = telling(rt.alloc(), &["nsd", "--help"]);
+    assert!(rt; help.status == 0);
+    assert!(rt; help.has_output);
 }

@@ -1,9 +1,11 @@
 // Namespaces, quotas and node pools. Expected bytes are written from the formats, not from the program.
+use super::exchange::Exchange::{Delete, Get, Post, Put};
 use super::exchange::{
-    DENIED, Exchange, FIRST, IN_USE, NOT_FOUND, NOT_SERVED, REGISTERED, Reply, SECOND, THIRD, WEB,
-    WRITTEN, bad, converse, delete, get, post, put, three_tokens,
+    DENIED, Exchange, FIRST, IN_USE, NOT_FOUND, NOT_SERVED, REGISTERED, Reply, SECOND, THIRD,
+    THREE_TOKENS, WEB, WRITTEN, converse,
 };
 use std::alloc::{AllocError, Global};
+use std::process::Abort;
 use std::rt::HostRuntime;
 
 const NOT_PERMITTED: Reply<'static> = Reply::Refused("400 Bad Request", "node pool not permitted");
@@ -17,67 +19,66 @@ const TB: &str =
 const UNUSED: &str = r#"{"Name":"qa","Used":{"CPU":0,"MemoryMB":0}}"#;
 
 /// Two tenants that share nothing: a pool for each, a quota for the first, and nothing for `default`.
-fn set_up<'a>() -> [Exchange<'a>; 6] {
-    [
-        post("/v1/node/pools", "root", r#"{"Name":"east"}"#, WRITTEN),
-        put("/v1/node/pool/west", "root", "{}", WRITTEN),
-        post(
-            "/v1/quota",
-            "root",
-            r#"{"Name":"qa","Limits":[{"Region":"global","RegionLimit":{"CPU":1000,"MemoryMB":1024}}]}"#,
-            WRITTEN,
+const SET_UP: &[Exchange<'static>] = &[
+    Post("/v1/node/pools", "root", r#"{"Name":"east"}"#, WRITTEN),
+    Put("/v1/node/pool/west", "root", "{}", WRITTEN),
+    Post(
+        "/v1/quota",
+        "root",
+        r#"{"Name":"qa","Limits":[{"Region":"global","RegionLimit":{"CPU":1000,"MemoryMB":1024}}]}"#,
+        WRITTEN,
+    ),
+    Put(
+        "/v1/namespace/default",
+        "root",
+        r#"{"NodePoolConfiguration":{"Allowed":["default"]}}"#,
+        WRITTEN,
+    ),
+    Post(
+        "/v1/namespace",
+        "root",
+        r#"{"Name":"ta","Quota":"qa","NodePoolConfiguration":{"Default":"east","Allowed":["east"]}}"#,
+        WRITTEN,
+    ),
+    Put(
+        "/v1/namespace/tb",
+        "root",
+        r#"{"Name":"tb","NodePoolConfiguration":{"Default":"west","Allowed":["west"]}}"#,
+        WRITTEN,
+    ),
+];
+
+const DENIED_BY_NAME: &[Exchange<'static>] = &[
+    Put(
+        "/v1/acl/policy/p1",
+        "root",
+        r#"{"Rules":"namespace \"ta\" { policy = \"deny\" }"}"#,
+        WRITTEN,
+    ),
+    Put(
+        "/v1/acl/policy/p2",
+        "root",
+        r#"{"Rules":"namespace \"t*\" { policy = \"write\" }"}"#,
+        WRITTEN,
+    ),
+    Post(
+        "/v1/acl/token",
+        "root",
+        r#"{"Policies":["p1","p2"]}"#,
+        Reply::Said(
+            r#"{"AccessorID":"01010101-0101-4101-8101-010101010101","Name":"","Policies":["p1","p2"],"SecretID":"02020202-0202-4202-8202-020202020202","Type":"client"}"#,
         ),
-        put(
-            "/v1/namespace/default",
-            "root",
-            r#"{"NodePoolConfiguration":{"Allowed":["default"]}}"#,
-            WRITTEN,
-        ),
-        post(
-            "/v1/namespace",
-            "root",
-            r#"{"Name":"ta","Quota":"qa","NodePoolConfiguration":{"Default":"east","Allowed":["east"]}}"#,
-            WRITTEN,
-        ),
-        put(
-            "/v1/namespace/tb",
-            "root",
-            r#"{"Name":"tb","NodePoolConfiguration":{"Default":"west","Allowed":["west"]}}"#,
-            WRITTEN,
-        ),
-    ]
-}
+    ),
+    Get("/v1/jobs?namespace=ta", FIRST, DENIED),
+    Get("/v1/jobs?namespace=ta", "unknown", DENIED),
+    Get("/v1/jobs?namespace=tb", FIRST, Reply::At(0, "[]")),
+    Get("/v1/jobs?namespace=tc", FIRST, NOT_FOUND),
+    Get("/v1/jobs", FIRST, DENIED),
+];
 
 #[test]
 fn denied_by_name_and_written_by_star(rt: HostRuntime) -> Result<(), AllocError> {
-    let asked = [
-        put(
-            "/v1/acl/policy/p1",
-            "root",
-            r#"{"Rules":"namespace \"ta\" { policy = \"deny\" }"}"#,
-            WRITTEN,
-        ),
-        put(
-            "/v1/acl/policy/p2",
-            "root",
-            r#"{"Rules":"namespace \"t*\" { policy = \"write\" }"}"#,
-            WRITTEN,
-        ),
-        post(
-            "/v1/acl/token",
-            "root",
-            r#"{"Policies":["p1","p2"]}"#,
-            Reply::Said(
-                r#"{"AccessorID":"01010101-0101-4101-8101-010101010101","Name":"","Policies":["p1","p2"],"SecretID":"02020202-0202-4202-8202-020202020202","Type":"client"}"#,
-            ),
-        ),
-        get("/v1/jobs?namespace=ta", FIRST, DENIED),
-        get("/v1/jobs?namespace=ta", "unknown", DENIED),
-        get("/v1/jobs?namespace=tb", FIRST, Reply::At(0, "[]")),
-        get("/v1/jobs?namespace=tc", FIRST, NOT_FOUND),
-        get("/v1/jobs", FIRST, DENIED),
-    ];
-    converse(&rt, rt.alloc(), &[&set_up(), &asked])
+    converse(&rt, rt.alloc(), &[SET_UP, DENIED_BY_NAME])
 }
 
 const WEB_IN_WEST: &str =
@@ -89,98 +90,104 @@ const WEB_IN_EAST: &str =
 const WEB_NOWHERE: &str =
     r#"{"Job":{"ID":"web","NodePool":"nowhere","TaskGroups":[{"Name":"g","Tasks":[{"Name":"t"}]}]}}"#;
 
+const POOLS_NOT_PERMITTED: &[Exchange<'static>] = &[
+    Get("/v1/jobs?namespace=ta", "root", Reply::At(0, "[]")),
+    Post("/v1/jobs?namespace=ta", "root", WEB_IN_WEST, NOT_PERMITTED),
+    Post("/v1/jobs?namespace=ta", "root", WEB_NOWHERE, NOT_PERMITTED),
+    Put("/v1/namespace/tc", "root", "{}", WRITTEN),
+    Post(
+        "/v1/jobs?namespace=tc",
+        "root",
+        WEB_NOWHERE,
+        Reply::Bad("bad field: NodePool"),
+    ),
+    Put(
+        "/v1/namespace/tc",
+        "root",
+        r#"{"NodePoolConfiguration":{"Denied":["nowhere","west"]}}"#,
+        WRITTEN,
+    ),
+    Post("/v1/jobs?namespace=tc", "root", WEB_NOWHERE, NOT_PERMITTED),
+    Post("/v1/jobs?namespace=tc", "root", WEB_IN_WEST, NOT_PERMITTED),
+    Post(
+        "/v1/jobs?namespace=tc",
+        "root",
+        WEB_IN_EAST,
+        Reply::At(1, REGISTERED),
+    ),
+    Get("/v1/jobs?namespace=ta", "root", Reply::At(0, "[]")),
+];
+
 #[test]
 fn pools_that_are_not_permitted(rt: HostRuntime) -> Result<(), AllocError> {
-    let asked = [
-        get("/v1/jobs?namespace=ta", "root", Reply::At(0, "[]")),
-        post("/v1/jobs?namespace=ta", "root", WEB_IN_WEST, NOT_PERMITTED),
-        post("/v1/jobs?namespace=ta", "root", WEB_NOWHERE, NOT_PERMITTED),
-        put("/v1/namespace/tc", "root", "{}", WRITTEN),
-        post(
-            "/v1/jobs?namespace=tc",
-            "root",
-            WEB_NOWHERE,
-            bad("bad field: NodePool"),
-        ),
-        put(
-            "/v1/namespace/tc",
-            "root",
-            r#"{"NodePoolConfiguration":{"Denied":["nowhere","west"]}}"#,
-            WRITTEN,
-        ),
-        post("/v1/jobs?namespace=tc", "root", WEB_NOWHERE, NOT_PERMITTED),
-        post("/v1/jobs?namespace=tc", "root", WEB_IN_WEST, NOT_PERMITTED),
-        post(
-            "/v1/jobs?namespace=tc",
-            "root",
-            WEB_IN_EAST,
-            Reply::At(1, REGISTERED),
-        ),
-        get("/v1/jobs?namespace=ta", "root", Reply::At(0, "[]")),
-    ];
-    converse(&rt, rt.alloc(), &[&set_up(), &asked])
+    converse(&rt, rt.alloc(), &[SET_UP, POOLS_NOT_PERMITTED])
 }
+
+const TO_DEFAULT: &str = r#"{"NodePoolConfiguration":{"Default":"default","Allowed":["default"]}}"#;
+
+const WITH_STAR: &str = r#"{"NodePoolConfiguration":{"Default":"west","Allowed":["e*"]}}"#;
+
+const WITH_NONE: &str = r#"{"NodePoolConfiguration":{"Default":"west","Allowed":[]}}"#;
+
+const TABLES_IN_USE: &[Exchange<'static>] = &[
+    Post(
+        "/v1/jobs?namespace=tb",
+        "root",
+        WEB,
+        Reply::At(1, REGISTERED),
+    ),
+    Put("/v1/namespace/tb", "root", TO_DEFAULT, IN_USE),
+    Get("/v1/namespace/tb", "root", Reply::At(1, TB)),
+    Delete("/v1/namespace/tb", "root", IN_USE),
+    Delete("/v1/quota/qa", "root", IN_USE),
+    Delete("/v1/node/pool/east", "root", IN_USE),
+    Put(
+        "/v1/namespace/ta",
+        "root",
+        r#"{"Quota":"qz"}"#,
+        Reply::Bad("bad field: Quota"),
+    ),
+    Get("/v1/namespace/ta", "root", Reply::At(0, TA)),
+    Put(
+        "/v1/namespace/tc",
+        "root",
+        WITH_STAR,
+        Reply::Bad("bad field: Allowed"),
+    ),
+    Put("/v1/namespace/tc", "root", WITH_NONE, WRITTEN),
+    Post("/v1/jobs?namespace=tc", "root", WEB_IN_EAST, NOT_PERMITTED),
+];
 
 #[test]
 fn tables_in_use(rt: HostRuntime) -> Result<(), AllocError> {
-    let to_default = r#"{"NodePoolConfiguration":{"Default":"default","Allowed":["default"]}}"#;
-    let with_star = r#"{"NodePoolConfiguration":{"Default":"west","Allowed":["e*"]}}"#;
-    let with_none = r#"{"NodePoolConfiguration":{"Default":"west","Allowed":[]}}"#;
-    let asked = [
-        post(
-            "/v1/jobs?namespace=tb",
-            "root",
-            WEB,
-            Reply::At(1, REGISTERED),
-        ),
-        put("/v1/namespace/tb", "root", to_default, IN_USE),
-        get("/v1/namespace/tb", "root", Reply::At(1, TB)),
-        delete("/v1/namespace/tb", "root", IN_USE),
-        delete("/v1/quota/qa", "root", IN_USE),
-        delete("/v1/node/pool/east", "root", IN_USE),
-        put(
-            "/v1/namespace/ta",
-            "root",
-            r#"{"Quota":"qz"}"#,
-            bad("bad field: Quota"),
-        ),
-        get("/v1/namespace/ta", "root", Reply::At(0, TA)),
-        put(
-            "/v1/namespace/tc",
-            "root",
-            with_star,
-            bad("bad field: Allowed"),
-        ),
-        put("/v1/namespace/tc", "root", with_none, WRITTEN),
-        post("/v1/jobs?namespace=tc", "root", WEB_IN_EAST, NOT_PERMITTED),
-    ];
-    converse(&rt, rt.alloc(), &[&set_up(), &asked])
+    converse(&rt, rt.alloc(), &[SET_UP, TABLES_IN_USE])
 }
+
+const FREE_IS_DELETED: &[Exchange<'static>] = &[
+    Delete("/v1/namespace/default", "root", IN_USE),
+    Delete("/v1/node/pool/default", "root", IN_USE),
+    Delete("/v1/node/pool/west", "root", IN_USE),
+    Delete("/v1/namespace/tb", "root", WRITTEN),
+    Delete("/v1/namespace/tb", "root", NOT_FOUND),
+    Get("/v1/namespace/tb", "root", NOT_FOUND),
+    Get("/v1/jobs?namespace=tb", "root", NOT_FOUND),
+    Delete("/v1/node/pool/west", "root", WRITTEN),
+    Delete("/v1/node/pool/west", "root", NOT_FOUND),
+    Get("/v1/node/pool/west", "root", NOT_FOUND),
+    Delete("/v1/node/pool/all", "root", NOT_SERVED),
+    Delete("/v1/quota/none", "root", NOT_FOUND),
+    Put(
+        "/v1/namespace/tb",
+        "root",
+        r#"{"Description":"anew"}"#,
+        WRITTEN,
+    ),
+    Post("/v1/jobs", "root", WEB_IN_TB, Reply::At(1, REGISTERED)),
+];
 
 #[test]
 fn what_is_free_is_deleted(rt: HostRuntime) -> Result<(), AllocError> {
-    let asked = [
-        delete("/v1/namespace/default", "root", IN_USE),
-        delete("/v1/node/pool/default", "root", IN_USE),
-        delete("/v1/node/pool/west", "root", IN_USE),
-        delete("/v1/namespace/tb", "root", WRITTEN),
-        delete("/v1/namespace/tb", "root", NOT_FOUND),
-        get("/v1/namespace/tb", "root", NOT_FOUND),
-        get("/v1/jobs?namespace=tb", "root", NOT_FOUND),
-        delete("/v1/node/pool/west", "root", WRITTEN),
-        delete("/v1/node/pool/west", "root", NOT_FOUND),
-        get("/v1/node/pool/west", "root", NOT_FOUND),
-        delete("/v1/node/pool/all", "root", NOT_SERVED),
-        delete("/v1/quota/none", "root", NOT_FOUND),
-        put(
-            "/v1/namespace/tb",
-            "root",
-            r#"{"Description":"anew"}"#,
-            WRITTEN,
-        ),
-        post("/v1/jobs", "root", WEB_IN_TB, Reply::At(1, REGISTERED)),
-    ];
-    converse(&rt, rt.alloc(), &[&set_up(), &asked])
+    converse(&rt, rt.alloc(), &[SET_UP, FREE_IS_DELETED])
 }
 
 /// Its namespace stands in the document.
@@ -199,144 +206,154 @@ const FIRST_SHOWN: &str =
 const MOVED_SHOWN: &str =
     r#"{"Constraints":[],"CreateIndex":1,"ID":"web","JobModifyIndex":2,"Namespace":"tc","NodePool":"east","Priority":50,"Status":"pending","Stop":false,"TaskGroups":[{"Count":1,"Name":"g","Tasks":[{"Name":"t","Resources":{"CPU":100,"MemoryMB":300}}]}],"Type":"service","Version":1}"#;
 
+const MOVED: &str =
+    r#"{"EvalCreateIndex":2,"EvalID":"00000000-0000-0001-0000-000000000002","JobModifyIndex":2}"#;
+
+const NOT_MOVED: &str =
+    r#"{"EvalCreateIndex":3,"EvalID":"00000000-0000-0001-0000-000000000003","JobModifyIndex":2}"#;
+
+const CHANGED_DEFAULTS: &[Exchange<'static>] = &[
+    Put("/v1/namespace/tc", "root", EAST_ALONE, WRITTEN),
+    Put("/v1/namespace/tc", "root", WEST_ALONE, WRITTEN),
+    Post(
+        "/v1/jobs?namespace=tc",
+        "root",
+        WEB,
+        Reply::At(1, REGISTERED),
+    ),
+    Get(
+        "/v1/job/web?namespace=tc",
+        "root",
+        Reply::At(1, FIRST_SHOWN),
+    ),
+    Put("/v1/namespace/tc", "root", EAST_ALONE, IN_USE),
+    Put("/v1/namespace/tc", "root", EAST_AND_WEST, WRITTEN),
+    Post("/v1/jobs?namespace=tc", "root", WEB, Reply::At(2, MOVED)),
+    Get(
+        "/v1/job/web?namespace=tc",
+        "root",
+        Reply::At(2, MOVED_SHOWN),
+    ),
+    Post(
+        "/v1/jobs?namespace=tc",
+        "root",
+        WEB_IN_EAST,
+        Reply::At(3, NOT_MOVED),
+    ),
+    Put("/v1/namespace/tc", "root", EAST_ALONE, IN_USE),
+    Put("/v1/namespace/tc", "root", "{}", WRITTEN),
+];
+
 /// The job moves with the default; its first evaluation stays where it was, and holds the pool.
 #[test]
 fn default_changes(rt: HostRuntime) -> Result<(), AllocError> {
-    let moved =
-        r#"{"EvalCreateIndex":2,"EvalID":"00000000-0000-0001-0000-000000000002","JobModifyIndex":2}"#;
-    let same =
-        r#"{"EvalCreateIndex":3,"EvalID":"00000000-0000-0001-0000-000000000003","JobModifyIndex":2}"#;
-    let asked = [
-        put("/v1/namespace/tc", "root", EAST_ALONE, WRITTEN),
-        put("/v1/namespace/tc", "root", WEST_ALONE, WRITTEN),
-        post(
-            "/v1/jobs?namespace=tc",
-            "root",
-            WEB,
-            Reply::At(1, REGISTERED),
-        ),
-        get(
-            "/v1/job/web?namespace=tc",
-            "root",
-            Reply::At(1, FIRST_SHOWN),
-        ),
-        put("/v1/namespace/tc", "root", EAST_ALONE, IN_USE),
-        put("/v1/namespace/tc", "root", EAST_AND_WEST, WRITTEN),
-        post("/v1/jobs?namespace=tc", "root", WEB, Reply::At(2, moved)),
-        get(
-            "/v1/job/web?namespace=tc",
-            "root",
-            Reply::At(2, MOVED_SHOWN),
-        ),
-        post(
-            "/v1/jobs?namespace=tc",
-            "root",
-            WEB_IN_EAST,
-            Reply::At(3, same),
-        ),
-        put("/v1/namespace/tc", "root", EAST_ALONE, IN_USE),
-        put("/v1/namespace/tc", "root", "{}", WRITTEN),
-    ];
-    converse(&rt, rt.alloc(), &[&set_up(), &asked])
+    converse(&rt, rt.alloc(), &[SET_UP, CHANGED_DEFAULTS])
 }
+
+const TC_OF_QUOTA: &str =
+    r#"{"Quota":"qa","NodePoolConfiguration":{"Default":"west","Allowed":[]}}"#;
+
+const TA_OF_NO_QUOTA: &str = r#"{"NodePoolConfiguration":{"Default":"east","Allowed":["east"]}}"#;
+
+const SHARED_QUOTA: &[Exchange<'static>] = &[
+    Put("/v1/namespace/tc", "root", TC_OF_QUOTA, WRITTEN),
+    Get(
+        "/v1/quota/usage/qa?namespace=ta",
+        "root",
+        Reply::At(0, UNUSED),
+    ),
+    Get(
+        "/v1/quota/usage/qa?namespace=tc",
+        "root",
+        Reply::At(0, UNUSED),
+    ),
+    Get("/v1/quota/usage/qa?namespace=tb", "root", NOT_FOUND),
+    Get("/v1/quota/usage/qa", "root", NOT_FOUND),
+    Delete("/v1/quota/qa", "root", IN_USE),
+    Put("/v1/namespace/ta", "root", TA_OF_NO_QUOTA, WRITTEN),
+    Get("/v1/quota/usage/qa?namespace=ta", "root", NOT_FOUND),
+    Delete("/v1/quota/qa", "root", IN_USE),
+    Post(
+        "/v1/jobs?namespace=tc",
+        "root",
+        WEB,
+        Reply::At(1, REGISTERED),
+    ),
+    Put("/v1/namespace/tc", "root", WEST_ALONE, IN_USE),
+    Put("/v1/namespace/tc", "root", TC_OF_QUOTA, WRITTEN),
+    Put("/v1/namespace/ta", "root", r#"{"Quota":"qa"}"#, WRITTEN),
+    Put("/v1/namespace/ta", "root", r#"{"Quota":""}"#, WRITTEN),
+    Delete("/v1/quota/qa", "root", IN_USE),
+];
 
 #[test]
 fn quota_of_two_namespaces_and_then_of_none(rt: HostRuntime) -> Result<(), AllocError> {
-    let tc = r#"{"Quota":"qa","NodePoolConfiguration":{"Default":"west","Allowed":[]}}"#;
-    let ta = r#"{"NodePoolConfiguration":{"Default":"east","Allowed":["east"]}}"#;
-    let asked = [
-        put("/v1/namespace/tc", "root", tc, WRITTEN),
-        get(
-            "/v1/quota/usage/qa?namespace=ta",
-            "root",
-            Reply::At(0, UNUSED),
-        ),
-        get(
-            "/v1/quota/usage/qa?namespace=tc",
-            "root",
-            Reply::At(0, UNUSED),
-        ),
-        get("/v1/quota/usage/qa?namespace=tb", "root", NOT_FOUND),
-        get("/v1/quota/usage/qa", "root", NOT_FOUND),
-        delete("/v1/quota/qa", "root", IN_USE),
-        put("/v1/namespace/ta", "root", ta, WRITTEN),
-        get("/v1/quota/usage/qa?namespace=ta", "root", NOT_FOUND),
-        delete("/v1/quota/qa", "root", IN_USE),
-        post(
-            "/v1/jobs?namespace=tc",
-            "root",
-            WEB,
-            Reply::At(1, REGISTERED),
-        ),
-        put("/v1/namespace/tc", "root", WEST_ALONE, IN_USE),
-        put("/v1/namespace/tc", "root", tc, WRITTEN),
-        put("/v1/namespace/ta", "root", r#"{"Quota":"qa"}"#, WRITTEN),
-        put("/v1/namespace/ta", "root", r#"{"Quota":""}"#, WRITTEN),
-        delete("/v1/quota/qa", "root", IN_USE),
-    ];
-    converse(&rt, rt.alloc(), &[&set_up(), &asked])
+    converse(&rt, rt.alloc(), &[SET_UP, SHARED_QUOTA])
 }
+
+const QUOTA: &str =
+    r#"{"Description":"","Limits":[{"Region":"global","RegionLimit":{"CPU":1000,"MemoryMB":1024}}],"Name":"qa"}"#;
+
+const QUOTA_OF_NOTHING: &str =
+    r#"{"Description":"","Limits":[{"Region":"global","RegionLimit":{"CPU":-1,"MemoryMB":0}}],"Name":"qa"}"#;
+
+const BOTH_QUOTAS: &str =
+    r#"[{"Description":"most","Limits":[{"Region":"global","RegionLimit":{"CPU":9007199254740992,"MemoryMB":0}}],"Name":"q_1"},{"Description":"","Limits":[],"Name":"qa"}]"#;
+
+const MOST_OF_QUOTA: &str =
+    r#"{"Name":"q_1","Description":"most","Limits":[{"RegionLimit":{"CPU":9007199254740992,"MemoryMB":0}}]}"#;
+
+const UNNAMED_QUOTA: &[Exchange<'static>] = &[
+    Get("/v1/quota/qa", "root", Reply::Said(QUOTA)),
+    Put(
+        "/v1/quota/qa",
+        "root",
+        r#"{"Limits":[{"RegionLimit":{"CPU":-1}}]}"#,
+        WRITTEN,
+    ),
+    Get("/v1/quota/qa", "root", Reply::Said(QUOTA_OF_NOTHING)),
+    Put("/v1/quota/qa", "root", r#"{"Limits":[]}"#, WRITTEN),
+    Post("/v1/quota", "root", MOST_OF_QUOTA, WRITTEN),
+    Get("/v1/quotas", "root", Reply::Said(BOTH_QUOTAS)),
+    Delete("/v1/quota/qa", "root", IN_USE),
+    Put("/v1/namespace/ta", "root", r#"{"Quota":null}"#, WRITTEN),
+    Delete("/v1/quota/qa", "root", WRITTEN),
+    Delete("/v1/quota/qa", "root", NOT_FOUND),
+    Get("/v1/quota/qa", "root", NOT_FOUND),
+    Put(
+        "/v1/namespace/ta",
+        "root",
+        r#"{"Quota":"qa"}"#,
+        Reply::Bad("bad field: Quota"),
+    ),
+];
 
 #[test]
 fn quota_that_no_namespace_names_is_deleted(rt: HostRuntime) -> Result<(), AllocError> {
-    let quota =
-        r#"{"Description":"","Limits":[{"Region":"global","RegionLimit":{"CPU":1000,"MemoryMB":1024}}],"Name":"qa"}"#;
-    let nothing =
-        r#"{"Description":"","Limits":[{"Region":"global","RegionLimit":{"CPU":-1,"MemoryMB":0}}],"Name":"qa"}"#;
-    let both =
-        r#"[{"Description":"most","Limits":[{"Region":"global","RegionLimit":{"CPU":9007199254740992,"MemoryMB":0}}],"Name":"q_1"},{"Description":"","Limits":[],"Name":"qa"}]"#;
-    let most =
-        r#"{"Name":"q_1","Description":"most","Limits":[{"RegionLimit":{"CPU":9007199254740992,"MemoryMB":0}}]}"#;
-    let asked = [
-        get("/v1/quota/qa", "root", Reply::Said(quota)),
-        put(
-            "/v1/quota/qa",
-            "root",
-            r#"{"Limits":[{"RegionLimit":{"CPU":-1}}]}"#,
-            WRITTEN,
-        ),
-        get("/v1/quota/qa", "root", Reply::Said(nothing)),
-        put("/v1/quota/qa", "root", r#"{"Limits":[]}"#, WRITTEN),
-        post("/v1/quota", "root", most, WRITTEN),
-        get("/v1/quotas", "root", Reply::Said(both)),
-        delete("/v1/quota/qa", "root", IN_USE),
-        put("/v1/namespace/ta", "root", r#"{"Quota":null}"#, WRITTEN),
-        delete("/v1/quota/qa", "root", WRITTEN),
-        delete("/v1/quota/qa", "root", NOT_FOUND),
-        get("/v1/quota/qa", "root", NOT_FOUND),
-        put(
-            "/v1/namespace/ta",
-            "root",
-            r#"{"Quota":"qa"}"#,
-            bad("bad field: Quota"),
-        ),
-    ];
-    converse(&rt, rt.alloc(), &[&set_up(), &asked])
+    converse(&rt, rt.alloc(), &[SET_UP, UNNAMED_QUOTA])
 }
 
 /// One reads `ta` and the pool `east`; one lists the jobs of each tenant; one writes `tb` and the pool `west`.
-fn few_rights<'a>() -> [Exchange<'a>; 3] {
-    [
-        put(
-            "/v1/acl/policy/p1",
-            "root",
-            r#"{"Rules":"namespace \"ta\" { policy = \"read\" }\nnode_pool \"e*\" { policy = \"read\" }"}"#,
-            WRITTEN,
-        ),
-        put(
-            "/v1/acl/policy/p2",
-            "root",
-            r#"{"Rules":"namespace \"t*\" { capabilities = [\"list-jobs\"] }"}"#,
-            WRITTEN,
-        ),
-        put(
-            "/v1/acl/policy/p3",
-            "root",
-            r#"{"Rules":"{\"namespace\":{\"tb\":{\"policy\":\"write\"}},\"node_pool\":{\"west\":{\"policy\":\"write\"}}}"}"#,
-            WRITTEN,
-        ),
-    ]
-}
+const FEW_RIGHTS: &[Exchange<'static>] = &[
+    Put(
+        "/v1/acl/policy/p1",
+        "root",
+        r#"{"Rules":"namespace \"ta\" { policy = \"read\" }\nnode_pool \"e*\" { policy = \"read\" }"}"#,
+        WRITTEN,
+    ),
+    Put(
+        "/v1/acl/policy/p2",
+        "root",
+        r#"{"Rules":"namespace \"t*\" { capabilities = [\"list-jobs\"] }"}"#,
+        WRITTEN,
+    ),
+    Put(
+        "/v1/acl/policy/p3",
+        "root",
+        r#"{"Rules":"{\"namespace\":{\"tb\":{\"policy\":\"write\"}},\"node_pool\":{\"west\":{\"policy\":\"write\"}}}"}"#,
+        WRITTEN,
+    ),
+];
 
 const EVERY_NAMESPACE: &str =
     r#"[{"Description":"","Name":"default","NodePoolConfiguration":{"Allowed":["default"],"Default":"default","Denied":[]},"Quota":""},{"Description":"","Name":"ta","NodePoolConfiguration":{"Allowed":["east"],"Default":"east","Denied":[]},"Quota":"qa"},{"Description":"","Name":"tb","NodePoolConfiguration":{"Allowed":["west"],"Default":"west","Denied":[]},"Quota":""}]"#;
@@ -353,94 +370,104 @@ const EVERY_POOL: &str =
 const EVERY_QUOTA: &str =
     r#"[{"Description":"","Limits":[{"Region":"global","RegionLimit":{"CPU":1000,"MemoryMB":1024}}],"Name":"qa"}]"#;
 
+const LISTED_BY_RIGHT: &[Exchange<'static>] = &[
+    Get("/v1/namespaces", "root", Reply::Said(EVERY_NAMESPACE)),
+    Get("/v1/namespaces", FIRST, Reply::Said(TA_ALONE)),
+    Get("/v1/namespaces", SECOND, Reply::Said(BOTH_TENANTS)),
+    Get("/v1/namespaces", "", Reply::Said("[]")),
+    Get("/v1/namespaces", "unknown", DENIED),
+    Get("/v1/node/pools", "root", Reply::Said(EVERY_POOL)),
+    Get(
+        "/v1/node/pools",
+        FIRST,
+        Reply::Said(r#"[{"Description":"","Name":"east"}]"#),
+    ),
+    Get("/v1/node/pools", SECOND, Reply::Said("[]")),
+    Get(
+        "/v1/node/pools",
+        THIRD,
+        Reply::Said(r#"[{"Description":"","Name":"west"}]"#),
+    ),
+    Get("/v1/node/pools", "", Reply::Said("[]")),
+    Get("/v1/node/pools", "unknown", DENIED),
+    Get("/v1/quotas", FIRST, DENIED),
+    Get("/v1/quotas", "root", Reply::Said(EVERY_QUOTA)),
+];
+
 #[test]
 fn lists_show_what_a_token_has_a_right_to(rt: HostRuntime) -> Result<(), AllocError> {
-    let asked = [
-        get("/v1/namespaces", "root", Reply::Said(EVERY_NAMESPACE)),
-        get("/v1/namespaces", FIRST, Reply::Said(TA_ALONE)),
-        get("/v1/namespaces", SECOND, Reply::Said(BOTH_TENANTS)),
-        get("/v1/namespaces", "", Reply::Said("[]")),
-        get("/v1/namespaces", "unknown", DENIED),
-        get("/v1/node/pools", "root", Reply::Said(EVERY_POOL)),
-        get(
-            "/v1/node/pools",
-            FIRST,
-            Reply::Said(r#"[{"Description":"","Name":"east"}]"#),
-        ),
-        get("/v1/node/pools", SECOND, Reply::Said("[]")),
-        get(
-            "/v1/node/pools",
-            THIRD,
-            Reply::Said(r#"[{"Description":"","Name":"west"}]"#),
-        ),
-        get("/v1/node/pools", "", Reply::Said("[]")),
-        get("/v1/node/pools", "unknown", DENIED),
-        get("/v1/quotas", FIRST, DENIED),
-        get("/v1/quotas", "root", Reply::Said(EVERY_QUOTA)),
-    ];
     converse(
         &rt,
         rt.alloc(),
-        &[&set_up(), &few_rights(), &three_tokens(), &asked],
+        &[SET_UP, FEW_RIGHTS, THREE_TOKENS, LISTED_BY_RIGHT],
     )
 }
+
+const EAST: &str = r#"{"Description":"","Name":"east"}"#;
+
+const USED_BY_TA: &str = "/v1/quota/usage/qa?namespace=ta";
+
+const READ_BY_RIGHT: &[Exchange<'static>] = &[
+    Get("/v1/node/pool/east", FIRST, Reply::Said(EAST)),
+    Get("/v1/node/pool/west", FIRST, DENIED),
+    Get("/v1/node/pool/none", FIRST, DENIED),
+    Get("/v1/node/pool/edge", FIRST, NOT_FOUND),
+    Get("/v1/namespace/ta", FIRST, Reply::At(0, TA)),
+    Get("/v1/namespace/tb", FIRST, DENIED),
+    Get("/v1/namespace/tc", FIRST, DENIED),
+    Get("/v1/namespace/tb", SECOND, Reply::At(0, TB)),
+    Get("/v1/namespace/tc", SECOND, NOT_FOUND),
+    Get(USED_BY_TA, FIRST, Reply::At(0, UNUSED)),
+    Get(USED_BY_TA, SECOND, DENIED),
+    Get("/v1/quota/qa", FIRST, DENIED),
+];
 
 #[test]
 fn tokens_that_read(rt: HostRuntime) -> Result<(), AllocError> {
-    let east = r#"{"Description":"","Name":"east"}"#;
-    let of_ta = "/v1/quota/usage/qa?namespace=ta";
-    let asked = [
-        get("/v1/node/pool/east", FIRST, Reply::Said(east)),
-        get("/v1/node/pool/west", FIRST, DENIED),
-        get("/v1/node/pool/none", FIRST, DENIED),
-        get("/v1/node/pool/edge", FIRST, NOT_FOUND),
-        get("/v1/namespace/ta", FIRST, Reply::At(0, TA)),
-        get("/v1/namespace/tb", FIRST, DENIED),
-        get("/v1/namespace/tc", FIRST, DENIED),
-        get("/v1/namespace/tb", SECOND, Reply::At(0, TB)),
-        get("/v1/namespace/tc", SECOND, NOT_FOUND),
-        get(of_ta, FIRST, Reply::At(0, UNUSED)),
-        get(of_ta, SECOND, DENIED),
-        get("/v1/quota/qa", FIRST, DENIED),
-    ];
     converse(
         &rt,
         rt.alloc(),
-        &[&set_up(), &few_rights(), &three_tokens(), &asked],
+        &[SET_UP, FEW_RIGHTS, THREE_TOKENS, READ_BY_RIGHT],
     )
 }
 
+const WEB_OF_TB_LISTED: &str =
+    r#"[{"ID":"web","JobModifyIndex":1,"Namespace":"tb","Priority":50,"Status":"pending","Type":"service"}]"#;
+
+const WRITTEN_BY_RIGHT: &[Exchange<'static>] = &[
+    Post("/v1/jobs?namespace=ta", FIRST, WEB, DENIED),
+    Post("/v1/jobs?namespace=tb", SECOND, WEB, DENIED),
+    Post(
+        "/v1/jobs?namespace=tb",
+        THIRD,
+        WEB,
+        Reply::At(1, REGISTERED),
+    ),
+    Get(
+        "/v1/jobs?namespace=tb&prefix=we",
+        SECOND,
+        Reply::At(1, WEB_OF_TB_LISTED),
+    ),
+    Get("/v1/job/web?namespace=tb", SECOND, DENIED),
+    Put("/v1/namespace/tb", THIRD, "{}", DENIED),
+    Delete("/v1/namespace/tb", THIRD, DENIED),
+    Put("/v1/node/pool/west", THIRD, "{}", DENIED),
+    Delete("/v1/node/pool/west", THIRD, DENIED),
+    Put("/v1/quota/qb", THIRD, "{}", DENIED),
+    Delete("/v1/quota/none", THIRD, DENIED),
+];
+
 #[test]
 fn tokens_that_write(rt: HostRuntime) -> Result<(), AllocError> {
-    let web =
-        r#"[{"ID":"web","JobModifyIndex":1,"Namespace":"tb","Priority":50,"Status":"pending","Type":"service"}]"#;
-    let asked = [
-        post("/v1/jobs?namespace=ta", FIRST, WEB, DENIED),
-        post("/v1/jobs?namespace=tb", SECOND, WEB, DENIED),
-        post(
-            "/v1/jobs?namespace=tb",
-            THIRD,
-            WEB,
-            Reply::At(1, REGISTERED),
-        ),
-        get("/v1/jobs?namespace=tb&prefix=we", SECOND, Reply::At(1, web)),
-        get("/v1/job/web?namespace=tb", SECOND, DENIED),
-        put("/v1/namespace/tb", THIRD, "{}", DENIED),
-        delete("/v1/namespace/tb", THIRD, DENIED),
-        put("/v1/node/pool/west", THIRD, "{}", DENIED),
-        delete("/v1/node/pool/west", THIRD, DENIED),
-        put("/v1/quota/qb", THIRD, "{}", DENIED),
-        delete("/v1/quota/none", THIRD, DENIED),
-    ];
     converse(
         &rt,
         rt.alloc(),
-        &[&set_up(), &few_rights(), &three_tokens(), &asked],
+        &[SET_UP, FEW_RIGHTS, THREE_TOKENS, WRITTEN_BY_RIGHT],
     )
 }
 
 /// Documents of the namespace `tc`, with what they are answered.
-const NAMESPACE_FAULTS: [(&str, &str); 18] = [
+const NAMESPACE_FAULTS: &[(&str, &str)] = &[
     (r#"{"Name":"td"}"#, "bad field: Name"),
     (r#"{"Name":""}"#, "bad field: Name"),
     (r#"{"Description":1,"Quota":1}"#, "bad field: Description"),
@@ -494,17 +521,42 @@ const NAMESPACE_FAULTS: [(&str, &str); 18] = [
     ("{", "bad json"),
 ];
 
-#[test]
-fn faults_of_documents_of_namespaces(rt: HostRuntime) -> Result<(), AllocError> {
-    for (body, text) in NAMESPACE_FAULTS {
-        let asked = [put("/v1/namespace/tc", "root", body, bad(text))];
-        converse(&rt, rt.alloc(), &[&set_up(), &asked])?;
+/// Both, as the parts of a conversation.
+fn both<'a>(first: &'a [Exchange<'a>], then: &'a [Exchange<'a>]) -> [&'a [Exchange<'a>]; 2] {
+    [first, then]
+}
+
+/// A document that is refused with this text, after the set-up.
+fn converse_of_fault<'a>(
+    rt: &impl Abort,
+    alloc: Global,
+    target: &'a str,
+    body: &'a str,
+    text: &'a str,
+) -> Result<(), AllocError> {
+    let asked = [Put(target, "root", body, Reply::Bad(text))];
+    converse(rt, alloc, &both(SET_UP, &asked))
+}
+
+/// A conversation for each of these faults of the namespace `tc`.
+fn converse_of_namespace_faults(
+    rt: &impl Abort,
+    alloc: Global,
+    faults: &[(&str, &str)],
+) -> Result<(), AllocError> {
+    for (body, text) in faults.iter().copied() {
+        converse_of_fault(rt, alloc, "/v1/namespace/tc", body, text)?;
     }
     Ok(())
 }
 
+#[test]
+fn faults_of_documents_of_namespaces(rt: HostRuntime) -> Result<(), AllocError> {
+    converse_of_namespace_faults(&rt, rt.alloc(), NAMESPACE_FAULTS)
+}
+
 /// Documents of namespaces, quotas and pools, with their paths and with what they are answered.
-const RECORD_FAULTS: [(&str, &str, &str); 17] = [
+const RECORD_FAULTS: &[(&str, &str, &str)] = &[
     ("/v1/namespace", "{}", "bad field: Name"),
     ("/v1/namespace", r#"{"Name":"a_b"}"#, "bad field: Name"),
     ("/v1/quota", "{}", "bad field: Name"),
@@ -556,17 +608,24 @@ const RECORD_FAULTS: [(&str, &str, &str); 17] = [
     ),
 ];
 
+/// A conversation for each of these faults.
+fn converse_of_record_faults(
+    rt: &impl Abort,
+    alloc: Global,
+    faults: &[(&str, &str, &str)],
+) -> Result<(), AllocError> {
+    for (target, body, text) in faults.iter().copied() {
+        converse_of_fault(rt, alloc, target, body, text)?;
+    }
+    Ok(())
+}
+
+const POOL_OF_ALL: &[Exchange<'static>] = &[Put("/v1/node/pool/all", "root", "{}", NOT_SERVED)];
+
 #[test]
 fn faults_of_documents_of_quotas_and_pools(rt: HostRuntime) -> Result<(), AllocError> {
-    for (target, body, text) in RECORD_FAULTS {
-        let asked = [put(target, "root", body, bad(text))];
-        converse(&rt, rt.alloc(), &[&set_up(), &asked])?;
-    }
-    converse(
-        &rt,
-        rt.alloc(),
-        &[&[put("/v1/node/pool/all", "root", "{}", NOT_SERVED)]],
-    )
+    converse_of_record_faults(&rt, rt.alloc(), RECORD_FAULTS)?;
+    converse(&rt, rt.alloc(), &[POOL_OF_ALL])
 }
 
 /// A document of a pool with a description of so many bytes.
@@ -579,18 +638,33 @@ fn described(alloc: Global, count: usize) -> Result<String, AllocError> {
     Ok(text)
 }
 
-#[test]
-fn description_has_256_bytes_at_most(rt: HostRuntime) -> Result<(), AllocError> {
-    let most = described(rt.alloc(), 256)?;
-    let more = described(rt.alloc(), 257)?;
+/// A pool with a description, and then with one that is too long.
+fn converse_of_two_pools<'a>(
+    rt: &impl Abort,
+    alloc: Global,
+    most: &'a str,
+    more: &'a str,
+) -> Result<(), AllocError> {
     let asked = [
-        put("/v1/node/pool/east", "root", most.as_str(), WRITTEN),
-        put(
+        Put("/v1/node/pool/east", "root", most, WRITTEN),
+        Put(
             "/v1/node/pool/east",
             "root",
-            more.as_str(),
-            bad("bad field: Description"),
+            more,
+            Reply::Bad("bad field: Description"),
         ),
     ];
-    converse(&rt, rt.alloc(), &[&asked])
+    converse(rt, alloc, &[&asked])
+}
+
+/// A pool with as long a description as one may have, and then with a longer one.
+fn converse_of_descriptions(rt: &impl Abort, alloc: Global) -> Result<(), AllocError> {
+    let most = described(alloc, 256)?;
+    let more = described(alloc, 257)?;
+    converse_of_two_pools(rt, alloc, most.as_str(), more.as_str())
+}
+
+#[test]
+fn description_has_256_bytes_at_most(rt: HostRuntime) -> Result<(), AllocError> {
+    converse_of_descriptions(&rt, rt.alloc())
 }

@@ -1,0 +1,11 @@
+use Rattle.std.proofs.Common.{IsTrue, sym, subst}
+use Rattle.ns_types.proofs.Named.{names}
+use Rattle.keyed.specs.Table.{has_slot}
+use Rattle.keyed.proofs.Tables.{has_slot-with_slot_here}
+use Rattle.ns_state_tests.proofs.by_key.writes_names.Goals as goal
+
+pub set-requires : goal.set-requires
+set-requires c = subst (λ m. IsTrue (has_slot m c.args.web.now)) (sym c.in_ok-reserve.ensures.ok) (has_slot-with_slot_here names _ _)
+
+pub set-requires-2 : goal.set-requires-2
+set-requires-2 c = subst (λ m. IsTrue (has_slot m c.args.api.now)) (sym c.in_ok-reserve-2.ensures.ok) (has_slot-with_slot_here names _ _)
