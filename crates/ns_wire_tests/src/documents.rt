@@ -11,43 +11,57 @@ use ns_types::text::Text;
 use std::alloc::{AllocError, Global};
 use std::test::Fail;
 
+fn is_out_of_memory<T>(answer: &Result<T, Refusal>) -> bool {
+    matches!(answer, Err(Refusal::Memory))
+}
+
 fn namespace(
     alloc: Global,
     path_name: Option<&Text>,
     body: &str,
 ) -> Result<NamedNamespace, Refusal> {
-    match read_namespace(alloc, path_name, body.as_bytes()) {
-        Err(Refusal::Memory) => read_namespace(alloc, path_name, body.as_bytes()),
-        answer => answer,
+    let answer = read_namespace(alloc, path_name, body.as_bytes());
+    if !is_out_of_memory(&answer) {
+        return answer;
     }
+    drop(answer);
+    read_namespace(alloc, path_name, body.as_bytes())
 }
 
 fn quota(alloc: Global, path_name: Option<&Text>, body: &str) -> Result<NamedQuota, Refusal> {
-    match read_quota(alloc, path_name, body.as_bytes()) {
-        Err(Refusal::Memory) => read_quota(alloc, path_name, body.as_bytes()),
-        answer => answer,
+    let answer = read_quota(alloc, path_name, body.as_bytes());
+    if !is_out_of_memory(&answer) {
+        return answer;
     }
+    drop(answer);
+    read_quota(alloc, path_name, body.as_bytes())
 }
 
 fn pool(alloc: Global, path_name: Option<&Text>, body: &str) -> Result<NamedPool, Refusal> {
-    match read_pool(alloc, path_name, body.as_bytes()) {
-        Err(Refusal::Memory) => read_pool(alloc, path_name, body.as_bytes()),
-        answer => answer,
+    let answer = read_pool(alloc, path_name, body.as_bytes());
+    if !is_out_of_memory(&answer) {
+        return answer;
     }
+    drop(answer);
+    read_pool(alloc, path_name, body.as_bytes())
 }
 
 fn policy(alloc: Global, body: &str) -> Result<Policy, Refusal> {
-    match read_policy(alloc, body.as_bytes()) {
-        Err(Refusal::Memory) => read_policy(alloc, body.as_bytes()),
-        answer => answer,
+    let answer = read_policy(alloc, body.as_bytes());
+    if !is_out_of_memory(&answer) {
+        return answer;
     }
+    drop(answer);
+    read_policy(alloc, body.as_bytes())
 }
 
 fn token(alloc: Global, body: &str) -> Result<TokenDocument, Refusal> {
-    match read_token(alloc, body.as_bytes()) {
-        Err(Refusal::Memory) => read_token(alloc, body.as_bytes()),
-        answer => answer,
+    let answer = read_token(alloc, body.as_bytes());
+    if !is_out_of_memory(&answer) {
+        return answer;
     }
+    drop(answer);
+    read_token(alloc, body.as_bytes())
 }
 
 fn namespace_fault(alloc: Global, path_name: Option<&Text>, body: &str) -> Option<Refusal> {
@@ -87,6 +101,16 @@ fn is_plain(namespace: &Namespace) -> bool {
         && namespace.denied.as_slice().is_empty()
 }
 
+fn reads_plain(alloc: Global, body: &str) -> bool {
+    let answer = namespace(alloc, None, body);
+    let reads = match &answer {
+        Ok(read) => is_plain(&read.namespace),
+        Err(_) => false,
+    };
+    drop(answer);
+    reads
+}
+
 fn is_confined_to_its_default(namespace: &Namespace) -> bool {
     match &namespace.allowed {
         Some(pools) => pools.as_slice().is_empty(),
@@ -94,9 +118,28 @@ fn is_confined_to_its_default(namespace: &Namespace) -> bool {
     }
 }
 
+fn reads_confined(alloc: Global, body: &str) -> bool {
+    let answer = namespace(alloc, None, body);
+    let reads = match &answer {
+        Ok(read) => is_confined_to_its_default(&read.namespace),
+        Err(_) => false,
+    };
+    drop(answer);
+    reads
+}
+
+fn limits_in(answer: &Result<NamedQuota, Refusal>) -> Result<Option<Limits>, Refusal> {
+    match answer {
+        Ok(read) => Ok(read.quota.limits),
+        Err(refusal) => Err(*refusal),
+    }
+}
+
 fn limits_of(alloc: Global, body: &str) -> Result<Option<Limits>, Refusal> {
-    let read = quota(alloc, None, body)?;
-    Ok(read.quota.limits)
+    let answer = quota(alloc, None, body);
+    let limits = limits_in(&answer);
+    drop(answer);
+    limits
 }
 
 fn text(alloc: Global, text: &str) -> Result<Text, AllocError> {
@@ -161,27 +204,43 @@ fn list(alloc: Global, before: &str, names: usize, after: &str) -> Result<String
     }
 }
 
-#[test]
-fn reads_a_namespace(rt: HostRuntime) -> Result<(), Fail> {
-    let alloc = rt.alloc();
-    let body =
-        "{\"Name\":\"t-1\",\"Description\":\"of a team\",\"Quota\":\"q_1\",\"NodePoolConfiguration\":{\"Default\":\"east\",\"Allowed\":[\"b\",\"a\"],\"Denied\":[]},\"Meta\":7}";
-    let NamedNamespace { name, namespace } = namespace(alloc, None, body)?;
-    assert_eq!(rt; name.as_str(), "t-1");
-    assert_eq!(rt; namespace.description.as_str(), "of a team");
-    assert!(rt; namespace.quota.is_some_and(|quota| quota.as_str() == "q_1"));
-    assert_eq!(rt; namespace.default_pool.as_str(), "east");
-    assert!(rt; namespace.denied.as_slice().is_empty());
-    assert!(rt;
-        namespace
-            .allowed
-            .is_some_and(|pools| are_names(pools.as_slice(), "b", "a"))
-    );
-    Ok(())
+fn is_text(text: &Option<Text>, expected: &str) -> bool {
+    match text {
+        Some(text) => text.as_str() == expected,
+        None => false,
+    }
+}
+
+fn is_of_a_team(namespace: &Namespace) -> bool {
+    namespace.description.as_str() == "of a team"
+        && is_text(&namespace.quota, "q_1")
+        && namespace.default_pool.as_str() == "east"
+        && namespace.denied.as_slice().is_empty()
+        && match &namespace.allowed {
+            Some(pools) => are_names(pools.as_slice(), "b", "a"),
+            None => false,
+        }
+}
+
+fn reads_the_team(alloc: Global, body: &str) -> bool {
+    let answer = namespace(alloc, None, body);
+    let reads = match &answer {
+        Ok(read) => read.name.as_str() == "t-1" && is_of_a_team(&read.namespace),
+        Err(_) => false,
+    };
+    drop(answer);
+    reads
 }
 
 #[test]
-fn fills_in_what_a_namespace_leaves_out(rt: HostRuntime) -> Result<(), Fail> {
+fn reads_a_namespace(rt: HostRuntime) {
+    let body =
+        "{\"Name\":\"t-1\",\"Description\":\"of a team\",\"Quota\":\"q_1\",\"NodePoolConfiguration\":{\"Default\":\"east\",\"Allowed\":[\"b\",\"a\"],\"Denied\":[]},\"Meta\":7}";
+    assert!(rt; reads_the_team(rt.alloc(), body));
+}
+
+#[test]
+fn fills_in_what_a_namespace_leaves_out(rt: HostRuntime) {
     let alloc = rt.alloc();
     let bodies = [
         "{\"Name\":\"a\"}",
@@ -189,13 +248,10 @@ fn fills_in_what_a_namespace_leaves_out(rt: HostRuntime) -> Result<(), Fail> {
         "{\"Name\":\"a\",\"Quota\":null,\"NodePoolConfiguration\":{\"Default\":\"\",\"Allowed\":null,\"Denied\":[]}}",
     ];
     for body in &bodies {
-        let read = namespace(alloc, None, body)?;
-        assert!(rt; is_plain(&read.namespace), "{body}");
+        assert!(rt; reads_plain(alloc, body), "{body}");
     }
     let confined = "{\"Name\":\"a\",\"NodePoolConfiguration\":{\"Allowed\":[]}}";
-    let read = namespace(alloc, None, confined)?;
-    assert!(rt; is_confined_to_its_default(&read.namespace));
-    Ok(())
+    assert!(rt; reads_confined(alloc, confined));
 }
 
 #[test]
@@ -257,12 +313,49 @@ fn refuses_faulty_pool_configurations(rt: HostRuntime) -> Result<(), Fail> {
     Ok(())
 }
 
+fn namespace_takes(alloc: Global, path_name: &Text, body: &str) -> bool {
+    let answer = namespace(alloc, Some(path_name), body);
+    let takes = match &answer {
+        Ok(read) => read.name == *path_name,
+        Err(_) => false,
+    };
+    drop(answer);
+    takes
+}
+
+fn quota_takes(alloc: Global, path_name: &Text, body: &str) -> bool {
+    let answer = quota(alloc, Some(path_name), body);
+    let takes = match &answer {
+        Ok(read) => read.name == *path_name,
+        Err(_) => false,
+    };
+    drop(answer);
+    takes
+}
+
+fn pool_takes(alloc: Global, path_name: &Text, body: &str) -> bool {
+    let answer = pool(alloc, Some(path_name), body);
+    let takes = match &answer {
+        Ok(read) => read.name == *path_name,
+        Err(_) => false,
+    };
+    drop(answer);
+    takes
+}
+
 /// Whether each of the three takes the path's name.
-fn take_the_name(alloc: Global, path_name: &Text, body: &str) -> Result<bool, Refusal> {
-    let namespace = namespace(alloc, Some(path_name), body)?;
-    let quota = quota(alloc, Some(path_name), body)?;
-    let pool = pool(alloc, Some(path_name), body)?;
-    Ok(namespace.name == *path_name && quota.name == *path_name && pool.name == *path_name)
+fn take_the_name(alloc: Global, path_name: &Text, body: &str) -> bool {
+    namespace_takes(alloc, path_name, body)
+        && quota_takes(alloc, path_name, body)
+        && pool_takes(alloc, path_name, body)
+}
+
+/// Whether each of the three is refused for its name.
+fn refuse_the_name(alloc: Global, path_name: &Text, body: &str) -> bool {
+    let refused = Some(Refusal::BadField(Member::Name));
+    namespace_fault(alloc, Some(path_name), body) == refused
+        && quota_fault(alloc, Some(path_name), body) == refused
+        && pool_fault(alloc, Some(path_name), body) == refused
 }
 
 #[test]
@@ -271,18 +364,11 @@ fn takes_the_name_of_the_path(rt: HostRuntime) -> Result<(), Fail> {
     let path = text(alloc, "a")?;
     let bodies = ["{}", "{\"Name\":null}", "{\"Name\":\"a\"}"];
     for body in &bodies {
-        assert!(rt; take_the_name(alloc, &path, body)?, "{body}");
+        assert!(rt; take_the_name(alloc, &path, body), "{body}");
     }
     let others = ["{\"Name\":\"\"}", "{\"Name\":\"b\"}", "{\"Name\":7}"];
-    let refused = Some(Refusal::BadField(Member::Name));
     for body in &others {
-        assert_eq!(rt;
-            namespace_fault(alloc, Some(&path), body),
-            refused,
-            "{body}"
-        );
-        assert_eq!(rt; quota_fault(alloc, Some(&path), body), refused, "{body}");
-        assert_eq!(rt; pool_fault(alloc, Some(&path), body), refused, "{body}");
+        assert!(rt; refuse_the_name(alloc, &path, body), "{body}");
     }
     Ok(())
 }
@@ -364,14 +450,22 @@ fn refuses_faulty_quotas(rt: HostRuntime) -> Result<(), Fail> {
     Ok(())
 }
 
+fn reads_the_east(alloc: Global, body: &str) -> bool {
+    let answer = pool(alloc, None, body);
+    let reads = match &answer {
+        Ok(read) => {
+            read.name.as_str() == "east_1" && read.pool.description.as_str() == "of the east"
+        }
+        Err(_) => false,
+    };
+    drop(answer);
+    reads
+}
+
 #[test]
-fn reads_pools(rt: HostRuntime) -> Result<(), Fail> {
-    let alloc = rt.alloc();
+fn reads_pools(rt: HostRuntime) {
     let body = "{\"Name\":\"east_1\",\"Description\":\"of the east\"}";
-    let NamedPool { name, pool } = pool(alloc, None, body)?;
-    assert_eq!(rt; name.as_str(), "east_1");
-    assert_eq!(rt; pool.description.as_str(), "of the east");
-    Ok(())
+    assert!(rt; reads_the_east(rt.alloc(), body));
 }
 
 #[test]
@@ -388,22 +482,36 @@ fn refuses_faulty_pools(rt: HostRuntime) {
     }
 }
 
+fn reads_a_policy(alloc: Global, body: &str) -> bool {
+    let answer = policy(alloc, body);
+    let reads = match &answer {
+        Ok(policy) => {
+            policy.description.as_str() == "d"
+                && policy.text.as_str() == "namespace \"*\" { policy = \"read\" }"
+                && policy.rules.as_slice().len() == 1
+        }
+        Err(_) => false,
+    };
+    drop(answer);
+    reads
+}
+
+fn reads_no_rules(alloc: Global, body: &str) -> bool {
+    let answer = policy(alloc, body);
+    let reads = match &answer {
+        Ok(policy) => policy.rules.as_slice().is_empty(),
+        Err(_) => false,
+    };
+    drop(answer);
+    reads
+}
+
 #[test]
-fn reads_policies(rt: HostRuntime) -> Result<(), Fail> {
-    let alloc = rt.alloc();
+fn reads_policies(rt: HostRuntime) {
     let body =
         "{\"Name\":7,\"Description\":\"d\",\"Rules\":\"namespace \\\"*\\\" { policy = \\\"read\\\" }\"}";
-    let Policy {
-        description,
-        text,
-        rules,
-    } = policy(alloc, body)?;
-    assert_eq!(rt; description.as_str(), "d");
-    assert_eq!(rt; text.as_str(), "namespace \"*\" { policy = \"read\" }");
-    assert_eq!(rt; rules.as_slice().len(), 1);
-    let empty = policy(alloc, "{\"Rules\":\"\"}")?;
-    assert!(rt; empty.rules.as_slice().is_empty());
-    Ok(())
+    assert!(rt; reads_a_policy(rt.alloc(), body));
+    assert!(rt; reads_no_rules(rt.alloc(), "{\"Rules\":\"\"}"));
 }
 
 #[test]
@@ -422,19 +530,39 @@ fn refuses_faulty_policies(rt: HostRuntime) {
     }
 }
 
+fn reads_a_manager(alloc: Global, body: &str) -> bool {
+    let answer = token(alloc, body);
+    let reads = match &answer {
+        Ok(read) => {
+            read.name.as_str() == "n"
+                && read.kind == TokenKind::Management
+                && are_names(read.policies.as_slice(), "b", "a")
+        }
+        Err(_) => false,
+    };
+    drop(answer);
+    reads
+}
+
+fn reads_an_empty_token(alloc: Global, body: &str) -> bool {
+    let answer = token(alloc, body);
+    let reads = match &answer {
+        Ok(read) => {
+            read.name.as_str() == ""
+                && read.kind == TokenKind::Client
+                && read.policies.as_slice().is_empty()
+        }
+        Err(_) => false,
+    };
+    drop(answer);
+    reads
+}
+
 #[test]
-fn reads_tokens(rt: HostRuntime) -> Result<(), Fail> {
-    let alloc = rt.alloc();
+fn reads_tokens(rt: HostRuntime) {
     let body = "{\"Name\":\"n\",\"Type\":\"management\",\"Policies\":[\"b\",\"a\"]}";
-    let read = token(alloc, body)?;
-    assert_eq!(rt; read.name.as_str(), "n");
-    assert_eq!(rt; read.kind, TokenKind::Management);
-    assert!(rt; are_names(read.policies.as_slice(), "b", "a"));
-    let empty = token(alloc, "{\"Name\":\"\"}")?;
-    assert_eq!(rt; empty.name.as_str(), "");
-    assert_eq!(rt; empty.kind, TokenKind::Client);
-    assert!(rt; empty.policies.as_slice().is_empty());
-    Ok(())
+    assert!(rt; reads_a_manager(rt.alloc(), body));
+    assert!(rt; reads_an_empty_token(rt.alloc(), "{\"Name\":\"\"}"));
 }
 
 #[test]

@@ -1,5 +1,5 @@
 // Each reply is made again where memory ran out.
-ghost use Rattle.std.specs.Prelude.{◌≡◌};
+ghost use Rattle.std.specs.Prelude.{◌≡◌, IfOk};
 ghost use Rattle.ns_types.specs.declared.reply.Content.TheVariants as contents;
 ghost use Rattle.ns_replies.specs.Made.{made_token};
 ghost use Rattle.ns_replies.specs.Rendered.{IsRendered, HasRoom};
@@ -41,14 +41,22 @@ fn both<T: Drop>(alloc: Global, first: T, second: T) -> Result<Rows<T>, AllocErr
     Ok(rows)
 }
 
-/// The response that shows the content.
-fn response(alloc: Global, content: Content) -> Result<Response, AllocError>
-    requires { IsRendered content }
+/// A reply in a box, whose drop is sooner proved.
+fn boxed(alloc: Global, content: Content) -> Result<Box<Reply>, AllocError>
+    ensures { IfOk result (λ reply. reply.value.content ≡ content) }
 {
     let reply = Reply {
         index: Some(7),
         content,
     };
+    Ok(Box::new(alloc, reply)?)
+}
+
+/// The response that shows the content.
+fn response(alloc: Global, content: Content) -> Result<Response, AllocError>
+    requires { IsRendered content }
+{
+    let reply = boxed(alloc, content)?;
     render(alloc, &reply)
 }
 
@@ -126,10 +134,13 @@ fn in_brackets(response: &Response) -> Option<&str> {
 }
 
 fn job(alloc: Global, id: &str, kind: JobKind, status: JobStatus) -> Result<JobShown, AllocError> {
+    let namespace = text(alloc, "qa")?;
+    let id = text(alloc, id)?;
+    let pool = text(alloc, "gpu")?;
     let document = Document {
         kind,
         priority: 50,
-        pool: text(alloc, "gpu")?,
+        pool,
         constraints: Rows::new(alloc),
         groups: Rows::new(alloc),
     };
@@ -141,8 +152,8 @@ fn job(alloc: Global, id: &str, kind: JobKind, status: JobStatus) -> Result<JobS
         modify_index: 3,
     };
     Ok(JobShown {
-        namespace: text(alloc, "qa")?,
-        id: text(alloc, id)?,
+        namespace,
+        id,
         row,
         status,
     })
@@ -153,9 +164,10 @@ fn no_jobs(alloc: Global) -> Result<Response, AllocError> {
 }
 
 fn two_jobs(alloc: Global) -> Result<Response, AllocError> {
-    let web = job(alloc, "web", JobKind::Service, JobStatus::Running)?;
-    let sort = job(alloc, "sort", JobKind::Batch, JobStatus::Pending)?;
-    response(alloc, Content::Jobs(both(alloc, web, sort)?))
+    let mut rows = Rows::new(alloc);
+    rows.push(job(alloc, "web", JobKind::Service, JobStatus::Running)?)?;
+    rows.push(job(alloc, "sort", JobKind::Batch, JobStatus::Pending)?)?;
+    response(alloc, Content::Jobs(rows))
 }
 
 #[test]
@@ -173,16 +185,20 @@ fn shows_lists_of_jobs(rt: HostRuntime) -> Result<(), Fail> {
 }
 
 fn evaluation(alloc: Global) -> Result<EvaluationShown, AllocError> {
+    let namespace = text(alloc, "qa")?;
+    let job = text(alloc, "web")?;
+    let pool = text(alloc, "gpu")?;
+    let quota = text(alloc, "small")?;
     let row = Evaluation {
-        job: text(alloc, "web")?,
+        job,
         kind: JobKind::Service,
         priority: 50,
-        pool: text(alloc, "gpu")?,
+        pool,
         trigger: Trigger::JobRegister,
         status: Status::Complete,
         previous: None,
         follower: Some(2),
-        quota: Some(text(alloc, "small")?),
+        quota: Some(quota),
         escapes: true,
         infeasible: Rows::new(alloc),
         nacks: 0,
@@ -190,7 +206,7 @@ fn evaluation(alloc: Global) -> Result<EvaluationShown, AllocError> {
         modify_index: 6,
     };
     Ok(EvaluationShown {
-        namespace: text(alloc, "qa")?,
+        namespace,
         number: 1,
         row,
     })
@@ -220,12 +236,17 @@ fn shows_evaluations(rt: HostRuntime) -> Result<(), Fail> {
 }
 
 fn allocation(alloc: Global) -> Result<AllocationShown, AllocError> {
+    let namespace = text(alloc, "qa")?;
+    let job = text(alloc, "web")?;
+    let group = text(alloc, "g")?;
+    let pool = text(alloc, "gpu")?;
+    let node = text(alloc, "n1")?;
     let row = Allocation {
-        job: text(alloc, "web")?,
-        group: text(alloc, "g")?,
+        job,
+        group,
         evaluation: 1,
-        pool: text(alloc, "gpu")?,
-        node: text(alloc, "n1")?,
+        pool,
+        node,
         place: 0,
         size: Resources {
             cpu: 100,
@@ -239,7 +260,7 @@ fn allocation(alloc: Global) -> Result<AllocationShown, AllocError> {
         modify_index: 6,
     };
     Ok(AllocationShown {
-        namespace: text(alloc, "qa")?,
+        namespace,
         number: 10,
         row,
     })
@@ -339,9 +360,10 @@ fn quotas(alloc: Global) -> Result<Response, AllocError> {
         cpu: Limit::Unlimited,
         memory: Limit::Unlimited,
     };
-    let open = quota(alloc, "open", None)?;
-    let zero = quota(alloc, "zero", Some(limits))?;
-    response(alloc, Content::Quotas(both(alloc, open, zero)?))
+    let mut rows = Rows::new(alloc);
+    rows.push(quota(alloc, "open", None)?)?;
+    rows.push(quota(alloc, "zero", Some(limits))?)?;
+    response(alloc, Content::Quotas(rows))
 }
 
 fn usage(alloc: Global) -> Result<Response, AllocError> {
@@ -404,9 +426,13 @@ fn attributes(alloc: Global) -> Result<Rows<Attribute>, AllocError> {
 }
 
 fn node(alloc: Global) -> Result<NodeShown, AllocError> {
+    let pool = text(alloc, "gpu")?;
+    let name = text(alloc, "n1")?;
+    let class = text(alloc, "big")?;
+    let attributes = attributes(alloc)?;
     let offer = Offer {
-        class: text(alloc, "big")?,
-        attributes: attributes(alloc)?,
+        class,
+        attributes,
         capacity: Resources {
             cpu: 4000,
             memory: 8192,
@@ -419,8 +445,8 @@ fn node(alloc: Global) -> Result<NodeShown, AllocError> {
         places: 0,
     };
     Ok(NodeShown {
-        pool: text(alloc, "gpu")?,
-        name: text(alloc, "n1")?,
+        pool,
+        name,
         row,
         used: Resources {
             cpu: 500,
@@ -454,15 +480,14 @@ fn shows_pools_and_nodes(rt: HostRuntime) -> Result<(), Fail> {
 }
 
 fn policy(alloc: Global) -> Result<Response, AllocError> {
+    let name = text(alloc, "dev")?;
+    let description = text(alloc, "for all")?;
     let row = Policy {
-        description: text(alloc, "for all")?,
+        description,
         text: text(alloc, "namespace \"qa\" {\n}")?,
         rules: Rows::new(alloc),
     };
-    let shown = PolicyShown {
-        name: text(alloc, "dev")?,
-        row,
-    };
+    let shown = PolicyShown { name, row };
     response(alloc, Content::Policy(shown))
 }
 
@@ -499,26 +524,23 @@ fn written(alloc: Global) -> Result<Response, AllocError> {
 }
 
 /// What answers a write, in room made before.
-fn in_room(room: Room, content: Content) -> Response
+fn in_room(alloc: Global, room: Room, content: Content) -> Result<Response, AllocError>
     requires { HasRoom room content }
 {
-    let reply = Reply {
-        index: Some(7),
-        content,
-    };
-    room.render(&reply)
+    let reply = boxed(alloc, content)?;
+    Ok(room.render(&reply))
 }
 
 fn written_in_room(alloc: Global) -> Result<Response, AllocError> {
-    Ok(in_room(Room::new(alloc)?, Content::Written))
+    in_room(alloc, Room::new(alloc)?, Content::Written)
 }
 
 fn stopped_in_room(alloc: Global) -> Result<Response, AllocError> {
-    Ok(in_room(Room::new(alloc)?, Content::Stopped(2, 7)))
+    in_room(alloc, Room::new(alloc)?, Content::Stopped(2, 7))
 }
 
 fn registered_in_room(alloc: Global) -> Result<Response, AllocError> {
-    Ok(in_room(Room::new(alloc)?, Content::Registered(2, 7, 6)))
+    in_room(alloc, Room::new(alloc)?, Content::Registered(2, 7, 6))
 }
 
 #[test]
@@ -579,8 +601,13 @@ fn token_content(new: NewToken) -> Content
 
 fn longest_in_room(alloc: Global) -> Result<Response, AllocError> {
     let new = longest_token(alloc)?;
-    let room = Room::for_token(alloc, &new)?;
-    Ok(in_room(room, token_content(new)))
+    match Room::for_token(alloc, &new) {
+        Ok(room) => in_room(alloc, room, token_content(new)),
+        Err(error) => {
+            drop(new);
+            Err(error)
+        }
+    }
 }
 
 #[test]
