@@ -47,7 +47,8 @@ impl Text {
     pub fn into_string(self) -> String
         ensures { string_bytes result ≡ self }
     {
-        self.text
+        let Text { text } = self;
+        text
     }
 
     pub fn as_str(&self) -> &str
