@@ -3,14 +3,14 @@
 use std::alloc::AllocError;
 
 /// What `look` says of the value, which is then let go.
-pub fn seen<T: Drop, S, F: FnOnce(&T) -> S>(value: T, look: F) -> S
+pub(crate) fn seen<T: Drop, S, F: FnOnce(&T) -> S>(value: T, look: F) -> S
     requires { F.IsAlwaysCallable look }
 {
     look(&value)
 }
 
 /// What `check` says of the state, which it may change, and which is then let go.
-pub fn holds<T: Drop, F: FnOnce(&mut T) -> Result<bool, AllocError>>(
+pub(crate) fn holds<T: Drop, F: FnOnce(&mut T) -> Result<bool, AllocError>>(
     state: Result<T, AllocError>,
     check: F,
 ) -> Result<bool, AllocError>
