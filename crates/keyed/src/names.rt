@@ -2,7 +2,7 @@
 ghost use Rattle.std.specs.Prelude.{◌≡◌, IsTrue, OnOk, OnErr, is_some, option_copied};
 ghost use Rattle.std.specs.FinMap as table;
 ghost use Rattle.keyed.specs.Table.{rows, row_at, has_slot, with_slot, emptied, without_vacant};
-ghost use Rattle.ns_types.specs.Names.{Name};
+ghost use Rattle.ns_types.specs.State.Names.{Name};
 
 use crate::slots::Slots;
 use ns_types::text::Text;
@@ -20,7 +20,7 @@ impl<V> Model for NameTable<V> {
     ghost use Rattle.std.specs.Coded.{codes};
     ghost use Rattle.std.specs.FinMap as table;
     ghost use Rattle.std.specs.FinMap.Entries.{is_sorted};
-    ghost use Rattle.ns_types.specs.Names.{name_cmp};
+    ghost use Rattle.ns_types.specs.State.Names.{name_cmp};
 
     ghost Value = { table.FinMap name_cmp (Option V) };
 

@@ -11,9 +11,9 @@ use Rattle.ns_types.specs.declared.acl.RuleKind.{RuleKind}
 use Rattle.ns_types.proofs.Lists.{filter-append}
 use Rattle.ns_types.proofs.Named.{same_number_refl, one_number}
 use Rattle.ns_types.proofs.Tables.{equal_by}
-use Rattle.ns_types.specs.Names.{Name, same_number}
-use Rattle.ns_types.specs.Rights.{both, no_grants, is_exact, is_match, is_of_kind, longest, merged, rules_of}
-use Rattle.ns_types.specs.Rows.{Acl}
+use Rattle.ns_types.specs.State.Names.{Name, same_number}
+use Rattle.ns_types.specs.Access.Rights.{both, no_grants, is_exact, is_match, is_of_kind, longest, merged, rules_of}
+use Rattle.ns_types.specs.State.Rows.{Acl}
 use Rattle.ns_acl.specs.declared.gathering.Gathered.{Gathered}
 use Rattle.ns_acl.specs.Gathered.{Adds, gathered, merged_if_any}
 

@@ -6,8 +6,8 @@ use Rattle.std.specs.FinMap.{FinMap, contains_key, entries, get, insert}
 use Rattle.keyed.specs.Table.{at_slot, has_slot, row_at, row_list, rows, with_slot}
 use Rattle.keyed.proofs.Tables.{any-at_slot, entries-rows, get-rows, has_slot-with_slot_here, rows-set, rows-with_slot}
 use Rattle.ns_types.proofs.Named.{names, one_name}
-use Rattle.ns_types.specs.Names.{Name, name_cmp}
-use Rattle.ns_types.specs.Tables.{any_row}
+use Rattle.ns_types.specs.State.Names.{Name, name_cmp}
+use Rattle.ns_types.specs.State.Tables.{any_row}
 
 pub some_mapped : {A B : Type 0} (f : A → B) (x : Option A) → is_some (option_map f x) ≡ is_some x
 some_mapped f None = refl

@@ -2,9 +2,9 @@
 use Rattle.std.specs.Prelude.{◌≡◌, if◌then◌else◌, List, ◌++◌, Option, Some, None, filter}
 use Rattle.ns_types.specs.declared.acl.Grants.{Grants}
 use Rattle.ns_types.specs.declared.acl.Rule.{Rule}
-use Rattle.ns_types.specs.Lists.{is_empty}
-use Rattle.ns_types.specs.Names.{Name}
-use Rattle.ns_types.specs.Rights.{is_exact, is_match, longest, longest_match, merged}
+use Rattle.ns_types.specs.State.Lists.{is_empty}
+use Rattle.ns_types.specs.State.Names.{Name}
+use Rattle.ns_types.specs.Access.Rights.{is_exact, is_match, longest, longest_match, merged}
 use Rattle.ns_acl.specs.declared.gathering.Gathered.{Gathered}
 
 abbrev pub merged_if_any : List Rule → Option Grants

@@ -2,9 +2,9 @@
 
 ghost use Rattle.std.specs.Prelude.{◌≡◌, ◌||◌, IfOk, option_copied};
 ghost use Rattle.std.specs.FinMap.{contains_key};
-ghost use Rattle.ns_types.specs.Access.{create_token, delete_policy, delete_token, has_accessor, put_policy, read_policy, secret_of};
-ghost use Rattle.ns_types.specs.Outcome.{Changes};
-ghost use Rattle.ns_types.specs.Rights.{bearer, granted, is_known, is_manager, pool_rights_of, rights_in as rights_given, rights_of};
+ghost use Rattle.ns_types.specs.Asking.Policies.{create_token, delete_policy, delete_token, has_accessor, put_policy, read_policy, secret_of};
+ghost use Rattle.ns_types.specs.Settling.Outcome.{Changes};
+ghost use Rattle.ns_types.specs.Access.Rights.{bearer, granted, is_known, is_manager, pool_rights_of, rights_in as rights_given, rights_of};
 ghost use Rattle.ns_types.specs.Steps.{opening_acl};
 ghost use Rattle.ns_acl.specs.Bearers.{bearer_of};
 
@@ -55,7 +55,7 @@ impl Model for Acl {
     ghost use Rattle.std.specs.Coded as coding;
     ghost use Rattle.std.specs.FinMap as table;
     ghost use Rattle.keyed.specs.Table.{rows};
-    ghost use Rattle.ns_types.specs.Rows as model;
+    ghost use Rattle.ns_types.specs.State.Rows as model;
 
     ghost Value = { model.Acl };
 

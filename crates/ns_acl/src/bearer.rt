@@ -1,7 +1,7 @@
 //! Whom a secret stands for.
 
 ghost use Rattle.std.specs.Prelude.{◌≡◌};
-ghost use Rattle.ns_types.specs.Rights.{bearer_with};
+ghost use Rattle.ns_types.specs.Access.Rights.{bearer_with};
 ghost use Rattle.ns_acl.specs.Bearers.{bearer_of};
 
 use ns_types::acl::{Token, TokenKind};

@@ -1,9 +1,9 @@
 //! What the rules of policies give for one name.
 
 ghost use Rattle.std.specs.Prelude.{◌≡◌, ◌∷◌, [], List, filter};
-ghost use Rattle.ns_types.specs.Names.{Name};
+ghost use Rattle.ns_types.specs.State.Names.{Name};
 ghost use Rattle.ns_types.specs.declared.acl.Rule.{Rule as RuleValue};
-ghost use Rattle.ns_types.specs.Rights.{both as both_of, counting, is_exact as has_exact_name, is_match as has_matching_star, is_of_kind as has_kind, merged, unless_denied as grants_unless_denied};
+ghost use Rattle.ns_types.specs.Access.Rights.{both as both_of, counting, is_exact as has_exact_name, is_match as has_matching_star, is_of_kind as has_kind, merged, unless_denied as grants_unless_denied};
 ghost use Rattle.ns_acl.specs.Gathered.{Adds, gathered};
 
 use ns_types::acl::{Grants, Rule, RuleKind};

@@ -1,8 +1,8 @@
 //! What is answered of policies and tokens, and the token that is stored.
 
 ghost use Rattle.std.specs.Prelude.{◌≡◌, IfOk};
-ghost use Rattle.ns_types.specs.declared.reply.Content.TheVariants as contents;
-ghost use Rattle.ns_types.specs.Access.{token_of};
+ghost use Rattle.ns_types.specs.declared.reply.Content.TheVariants as Content;
+ghost use Rattle.ns_types.specs.Asking.Policies.{token_of};
 
 use ns_types::acl::{Policy, Token};
 use ns_types::reply::{Content, PolicyShown, TokenShown};
@@ -11,7 +11,7 @@ use ns_types::text::Text;
 use std::alloc::AllocError;
 
 pub(crate) fn policy_content(name: &Text, policy: &Policy) -> Result<Content, AllocError>
-    ensures { IfOk result (λ content. content ≡ contents.Policy (record { name = name.now; row = policy.now })) }
+    ensures { IfOk result (λ content. content ≡ Content.Policy (record { name = name.now; row = policy.now })) }
 {
     Ok(Content::Policy(PolicyShown {
         name: name.clone()?,

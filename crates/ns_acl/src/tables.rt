@@ -3,7 +3,7 @@
 ghost use Rattle.std.specs.Prelude.{◌≡◌, OnOk, OnErr, nat_le};
 ghost use Rattle.std.specs.FinMap.{contains_key, insert, len};
 ghost use Rattle.keyed.specs.Table.{rows};
-ghost use Rattle.ns_types.specs.Admins.{is_full as is_full_for, most_rows};
+ghost use Rattle.ns_types.specs.Asking.Admins.{is_full as is_full_for, most_rows};
 
 use keyed::NameTable;
 use ns_types::text::Text;

@@ -4,8 +4,8 @@ ghost use Rattle.std.specs.Prelude.{◌≡◌, IfOk, OnOk, OnErr, find, option_c
 ghost use Rattle.std.specs.FinMap.{insert};
 ghost use Rattle.std.specs.List.{list_any};
 ghost use Rattle.keyed.specs.Table.{at_slot, rows};
-ghost use Rattle.ns_types.specs.Access.{bootstrap_accessor, token_of};
-ghost use Rattle.ns_types.specs.Names.{same_name};
+ghost use Rattle.ns_types.specs.Asking.Policies.{bootstrap_accessor, token_of};
+ghost use Rattle.ns_types.specs.State.Names.{same_name};
 ghost use Rattle.ns_acl.specs.Bearers.{first_token};
 
 use crate::shown::new_row;

@@ -2,9 +2,9 @@
 use Rattle.std.proofs.Common.{List, [], ◌∷◌, Result, Ok, Err, ap}
 use Rattle.std.specs.Prelude.{IfOk}
 use Rattle.ns_types.specs.declared.reply.Rendered.{Rendered}
-use Rattle.ns_types.specs.Http.{Asked, End, Whole, Refused}
-use Rattle.ns_types.specs.Rows.{State}
-use Rattle.ns_types.specs.Wire.{Exchange, Answers as Chain}
+use Rattle.ns_types.specs.Wire.Http.{Asked, End, Whole, Refused}
+use Rattle.ns_types.specs.State.Rows.{State}
+use Rattle.ns_types.specs.Wire.Responses.{Exchange, Answers as Chain}
 use Rattle.ns_http.specs.Conversation.{Conversation, CutShort, Streams}
 use Rattle.ns_api.specs.Answering.{Answers}
 use Rattle.ns_api.specs.Serving.{Served, ServedInPart}

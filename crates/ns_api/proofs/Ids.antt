@@ -6,7 +6,7 @@ use Rattle.uuid.specs.Text.{parsed}
 use Rattle.std.proofs.lemmas.Bool.{eqb-true}
 use Rattle.std.proofs.lemmas.Bool.Decides.{nat_tests}
 use Rattle.ns_types.specs.declared.id.IdKind.{IdKind}
-use Rattle.ns_types.specs.Id.{kind_number, id_number, uuid_number}
+use Rattle.ns_types.specs.State.Id.{kind_number, id_number, uuid_number}
 use Rattle.ns_api.specs.Parts.{id_of, number_in}
 
 -- a number of that kind is read again

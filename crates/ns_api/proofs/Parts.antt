@@ -11,8 +11,8 @@ use Rattle.std.proofs.lemmas.Str.Ascii.{IsAscii-from_all}
 use Rattle.ns_api.proofs.Spelling.{and_true}
 use Rattle.std.specs.List.{list_all}
 use Rattle.std.proofs.lemmas.Str.{IsUtf8-from_ascii}
-use Rattle.ns_types.specs.declared.name.NameKind.TheVariants as kinds
-use Rattle.ns_types.specs.Name.{is_name, is_name_byte}
+use Rattle.ns_types.specs.declared.name.NameKind.TheVariants as NameKind
+use Rattle.ns_types.specs.State.Name.{is_name, is_name_byte}
 use Rattle.ns_api.specs.Secrets.{known, unknown}
 use Rattle.ns_api.specs.declared.part.Part.{Part}
 use Rattle.ns_api.specs.Parts.{segments_of, segment_at, is_part, is_good}
@@ -42,18 +42,18 @@ part-bad part segment bad = by (is_utf8 (percent_decode segment)) (λ e. bad (Is
     by false h = refl
 
 -- a secret is text
-IsAscii-printable : (bytes : List ℕ) → list_all (is_name_byte kinds.Secret) bytes ≡ true → IsAscii bytes
+IsAscii-printable : (bytes : List ℕ) → list_all (is_name_byte NameKind.Secret) bytes ≡ true → IsAscii bytes
 IsAscii-printable bytes h =
     IsAscii-from_all bytes (λ k d l.
     let byte : ℕ = slice_index_or bytes k d in
-    let low = (and_true (nat_lt 32 byte) (nat_lt byte 127) (AllPass-from_list_all (is_name_byte kinds.Secret) bytes h k d l)).1 in
+    let low = (and_true (nat_lt 32 byte) (nat_lt byte 127) (AllPass-from_list_all (is_name_byte NameKind.Secret) bytes h k d l)).1 in
     let small : byte < 127 = grind (arith, nat_tests) in
     omega arith)
 
 pub known-no_text : (token : List ℕ) → (IsUtf8 token → ⊥) → unknown ≡ known token
-known-no_text token bad = by (is_name kinds.Secret token) refl
+known-no_text token bad = by (is_name NameKind.Secret token) refl
   where
-    by : (b : Bool) → is_name kinds.Secret token ≡ b → unknown ≡ (if b then token else unknown)
+    by : (b : Bool) → is_name NameKind.Secret token ≡ b → unknown ≡ (if b then token else unknown)
     by true e = absurd (bad (IsUtf8-from_ascii token (IsAscii-printable token
-        (and_true (nat_lt 0 (length token) && nat_le (length token) 64) (list_all (is_name_byte kinds.Secret) token) e).1)))
+        (and_true (nat_lt 0 (length token) && nat_le (length token) 64) (list_all (is_name_byte NameKind.Secret) token) e).1)))
     by false e = refl

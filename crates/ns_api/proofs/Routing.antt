@@ -13,7 +13,7 @@ use Rattle.matchit.specs.Seek.{first}
 use Rattle.matchit.specs.declared.error.InsertError.{InsertError}
 use Rattle.matchit.proofs.OnLiterals.{matchit_on_literals}
 use Rattle.ns_api.specs.declared.endpoint.Endpoint.{Endpoint}
-use Rattle.ns_api.specs.declared.endpoint.Endpoint.TheVariants as endpoints
+use Rattle.ns_api.specs.declared.endpoint.Endpoint.TheVariants as Endpoint
 use Rattle.ns_api.specs.Parts.{segments_of}
 use Rattle.ns_api.specs.Endpoints.{pattern_of, every_endpoint, is_spelled, endpoint_of, fits}
 use Rattle.ns_api.specs.Routes.{Serves}
@@ -35,62 +35,62 @@ reads_as (Err e) tokens = false
 
 reads : (e : Endpoint) → reads_as (parse_route (pattern_of e)) (row_of e) ≡ true
 unfolding matchit_on_literals
-reads endpoints.Jobs = refl
-reads endpoints.Job = refl
-reads endpoints.JobAllocations = refl
-reads endpoints.JobEvaluations = refl
-reads endpoints.Evaluations = refl
-reads endpoints.Evaluation = refl
-reads endpoints.Allocations = refl
-reads endpoints.Allocation = refl
-reads endpoints.AllocationStop = refl
-reads endpoints.Namespaces = refl
-reads endpoints.NewNamespace = refl
-reads endpoints.Namespace = refl
-reads endpoints.Quotas = refl
-reads endpoints.NewQuota = refl
-reads endpoints.Quota = refl
-reads endpoints.QuotaUsage = refl
-reads endpoints.EventStream = refl
-reads endpoints.Pools = refl
-reads endpoints.Pool = refl
-reads endpoints.PoolNodes = refl
-reads endpoints.Node = refl
-reads endpoints.NodeStatus = refl
-reads endpoints.NodeEligibility = refl
-reads endpoints.NodeReport = refl
-reads endpoints.Policy = refl
-reads endpoints.NewToken = refl
-reads endpoints.Token = refl
+reads Endpoint.Jobs = refl
+reads Endpoint.Job = refl
+reads Endpoint.JobAllocations = refl
+reads Endpoint.JobEvaluations = refl
+reads Endpoint.Evaluations = refl
+reads Endpoint.Evaluation = refl
+reads Endpoint.Allocations = refl
+reads Endpoint.Allocation = refl
+reads Endpoint.AllocationStop = refl
+reads Endpoint.Namespaces = refl
+reads Endpoint.NewNamespace = refl
+reads Endpoint.Namespace = refl
+reads Endpoint.Quotas = refl
+reads Endpoint.NewQuota = refl
+reads Endpoint.Quota = refl
+reads Endpoint.QuotaUsage = refl
+reads Endpoint.EventStream = refl
+reads Endpoint.Pools = refl
+reads Endpoint.Pool = refl
+reads Endpoint.PoolNodes = refl
+reads Endpoint.Node = refl
+reads Endpoint.NodeStatus = refl
+reads Endpoint.NodeEligibility = refl
+reads Endpoint.NodeReport = refl
+reads Endpoint.Policy = refl
+reads Endpoint.NewToken = refl
+reads Endpoint.Token = refl
 
 plain : (e : Endpoint) → are_plain (words_of e) ≡ true
-plain endpoints.Jobs = refl
-plain endpoints.Job = refl
-plain endpoints.JobAllocations = refl
-plain endpoints.JobEvaluations = refl
-plain endpoints.Evaluations = refl
-plain endpoints.Evaluation = refl
-plain endpoints.Allocations = refl
-plain endpoints.Allocation = refl
-plain endpoints.AllocationStop = refl
-plain endpoints.Namespaces = refl
-plain endpoints.NewNamespace = refl
-plain endpoints.Namespace = refl
-plain endpoints.Quotas = refl
-plain endpoints.NewQuota = refl
-plain endpoints.Quota = refl
-plain endpoints.QuotaUsage = refl
-plain endpoints.EventStream = refl
-plain endpoints.Pools = refl
-plain endpoints.Pool = refl
-plain endpoints.PoolNodes = refl
-plain endpoints.Node = refl
-plain endpoints.NodeStatus = refl
-plain endpoints.NodeEligibility = refl
-plain endpoints.NodeReport = refl
-plain endpoints.Policy = refl
-plain endpoints.NewToken = refl
-plain endpoints.Token = refl
+plain Endpoint.Jobs = refl
+plain Endpoint.Job = refl
+plain Endpoint.JobAllocations = refl
+plain Endpoint.JobEvaluations = refl
+plain Endpoint.Evaluations = refl
+plain Endpoint.Evaluation = refl
+plain Endpoint.Allocations = refl
+plain Endpoint.Allocation = refl
+plain Endpoint.AllocationStop = refl
+plain Endpoint.Namespaces = refl
+plain Endpoint.NewNamespace = refl
+plain Endpoint.Namespace = refl
+plain Endpoint.Quotas = refl
+plain Endpoint.NewQuota = refl
+plain Endpoint.Quota = refl
+plain Endpoint.QuotaUsage = refl
+plain Endpoint.EventStream = refl
+plain Endpoint.Pools = refl
+plain Endpoint.Pool = refl
+plain Endpoint.PoolNodes = refl
+plain Endpoint.Node = refl
+plain Endpoint.NodeStatus = refl
+plain Endpoint.NodeEligibility = refl
+plain Endpoint.NodeReport = refl
+plain Endpoint.Policy = refl
+plain Endpoint.NewToken = refl
+plain Endpoint.Token = refl
 
 abbrev apart_from : Endpoint → List Endpoint → Bool
 apart_from e [] = true
@@ -266,8 +266,8 @@ get_or-same d e zero (f ∷ others) h = refl
 get_or-same d e (suc i) (f ∷ others) h = get_or-same d e i others (omega arith)
 
 -- what is read at a place is there
-pub same_place : (i : ℕ) → i < 27 → get_or every_endpoint i endpoints.Jobs ≡ get_or every_endpoint i (get_or every_endpoint i endpoints.Jobs)
-same_place i h = get_or-same endpoints.Jobs (get_or every_endpoint i endpoints.Jobs) i every_endpoint h
+pub same_place : (i : ℕ) → i < 27 → get_or every_endpoint i Endpoint.Jobs ≡ get_or every_endpoint i (get_or every_endpoint i Endpoint.Jobs)
+same_place i h = get_or-same Endpoint.Jobs (get_or every_endpoint i Endpoint.Jobs) i every_endpoint h
 
 take_next : (e : Endpoint) (i : ℕ) (list : List Endpoint) → i < length list → take (i + 1) list ≡ take i list ++ get_or list i e ∷ []
 take_next e i list h = rw add-one (take-suc list i e h)

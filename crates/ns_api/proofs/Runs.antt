@@ -3,9 +3,9 @@ use Rattle.std.proofs.Common.{◌≡◌, inl, inr, List, [], ◌∷◌, Result, 
 use Rattle.ns_types.specs.declared.refusal.Refusal.{Refusal}
 use Rattle.ns_types.specs.declared.reply.Rendered.{Rendered}
 use Rattle.ns_types.specs.declared.step.Step.{Step}
-use Rattle.ns_types.specs.Http.{Message, asked_by, Whole, Refused}
-use Rattle.ns_types.specs.Rows.{State}
-use Rattle.ns_types.specs.Wire.{Exchange, Answers as Chain}
+use Rattle.ns_types.specs.Wire.Http.{Message, asked_by, Whole, Refused}
+use Rattle.ns_types.specs.State.Rows.{State}
+use Rattle.ns_types.specs.Wire.Responses.{Exchange, Answers as Chain}
 use Rattle.ns_api.specs.Asking.{asked}
 use Rattle.ns_api.specs.Answering.{AnswersAsked, WantsMemory, Answers, MakesNone, RunsAs}
 

@@ -4,11 +4,11 @@ use Rattle.ns_types.specs.declared.refusal.Refusal.{Refusal}
 use Rattle.ns_types.specs.declared.refusal.Refusal.TheVariants.{Memory}
 use Rattle.ns_types.specs.declared.reply.Rendered.{Rendered}
 use Rattle.ns_types.specs.declared.step.Step.{Step}
-use Rattle.ns_types.specs.Http.{Asked, asked_by, Whole, Refused}
-use Rattle.ns_types.specs.Refused.{refused}
-use Rattle.ns_types.specs.Rows.{State}
+use Rattle.ns_types.specs.Wire.Http.{Asked, asked_by, Whole, Refused}
+use Rattle.ns_types.specs.Wire.Refused.{refused}
+use Rattle.ns_types.specs.State.Rows.{State}
 use Rattle.ns_types.specs.Steps.{Answer, after, said, Run}
-use Rattle.ns_types.specs.Wire.{Exchange, refusal_of}
+use Rattle.ns_types.specs.Wire.Responses.{Exchange, refusal_of}
 use Rattle.ns_json.specs.Replies.{rendered}
 use Rattle.ns_api.specs.Asking.{asked}
 use Rattle.ns_api.specs.Drawing.{Draws}

@@ -2,24 +2,24 @@
 use Rattle.std.specs.Prelude.{[], Option, Some, None, option_map, unwrap_or, Result, Ok, Err, if◌then◌else◌, not, codes}
 use Rattle.uuid.specs.Text.{hyphenated_text, lower, parsed}
 use Rattle.ns_types.specs.declared.refusal.Refusal.{Refusal}
-use Rattle.ns_types.specs.declared.refusal.Refusal.TheVariants as refusals
+use Rattle.ns_types.specs.declared.refusal.Refusal.TheVariants as Refusal
 use Rattle.ns_types.specs.declared.step.AdminCommand.{AdminCommand}
-use Rattle.ns_types.specs.declared.step.AdminCommand.TheVariants as admins
+use Rattle.ns_types.specs.declared.step.AdminCommand.TheVariants as AdminCommand
 use Rattle.ns_types.specs.declared.step.AskCommand.{AskCommand}
-use Rattle.ns_types.specs.declared.step.AskCommand.TheVariants as asks
-use Rattle.ns_types.specs.declared.step.NodeCommand.TheVariants as tells
+use Rattle.ns_types.specs.declared.step.AskCommand.TheVariants as AskCommand
+use Rattle.ns_types.specs.declared.step.NodeCommand.TheVariants as NodeCommand
 use Rattle.ns_types.specs.declared.step.Step.{Step}
-use Rattle.ns_types.specs.declared.step.Step.TheVariants as steps
-use Rattle.ns_types.specs.Http.{Asked}
-use Rattle.ns_types.specs.Names.{Name, default_name}
+use Rattle.ns_types.specs.declared.step.Step.TheVariants as Step
+use Rattle.ns_types.specs.Wire.Http.{Asked}
+use Rattle.ns_types.specs.State.Names.{Name, default_name}
 use Rattle.ns_documents.specs.Access.{policy_in, token_in}
 use Rattle.ns_documents.specs.Records.{namespace_in as namespace_document, pool_in as pool_document, quota_in as quota_document}
 use Rattle.ns_json.specs.Reading.{◌>>=◌, body_in}
 use Rattle.ns_json.specs.Registration.{registration_in}
 use Rattle.ns_api.specs.declared.endpoint.Endpoint.{Endpoint}
-use Rattle.ns_api.specs.declared.endpoint.Endpoint.TheVariants as endpoints
+use Rattle.ns_api.specs.declared.endpoint.Endpoint.TheVariants as Endpoint
 use Rattle.ns_api.specs.declared.method.Method.{Method}
-use Rattle.ns_api.specs.declared.method.Method.TheVariants as methods
+use Rattle.ns_api.specs.declared.method.Method.TheVariants as Method
 use Rattle.ns_api.specs.Endpoints.{endpoint_of, methods_of}
 use Rattle.ns_api.specs.Methods.{method_of, has_method}
 use Rattle.ns_api.specs.Queries.{is_unserved, namespace_in, parameter}
@@ -41,12 +41,12 @@ bearer_in a = do
 unfoldable pub ask_of : AskCommand → Asked → Result Step Refusal
 ask_of command a = do
   parameter ← namespace_in (query_in a.target)
-  Ok (steps.Ask (namespace_of parameter None) (secret_of a.token) command)
+  Ok (Step.Ask (namespace_of parameter None) (secret_of a.token) command)
 
 unfoldable pub admin_of : AdminCommand → Asked → Result Step Refusal
 admin_of command a = do
   secret ← bearer_in a
-  Ok (steps.Admin secret command)
+  Ok (Step.Admin secret command)
 
 -- ---- parts of the request
 
@@ -69,85 +69,85 @@ unfoldable pub registration_asked : Asked → Result Step Refusal
 registration_asked a = do
   document ← body_in registration_in a.body
   parameter ← namespace_in (query_in a.target)
-  Ok (steps.Ask (namespace_of parameter document.namespace) (secret_of a.token) (asks.Register document.registration))
+  Ok (Step.Ask (namespace_of parameter document.namespace) (secret_of a.token) (AskCommand.Register document.registration))
 
 unfoldable pub namespace_put : Option Name → Asked → Result Step Refusal
 namespace_put named a = do
   document ← body_in (namespace_document named) a.body
-  admin_of (admins.PutNamespace document.name document.namespace) a
+  admin_of (AdminCommand.PutNamespace document.name document.namespace) a
 
 unfoldable pub quota_put : Option Name → Asked → Result Step Refusal
 quota_put named a = do
   document ← body_in (quota_document named) a.body
-  admin_of (admins.PutQuota document.name document.quota) a
+  admin_of (AdminCommand.PutQuota document.name document.quota) a
 
 unfoldable pub pool_put : Option Name → Asked → Result Step Refusal
 pool_put named a = do
   document ← body_in (pool_document named) a.body
-  admin_of (admins.PutPool document.name document.pool) a
+  admin_of (AdminCommand.PutPool document.name document.pool) a
 
 unfoldable pub policy_put : Asked → Result Step Refusal
 policy_put a = do
   policy ← body_in policy_in a.body
-  admin_of (admins.PutPolicy (fourth_part a) policy) a
+  admin_of (AdminCommand.PutPolicy (fourth_part a) policy) a
 
 -- its two texts are drawn afterwards
 unfoldable pub token_asked : Asked → Result Step Refusal
 token_asked a = do
   document ← body_in token_in a.body
-  admin_of (admins.CreateToken (record { accessor = []; secret = []; name = document.name; kind = document.kind; policies = document.policies })) a
+  admin_of (AdminCommand.CreateToken (record { accessor = []; secret = []; name = document.name; kind = document.kind; policies = document.policies })) a
 
 -- ---- reads that name their place in the path
 
 unfoldable pub namespace_read : Asked → Result Step Refusal
 namespace_read a = do
   secret ← bearer_in a
-  Ok (steps.Ask (third_part a) secret asks.ReadNamespace)
+  Ok (Step.Ask (third_part a) secret AskCommand.ReadNamespace)
 
 unfoldable pub pool_read : Asked → Result Step Refusal
 pool_read a = do
   secret ← bearer_in a
-  Ok (steps.Node (fourth_part a) secret tells.ReadPool)
+  Ok (Step.Node (fourth_part a) secret NodeCommand.ReadPool)
 
 -- ---- what is built
 
 abbrev pub not_served : Result Step Refusal
-not_served = Err refusals.NotServed
+not_served = Err Refusal.NotServed
 
 -- what is asked by each method
 abbrev pub by_kind : Method → Result Step Refusal → Result Step Refusal → Result Step Refusal → Result Step Refusal
-by_kind methods.Get get write delete = get
-by_kind methods.Write get write delete = write
-by_kind methods.Delete get write delete = delete
+by_kind Method.Get get write delete = get
+by_kind Method.Write get write delete = write
+by_kind Method.Delete get write delete = delete
 
 unfoldable pub asked_of : Endpoint → Method → Asked → Result Step Refusal
-asked_of endpoints.Jobs method a = by_kind method (ask_of (asks.ListJobs (prefix_in a)) a) (registration_asked a) not_served
-asked_of endpoints.Job method a = by_kind method (ask_of (asks.ReadJob (third_part a)) a) not_served not_served
-asked_of endpoints.Namespaces method a = by_kind method (admin_of admins.ListNamespaces a) not_served not_served
-asked_of endpoints.NewNamespace method a = by_kind method not_served (namespace_put None a) not_served
-asked_of endpoints.Namespace method a = by_kind method (namespace_read a) (namespace_put (Some (third_part a)) a) (admin_of (admins.DeleteNamespace (third_part a)) a)
-asked_of endpoints.Quotas method a = by_kind method (admin_of admins.ListQuotas a) not_served not_served
-asked_of endpoints.NewQuota method a = by_kind method not_served (quota_put None a) not_served
-asked_of endpoints.Quota method a = by_kind method (admin_of (admins.ReadQuota (third_part a)) a) (quota_put (Some (third_part a)) a) (admin_of (admins.DeleteQuota (third_part a)) a)
-asked_of endpoints.QuotaUsage method a = by_kind method (ask_of (asks.QuotaUsage (fourth_part a)) a) not_served not_served
-asked_of endpoints.Pools method a = by_kind method (admin_of admins.ListPools a) (pool_put None a) not_served
-asked_of endpoints.Pool method a = by_kind method (pool_read a) (pool_put (Some (fourth_part a)) a) (admin_of (admins.DeletePool (fourth_part a)) a)
-asked_of endpoints.Policy method a = by_kind method (admin_of (admins.ReadPolicy (fourth_part a)) a) (policy_put a) (admin_of (admins.DeletePolicy (fourth_part a)) a)
-asked_of endpoints.NewToken method a = by_kind method not_served (token_asked a) not_served
-asked_of endpoints.Token method a = by_kind method not_served not_served (admin_of (admins.DeleteToken (canonical (fourth_part a))) a)
+asked_of Endpoint.Jobs method a = by_kind method (ask_of (AskCommand.ListJobs (prefix_in a)) a) (registration_asked a) not_served
+asked_of Endpoint.Job method a = by_kind method (ask_of (AskCommand.ReadJob (third_part a)) a) not_served not_served
+asked_of Endpoint.Namespaces method a = by_kind method (admin_of AdminCommand.ListNamespaces a) not_served not_served
+asked_of Endpoint.NewNamespace method a = by_kind method not_served (namespace_put None a) not_served
+asked_of Endpoint.Namespace method a = by_kind method (namespace_read a) (namespace_put (Some (third_part a)) a) (admin_of (AdminCommand.DeleteNamespace (third_part a)) a)
+asked_of Endpoint.Quotas method a = by_kind method (admin_of AdminCommand.ListQuotas a) not_served not_served
+asked_of Endpoint.NewQuota method a = by_kind method not_served (quota_put None a) not_served
+asked_of Endpoint.Quota method a = by_kind method (admin_of (AdminCommand.ReadQuota (third_part a)) a) (quota_put (Some (third_part a)) a) (admin_of (AdminCommand.DeleteQuota (third_part a)) a)
+asked_of Endpoint.QuotaUsage method a = by_kind method (ask_of (AskCommand.QuotaUsage (fourth_part a)) a) not_served not_served
+asked_of Endpoint.Pools method a = by_kind method (admin_of AdminCommand.ListPools a) (pool_put None a) not_served
+asked_of Endpoint.Pool method a = by_kind method (pool_read a) (pool_put (Some (fourth_part a)) a) (admin_of (AdminCommand.DeletePool (fourth_part a)) a)
+asked_of Endpoint.Policy method a = by_kind method (admin_of (AdminCommand.ReadPolicy (fourth_part a)) a) (policy_put a) (admin_of (AdminCommand.DeletePolicy (fourth_part a)) a)
+asked_of Endpoint.NewToken method a = by_kind method not_served (token_asked a) not_served
+asked_of Endpoint.Token method a = by_kind method not_served not_served (admin_of (AdminCommand.DeleteToken (canonical (fourth_part a))) a)
 asked_of _ method a = not_served
 
 abbrev pub asked_by_method : Endpoint → Option Method → Asked → Result Step Refusal
-asked_by_method endpoint None a = Err refusals.BadMethod
+asked_by_method endpoint None a = Err Refusal.BadMethod
 asked_by_method endpoint (Some method) a =
-    if has_method (methods_of endpoint) method then asked_of endpoint method a else Err refusals.BadMethod
+    if has_method (methods_of endpoint) method then asked_of endpoint method a else Err Refusal.BadMethod
 
 unfoldable pub asked_at : Endpoint → Asked → Result Step Refusal
 asked_at endpoint a =
-    if not (has_good_parts endpoint (path_in a.target)) then Err refusals.NotFound
-    else if names_every_pool endpoint (path_in a.target) then Err refusals.NotServed
-    else if is_unserved endpoint (method_of a.method) (query_in a.target) then Err refusals.NotServed
+    if not (has_good_parts endpoint (path_in a.target)) then Err Refusal.NotFound
+    else if names_every_pool endpoint (path_in a.target) then Err Refusal.NotServed
+    else if is_unserved endpoint (method_of a.method) (query_in a.target) then Err Refusal.NotServed
     else asked_by_method endpoint (method_of a.method) a
 
 unfoldable pub asked : Asked → Result Step Refusal
-asked a = elim (endpoint_of (path_in a.target)) [ None ↦ Err refusals.NotFound | Some endpoint ↦ asked_at endpoint a ]
+asked a = elim (endpoint_of (path_in a.target)) [ None ↦ Err Refusal.NotFound | Some endpoint ↦ asked_at endpoint a ]

@@ -4,10 +4,10 @@ use Rattle.std.specs.List.{slice_split}
 use Rattle.std.specs.Str.{is_utf8}
 use Rattle.percent_encoding.specs.Percent.{percent_decode}
 use Rattle.ns_types.specs.declared.id.IdKind.{IdKind}
-use Rattle.ns_types.specs.Id.{kind_number, uuid_number}
-use Rattle.ns_types.specs.Name.{is_name}
+use Rattle.ns_types.specs.State.Id.{kind_number, uuid_number}
+use Rattle.ns_types.specs.State.Name.{is_name}
 use Rattle.ns_api.specs.declared.part.Part.{Part}
-use Rattle.ns_api.specs.declared.part.Part.TheVariants as parts
+use Rattle.ns_api.specs.declared.part.Part.TheVariants as Part
 
 abbrev pub slash : ℕ
 slash = 47
@@ -30,9 +30,9 @@ id_of kind text = option_and_then (number_in kind) (uuid_number text)
 
 -- the text follows the rule of its part
 unfoldable pub is_good : Part → List ℕ → Bool
-is_good (parts.Name kind) text = is_name kind text
-is_good (parts.Id kind) text = is_some (id_of kind text)
-is_good parts.Accessor text = is_some (uuid_number text)
+is_good (Part.Name kind) text = is_name kind text
+is_good (Part.Id kind) text = is_some (id_of kind text)
+is_good Part.Accessor text = is_some (uuid_number text)
 
 -- the segment stands for a good text
 unfoldable pub is_part : Part → List ℕ → Bool

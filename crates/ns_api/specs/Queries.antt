@@ -3,12 +3,12 @@ use Rattle.std.specs.Prelude.{ℕ, ◌==◌, Bool, true, false, not, ◌&&◌, �
 use Rattle.std.specs.Option.{option_map_or}
 use Rattle.std.specs.Str.Lossy.{utf8_lossy}
 use Rattle.form_urlencoded.specs.Form.{raw_pairs, decode}
-use Rattle.ns_types.specs.declared.name.NameKind.TheVariants as kinds
-use Rattle.ns_types.specs.declared.refusal.Member.TheVariants as members
+use Rattle.ns_types.specs.declared.name.NameKind.TheVariants as NameKind
+use Rattle.ns_types.specs.declared.refusal.Member.TheVariants as Member
 use Rattle.ns_types.specs.declared.refusal.Refusal.{Refusal}
 use Rattle.ns_types.specs.declared.refusal.Refusal.TheVariants.{BadField}
-use Rattle.ns_types.specs.Name.{is_name}
-use Rattle.ns_types.specs.Names.{Name}
+use Rattle.ns_types.specs.State.Name.{is_name}
+use Rattle.ns_types.specs.State.Names.{Name}
 use Rattle.ns_api.specs.declared.endpoint.Endpoint.{Endpoint}
 use Rattle.ns_api.specs.declared.endpoint.Endpoint.TheVariants.{EventStream}
 use Rattle.ns_api.specs.declared.method.Method.{Method}
@@ -68,5 +68,5 @@ namespace_in query = elim (parameter (codes "namespace") query) [
   | None ↦ Ok None
   | Some value ↦
       if length value == 0 then Ok None
-      else if is_name kinds.Namespace value then Ok (Some value) else Err (BadField members.NamespaceParameter)
+      else if is_name NameKind.Namespace value then Ok (Some value) else Err (BadField Member.NamespaceParameter)
 ]

@@ -1,6 +1,6 @@
 -- What a connection was served, over the states of the model.
-use Rattle.ns_types.specs.Http.{End}
-use Rattle.ns_types.specs.Rows.{State}
+use Rattle.ns_types.specs.Wire.Http.{End}
+use Rattle.ns_types.specs.State.Rows.{State}
 use Rattle.ns_http.specs.Conversation.{Conversation, CutShort, Streams}
 use Rattle.ns_api.specs.Answering.{Answers, RunsAs}
 

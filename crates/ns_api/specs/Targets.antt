@@ -2,11 +2,11 @@
 use Rattle.std.specs.Prelude.{ℕ, ◌==◌, Bool, true, false, ◌&&◌, List, codes, bytes_eq}
 use Rattle.std.specs.List.{list_all, list_any, before_first, after_first}
 use Rattle.percent_encoding.specs.Percent.{percent_decode}
-use Rattle.ns_types.specs.declared.name.NameKind.TheVariants as kinds
+use Rattle.ns_types.specs.declared.name.NameKind.TheVariants as NameKind
 use Rattle.ns_api.specs.declared.endpoint.Endpoint.{Endpoint}
 use Rattle.ns_api.specs.declared.endpoint.Placed.{Placed}
 use Rattle.ns_api.specs.declared.part.Part.{Part}
-use Rattle.ns_api.specs.declared.part.Part.TheVariants as parts
+use Rattle.ns_api.specs.declared.part.Part.TheVariants as Part
 use Rattle.ns_api.specs.Parts.{is_part, segment_at}
 use Rattle.ns_api.specs.Endpoints.{parts_of}
 
@@ -32,7 +32,7 @@ abbrev pub text_at : ℕ → List ℕ → List ℕ
 text_at place path = percent_decode (segment_at place path)
 
 abbrev pub is_pool : Part → Bool
-is_pool (parts.Name kinds.Pool) = true
+is_pool (Part.Name NameKind.Pool) = true
 is_pool _ = false
 
 abbrev pub is_every_pool : List ℕ → Placed → Bool

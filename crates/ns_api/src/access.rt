@@ -4,7 +4,7 @@ ghost use Rattle.std.specs.Prelude.{◌≡◌, IfOk, IsUtf8, true, is_some};
 ghost use Rattle.uuid.specs.Text.{parsed};
 ghost use Rattle.ns_http.specs.Head.{asked as shown};
 ghost use Rattle.ns_json.specs.Reading.{same};
-ghost use Rattle.ns_types.specs.declared.step.AdminCommand.TheVariants as admins;
+ghost use Rattle.ns_types.specs.declared.step.AdminCommand.TheVariants as AdminCommand;
 ghost use Rattle.ns_steps.specs.Served.{IsServed};
 ghost use Rattle.ns_api.specs.Gives.{Gives};
 ghost use Rattle.ns_api.specs.Asking.{admin_of, canonical as canonical_of, fourth_part, policy_put, token_asked};
@@ -30,7 +30,7 @@ pub fn read_policy_record(
     requires path { path.now ≡ path_in (shown request.now).target }
     requires query { query.now ≡ query_in (shown request.now).target }
     requires part { IsUtf8 (text_at 4 path.now) }
-    ensures step { Gives same result (admin_of (admins.ReadPolicy (fourth_part (shown request.now))) (shown request.now)) }
+    ensures step { Gives same result (admin_of (AdminCommand.ReadPolicy (fourth_part (shown request.now))) (shown request.now)) }
     ensures served { IfOk result IsServed }
 {
     let secret = bearer(alloc, request, query)?;
@@ -67,7 +67,7 @@ pub fn delete_policy(
     requires path { path.now ≡ path_in (shown request.now).target }
     requires query { query.now ≡ query_in (shown request.now).target }
     requires part { IsUtf8 (text_at 4 path.now) }
-    ensures step { Gives same result (admin_of (admins.DeletePolicy (fourth_part (shown request.now))) (shown request.now)) }
+    ensures step { Gives same result (admin_of (AdminCommand.DeletePolicy (fourth_part (shown request.now))) (shown request.now)) }
     ensures served { IfOk result IsServed }
 {
     let secret = bearer(alloc, request, query)?;
@@ -121,7 +121,7 @@ pub fn delete_token(
     requires query { query.now ≡ query_in (shown request.now).target }
     requires part { IsUtf8 (text_at 4 path.now) }
     requires accessor { is_some (parsed (text_at 4 path.now)) ≡ true }
-    ensures step { Gives same result (admin_of (admins.DeleteToken (canonical_of (fourth_part (shown request.now)))) (shown request.now)) }
+    ensures step { Gives same result (admin_of (AdminCommand.DeleteToken (canonical_of (fourth_part (shown request.now)))) (shown request.now)) }
     ensures served { IfOk result IsServed }
 {
     let secret = bearer(alloc, request, query)?;

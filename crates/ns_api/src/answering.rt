@@ -2,7 +2,7 @@
 
 ghost use Rattle.std.specs.Prelude.{◌≡◌, ◌⊎◌, Ok, IfOk, true, false};
 ghost use Rattle.ns_types.specs.Steps.{Makes};
-ghost use Rattle.ns_types.specs.Wire.{rendered_of};
+ghost use Rattle.ns_types.specs.Wire.Responses.{rendered_of};
 ghost use Rattle.ns_steps.specs.Served.{IsServed};
 ghost use Rattle.ns_json.specs.Replies.{rendered};
 ghost use Rattle.ns_replies.specs.Rendered.{HasRoom, IsRendered};
@@ -21,7 +21,7 @@ use std::alloc::{AllocError, Global};
 
 /// What takes steps.
 pub trait Takes {
-    ghost use Rattle.ns_types.specs.Rows.{State};
+    ghost use Rattle.ns_types.specs.State.Rows.{State};
 
     // The state that the value stands for.
     ghost state: { Self → State };

@@ -1,6 +1,6 @@
 //! A server takes steps itself.
 
-ghost use Rattle.ns_types.specs.Rows.{State};
+ghost use Rattle.ns_types.specs.State.Rows.{State};
 
 use crate::answering::Takes;
 use ns_core::Core;

@@ -1,8 +1,8 @@
 //! The two texts of a new token.
 
 ghost use Rattle.std.specs.Prelude.{◌≡◌, IfOk};
-ghost use Rattle.ns_types.specs.declared.step.Step.TheVariants as steps;
-ghost use Rattle.ns_types.specs.declared.step.AdminCommand.TheVariants as admins;
+ghost use Rattle.ns_types.specs.declared.step.Step.TheVariants as Step;
+ghost use Rattle.ns_types.specs.declared.step.AdminCommand.TheVariants as AdminCommand;
 ghost use Rattle.ns_steps.specs.Served.{IsServed};
 ghost use Rattle.ns_api.specs.Drawing.{Draws as IsDrawnFor, IsRandomId};
 
@@ -33,7 +33,7 @@ fn drawn_token<D: Draws>(
     secret: Option<Text>,
     new: NewToken,
 ) -> Result<Step, AllocError>
-    ensures drawn { IfOk result (λ made. IsDrawnFor (steps.Admin secret (admins.CreateToken new)) made) }
+    ensures drawn { IfOk result (λ made. IsDrawnFor (Step.Admin secret (AdminCommand.CreateToken new)) made) }
     ensures served { IfOk result IsServed }
 {
     let accessor = random_id(alloc, draws)?;
@@ -57,7 +57,7 @@ fn drawn_command<D: Draws>(
     secret: Option<Text>,
     command: AdminCommand,
 ) -> Result<Step, AllocError>
-    ensures drawn { IfOk result (λ made. IsDrawnFor (steps.Admin secret command) made) }
+    ensures drawn { IfOk result (λ made. IsDrawnFor (Step.Admin secret command) made) }
     ensures served { IfOk result IsServed }
 {
     match command {

@@ -3,7 +3,7 @@
 ghost use Rattle.std.specs.Prelude.{◌≡◌, IfOk, IsUtf8, unwrap_or, [], codes, None};
 ghost use Rattle.ns_http.specs.Head.{asked as shown};
 ghost use Rattle.ns_json.specs.Reading.{same};
-ghost use Rattle.ns_types.specs.declared.step.AskCommand.TheVariants as asks;
+ghost use Rattle.ns_types.specs.declared.step.AskCommand.TheVariants as AskCommand;
 ghost use Rattle.ns_steps.specs.Served.{IsServed};
 ghost use Rattle.ns_api.specs.Gives.{Gives};
 ghost use Rattle.ns_api.specs.Asking.{ask_of, fourth_part, namespace_read, prefix_in, registration_asked, third_part};
@@ -51,7 +51,7 @@ fn prefix(alloc: Global, query: &str) -> Result<Text, AllocError>
 #[tactic(auto, unfolding(crate::specs::Asking::ask_of))]
 pub fn list_jobs(alloc: Global, request: &Request<'_>, query: &str) -> Result<Step, Refusal>
     requires { query.now ≡ query_in (shown request.now).target }
-    ensures step { Gives same result (ask_of (asks.ListJobs (prefix_in (shown request.now))) (shown request.now)) }
+    ensures step { Gives same result (ask_of (AskCommand.ListJobs (prefix_in (shown request.now))) (shown request.now)) }
     ensures served { IfOk result IsServed }
 {
     let parameter = namespace(alloc, query)?;
@@ -71,7 +71,7 @@ pub fn read_job(
     requires path { path.now ≡ path_in (shown request.now).target }
     requires query { query.now ≡ query_in (shown request.now).target }
     requires part { IsUtf8 (text_at 3 path.now) }
-    ensures step { Gives same result (ask_of (asks.ReadJob (third_part (shown request.now))) (shown request.now)) }
+    ensures step { Gives same result (ask_of (AskCommand.ReadJob (third_part (shown request.now))) (shown request.now)) }
     ensures served { IfOk result IsServed }
 {
     let parameter = namespace(alloc, query)?;
@@ -109,7 +109,7 @@ pub fn quota_usage(
     requires path { path.now ≡ path_in (shown request.now).target }
     requires query { query.now ≡ query_in (shown request.now).target }
     requires part { IsUtf8 (text_at 4 path.now) }
-    ensures step { Gives same result (ask_of (asks.QuotaUsage (fourth_part (shown request.now))) (shown request.now)) }
+    ensures step { Gives same result (ask_of (AskCommand.QuotaUsage (fourth_part (shown request.now))) (shown request.now)) }
     ensures served { IfOk result IsServed }
 {
     let parameter = namespace(alloc, query)?;

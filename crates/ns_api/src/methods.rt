@@ -4,7 +4,7 @@ ghost use Rattle.std.specs.Prelude.{◌≡◌, IfOk, true};
 ghost use Rattle.ns_http.specs.Head.{asked as shown};
 ghost use Rattle.ns_json.specs.Reading.{same};
 ghost use Rattle.ns_steps.specs.Served.{IsServed};
-ghost use Rattle.ns_api.specs.declared.endpoint.Endpoint.TheVariants as endpoints;
+ghost use Rattle.ns_api.specs.declared.endpoint.Endpoint.TheVariants as Endpoint;
 ghost use Rattle.ns_api.specs.Gives.{Gives};
 ghost use Rattle.ns_api.specs.Asking.{asked_of};
 ghost use Rattle.ns_api.specs.Targets.{path_in, query_in, has_good_parts as are_good};
@@ -31,7 +31,7 @@ fn at_jobs(
     query: &str,
 ) -> Result<Step, Refusal>
     requires query { query.now ≡ query_in (shown request.now).target }
-    ensures step { Gives same result (asked_of endpoints.Jobs method (shown request.now)) }
+    ensures step { Gives same result (asked_of Endpoint.Jobs method (shown request.now)) }
     ensures served { IfOk result IsServed }
 {
     match method {
@@ -51,8 +51,8 @@ fn at_job(
 ) -> Result<Step, Refusal>
     requires path { path.now ≡ path_in (shown request.now).target }
     requires query { query.now ≡ query_in (shown request.now).target }
-    requires parts { are_good endpoints.Job path.now ≡ true }
-    ensures step { Gives same result (asked_of endpoints.Job method (shown request.now)) }
+    requires parts { are_good Endpoint.Job path.now ≡ true }
+    ensures step { Gives same result (asked_of Endpoint.Job method (shown request.now)) }
     ensures served { IfOk result IsServed }
 {
     match method {
@@ -69,7 +69,7 @@ fn at_namespaces(
     query: &str,
 ) -> Result<Step, Refusal>
     requires query { query.now ≡ query_in (shown request.now).target }
-    ensures step { Gives same result (asked_of endpoints.Namespaces method (shown request.now)) }
+    ensures step { Gives same result (asked_of Endpoint.Namespaces method (shown request.now)) }
     ensures served { IfOk result IsServed }
 {
     match method {
@@ -86,7 +86,7 @@ fn at_new_namespace(
     query: &str,
 ) -> Result<Step, Refusal>
     requires query { query.now ≡ query_in (shown request.now).target }
-    ensures step { Gives same result (asked_of endpoints.NewNamespace method (shown request.now)) }
+    ensures step { Gives same result (asked_of Endpoint.NewNamespace method (shown request.now)) }
     ensures served { IfOk result IsServed }
 {
     match method {
@@ -105,8 +105,8 @@ fn at_namespace(
 ) -> Result<Step, Refusal>
     requires path { path.now ≡ path_in (shown request.now).target }
     requires query { query.now ≡ query_in (shown request.now).target }
-    requires parts { are_good endpoints.Namespace path.now ≡ true }
-    ensures step { Gives same result (asked_of endpoints.Namespace method (shown request.now)) }
+    requires parts { are_good Endpoint.Namespace path.now ≡ true }
+    ensures step { Gives same result (asked_of Endpoint.Namespace method (shown request.now)) }
     ensures served { IfOk result IsServed }
 {
     match method {
@@ -127,7 +127,7 @@ fn at_quotas(
     query: &str,
 ) -> Result<Step, Refusal>
     requires query { query.now ≡ query_in (shown request.now).target }
-    ensures step { Gives same result (asked_of endpoints.Quotas method (shown request.now)) }
+    ensures step { Gives same result (asked_of Endpoint.Quotas method (shown request.now)) }
     ensures served { IfOk result IsServed }
 {
     match method {
@@ -144,7 +144,7 @@ fn at_new_quota(
     query: &str,
 ) -> Result<Step, Refusal>
     requires query { query.now ≡ query_in (shown request.now).target }
-    ensures step { Gives same result (asked_of endpoints.NewQuota method (shown request.now)) }
+    ensures step { Gives same result (asked_of Endpoint.NewQuota method (shown request.now)) }
     ensures served { IfOk result IsServed }
 {
     match method {
@@ -163,8 +163,8 @@ fn at_quota(
 ) -> Result<Step, Refusal>
     requires path { path.now ≡ path_in (shown request.now).target }
     requires query { query.now ≡ query_in (shown request.now).target }
-    requires parts { are_good endpoints.Quota path.now ≡ true }
-    ensures step { Gives same result (asked_of endpoints.Quota method (shown request.now)) }
+    requires parts { are_good Endpoint.Quota path.now ≡ true }
+    ensures step { Gives same result (asked_of Endpoint.Quota method (shown request.now)) }
     ensures served { IfOk result IsServed }
 {
     match method {
@@ -187,8 +187,8 @@ fn at_usage(
 ) -> Result<Step, Refusal>
     requires path { path.now ≡ path_in (shown request.now).target }
     requires query { query.now ≡ query_in (shown request.now).target }
-    requires parts { are_good endpoints.QuotaUsage path.now ≡ true }
-    ensures step { Gives same result (asked_of endpoints.QuotaUsage method (shown request.now)) }
+    requires parts { are_good Endpoint.QuotaUsage path.now ≡ true }
+    ensures step { Gives same result (asked_of Endpoint.QuotaUsage method (shown request.now)) }
     ensures served { IfOk result IsServed }
 {
     match method {
@@ -205,7 +205,7 @@ fn at_pools(
     query: &str,
 ) -> Result<Step, Refusal>
     requires query { query.now ≡ query_in (shown request.now).target }
-    ensures step { Gives same result (asked_of endpoints.Pools method (shown request.now)) }
+    ensures step { Gives same result (asked_of Endpoint.Pools method (shown request.now)) }
     ensures served { IfOk result IsServed }
 {
     match method {
@@ -225,8 +225,8 @@ fn at_pool(
 ) -> Result<Step, Refusal>
     requires path { path.now ≡ path_in (shown request.now).target }
     requires query { query.now ≡ query_in (shown request.now).target }
-    requires parts { are_good endpoints.Pool path.now ≡ true }
-    ensures step { Gives same result (asked_of endpoints.Pool method (shown request.now)) }
+    requires parts { are_good Endpoint.Pool path.now ≡ true }
+    ensures step { Gives same result (asked_of Endpoint.Pool method (shown request.now)) }
     ensures served { IfOk result IsServed }
 {
     match method {
@@ -249,8 +249,8 @@ fn at_policy(
 ) -> Result<Step, Refusal>
     requires path { path.now ≡ path_in (shown request.now).target }
     requires query { query.now ≡ query_in (shown request.now).target }
-    requires parts { are_good endpoints.Policy path.now ≡ true }
-    ensures step { Gives same result (asked_of endpoints.Policy method (shown request.now)) }
+    requires parts { are_good Endpoint.Policy path.now ≡ true }
+    ensures step { Gives same result (asked_of Endpoint.Policy method (shown request.now)) }
     ensures served { IfOk result IsServed }
 {
     match method {
@@ -268,7 +268,7 @@ fn at_new_token(
     query: &str,
 ) -> Result<Step, Refusal>
     requires query { query.now ≡ query_in (shown request.now).target }
-    ensures step { Gives same result (asked_of endpoints.NewToken method (shown request.now)) }
+    ensures step { Gives same result (asked_of Endpoint.NewToken method (shown request.now)) }
     ensures served { IfOk result IsServed }
 {
     match method {
@@ -287,8 +287,8 @@ fn at_token(
 ) -> Result<Step, Refusal>
     requires path { path.now ≡ path_in (shown request.now).target }
     requires query { query.now ≡ query_in (shown request.now).target }
-    requires parts { are_good endpoints.Token path.now ≡ true }
-    ensures step { Gives same result (asked_of endpoints.Token method (shown request.now)) }
+    requires parts { are_good Endpoint.Token path.now ≡ true }
+    ensures step { Gives same result (asked_of Endpoint.Token method (shown request.now)) }
     ensures served { IfOk result IsServed }
 {
     match method {

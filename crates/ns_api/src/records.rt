@@ -3,7 +3,7 @@
 ghost use Rattle.std.specs.Prelude.{◌≡◌, IfOk, IsUtf8, option_copied};
 ghost use Rattle.ns_http.specs.Head.{asked as shown};
 ghost use Rattle.ns_json.specs.Reading.{same};
-ghost use Rattle.ns_types.specs.declared.step.AdminCommand.TheVariants as admins;
+ghost use Rattle.ns_types.specs.declared.step.AdminCommand.TheVariants as AdminCommand;
 ghost use Rattle.ns_steps.specs.Served.{IsServed};
 ghost use Rattle.ns_api.specs.Gives.{Gives};
 ghost use Rattle.ns_api.specs.Asking.{admin_of, fourth_part, namespace_put, pool_put, pool_read, quota_put, third_part};
@@ -21,7 +21,7 @@ use std::alloc::Global;
 #[tactic(auto, unfolding(crate::specs::Asking::admin_of))]
 pub fn list_namespaces(alloc: Global, request: &Request<'_>, query: &str) -> Result<Step, Refusal>
     requires { query.now ≡ query_in (shown request.now).target }
-    ensures step { Gives same result (admin_of admins.ListNamespaces (shown request.now)) }
+    ensures step { Gives same result (admin_of AdminCommand.ListNamespaces (shown request.now)) }
     ensures served { IfOk result IsServed }
 {
     let secret = bearer(alloc, request, query)?;
@@ -58,7 +58,7 @@ pub fn delete_namespace(
     requires path { path.now ≡ path_in (shown request.now).target }
     requires query { query.now ≡ query_in (shown request.now).target }
     requires part { IsUtf8 (text_at 3 path.now) }
-    ensures step { Gives same result (admin_of (admins.DeleteNamespace (third_part (shown request.now))) (shown request.now)) }
+    ensures step { Gives same result (admin_of (AdminCommand.DeleteNamespace (third_part (shown request.now))) (shown request.now)) }
     ensures served { IfOk result IsServed }
 {
     let secret = bearer(alloc, request, query)?;
@@ -69,7 +69,7 @@ pub fn delete_namespace(
 #[tactic(auto, unfolding(crate::specs::Asking::admin_of))]
 pub fn list_quotas(alloc: Global, request: &Request<'_>, query: &str) -> Result<Step, Refusal>
     requires { query.now ≡ query_in (shown request.now).target }
-    ensures step { Gives same result (admin_of admins.ListQuotas (shown request.now)) }
+    ensures step { Gives same result (admin_of AdminCommand.ListQuotas (shown request.now)) }
     ensures served { IfOk result IsServed }
 {
     let secret = bearer(alloc, request, query)?;
@@ -86,7 +86,7 @@ pub fn read_quota_record(
     requires path { path.now ≡ path_in (shown request.now).target }
     requires query { query.now ≡ query_in (shown request.now).target }
     requires part { IsUtf8 (text_at 3 path.now) }
-    ensures step { Gives same result (admin_of (admins.ReadQuota (third_part (shown request.now))) (shown request.now)) }
+    ensures step { Gives same result (admin_of (AdminCommand.ReadQuota (third_part (shown request.now))) (shown request.now)) }
     ensures served { IfOk result IsServed }
 {
     let secret = bearer(alloc, request, query)?;
@@ -124,7 +124,7 @@ pub fn delete_quota(
     requires path { path.now ≡ path_in (shown request.now).target }
     requires query { query.now ≡ query_in (shown request.now).target }
     requires part { IsUtf8 (text_at 3 path.now) }
-    ensures step { Gives same result (admin_of (admins.DeleteQuota (third_part (shown request.now))) (shown request.now)) }
+    ensures step { Gives same result (admin_of (AdminCommand.DeleteQuota (third_part (shown request.now))) (shown request.now)) }
     ensures served { IfOk result IsServed }
 {
     let secret = bearer(alloc, request, query)?;
@@ -135,7 +135,7 @@ pub fn delete_quota(
 #[tactic(auto, unfolding(crate::specs::Asking::admin_of))]
 pub fn list_pools(alloc: Global, request: &Request<'_>, query: &str) -> Result<Step, Refusal>
     requires { query.now ≡ query_in (shown request.now).target }
-    ensures step { Gives same result (admin_of admins.ListPools (shown request.now)) }
+    ensures step { Gives same result (admin_of AdminCommand.ListPools (shown request.now)) }
     ensures served { IfOk result IsServed }
 {
     let secret = bearer(alloc, request, query)?;
@@ -169,7 +169,7 @@ pub fn delete_pool(
     requires path { path.now ≡ path_in (shown request.now).target }
     requires query { query.now ≡ query_in (shown request.now).target }
     requires part { IsUtf8 (text_at 4 path.now) }
-    ensures step { Gives same result (admin_of (admins.DeletePool (fourth_part (shown request.now))) (shown request.now)) }
+    ensures step { Gives same result (admin_of (AdminCommand.DeletePool (fourth_part (shown request.now))) (shown request.now)) }
     ensures served { IfOk result IsServed }
 {
     let secret = bearer(alloc, request, query)?;

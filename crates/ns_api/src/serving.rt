@@ -1,7 +1,7 @@
 //! One connection, answered over what takes the steps.
 
 ghost use Rattle.std.specs.Prelude.{◌≡◌, ℕ, ◌+◌, ◌≤◌, length, IfOk, IsErrOf, IsTrue, false, Err};
-ghost use Rattle.ns_types.specs.Http.{End};
+ghost use Rattle.ns_types.specs.Wire.Http.{End};
 ghost use Rattle.ns_http.specs.Conversation.{streams_of, EndsWell, IsReadFault};
 ghost use Rattle.ns_http.specs.Counts.{HasFailed, IsOpen};
 ghost use Rattle.ns_api.specs.Serving.{Served, ServedInPart};

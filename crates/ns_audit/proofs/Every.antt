@@ -6,9 +6,9 @@ use Rattle.std.specs.declared.cmp.Ordering.{Ordering}
 use Rattle.std.specs.FinMap.{FinMap, IsAntisymmetric, get, get-insert, insert}
 use Rattle.std.specs.FinMap.Entries.{find}
 use Rattle.std.specs.Ordering.{eq_by_cmp}
-use Rattle.ns_types.specs.Lists.{Each, first_each}
+use Rattle.ns_types.specs.State.Lists.{Each, first_each}
 use Rattle.ns_types.proofs.Tables.{tied}
-use Rattle.ns_audit.proofs.Chosen.{no_path, same_Some}
+use Rattle.ns_audit.proofs.Alone.Chosen.{no_path, same_Some}
 
 -- a row of a table after an insertion is the new one or an old one
 pub row_of_insert : {K X : Type 0} {R : K → K → Ordering} (o : IsTotalOrder R) (same : IsAntisymmetric R) (m : FinMap R X) (k : K) (v : X) (q : K) (x : X) → get (insert m k v) q ≡ Some x

@@ -3,7 +3,7 @@ use Rattle.std.specs.Prelude.{◌≡◌, Bool, true, false, cond, Option, Some, 
 use Rattle.std.proofs.Common.{refl}
 use Rattle.std.specs.Option.{option_map_or}
 use Rattle.ns_types.specs.declared.refusal.Refusal.{Refusal}
-use Rattle.ns_types.specs.Outcome.{Outcome, NotEnabled, Refused, Done, unless, found}
+use Rattle.ns_types.specs.Settling.Outcome.{Outcome, NotEnabled, Refused, Done, unless, found}
 
 -- where the change is made, P holds of what it leads to
 abbrev pub Leads : {S : Type 0} → (S → Type 0) → Outcome S → Type 0

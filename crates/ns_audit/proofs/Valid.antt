@@ -5,9 +5,9 @@ use Rattle.std.specs.FinMap.{get}
 use Rattle.std.specs.Option.{option_and_then}
 use Rattle.ns_types.specs.declared.node.Node.{Node}
 use Rattle.ns_types.specs.declared.step.Step.{Step}
-use Rattle.ns_types.specs.Lists.{Each}
-use Rattle.ns_types.specs.Names.{Name}
-use Rattle.ns_types.specs.Rows.{State, Tenant, PoolRows}
+use Rattle.ns_types.specs.State.Lists.{Each}
+use Rattle.ns_types.specs.State.Names.{Name}
+use Rattle.ns_types.specs.State.Rows.{State, Tenant, PoolRows}
 use Rattle.ns_types.specs.Steps.{Answer, opening, Run}
 use Rattle.ns_types.specs.Validity.{IsSoundNode, IsSoundPool, IsSoundTenant, IsValid}
 use Rattle.ns_types.specs.Within.{IsGoodStep}
@@ -16,11 +16,11 @@ use Rattle.ns_audit.specs.Records.{HasRecords}
 use Rattle.ns_audit.specs.Valid.{ValidStep, OpeningValid, ReachedIsValid}
 use Rattle.ns_audit.specs.ValidEvaluations.{IsSoundInEvaluations}
 use Rattle.ns_audit.specs.ValidWorkers.{HasSoundWorkers}
-use Rattle.ns_audit.proofs.ValidAllocationsSteps.{allocations_step, allocations_opening}
-use Rattle.ns_audit.proofs.ValidEvaluationsStep.{evaluations_step, evaluations_opening}
-use Rattle.ns_audit.proofs.ValidRecordsOpening.{records_opening}
-use Rattle.ns_audit.proofs.ValidRecordsStep.{records_step}
-use Rattle.ns_audit.proofs.ValidWorkersStep.{workers_step, workers_opening}
+use Rattle.ns_audit.proofs.ValidAllocations.Steps.{allocations_step, allocations_opening}
+use Rattle.ns_audit.proofs.ValidEvaluations.Step.{evaluations_step, evaluations_opening}
+use Rattle.ns_audit.proofs.ValidRecords.Opening.{records_opening}
+use Rattle.ns_audit.proofs.ValidRecords.Step.{records_step}
+use Rattle.ns_audit.proofs.ValidWorkers.Step.{workers_step, workers_opening}
 
 module _ (s : State) (records : HasRecords s) (evaluations : IsSoundInEvaluations s.world) (workers : HasSoundWorkers s.world) (allocations : IsAllocated s.world) where
   sound_tenant : (ns : Name) (t : Tenant) → get s.world.tenants ns ≡ Some t → IsSoundTenant s.world ns t

@@ -4,11 +4,11 @@ use Rattle.std.specs.FinMap.{get}
 use Rattle.ns_types.specs.declared.allocation.Allocation.{Allocation}
 use Rattle.ns_types.specs.declared.node.Node.{Node}
 use Rattle.ns_types.specs.declared.step.Step.{Step}
-use Rattle.ns_types.specs.Names.{Name, Key}
-use Rattle.ns_types.specs.Resources.{is_within}
-use Rattle.ns_types.specs.Rows.{State, World, Tenant, node_at}
+use Rattle.ns_types.specs.State.Names.{Name, Key}
+use Rattle.ns_types.specs.State.Resources.{is_within}
+use Rattle.ns_types.specs.State.Rows.{State, World, Tenant, node_at}
 use Rattle.ns_types.specs.Steps.{Answer, said, after, opening}
-use Rattle.ns_types.specs.Sums.{node_load}
+use Rattle.ns_types.specs.State.Sums.{node_load}
 use Rattle.ns_types.specs.Validity.{IsSoundAllocation, IsLiveAt, IsValid}
 use Rattle.ns_types.specs.Within.{IsGoodStep}
 

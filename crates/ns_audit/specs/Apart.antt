@@ -7,11 +7,11 @@ use Rattle.ns_types.specs.declared.job.Job.{Job}
 use Rattle.ns_types.specs.declared.snapshot.Snapshot.{Snapshot}
 use Rattle.ns_types.specs.declared.worker.Worker.{Worker}
 use Rattle.ns_types.specs.Isolation.{Part, alone_in}
-use Rattle.ns_types.specs.Lists.{Each}
-use Rattle.ns_types.specs.Names.{Name}
-use Rattle.ns_types.specs.Outcome.{Outcome, NotEnabled, Refused, Done}
-use Rattle.ns_types.specs.Rows.{World, Tenant, is_live, is_held, evaluation_at}
-use Rattle.ns_types.specs.Sharing.{permits}
+use Rattle.ns_types.specs.State.Lists.{Each}
+use Rattle.ns_types.specs.State.Names.{Name}
+use Rattle.ns_types.specs.Settling.Outcome.{Outcome, NotEnabled, Refused, Done}
+use Rattle.ns_types.specs.State.Rows.{World, Tenant, is_live, is_held, evaluation_at}
+use Rattle.ns_types.specs.Access.Sharing.{permits}
 
 -- the owners that are not chosen
 abbrev pub rest : Part → Part

@@ -2,9 +2,9 @@
 use Rattle.std.specs.Prelude.{◌≡◌, true, false, List}
 use Rattle.ns_types.specs.declared.step.Step.{Step}
 use Rattle.ns_types.specs.Isolation.{part_of, Agree, SameTables, Keeps, IsIsolated, alone, is_own, struck, struck_answers}
-use Rattle.ns_types.specs.Names.{Name}
-use Rattle.ns_types.specs.Rows.{State}
-use Rattle.ns_types.specs.Sharing.{is_unshared}
+use Rattle.ns_types.specs.State.Names.{Name}
+use Rattle.ns_types.specs.State.Rows.{State}
+use Rattle.ns_types.specs.Access.Sharing.{is_unshared}
 use Rattle.ns_types.specs.Steps.{Answer, said, after, opening, Run}
 use Rattle.ns_types.specs.Validity.{IsValid}
 use Rattle.ns_audit.specs.Laws.{IsFit}

@@ -1,14 +1,14 @@
 -- Isolation: what belongs to a choice of owners goes on without the others, and the others leave it alone.
 use Rattle.std.specs.Prelude.{◌≡◌, Bool, true, false, ◌&&◌, if◌then◌else◌, List, [], ◌∷◌, Option, filter}
 use Rattle.ns_types.specs.declared.step.NodeCommand.{NodeCommand}
-use Rattle.ns_types.specs.declared.step.NodeCommand.TheVariants as tells
+use Rattle.ns_types.specs.declared.step.NodeCommand.TheVariants as NodeCommand
 use Rattle.ns_types.specs.declared.step.Step.{Step}
-use Rattle.ns_types.specs.declared.step.Step.TheVariants as steps
+use Rattle.ns_types.specs.declared.step.Step.TheVariants as Step
 use Rattle.ns_types.specs.Isolation.{Part, alone_in, namespace_at, quota_record, pool_record}
-use Rattle.ns_types.specs.Names.{Name}
-use Rattle.ns_types.specs.Rights.{rights_of, pool_rights_of}
-use Rattle.ns_types.specs.Rows.{Acl, State, World}
-use Rattle.ns_types.specs.Settle.{settle}
+use Rattle.ns_types.specs.State.Names.{Name}
+use Rattle.ns_types.specs.Access.Rights.{rights_of, pool_rights_of}
+use Rattle.ns_types.specs.State.Rows.{Acl, State, World}
+use Rattle.ns_types.specs.Settling.Settle.{settle}
 use Rattle.ns_types.specs.Steps.{Answer, said, after, is_over, Run}
 use Rattle.ns_audit.specs.Apart.{IsApart, IsAtHome}
 
@@ -16,20 +16,20 @@ use Rattle.ns_audit.specs.Apart.{IsApart, IsAtHome}
 
 -- a report belongs to the namespace that it names, too
 abbrev pub tells_of : Part → NodeCommand → Bool
-tells_of part (tells.Report name report) = part.spaces report.namespace
+tells_of part (NodeCommand.Report name report) = part.spaces report.namespace
 tells_of part _ = true
 
 -- asked in a chosen namespace, told of a chosen pool, or made by a worker for a chosen namespace
 abbrev pub belongs : Part → Step → Bool
-belongs part (steps.Ask ns secret command) = part.spaces ns
-belongs part (steps.Admin secret command) = false
-belongs part (steps.Node pool secret command) = part.pools pool && tells_of part command
-belongs part (steps.Dequeue worker ns n) = part.spaces ns
-belongs part (steps.Snap worker ns) = part.spaces ns
-belongs part (steps.Submit worker ns) = part.spaces ns
-belongs part (steps.Apply worker ns) = part.spaces ns
-belongs part (steps.Finish worker ns) = part.spaces ns
-belongs part (steps.Nack worker ns) = part.spaces ns
+belongs part (Step.Ask ns secret command) = part.spaces ns
+belongs part (Step.Admin secret command) = false
+belongs part (Step.Node pool secret command) = part.pools pool && tells_of part command
+belongs part (Step.Dequeue worker ns n) = part.spaces ns
+belongs part (Step.Snap worker ns) = part.spaces ns
+belongs part (Step.Submit worker ns) = part.spaces ns
+belongs part (Step.Apply worker ns) = part.spaces ns
+belongs part (Step.Finish worker ns) = part.spaces ns
+belongs part (Step.Nack worker ns) = part.spaces ns
 
 -- ---- states that agree
 
@@ -52,7 +52,7 @@ pub record KeepsTables (part : Part) (s s' : State) : Type 0 where
 
 -- an administrator's step leaves the tables alone
 abbrev pub LeavesTables : Part → Step → State → State → Type 0
-LeavesTables part (steps.Admin secret command) s s' = KeepsTables part s s'
+LeavesTables part (Step.Admin secret command) s s' = KeepsTables part s s'
 LeavesTables part _ s s' = Unit {0}
 
 -- what the laws need of a state

@@ -4,14 +4,14 @@ use Rattle.std.specs.Prelude.{◌≡◌, ◌≢◌, ℕ, ◌≤◌, true, false,
 use Rattle.std.specs.FinMap.{get}
 use Rattle.ns_types.specs.declared.allocation.Allocation.{Allocation}
 use Rattle.ns_types.specs.declared.evaluation.Evaluation.{Evaluation}
-use Rattle.ns_types.specs.declared.evaluation.Status.TheVariants as statuses
+use Rattle.ns_types.specs.declared.evaluation.Status.TheVariants as Status
 use Rattle.ns_types.specs.declared.job.Job.{Job}
 use Rattle.ns_types.specs.declared.records.Namespace.{Namespace}
 use Rattle.ns_types.specs.declared.snapshot.Snapshot.{Snapshot}
 use Rattle.ns_types.specs.declared.worker.Worker.{Worker}
-use Rattle.ns_types.specs.Names.{Name, has_key}
-use Rattle.ns_types.specs.Rows.{State, World, Tenant, is_open, is_live}
-use Rattle.ns_types.specs.Sharing.{permits}
+use Rattle.ns_types.specs.State.Names.{Name, has_key}
+use Rattle.ns_types.specs.State.Rows.{State, World, Tenant, is_open, is_live}
+use Rattle.ns_types.specs.Access.Sharing.{permits}
 use Rattle.ns_types.specs.Steps.{is_over}
 
 -- a pool that the namespace may use, and its own quota if there is one
@@ -28,7 +28,7 @@ pub record IsKeptBy (ns : Name) (t : Tenant) (kept : Snapshot) : Type 0 where
 pub record IsPendingIn (t : Tenant) (n : ℕ) : Type 0 where
   pub row : Evaluation
   pub is_row : get t.evaluations n ≡ Some row
-  pub is_pending : row.status ≡ statuses.Pending
+  pub is_pending : row.status ≡ Status.Pending
 
 pub record IsOrderlyTenant (ns : Name) (t : Tenant) : Type 0 where
   pub job : (id : Name) (j : Job) → get t.jobs id ≡ Some j → permits t.namespace j.document.pool ≡ true
@@ -49,7 +49,7 @@ pub record IsReadyIn (t : Tenant) (n : ℕ) : Type 0 where
 pub record IsBlockedIn (t : Tenant) (n : ℕ) : Type 0 where
   pub row : Evaluation
   pub is_row : get t.evaluations n ≡ Some row
-  pub is_blocked : row.status ≡ statuses.Blocked
+  pub is_blocked : row.status ≡ Status.Blocked
 
 -- an entry of a list names a namespace that is there, and so is its evaluation
 pub record IsListed (w : World) (P : Tenant → ℕ → Type 0) (ns : Name) (n : ℕ) : Type 0 where

@@ -4,23 +4,23 @@ use Rattle.std.specs.Prelude.{◌≡◌, ◌≤◌, false, Some, IsTrue, length,
 use Rattle.std.specs.FinMap.{get, len, values}
 use Rattle.std.specs.List.{list_all}
 use Rattle.ns_types.specs.declared.job.Job.{Job}
-use Rattle.ns_types.specs.declared.name.NameKind.TheVariants as names
+use Rattle.ns_types.specs.declared.name.NameKind.TheVariants as NameKind
 use Rattle.ns_types.specs.declared.node.Node.{Node}
 use Rattle.ns_types.specs.declared.step.Step.{Step}
-use Rattle.ns_types.specs.Admins.{most_rows}
-use Rattle.ns_types.specs.Asks.{most_jobs}
-use Rattle.ns_types.specs.Limits.{is_text, is_pool_name, is_good_offer}
-use Rattle.ns_types.specs.Name.{is_name}
-use Rattle.ns_types.specs.Names.{Name}
-use Rattle.ns_types.specs.Nodes.{most_nodes}
-use Rattle.ns_types.specs.Rows.{State, World, Tenant, PoolRows, QuotaRows}
+use Rattle.ns_types.specs.Asking.Admins.{most_rows}
+use Rattle.ns_types.specs.Asking.Asks.{most_jobs}
+use Rattle.ns_types.specs.State.Limits.{is_text, is_pool_name, is_good_offer}
+use Rattle.ns_types.specs.State.Name.{is_name}
+use Rattle.ns_types.specs.State.Names.{Name}
+use Rattle.ns_types.specs.Asking.Nodes.{most_nodes}
+use Rattle.ns_types.specs.State.Rows.{State, World, Tenant, PoolRows, QuotaRows}
 use Rattle.ns_types.specs.Steps.{Answer, said, after, is_over, opening}
 use Rattle.ns_types.specs.Validity.{IsInOrder, IsSoundRecord, IsSoundJob, IsSoundQuota, IsSoundAcl, IsValid}
 use Rattle.ns_types.specs.Within.{IsGoodStep}
 
 -- all that is said of a node, but for its load
 pub record IsGoodNode (name : Name) (node : Node) : Type 0 where
-  pub named : IsTrue (is_name names.Node name)
+  pub named : IsTrue (is_name NameKind.Node name)
   pub good : IsTrue (is_good_offer node.offer)
   pub in_order : IsInOrder node.offer
 
@@ -32,7 +32,7 @@ pub record IsGoodPool (name : Name) (p : PoolRows) : Type 0 where
   pub classes : IsTrue (list_all (λ release. nat_le release p.release) (values p.classes))
 
 pub record IsGoodTenant (w : World) (ns : Name) (t : Tenant) : Type 0 where
-  pub named : IsTrue (is_name names.Namespace ns)
+  pub named : IsTrue (is_name NameKind.Namespace ns)
   pub namespace : IsSoundRecord w t.namespace
   pub few_jobs : len t.jobs ≤ most_jobs
   pub job : (id : Name) (j : Job) → get t.jobs id ≡ Some j → IsSoundJob w t id j
@@ -55,4 +55,4 @@ RecordsStep = (s s' : State) (step : Step) (answer : Answer) → IsValid s → I
 
 -- So has the state in which the server begins.
 abbrev pub RecordsOpening : Type 0
-RecordsOpening = (secret : Name) → IsTrue (is_name names.Secret secret) → HasRecords (opening secret)
+RecordsOpening = (secret : Name) → IsTrue (is_name NameKind.Secret secret) → HasRecords (opening secret)

@@ -1,11 +1,11 @@
 -- Every state that the server reaches is valid.
 use Rattle.std.specs.Prelude.{◌≡◌, List, IsTrue}
-use Rattle.ns_types.specs.declared.name.NameKind.TheVariants as names
+use Rattle.ns_types.specs.declared.name.NameKind.TheVariants as NameKind
 use Rattle.ns_types.specs.declared.step.Step.{Step}
-use Rattle.ns_types.specs.Lists.{Each}
-use Rattle.ns_types.specs.Name.{is_name}
-use Rattle.ns_types.specs.Names.{Name}
-use Rattle.ns_types.specs.Rows.{State}
+use Rattle.ns_types.specs.State.Lists.{Each}
+use Rattle.ns_types.specs.State.Name.{is_name}
+use Rattle.ns_types.specs.State.Names.{Name}
+use Rattle.ns_types.specs.State.Rows.{State}
 use Rattle.ns_types.specs.Steps.{Answer, said, after, opening, Run}
 use Rattle.ns_types.specs.Validity.{IsValid}
 use Rattle.ns_types.specs.Within.{IsGoodStep}
@@ -16,9 +16,9 @@ ValidStep = (s s' : State) (step : Step) (answer : Answer) → IsValid s → IsG
 
 -- The state in which the server begins is valid, if its secret is one.
 abbrev pub OpeningValid : Type 0
-OpeningValid = (secret : Name) → IsTrue (is_name names.Secret secret) → IsValid (opening secret)
+OpeningValid = (secret : Name) → IsTrue (is_name NameKind.Secret secret) → IsValid (opening secret)
 
 -- So each state that such steps reach from there is valid.
 abbrev pub ReachedIsValid : Type 0
-ReachedIsValid = (secret : Name) (s : State) (steps : List Step) (answers : List Answer) → IsTrue (is_name names.Secret secret) → Each IsGoodStep steps
+ReachedIsValid = (secret : Name) (s : State) (steps : List Step) (answers : List Answer) → IsTrue (is_name NameKind.Secret secret) → Each IsGoodStep steps
     → Run (opening secret) steps answers s → IsValid s

@@ -2,12 +2,12 @@
 use Rattle.std.specs.Prelude.{◌≡◌, ℕ, true, Some, IsTrue, is_some}
 use Rattle.std.specs.FinMap.{get}
 use Rattle.ns_types.specs.declared.evaluation.Evaluation.{Evaluation}
-use Rattle.ns_types.specs.declared.name.NameKind.TheVariants as names
+use Rattle.ns_types.specs.declared.name.NameKind.TheVariants as NameKind
 use Rattle.ns_types.specs.declared.step.Step.{Step}
-use Rattle.ns_types.specs.Limits.{is_distinct}
-use Rattle.ns_types.specs.Name.{is_name}
-use Rattle.ns_types.specs.Names.{Name, Key, has_key, same_key, same_name}
-use Rattle.ns_types.specs.Rows.{State, World, Tenant, is_blocked, evaluation_at}
+use Rattle.ns_types.specs.State.Limits.{is_distinct}
+use Rattle.ns_types.specs.State.Name.{is_name}
+use Rattle.ns_types.specs.State.Names.{Name, Key, has_key, same_key, same_name}
+use Rattle.ns_types.specs.State.Rows.{State, World, Tenant, is_blocked, evaluation_at}
 use Rattle.ns_types.specs.Steps.{Answer, said, after, opening}
 use Rattle.ns_types.specs.Validity.{IsSoundEvaluation, IsValid, blocked_jobs}
 use Rattle.ns_types.specs.Within.{IsGoodStep}
@@ -25,4 +25,4 @@ EvaluationsStep = (s s' : State) (step : Step) (answer : Answer) → IsValid s �
 
 -- The opening state has it.
 abbrev pub EvaluationsOpening : Type 0
-EvaluationsOpening = (secret : Name) → IsTrue (is_name names.Secret secret) → IsSoundInEvaluations (opening secret).world
+EvaluationsOpening = (secret : Name) → IsTrue (is_name NameKind.Secret secret) → IsSoundInEvaluations (opening secret).world

@@ -3,9 +3,9 @@ use Rattle.std.specs.Prelude.{◌≡◌, ℕ, true, Some, IsTrue}
 use Rattle.std.specs.FinMap.{get, contains_key}
 use Rattle.ns_types.specs.declared.step.Step.{Step}
 use Rattle.ns_types.specs.declared.worker.Worker.{Worker}
-use Rattle.ns_types.specs.Limits.{is_distinct}
-use Rattle.ns_types.specs.Names.{Name, Key, has_key, same_key}
-use Rattle.ns_types.specs.Rows.{State, World, Tenant}
+use Rattle.ns_types.specs.State.Limits.{is_distinct}
+use Rattle.ns_types.specs.State.Names.{Name, Key, has_key, same_key}
+use Rattle.ns_types.specs.State.Rows.{State, World, Tenant}
 use Rattle.ns_types.specs.Steps.{Answer, said, after, opening}
 use Rattle.ns_types.specs.Validity.{IsSoundWorker, busy_with, jobs_at, same_found, IsReady, IsPlanned, IsValid}
 use Rattle.ns_types.specs.Within.{IsGoodStep}

@@ -8,24 +8,24 @@ use Rattle.keyed.specs.Table.{row_at, row_list, rows}
 use Rattle.keyed.proofs.Tables.{entries-rows}
 use Rattle.ns_types.specs.declared.allocation.Allocation.{Allocation}
 use Rattle.ns_types.specs.declared.job.Job.{Job}
-use Rattle.ns_types.specs.declared.refusal.Refusal.TheVariants as refusals
+use Rattle.ns_types.specs.declared.refusal.Refusal.TheVariants as Refusal
 use Rattle.ns_types.specs.declared.reply.Content.{Content}
-use Rattle.ns_types.specs.declared.reply.Content.TheVariants as contents
+use Rattle.ns_types.specs.declared.reply.Content.TheVariants as Content
 use Rattle.ns_types.specs.declared.reply.JobShown.{JobShown}
-use Rattle.ns_types.specs.declared.reply.JobStatus.TheVariants as lives
+use Rattle.ns_types.specs.declared.reply.JobStatus.TheVariants as JobStatus
 use Rattle.ns_types.specs.declared.resources.Resources.{Resources}
 use Rattle.ns_types.specs.declared.step.AskCommand.{AskCommand}
-use Rattle.ns_types.specs.declared.step.AskCommand.TheVariants as asks
-use Rattle.ns_types.specs.declared.step.Step.TheVariants as steps
+use Rattle.ns_types.specs.declared.step.AskCommand.TheVariants as AskCommand
+use Rattle.ns_types.specs.declared.step.Step.TheVariants as Step
 use Rattle.ns_types.proofs.Named.{numbers, one_number}
-use Rattle.ns_types.specs.Names.{Name, begins_with, same_name}
-use Rattle.ns_types.specs.Asks.{asked_in, right_of}
-use Rattle.ns_types.specs.Outcome.{Done, Refused}
-use Rattle.ns_types.specs.Reads.{job_shown}
-use Rattle.ns_types.specs.Rights.{rights_of}
-use Rattle.ns_types.specs.Rows.{Tenant, is_live}
+use Rattle.ns_types.specs.State.Names.{Name, begins_with, same_name}
+use Rattle.ns_types.specs.Asking.Asks.{asked_in, right_of}
+use Rattle.ns_types.specs.Settling.Outcome.{Done, Refused}
+use Rattle.ns_types.specs.Asking.Reads.{job_shown}
+use Rattle.ns_types.specs.Access.Rights.{rights_of}
+use Rattle.ns_types.specs.State.Rows.{Tenant, is_live}
 use Rattle.ns_types.specs.Steps.{after, said}
-use Rattle.ns_types.specs.Sums.{names_quota, quota_sum, quota_use, tenant_sum}
+use Rattle.ns_types.specs.State.Sums.{names_quota, quota_sum, quota_use, tenant_sum}
 use Rattle.ns_types.proofs.Tables.{entries-table_of}
 use Rattle.ns_steps.proofs.Rows.{entries_empty}
 use Rattle.ns_steps.proofs.Steps.{ask_reads}
@@ -43,7 +43,7 @@ shown_is ns id x job = λ i. record {
   namespace = ns;
   id = id;
   row = job;
-  status = cond job.stop lives.Dead (cond (sym (any_row-empty numbers one_number (λ _ a. same_name id a.job && is_live a)) i) lives.Running lives.Pending);
+  status = cond job.stop JobStatus.Dead (cond (sym (any_row-empty numbers one_number (λ _ a. same_name id a.job && is_live a)) i) JobStatus.Running JobStatus.Pending);
 }
 
 -- ---- the use of a quota is none
@@ -73,28 +73,28 @@ none_used t quota = λ i. record { cpu = by (λ r. r.cpu) i; memory = by (λ r. 
 module _ (t : Parts) (ns : Name) (secret : Option Name) (x : TenantRows) (at : row_at t.tables.tenants ns ≡ Some x) where
   -- a read that says so
   pub reads : (command : AskCommand) (content : Content) → right_of command (rights_of t.acl secret ns) ≡ true → IsHeld (world_of t) → asked_in ns command (world_of t) (tenant_of x) ≡ Done content (world_of t)
-      → (index : ℕ) → index ≡ x.rows.index → after (steps.Ask ns secret command) (state_of t) ≡ said (Ok (record { index = Some index; content = content })) (state_of t)
+      → (index : ℕ) → index ≡ x.rows.index → after (Step.Ask ns secret command) (state_of t) ≡ said (Ok (record { index = Some index; content = content })) (state_of t)
   reads command content allowed held is index same = ask_reads (state_of t) ns secret command (tenant_of x) content allowed (tenant_at t ns x at) held.early.within is
       ∙ ap (λ n. said (Ok (record { index = Some n; content = content })) (state_of t)) (sym same)
 
   pub job_told : (id : Name) (job : Job) (shown : JobShown) → get (rows x.rows.jobs) id ≡ Some job → shown ≡ record { namespace = ns; id = id; row = job; status = status_without_allocations job }
-      → asked_in ns (asks.ReadJob id) (world_of t) (tenant_of x) ≡ Done (contents.Job shown) (world_of t)
-  job_told id job shown is e = ap (λ o. option_map_or (λ job. Done (contents.Job (job_shown ns (tenant_of x) id job)) (world_of t)) o (Refused refusals.NotFound)) is
-      ∙ ap (λ s. Done (contents.Job s) (world_of t)) (sym (e ∙ shown_is ns id x job))
+      → asked_in ns (AskCommand.ReadJob id) (world_of t) (tenant_of x) ≡ Done (Content.Job shown) (world_of t)
+  job_told id job shown is e = ap (λ o. option_map_or (λ job. Done (Content.Job (job_shown ns (tenant_of x) id job)) (world_of t)) o (Refused Refusal.NotFound)) is
+      ∙ ap (λ s. Done (Content.Job s) (world_of t)) (sym (e ∙ shown_is ns id x job))
 
   -- the jobs of the slots are those of the rows
   pub jobs_listed : (prefix : Name) (slots : List (Name × Option Job)) (jobs : List JobShown) → slots ≡ entries x.rows.jobs
       → jobs ≡ map (shown_in ns) (filter (λ e. begins_with prefix e.0) (row_list slots))
-      → asked_in ns (asks.ListJobs prefix) (world_of t) (tenant_of x) ≡ Done (contents.Jobs jobs) (world_of t)
-  jobs_listed prefix slots jobs is e = ap (λ shown. Done (contents.Jobs shown) (world_of t)) (sym (e
+      → asked_in ns (AskCommand.ListJobs prefix) (world_of t) (tenant_of x) ≡ Done (Content.Jobs jobs) (world_of t)
+  jobs_listed prefix slots jobs is e = ap (λ shown. Done (Content.Jobs shown) (world_of t)) (sym (e
       ∙ ap (λ es. map (shown_in ns) (filter (λ e. begins_with prefix e.0) (row_list es))) is
       ∙ ap (λ es. map (shown_in ns) (filter (λ e. begins_with prefix e.0) es)) (sym (entries-rows x.rows.jobs))
       ∙ (λ i. map (λ e. shown_is ns e.0 x e.1 i) (filter (λ e. begins_with prefix e.0) (entries (rows x.rows.jobs))))))
 
   pub usage_told : (quota name : Name) → names_quota quota x.namespace ≡ true → name ≡ quota
-      → asked_in ns (asks.QuotaUsage quota) (world_of t) (tenant_of x) ≡ Done (contents.Usage name (record { cpu = 0; memory = 0 })) (world_of t)
-  usage_told quota name named same = ap (λ b. if b then Done (contents.Usage quota (quota_use (world_of t) quota)) (world_of t) else Refused refusals.NotFound) named
-      ∙ (λ i. Done (contents.Usage (sym same i) (none_used t quota i)) (world_of t))
+      → asked_in ns (AskCommand.QuotaUsage quota) (world_of t) (tenant_of x) ≡ Done (Content.Usage name (record { cpu = 0; memory = 0 })) (world_of t)
+  usage_told quota name named same = ap (λ b. if b then Done (Content.Usage quota (quota_use (world_of t) quota)) (world_of t) else Refused Refusal.NotFound) named
+      ∙ (λ i. Done (Content.Usage (sym same i) (none_used t quota i)) (world_of t))
 
-  pub usage_refused : (quota : Name) → names_quota quota x.namespace ≡ false → asked_in ns (asks.QuotaUsage quota) (world_of t) (tenant_of x) ≡ Refused refusals.NotFound
-  usage_refused quota other = ap (λ b. if b then Done (contents.Usage quota (quota_use (world_of t) quota)) (world_of t) else Refused refusals.NotFound) other
+  pub usage_refused : (quota : Name) → names_quota quota x.namespace ≡ false → asked_in ns (AskCommand.QuotaUsage quota) (world_of t) (tenant_of x) ≡ Refused Refusal.NotFound
+  usage_refused quota other = ap (λ b. if b then Done (Content.Usage quota (quota_use (world_of t) quota)) (world_of t) else Refused Refusal.NotFound) other

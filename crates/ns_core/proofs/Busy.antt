@@ -9,11 +9,11 @@ use Rattle.keyed.proofs.Tables.{get-rows}
 use Rattle.ns_types.proofs.Named.{names, numbers, one_name, one_number, same_name_is}
 use Rattle.ns_types.proofs.Tables.{get-table_of}
 use Rattle.ns_types.specs.declared.records.Pool.{Pool}
-use Rattle.ns_types.specs.Admins.{with_pool}
-use Rattle.ns_types.specs.Tables.{any_row}
-use Rattle.ns_types.specs.Names.{Name, Key, same_name}
-use Rattle.ns_types.specs.Queue.{is_busy, is_of_job}
-use Rattle.ns_types.specs.Rows.{World, Tenant, evaluation_at}
+use Rattle.ns_types.specs.Asking.Admins.{with_pool}
+use Rattle.ns_types.specs.State.Tables.{any_row}
+use Rattle.ns_types.specs.State.Names.{Name, Key, same_name}
+use Rattle.ns_types.specs.Working.Queue.{is_busy, is_of_job}
+use Rattle.ns_types.specs.State.Rows.{World, Tenant, evaluation_at}
 use Rattle.ns_tables.specs.declared.tables.TenantRows.{TenantRows}
 use Rattle.ns_tables.specs.Viewed.{tenant_of}
 use Rattle.ns_tables.proofs.Viewing.{any_row-empty}

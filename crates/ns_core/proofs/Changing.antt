@@ -8,16 +8,16 @@ use Rattle.std.specs.FinMap.{get, get-empty, get-insert, insert, same_map}
 use Rattle.ns_types.specs.declared.job.Job.{Job}
 use Rattle.ns_types.specs.declared.records.Quota.{Quota}
 use Rattle.ns_types.specs.declared.refusal.Refusal.{Refusal}
-use Rattle.ns_types.specs.declared.refusal.Refusal.TheVariants as refusals
+use Rattle.ns_types.specs.declared.refusal.Refusal.TheVariants as Refusal
 use Rattle.ns_types.specs.declared.reply.Content.{Content}
 use Rattle.ns_types.specs.declared.step.AdminCommand.{AdminCommand}
-use Rattle.ns_types.specs.declared.step.AdminCommand.TheVariants as admins
-use Rattle.ns_types.specs.Access.{administer}
-use Rattle.ns_types.specs.Admins.{with_quota}
-use Rattle.ns_types.specs.Names.{Name, ByName, name_cmp}
-use Rattle.ns_types.specs.Outcome.{Changes, Outcome, lift}
-use Rattle.ns_types.specs.Rows.{State, World, Tenant, QuotaRows}
-use Rattle.ns_types.specs.Settle.{after_quota_release}
+use Rattle.ns_types.specs.declared.step.AdminCommand.TheVariants as AdminCommand
+use Rattle.ns_types.specs.Asking.Policies.{administer}
+use Rattle.ns_types.specs.Asking.Admins.{with_quota}
+use Rattle.ns_types.specs.State.Names.{Name, ByName, name_cmp}
+use Rattle.ns_types.specs.Settling.Outcome.{Changes, Outcome, lift}
+use Rattle.ns_types.specs.State.Rows.{State, World, Tenant, QuotaRows}
+use Rattle.ns_types.specs.Settling.Settle.{after_quota_release}
 use Rattle.ns_types.specs.Steps.{greatest, is_over}
 use Rattle.ns_types.proofs.Lists.{not_both}
 use Rattle.ns_types.proofs.Named.{names, one_name}
@@ -37,7 +37,7 @@ module _ {A B : Type 0} (whole : A → B) where
   changes_lift o a a' (Err refusal) h = by refusal h
     where
       by : (r : Refusal) → Changes o a (Err r) a' → Changes (lift whole o) (whole a) (Err r) (whole a')
-      by refusals.Memory h = ap whole h
+      by Refusal.Memory h = ap whole h
       by r h = (ap (lift whole) h.0, ap whole h.1)
 
 -- ---- a quota's release number
@@ -87,6 +87,6 @@ rests_held w w' rests early held = record { early = early; versions = λ ns t' i
     by ns t' (Some t) there same = subst HasFewVersions (sym same) (λ id job at. held.versions ns t there id job at)
 
 -- any other command releases nothing
-pub calm_of : (command : AdminCommand) → ((name : Name) (quota : Quota) → command ≡ admins.PutQuota name quota → ⊥) → IsCalm command
-calm_of (admins.PutQuota name quota) other = other name quota refl
+pub calm_of : (command : AdminCommand) → ((name : Name) (quota : Quota) → command ≡ AdminCommand.PutQuota name quota → ⊥) → IsCalm command
+calm_of (AdminCommand.PutQuota name quota) other = other name quota refl
 calm_of _ other = tt

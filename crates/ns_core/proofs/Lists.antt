@@ -2,7 +2,7 @@
 use Rattle.std.specs.Prelude.{◌≡◌, ℕ, ◌+◌, ◌-◌, ◌≤◌, List, ◌++◌, length, drop}
 use Rattle.std.proofs.Common.{sym, ap, ◌∙◌, arith, length-append}
 use Rattle.std.proofs.lemmas.List.{drop-append-le, drop-drop, length-drop}
-use Rattle.ns_types.specs.Lists.{last}
+use Rattle.ns_types.specs.State.Lists.{last}
 
 seam : (n a b : ℕ) → (a - n) + ((a + b - (a - n)) - n) ≡ a + b - n
 seam n a b = omega arith

@@ -4,8 +4,8 @@ use Rattle.std.proofs.Common.{refl, sym, ap, subst, ◌∙◌}
 use Rattle.std.specs.FinMap.{empty, get, get-empty, get-insert}
 use Rattle.std.specs.Ordering.{eq_by_cmp}
 use Rattle.ns_types.proofs.Named.{names}
-use Rattle.ns_types.specs.Names.{Key, Name, name_cmp, default_name}
-use Rattle.ns_types.specs.Rows.{Acl, Tenant}
+use Rattle.ns_types.specs.State.Names.{Key, Name, name_cmp, default_name}
+use Rattle.ns_types.specs.State.Rows.{Acl, Tenant}
 use Rattle.ns_types.specs.Steps.{opening, opening_acl, opening_tenant, opening_world}
 use Rattle.ns_steps.proofs.Early.{opening_early}
 use Rattle.ns_steps.proofs.Rows.{same_Some}

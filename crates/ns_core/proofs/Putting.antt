@@ -6,19 +6,19 @@ use Rattle.std.specs.Ordering.{eq_by_cmp}
 use Rattle.keyed.specs.Table.{emptied, has_slot, row_at, rows}
 use Rattle.keyed.proofs.Tables.{has_slot-insert_here, has_slot-row, rows-put_back}
 use Rattle.ns_types.specs.declared.event.Event.{Event}
-use Rattle.ns_types.specs.declared.event.Topic.TheVariants as topics
+use Rattle.ns_types.specs.declared.event.Topic.TheVariants as Topic
 use Rattle.ns_types.specs.declared.job.Document.{Document}
 use Rattle.ns_types.specs.declared.job.Job.{Job}
 use Rattle.ns_types.specs.declared.job.Registration.{Registration}
 use Rattle.ns_types.proofs.Named.{names, one_name}
 use Rattle.ns_types.proofs.Tables.{insert_same, tied}
-use Rattle.ns_types.specs.Asks.{document_of, registered_job}
-use Rattle.ns_types.specs.Lists.{last}
-use Rattle.ns_types.specs.Names.{Name, name_cmp}
-use Rattle.ns_types.specs.Queue.{is_busy}
-use Rattle.ns_types.specs.Rows.{World, Tenant}
-use Rattle.ns_types.specs.Same.{same_document}
-use Rattle.ns_types.specs.Tables.{table_of}
+use Rattle.ns_types.specs.Asking.Asks.{document_of, registered_job}
+use Rattle.ns_types.specs.State.Lists.{last}
+use Rattle.ns_types.specs.State.Names.{Name, name_cmp}
+use Rattle.ns_types.specs.Working.Queue.{is_busy}
+use Rattle.ns_types.specs.State.Rows.{World, Tenant}
+use Rattle.ns_types.specs.Settling.Same.{same_document}
+use Rattle.ns_types.specs.State.Tables.{table_of}
 use Rattle.ns_steps.specs.Early.{IsEarly}
 use Rattle.ns_steps.specs.Registered.{is_news, job_of, made_events, next_index, next_number, registered_reply, registered_state, registered_tenant, registered_world}
 use Rattle.ns_steps.proofs.Early.{registered_early}
@@ -81,9 +81,9 @@ puts_rows old new ns id made waits x y m at e f tenant ready pools quotas acl = 
 
 module _ (made : Made) (ns : Name) (r : Registration) (t : Tenant) (is : IsMade made ns r t) where
   events_by : (b : Bool) → is_news (document_of t r) (get t.jobs r.id) ≡ b
-      → events_made (job_event_of b r.id (next_index t)) (record { index = next_index t; topic = topics.EvaluationUpdated (next_number t) }) ≡ made_events r t
-  events_by true e = ap (λ b. map (λ topic. record { index = next_index t; topic = topic }) ((if b then topics.JobRegistered r.id ∷ [] else []) ++ topics.EvaluationUpdated (next_number t) ∷ [])) (sym e)
-  events_by false e = ap (λ b. map (λ topic. record { index = next_index t; topic = topic }) ((if b then topics.JobRegistered r.id ∷ [] else []) ++ topics.EvaluationUpdated (next_number t) ∷ [])) (sym e)
+      → events_made (job_event_of b r.id (next_index t)) (record { index = next_index t; topic = Topic.EvaluationUpdated (next_number t) }) ≡ made_events r t
+  events_by true e = ap (λ b. map (λ topic. record { index = next_index t; topic = topic }) ((if b then Topic.JobRegistered r.id ∷ [] else []) ++ Topic.EvaluationUpdated (next_number t) ∷ [])) (sym e)
+  events_by false e = ap (λ b. map (λ topic. record { index = next_index t; topic = topic }) ((if b then Topic.JobRegistered r.id ∷ [] else []) ++ Topic.EvaluationUpdated (next_number t) ∷ [])) (sym e)
 
   events_are : events_made made.job_event made.evaluation_event ≡ made_events r t
   events_are = (λ i. events_made (is.job_event i) (is.evaluation_event i)) ∙ events_by (is_news (document_of t r) (get t.jobs r.id)) refl

@@ -6,18 +6,18 @@ use Rattle.std.specs.Option.{option_map_or}
 use Rattle.std.specs.FinMap.{get, insert}
 use Rattle.ns_types.specs.declared.records.Quota.{Quota}
 use Rattle.ns_types.specs.declared.refusal.Refusal.{Refusal}
-use Rattle.ns_types.specs.declared.refusal.Refusal.TheVariants as refusals
+use Rattle.ns_types.specs.declared.refusal.Refusal.TheVariants as Refusal
 use Rattle.ns_types.specs.declared.reply.Content.{Content}
-use Rattle.ns_types.specs.declared.reply.Content.TheVariants as contents
-use Rattle.ns_types.specs.declared.step.AdminCommand.TheVariants as admins
-use Rattle.ns_types.specs.declared.step.Step.TheVariants as steps
-use Rattle.ns_types.specs.Access.{may_administer}
-use Rattle.ns_types.specs.Admins.{is_full, put_quota, with_quota}
-use Rattle.ns_types.specs.Names.{Name}
-use Rattle.ns_types.specs.Outcome.{Changes, Outcome, NotEnabled, Refused, Done, unless}
-use Rattle.ns_types.specs.Rows.{State, World, QuotaRows}
-use Rattle.ns_types.specs.Releases.{changes_limits}
-use Rattle.ns_types.specs.Settle.{after_quota_release}
+use Rattle.ns_types.specs.declared.reply.Content.TheVariants as Content
+use Rattle.ns_types.specs.declared.step.AdminCommand.TheVariants as AdminCommand
+use Rattle.ns_types.specs.declared.step.Step.TheVariants as Step
+use Rattle.ns_types.specs.Asking.Policies.{may_administer}
+use Rattle.ns_types.specs.Asking.Admins.{is_full, put_quota, with_quota}
+use Rattle.ns_types.specs.State.Names.{Name}
+use Rattle.ns_types.specs.Settling.Outcome.{Changes, Outcome, NotEnabled, Refused, Done, unless}
+use Rattle.ns_types.specs.State.Rows.{State, World, QuotaRows}
+use Rattle.ns_types.specs.Settling.Releases.{changes_limits}
+use Rattle.ns_types.specs.Settling.Settle.{after_quota_release}
 use Rattle.ns_types.specs.Steps.{Makes, greatest}
 use Rattle.ns_types.proofs.Lists.{not_both}
 use Rattle.ns_types.proofs.Named.{names, one_name}
@@ -47,10 +47,10 @@ module _ (w w' : World) (name : Name) (quota : Quota) (content : Content) (done 
       world_in (Done content x) = x
       world_in _ = w
 
-      cases : (b : Bool) → is_full w.quotas name ≡ b → put_quota name quota w ≡ cond b (Refused refusals.Full) (Done contents.Written put)
-      cases b is = ap (λ b. cond b (Refused refusals.Full) (Done contents.Written put)) is
+      cases : (b : Bool) → is_full w.quotas name ≡ b → put_quota name quota w ≡ cond b (Refused Refusal.Full) (Done Content.Written put)
+      cases b is = ap (λ b. cond b (Refused Refusal.Full) (Done Content.Written put)) is
 
-      by : (b : Bool) → cond b (Refused refusals.Full) (Done contents.Written put) ≡ Done content w' → w' ≡ put
+      by : (b : Bool) → cond b (Refused Refusal.Full) (Done Content.Written put) ≡ Done content w' → w' ≡ put
       by true e = not_both refl (ap is_refused e)
       by false e = sym (ap world_in e)
 
@@ -80,17 +80,17 @@ module _ (w w' : World) (name : Name) (quota : Quota) (content : Content) (done 
 
 -- ---- a put that is refused
 
-module _ (s : State) (name : Name) (quota : Quota) (early : IsEarly s.world) (secret : Option Name) (allowed : may_administer s.acl secret (admins.PutQuota name quota) ≡ true) where
-  pub put_refused : (refusal : Refusal) (w' : World) → Changes (put_quota name quota s.world) s.world (Err refusal) w' → Makes (steps.Admin secret (admins.PutQuota name quota)) s (Err refusal) (record s { world = w' })
+module _ (s : State) (name : Name) (quota : Quota) (early : IsEarly s.world) (secret : Option Name) (allowed : may_administer s.acl secret (AdminCommand.PutQuota name quota) ≡ true) where
+  pub put_refused : (refusal : Refusal) (w' : World) → Changes (put_quota name quota s.world) s.world (Err refusal) w' → Makes (Step.Admin secret (AdminCommand.PutQuota name quota)) s (Err refusal) (record s { world = w' })
   put_refused refusal w' h = by refusal h
     where
-      by : (r : Refusal) → Changes (put_quota name quota s.world) s.world (Err r) w' → Makes (steps.Admin secret (admins.PutQuota name quota)) s (Err r) (record s { world = w' })
-      by refusals.Memory h = λ i. record s { world = h i }
+      by : (r : Refusal) → Changes (put_quota name quota s.world) s.world (Err r) w' → Makes (Step.Admin secret (AdminCommand.PutQuota name quota)) s (Err r) (record s { world = w' })
+      by Refusal.Memory h = λ i. record s { world = h i }
       by r h = quota_refused s name quota early secret allowed r h.0 (record s { world = w' }) (λ i. record s { world = h.1 i })
 
   pub put_keeps : (refusal : Refusal) (w' : World) → Changes (put_quota name quota s.world) s.world (Err refusal) w' → w' ≡ s.world
   put_keeps refusal w' h = by refusal h
     where
       by : (r : Refusal) → Changes (put_quota name quota s.world) s.world (Err r) w' → w' ≡ s.world
-      by refusals.Memory h = h
+      by Refusal.Memory h = h
       by r h = h.1

@@ -2,10 +2,10 @@
 use Rattle.std.specs.Prelude.{◌≡◌, ℕ, ◌+◌, ◌<◌, ◌^◌, Bool, if◌then◌else◌, [], ◌∷◌, ◌++◌, Some}
 use Rattle.std.specs.FinMap.{insert}
 use Rattle.keyed.specs.Table.{row_at}
-use Rattle.ns_types.specs.declared.reply.Content.TheVariants as contents
+use Rattle.ns_types.specs.declared.reply.Content.TheVariants as Content
 use Rattle.ns_types.specs.declared.reply.Reply.{Reply}
-use Rattle.ns_types.specs.Names.{Name}
-use Rattle.ns_types.specs.Rows.{Tenant}
+use Rattle.ns_types.specs.State.Names.{Name}
+use Rattle.ns_types.specs.State.Rows.{Tenant}
 use Rattle.ns_core.specs.declared.registering.Made.{Made}
 use Rattle.ns_tables.specs.declared.tables.TenantRows.{TenantRows}
 use Rattle.ns_tables.specs.Viewed.{tenant_of}
@@ -19,7 +19,7 @@ pub record HasBounds (x : TenantRows) : Type 0 where
   pub number : x.rows.evaluation_number + 1 < 2 ^ 64
 
 abbrev pub reply_with : Made → Tenant → Reply
-reply_with made t = record { index = Some (t.index + 1); content = contents.Registered (t.evaluation_number + 1) (t.index + 1) made.job.modify_index }
+reply_with made t = record { index = Some (t.index + 1); content = Content.Registered (t.evaluation_number + 1) (t.index + 1) made.job.modify_index }
 
 -- the namespace has the rows, and `ready` the entry unless it waits
 pub record PutsRows (old : Parts) (ns id : Name) (made : Made) (waits : Bool) (new : Parts) (x : TenantRows) : Type 0 where

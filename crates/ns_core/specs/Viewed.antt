@@ -8,12 +8,12 @@ use Rattle.ns_types.specs.declared.refusal.Refusal.{Refusal}
 use Rattle.ns_types.specs.declared.reply.Content.{Content}
 use Rattle.ns_types.specs.declared.reply.JobShown.{JobShown}
 use Rattle.ns_types.specs.declared.reply.JobStatus.{JobStatus}
-use Rattle.ns_types.specs.declared.reply.JobStatus.TheVariants as lives
+use Rattle.ns_types.specs.declared.reply.JobStatus.TheVariants as JobStatus
 use Rattle.ns_types.specs.declared.step.AdminCommand.{AdminCommand}
-use Rattle.ns_types.specs.Access.{administer}
-use Rattle.ns_types.specs.Names.{Name, Key, same_name}
-use Rattle.ns_types.specs.Outcome.{Changes}
-use Rattle.ns_types.specs.Rows.{State, World}
+use Rattle.ns_types.specs.Asking.Policies.{administer}
+use Rattle.ns_types.specs.State.Names.{Name, Key, same_name}
+use Rattle.ns_types.specs.Settling.Outcome.{Changes}
+use Rattle.ns_types.specs.State.Rows.{State, World}
 use Rattle.ns_types.specs.Steps.{greatest}
 use Rattle.ns_store.specs.Stored.{Stored}
 use Rattle.ns_tables.specs.Viewed.{world_of as world_of_tables}
@@ -39,7 +39,7 @@ entry_of_job ns id stored key = same_name ns key.0 && option_map_or (λ e. same_
 
 -- while nothing is placed
 abbrev pub status_without_allocations : Job → JobStatus
-status_without_allocations job = if job.stop then lives.Dead else lives.Pending
+status_without_allocations job = if job.stop then JobStatus.Dead else JobStatus.Pending
 
 abbrev pub shown_in : Name → Name × Job → JobShown
 shown_in ns e = record { namespace = ns; id = e.0; row = e.1; status = status_without_allocations e.1 }

@@ -1,11 +1,11 @@
 //! What administrators ask, as steps over the parts.
 
 ghost use Rattle.std.specs.Prelude.{◌≡◌, option_copied, None, true};
-ghost use Rattle.ns_types.specs.declared.step.AdminCommand.TheVariants as admins;
-ghost use Rattle.ns_types.specs.declared.step.Step.TheVariants as steps;
-ghost use Rattle.ns_types.specs.Access.{administer as change_of, may_administer};
-ghost use Rattle.ns_types.specs.Outcome.{Changes};
-ghost use Rattle.ns_types.specs.Rights.{has_any as has_any_right, pool_rights_of, rights_of};
+ghost use Rattle.ns_types.specs.declared.step.AdminCommand.TheVariants as AdminCommand;
+ghost use Rattle.ns_types.specs.declared.step.Step.TheVariants as Step;
+ghost use Rattle.ns_types.specs.Asking.Policies.{administer as change_of, may_administer};
+ghost use Rattle.ns_types.specs.Settling.Outcome.{Changes};
+ghost use Rattle.ns_types.specs.Access.Rights.{has_any as has_any_right, pool_rights_of, rights_of};
 ghost use Rattle.ns_types.specs.Steps.{Makes};
 ghost use Rattle.ns_steps.specs.Administered.{IsCalm};
 ghost use Rattle.ns_core.specs.Held.{IsHeld};
@@ -41,28 +41,28 @@ impl Parts {
     }
 
     fn put_namespace(&mut self, name: &Text, namespace: &Namespace) -> Result<Content, Refusal>
-        ensures { ChangesState (admins.PutNamespace name.now namespace.now) self.old result self.new }
+        ensures { ChangesState (AdminCommand.PutNamespace name.now namespace.now) self.old result self.new }
     {
         let copy = namespace.clone()?;
         self.tables.put_namespace(name, copy)
     }
 
     fn put_pool(&mut self, name: &Text, pool: &Pool) -> Result<Content, Refusal>
-        ensures { ChangesState (admins.PutPool name.now pool.now) self.old result self.new }
+        ensures { ChangesState (AdminCommand.PutPool name.now pool.now) self.old result self.new }
     {
         let copy = pool.clone()?;
         self.tables.put_pool(name, copy)
     }
 
     fn put_policy(&mut self, name: &Text, policy: &Policy) -> Result<Content, Refusal>
-        ensures { ChangesState (admins.PutPolicy name.now policy.now) self.old result self.new }
+        ensures { ChangesState (AdminCommand.PutPolicy name.now policy.now) self.old result self.new }
     {
         let copy = policy.clone()?;
         self.acl.put_policy(name, copy)
     }
 
     fn list_namespaces(&self, secret: Option<&Text>) -> Result<Content, Refusal>
-        ensures { Changes (change_of (option_copied secret.entry) admins.ListNamespaces (state_of self.now)) (state_of self.now) result (state_of self.now) }
+        ensures { Changes (change_of (option_copied secret.entry) AdminCommand.ListNamespaces (state_of self.now)) (state_of self.now) result (state_of self.now) }
     {
         let acl = &self.acl;
         Ok(
@@ -75,7 +75,7 @@ impl Parts {
     }
 
     fn list_pools(&self, secret: Option<&Text>) -> Result<Content, Refusal>
-        ensures { Changes (change_of (option_copied secret.entry) admins.ListPools (state_of self.now)) (state_of self.now) result (state_of self.now) }
+        ensures { Changes (change_of (option_copied secret.entry) AdminCommand.ListPools (state_of self.now)) (state_of self.now) result (state_of self.now) }
     {
         let acl = &self.acl;
         Ok(
@@ -133,8 +133,8 @@ impl Parts {
         quota: &Quota,
     ) -> Result<Reply, Refusal>
         requires held { IsHeld (world_of self.old) }
-        requires allowed { may_administer (state_of self.old).acl (option_copied secret) (admins.PutQuota name.now quota.now) ≡ true }
-        ensures answered { Makes (steps.Admin (option_copied secret.entry) (admins.PutQuota name.now quota.now)) (state_of self.old) result (state_of self.new) }
+        requires allowed { may_administer (state_of self.old).acl (option_copied secret) (AdminCommand.PutQuota name.now quota.now) ≡ true }
+        ensures answered { Makes (Step.Admin (option_copied secret.entry) (AdminCommand.PutQuota name.now quota.now)) (state_of self.old) result (state_of self.new) }
         ensures held { IsHeld (world_of self.new) }
     {
         let releases = self.tables.changes_limits(name, quota);
@@ -152,7 +152,7 @@ impl Parts {
     /// Makes the step that an administrator asks, or leaves the state as it is.
     pub fn admin(&mut self, secret: Option<&Text>, command: &AdminCommand) -> Result<Reply, Refusal>
         requires { IsHeld (world_of self.old) }
-        ensures answered { Makes (steps.Admin (option_copied secret.entry) command.now) (state_of self.old) result (state_of self.new) }
+        ensures answered { Makes (Step.Admin (option_copied secret.entry) command.now) (state_of self.old) result (state_of self.new) }
         ensures held { IsHeld (world_of self.new) }
     {
         if !self.may_administer(secret, command) {

@@ -2,10 +2,10 @@
 
 ghost use Rattle.std.specs.Prelude.{◌≡◌};
 ghost use Rattle.std.specs.Cmp.Lexicographic.{pointwise};
-ghost use Rattle.ns_types.specs.Names.{same_name, same_number as number_is};
-ghost use Rattle.ns_types.specs.Resources.{same_resources as resources_are};
-ghost use Rattle.ns_types.specs.Same.{same_constraint as constraint_is, same_task as task_is, same_group as group_is, same_document as document_is};
-ghost use Rattle.ns_types.specs.Words.{kind_text, operand_text, target_text};
+ghost use Rattle.ns_types.specs.State.Names.{same_name, same_number as number_is};
+ghost use Rattle.ns_types.specs.State.Resources.{same_resources as resources_are};
+ghost use Rattle.ns_types.specs.Settling.Same.{same_constraint as constraint_is, same_task as task_is, same_group as group_is, same_document as document_is};
+ghost use Rattle.ns_types.specs.Wire.Words.{kind_text, operand_text, target_text};
 
 use ns_types::job::{Constraint, Document, Group, JobKind, Operand, Target, Task};
 use ns_types::resources::Resources;

@@ -3,10 +3,10 @@
 ghost use Rattle.std.specs.Prelude.{◌≡◌, Some, OnOk, OnErr, option_copied};
 ghost use Rattle.std.specs.List.{list_any};
 ghost use Rattle.keyed.specs.Table.{row_at};
-ghost use Rattle.ns_types.specs.declared.reply.Content.TheVariants as contents;
-ghost use Rattle.ns_types.specs.declared.step.AskCommand.TheVariants as asks;
-ghost use Rattle.ns_types.specs.declared.step.Step.TheVariants as steps;
-ghost use Rattle.ns_types.specs.Queue.{is_busy as is_job_busy};
+ghost use Rattle.ns_types.specs.declared.reply.Content.TheVariants as Content;
+ghost use Rattle.ns_types.specs.declared.step.AskCommand.TheVariants as AskCommand;
+ghost use Rattle.ns_types.specs.declared.step.Step.TheVariants as Step;
+ghost use Rattle.ns_types.specs.Working.Queue.{is_busy as is_job_busy};
 ghost use Rattle.ns_types.specs.Steps.{Makes};
 ghost use Rattle.ns_steps.specs.Served.{IsServedAsk};
 ghost use Rattle.ns_tables.specs.declared.tables.TenantRows.{TenantRows as TenantRowsValue};
@@ -65,7 +65,7 @@ struct Numbers {
 
 fn numbers_of(tenant: &TenantRows, made: &Made) -> Numbers
     requires { HasBounds tenant.now }
-    ensures { record { index = Some result.index; content = contents.Registered result.evaluation result.index result.modified } ≡ reply_with made.now (tenant_of tenant.now) }
+    ensures { record { index = Some result.index; content = Content.Registered result.evaluation result.index result.modified } ≡ reply_with made.now (tenant_of tenant.now) }
 {
     Numbers {
         evaluation: tenant.rows.evaluation_number() + 1,
@@ -76,7 +76,7 @@ fn numbers_of(tenant: &TenantRows, made: &Made) -> Numbers
 
 /// What a registration answers.
 fn registered(numbers: Numbers) -> Reply
-    ensures { result ≡ record { index = Some numbers.index; content = contents.Registered numbers.evaluation numbers.index numbers.modified } }
+    ensures { result ≡ record { index = Some numbers.index; content = Content.Registered numbers.evaluation numbers.index numbers.modified } }
 {
     Reply {
         index: Some(numbers.index),
@@ -155,7 +155,7 @@ impl Parts {
         registration: &Registration,
     ) -> Result<Reply, Refusal>
         requires { IsHeld (world_of self.old) }
-        ensures answered { Makes (steps.Ask namespace.now (option_copied secret.entry) (asks.Register registration.now)) (state_of self.old) result (state_of self.new) }
+        ensures answered { Makes (Step.Ask namespace.now (option_copied secret.entry) (AskCommand.Register registration.now)) (state_of self.old) result (state_of self.new) }
         ensures held { IsHeld (world_of self.new) }
     {
         if !self.acl.rights(secret, namespace).submit_job {
@@ -183,7 +183,7 @@ impl Parts {
     ) -> Result<Reply, Refusal>
         requires held { IsHeld (world_of self.old) }
         requires served { IsServedAsk command.now }
-        ensures answered { Makes (steps.Ask namespace.now (option_copied secret.entry) command.now) (state_of self.old) result (state_of self.new) }
+        ensures answered { Makes (Step.Ask namespace.now (option_copied secret.entry) command.now) (state_of self.old) result (state_of self.new) }
         ensures held { IsHeld (world_of self.new) }
     {
         match command {

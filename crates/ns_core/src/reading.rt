@@ -2,10 +2,10 @@
 
 ghost use Rattle.std.specs.Prelude.{◌≡◌, IfOk, map, filter, option_copied};
 ghost use Rattle.keyed.specs.Table.{row_list};
-ghost use Rattle.ns_types.specs.declared.step.AskCommand.TheVariants as asks;
-ghost use Rattle.ns_types.specs.declared.step.Step.TheVariants as steps;
-ghost use Rattle.ns_types.specs.Names.{begins_with};
-ghost use Rattle.ns_types.specs.Rights.{has_any as has_any_right};
+ghost use Rattle.ns_types.specs.declared.step.AskCommand.TheVariants as AskCommand;
+ghost use Rattle.ns_types.specs.declared.step.Step.TheVariants as Step;
+ghost use Rattle.ns_types.specs.State.Names.{begins_with};
+ghost use Rattle.ns_types.specs.Access.Rights.{has_any as has_any_right};
 ghost use Rattle.ns_types.specs.Steps.{Makes};
 ghost use Rattle.ns_core.specs.Held.{IsHeld};
 ghost use Rattle.ns_core.specs.Viewed.{shown_in, state_of, status_without_allocations, world_of};
@@ -82,7 +82,7 @@ impl Parts {
         id: &Text,
     ) -> Result<Reply, Refusal>
         requires { IsHeld (world_of self.now) }
-        ensures { Makes (steps.Ask namespace.now (option_copied secret.entry) (asks.ReadJob id.now)) (state_of self.now) result (state_of self.now) }
+        ensures { Makes (Step.Ask namespace.now (option_copied secret.entry) (AskCommand.ReadJob id.now)) (state_of self.now) result (state_of self.now) }
     {
         if !self.acl.rights(secret, namespace).read_job {
             return Err(Refusal::Denied);
@@ -106,7 +106,7 @@ impl Parts {
         prefix: &Text,
     ) -> Result<Reply, Refusal>
         requires { IsHeld (world_of self.now) }
-        ensures { Makes (steps.Ask namespace.now (option_copied secret.entry) (asks.ListJobs prefix.now)) (state_of self.now) result (state_of self.now) }
+        ensures { Makes (Step.Ask namespace.now (option_copied secret.entry) (AskCommand.ListJobs prefix.now)) (state_of self.now) result (state_of self.now) }
     {
         if !self.acl.rights(secret, namespace).list_jobs {
             return Err(Refusal::Denied);
@@ -123,7 +123,7 @@ impl Parts {
 
     pub fn read_namespace(&self, namespace: &Text, secret: Option<&Text>) -> Result<Reply, Refusal>
         requires { IsHeld (world_of self.now) }
-        ensures { Makes (steps.Ask namespace.now (option_copied secret.entry) asks.ReadNamespace) (state_of self.now) result (state_of self.now) }
+        ensures { Makes (Step.Ask namespace.now (option_copied secret.entry) AskCommand.ReadNamespace) (state_of self.now) result (state_of self.now) }
     {
         if !has_any(self.acl.rights(secret, namespace)) {
             return Err(Refusal::Denied);
@@ -149,7 +149,7 @@ impl Parts {
         quota: &Text,
     ) -> Result<Reply, Refusal>
         requires { IsHeld (world_of self.now) }
-        ensures { Makes (steps.Ask namespace.now (option_copied secret.entry) (asks.QuotaUsage quota.now)) (state_of self.now) result (state_of self.now) }
+        ensures { Makes (Step.Ask namespace.now (option_copied secret.entry) (AskCommand.QuotaUsage quota.now)) (state_of self.now) result (state_of self.now) }
     {
         if !self.acl.rights(secret, namespace).read_job {
             return Err(Refusal::Denied);

@@ -3,7 +3,7 @@
 ghost use Rattle.std.specs.Prelude.{◌≡◌, ◌+◌, ◌≤◌, ◌<◌, ◌^◌, not, IfOk, IfSome, OnOk, OnErr, IsTrue, option_copied, false};
 ghost use Rattle.keyed.specs.Table.{has_slot};
 ghost use Rattle.std.specs.Option.{option_map_or};
-ghost use Rattle.ns_types.specs.Asks.{document_of, meets, pool_of as pool_named, registered_job as job_after};
+ghost use Rattle.ns_types.specs.Asking.Asks.{document_of, meets, pool_of as pool_named, registered_job as job_after};
 ghost use Rattle.ns_steps.specs.Registered.{has_no_room as is_without_room, is_news as is_told, is_outdated as is_behind};
 ghost use Rattle.ns_core.specs.Making.{IsMade, evaluation_at_index, events_made, job_event_of, with_events, with_made, with_rows};
 ghost use Rattle.ns_core.specs.Held.{HasFewVersions};

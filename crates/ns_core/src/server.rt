@@ -1,7 +1,7 @@
 //! The server as one value, which contracts see as its state.
 
 ghost use Rattle.std.specs.Prelude.{◌≡◌, IfOk, option_copied};
-ghost use Rattle.ns_types.specs.declared.step.Step.TheVariants as steps;
+ghost use Rattle.ns_types.specs.declared.step.Step.TheVariants as Step;
 ghost use Rattle.ns_types.specs.Steps.{Makes, opening};
 ghost use Rattle.ns_steps.specs.Served.{IsServedAsk, IsServedTelling};
 
@@ -22,7 +22,7 @@ pub struct Core {
 impl Model for Core {
     ghost use Rattle.std.specs.Coded.{codes};
     ghost use Rattle.std.specs.FinMap as table;
-    ghost use Rattle.ns_types.specs.Rows.{State};
+    ghost use Rattle.ns_types.specs.State.Rows.{State};
 
     ghost Value = { State };
 
@@ -53,7 +53,7 @@ impl Core {
         command: &AskCommand,
     ) -> Result<Reply, Refusal>
         requires { IsServedAsk command.now }
-        ensures { Makes (steps.Ask namespace.now (option_copied secret.entry) command.now) self.old result self.new }
+        ensures { Makes (Step.Ask namespace.now (option_copied secret.entry) command.now) self.old result self.new }
     {
         let parts = &mut self.parts;
         parts.ask(namespace, secret, command)
@@ -61,7 +61,7 @@ impl Core {
 
     /// Makes the step that an administrator asks with a secret.
     pub fn admin(&mut self, secret: Option<&Text>, command: &AdminCommand) -> Result<Reply, Refusal>
-        ensures { Makes (steps.Admin (option_copied secret.entry) command.now) self.old result self.new }
+        ensures { Makes (Step.Admin (option_copied secret.entry) command.now) self.old result self.new }
     {
         let parts = &mut self.parts;
         parts.admin(secret, command)
@@ -75,7 +75,7 @@ impl Core {
         command: &NodeCommand,
     ) -> Result<Reply, Refusal>
         requires { IsServedTelling command.now }
-        ensures { Makes (steps.Node pool.now (option_copied secret.entry) command.now) self.old result self.new }
+        ensures { Makes (Step.Node pool.now (option_copied secret.entry) command.now) self.old result self.new }
     {
         let parts = &mut self.parts;
         match command {

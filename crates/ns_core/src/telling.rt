@@ -1,8 +1,8 @@
 //! What is told of a pool.
 
 ghost use Rattle.std.specs.Prelude.{◌≡◌, option_copied};
-ghost use Rattle.ns_types.specs.declared.step.NodeCommand.TheVariants as tells;
-ghost use Rattle.ns_types.specs.declared.step.Step.TheVariants as steps;
+ghost use Rattle.ns_types.specs.declared.step.NodeCommand.TheVariants as NodeCommand;
+ghost use Rattle.ns_types.specs.declared.step.Step.TheVariants as Step;
 ghost use Rattle.ns_types.specs.Steps.{Makes};
 ghost use Rattle.ns_core.specs.Held.{IsHeld};
 ghost use Rattle.ns_core.specs.Viewed.{state_of, world_of};
@@ -16,7 +16,7 @@ use ns_types::text::Text;
 impl Parts {
     pub fn read_pool(&self, name: &Text, secret: Option<&Text>) -> Result<Reply, Refusal>
         requires { IsHeld (world_of self.now) }
-        ensures { Makes (steps.Node name.now (option_copied secret.entry) tells.ReadPool) (state_of self.now) result (state_of self.now) }
+        ensures { Makes (Step.Node name.now (option_copied secret.entry) NodeCommand.ReadPool) (state_of self.now) result (state_of self.now) }
     {
         if !self.acl.pool_rights(secret, name).read {
             return Err(Refusal::Denied);

@@ -6,11 +6,11 @@ use Rattle.std.proofs.Common.{filter}
 use Rattle.std.proofs.lemmas.Bool.{eq-eqb}
 use Rattle.std.proofs.lemmas.List.Folds.{list_any-append}
 use Rattle.std.proofs.lemmas.Map.Text.{is_eq-slice_cmp}
-use Rattle.ns_types.specs.declared.name.NameKind.TheVariants as kinds
-use Rattle.ns_types.specs.Limits.{is_distinct, is_pool_name}
-use Rattle.ns_types.specs.Lists.{first_each}
-use Rattle.ns_types.specs.Name.{is_name}
-use Rattle.ns_types.specs.Names.{Name, same_name}
+use Rattle.ns_types.specs.declared.name.NameKind.TheVariants as NameKind
+use Rattle.ns_types.specs.State.Limits.{is_distinct, is_pool_name}
+use Rattle.ns_types.specs.State.Lists.{first_each}
+use Rattle.ns_types.specs.State.Name.{is_name}
+use Rattle.ns_types.specs.State.Names.{Name, same_name}
 use Rattle.ns_types.proofs.Lists.{left_none, right_none}
 use Rattle.ns_types.proofs.Named.{first_of_both, second_of_both}
 
@@ -51,10 +51,10 @@ distinct_is xs h =
     rw once (eq-eqb (length xs) (length xs) refl)
 
 -- names of pools, none of which is `all`
-pub pools_without_all : (xs : List Name) → list_all (is_name kinds.Pool) xs ≡ true → list_any (λ x. bytes_eq x (codes "all")) xs ≡ false → list_all is_pool_name xs ≡ true
+pub pools_without_all : (xs : List Name) → list_all (is_name NameKind.Pool) xs ≡ true → list_any (λ x. bytes_eq x (codes "all")) xs ≡ false → list_all is_pool_name xs ≡ true
 pools_without_all [] h none = refl
 pools_without_all (x ∷ xs) h none =
-    let here : is_name kinds.Pool x ≡ true = first_of_both (is_name kinds.Pool x) (list_all (is_name kinds.Pool) xs) h in
+    let here : is_name NameKind.Pool x ≡ true = first_of_both (is_name NameKind.Pool x) (list_all (is_name NameKind.Pool) xs) h in
     let other : bytes_eq x (codes "all") ≡ false = left_none (bytes_eq x (codes "all")) (list_any (λ y. bytes_eq y (codes "all")) xs) none in
-    let more : list_all is_pool_name xs ≡ true = pools_without_all xs (second_of_both (is_name kinds.Pool x) (list_all (is_name kinds.Pool) xs) h) (right_none (bytes_eq x (codes "all")) (list_any (λ y. bytes_eq y (codes "all")) xs) none) in
+    let more : list_all is_pool_name xs ≡ true = pools_without_all xs (second_of_both (is_name NameKind.Pool x) (list_all (is_name NameKind.Pool) xs) h) (right_none (bytes_eq x (codes "all")) (list_any (λ y. bytes_eq y (codes "all")) xs) none) in
     rw (here, other, more) refl

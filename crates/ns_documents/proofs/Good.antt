@@ -12,21 +12,21 @@ use Rattle.serde_json.specs.Data.{Data, Items, no_items, item}
 use Rattle.serde_json.specs.Events.{items_len}
 use Rattle.serde_json.specs.Find.{as_str, as_array, as_number, as_i64}
 use Rattle.ns_types.specs.declared.acl.Policy.{Policy}
-use Rattle.ns_types.specs.declared.acl.TokenKind.TheVariants as tokens
+use Rattle.ns_types.specs.declared.acl.TokenKind.TheVariants as TokenKind
 use Rattle.ns_types.specs.declared.name.NameKind.{NameKind}
-use Rattle.ns_types.specs.declared.name.NameKind.TheVariants as kinds
+use Rattle.ns_types.specs.declared.name.NameKind.TheVariants as NameKind
 use Rattle.ns_types.specs.declared.refusal.Member.{Member}
-use Rattle.ns_types.specs.declared.refusal.Member.TheVariants as members
+use Rattle.ns_types.specs.declared.refusal.Member.TheVariants as Member
 use Rattle.ns_types.specs.declared.refusal.Refusal.{Refusal}
 use Rattle.ns_types.specs.declared.resources.Limit.{Limit}
-use Rattle.ns_types.specs.declared.resources.Limit.TheVariants as limits
+use Rattle.ns_types.specs.declared.resources.Limit.TheVariants as Limit
 use Rattle.ns_types.specs.declared.resources.Limits.{Limits}
-use Rattle.ns_types.specs.Limits.{is_text, is_pool_name, is_pool_list, is_good_namespace, is_limit, is_good_quota, is_good_policy, is_good_token}
-use Rattle.ns_types.specs.Lists.{is_empty}
-use Rattle.ns_types.specs.Name.{is_name}
-use Rattle.ns_types.specs.Names.{Name, same_name, default_name}
-use Rattle.ns_types.specs.Names as names
-use Rattle.ns_types.specs.Resources.{limits_in, unlimited}
+use Rattle.ns_types.specs.State.Limits.{is_text, is_pool_name, is_pool_list, is_good_namespace, is_limit, is_good_quota, is_good_policy, is_good_token}
+use Rattle.ns_types.specs.State.Lists.{is_empty}
+use Rattle.ns_types.specs.State.Name.{is_name}
+use Rattle.ns_types.specs.State.Names.{Name, same_name, default_name}
+use Rattle.ns_types.specs.State.Names as names
+use Rattle.ns_types.specs.State.Resources.{limits_in, unlimited}
 use Rattle.ns_types.proofs.Lists.{left_none, right_none}
 use Rattle.ns_types.proofs.Named.{same_name_is}
 use Rattle.ns_json.specs.Reading.{◌>>=◌, Read, Gives, same, top, present, demanded, or_else, or_refuse, some, an_object, a_text, a_name, has_name, unless, a_list, each}
@@ -108,16 +108,16 @@ name_if_any_good m kind d = post_any (a_text m d) _ _ (λ s. name_at (length s =
 
 description_good : (d : Data) → Post (description_in d) (λ s. IsTrue (is_text s))
 unfolding description_in
-description_good d = post_else [] (a_text members.Description) (λ s. IsTrue (is_text s)) (present members.Description d) refl (text_good members.Description)
+description_good d = post_else [] (a_text Member.Description) (λ s. IsTrue (is_text s)) (present Member.Description d) refl (text_good Member.Description)
 
 repeated_good : (path : Name) (d : Data) (P : Name → Type 0) → P path → Post (repeated path d) P
 unfolding repeated
-repeated_good path d P h = post_any (or_refuse members.Name (as_str d)) _ _ (λ s. post_unless (not (bytes_eq s path)) members.Name path P (λ k. h))
+repeated_good path d P h = post_any (or_refuse Member.Name (as_str d)) _ _ (λ s. post_unless (not (bytes_eq s path)) Member.Name path P (λ k. h))
 
 named_good : (kind : NameKind) (path : Option Name) (d : Data) → IsTrue (is_path_name kind path) → Post (named kind path d) (λ s. IsTrue (is_name kind s))
 unfolding named
-named_good kind None d h = post_any (demanded members.Name d) _ _ (λ s. name_good members.Name kind s)
-named_good kind (Some path) d h = post_else path (repeated path) (λ s. IsTrue (is_name kind s)) (present members.Name d) h (λ v. repeated_good path v (λ s. IsTrue (is_name kind s)) h)
+named_good kind None d h = post_any (demanded Member.Name d) _ _ (λ s. name_good Member.Name kind s)
+named_good kind (Some path) d h = post_else path (repeated path) (λ s. IsTrue (is_name kind s)) (present Member.Name d) h (λ v. repeated_good path v (λ s. IsTrue (is_name kind s)) h)
 
 -- ---- lists of names
 
@@ -161,7 +161,7 @@ names_good m kind most d =
 
 -- ---- the pools of a namespace
 
-pool_list : (xs : List Name) → Listed kinds.Pool 1000 xs → has_name same xs (codes "all") ≡ false → IsTrue (is_pool_list xs)
+pool_list : (xs : List Name) → Listed NameKind.Pool 1000 xs → has_name same xs (codes "all") ≡ false → IsTrue (is_pool_list xs)
 pool_list xs h none =
     let fits : nat_le (length xs) 1000 ≡ true = le-leb (length xs) 1000 h.1 in
     rw (fits, pools_without_all xs h.0.0 none, distinct_is xs h.0.1) refl
@@ -169,19 +169,19 @@ pool_list xs h none =
 pools_good : (m : Member) (d : Data) → Post (pools_in m d) (λ xs. IsTrue (is_pool_list xs))
 unfolding pools_in
 pools_good m d =
-    post_then (names_in m kinds.Pool 1000 d) _ _ (names_good m kinds.Pool 1000 d)
+    post_then (names_in m NameKind.Pool 1000 d) _ _ (names_good m NameKind.Pool 1000 d)
     (λ xs h. post_unless (has_name same xs (codes "all")) m xs (λ ys. IsTrue (is_pool_list ys)) (λ none. pool_list xs h none))
 
-pool_name : (s : Name) → IsTrue (is_name kinds.Pool s) → is_all s ≡ false → IsTrue (is_pool_name s)
+pool_name : (s : Name) → IsTrue (is_name NameKind.Pool s) → is_all s ≡ false → IsTrue (is_pool_name s)
 pool_name s h other = rw (h, other) refl
 
-pool_or_default_good : (o : Option Name) → IsTrue (option_map_or (is_name kinds.Pool) o true) → Post (pool_or_default o) (λ s. IsTrue (is_pool_name s))
+pool_or_default_good : (o : Option Name) → IsTrue (option_map_or (is_name NameKind.Pool) o true) → Post (pool_or_default o) (λ s. IsTrue (is_pool_name s))
 pool_or_default_good None h = refl
-pool_or_default_good (Some s) h = post_unless (is_all s) members.Default s (λ t. IsTrue (is_pool_name t)) (λ other. pool_name s h other)
+pool_or_default_good (Some s) h = post_unless (is_all s) Member.Default s (λ t. IsTrue (is_pool_name t)) (λ other. pool_name s h other)
 
 default_pool_good : (d : Data) → Post (default_pool_in d) (λ s. IsTrue (is_pool_name s))
 unfolding default_pool_in
-default_pool_good d = post_then (name_if_any members.Default kinds.Pool d) _ _ (name_if_any_good members.Default kinds.Pool d) (λ o h. pool_or_default_good o h)
+default_pool_good d = post_then (name_if_any Member.Default NameKind.Pool d) _ _ (name_if_any_good Member.Default NameKind.Pool d) (λ o h. pool_or_default_good o h)
 
 other_way : (x y : Name) → bytes_eq y x ≡ false → same_name x y ≡ false
 other_way x y h = by (same_name x y) refl
@@ -209,11 +209,11 @@ one_list false b h = refl
 configuration_good : (d : Data) → Post (configuration_in d) IsGood
 unfolding configuration_in
 configuration_good d =
-    post_any (an_object members.NodePoolConfiguration d) _ _ (λ c.
-    post_then (or_else default_name default_pool_in (present members.Default c)) _ _ (post_else default_name default_pool_in (λ s. IsTrue (is_pool_name s)) (present members.Default c) refl default_pool_good) (λ default h.
-    post_then (or_else None (λ a. some (pools_in members.Allowed a)) (present members.Allowed c)) _ _ (post_else None (λ a. some (pools_in members.Allowed a)) (λ o. IsTrue (option_map_or is_pool_list o true)) (present members.Allowed c) refl (λ a. post_some (pools_in members.Allowed a) (λ xs. IsTrue (is_pool_list xs)) _ (λ xs k. k) (pools_good members.Allowed a))) (λ allowed k.
-    post_then (or_else [] (pools_in members.Denied) (present members.Denied c)) _ _ (post_else [] (pools_in members.Denied) (λ xs. IsTrue (is_pool_list xs)) (present members.Denied c) refl (pools_good members.Denied)) (λ denied l.
-    post_unless ((is_some allowed && not (is_empty denied)) || has_name same denied default) members.Denied _ IsGood
+    post_any (an_object Member.NodePoolConfiguration d) _ _ (λ c.
+    post_then (or_else default_name default_pool_in (present Member.Default c)) _ _ (post_else default_name default_pool_in (λ s. IsTrue (is_pool_name s)) (present Member.Default c) refl default_pool_good) (λ default h.
+    post_then (or_else None (λ a. some (pools_in Member.Allowed a)) (present Member.Allowed c)) _ _ (post_else None (λ a. some (pools_in Member.Allowed a)) (λ o. IsTrue (option_map_or is_pool_list o true)) (present Member.Allowed c) refl (λ a. post_some (pools_in Member.Allowed a) (λ xs. IsTrue (is_pool_list xs)) _ (λ xs k. k) (pools_good Member.Allowed a))) (λ allowed k.
+    post_then (or_else [] (pools_in Member.Denied) (present Member.Denied c)) _ _ (post_else [] (pools_in Member.Denied) (λ xs. IsTrue (is_pool_list xs)) (present Member.Denied c) refl (pools_good Member.Denied)) (λ denied l.
+    post_unless ((is_some allowed && not (is_empty denied)) || has_name same denied default) Member.Denied _ IsGood
     (λ n. (
       h,
       k,
@@ -222,17 +222,17 @@ configuration_good d =
       not_from_false _ (any_other denied default (right_none (is_some allowed && not (is_empty denied)) (has_name same denied default) n)),
     ))))))
 
-namespace_from : (description : Name) (quota : Option Name) (c : PoolConfiguration) → IsTrue (is_text description) → IsTrue (option_map_or (is_name kinds.Quota) quota true) → IsGood c
+namespace_from : (description : Name) (quota : Option Name) (c : PoolConfiguration) → IsTrue (is_text description) → IsTrue (option_map_or (is_name NameKind.Quota) quota true) → IsGood c
     → IsTrue (is_good_namespace (record { description = description; quota = quota; default_pool = c.default_pool; allowed = c.allowed; denied = c.denied }))
 namespace_from description quota c h k g = rw (h, k, g.0, g.1, g.2, g.3, g.4) refl
 
 namespace_post : (path : Option Name) (d : Data) → Post (namespace_in path d) (λ n. IsTrue (is_good_namespace n.namespace))
 unfolding namespace_in
 namespace_post path d =
-    post_any (top d) _ _ (λ t. post_any (named kinds.Namespace path t) _ _ (λ name.
+    post_any (top d) _ _ (λ t. post_any (named NameKind.Namespace path t) _ _ (λ name.
     post_then (description_in t) _ _ (description_good t) (λ description h.
-    post_then (or_else None (name_if_any members.Quota kinds.Quota) (present members.Quota t)) _ _ (post_else None (name_if_any members.Quota kinds.Quota) (λ o. IsTrue (option_map_or (is_name kinds.Quota) o true)) (present members.Quota t) refl (name_if_any_good members.Quota kinds.Quota)) (λ quota k.
-    post_then (or_else every_pool configuration_in (present members.NodePoolConfiguration t)) _ _ (post_else every_pool configuration_in IsGood (present members.NodePoolConfiguration t) (refl, refl, refl, refl, refl) configuration_good) (λ c g.
+    post_then (or_else None (name_if_any Member.Quota NameKind.Quota) (present Member.Quota t)) _ _ (post_else None (name_if_any Member.Quota NameKind.Quota) (λ o. IsTrue (option_map_or (is_name NameKind.Quota) o true)) (present Member.Quota t) refl (name_if_any_good Member.Quota NameKind.Quota)) (λ quota k.
+    post_then (or_else every_pool configuration_in (present Member.NodePoolConfiguration t)) _ _ (post_else every_pool configuration_in IsGood (present Member.NodePoolConfiguration t) (refl, refl, refl, refl, refl) configuration_good) (λ c g.
     namespace_from description quota c h k g)))))
 
 -- ---- quotas
@@ -240,7 +240,7 @@ namespace_post path d =
 limit_of_good : (z : ℤ) → IsTrue (option_map_or is_limit (limit_of z) true)
 limit_of_good (pos n) = by (n == 0) (nat_le n max_limit) refl refl
   where
-    by : (a b : Bool) → (n == 0) ≡ a → nat_le n max_limit ≡ b → IsTrue (option_map_or is_limit (if a then Some limits.Unlimited else if b then Some (limits.AtMost n) else None) true)
+    by : (a b : Bool) → (n == 0) ≡ a → nat_le n max_limit ≡ b → IsTrue (option_map_or is_limit (if a then Some Limit.Unlimited else if b then Some (Limit.AtMost n) else None) true)
     by true b e f = refl
     by false true e f =
         let some : n ≡ 0 → ⊥ = eqb-false n 0 e in
@@ -249,7 +249,7 @@ limit_of_good (pos n) = by (n == 0) (nat_le n max_limit) refl refl
     by false false e f = refl
 limit_of_good (negsuc n) = by (n == 0)
   where
-    by : (a : Bool) → IsTrue (option_map_or is_limit (if a then Some limits.Nothing else None) true)
+    by : (a : Bool) → IsTrue (option_map_or is_limit (if a then Some Limit.Nothing else None) true)
     by true = refl
     by false = refl
 
@@ -268,22 +268,22 @@ limit_good m d = limit_read m (option_and_then as_i64 (as_number d))
 abbrev AreLimits : Limits → Type 0
 AreLimits l = IsTrue (is_limit l.cpu) × IsTrue (is_limit l.memory)
 
-limit_or_unlimited_good : (m : Member) (o : Option Data) → Post (or_else limits.Unlimited (limit_in m) o) (λ l. IsTrue (is_limit l))
-limit_or_unlimited_good m o = post_else limits.Unlimited (limit_in m) (λ l. IsTrue (is_limit l)) o refl (limit_good m)
+limit_or_unlimited_good : (m : Member) (o : Option Data) → Post (or_else Limit.Unlimited (limit_in m) o) (λ l. IsTrue (is_limit l))
+limit_or_unlimited_good m o = post_else Limit.Unlimited (limit_in m) (λ l. IsTrue (is_limit l)) o refl (limit_good m)
 
 region_limit_good : (d : Data) → Post (region_limit_in d) AreLimits
 unfolding region_limit_in
 region_limit_good d =
-    post_any (an_object members.RegionLimit d) _ _ (λ r.
-    post_then (or_else limits.Unlimited (limit_in members.Cpu) (present members.Cpu r)) _ _ (limit_or_unlimited_good members.Cpu (present members.Cpu r)) (λ cpu h.
-    post_then (or_else limits.Unlimited (limit_in members.MemoryMb) (present members.MemoryMb r)) _ _ (limit_or_unlimited_good members.MemoryMb (present members.MemoryMb r)) (λ memory k. (h, k))))
+    post_any (an_object Member.RegionLimit d) _ _ (λ r.
+    post_then (or_else Limit.Unlimited (limit_in Member.Cpu) (present Member.Cpu r)) _ _ (limit_or_unlimited_good Member.Cpu (present Member.Cpu r)) (λ cpu h.
+    post_then (or_else Limit.Unlimited (limit_in Member.MemoryMb) (present Member.MemoryMb r)) _ _ (limit_or_unlimited_good Member.MemoryMb (present Member.MemoryMb r)) (λ memory k. (h, k))))
 
 entry_good : (d : Data) → Post (entry_in d) AreLimits
 unfolding entry_in
 entry_good d =
-    post_any (an_object members.Limits d) _ _ (λ entry.
-    post_any (or_else tt region_in (present members.Region entry)) _ _ (λ region.
-    post_else unlimited region_limit_in AreLimits (present members.RegionLimit entry) (refl, refl) region_limit_good))
+    post_any (an_object Member.Limits d) _ _ (λ entry.
+    post_any (or_else tt region_in (present Member.Region entry)) _ _ (λ region.
+    post_else unlimited region_limit_in AreLimits (present Member.RegionLimit entry) (refl, refl) region_limit_good))
 
 abbrev AreLimitsIn : Option Limits → Type 0
 AreLimitsIn o = AreLimits (limits_in o)
@@ -294,7 +294,7 @@ first_entry_good (item d ds) = post_some (entry_in d) AreLimits AreLimitsIn (λ 
 
 entries_good : (d : Data) → Post (entries_in d) AreLimitsIn
 unfolding entries_in
-entries_good d = post_any (a_list members.Limits 0 1 d) _ _ first_entry_good
+entries_good d = post_any (a_list Member.Limits 0 1 d) _ _ first_entry_good
 
 quota_from : (description : Name) (limits : Option Limits) → IsTrue (is_text description) → AreLimitsIn limits → IsTrue (is_good_quota (record { description = description; limits = limits }))
 quota_from description limits h k = rw (h, k.0, k.1) refl
@@ -302,9 +302,9 @@ quota_from description limits h k = rw (h, k.0, k.1) refl
 quota_post : (path : Option Name) (d : Data) → Post (quota_in path d) (λ q. IsTrue (is_good_quota q.quota))
 unfolding quota_in
 quota_post path d =
-    post_any (top d) _ _ (λ t. post_any (named kinds.Quota path t) _ _ (λ name.
+    post_any (top d) _ _ (λ t. post_any (named NameKind.Quota path t) _ _ (λ name.
     post_then (description_in t) _ _ (description_good t) (λ description h.
-    post_then (or_else None entries_in (present members.Limits t)) _ _ (post_else None entries_in AreLimitsIn (present members.Limits t) (refl, refl) entries_good) (λ limits k.
+    post_then (or_else None entries_in (present Member.Limits t)) _ _ (post_else None entries_in AreLimitsIn (present Member.Limits t) (refl, refl) entries_good) (λ limits k.
     quota_from description limits h k))))
 
 -- ---- pools
@@ -312,14 +312,14 @@ quota_post path d =
 pool_post : (path : Option Name) (d : Data) → Post (pool_in path d) (λ p. IsTrue (is_text p.pool.description))
 unfolding pool_in
 pool_post path d =
-    post_any (top d) _ _ (λ t. post_any (named kinds.Pool path t) _ _ (λ name. post_any (unless (is_all name) members.Name name) _ _ (λ checked.
+    post_any (top d) _ _ (λ t. post_any (named NameKind.Pool path t) _ _ (λ name. post_any (unless (is_all name) Member.Name name) _ _ (λ checked.
     post_then (description_in t) _ _ (description_good t) (λ description h. h))))
 
 -- ---- policies and tokens
 
 rules_text_good : (d : Data) → Post (rules_text_in d) (λ s. IsTrue (nat_le (length s) 65536))
 unfolding rules_text_in
-rules_text_good d = post_any (or_refuse members.Rules (as_str d)) _ _ (λ s. post_unless (not (nat_le (length s) 65536)) members.Rules s _ (λ h. is_true (nat_le (length s) 65536) h))
+rules_text_good d = post_any (or_refuse Member.Rules (as_str d)) _ _ (λ s. post_unless (not (nat_le (length s) 65536)) Member.Rules s _ (λ h. is_true (nat_le (length s) 65536) h))
   where
     is_true : (b : Bool) → not b ≡ false → b ≡ true
     is_true true h = refl
@@ -332,10 +332,10 @@ policy_post : (d : Data) → Post (policy_in d) (λ p. IsTrue (is_good_policy p)
 unfolding policy_in
 policy_post d =
     post_any (top d) _ _ (λ t. post_then (description_in t) _ _ (description_good t) (λ description h.
-    post_any (demanded members.Rules t) _ _ (λ v. post_then (rules_text_in v) _ _ (rules_text_good v) (λ text k.
+    post_any (demanded Member.Rules t) _ _ (λ v. post_then (rules_text_in v) _ _ (rules_text_good v) (λ text k.
     post_any (or_bad_rules (rules_of text)) _ _ (λ rules. policy_from (record { description = description; text = text; rules = rules }) h k)))))
 
-token_from : (accessor : Name) (t : TokenDocument) → IsTrue (is_text t.name) → Listed kinds.Policy 64 t.policies → IsTrue (is_good_token (with_accessor accessor t))
+token_from : (accessor : Name) (t : TokenDocument) → IsTrue (is_text t.name) → Listed NameKind.Policy 64 t.policies → IsTrue (is_good_token (with_accessor accessor t))
 token_from accessor t h k =
     let fits : nat_le (length t.policies) 64 ≡ true = le-leb (length t.policies) 64 k.1 in
     rw (h, fits, k.0.0, distinct_is t.policies k.0.1) refl
@@ -343,31 +343,31 @@ token_from accessor t h k =
 token_post : (d : Data) → Post (token_in d) (λ t. (accessor : Name) → IsTrue (is_good_token (with_accessor accessor t)))
 unfolding token_in
 token_post d =
-    post_any (top d) _ _ (λ t. post_then (or_else [] (a_text members.Name) (present members.Name t)) _ _ (post_else [] (a_text members.Name) (λ s. IsTrue (is_text s)) (present members.Name t) refl (text_good members.Name)) (λ name h.
-    post_any (or_else tokens.Client token_kind_in (present members.Type t)) _ _ (λ kind.
-    post_then (or_else [] (names_in members.Policies kinds.Policy 64) (present members.Policies t)) _ _ (post_else [] (names_in members.Policies kinds.Policy 64) (Listed kinds.Policy 64) (present members.Policies t) ((refl, tt), omega arith) (names_good members.Policies kinds.Policy 64)) (λ policies k.
+    post_any (top d) _ _ (λ t. post_then (or_else [] (a_text Member.Name) (present Member.Name t)) _ _ (post_else [] (a_text Member.Name) (λ s. IsTrue (is_text s)) (present Member.Name t) refl (text_good Member.Name)) (λ name h.
+    post_any (or_else TokenKind.Client token_kind_in (present Member.Type t)) _ _ (λ kind.
+    post_then (or_else [] (names_in Member.Policies NameKind.Policy 64) (present Member.Policies t)) _ _ (post_else [] (names_in Member.Policies NameKind.Policy 64) (Listed NameKind.Policy 64) (present Member.Policies t) ((refl, tt), omega arith) (names_good Member.Policies NameKind.Policy 64)) (λ policies k.
     λ accessor. token_from accessor (record { name = name; kind = kind; policies = policies }) h k))))
 
 -- ---- names
 
-namespace_named : (path : Option Name) (d : Data) → IsTrue (is_path_name kinds.Namespace path) → Post (namespace_in path d) (λ n. IsTrue (is_name kinds.Namespace n.name))
+namespace_named : (path : Option Name) (d : Data) → IsTrue (is_path_name NameKind.Namespace path) → Post (namespace_in path d) (λ n. IsTrue (is_name NameKind.Namespace n.name))
 unfolding namespace_in
 namespace_named path d h =
-    post_any (top d) _ _ (λ t. post_then (named kinds.Namespace path t) _ _ (named_good kinds.Namespace path t h) (λ name k.
-    post_any (description_in t) _ _ (λ description. post_any (or_else None (name_if_any members.Quota kinds.Quota) (present members.Quota t)) _ _ (λ quota.
-    post_any (or_else every_pool configuration_in (present members.NodePoolConfiguration t)) _ _ (λ c. k)))))
+    post_any (top d) _ _ (λ t. post_then (named NameKind.Namespace path t) _ _ (named_good NameKind.Namespace path t h) (λ name k.
+    post_any (description_in t) _ _ (λ description. post_any (or_else None (name_if_any Member.Quota NameKind.Quota) (present Member.Quota t)) _ _ (λ quota.
+    post_any (or_else every_pool configuration_in (present Member.NodePoolConfiguration t)) _ _ (λ c. k)))))
 
-quota_named : (path : Option Name) (d : Data) → IsTrue (is_path_name kinds.Quota path) → Post (quota_in path d) (λ q. IsTrue (is_name kinds.Quota q.name))
+quota_named : (path : Option Name) (d : Data) → IsTrue (is_path_name NameKind.Quota path) → Post (quota_in path d) (λ q. IsTrue (is_name NameKind.Quota q.name))
 unfolding quota_in
 quota_named path d h =
-    post_any (top d) _ _ (λ t. post_then (named kinds.Quota path t) _ _ (named_good kinds.Quota path t h) (λ name k.
-    post_any (description_in t) _ _ (λ description. post_any (or_else None entries_in (present members.Limits t)) _ _ (λ limits. k))))
+    post_any (top d) _ _ (λ t. post_then (named NameKind.Quota path t) _ _ (named_good NameKind.Quota path t h) (λ name k.
+    post_any (description_in t) _ _ (λ description. post_any (or_else None entries_in (present Member.Limits t)) _ _ (λ limits. k))))
 
-pool_named : (path : Option Name) (d : Data) → IsTrue (is_path_name kinds.Pool path) → Post (pool_in path d) (λ p. IsTrue (is_pool_name p.name))
+pool_named : (path : Option Name) (d : Data) → IsTrue (is_path_name NameKind.Pool path) → Post (pool_in path d) (λ p. IsTrue (is_pool_name p.name))
 unfolding pool_in
 pool_named path d h =
-    post_any (top d) _ _ (λ t. post_then (named kinds.Pool path t) _ _ (named_good kinds.Pool path t h) (λ name k.
-    post_then (unless (is_all name) members.Name name) _ _ (post_unless (is_all name) members.Name name (λ s. IsTrue (is_pool_name s)) (λ other. pool_name name k other)) (λ checked l.
+    post_any (top d) _ _ (λ t. post_then (named NameKind.Pool path t) _ _ (named_good NameKind.Pool path t h) (λ name k.
+    post_then (unless (is_all name) Member.Name name) _ _ (post_unless (is_all name) Member.Name name (λ s. IsTrue (is_pool_name s)) (λ other. pool_name name k other)) (λ checked l.
     post_any (description_in t) _ _ (λ description. l))))
 
 -- ---- what is read
@@ -375,20 +375,20 @@ pool_named path d h =
 pub namespace_good : (r : Read NamedNamespace) (path : Option Name) (d : Data) → Gives same r (namespace_in path d) → IfOk r (λ n. IsTrue (is_good_namespace n.namespace))
 namespace_good r path d h = read_so r (namespace_in path d) _ h (namespace_post path d)
 
-pub namespace_has_name : (r : Read NamedNamespace) (path : Option Name) (d : Data) → Gives same r (namespace_in path d) → IfOk r (λ n. IsTrue (is_path_name kinds.Namespace path) → IsTrue (is_name kinds.Namespace n.name))
-namespace_has_name r path d h = read_if (IsTrue (is_path_name kinds.Namespace path)) r (namespace_in path d) (λ n. IsTrue (is_name kinds.Namespace n.name)) h (namespace_named path d)
+pub namespace_has_name : (r : Read NamedNamespace) (path : Option Name) (d : Data) → Gives same r (namespace_in path d) → IfOk r (λ n. IsTrue (is_path_name NameKind.Namespace path) → IsTrue (is_name NameKind.Namespace n.name))
+namespace_has_name r path d h = read_if (IsTrue (is_path_name NameKind.Namespace path)) r (namespace_in path d) (λ n. IsTrue (is_name NameKind.Namespace n.name)) h (namespace_named path d)
 
 pub quota_good : (r : Read NamedQuota) (path : Option Name) (d : Data) → Gives same r (quota_in path d) → IfOk r (λ q. IsTrue (is_good_quota q.quota))
 quota_good r path d h = read_so r (quota_in path d) _ h (quota_post path d)
 
-pub quota_has_name : (r : Read NamedQuota) (path : Option Name) (d : Data) → Gives same r (quota_in path d) → IfOk r (λ q. IsTrue (is_path_name kinds.Quota path) → IsTrue (is_name kinds.Quota q.name))
-quota_has_name r path d h = read_if (IsTrue (is_path_name kinds.Quota path)) r (quota_in path d) (λ q. IsTrue (is_name kinds.Quota q.name)) h (quota_named path d)
+pub quota_has_name : (r : Read NamedQuota) (path : Option Name) (d : Data) → Gives same r (quota_in path d) → IfOk r (λ q. IsTrue (is_path_name NameKind.Quota path) → IsTrue (is_name NameKind.Quota q.name))
+quota_has_name r path d h = read_if (IsTrue (is_path_name NameKind.Quota path)) r (quota_in path d) (λ q. IsTrue (is_name NameKind.Quota q.name)) h (quota_named path d)
 
 pub pool_good : (r : Read NamedPool) (path : Option Name) (d : Data) → Gives same r (pool_in path d) → IfOk r (λ p. IsTrue (is_text p.pool.description))
 pool_good r path d h = read_so r (pool_in path d) _ h (pool_post path d)
 
-pub pool_has_name : (r : Read NamedPool) (path : Option Name) (d : Data) → Gives same r (pool_in path d) → IfOk r (λ p. IsTrue (is_path_name kinds.Pool path) → IsTrue (is_pool_name p.name))
-pool_has_name r path d h = read_if (IsTrue (is_path_name kinds.Pool path)) r (pool_in path d) (λ p. IsTrue (is_pool_name p.name)) h (pool_named path d)
+pub pool_has_name : (r : Read NamedPool) (path : Option Name) (d : Data) → Gives same r (pool_in path d) → IfOk r (λ p. IsTrue (is_path_name NameKind.Pool path) → IsTrue (is_pool_name p.name))
+pool_has_name r path d h = read_if (IsTrue (is_path_name NameKind.Pool path)) r (pool_in path d) (λ p. IsTrue (is_pool_name p.name)) h (pool_named path d)
 
 pub policy_good : (r : Read Policy) (d : Data) → Gives same r (policy_in d) → IfOk r (λ p. IsTrue (is_good_policy p))
 policy_good r d h = read_so r (policy_in d) _ h (policy_post d)

@@ -6,8 +6,8 @@ use Rattle.serde_json.specs.Data.{Data}
 use Rattle.serde_json.specs.Find.{as_str}
 use Rattle.ns_types.specs.declared.name.NameKind.{NameKind}
 use Rattle.ns_types.specs.declared.refusal.Member.{Member}
-use Rattle.ns_types.specs.declared.refusal.Member.TheVariants as members
-use Rattle.ns_types.specs.Name.{is_name}
+use Rattle.ns_types.specs.declared.refusal.Member.TheVariants as Member
+use Rattle.ns_types.specs.State.Name.{is_name}
 use Rattle.ns_json.specs.Reading.{◌>>=◌, Read, same, present, demanded, or_else, or_refuse, a_text, a_name, has_name, unless, a_list, each}
 
 -- the path holds no name, or one of that kind
@@ -17,18 +17,18 @@ is_path_name kind path = option_map_or (is_name kind) path true
 -- the name that the path holds, where the document repeats it
 unfoldable pub repeated : List ℕ → Data → Read (List ℕ)
 repeated path d = do
-  name ← or_refuse members.Name (as_str d)
-  unless (not (bytes_eq name path)) members.Name path
+  name ← or_refuse Member.Name (as_str d)
+  unless (not (bytes_eq name path)) Member.Name path
 
 -- the name of what is written: the path's, which the document may repeat, or else the document's
 unfoldable pub named : NameKind → Option (List ℕ) → Data → Read (List ℕ)
 named kind None d = do
-  name ← demanded members.Name d
-  a_name members.Name kind name
-named kind (Some path) d = or_else path (repeated path) (present members.Name d)
+  name ← demanded Member.Name d
+  a_name Member.Name kind name
+named kind (Some path) d = or_else path (repeated path) (present Member.Name d)
 
 unfoldable pub description_in : Data → Read (List ℕ)
-description_in d = or_else [] (a_text members.Description) (present members.Description d)
+description_in d = or_else [] (a_text Member.Description) (present Member.Description d)
 
 -- a name of a list, after those that stand before it
 unfoldable pub listed_name : Member → NameKind → List (List ℕ) → Data → Read (List ℕ)

@@ -2,8 +2,8 @@
 
 ghost use Rattle.std.specs.Prelude.{◌≡◌, None, IfOk, IfErr, IsTrue, option_copied};
 ghost use Rattle.serde_json.specs.View.{view};
-ghost use Rattle.ns_types.specs.Limits.{is_good_namespace};
-ghost use Rattle.ns_types.specs.Name.{is_name};
+ghost use Rattle.ns_types.specs.State.Limits.{is_good_namespace};
+ghost use Rattle.ns_types.specs.State.Name.{is_name};
 ghost use Rattle.ns_json.specs.Reading.{Gives, same, present as present_in, or_else, body_in, IsOfDocument};
 ghost use Rattle.ns_json.specs.Registration.{name_if_any as name_if_any_in};
 ghost use Rattle.ns_documents.specs.Members.{is_path_name};

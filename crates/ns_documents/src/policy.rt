@@ -2,7 +2,7 @@
 
 ghost use Rattle.std.specs.Prelude.{◌≡◌, IfOk, IfErr, IsTrue};
 ghost use Rattle.serde_json.specs.View.{view};
-ghost use Rattle.ns_types.specs.Limits.{is_good_policy};
+ghost use Rattle.ns_types.specs.State.Limits.{is_good_policy};
 ghost use Rattle.ns_json.specs.Reading.{Gives, same, body_in, IsOfDocument};
 ghost use Rattle.ns_policy.specs.Json.{rules_of};
 ghost use Rattle.ns_documents.specs.Access.{rules_text_in, or_bad_rules, policy_in};

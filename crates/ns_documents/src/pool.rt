@@ -2,7 +2,7 @@
 
 ghost use Rattle.std.specs.Prelude.{◌≡◌, IfOk, IfErr, IsTrue, option_copied};
 ghost use Rattle.serde_json.specs.View.{view};
-ghost use Rattle.ns_types.specs.Limits.{is_text, is_pool_name};
+ghost use Rattle.ns_types.specs.State.Limits.{is_text, is_pool_name};
 ghost use Rattle.ns_json.specs.Reading.{Gives, same, body_in, IsOfDocument};
 ghost use Rattle.ns_documents.specs.Members.{is_path_name};
 ghost use Rattle.ns_documents.specs.Records.{pool_in};

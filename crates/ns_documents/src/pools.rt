@@ -2,7 +2,7 @@
 
 ghost use Rattle.std.specs.Prelude.{◌≡◌, [], None};
 ghost use Rattle.serde_json.specs.View.{view};
-ghost use Rattle.ns_types.specs.Names.{default_name};
+ghost use Rattle.ns_types.specs.State.Names.{default_name};
 ghost use Rattle.ns_json.specs.Reading.{Gives, same, or_else, some, present as present_in};
 ghost use Rattle.ns_documents.specs.Records.{default_pool_in, pools_in, configuration_in, every_pool};
 

@@ -3,9 +3,9 @@
 ghost use Rattle.std.specs.Prelude.{◌≡◌, None, IfOk, IfErr, IsTrue, option_copied};
 ghost use Rattle.serde_json.specs.View.{view};
 ghost use Rattle.ns_types.specs.declared.resources.Limit.TheVariants.{Unlimited};
-ghost use Rattle.ns_types.specs.Limits.{is_good_quota};
-ghost use Rattle.ns_types.specs.Name.{is_name};
-ghost use Rattle.ns_types.specs.Resources.{unlimited};
+ghost use Rattle.ns_types.specs.State.Limits.{is_good_quota};
+ghost use Rattle.ns_types.specs.State.Name.{is_name};
+ghost use Rattle.ns_types.specs.State.Resources.{unlimited};
 ghost use Rattle.ns_json.specs.Reading.{Gives, same, present as present_in, or_else, body_in, IsOfDocument};
 ghost use Rattle.ns_documents.specs.Members.{is_path_name};
 ghost use Rattle.ns_documents.specs.Records.{limit_of as limit_of_number, limit_in, region_limit_in, region_in, entry_in, entries_in, quota_in};

@@ -3,7 +3,7 @@
 ghost use Rattle.std.specs.Prelude.{◌≡◌, ℕ, List, [], IfOk, IfErr, IsTrue};
 ghost use Rattle.serde_json.specs.View.{view};
 ghost use Rattle.ns_types.specs.declared.acl.TokenKind.TheVariants.{Client};
-ghost use Rattle.ns_types.specs.Limits.{is_good_token};
+ghost use Rattle.ns_types.specs.State.Limits.{is_good_token};
 ghost use Rattle.ns_json.specs.Reading.{Gives, same, present as present_in, or_else, a_text, body_in, IsOfDocument};
 ghost use Rattle.ns_documents.specs.Members.{names_in};
 ghost use Rattle.ns_documents.specs.Access.{with_accessor, token_kind_in, token_in};

@@ -5,9 +5,9 @@ use Rattle.std.specs.Io.KnownBytes.{Appends}
 use Rattle.std.proofs.lemmas.Bool.{false≢true}
 use Rattle.std.proofs.lemmas.List.{map-append, append-nil, length-append}
 use Rattle.ns_types.specs.declared.reply.HeadFault.{HeadFault}
-use Rattle.ns_types.specs.Http.{Message, print_message, IsMessage, closes, RefusesHead, Received, Whole, Refused, Takes, is_last, Asked, IsPartial, End, Clean, Partial, is_closed, IsRest}
+use Rattle.ns_types.specs.Wire.Http.{Message, print_message, IsMessage, closes, RefusesHead, Received, Whole, Refused, Takes, is_last, Asked, IsPartial, End, Clean, Partial, is_closed, IsRest}
 use Rattle.ns_types.specs.declared.reply.Rendered.{Rendered}
-use Rattle.ns_types.specs.Wire.{refusal_of, wire, Exchange, wires, Answers}
+use Rattle.ns_types.specs.Wire.Responses.{refusal_of, wire, Exchange, wires, Answers}
 use Rattle.ns_http.specs.declared.head.Request.{Request}
 use Rattle.ns_http.specs.Head.{asked, FindsWhole}
 use Rattle.ns_http.specs.Output.{WritesSome, Queues}

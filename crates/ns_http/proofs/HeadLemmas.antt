@@ -10,7 +10,7 @@ use Rattle.httparse.specs.declared.spans.RequestSpans.{RequestSpans}
 use Rattle.httparse.specs.Grammar.{RequestHead, print_request, ReadsRequest, HasNoRequest, NeverHasRequest, MayBecomeRequest}
 use Rattle.httparse.specs.Spans.{IsRequestAt, IsRequestWithin, IsHeaderWithin, RequestExceeds, RequestOverflows, name_and_value, header_bytes, span_bytes}
 use Rattle.ns_types.specs.declared.reply.HeadFault.TheVariants.{BadHead, TooLarge}
-use Rattle.ns_types.specs.Http.{Header, IsHead, RefusesHead, malformed, too_long, too_many, in_head, in_body, token_of, asks_close, length_of, is_length, body_len_of, body_len}
+use Rattle.ns_types.specs.Wire.Http.{Header, IsHead, RefusesHead, malformed, too_long, too_many, in_head, in_body, token_of, asks_close, length_of, is_length, body_len_of, body_len}
 use Rattle.std.specs.Option.{option_copied}
 use Rattle.ns_http.specs.HeadStands.{HeadStands}
 use Rattle.ns_http.specs.Head.{Waits, FindsWhole}

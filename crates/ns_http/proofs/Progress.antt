@@ -2,9 +2,9 @@
 use Rattle.std.proofs.Common.{◌≡◌, ℕ, ◌+◌, ◌-◌, ◌*◌, ◌^◌, ◌⊎◌, ◌<◌, ◌≤◌, false, List, ◌++◌, length}
 use Rattle.std.specs.Prelude.{Option}
 use Rattle.std.specs.Io.KnownBytes.{Consumes, Appends}
-use Rattle.ns_types.specs.Http.{Asked, IsPartial}
+use Rattle.ns_types.specs.Wire.Http.{Asked, IsPartial}
 use Rattle.ns_types.specs.declared.reply.Rendered.{Rendered}
-use Rattle.ns_types.specs.Wire.{Exchange, wires}
+use Rattle.ns_types.specs.Wire.Responses.{Exchange, wires}
 use Rattle.ns_http.specs.declared.counting.Counts.{Counts}
 use Rattle.ns_http.specs.Counts.{IsOpen}
 use Rattle.ns_http.specs.Conversation.{Serves}

@@ -4,9 +4,9 @@ use Rattle.std.specs.Prelude.{Option, Some, None}
 use Rattle.std.specs.Io.KnownBytes.{Consumes, Appends, Keeps}
 use Rattle.std.proofs.lemmas.Bool.{cases_lt}
 use Rattle.std.proofs.lemmas.List.{length-append}
-use Rattle.ns_types.specs.Http.{Asked, IsPartial, Takes, End, Clean, Partial, Closed, is_closed, IsRest}
+use Rattle.ns_types.specs.Wire.Http.{Asked, IsPartial, Takes, End, Clean, Partial, Closed, is_closed, IsRest}
 use Rattle.ns_types.specs.declared.reply.Rendered.{Rendered}
-use Rattle.ns_types.specs.Wire.{wires}
+use Rattle.ns_types.specs.Wire.Responses.{wires}
 use Rattle.ns_http.specs.declared.counting.Counts.{Counts}
 use Rattle.ns_http.specs.Counts.{IsOpen}
 use Rattle.ns_http.specs.Output.{WritesSome}

@@ -11,7 +11,7 @@ use Rattle.std.proofs.Math.Nat.{mul-le-mul_left}
 use Rattle.std.proofs.lemmas.List.{take-append-drop, take_more, map-append}
 use Rattle.httparse.specs.declared.spans.HeaderSpan.{HeaderSpan}
 use Rattle.httparse.specs.Spans.{header_bytes}
-use Rattle.ns_types.specs.Http.{Header, eq_ignore_case, values_named, is_length, length_of, lists_close, asks_close}
+use Rattle.ns_types.specs.Wire.Http.{Header, eq_ignore_case, values_named, is_length, length_of, lists_close, asks_close}
 
 -- more digits make no smaller number
 digits_value_after-ge : (radix : ℕ) (ds : List ℕ) (n : ℕ) → 1 ≤ radix → n ≤ digits_value_after radix n ds

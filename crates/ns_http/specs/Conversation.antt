@@ -1,9 +1,9 @@
 -- What a connection reads, has answered and writes.
 use Rattle.std.specs.Prelude.{◌≡◌, ℕ, ◌⊎◌, Bool, false, List, map, Option, IsTrue, ⊤}
 use Rattle.std.specs.Io.KnownBytes.{Consumes, Appends, IsAtEnd}
-use Rattle.ns_types.specs.Http.{Asked, Received, Takes, End, Clean, Partial, Closed, is_closed, Requests}
+use Rattle.ns_types.specs.Wire.Http.{Asked, Received, Takes, End, Clean, Partial, Closed, is_closed, Requests}
 use Rattle.ns_types.specs.declared.reply.Rendered.{Rendered}
-use Rattle.ns_types.specs.Wire.{Exchange, wires, Answers}
+use Rattle.ns_types.specs.Wire.Responses.{Exchange, wires, Answers}
 use Rattle.ns_http.specs.declared.counting.Counts.{Counts}
 use Rattle.ns_http.specs.Counts.{HasFailed, IsReadOut}
 use Rattle.ns_http.specs.Output.{WritesSome}

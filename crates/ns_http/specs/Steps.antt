@@ -1,11 +1,11 @@
 -- What the engine does between two reads.
 use Rattle.std.specs.Prelude.{◌≡◌, ℕ, ◌+◌, ◌<◌, Bool, true, false, List, [], ◌∷◌, ◌++◌, length, Option, Some, None}
 use Rattle.std.specs.Io.KnownBytes.{Appends}
-use Rattle.ns_types.specs.Http.{Asked}
+use Rattle.ns_types.specs.Wire.Http.{Asked}
 use Rattle.ns_types.specs.declared.reply.Rendered.{Rendered}
-use Rattle.ns_types.specs.Wire.{Exchange, wires}
+use Rattle.ns_types.specs.Wire.Responses.{Exchange, wires}
 use Rattle.ns_http.specs.declared.engine.Step.{Step}
-use Rattle.ns_http.specs.declared.engine.Step.TheVariants as Did
+use Rattle.ns_http.specs.declared.engine.Step.TheVariants as Step
 use Rattle.ns_http.specs.Head.{Waits}
 use Rattle.ns_http.specs.Conversation.{Serves}
 use Rattle.ns_http.specs.Output.{WritesSome, Queues}
@@ -43,14 +43,14 @@ Advances answers old new input input' before after answered answered' (Some want
 abbrev pub Steps :
     {S : Type 0} → (S → Asked → Rendered → S → Type 0) → S → S → List ℕ → List ℕ
     → Option (List ℕ) → Option (List ℕ) → List ℕ → List ℕ → ℕ → ℕ → Step → Type 0
-Steps answers old new input input' before after waiting waiting' answered answered' Did.Answered =
+Steps answers old new input input' before after waiting waiting' answered answered' Step.Answered =
     (x : Exchange)
     × Queued answers old new input input' before after waiting waiting' answered answered' (x ∷ []) false
     × (length input' < length input)
-Steps answers old new input input' before after waiting waiting' answered answered' Did.Closed =
+Steps answers old new input input' before after waiting waiting' answered answered' Step.Closed =
     (x : Exchange) × (rest : List ℕ)
     × Queued answers old new input rest before after waiting waiting' answered answered' (x ∷ []) true
-Steps answers old new input input' before after waiting waiting' answered answered' (Did.Waits wanted) =
+Steps answers old new input input' before after waiting waiting' answered answered' (Step.Waits wanted) =
     (new ≡ old) × (input' ≡ input) × (after ≡ before) × (waiting' ≡ waiting) × (answered' ≡ answered) × Waits input wanted
 
 -- the writer failed while the last of these exchanges was made, or after it

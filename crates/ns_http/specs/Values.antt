@@ -2,7 +2,7 @@
 use Rattle.std.specs.Prelude.{◌≡◌, ℕ, List, [], ◌∷◌, Result, Ok, Err}
 use Rattle.ns_types.specs.declared.reply.HeadFault.{HeadFault}
 use Rattle.ns_types.specs.declared.reply.HeadFault.TheVariants.{BadHead, NeedLength}
-use Rattle.ns_types.specs.Http.{length_of}
+use Rattle.ns_types.specs.Wire.Http.{length_of}
 use Rattle.ns_http.specs.declared.header.Values.{Values}
 use Rattle.ns_http.specs.declared.header.Values.TheVariants.{Absent, One, Several}
 

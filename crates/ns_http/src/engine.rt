@@ -1,6 +1,6 @@
 //! One connection, from its first byte to its end.
 ghost use Rattle.std.specs.Prelude.{◌≡◌, ℕ, ◌+◌, ◌-◌, ◌^◌, ◌<◌, ◌≤◌, [], length, IfOk, OnOk, OnErr, IsErrOf, IsTrue, false};
-ghost use Rattle.ns_types.specs.Http.{End};
+ghost use Rattle.ns_types.specs.Wire.Http.{End};
 ghost use Rattle.ns_http.specs.Conversation.{streams_of, Conversation, CutShort, EndsWell, IsReadFault};
 ghost use Rattle.ns_http.specs.Counts.{HasFailed, IsOpen};
 
@@ -51,9 +51,9 @@ impl From<WriteFault> for ConnFault {
 
 /// What answers requests: a state, and a relation between a request, its reply and the states before and after.
 pub trait Answer {
-    ghost use Rattle.ns_types.specs.Http.{Asked};
+    ghost use Rattle.ns_types.specs.Wire.Http.{Asked};
     ghost use Rattle.ns_types.specs.declared.reply.Rendered.{Rendered};
-    ghost use Rattle.ns_types.specs.Wire.{rendered_of};
+    ghost use Rattle.ns_types.specs.Wire.Responses.{rendered_of};
     ghost use Rattle.ns_http.specs.Head.{asked};
 
     // From the first state, the reply answers the request and leaves the second state.

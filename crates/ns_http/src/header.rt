@@ -3,7 +3,7 @@ ghost use Rattle.std.specs.Prelude.{◌≡◌, ℕ, List, [], ◌∷◌, ◌++�
 ghost use Rattle.std.specs.Option.{option_copied};
 ghost use Rattle.httparse.specs.Grammar.{skip_ows, trim_ows};
 ghost use Rattle.httparse.specs.Spans.{IsHeaderWithin, header_bytes};
-ghost use Rattle.ns_types.specs.Http.{eq_ignore_case, values_named, first_value, body_len, lists_close, asks_close, token_of, is_length, length_of};
+ghost use Rattle.ns_types.specs.Wire.Http.{eq_ignore_case, values_named, first_value, body_len, lists_close, asks_close, token_of, is_length, length_of};
 ghost use Rattle.ns_http.specs.Values.{IsSummaryOf, framing_of};
 
 use httparse::is_space_or_tab;

@@ -1,7 +1,7 @@
 //! Responses as bytes.
 ghost use Rattle.std.specs.Prelude.{◌≡◌, ◌<◌, ◌≤◌, ◌+◌, ℕ, List, [], ◌++◌, length, IfOk, OnOk, OnErr, vec_len, vec_capacity, decimal, false};
 ghost use Rattle.std.specs.Io.KnownBytes.{Appends};
-ghost use Rattle.ns_types.specs.Wire.{index_line, close_line, response_head, wire};
+ghost use Rattle.ns_types.specs.Wire.Responses.{index_line, close_line, response_head, wire};
 ghost use Rattle.ns_http.specs.Counts.{HasFailed, IsOpen};
 ghost use Rattle.ns_http.specs.Output.{rendered_by, WritesSome, Queues};
 

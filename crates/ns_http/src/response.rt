@@ -1,7 +1,7 @@
 //! A response with its text lent, and the parts of its head that the status decides.
 ghost use Rattle.std.specs.Prelude.{◌≡◌, ◌≤◌, length};
-ghost use Rattle.ns_types.specs.Refused.{refused};
-ghost use Rattle.ns_types.specs.Wire.{phrase, content_type, rendered_of, fault_refusal, refusal_of};
+ghost use Rattle.ns_types.specs.Wire.Refused.{refused};
+ghost use Rattle.ns_types.specs.Wire.Responses.{phrase, content_type, rendered_of, fault_refusal, refusal_of};
 ghost use Rattle.ns_http.specs.Output.{rendered_by};
 
 use ns_types::refusal::Refusal;

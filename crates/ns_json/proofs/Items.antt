@@ -6,7 +6,7 @@ use Rattle.serde_json.specs.View.{view, items_view}
 use Rattle.serde_json.specs.declared.value.Value.{Value}
 use Rattle.serde_json.proofs.Views.{items_len-items_view}
 use Rattle.ns_types.specs.declared.refusal.Refusal.{Refusal}
-use Rattle.ns_types.specs.declared.refusal.Refusal.TheVariants as refusals
+use Rattle.ns_types.specs.declared.refusal.Refusal.TheVariants as Refusal
 use Rattle.ns_json.specs.Reading.{◌>>=◌, Read, Fails, each}
 
 pub ruleset counts = (items_len-items_view)
@@ -24,23 +24,23 @@ goes_on read done vs i v x total lt is one so_far =
 
 -- what is refused stays refused, whatever would have come after
 fails_on : {A B : Type 0} (e : Refusal) (r : Read A) (after : A → Read B) → Fails e r → Fails e (r >>= after)
-fails_on refusals.Memory r after h = tt
-fails_on refusals.BadJson r after h = ap (λ x. x >>= after) h
-fails_on (refusals.BadField m) r after h = ap (λ x. x >>= after) h
-fails_on refusals.BadHead r after h = elim h [ ]
-fails_on refusals.Denied r after h = elim h [ ]
-fails_on refusals.NotFound r after h = elim h [ ]
-fails_on refusals.BadMethod r after h = elim h [ ]
-fails_on refusals.Conflict r after h = elim h [ ]
-fails_on refusals.PoolNotPermitted r after h = elim h [ ]
-fails_on refusals.InUse r after h = elim h [ ]
-fails_on refusals.Full r after h = elim h [ ]
-fails_on refusals.NeedLength r after h = elim h [ ]
-fails_on refusals.TooLarge r after h = elim h [ ]
-fails_on refusals.NotServed r after h = elim h [ ]
-fails_on refusals.LogFull r after h = elim h [ ]
-fails_on refusals.NotEnabled r after h = elim h [ ]
-fails_on refusals.Foreign r after h = elim h [ ]
+fails_on Refusal.Memory r after h = tt
+fails_on Refusal.BadJson r after h = ap (λ x. x >>= after) h
+fails_on (Refusal.BadField m) r after h = ap (λ x. x >>= after) h
+fails_on Refusal.BadHead r after h = elim h [ ]
+fails_on Refusal.Denied r after h = elim h [ ]
+fails_on Refusal.NotFound r after h = elim h [ ]
+fails_on Refusal.BadMethod r after h = elim h [ ]
+fails_on Refusal.Conflict r after h = elim h [ ]
+fails_on Refusal.PoolNotPermitted r after h = elim h [ ]
+fails_on Refusal.InUse r after h = elim h [ ]
+fails_on Refusal.Full r after h = elim h [ ]
+fails_on Refusal.NeedLength r after h = elim h [ ]
+fails_on Refusal.TooLarge r after h = elim h [ ]
+fails_on Refusal.NotServed r after h = elim h [ ]
+fails_on Refusal.LogFull r after h = elim h [ ]
+fails_on Refusal.NotEnabled r after h = elim h [ ]
+fails_on Refusal.Foreign r after h = elim h [ ]
 
 -- an item that is refused
 pub ends : {A : Type 0} (read : List A → Data → Read A) (e : Refusal) (done : List A) (vs : List Value) (i : ℕ) (v : Value) (total : Read (List A)) → i < length vs → v ≡ get_or vs i v

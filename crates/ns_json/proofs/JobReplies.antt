@@ -9,7 +9,7 @@ use Rattle.json.specs.Token.{Token, begin_object, end_object, begin_array, end_a
 use Rattle.ns_types.specs.declared.job.Constraint.{Constraint}
 use Rattle.ns_types.specs.declared.job.Group.{Group}
 use Rattle.ns_types.specs.declared.reply.JobShown.{JobShown}
-use Rattle.ns_types.specs.Words.{job_status_text, kind_text}
+use Rattle.ns_types.specs.Wire.Words.{job_status_text, kind_text}
 use Rattle.ns_json.specs.Part.{tokens_of, member_tokens}
 use Rattle.ns_json.specs.Rendering.{constraint_json, group_json, job_json}
 use Rattle.ns_json.proofs.Parts.{list_tokens}

@@ -18,7 +18,7 @@ use Rattle.serde_json.proofs.Texts.{print-outline}
 use Rattle.ns_types.specs.declared.id.IdKind.{IdKind}
 use Rattle.ns_types.specs.declared.id.IdKind.TheVariants.{Evaluation}
 use Rattle.std.specs.Int.{w128, to_be_bytes}
-use Rattle.ns_types.specs.Id.{id_text, id_number}
+use Rattle.ns_types.specs.State.Id.{id_text, id_number}
 use Rattle.ns_json.specs.Rendered.{longest_registered}
 use Rattle.ns_json.specs.Rendering.{registered_json}
 

@@ -5,19 +5,19 @@ use Rattle.serde_json.specs.Written.{compact_text}
 use Rattle.ns_types.specs.declared.job.Registration.{Registration}
 use Rattle.ns_types.specs.declared.node.Offer.{Offer}
 use Rattle.ns_types.specs.declared.step.AdminCommand.{AdminCommand}
-use Rattle.ns_types.specs.declared.step.AdminCommand.TheVariants as admins
+use Rattle.ns_types.specs.declared.step.AdminCommand.TheVariants as AdminCommand
 use Rattle.ns_types.specs.declared.step.AskCommand.{AskCommand}
-use Rattle.ns_types.specs.declared.step.AskCommand.TheVariants as asks
+use Rattle.ns_types.specs.declared.step.AskCommand.TheVariants as AskCommand
 use Rattle.ns_types.specs.declared.step.NewToken.{NewToken}
 use Rattle.ns_types.specs.declared.step.NodeCommand.{NodeCommand}
-use Rattle.ns_types.specs.declared.step.NodeCommand.TheVariants as tells
+use Rattle.ns_types.specs.declared.step.NodeCommand.TheVariants as NodeCommand
 use Rattle.ns_types.specs.declared.step.Report.{Report}
 use Rattle.ns_types.specs.declared.step.Step.{Step}
-use Rattle.ns_types.specs.declared.step.Step.TheVariants as steps
-use Rattle.ns_types.specs.Names.{Name}
+use Rattle.ns_types.specs.declared.step.Step.TheVariants as Step
+use Rattle.ns_types.specs.State.Names.{Name}
 use Rattle.ns_json.specs.Rendering.{number_of, object_of, list_of, text_or_empty, constraint_json, group_json, namespace_json, quota_json, pool_json, attributes_json, policy_json, token_json}
 use Rattle.ns_json.specs.Replies.{Entry}
-use Rattle.ns_types.specs.Words.{kind_text, node_status_text, eligibility_text, client_text}
+use Rattle.ns_types.specs.Wire.Words.{kind_text, node_status_text, eligibility_text, client_text}
 
 -- what is asked or told: its name and its arguments
 abbrev pub Call : Type 0
@@ -74,46 +74,46 @@ report_members name r =
 -- ---- commands
 
 unfoldable pub asked : AskCommand → Call
-asked (asks.ListJobs prefix) = (codes "ListJobs", with_prefix prefix ∷ [])
-asked (asks.Register r) = (codes "Register", documented (registration_json r) ∷ (codes "Enforce", number_or_null r.enforced) ∷ [])
-asked (asks.ReadJob id) = (codes "ReadJob", with_id id ∷ [])
-asked (asks.Deregister id purge) = (codes "Deregister", with_id id ∷ (codes "Purge", boolean purge) ∷ [])
-asked (asks.JobAllocations id) = (codes "JobAllocations", with_id id ∷ [])
-asked (asks.JobEvaluations id) = (codes "JobEvaluations", with_id id ∷ [])
-asked (asks.ListEvaluations prefix) = (codes "ListEvaluations", with_prefix prefix ∷ [])
-asked (asks.ReadEvaluation n) = (codes "ReadEvaluation", numbered n ∷ [])
-asked (asks.ListAllocations prefix) = (codes "ListAllocations", with_prefix prefix ∷ [])
-asked (asks.ReadAllocation n) = (codes "ReadAllocation", numbered n ∷ [])
-asked (asks.StopAllocation n) = (codes "StopAllocation", numbered n ∷ [])
-asked asks.ReadNamespace = (codes "ReadNamespace", [])
-asked (asks.QuotaUsage quota) = (codes "QuotaUsage", named quota ∷ [])
-asked (asks.Events index) = (codes "Events", (codes "From", number_of index) ∷ [])
+asked (AskCommand.ListJobs prefix) = (codes "ListJobs", with_prefix prefix ∷ [])
+asked (AskCommand.Register r) = (codes "Register", documented (registration_json r) ∷ (codes "Enforce", number_or_null r.enforced) ∷ [])
+asked (AskCommand.ReadJob id) = (codes "ReadJob", with_id id ∷ [])
+asked (AskCommand.Deregister id purge) = (codes "Deregister", with_id id ∷ (codes "Purge", boolean purge) ∷ [])
+asked (AskCommand.JobAllocations id) = (codes "JobAllocations", with_id id ∷ [])
+asked (AskCommand.JobEvaluations id) = (codes "JobEvaluations", with_id id ∷ [])
+asked (AskCommand.ListEvaluations prefix) = (codes "ListEvaluations", with_prefix prefix ∷ [])
+asked (AskCommand.ReadEvaluation n) = (codes "ReadEvaluation", numbered n ∷ [])
+asked (AskCommand.ListAllocations prefix) = (codes "ListAllocations", with_prefix prefix ∷ [])
+asked (AskCommand.ReadAllocation n) = (codes "ReadAllocation", numbered n ∷ [])
+asked (AskCommand.StopAllocation n) = (codes "StopAllocation", numbered n ∷ [])
+asked AskCommand.ReadNamespace = (codes "ReadNamespace", [])
+asked (AskCommand.QuotaUsage quota) = (codes "QuotaUsage", named quota ∷ [])
+asked (AskCommand.Events index) = (codes "Events", (codes "From", number_of index) ∷ [])
 
 unfoldable pub administered : AdminCommand → Call
-administered admins.ListNamespaces = (codes "ListNamespaces", [])
-administered (admins.PutNamespace name n) = (codes "PutNamespace", documented (namespace_json (record { name = name; row = n })) ∷ [])
-administered (admins.DeleteNamespace name) = (codes "DeleteNamespace", named name ∷ [])
-administered admins.ListQuotas = (codes "ListQuotas", [])
-administered (admins.ReadQuota name) = (codes "ReadQuota", named name ∷ [])
-administered (admins.PutQuota name q) = (codes "PutQuota", documented (quota_json (record { name = name; row = q })) ∷ [])
-administered (admins.DeleteQuota name) = (codes "DeleteQuota", named name ∷ [])
-administered admins.ListPools = (codes "ListPools", [])
-administered (admins.PutPool name p) = (codes "PutPool", documented (pool_json (record { name = name; row = p })) ∷ [])
-administered (admins.DeletePool name) = (codes "DeletePool", named name ∷ [])
-administered (admins.ReadPolicy name) = (codes "ReadPolicy", named name ∷ [])
-administered (admins.PutPolicy name p) = (codes "PutPolicy", documented (policy_json (record { name = name; row = p })) ∷ [])
-administered (admins.DeletePolicy name) = (codes "DeletePolicy", named name ∷ [])
-administered (admins.CreateToken t) = (codes "CreateToken", documented (new_token_json t) ∷ [])
-administered (admins.DeleteToken accessor) = (codes "DeleteToken", (codes "AccessorID", string accessor) ∷ [])
+administered AdminCommand.ListNamespaces = (codes "ListNamespaces", [])
+administered (AdminCommand.PutNamespace name n) = (codes "PutNamespace", documented (namespace_json (record { name = name; row = n })) ∷ [])
+administered (AdminCommand.DeleteNamespace name) = (codes "DeleteNamespace", named name ∷ [])
+administered AdminCommand.ListQuotas = (codes "ListQuotas", [])
+administered (AdminCommand.ReadQuota name) = (codes "ReadQuota", named name ∷ [])
+administered (AdminCommand.PutQuota name q) = (codes "PutQuota", documented (quota_json (record { name = name; row = q })) ∷ [])
+administered (AdminCommand.DeleteQuota name) = (codes "DeleteQuota", named name ∷ [])
+administered AdminCommand.ListPools = (codes "ListPools", [])
+administered (AdminCommand.PutPool name p) = (codes "PutPool", documented (pool_json (record { name = name; row = p })) ∷ [])
+administered (AdminCommand.DeletePool name) = (codes "DeletePool", named name ∷ [])
+administered (AdminCommand.ReadPolicy name) = (codes "ReadPolicy", named name ∷ [])
+administered (AdminCommand.PutPolicy name p) = (codes "PutPolicy", documented (policy_json (record { name = name; row = p })) ∷ [])
+administered (AdminCommand.DeletePolicy name) = (codes "DeletePolicy", named name ∷ [])
+administered (AdminCommand.CreateToken t) = (codes "CreateToken", documented (new_token_json t) ∷ [])
+administered (AdminCommand.DeleteToken accessor) = (codes "DeleteToken", (codes "AccessorID", string accessor) ∷ [])
 
 unfoldable pub told : NodeCommand → Call
-told tells.ReadPool = (codes "ReadPool", [])
-told tells.ListNodes = (codes "ListNodes", [])
-told (tells.PutNode name offer) = (codes "PutNode", documented (offer_json offer) ∷ named name ∷ [])
-told (tells.DeleteNode name) = (codes "DeleteNode", named name ∷ [])
-told (tells.SetStatus name status) = (codes "SetStatus", named name ∷ (codes "Status", string (node_status_text status)) ∷ [])
-told (tells.SetEligible name eligible) = (codes "SetEligible", (codes "Eligibility", string (eligibility_text eligible)) ∷ named name ∷ [])
-told (tells.Report name r) = (codes "Report", report_members name r)
+told NodeCommand.ReadPool = (codes "ReadPool", [])
+told NodeCommand.ListNodes = (codes "ListNodes", [])
+told (NodeCommand.PutNode name offer) = (codes "PutNode", documented (offer_json offer) ∷ named name ∷ [])
+told (NodeCommand.DeleteNode name) = (codes "DeleteNode", named name ∷ [])
+told (NodeCommand.SetStatus name status) = (codes "SetStatus", named name ∷ (codes "Status", string (node_status_text status)) ∷ [])
+told (NodeCommand.SetEligible name eligible) = (codes "SetEligible", (codes "Eligibility", string (eligibility_text eligible)) ∷ named name ∷ [])
+told (NodeCommand.Report name r) = (codes "Report", report_members name r)
 
 -- ---- steps
 
@@ -130,15 +130,15 @@ abbrev pub work_members : Name → ℕ → Name → List (Name × Data)
 work_members word worker ns = kind word ∷ (codes "Ns", string ns) ∷ (codes "Worker", number_of worker) ∷ []
 
 unfoldable pub step_members : Step → List (Name × Data)
-step_members (steps.Ask ns secret command) = call_members (asked command) (kind (codes "Ask") ∷ (codes "Ns", string ns) ∷ with_secret secret ∷ [])
-step_members (steps.Admin secret command) = call_members (administered command) (kind (codes "Admin") ∷ with_secret secret ∷ [])
-step_members (steps.Node pool secret command) = call_members (told command) (kind (codes "Node") ∷ (codes "Pool", string pool) ∷ with_secret secret ∷ [])
-step_members (steps.Dequeue worker ns n) = (codes "Eval", number_of n) ∷ work_members (codes "Dequeue") worker ns
-step_members (steps.Snap worker ns) = work_members (codes "Snap") worker ns
-step_members (steps.Submit worker ns) = work_members (codes "Submit") worker ns
-step_members (steps.Apply worker ns) = work_members (codes "Apply") worker ns
-step_members (steps.Finish worker ns) = work_members (codes "Finish") worker ns
-step_members (steps.Nack worker ns) = work_members (codes "Nack") worker ns
+step_members (Step.Ask ns secret command) = call_members (asked command) (kind (codes "Ask") ∷ (codes "Ns", string ns) ∷ with_secret secret ∷ [])
+step_members (Step.Admin secret command) = call_members (administered command) (kind (codes "Admin") ∷ with_secret secret ∷ [])
+step_members (Step.Node pool secret command) = call_members (told command) (kind (codes "Node") ∷ (codes "Pool", string pool) ∷ with_secret secret ∷ [])
+step_members (Step.Dequeue worker ns n) = (codes "Eval", number_of n) ∷ work_members (codes "Dequeue") worker ns
+step_members (Step.Snap worker ns) = work_members (codes "Snap") worker ns
+step_members (Step.Submit worker ns) = work_members (codes "Submit") worker ns
+step_members (Step.Apply worker ns) = work_members (codes "Apply") worker ns
+step_members (Step.Finish worker ns) = work_members (codes "Finish") worker ns
+step_members (Step.Nack worker ns) = work_members (codes "Nack") worker ns
 
 unfoldable pub entry_json : Entry → Data
 entry_json e = object_of (

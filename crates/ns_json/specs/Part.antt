@@ -7,21 +7,21 @@ use Rattle.json.specs.Written.{Written}
 use Rattle.serde_json.specs.Data.{Data}
 use Rattle.serde_json.specs.Written.{outline}
 use Rattle.ns_types.specs.declared.reply.JobShown.{JobShown}
-use Rattle.ns_types.specs.Words.{job_status_text}
+use Rattle.ns_types.specs.Wire.Words.{job_status_text}
 use Rattle.ns_json.specs.declared.part.Part.{Part}
-use Rattle.ns_json.specs.declared.part.Part.TheVariants as parts
+use Rattle.ns_json.specs.declared.part.Part.TheVariants as Part
 
 abbrev pub token_of : Part → Token
-token_of parts.BeginObject = Token.begin_object
-token_of parts.EndObject = Token.end_object
-token_of parts.BeginArray = Token.begin_array
-token_of parts.EndArray = Token.end_array
-token_of (parts.Key s) = Token.key s.now
-token_of (parts.Text s) = Token.string s.now
-token_of (parts.Number n) = Token.number (decimal n)
-token_of (parts.Signed n) = Token.number (signed_decimal n)
-token_of (parts.Flag b) = Token.boolean b
-token_of parts.Null = Token.null
+token_of Part.BeginObject = Token.begin_object
+token_of Part.EndObject = Token.end_object
+token_of Part.BeginArray = Token.begin_array
+token_of Part.EndArray = Token.end_array
+token_of (Part.Key s) = Token.key s.now
+token_of (Part.Text s) = Token.string s.now
+token_of (Part.Number n) = Token.number (decimal n)
+token_of (Part.Signed n) = Token.number (signed_decimal n)
+token_of (Part.Flag b) = Token.boolean b
+token_of Part.Null = Token.null
 
 abbrev pub tokens_of : Data → List Token
 tokens_of d = json_tokens (outline d)

@@ -10,8 +10,8 @@ use Rattle.ns_types.specs.declared.refusal.Member.{Member}
 use Rattle.ns_types.specs.declared.refusal.Refusal.{Refusal}
 use Rattle.ns_types.specs.declared.refusal.Refusal.TheVariants.{BadJson, BadField, Memory}
 use Rattle.ns_types.specs.declared.name.NameKind.{NameKind}
-use Rattle.ns_types.specs.Name.{is_name}
-use Rattle.ns_types.specs.Member.{member_name}
+use Rattle.ns_types.specs.State.Name.{is_name}
+use Rattle.ns_types.specs.Wire.Member.{member_name}
 
 abbrev pub Read : Type 0 → Type 0
 Read A = Result A Refusal

@@ -4,10 +4,10 @@ use Rattle.std.specs.List.{starts_with, ends_with}
 use Rattle.std.specs.Str.{bytes_eq}
 use Rattle.serde_json.specs.Data.{Data}
 use Rattle.ns_types.specs.declared.refusal.Member.{Member}
-use Rattle.ns_types.specs.declared.refusal.Member.TheVariants as members
+use Rattle.ns_types.specs.declared.refusal.Member.TheVariants as Member
 use Rattle.ns_types.specs.declared.refusal.Refusal.TheVariants.{BadField}
 use Rattle.ns_types.specs.declared.name.NameKind.{NameKind}
-use Rattle.ns_types.specs.declared.name.NameKind.TheVariants as kinds
+use Rattle.ns_types.specs.declared.name.NameKind.TheVariants as NameKind
 use Rattle.ns_types.specs.declared.job.JobKind.{JobKind}
 use Rattle.ns_types.specs.declared.job.JobKind.TheVariants.{Service, Batch}
 use Rattle.ns_types.specs.declared.job.Operand.{Operand}
@@ -32,9 +32,9 @@ max_index = 2 ^ 64 - 1
 
 unfoldable pub resources_in : Data → Read Resources
 resources_in d = do
-  r ← an_object members.Resources d
-  cpu ← or_else 100 (a_number members.Cpu 1 max_quantity) (present members.Cpu r)
-  memory ← or_else 300 (a_number members.MemoryMb 1 max_quantity) (present members.MemoryMb r)
+  r ← an_object Member.Resources d
+  cpu ← or_else 100 (a_number Member.Cpu 1 max_quantity) (present Member.Cpu r)
+  memory ← or_else 300 (a_number Member.MemoryMb 1 max_quantity) (present Member.MemoryMb r)
   Ok (record { cpu = cpu; memory = memory })
 
 abbrev pub default_resources : Resources
@@ -42,33 +42,33 @@ default_resources = record { cpu = 100; memory = 300 }
 
 -- no constraints stand on groups and tasks
 unfoldable pub no_constraints : Data → Read (Unit {0})
-no_constraints d = or_else tt (λ c. a_list members.Constraints 0 0 c >>= λ ds. Ok tt) (present members.Constraints d)
+no_constraints d = or_else tt (λ c. a_list Member.Constraints 0 0 c >>= λ ds. Ok tt) (present Member.Constraints d)
 
 -- a task, after those of its group that stand before it
 unfoldable pub task_in : List Task → Data → Read Task
 task_in before d = do
-  t ← an_object members.Tasks d
-  name ← demanded members.Name t
-  name ← a_name members.Name kinds.Task name
-  name ← unless (has_name (λ x. x.name) before name) members.Name name
+  t ← an_object Member.Tasks d
+  name ← demanded Member.Name t
+  name ← a_name Member.Name NameKind.Task name
+  name ← unless (has_name (λ x. x.name) before name) Member.Name name
   none ← no_constraints t
-  resources ← or_else default_resources resources_in (present members.Resources t)
+  resources ← or_else default_resources resources_in (present Member.Resources t)
   Ok (record { name = name; resources = resources })
 
 unfoldable pub tasks_in : Data → Read (List Task)
 tasks_in d = do
-  ds ← a_list members.Tasks 1 16 d
+  ds ← a_list Member.Tasks 1 16 d
   each task_in [] ds
 
 unfoldable pub group_in : List Group → Data → Read Group
 group_in before d = do
-  g ← an_object members.TaskGroups d
-  name ← demanded members.Name g
-  name ← a_name members.Name kinds.Group name
-  name ← unless (has_name (λ x. x.name) before name) members.Name name
-  count ← or_else 1 (a_number members.Count 0 1000) (present members.Count g)
+  g ← an_object Member.TaskGroups d
+  name ← demanded Member.Name g
+  name ← a_name Member.Name NameKind.Group name
+  name ← unless (has_name (λ x. x.name) before name) Member.Name name
+  count ← or_else 1 (a_number Member.Count 0 1000) (present Member.Count g)
   none ← no_constraints g
-  tasks ← demanded members.Tasks g
+  tasks ← demanded Member.Tasks g
   tasks ← tasks_in tasks
   Ok (record { name = name; count = count; tasks = tasks })
 
@@ -96,15 +96,15 @@ operand_of s = if bytes_eq s (codes "=") then Some Equal else if bytes_eq s (cod
 
 unfoldable pub constraint_in : Data → Read Constraint
 constraint_in d = do
-  c ← an_object members.Constraints d
-  target ← demanded members.LeftTarget c
-  target ← a_text members.LeftTarget target
-  target ← or_refuse members.LeftTarget (target_of target)
-  value ← demanded members.RightTarget c
-  value ← a_text members.RightTarget value
-  operand ← demanded members.Operand c
-  operand ← a_text members.Operand operand
-  operand ← or_refuse members.Operand (operand_of operand)
+  c ← an_object Member.Constraints d
+  target ← demanded Member.LeftTarget c
+  target ← a_text Member.LeftTarget target
+  target ← or_refuse Member.LeftTarget (target_of target)
+  value ← demanded Member.RightTarget c
+  value ← a_text Member.RightTarget value
+  operand ← demanded Member.Operand c
+  operand ← a_text Member.Operand operand
+  operand ← or_refuse Member.Operand (operand_of operand)
   Ok (record { target = target; operand = operand; value = value })
 
 -- ---- the job
@@ -114,8 +114,8 @@ kind_of s = if bytes_eq s (codes "service") then Some Service else if bytes_eq s
 
 unfoldable pub kind_in : Data → Read JobKind
 kind_in d = do
-  s ← a_text members.Type d
-  or_refuse members.Type (kind_of s)
+  s ← a_text Member.Type d
+  or_refuse Member.Type (kind_of s)
 
 -- an empty name counts as absent
 unfoldable pub name_if_any : Member → NameKind → Data → Read (Option (List ℕ))
@@ -126,10 +126,10 @@ name_if_any m kind d = do
 -- the pool that a job names; none is called `all`
 abbrev pub not_all : Option (List ℕ) → Read (Option (List ℕ))
 not_all None = Ok None
-not_all (Some s) = if bytes_eq s (codes "all") then Err (BadField members.NodePool) else Ok (Some s)
+not_all (Some s) = if bytes_eq s (codes "all") then Err (BadField Member.NodePool) else Ok (Some s)
 
 unfoldable pub pool_in : Data → Read (Option (List ℕ))
-pool_in d = name_if_any members.NodePool kinds.Pool d >>= not_all
+pool_in d = name_if_any Member.NodePool NameKind.Pool d >>= not_all
 
 abbrev pub absent : Member → Option Data → Read (Unit {0})
 absent m None = Ok tt
@@ -140,28 +140,28 @@ constraint_after before d = constraint_in d
 
 unfoldable pub constraints_in : Data → Read (List Constraint)
 constraints_in d = do
-  ds ← a_list members.Constraints 0 16 d
+  ds ← a_list Member.Constraints 0 16 d
   each constraint_after [] ds
 
 unfoldable pub groups_in : Data → Read (List Group)
 groups_in d = do
-  ds ← a_list members.TaskGroups 1 16 d
+  ds ← a_list Member.TaskGroups 1 16 d
   each group_in [] ds
 
 -- what the job says, where no index is demanded
 unfoldable pub job_in : Data → Read RegistrationDocument
 job_in d = do
-  j ← an_object members.Job d
-  id ← demanded members.Id j
-  id ← a_name members.Id kinds.Job id
-  namespace ← or_else None (name_if_any members.Namespace kinds.Namespace) (present members.Namespace j)
-  kind ← or_else Service kind_in (present members.Type j)
-  priority ← or_else 50 (a_number members.Priority 1 100) (present members.Priority j)
-  pool ← or_else None pool_in (present members.NodePool j)
-  constraints ← or_else [] constraints_in (present members.Constraints j)
-  periodic ← absent members.Periodic (present members.Periodic j)
-  parameterized ← absent members.ParameterizedJob (present members.ParameterizedJob j)
-  groups ← demanded members.TaskGroups j
+  j ← an_object Member.Job d
+  id ← demanded Member.Id j
+  id ← a_name Member.Id NameKind.Job id
+  namespace ← or_else None (name_if_any Member.Namespace NameKind.Namespace) (present Member.Namespace j)
+  kind ← or_else Service kind_in (present Member.Type j)
+  priority ← or_else 50 (a_number Member.Priority 1 100) (present Member.Priority j)
+  pool ← or_else None pool_in (present Member.NodePool j)
+  constraints ← or_else [] constraints_in (present Member.Constraints j)
+  periodic ← absent Member.Periodic (present Member.Periodic j)
+  parameterized ← absent Member.ParameterizedJob (present Member.ParameterizedJob j)
+  groups ← demanded Member.TaskGroups j
   groups ← groups_in groups
   Ok (record {
     namespace = namespace;
@@ -179,8 +179,8 @@ demanding index r = record r { enforced = index }
 unfoldable pub registration_in : Data → Read RegistrationDocument
 registration_in d = do
   top ← top d
-  job ← demanded members.Job top
+  job ← demanded Member.Job top
   job ← job_in job
-  enforce ← or_else false (a_flag members.EnforceIndex) (present members.EnforceIndex top)
-  index ← or_else 0 (a_number members.JobModifyIndex 0 max_index) (present members.JobModifyIndex top)
+  enforce ← or_else false (a_flag Member.EnforceIndex) (present Member.EnforceIndex top)
+  index ← or_else 0 (a_number Member.JobModifyIndex 0 max_index) (present Member.JobModifyIndex top)
   Ok (record { namespace = job.namespace; registration = demanding (enforced enforce index) job.registration })

@@ -1,15 +1,15 @@
 -- Which replies are rendered.
 use Rattle.std.specs.Prelude.{ℕ}
 use Rattle.ns_types.specs.declared.reply.Content.{Content}
-use Rattle.ns_types.specs.declared.reply.Content.TheVariants as contents
+use Rattle.ns_types.specs.declared.reply.Content.TheVariants as Content
 
 abbrev pub IsRegistered : Content → Type 0
-IsRegistered (contents.Registered evaluation index job_index) = Unit {0}
+IsRegistered (Content.Registered evaluation index job_index) = Unit {0}
 IsRegistered _ = ⊥
 
 abbrev pub IsRendered : Content → Type 0
-IsRendered (contents.Registered evaluation index job_index) = Unit {0}
-IsRendered (contents.Job job) = Unit {0}
+IsRendered (Content.Registered evaluation index job_index) = Unit {0}
+IsRendered (Content.Job job) = Unit {0}
 IsRendered _ = ⊥
 
 -- the bytes of the longest body that answers a registration

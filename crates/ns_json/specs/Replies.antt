@@ -4,40 +4,40 @@ use Rattle.serde_json.specs.Data.{Data, string}
 use Rattle.serde_json.specs.Written.{compact_text}
 use Rattle.ns_types.specs.declared.event.Event.{Event}
 use Rattle.ns_types.specs.declared.event.Topic.{Topic}
-use Rattle.ns_types.specs.declared.event.Topic.TheVariants as topics
+use Rattle.ns_types.specs.declared.event.Topic.TheVariants as Topic
 use Rattle.ns_types.specs.declared.evaluation.Status.{Status}
-use Rattle.ns_types.specs.declared.id.IdKind.TheVariants as ids
+use Rattle.ns_types.specs.declared.id.IdKind.TheVariants as IdKind
 use Rattle.ns_types.specs.declared.reply.Content.{Content}
-use Rattle.ns_types.specs.declared.reply.Content.TheVariants as contents
+use Rattle.ns_types.specs.declared.reply.Content.TheVariants as Content
 use Rattle.ns_types.specs.declared.reply.Rendered.{Rendered}
 use Rattle.ns_types.specs.declared.step.Step.{Step}
-use Rattle.ns_types.specs.Id.{id_text}
-use Rattle.ns_types.specs.Refused.{refused}
-use Rattle.ns_types.specs.Names.{Name}
+use Rattle.ns_types.specs.State.Id.{id_text}
+use Rattle.ns_types.specs.Wire.Refused.{refused}
+use Rattle.ns_types.specs.State.Names.{Name}
 use Rattle.ns_json.specs.Rendering.{number_of, object_of, list_of, texts_of, id_or_empty, registered_json, stopped_json, job_json, listed_job_json, evaluation_json, allocation_json, namespace_json, quota_json, usage_json, pool_json, node_json, policy_json, token_json}
-use Rattle.ns_types.specs.Rows.{State}
+use Rattle.ns_types.specs.State.Rows.{State}
 use Rattle.ns_types.specs.Steps.{Answer, Run}
-use Rattle.ns_types.specs.Words.{status_text}
+use Rattle.ns_types.specs.Wire.Words.{status_text}
 
 -- ---- events
 
 abbrev pub topic_word : Topic → Name
-topic_word (topics.JobRegistered id) = codes "Job"
-topic_word (topics.JobDeregistered id) = codes "Job"
-topic_word (topics.EvaluationUpdated n) = codes "Evaluation"
-topic_word (topics.AllocationUpdated n) = codes "Allocation"
+topic_word (Topic.JobRegistered id) = codes "Job"
+topic_word (Topic.JobDeregistered id) = codes "Job"
+topic_word (Topic.EvaluationUpdated n) = codes "Evaluation"
+topic_word (Topic.AllocationUpdated n) = codes "Allocation"
 
 abbrev pub type_word : Topic → Name
-type_word (topics.JobRegistered id) = codes "JobRegistered"
-type_word (topics.JobDeregistered id) = codes "JobDeregistered"
-type_word (topics.EvaluationUpdated n) = codes "EvaluationUpdated"
-type_word (topics.AllocationUpdated n) = codes "AllocationUpdated"
+type_word (Topic.JobRegistered id) = codes "JobRegistered"
+type_word (Topic.JobDeregistered id) = codes "JobDeregistered"
+type_word (Topic.EvaluationUpdated n) = codes "EvaluationUpdated"
+type_word (Topic.AllocationUpdated n) = codes "AllocationUpdated"
 
 abbrev pub key_text : Topic → Name
-key_text (topics.JobRegistered id) = id
-key_text (topics.JobDeregistered id) = id
-key_text (topics.EvaluationUpdated n) = id_text ids.Evaluation n
-key_text (topics.AllocationUpdated n) = id_text ids.Allocation n
+key_text (Topic.JobRegistered id) = id
+key_text (Topic.JobDeregistered id) = id
+key_text (Topic.EvaluationUpdated n) = id_text IdKind.Evaluation n
+key_text (Topic.AllocationUpdated n) = id_text IdKind.Allocation n
 
 unfoldable pub event_json : Name → Event → Data
 event_json ns e = object_of (
@@ -53,10 +53,10 @@ event_line ns e = compact_text (object_of ((codes "Events", list_of (event_json 
 -- ---- what workers' steps say
 
 abbrev pub one_id : Name → ℕ → Data
-one_id name n = object_of ((name, string (id_text ids.Evaluation n)) ∷ [])
+one_id name n = object_of ((name, string (id_text IdKind.Evaluation n)) ∷ [])
 
 abbrev pub applied_json : List ℕ → List Name → Data
-applied_json made dropped = object_of ((codes "Committed", list_of (λ n. string (id_text ids.Allocation n)) made) ∷ (codes "Dropped", texts_of dropped) ∷ [])
+applied_json made dropped = object_of ((codes "Committed", list_of (λ n. string (id_text IdKind.Allocation n)) made) ∷ (codes "Dropped", texts_of dropped) ∷ [])
 
 abbrev pub finished_json : Status → Option ℕ → Data
 finished_json status follower = object_of ((codes "Follower", id_or_empty follower) ∷ (codes "Status", string (status_text status)) ∷ [])
@@ -64,32 +64,32 @@ finished_json status follower = object_of ((codes "Follower", id_or_empty follow
 -- ---- bodies
 
 unfoldable pub body_of : Content → Name
-body_of (contents.Registered evaluation index job_index) = compact_text (registered_json evaluation index job_index)
-body_of (contents.Stopped evaluation index) = compact_text (stopped_json evaluation index)
-body_of (contents.Job job) = compact_text (job_json job)
-body_of (contents.Jobs jobs) = compact_text (list_of listed_job_json jobs)
-body_of (contents.Evaluation e) = compact_text (evaluation_json e)
-body_of (contents.Evaluations es) = compact_text (list_of evaluation_json es)
-body_of (contents.Allocation a) = compact_text (allocation_json a)
-body_of (contents.Allocations as_) = compact_text (list_of allocation_json as_)
-body_of (contents.Namespace n) = compact_text (namespace_json n)
-body_of (contents.Namespaces ns) = compact_text (list_of namespace_json ns)
-body_of (contents.Quota q) = compact_text (quota_json q)
-body_of (contents.Quotas qs) = compact_text (list_of quota_json qs)
-body_of (contents.Usage name used) = compact_text (usage_json name used)
-body_of (contents.Pool p) = compact_text (pool_json p)
-body_of (contents.Pools ps) = compact_text (list_of pool_json ps)
-body_of (contents.Nodes ns) = compact_text (list_of node_json ns)
-body_of (contents.Policy p) = compact_text (policy_json p)
-body_of (contents.Token t) = compact_text (token_json t)
-body_of (contents.Events ns es) = flat_map (event_line ns) es
-body_of contents.Written = codes "{}"
-body_of (contents.Took n) = compact_text (one_id (codes "Took") n)
-body_of (contents.Snapped n) = compact_text (one_id (codes "Snapped") n)
-body_of (contents.Queued n) = compact_text (one_id (codes "Queued") n)
-body_of (contents.Applied made dropped) = compact_text (applied_json made dropped)
-body_of (contents.Finished status follower) = compact_text (finished_json status follower)
-body_of (contents.Nacked status) = compact_text (object_of ((codes "Status", string (status_text status)) ∷ []))
+body_of (Content.Registered evaluation index job_index) = compact_text (registered_json evaluation index job_index)
+body_of (Content.Stopped evaluation index) = compact_text (stopped_json evaluation index)
+body_of (Content.Job job) = compact_text (job_json job)
+body_of (Content.Jobs jobs) = compact_text (list_of listed_job_json jobs)
+body_of (Content.Evaluation e) = compact_text (evaluation_json e)
+body_of (Content.Evaluations es) = compact_text (list_of evaluation_json es)
+body_of (Content.Allocation a) = compact_text (allocation_json a)
+body_of (Content.Allocations as_) = compact_text (list_of allocation_json as_)
+body_of (Content.Namespace n) = compact_text (namespace_json n)
+body_of (Content.Namespaces ns) = compact_text (list_of namespace_json ns)
+body_of (Content.Quota q) = compact_text (quota_json q)
+body_of (Content.Quotas qs) = compact_text (list_of quota_json qs)
+body_of (Content.Usage name used) = compact_text (usage_json name used)
+body_of (Content.Pool p) = compact_text (pool_json p)
+body_of (Content.Pools ps) = compact_text (list_of pool_json ps)
+body_of (Content.Nodes ns) = compact_text (list_of node_json ns)
+body_of (Content.Policy p) = compact_text (policy_json p)
+body_of (Content.Token t) = compact_text (token_json t)
+body_of (Content.Events ns es) = flat_map (event_line ns) es
+body_of Content.Written = codes "{}"
+body_of (Content.Took n) = compact_text (one_id (codes "Took") n)
+body_of (Content.Snapped n) = compact_text (one_id (codes "Snapped") n)
+body_of (Content.Queued n) = compact_text (one_id (codes "Queued") n)
+body_of (Content.Applied made dropped) = compact_text (applied_json made dropped)
+body_of (Content.Finished status follower) = compact_text (finished_json status follower)
+body_of (Content.Nacked status) = compact_text (object_of ((codes "Status", string (status_text status)) ∷ []))
 
 -- ---- answers
 

@@ -4,7 +4,7 @@ ghost use Rattle.std.specs.Prelude.{◌≡◌, IfOk, OnOk, string_bytes, ◌∷�
 ghost use Rattle.std.specs.List.{flat_map};
 ghost use Rattle.json.specs.Token.{string};
 ghost use Rattle.serde_json.specs.Written.{compact_text};
-ghost use Rattle.ns_types.specs.Words.{target_text as text_of_target, operand_text as text_of_operand, kind_text as text_of_kind, job_status_text as text_of_status};
+ghost use Rattle.ns_types.specs.Wire.Words.{target_text as text_of_target, operand_text as text_of_operand, kind_text as text_of_kind, job_status_text as text_of_status};
 ghost use Rattle.ns_json.specs.Part.{Adds, Follows, tokens_of, member_tokens};
 ghost use Rattle.ns_json.specs.Rendering.{constraint_json, task_json, group_json, job_json};
 

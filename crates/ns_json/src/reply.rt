@@ -2,7 +2,7 @@
 
 ghost use Rattle.std.specs.Prelude.{◌≡◌, ◌≤◌, IfOk, Ok, string_bytes, vec_capacity, length, []};
 ghost use Rattle.serde_json.specs.Written.{compact_text};
-ghost use Rattle.ns_types.specs.Wire.{rendered_of};
+ghost use Rattle.ns_types.specs.Wire.Responses.{rendered_of};
 ghost use Rattle.ns_json.specs.Part.{Adds, tokens_of};
 ghost use Rattle.ns_json.specs.Rendered.{IsRegistered, IsRendered, longest_registered};
 ghost use Rattle.ns_json.specs.Rendering.{registered_json};

@@ -7,8 +7,8 @@ use Rattle.std.proofs.Common.{get_or, ltb, ◌⊎◌, inl, inr}
 use Rattle.std.proofs.lemmas.Bool.{ltb-false}
 use Rattle.std.proofs.lemmas.List.Quantifiers.{position-Some}
 use Rattle.std.proofs.lemmas.Option.{slice_get-get_or, none-some, same_Some}
-use Rattle.ns_types.specs.Choice.{is_unbeaten, best, shortest_prefix}
-use Rattle.ns_types.specs.Lists.{Each}
+use Rattle.ns_types.specs.Placing.Choice.{is_unbeaten, best, shortest_prefix}
+use Rattle.ns_types.specs.State.Lists.{Each}
 use Rattle.ns_types.proofs.Lists.{not_both, each_map}
 use Rattle.ns_types.proofs.Named.{first_of_both, second_of_both}
 use Rattle.ns_laws.proofs.Elements.{each_from_all, all_from_each}

@@ -5,8 +5,8 @@ use Rattle.std.specs.List.{AllPairs, flat_map, range_with_len}
 use Rattle.std.proofs.lemmas.Bool.{eqb-true, eq-eqb, ne_eqb, cases_order}
 use Rattle.std.proofs.lemmas.List.{append-nil}
 use Rattle.std.proofs.lemmas.List.Kept.{AllPairs-cons}
-use Rattle.ns_types.specs.Lists.{Each}
-use Rattle.ns_types.specs.Preemption.{evictable}
+use Rattle.ns_types.specs.State.Lists.{Each}
+use Rattle.ns_types.specs.Placing.Preemption.{evictable}
 use Rattle.ns_types.proofs.Lists.{each_map, filter-append, filter_none, filter_all}
 use Rattle.ns_laws.specs.Placement.{EvictableAreLower, EvictableInOrder, EvictableAreAll}
 use Rattle.ns_laws.proofs.Elements.{each_join, each_kept, each_true, all_from}

@@ -9,9 +9,9 @@ use Rattle.std.proofs.lemmas.Cmp.{ranked}
 use Rattle.std.proofs.lemmas.Option.{none-some, same_Some}
 use Rattle.ns_types.specs.declared.allocation.Allocation.{Allocation}
 use Rattle.ns_types.specs.declared.evaluation.Evaluation.{Evaluation}
-use Rattle.ns_types.specs.Lists.{Each}
-use Rattle.ns_types.specs.Names.{Name, ByNumber, name_cmp, same_name}
-use Rattle.ns_types.specs.Rows.{Tenant, is_pending, is_live_on}
+use Rattle.ns_types.specs.State.Lists.{Each}
+use Rattle.ns_types.specs.State.Names.{Name, ByNumber, name_cmp, same_name}
+use Rattle.ns_types.specs.State.Rows.{Tenant, is_pending, is_live_on}
 use Rattle.ns_types.proofs.Lists.{not_both, each_map}
 use Rattle.ns_types.proofs.Named.{names, one_name, one_number, same_name_is, same_name_refl, first_of_both, second_of_both, numbers}
 use Rattle.ns_types.proofs.Tables.{each_row, tied}

@@ -10,21 +10,21 @@ use Rattle.std.proofs.lemmas.List.MinMax.{ranks_by}
 use Rattle.std.proofs.lemmas.Option.{none-some, same_Some}
 use Rattle.ns_types.specs.declared.resources.Resources.{Resources}
 use Rattle.ns_types.specs.declared.snapshot.LiveAllocation.{LiveAllocation}
-use Rattle.ns_types.specs.Choice.{shortest_prefix}
-use Rattle.ns_types.specs.Names.{name_cmp}
-use Rattle.ns_types.specs.Placement.{Candidate, fits, better, best_fit}
-use Rattle.ns_types.specs.Preemption.{makes_room, victims, highest_priority, cheaper, best_victims}
+use Rattle.ns_types.specs.Placing.Choice.{shortest_prefix}
+use Rattle.ns_types.specs.State.Names.{name_cmp}
+use Rattle.ns_types.specs.Placing.Placement.{Candidate, fits, better, best_fit}
+use Rattle.ns_types.specs.Placing.Preemption.{makes_room, victims, highest_priority, cheaper, best_victims}
 use Rattle.ns_types.proofs.Lists.{not_both, each_map}
 use Rattle.ns_types.proofs.Named.{first_of_both, second_of_both}
 use Rattle.ns_laws.specs.Placement.{HasLessLeft, less_cpu, less_memory, less_name, IsBestNode, ChosenIsBest, NoneChosenOfNone}
 use Rattle.ns_laws.specs.Placement as law
 use Rattle.ns_laws.proofs.ChoiceLemmas.{best_is, best_of_none, shortest_is, shortest_none, is_shortest}
 use Rattle.std.specs.Option.{option_map_or, option_and_then}
-use Rattle.ns_types.specs.Planning.{Choice}
+use Rattle.ns_types.specs.Placing.Planning.{Choice}
 use Rattle.ns_laws.proofs.Elements.{each_both}
-use Rattle.ns_types.specs.Lists.{Each}
+use Rattle.ns_types.specs.State.Lists.{Each}
 use Rattle.std.specs.List.{list_any}
-use Rattle.ns_types.specs.Resources.{is_within}
+use Rattle.ns_types.specs.State.Resources.{is_within}
 
 -- ---- orders
 

@@ -7,11 +7,11 @@ use Rattle.std.specs.Option.{option_map_or, option_and_then}
 use Rattle.std.specs.Ordering.{nat_cmp}
 use Rattle.std.proofs.lemmas.Bool.{leb-true, leb-false, le-leb, lt-leb}
 use Rattle.ns_types.specs.declared.evaluation.Evaluation.{Evaluation}
-use Rattle.ns_types.specs.Lists.{Each}
-use Rattle.ns_types.specs.Names.{Key, has_key, same_key, same_name, same_number}
-use Rattle.ns_types.specs.Queue.{first_of_greatest, priority_at}
-use Rattle.ns_types.specs.Releases.{woken, wakes}
-use Rattle.ns_types.specs.Rows.{World, Tenant, evaluation_at}
+use Rattle.ns_types.specs.State.Lists.{Each}
+use Rattle.ns_types.specs.State.Names.{Key, has_key, same_key, same_name, same_number}
+use Rattle.ns_types.specs.Working.Queue.{first_of_greatest, priority_at}
+use Rattle.ns_types.specs.Settling.Releases.{woken, wakes}
+use Rattle.ns_types.specs.State.Rows.{World, Tenant, evaluation_at}
 use Rattle.ns_types.specs.Validity.{IsSound}
 use Rattle.ns_types.proofs.Lists.{not_both, each_map}
 use Rattle.ns_types.proofs.Named.{one_number, same_name_is, same_name_refl, same_number_refl, first_of_both, second_of_both}

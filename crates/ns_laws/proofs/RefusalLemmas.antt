@@ -5,28 +5,28 @@ use Rattle.std.specs.FinMap.{get}
 use Rattle.std.specs.Option.{option_map_or}
 use Rattle.ns_types.specs.declared.evaluation.Evaluation.{Evaluation}
 use Rattle.ns_types.specs.declared.refusal.Refusal.{Refusal}
-use Rattle.ns_types.specs.declared.refusal.Refusal.TheVariants as refusals
+use Rattle.ns_types.specs.declared.refusal.Refusal.TheVariants as Refusal
 use Rattle.ns_types.specs.declared.step.AdminCommand.{AdminCommand}
-use Rattle.ns_types.specs.declared.step.AdminCommand.TheVariants as admins
+use Rattle.ns_types.specs.declared.step.AdminCommand.TheVariants as AdminCommand
 use Rattle.ns_types.specs.declared.step.AskCommand.{AskCommand}
-use Rattle.ns_types.specs.declared.step.AskCommand.TheVariants as asks
+use Rattle.ns_types.specs.declared.step.AskCommand.TheVariants as AskCommand
 use Rattle.ns_types.specs.declared.step.NodeCommand.{NodeCommand}
-use Rattle.ns_types.specs.declared.step.NodeCommand.TheVariants as tells
+use Rattle.ns_types.specs.declared.step.NodeCommand.TheVariants as NodeCommand
 use Rattle.ns_types.specs.declared.step.Step.{Step}
-use Rattle.ns_types.specs.declared.step.Step.TheVariants as steps
+use Rattle.ns_types.specs.declared.step.Step.TheVariants as Step
 use Rattle.ns_types.specs.declared.worker.Worker.{Worker}
-use Rattle.ns_types.specs.Access.{administer, with_acl, with_world, secret_of}
-use Rattle.ns_types.specs.Admins.{put_namespace, delete_namespace, put_quota, delete_quota, put_pool_record, delete_pool}
-use Rattle.ns_types.specs.Asks.{ask, asked_in}
-use Rattle.ns_types.specs.Commit.{apply, apply_for}
-use Rattle.ns_types.specs.Names.{Name, Key}
-use Rattle.ns_types.specs.Nodes.{tell, told_in, same_client}
-use Rattle.ns_types.specs.Outcome.{Outcome, NotEnabled, Refused, Done, unless, found, lift}
-use Rattle.ns_types.specs.Queue.{is_served}
-use Rattle.ns_types.specs.Rows.{State, World, Tenant, PoolRows, allocation_at}
+use Rattle.ns_types.specs.Asking.Policies.{administer, with_acl, with_world, secret_of}
+use Rattle.ns_types.specs.Asking.Admins.{put_namespace, delete_namespace, put_quota, delete_quota, put_pool_record, delete_pool}
+use Rattle.ns_types.specs.Asking.Asks.{ask, asked_in}
+use Rattle.ns_types.specs.Working.Commit.{apply, apply_for}
+use Rattle.ns_types.specs.State.Names.{Name, Key}
+use Rattle.ns_types.specs.Asking.Nodes.{tell, told_in, same_client}
+use Rattle.ns_types.specs.Settling.Outcome.{Outcome, NotEnabled, Refused, Done, unless, found, lift}
+use Rattle.ns_types.specs.Working.Queue.{is_served}
+use Rattle.ns_types.specs.State.Rows.{State, World, Tenant, PoolRows, allocation_at}
 use Rattle.ns_types.specs.Steps.{Answer, after, act, said, concluded, is_allowed, is_over, settled, reply_of}
-use Rattle.ns_types.specs.Sums.{names_quota}
-use Rattle.ns_types.specs.Work.{at_work, workers_end, is_idle, dequeue, dequeue_in, may_snap, snap, snap_for, may_submit, submit, submit_for, may_finish, needs_follower, finish, finish_for, is_submitted, most_nacks, nack, nack_for}
+use Rattle.ns_types.specs.State.Sums.{names_quota}
+use Rattle.ns_types.specs.Working.Work.{at_work, workers_end, is_idle, dequeue, dequeue_in, may_snap, snap, snap_for, may_submit, submit, submit_for, may_finish, needs_follower, finish, finish_for, is_submitted, most_nacks, nack, nack_for}
 use Rattle.ns_types.proofs.Lists.{not_both}
 use Rattle.ns_laws.specs.Refusals as law
 use Rattle.ns_laws.proofs.RightsLemmas.{denied_without}
@@ -63,12 +63,12 @@ module _ (passes : Refusal → Bool) where
 -- ---- what is asked, told and administered
 
 abbrev later : Refusal → Bool
-later refusals.NotFound = true
-later refusals.PoolNotPermitted = true
-later (refusals.BadField member) = true
-later refusals.Conflict = true
-later refusals.InUse = true
-later refusals.Full = true
+later Refusal.NotFound = true
+later Refusal.PoolNotPermitted = true
+later (Refusal.BadField member) = true
+later Refusal.Conflict = true
+later Refusal.InUse = true
+later Refusal.Full = true
 later _ = false
 
 by_found : {S A : Type 0} (o : Option A) (go : A → Outcome S) → ((a : A) → only later (go a) ≡ true) → only later (found o go) ≡ true
@@ -76,52 +76,52 @@ by_found None go f = refl
 by_found (Some a) go f = f a
 
 asked : (ns : Name) (command : AskCommand) (w : World) (t : Tenant) → only later (asked_in ns command w t) ≡ true
-asked ns (asks.ListJobs prefix) w t = refl
-asked ns (asks.Register r) w t = by_unless later _ _ _ refl (by_unless later _ _ _ refl (by_unless later _ _ _ refl (by_unless later _ _ _ refl refl)))
-asked ns (asks.ReadJob id) w t = by_found (get t.jobs id) _ (λ job. refl)
-asked ns (asks.Deregister id purge) w t = by_found (get t.jobs id) _ (λ job. refl)
-asked ns (asks.JobAllocations id) w t = refl
-asked ns (asks.JobEvaluations id) w t = refl
-asked ns (asks.ListEvaluations prefix) w t = refl
-asked ns (asks.ReadEvaluation n) w t = by_found (get t.evaluations n) _ (λ e. refl)
-asked ns (asks.ListAllocations prefix) w t = refl
-asked ns (asks.ReadAllocation n) w t = by_found (get t.allocations n) _ (λ a. refl)
-asked ns (asks.StopAllocation n) w t = by_found (get t.allocations n) _ (λ a. by_unless later _ _ _ refl refl)
-asked ns asks.ReadNamespace w t = refl
-asked ns (asks.QuotaUsage quota) w t = by_if later (names_quota quota t.namespace) _ _ refl refl
-asked ns (asks.Events index) w t = refl
+asked ns (AskCommand.ListJobs prefix) w t = refl
+asked ns (AskCommand.Register r) w t = by_unless later _ _ _ refl (by_unless later _ _ _ refl (by_unless later _ _ _ refl (by_unless later _ _ _ refl refl)))
+asked ns (AskCommand.ReadJob id) w t = by_found (get t.jobs id) _ (λ job. refl)
+asked ns (AskCommand.Deregister id purge) w t = by_found (get t.jobs id) _ (λ job. refl)
+asked ns (AskCommand.JobAllocations id) w t = refl
+asked ns (AskCommand.JobEvaluations id) w t = refl
+asked ns (AskCommand.ListEvaluations prefix) w t = refl
+asked ns (AskCommand.ReadEvaluation n) w t = by_found (get t.evaluations n) _ (λ e. refl)
+asked ns (AskCommand.ListAllocations prefix) w t = refl
+asked ns (AskCommand.ReadAllocation n) w t = by_found (get t.allocations n) _ (λ a. refl)
+asked ns (AskCommand.StopAllocation n) w t = by_found (get t.allocations n) _ (λ a. by_unless later _ _ _ refl refl)
+asked ns AskCommand.ReadNamespace w t = refl
+asked ns (AskCommand.QuotaUsage quota) w t = by_if later (names_quota quota t.namespace) _ _ refl refl
+asked ns (AskCommand.Events index) w t = refl
 
 told : (pool : Name) (command : NodeCommand) (w : World) (p : PoolRows) → only later (told_in pool command w p) ≡ true
-told pool tells.ReadPool w p = refl
-told pool tells.ListNodes w p = refl
-told pool (tells.PutNode name offer) w p = by_unless later _ _ _ refl (by_unless later _ _ _ refl refl)
-told pool (tells.DeleteNode name) w p = by_found (get p.nodes name) _ (λ node. by_unless later _ _ _ refl refl)
-told pool (tells.SetStatus name status) w p = by_found (get p.nodes name) _ (λ node. refl)
-told pool (tells.SetEligible name eligible) w p = by_found (get p.nodes name) _ (λ node. refl)
-told pool (tells.Report name r) w p = by_found (get p.nodes name) _ (λ node. by_found (allocation_at w (r.namespace, r.number)) _ (λ a.
+told pool NodeCommand.ReadPool w p = refl
+told pool NodeCommand.ListNodes w p = refl
+told pool (NodeCommand.PutNode name offer) w p = by_unless later _ _ _ refl (by_unless later _ _ _ refl refl)
+told pool (NodeCommand.DeleteNode name) w p = by_found (get p.nodes name) _ (λ node. by_unless later _ _ _ refl refl)
+told pool (NodeCommand.SetStatus name status) w p = by_found (get p.nodes name) _ (λ node. refl)
+told pool (NodeCommand.SetEligible name eligible) w p = by_found (get p.nodes name) _ (λ node. refl)
+told pool (NodeCommand.Report name r) w p = by_found (get p.nodes name) _ (λ node. by_found (allocation_at w (r.namespace, r.number)) _ (λ a.
     by_unless later _ _ _ refl (by_if later (same_client a.client r.client) _ _ refl (by_unless later _ _ _ refl refl))))
 
 administered : (secret : Option Name) (command : AdminCommand) (s : State) → only later (administer secret command s) ≡ true
 unfolding administer put_namespace delete_namespace put_quota delete_quota put_pool_record delete_pool
-administered secret admins.ListNamespaces s = refl
-administered secret (admins.PutNamespace name namespace) s = by_lift later (with_world s.acl) (put_namespace name namespace s.world)
+administered secret AdminCommand.ListNamespaces s = refl
+administered secret (AdminCommand.PutNamespace name namespace) s = by_lift later (with_world s.acl) (put_namespace name namespace s.world)
     (by_unless later _ _ _ refl (by_unless later _ _ _ refl (by_unless later _ _ _ refl (by_unless later _ _ _ refl (by_unless later _ _ _ refl refl)))))
-administered secret (admins.DeleteNamespace name) s = by_lift later (with_world s.acl) (delete_namespace name s.world)
+administered secret (AdminCommand.DeleteNamespace name) s = by_lift later (with_world s.acl) (delete_namespace name s.world)
     (by_found (get s.world.tenants name) _ (λ t. by_unless later _ _ _ refl (by_unless later _ _ _ refl refl)))
-administered secret admins.ListQuotas s = refl
-administered secret (admins.ReadQuota name) s = by_lift later (with_world s.acl) _ (by_found (get s.world.quotas name) _ (λ q. refl))
-administered secret (admins.PutQuota name quota) s = by_lift later (with_world s.acl) (put_quota name quota s.world) (by_unless later _ _ _ refl refl)
-administered secret (admins.DeleteQuota name) s = by_lift later (with_world s.acl) (delete_quota name s.world)
+administered secret AdminCommand.ListQuotas s = refl
+administered secret (AdminCommand.ReadQuota name) s = by_lift later (with_world s.acl) _ (by_found (get s.world.quotas name) _ (λ q. refl))
+administered secret (AdminCommand.PutQuota name quota) s = by_lift later (with_world s.acl) (put_quota name quota s.world) (by_unless later _ _ _ refl refl)
+administered secret (AdminCommand.DeleteQuota name) s = by_lift later (with_world s.acl) (delete_quota name s.world)
     (by_found (get s.world.quotas name) _ (λ q. by_unless later _ _ _ refl refl))
-administered secret admins.ListPools s = refl
-administered secret (admins.PutPool name pool) s = by_lift later (with_world s.acl) (put_pool_record name pool s.world) (by_unless later _ _ _ refl refl)
-administered secret (admins.DeletePool name) s = by_lift later (with_world s.acl) (delete_pool name s.world)
+administered secret AdminCommand.ListPools s = refl
+administered secret (AdminCommand.PutPool name pool) s = by_lift later (with_world s.acl) (put_pool_record name pool s.world) (by_unless later _ _ _ refl refl)
+administered secret (AdminCommand.DeletePool name) s = by_lift later (with_world s.acl) (delete_pool name s.world)
     (by_found (get s.world.pools name) _ (λ p. by_unless later _ _ _ refl (by_unless later _ _ _ refl refl)))
-administered secret (admins.ReadPolicy name) s = by_lift later (with_acl s.world) _ (by_found (get s.acl.policies name) _ (λ policy. refl))
-administered secret (admins.PutPolicy name policy) s = by_lift later (with_acl s.world) _ (by_unless later _ _ _ refl refl)
-administered secret (admins.DeletePolicy name) s = by_lift later (with_acl s.world) _ (by_found (get s.acl.policies name) _ (λ policy. refl))
-administered secret (admins.CreateToken new) s = by_lift later (with_acl s.world) _ (by_unless later _ _ _ refl (by_unless later _ _ _ refl refl))
-administered secret (admins.DeleteToken accessor) s = by_lift later (with_acl s.world) _ (by_found (secret_of s.acl accessor) _ (λ secret. by_unless later _ _ _ refl refl))
+administered secret (AdminCommand.ReadPolicy name) s = by_lift later (with_acl s.world) _ (by_found (get s.acl.policies name) _ (λ policy. refl))
+administered secret (AdminCommand.PutPolicy name policy) s = by_lift later (with_acl s.world) _ (by_unless later _ _ _ refl refl)
+administered secret (AdminCommand.DeletePolicy name) s = by_lift later (with_acl s.world) _ (by_found (get s.acl.policies name) _ (λ policy. refl))
+administered secret (AdminCommand.CreateToken new) s = by_lift later (with_acl s.world) _ (by_unless later _ _ _ refl (by_unless later _ _ _ refl refl))
+administered secret (AdminCommand.DeleteToken accessor) s = by_lift later (with_acl s.world) _ (by_found (secret_of s.acl accessor) _ (λ secret. by_unless later _ _ _ refl refl))
 
 -- ---- workers
 
@@ -168,15 +168,15 @@ nacked number ns w = by_at_work number ns w (nack_for number ns w) (λ t worker 
 
 worker_acts : (step : Step) (s : State) → law.is_of_worker step ≡ true → only never (act step s) ≡ true
 unfolding act
-worker_acts (steps.Ask ns secret command) s e = not_both e refl
-worker_acts (steps.Admin secret command) s e = not_both e refl
-worker_acts (steps.Node pool secret command) s e = not_both e refl
-worker_acts (steps.Dequeue worker ns n) s e = by_lift never (with_world s.acl) (dequeue worker (ns, n) s.world) (dequeued worker (ns, n) s.world)
-worker_acts (steps.Snap worker ns) s e = by_lift never (with_world s.acl) (snap worker ns s.world) (snapped worker ns s.world)
-worker_acts (steps.Submit worker ns) s e = by_lift never (with_world s.acl) (submit worker ns s.world) (submitted worker ns s.world)
-worker_acts (steps.Apply worker ns) s e = by_lift never (with_world s.acl) (apply worker ns s.world) (committed worker ns s.world)
-worker_acts (steps.Finish worker ns) s e = by_lift never (with_world s.acl) (finish worker ns s.world) (ended worker ns s.world)
-worker_acts (steps.Nack worker ns) s e = by_lift never (with_world s.acl) (nack worker ns s.world) (nacked worker ns s.world)
+worker_acts (Step.Ask ns secret command) s e = not_both e refl
+worker_acts (Step.Admin secret command) s e = not_both e refl
+worker_acts (Step.Node pool secret command) s e = not_both e refl
+worker_acts (Step.Dequeue worker ns n) s e = by_lift never (with_world s.acl) (dequeue worker (ns, n) s.world) (dequeued worker (ns, n) s.world)
+worker_acts (Step.Snap worker ns) s e = by_lift never (with_world s.acl) (snap worker ns s.world) (snapped worker ns s.world)
+worker_acts (Step.Submit worker ns) s e = by_lift never (with_world s.acl) (submit worker ns s.world) (submitted worker ns s.world)
+worker_acts (Step.Apply worker ns) s e = by_lift never (with_world s.acl) (apply worker ns s.world) (committed worker ns s.world)
+worker_acts (Step.Finish worker ns) s e = by_lift never (with_world s.acl) (finish worker ns s.world) (ended worker ns s.world)
+worker_acts (Step.Nack worker ns) s e = by_lift never (with_world s.acl) (nack worker ns s.world) (nacked worker ns s.world)
 
 more : (o : Outcome State) → only never o ≡ true → only later o ≡ true
 more NotEnabled e = refl
@@ -185,18 +185,18 @@ more (Done content s) e = refl
 
 acts : (step : Step) (s : State) → only later (act step s) ≡ true
 unfolding act ask tell
-acts (steps.Ask ns secret command) s = by_lift later (with_world s.acl) (ask ns command s.world) (by_found (get s.world.tenants ns) (asked_in ns command s.world) (λ t. asked ns command s.world t))
-acts (steps.Admin secret command) s = administered secret command s
-acts (steps.Node pool secret command) s = by_lift later (with_world s.acl) (tell pool command s.world) (by_found (get s.world.pools pool) (told_in pool command s.world) (λ p. told pool command s.world p))
-acts (steps.Dequeue worker ns n) s = more _ (worker_acts (steps.Dequeue worker ns n) s refl)
-acts (steps.Snap worker ns) s = more _ (worker_acts (steps.Snap worker ns) s refl)
-acts (steps.Submit worker ns) s = more _ (worker_acts (steps.Submit worker ns) s refl)
-acts (steps.Apply worker ns) s = more _ (worker_acts (steps.Apply worker ns) s refl)
-acts (steps.Finish worker ns) s = more _ (worker_acts (steps.Finish worker ns) s refl)
-acts (steps.Nack worker ns) s = more _ (worker_acts (steps.Nack worker ns) s refl)
+acts (Step.Ask ns secret command) s = by_lift later (with_world s.acl) (ask ns command s.world) (by_found (get s.world.tenants ns) (asked_in ns command s.world) (λ t. asked ns command s.world t))
+acts (Step.Admin secret command) s = administered secret command s
+acts (Step.Node pool secret command) s = by_lift later (with_world s.acl) (tell pool command s.world) (by_found (get s.world.pools pool) (told_in pool command s.world) (λ p. told pool command s.world p))
+acts (Step.Dequeue worker ns n) s = more _ (worker_acts (Step.Dequeue worker ns n) s refl)
+acts (Step.Snap worker ns) s = more _ (worker_acts (Step.Snap worker ns) s refl)
+acts (Step.Submit worker ns) s = more _ (worker_acts (Step.Submit worker ns) s refl)
+acts (Step.Apply worker ns) s = more _ (worker_acts (Step.Apply worker ns) s refl)
+acts (Step.Finish worker ns) s = more _ (worker_acts (Step.Finish worker ns) s refl)
+acts (Step.Nack worker ns) s = more _ (worker_acts (Step.Nack worker ns) s refl)
 
 refusal_in : Answer → Refusal
-refusal_in (Ok reply) = refusals.Memory
+refusal_in (Ok reply) = Refusal.Memory
 refusal_in (Err refusal) = refusal
 
 pub same_refusal : (a b : Refusal) (s t : State) → said (Err a) s ≡ said (Err b) t → a ≡ b
@@ -204,79 +204,79 @@ unfolding refusal_in
 same_refusal a b s t e = ap refusal_in (same_answer (Err a) (Err b) s t e)
 
 -- the refusal is one of the outcome's, or a counter would pass its bound
-concluded_so : (passes : Refusal → Bool) (step : Step) (s t : State) (o : Outcome State) (refusal : Refusal) → passes refusals.Full ≡ true → only passes o ≡ true
+concluded_so : (passes : Refusal → Bool) (step : Step) (s t : State) (o : Outcome State) (refusal : Refusal) → passes Refusal.Full ≡ true → only passes o ≡ true
     → concluded step s o ≡ said (Err refusal) t → passes refusal ≡ true
 concluded_so passes step s t NotEnabled refusal full e f = not_said (Err refusal) t f
 concluded_so passes step s t (Refused r) refusal full e f = ap passes (sym (same_refusal r refusal s t f)) ∙ e
 concluded_so passes step s t (Done content s') refusal full e f = by (is_over (settled s s').world) f
   where
-    by : (b : Bool) → cond b (said (Err refusals.Full) s) (said (Ok (reply_of step content (settled s s').world)) (settled s s')) ≡ said (Err refusal) t → passes refusal ≡ true
-    by true f = ap passes (sym (same_refusal refusals.Full refusal s t f)) ∙ full
+    by : (b : Bool) → cond b (said (Err Refusal.Full) s) (said (Ok (reply_of step content (settled s s').world)) (settled s s')) ≡ said (Err refusal) t → passes refusal ≡ true
+    by true f = ap passes (sym (same_refusal Refusal.Full refusal s t f)) ∙ full
     by false f = not_refused (reply_of step content (settled s s').world) refusal (same_answer _ _ (settled s s') t f)
 
 pub after_allowed : (step : Step) (s : State) → is_allowed step s.acl ≡ true → after step s ≡ concluded step s (act step s)
 unfolding after
-after_allowed step s e = ap (λ b. cond b (concluded step s (act step s)) (said (Err refusals.Denied) s)) e
+after_allowed step s e = ap (λ b. cond b (concluded step s (act step s)) (said (Err Refusal.Denied) s)) e
 
 pub denied_without_right : law.DeniedWithoutRight
 denied_without_right step s = ((λ e. by (is_allowed step s.acl) refl e), denied_without step s)
   where
-    by : (b : Bool) → is_allowed step s.acl ≡ b → after step s ≡ said (Err refusals.Denied) s → is_allowed step s.acl ≡ false
-    by true is e = not_both (concluded_so later step s s (act step s) refusals.Denied refl (acts step s) (sym (after_allowed step s is) ∙ e)) refl
+    by : (b : Bool) → is_allowed step s.acl ≡ b → after step s ≡ said (Err Refusal.Denied) s → is_allowed step s.acl ≡ false
+    by true is e = not_both (concluded_so later step s s (act step s) Refusal.Denied refl (acts step s) (sym (after_allowed step s is) ∙ e)) refl
     by false is e = is
 
 pub denied_alike : law.DeniedAlike
 denied_alike step s t same e = denied_without step t (ap (is_allowed step) (sym same) ∙ (denied_without_right step s).0 e)
 
 later_of_steps : (refusal : Refusal) → later refusal ≡ true → law.is_of_steps refusal ≡ true
-later_of_steps refusals.NotFound e = refl
-later_of_steps refusals.PoolNotPermitted e = refl
-later_of_steps (refusals.BadField member) e = refl
-later_of_steps refusals.Conflict e = refl
-later_of_steps refusals.InUse e = refl
-later_of_steps refusals.Full e = refl
-later_of_steps refusals.Denied e = refl
-later_of_steps refusals.BadHead e = e
-later_of_steps refusals.BadJson e = e
-later_of_steps refusals.BadMethod e = e
-later_of_steps refusals.NeedLength e = e
-later_of_steps refusals.TooLarge e = e
-later_of_steps refusals.NotServed e = e
-later_of_steps refusals.Memory e = e
-later_of_steps refusals.LogFull e = e
-later_of_steps refusals.NotEnabled e = e
-later_of_steps refusals.Foreign e = e
+later_of_steps Refusal.NotFound e = refl
+later_of_steps Refusal.PoolNotPermitted e = refl
+later_of_steps (Refusal.BadField member) e = refl
+later_of_steps Refusal.Conflict e = refl
+later_of_steps Refusal.InUse e = refl
+later_of_steps Refusal.Full e = refl
+later_of_steps Refusal.Denied e = refl
+later_of_steps Refusal.BadHead e = e
+later_of_steps Refusal.BadJson e = e
+later_of_steps Refusal.BadMethod e = e
+later_of_steps Refusal.NeedLength e = e
+later_of_steps Refusal.TooLarge e = e
+later_of_steps Refusal.NotServed e = e
+later_of_steps Refusal.Memory e = e
+later_of_steps Refusal.LogFull e = e
+later_of_steps Refusal.NotEnabled e = e
+later_of_steps Refusal.Foreign e = e
 
 pub steps_refuse_so : law.StepsRefuseSo
 steps_refuse_so step s t refusal e = by (is_allowed step s.acl) refl
   where
     by : (b : Bool) → is_allowed step s.acl ≡ b → law.is_of_steps refusal ≡ true
     by true is = later_of_steps refusal (concluded_so later step s t (act step s) refusal refl (acts step s) (sym (after_allowed step s is) ∙ e))
-    by false is = ap law.is_of_steps (sym (same_refusal refusals.Denied refusal s t (sym (denied_without step s is) ∙ e)))
+    by false is = ap law.is_of_steps (sym (same_refusal Refusal.Denied refusal s t (sym (denied_without step s is) ∙ e)))
 
 is_full : Refusal → Bool
-is_full refusals.Full = true
+is_full Refusal.Full = true
 is_full _ = false
 
-full_is : (refusal : Refusal) → is_full refusal ≡ true → refusal ≡ refusals.Full
+full_is : (refusal : Refusal) → is_full refusal ≡ true → refusal ≡ Refusal.Full
 unfolding is_full
-full_is refusals.Full e = refl
-full_is refusals.NotFound e = not_both e refl
-full_is refusals.PoolNotPermitted e = not_both e refl
-full_is (refusals.BadField member) e = not_both e refl
-full_is refusals.Conflict e = not_both e refl
-full_is refusals.InUse e = not_both e refl
-full_is refusals.Denied e = not_both e refl
-full_is refusals.BadHead e = not_both e refl
-full_is refusals.BadJson e = not_both e refl
-full_is refusals.BadMethod e = not_both e refl
-full_is refusals.NeedLength e = not_both e refl
-full_is refusals.TooLarge e = not_both e refl
-full_is refusals.NotServed e = not_both e refl
-full_is refusals.Memory e = not_both e refl
-full_is refusals.LogFull e = not_both e refl
-full_is refusals.NotEnabled e = not_both e refl
-full_is refusals.Foreign e = not_both e refl
+full_is Refusal.Full e = refl
+full_is Refusal.NotFound e = not_both e refl
+full_is Refusal.PoolNotPermitted e = not_both e refl
+full_is (Refusal.BadField member) e = not_both e refl
+full_is Refusal.Conflict e = not_both e refl
+full_is Refusal.InUse e = not_both e refl
+full_is Refusal.Denied e = not_both e refl
+full_is Refusal.BadHead e = not_both e refl
+full_is Refusal.BadJson e = not_both e refl
+full_is Refusal.BadMethod e = not_both e refl
+full_is Refusal.NeedLength e = not_both e refl
+full_is Refusal.TooLarge e = not_both e refl
+full_is Refusal.NotServed e = not_both e refl
+full_is Refusal.Memory e = not_both e refl
+full_is Refusal.LogFull e = not_both e refl
+full_is Refusal.NotEnabled e = not_both e refl
+full_is Refusal.Foreign e = not_both e refl
 
 none_or_full : (o : Outcome State) → only never o ≡ true → only is_full o ≡ true
 none_or_full NotEnabled e = refl
@@ -284,15 +284,15 @@ none_or_full (Refused refusal) e = not_both e refl
 none_or_full (Done content s) e = refl
 
 allowed_worker : (step : Step) (s : State) → law.is_of_worker step ≡ true → is_allowed step s.acl ≡ true
-allowed_worker (steps.Ask ns secret command) s e = not_both e refl
-allowed_worker (steps.Admin secret command) s e = not_both e refl
-allowed_worker (steps.Node pool secret command) s e = not_both e refl
-allowed_worker (steps.Dequeue worker ns n) s e = refl
-allowed_worker (steps.Snap worker ns) s e = refl
-allowed_worker (steps.Submit worker ns) s e = refl
-allowed_worker (steps.Apply worker ns) s e = refl
-allowed_worker (steps.Finish worker ns) s e = refl
-allowed_worker (steps.Nack worker ns) s e = refl
+allowed_worker (Step.Ask ns secret command) s e = not_both e refl
+allowed_worker (Step.Admin secret command) s e = not_both e refl
+allowed_worker (Step.Node pool secret command) s e = not_both e refl
+allowed_worker (Step.Dequeue worker ns n) s e = refl
+allowed_worker (Step.Snap worker ns) s e = refl
+allowed_worker (Step.Submit worker ns) s e = refl
+allowed_worker (Step.Apply worker ns) s e = refl
+allowed_worker (Step.Finish worker ns) s e = refl
+allowed_worker (Step.Nack worker ns) s e = refl
 
 pub workers_are_full_only : law.WorkersAreFullOnly
 unfolding is_full

@@ -5,20 +5,20 @@ use Rattle.std.specs.FinMap.{get, len, contains_key}
 use Rattle.std.specs.Option.{option_map_or}
 use Rattle.std.proofs.lemmas.Bool.{leb-true, le-leb, eqb-true, eq-eqb, ne_eqb}
 use Rattle.ns_types.specs.declared.job.Registration.{Registration}
-use Rattle.ns_types.specs.declared.refusal.Member.TheVariants as members
+use Rattle.ns_types.specs.declared.refusal.Member.TheVariants as Member
 use Rattle.ns_types.specs.declared.refusal.Refusal.{Refusal}
-use Rattle.ns_types.specs.declared.refusal.Refusal.TheVariants as refusals
+use Rattle.ns_types.specs.declared.refusal.Refusal.TheVariants as Refusal
 use Rattle.ns_types.specs.declared.reply.Content.{Content}
-use Rattle.ns_types.specs.declared.step.AskCommand.TheVariants as asks
+use Rattle.ns_types.specs.declared.step.AskCommand.TheVariants as AskCommand
 use Rattle.ns_types.specs.declared.step.Step.{Step}
-use Rattle.ns_types.specs.declared.step.Step.TheVariants as steps
-use Rattle.ns_types.specs.Access.{with_world}
-use Rattle.ns_types.specs.Asks.{ask, asked_in, pool_of, meets, most_jobs, registered_with, registered_job, document_of}
-use Rattle.ns_types.specs.Names.{Name, same_number}
-use Rattle.ns_types.specs.Outcome.{Outcome, Refused, Done, unless, found, lift}
-use Rattle.ns_types.specs.Rights.{rights_of}
-use Rattle.ns_types.specs.Rows.{State, World, Tenant}
-use Rattle.ns_types.specs.Sharing.{permits}
+use Rattle.ns_types.specs.declared.step.Step.TheVariants as Step
+use Rattle.ns_types.specs.Asking.Policies.{with_world}
+use Rattle.ns_types.specs.Asking.Asks.{ask, asked_in, pool_of, meets, most_jobs, registered_with, registered_job, document_of}
+use Rattle.ns_types.specs.State.Names.{Name, same_number}
+use Rattle.ns_types.specs.Settling.Outcome.{Outcome, Refused, Done, unless, found, lift}
+use Rattle.ns_types.specs.Access.Rights.{rights_of}
+use Rattle.ns_types.specs.State.Rows.{State, World, Tenant}
+use Rattle.ns_types.specs.Access.Sharing.{permits}
 use Rattle.ns_types.specs.Steps.{after, act, said, concluded, is_over, settled, reply_of}
 use Rattle.ns_types.proofs.Lists.{not_both}
 use Rattle.ns_types.proofs.Named.{first_of_both, second_of_both, same_number_refl}
@@ -33,11 +33,11 @@ use Rattle.ns_laws.proofs.QueueLemmas.{same_number_is}
 -- what is refused in a namespace, by four tests
 abbrev tested : Bool → Bool → Bool → Bool → Outcome World → Outcome World
 tested foreign missing other full rest =
-    unless foreign refusals.PoolNotPermitted (unless missing (refusals.BadField members.NodePool) (unless other refusals.Conflict (unless full refusals.Full rest)))
+    unless foreign Refusal.PoolNotPermitted (unless missing (Refusal.BadField Member.NodePool) (unless other Refusal.Conflict (unless full Refusal.Full rest)))
 
 module _ (s : State) (secret : Option Name) (ns : Name) (r : Registration) where
   abbrev step : Step
-  step = steps.Ask ns secret (asks.Register r)
+  step = Step.Ask ns secret (AskCommand.Register r)
 
   abbrev has_right : Bool
   has_right = (rights_of s.acl secret ns).submit_job
@@ -62,28 +62,28 @@ module _ (s : State) (secret : Option Name) (ns : Name) (r : Registration) where
 
   acts_in : (t : Tenant) → get s.world.tenants ns ≡ Some t → act step s ≡ in_state (tested (is_foreign t) (is_missing t) (is_other t) (has_no_room t) (done t))
   unfolding act ask
-  acts_in t is = ap (λ o. in_state (found o (asked_in ns (asks.Register r) s.world))) is
+  acts_in t is = ap (λ o. in_state (found o (asked_in ns (AskCommand.Register r) s.world))) is
 
-  acts_nowhere : get s.world.tenants ns ≡ None → act step s ≡ Refused refusals.NotFound
+  acts_nowhere : get s.world.tenants ns ≡ None → act step s ≡ Refused Refusal.NotFound
   unfolding act ask
-  acts_nowhere is = ap (λ o. in_state (found o (asked_in ns (asks.Register r) s.world))) is
+  acts_nowhere is = ap (λ o. in_state (found o (asked_in ns (AskCommand.Register r) s.world))) is
 
   refused_so : (refusal : Refusal) → has_right ≡ true → act step s ≡ Refused refusal → after step s ≡ said (Err refusal) s
   refused_so refusal may e = after_allowed step s may ∙ ap (concluded step s) e
 
-  foreign_is : (t : Tenant) → get s.world.tenants ns ≡ Some t → is_foreign t ≡ true → act step s ≡ Refused refusals.PoolNotPermitted
+  foreign_is : (t : Tenant) → get s.world.tenants ns ≡ Some t → is_foreign t ≡ true → act step s ≡ Refused Refusal.PoolNotPermitted
   unfolding unless
   foreign_is t is e = acts_in t is ∙ ap (λ b. in_state (tested b (is_missing t) (is_other t) (has_no_room t) (done t))) e
 
-  missing_is : (t : Tenant) → get s.world.tenants ns ≡ Some t → is_foreign t ≡ false → is_missing t ≡ true → act step s ≡ Refused (refusals.BadField members.NodePool)
+  missing_is : (t : Tenant) → get s.world.tenants ns ≡ Some t → is_foreign t ≡ false → is_missing t ≡ true → act step s ≡ Refused (Refusal.BadField Member.NodePool)
   unfolding unless
   missing_is t is e f = acts_in t is ∙ (λ i. in_state (tested (e i) (f i) (is_other t) (has_no_room t) (done t)))
 
-  other_is : (t : Tenant) → get s.world.tenants ns ≡ Some t → is_foreign t ≡ false → is_missing t ≡ false → is_other t ≡ true → act step s ≡ Refused refusals.Conflict
+  other_is : (t : Tenant) → get s.world.tenants ns ≡ Some t → is_foreign t ≡ false → is_missing t ≡ false → is_other t ≡ true → act step s ≡ Refused Refusal.Conflict
   unfolding unless
   other_is t is e f g = acts_in t is ∙ (λ i. in_state (tested (e i) (f i) (g i) (has_no_room t) (done t)))
 
-  full_is : (t : Tenant) → get s.world.tenants ns ≡ Some t → is_foreign t ≡ false → is_missing t ≡ false → is_other t ≡ false → has_no_room t ≡ true → act step s ≡ Refused refusals.Full
+  full_is : (t : Tenant) → get s.world.tenants ns ≡ Some t → is_foreign t ≡ false → is_missing t ≡ false → is_other t ≡ false → has_no_room t ≡ true → act step s ≡ Refused Refusal.Full
   unfolding unless
   full_is t is e f g h = acts_in t is ∙ (λ i. in_state (tested (e i) (f i) (g i) (h i) (done t)))
 
@@ -92,14 +92,14 @@ module _ (s : State) (secret : Option Name) (ns : Name) (r : Registration) where
   done_is t is e f g h = acts_in t is ∙ (λ i. in_state (tested (e i) (f i) (g i) (h i) (done t)))
 
   -- what speaks against it where a test holds
-  other_against : (t : Tenant) → get s.world.tenants ns ≡ Some t → is_other t ≡ true → SpeaksAgainst s secret ns r refusals.Conflict
+  other_against : (t : Tenant) → get s.world.tenants ns ≡ Some t → is_other t ≡ true → SpeaksAgainst s secret ns r Refusal.Conflict
   other_against t is e = by r.enforced refl e
     where
-      by : (o : Option ℕ) → r.enforced ≡ o → option_map_or (λ index. not (meets (get t.jobs r.id) index)) o false ≡ true → SpeaksAgainst s secret ns r refusals.Conflict
+      by : (o : Option ℕ) → r.enforced ≡ o → option_map_or (λ index. not (meets (get t.jobs r.id) index)) o false ≡ true → SpeaksAgainst s secret ns r Refusal.Conflict
       by None f e = not_both e refl
       by (Some index) f e = law.other_index t index is f (is_no (meets (get t.jobs r.id) index) e)
 
-  room_against : (t : Tenant) → get s.world.tenants ns ≡ Some t → has_no_room t ≡ true → SpeaksAgainst s secret ns r refusals.Full
+  room_against : (t : Tenant) → get s.world.tenants ns ≡ Some t → has_no_room t ≡ true → SpeaksAgainst s secret ns r Refusal.Full
   room_against t is e = law.no_room t is (is_no (contains_key t.jobs r.id) (first_of_both (not (contains_key t.jobs r.id)) _ e))
       (leb-true most_jobs (len t.jobs) (second_of_both (not (contains_key t.jobs r.id)) _ e))
 
@@ -112,28 +112,28 @@ module _ (s : State) (secret : Option Name) (ns : Name) (r : Registration) where
     where
       by : (b : Bool) → has_right ≡ b → (has_right ≡ true → Answered n) → Answered n
       by true e go = go e
-      by false e go = (refusals.Denied, law.no_right e, omega arith, denied_without step s e)
+      by false e go = (Refusal.Denied, law.no_right e, omega arith, denied_without step s e)
 
   with_own_pool : (n : ℕ) → 2 ≤ n → has_right ≡ true → (t : Tenant) → get s.world.tenants ns ≡ Some t → (is_foreign t ≡ false → Answered n) → Answered n
   with_own_pool n le may t is go = by (is_foreign t) refl go
     where
       by : (b : Bool) → is_foreign t ≡ b → (is_foreign t ≡ false → Answered n) → Answered n
       by false e go = go e
-      by true e go = (refusals.PoolNotPermitted, law.foreign_pool t is (is_no _ e), le, refused_so refusals.PoolNotPermitted may (foreign_is t is e))
+      by true e go = (Refusal.PoolNotPermitted, law.foreign_pool t is (is_no _ e), le, refused_so Refusal.PoolNotPermitted may (foreign_is t is e))
 
   with_pool : (n : ℕ) → 3 ≤ n → has_right ≡ true → (t : Tenant) → get s.world.tenants ns ≡ Some t → is_foreign t ≡ false → (is_missing t ≡ false → Answered n) → Answered n
   with_pool n le may t is own go = by (is_missing t) refl go
     where
       by : (b : Bool) → is_missing t ≡ b → (is_missing t ≡ false → Answered n) → Answered n
       by false e go = go e
-      by true e go = (refusals.BadField members.NodePool, law.no_pool t is (is_no _ e), le, refused_so (refusals.BadField members.NodePool) may (missing_is t is own e))
+      by true e go = (Refusal.BadField Member.NodePool, law.no_pool t is (is_no _ e), le, refused_so (Refusal.BadField Member.NodePool) may (missing_is t is own e))
 
   with_index : (n : ℕ) → 4 ≤ n → has_right ≡ true → (t : Tenant) → get s.world.tenants ns ≡ Some t → is_foreign t ≡ false → is_missing t ≡ false → (is_other t ≡ false → Answered n) → Answered n
   with_index n le may t is own there go = by (is_other t) refl go
     where
       by : (b : Bool) → is_other t ≡ b → (is_other t ≡ false → Answered n) → Answered n
       by false e go = go e
-      by true e go = (refusals.Conflict, other_against t is e, le, refused_so refusals.Conflict may (other_is t is own there e))
+      by true e go = (Refusal.Conflict, other_against t is e, le, refused_so Refusal.Conflict may (other_is t is own there e))
 
   other_test : (t : Tenant) (index : ℕ) → r.enforced ≡ Some index → meets (get t.jobs r.id) index ≡ false → is_other t ≡ true
   other_test t index is e = ap (λ o. option_map_or (λ index. not (meets (get t.jobs r.id) index)) o false) is ∙ ap not e
@@ -142,20 +142,20 @@ module _ (s : State) (secret : Option Name) (ns : Name) (r : Registration) where
   room_test t e le = ap (λ b. not b && nat_le most_jobs (len t.jobs)) e ∙ le-leb most_jobs (len t.jobs) le
 
   first_refusal : (other : Refusal) → SpeaksAgainst s secret ns r other → Answered (rank other)
-  first_refusal other (law.no_right e) = (refusals.Denied, law.no_right e, omega arith, denied_without step s e)
-  first_refusal other (law.no_namespace e) = with_right 1 (λ may. (refusals.NotFound, law.no_namespace e, omega arith, refused_so refusals.NotFound may (acts_nowhere e)))
+  first_refusal other (law.no_right e) = (Refusal.Denied, law.no_right e, omega arith, denied_without step s e)
+  first_refusal other (law.no_namespace e) = with_right 1 (λ may. (Refusal.NotFound, law.no_namespace e, omega arith, refused_so Refusal.NotFound may (acts_nowhere e)))
   first_refusal other (law.foreign_pool t is e) = with_right 2 (λ may. with_own_pool 2 (omega arith) may t is (λ own. not_both (ap not e) own))
   first_refusal other (law.no_pool t is e) = with_right 3 (λ may. with_own_pool 3 (omega arith) may t is (λ own. with_pool 3 (omega arith) may t is own (λ there. not_both (ap not e) there)))
   first_refusal other (law.other_index t index is of e) = with_right 4 (λ may. with_own_pool 4 (omega arith) may t is (λ own. with_pool 4 (omega arith) may t is own (λ there.
       with_index 4 (omega arith) may t is own there (λ same. not_both (other_test t index of e) same))))
   first_refusal other (law.no_room t is e le) = with_right 6 (λ may. with_own_pool 6 (omega arith) may t is (λ own. with_pool 6 (omega arith) may t is own (λ there.
       with_index 6 (omega arith) may t is own there (λ same.
-      (refusals.Full, law.no_room t is e le, omega arith, refused_so refusals.Full may (full_is t is own there same (room_test t e le)))))))
+      (Refusal.Full, law.no_room t is e le, omega arith, refused_so Refusal.Full may (full_is t is own there same (room_test t e le)))))))
 
   -- ---- and no other
 
   abbrev IsWhy : Refusal → Type 0
-  IsWhy refusal = SpeaksAgainst s secret ns r refusal ⊎ (refusal ≡ refusals.Full)
+  IsWhy refusal = SpeaksAgainst s secret ns r refusal ⊎ (refusal ≡ Refusal.Full)
 
   by_known : (known refusal : Refusal) (t : State) → SpeaksAgainst s secret ns r known → after step s ≡ said (Err known) s → after step s ≡ said (Err refusal) t → IsWhy refusal
   by_known known refusal t why is e = inl (subst (SpeaksAgainst s secret ns r) (same_refusal known refusal s t (sym is ∙ e)) why)
@@ -163,39 +163,39 @@ module _ (s : State) (secret : Option Name) (ns : Name) (r : Registration) where
   by_done : (refusal : Refusal) (t : State) (content : Content) (w : World) → concluded step s (Done content (with_world s.acl w)) ≡ said (Err refusal) t → IsWhy refusal
   by_done refusal t content w e = by (is_over (settled s (with_world s.acl w)).world) e
     where
-      by : (b : Bool) → cond b (said (Err refusals.Full) s) (said (Ok (reply_of step content (settled s (with_world s.acl w)).world)) (settled s (with_world s.acl w))) ≡ said (Err refusal) t → IsWhy refusal
-      by true e = inr (sym (same_refusal refusals.Full refusal s t e))
+      by : (b : Bool) → cond b (said (Err Refusal.Full) s) (said (Ok (reply_of step content (settled s (with_world s.acl w)).world)) (settled s (with_world s.acl w))) ≡ said (Err refusal) t → IsWhy refusal
+      by true e = inr (sym (same_refusal Refusal.Full refusal s t e))
       by false e = not_refused (reply_of step content (settled s (with_world s.acl w)).world) refusal (same_answer _ _ (settled s (with_world s.acl w)) t e)
 
   why_in : (refusal : Refusal) (end : State) (t : Tenant) → has_right ≡ true → get s.world.tenants ns ≡ Some t → after step s ≡ said (Err refusal) end → IsWhy refusal
   why_in refusal end t may is e = foreign (is_foreign t) refl
     where
       full : is_foreign t ≡ false → is_missing t ≡ false → is_other t ≡ false → (b : Bool) → has_no_room t ≡ b → IsWhy refusal
-      full f g h true k = by_known refusals.Full refusal end (room_against t is k) (refused_so refusals.Full may (full_is t is f g h k)) e
+      full f g h true k = by_known Refusal.Full refusal end (room_against t is k) (refused_so Refusal.Full may (full_is t is f g h k)) e
       full f g h false k = by_done refusal end _ _ (sym (after_allowed step s may ∙ ap (concluded step s) (done_is t is f g h k)) ∙ e)
 
       other : is_foreign t ≡ false → is_missing t ≡ false → (b : Bool) → is_other t ≡ b → IsWhy refusal
-      other f g true h = by_known refusals.Conflict refusal end (other_against t is h) (refused_so refusals.Conflict may (other_is t is f g h)) e
+      other f g true h = by_known Refusal.Conflict refusal end (other_against t is h) (refused_so Refusal.Conflict may (other_is t is f g h)) e
       other f g false h = full f g h (has_no_room t) refl
 
       missing : is_foreign t ≡ false → (b : Bool) → is_missing t ≡ b → IsWhy refusal
-      missing f true g = by_known (refusals.BadField members.NodePool) refusal end (law.no_pool t is (is_no _ g)) (refused_so (refusals.BadField members.NodePool) may (missing_is t is f g)) e
+      missing f true g = by_known (Refusal.BadField Member.NodePool) refusal end (law.no_pool t is (is_no _ g)) (refused_so (Refusal.BadField Member.NodePool) may (missing_is t is f g)) e
       missing f false g = other f g (is_other t) refl
 
       foreign : (b : Bool) → is_foreign t ≡ b → IsWhy refusal
-      foreign true f = by_known refusals.PoolNotPermitted refusal end (law.foreign_pool t is (is_no _ f)) (refused_so refusals.PoolNotPermitted may (foreign_is t is f)) e
+      foreign true f = by_known Refusal.PoolNotPermitted refusal end (law.foreign_pool t is (is_no _ f)) (refused_so Refusal.PoolNotPermitted may (foreign_is t is f)) e
       foreign false f = missing f (is_missing t) refl
 
   why : (refusal : Refusal) (end : State) → after step s ≡ said (Err refusal) end → IsWhy refusal
   why refusal end e = by has_right refl
     where
       there : has_right ≡ true → (o : Option Tenant) → get s.world.tenants ns ≡ o → IsWhy refusal
-      there may None is = by_known refusals.NotFound refusal end (law.no_namespace is) (refused_so refusals.NotFound may (acts_nowhere is)) e
+      there may None is = by_known Refusal.NotFound refusal end (law.no_namespace is) (refused_so Refusal.NotFound may (acts_nowhere is)) e
       there may (Some t) is = why_in refusal end t may is e
 
       by : (b : Bool) → has_right ≡ b → IsWhy refusal
       by true may = there may (get s.world.tenants ns) refl
-      by false may = by_known refusals.Denied refusal end (law.no_right may) (denied_without step s may) e
+      by false may = by_known Refusal.Denied refusal end (law.no_right may) (denied_without step s may) e
 
 pub first_refusal_of_register : law.FirstRefusalOfRegister
 first_refusal_of_register s secret ns r other against = first_refusal s secret ns r other against

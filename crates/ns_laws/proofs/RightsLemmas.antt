@@ -8,23 +8,23 @@ use Rattle.std.specs.Option.{option_map_or}
 use Rattle.ns_types.specs.declared.acl.Grants.{Grants}
 use Rattle.ns_types.specs.declared.acl.Rule.{Rule}
 use Rattle.ns_types.specs.declared.acl.Token.{Token}
-use Rattle.ns_types.specs.declared.acl.TokenKind.TheVariants as tokens
-use Rattle.ns_types.specs.declared.refusal.Refusal.TheVariants as refusals
+use Rattle.ns_types.specs.declared.acl.TokenKind.TheVariants as TokenKind
+use Rattle.ns_types.specs.declared.refusal.Refusal.TheVariants as Refusal
 use Rattle.ns_types.specs.declared.step.AdminCommand.{AdminCommand}
-use Rattle.ns_types.specs.declared.step.AdminCommand.TheVariants as admins
+use Rattle.ns_types.specs.declared.step.AdminCommand.TheVariants as AdminCommand
 use Rattle.ns_types.specs.declared.step.AskCommand.{AskCommand}
-use Rattle.ns_types.specs.declared.step.AskCommand.TheVariants as asks
+use Rattle.ns_types.specs.declared.step.AskCommand.TheVariants as AskCommand
 use Rattle.ns_types.specs.declared.step.NodeCommand.{NodeCommand}
-use Rattle.ns_types.specs.declared.step.NodeCommand.TheVariants as tells
+use Rattle.ns_types.specs.declared.step.NodeCommand.TheVariants as NodeCommand
 use Rattle.ns_types.specs.declared.step.Step.{Step}
-use Rattle.ns_types.specs.declared.step.Step.TheVariants as steps
-use Rattle.ns_types.specs.Access.{may_administer}
-use Rattle.ns_types.specs.Asks.{right_of}
-use Rattle.ns_types.specs.Lists.{Each, is_empty}
-use Rattle.ns_types.specs.Names.{Name, same_name, same_number}
-use Rattle.ns_types.specs.Nodes.{pool_right_of}
-use Rattle.ns_types.specs.Rights.{Bearer, Unknown, Manager, Holder, bearer, bearer_with, no_rights, all_rights, no_grants, both, merged, granted, rules_of, counting, longest, longest_match, is_exact, is_match, rights_of, rights_for, pool_rights_of, pool_rights_for, is_manager, is_known}
-use Rattle.ns_types.specs.Rows.{Acl, State}
+use Rattle.ns_types.specs.declared.step.Step.TheVariants as Step
+use Rattle.ns_types.specs.Asking.Policies.{may_administer}
+use Rattle.ns_types.specs.Asking.Asks.{right_of}
+use Rattle.ns_types.specs.State.Lists.{Each, is_empty}
+use Rattle.ns_types.specs.State.Names.{Name, same_name, same_number}
+use Rattle.ns_types.specs.Asking.Nodes.{pool_right_of}
+use Rattle.ns_types.specs.Access.Rights.{Bearer, Unknown, Manager, Holder, bearer, bearer_with, no_rights, all_rights, no_grants, both, merged, granted, rules_of, counting, longest, longest_match, is_exact, is_match, rights_of, rights_for, pool_rights_of, pool_rights_for, is_manager, is_known}
+use Rattle.ns_types.specs.State.Rows.{Acl, State}
 use Rattle.ns_types.specs.Steps.{after, act, said, concluded, is_allowed}
 use Rattle.ns_types.proofs.Lists.{not_both, each_map}
 use Rattle.ns_types.proofs.Named.{first_of_both, second_of_both, same_name_is}
@@ -34,58 +34,58 @@ use Rattle.ns_laws.proofs.QueueLemmas.{same_number_is}
 
 -- ---- whom a secret stands for
 
-pub denied_without : (step : Step) (s : State) → is_allowed step s.acl ≡ false → after step s ≡ said (Err refusals.Denied) s
+pub denied_without : (step : Step) (s : State) → is_allowed step s.acl ≡ false → after step s ≡ said (Err Refusal.Denied) s
 unfolding after
-denied_without step s e = ap (λ b. cond b (concluded step s (act step s)) (said (Err refusals.Denied) s)) e
+denied_without step s e = ap (λ b. cond b (concluded step s (act step s)) (said (Err Refusal.Denied) s)) e
 
 unknown_bearer : (acl : Acl) (secret : Name) (by : Option Name) → get acl.tokens secret ≡ None → by ≡ Some secret → bearer acl by ≡ Unknown
 unknown_bearer acl secret by none is = ap (bearer acl) is ∙ ap (λ (o : Option Token). option_map_or (λ token. bearer_with token.kind token.policies) o Unknown) none
 
-manager_bearer : (acl : Acl) (secret : Name) (token : Token) (by : Option Name) → get acl.tokens secret ≡ Some token → token.kind ≡ tokens.Management → by ≡ Some secret
+manager_bearer : (acl : Acl) (secret : Name) (token : Token) (by : Option Name) → get acl.tokens secret ≡ Some token → token.kind ≡ TokenKind.Management → by ≡ Some secret
     → bearer acl by ≡ Manager
 manager_bearer acl secret token by found kind is =
     ap (bearer acl) is ∙ ap (λ (o : Option Token). option_map_or (λ token. bearer_with token.kind token.policies) o Unknown) found ∙ ap (λ k. bearer_with k token.policies) kind
 
 no_right : (command : AskCommand) → right_of command no_rights ≡ false
-no_right (asks.ListJobs prefix) = refl
-no_right (asks.Register r) = refl
-no_right (asks.ReadJob id) = refl
-no_right (asks.Deregister id purge) = refl
-no_right (asks.JobAllocations id) = refl
-no_right (asks.JobEvaluations id) = refl
-no_right (asks.ListEvaluations prefix) = refl
-no_right (asks.ReadEvaluation n) = refl
-no_right (asks.ListAllocations prefix) = refl
-no_right (asks.ReadAllocation n) = refl
-no_right (asks.StopAllocation n) = refl
-no_right asks.ReadNamespace = refl
-no_right (asks.QuotaUsage quota) = refl
-no_right (asks.Events index) = refl
+no_right (AskCommand.ListJobs prefix) = refl
+no_right (AskCommand.Register r) = refl
+no_right (AskCommand.ReadJob id) = refl
+no_right (AskCommand.Deregister id purge) = refl
+no_right (AskCommand.JobAllocations id) = refl
+no_right (AskCommand.JobEvaluations id) = refl
+no_right (AskCommand.ListEvaluations prefix) = refl
+no_right (AskCommand.ReadEvaluation n) = refl
+no_right (AskCommand.ListAllocations prefix) = refl
+no_right (AskCommand.ReadAllocation n) = refl
+no_right (AskCommand.StopAllocation n) = refl
+no_right AskCommand.ReadNamespace = refl
+no_right (AskCommand.QuotaUsage quota) = refl
+no_right (AskCommand.Events index) = refl
 
 each_right : (command : AskCommand) → right_of command all_rights ≡ true
-each_right (asks.ListJobs prefix) = refl
-each_right (asks.Register r) = refl
-each_right (asks.ReadJob id) = refl
-each_right (asks.Deregister id purge) = refl
-each_right (asks.JobAllocations id) = refl
-each_right (asks.JobEvaluations id) = refl
-each_right (asks.ListEvaluations prefix) = refl
-each_right (asks.ReadEvaluation n) = refl
-each_right (asks.ListAllocations prefix) = refl
-each_right (asks.ReadAllocation n) = refl
-each_right (asks.StopAllocation n) = refl
-each_right asks.ReadNamespace = refl
-each_right (asks.QuotaUsage quota) = refl
-each_right (asks.Events index) = refl
+each_right (AskCommand.ListJobs prefix) = refl
+each_right (AskCommand.Register r) = refl
+each_right (AskCommand.ReadJob id) = refl
+each_right (AskCommand.Deregister id purge) = refl
+each_right (AskCommand.JobAllocations id) = refl
+each_right (AskCommand.JobEvaluations id) = refl
+each_right (AskCommand.ListEvaluations prefix) = refl
+each_right (AskCommand.ReadEvaluation n) = refl
+each_right (AskCommand.ListAllocations prefix) = refl
+each_right (AskCommand.ReadAllocation n) = refl
+each_right (AskCommand.StopAllocation n) = refl
+each_right AskCommand.ReadNamespace = refl
+each_right (AskCommand.QuotaUsage quota) = refl
+each_right (AskCommand.Events index) = refl
 
 same_pool_right : (b : Bool) (command : NodeCommand) → pool_right_of command (record { read = b; write = b }) ≡ b
-same_pool_right b tells.ReadPool = refl
-same_pool_right b tells.ListNodes = refl
-same_pool_right b (tells.PutNode name offer) = refl
-same_pool_right b (tells.DeleteNode name) = refl
-same_pool_right b (tells.SetStatus name status) = refl
-same_pool_right b (tells.SetEligible name eligible) = refl
-same_pool_right b (tells.Report name r) = refl
+same_pool_right b NodeCommand.ReadPool = refl
+same_pool_right b NodeCommand.ListNodes = refl
+same_pool_right b (NodeCommand.PutNode name offer) = refl
+same_pool_right b (NodeCommand.DeleteNode name) = refl
+same_pool_right b (NodeCommand.SetStatus name status) = refl
+same_pool_right b (NodeCommand.SetEligible name eligible) = refl
+same_pool_right b (NodeCommand.Report name r) = refl
 
 manages : Bearer → Bool
 manages Unknown = false
@@ -98,21 +98,21 @@ knows Manager = true
 knows (Holder policies) = true
 
 by_manager : (acl : Acl) (secret : Option Name) (b : Bool) → is_manager acl secret ≡ b → is_known acl secret ≡ b → (command : AdminCommand) → may_administer acl secret command ≡ b
-by_manager acl secret b m k admins.ListNamespaces = k
-by_manager acl secret b m k (admins.PutNamespace name namespace) = m
-by_manager acl secret b m k (admins.DeleteNamespace name) = m
-by_manager acl secret b m k admins.ListQuotas = m
-by_manager acl secret b m k (admins.ReadQuota name) = m
-by_manager acl secret b m k (admins.PutQuota name quota) = m
-by_manager acl secret b m k (admins.DeleteQuota name) = m
-by_manager acl secret b m k admins.ListPools = k
-by_manager acl secret b m k (admins.PutPool name pool) = m
-by_manager acl secret b m k (admins.DeletePool name) = m
-by_manager acl secret b m k (admins.ReadPolicy name) = m
-by_manager acl secret b m k (admins.PutPolicy name policy) = m
-by_manager acl secret b m k (admins.DeletePolicy name) = m
-by_manager acl secret b m k (admins.CreateToken new) = m
-by_manager acl secret b m k (admins.DeleteToken accessor) = m
+by_manager acl secret b m k AdminCommand.ListNamespaces = k
+by_manager acl secret b m k (AdminCommand.PutNamespace name namespace) = m
+by_manager acl secret b m k (AdminCommand.DeleteNamespace name) = m
+by_manager acl secret b m k AdminCommand.ListQuotas = m
+by_manager acl secret b m k (AdminCommand.ReadQuota name) = m
+by_manager acl secret b m k (AdminCommand.PutQuota name quota) = m
+by_manager acl secret b m k (AdminCommand.DeleteQuota name) = m
+by_manager acl secret b m k AdminCommand.ListPools = k
+by_manager acl secret b m k (AdminCommand.PutPool name pool) = m
+by_manager acl secret b m k (AdminCommand.DeletePool name) = m
+by_manager acl secret b m k (AdminCommand.ReadPolicy name) = m
+by_manager acl secret b m k (AdminCommand.PutPolicy name policy) = m
+by_manager acl secret b m k (AdminCommand.DeletePolicy name) = m
+by_manager acl secret b m k (AdminCommand.CreateToken new) = m
+by_manager acl secret b m k (AdminCommand.DeleteToken accessor) = m
 
 administers : (acl : Acl) (secret : Option Name) (who : Bearer) (b : Bool) → bearer acl secret ≡ who → manages who ≡ b → knows who ≡ b → (command : AdminCommand) → may_administer acl secret command ≡ b
 unfolding manages knows
@@ -120,34 +120,34 @@ administers acl secret who b is m k command = by_manager acl secret b (ap manage
 
 unknown_denied : (acl : Acl) (secret : Name) (step : Step) → get acl.tokens secret ≡ None → law.IsBy (Some secret) step → is_allowed step acl ≡ false
 unfolding rights_of pool_rights_of manages knows
-unknown_denied acl secret (steps.Ask ns by command) none is =
+unknown_denied acl secret (Step.Ask ns by command) none is =
     ap (λ who. right_of command (rights_for acl ns who)) (unknown_bearer acl secret by none is) ∙ no_right command
-unknown_denied acl secret (steps.Admin by command) none is = administers acl by Unknown false (unknown_bearer acl secret by none is) refl refl command
-unknown_denied acl secret (steps.Node pool by command) none is =
+unknown_denied acl secret (Step.Admin by command) none is = administers acl by Unknown false (unknown_bearer acl secret by none is) refl refl command
+unknown_denied acl secret (Step.Node pool by command) none is =
     ap (λ who. pool_right_of command (pool_rights_for acl pool who)) (unknown_bearer acl secret by none is) ∙ same_pool_right false command
-unknown_denied acl secret (steps.Dequeue worker ns n) none is = absurd is
-unknown_denied acl secret (steps.Snap worker ns) none is = absurd is
-unknown_denied acl secret (steps.Submit worker ns) none is = absurd is
-unknown_denied acl secret (steps.Apply worker ns) none is = absurd is
-unknown_denied acl secret (steps.Finish worker ns) none is = absurd is
-unknown_denied acl secret (steps.Nack worker ns) none is = absurd is
+unknown_denied acl secret (Step.Dequeue worker ns n) none is = absurd is
+unknown_denied acl secret (Step.Snap worker ns) none is = absurd is
+unknown_denied acl secret (Step.Submit worker ns) none is = absurd is
+unknown_denied acl secret (Step.Apply worker ns) none is = absurd is
+unknown_denied acl secret (Step.Finish worker ns) none is = absurd is
+unknown_denied acl secret (Step.Nack worker ns) none is = absurd is
 
 pub unknown_is_denied : law.UnknownIsDenied
 unknown_is_denied s secret step none is = denied_without step s (unknown_denied s.acl secret step none is)
 
 pub manager_is_allowed : law.ManagerIsAllowed
 unfolding rights_of pool_rights_of manages knows
-manager_is_allowed acl secret token (steps.Ask ns by command) found kind is =
+manager_is_allowed acl secret token (Step.Ask ns by command) found kind is =
     ap (λ who. right_of command (rights_for acl ns who)) (manager_bearer acl secret token by found kind is) ∙ each_right command
-manager_is_allowed acl secret token (steps.Admin by command) found kind is = administers acl by Manager true (manager_bearer acl secret token by found kind is) refl refl command
-manager_is_allowed acl secret token (steps.Node pool by command) found kind is =
+manager_is_allowed acl secret token (Step.Admin by command) found kind is = administers acl by Manager true (manager_bearer acl secret token by found kind is) refl refl command
+manager_is_allowed acl secret token (Step.Node pool by command) found kind is =
     ap (λ who. pool_right_of command (pool_rights_for acl pool who)) (manager_bearer acl secret token by found kind is) ∙ same_pool_right true command
-manager_is_allowed acl secret token (steps.Dequeue worker ns n) found kind is = absurd is
-manager_is_allowed acl secret token (steps.Snap worker ns) found kind is = absurd is
-manager_is_allowed acl secret token (steps.Submit worker ns) found kind is = absurd is
-manager_is_allowed acl secret token (steps.Apply worker ns) found kind is = absurd is
-manager_is_allowed acl secret token (steps.Finish worker ns) found kind is = absurd is
-manager_is_allowed acl secret token (steps.Nack worker ns) found kind is = absurd is
+manager_is_allowed acl secret token (Step.Dequeue worker ns n) found kind is = absurd is
+manager_is_allowed acl secret token (Step.Snap worker ns) found kind is = absurd is
+manager_is_allowed acl secret token (Step.Submit worker ns) found kind is = absurd is
+manager_is_allowed acl secret token (Step.Apply worker ns) found kind is = absurd is
+manager_is_allowed acl secret token (Step.Finish worker ns) found kind is = absurd is
+manager_is_allowed acl secret token (Step.Nack worker ns) found kind is = absurd is
 
 -- ---- what rules give
 

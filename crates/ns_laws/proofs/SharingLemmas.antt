@@ -4,11 +4,11 @@ use Rattle.std.proofs.Common.{refl, sym, ap, ◌∙◌, arith, ◌⊎◌, inl, i
 use Rattle.std.specs.FinMap.{get}
 use Rattle.std.specs.List.{Contains, list_any}
 use Rattle.std.specs.Option.{option_map_or}
-use Rattle.ns_types.specs.Names.{Name, same_name, has_name}
-use Rattle.ns_types.specs.Rows.{World, Tenant, is_open, is_held}
-use Rattle.ns_types.specs.Sharing.{permits, permits_by, is_confined, pools_of, overlaps, shares, shares_with_any, strays, is_unshared}
-use Rattle.ns_types.specs.Sums.{names_quota}
-use Rattle.ns_types.specs.Tables.{any_row}
+use Rattle.ns_types.specs.State.Names.{Name, same_name, has_name}
+use Rattle.ns_types.specs.State.Rows.{World, Tenant, is_open, is_held}
+use Rattle.ns_types.specs.Access.Sharing.{permits, permits_by, is_confined, pools_of, overlaps, shares, shares_with_any, strays, is_unshared}
+use Rattle.ns_types.specs.State.Sums.{names_quota}
+use Rattle.ns_types.specs.State.Tables.{any_row}
 use Rattle.ns_types.proofs.Lists.{not_both, left_none, right_none}
 use Rattle.ns_types.proofs.Named.{one_name, same_name_is, same_name_refl, first_of_both, one_number, second_of_both}
 use Rattle.ns_types.proofs.Tables.{none_of_any}

@@ -2,11 +2,11 @@
 use Rattle.std.specs.Prelude.{◌≡◌, suc, Bool, true, false, cond, T, [], ◌∷◌, Option, None, Ok, Err, unwrap_or, is_some}
 use Rattle.std.proofs.Common.{refl, sym, ap, subst, ◌∙◌}
 use Rattle.ns_types.specs.declared.refusal.Refusal.{Refusal}
-use Rattle.ns_types.specs.declared.refusal.Refusal.TheVariants as refusals
+use Rattle.ns_types.specs.declared.refusal.Refusal.TheVariants as Refusal
 use Rattle.ns_types.specs.declared.reply.Reply.{Reply}
 use Rattle.ns_types.specs.declared.step.Step.{Step}
-use Rattle.ns_types.specs.Outcome.{Outcome, NotEnabled, Refused, Done}
-use Rattle.ns_types.specs.Rows.{State}
+use Rattle.ns_types.specs.Settling.Outcome.{Outcome, NotEnabled, Refused, Done}
+use Rattle.ns_types.specs.State.Rows.{State}
 use Rattle.ns_types.specs.Steps.{Answer, Run, after, act, said, concluded, is_allowed, is_over, reply_of, settled}
 use Rattle.ns_laws.specs.Steps.{OneOutcome, RefusalLeavesAll, AnswerEachStep, RunSplits, RunsJoin}
 
@@ -35,7 +35,7 @@ unfolding is_reply
 not_refused reply refusal e = absurd (subst T (ap is_reply e) tt)
 
 leaves_done : (over : Bool) (s s' t : State) (reply : Reply) (refusal : Refusal)
-    → cond over (said (Err refusals.Full) s) (said (Ok reply) s') ≡ said (Err refusal) t → t ≡ s
+    → cond over (said (Err Refusal.Full) s) (said (Ok reply) s') ≡ said (Err refusal) t → t ≡ s
 leaves_done true s s' t reply refusal e = sym (same_state _ _ s t e)
 leaves_done false s s' t reply refusal e = not_refused reply refusal (same_answer _ _ s' t e)
 
@@ -49,7 +49,7 @@ pub refusal_leaves_all : RefusalLeavesAll
 unfolding after
 refusal_leaves_all step s t refusal e = by (is_allowed step s.acl) e
   where
-    by : (b : Bool) → cond b (concluded step s (act step s)) (said (Err refusals.Denied) s) ≡ said (Err refusal) t → t ≡ s
+    by : (b : Bool) → cond b (concluded step s (act step s)) (said (Err Refusal.Denied) s) ≡ said (Err refusal) t → t ≡ s
     by true e = leaves_concluded step s t (act step s) refusal e
     by false e = sym (same_state _ _ s t e)
 

@@ -10,12 +10,12 @@ use Rattle.std.proofs.lemmas.Option.{none-some}
 use Rattle.ns_types.specs.declared.allocation.Allocation.{Allocation}
 use Rattle.ns_types.specs.declared.node.Node.{Node}
 use Rattle.ns_types.specs.declared.resources.Resources.{Resources}
-use Rattle.ns_types.specs.Limits.{is_amount, is_between}
-use Rattle.ns_types.specs.Lists.{Each}
-use Rattle.ns_types.specs.Names.{Name, ByName, same_name}
-use Rattle.ns_types.specs.Rows.{World, Tenant, PoolRows, is_live, is_live_on, node_at}
-use Rattle.ns_types.specs.Sums.{names_quota, tenant_sum, quota_sum, node_sum, node_load}
-use Rattle.ns_types.specs.Tables.{any_row}
+use Rattle.ns_types.specs.State.Limits.{is_amount, is_between}
+use Rattle.ns_types.specs.State.Lists.{Each}
+use Rattle.ns_types.specs.State.Names.{Name, ByName, same_name}
+use Rattle.ns_types.specs.State.Rows.{World, Tenant, PoolRows, is_live, is_live_on, node_at}
+use Rattle.ns_types.specs.State.Sums.{names_quota, tenant_sum, quota_sum, node_sum, node_load}
+use Rattle.ns_types.specs.State.Tables.{any_row}
 use Rattle.ns_types.specs.Validity.{IsSound, IsSoundNode, IsSoundAllocation}
 use Rattle.ns_types.proofs.Lists.{not_both, each, any_alike}
 use Rattle.ns_types.proofs.Named.{names, one_name, numbers, one_number, same_name_refl, first_of_both, second_of_both}
@@ -23,7 +23,7 @@ use Rattle.ns_types.proofs.Tables.{each_row, none_of_any}
 use Rattle.ns_laws.specs.Sums as law
 use Rattle.ns_laws.specs.Sums.{live_sum}
 use Rattle.ns_laws.proofs.Elements.{each_join, all_from}
-use Rattle.ns_types.specs.Resources.{is_within}
+use Rattle.ns_types.specs.State.Resources.{is_within}
 
 -- ---- sums over lists
 

@@ -3,10 +3,10 @@ use Rattle.std.specs.Prelude.{◌≡◌, ℕ, ◌≤◌, Some, IsTrue}
 use Rattle.std.specs.FinMap.{get}
 use Rattle.std.specs.List.{list_any}
 use Rattle.ns_types.specs.declared.allocation.Allocation.{Allocation}
-use Rattle.ns_types.specs.Lists.{Each}
-use Rattle.ns_types.specs.Names.{Name, same_name}
-use Rattle.ns_types.specs.Nodes.{losing_jobs}
-use Rattle.ns_types.specs.Rows.{Tenant, is_live_on}
+use Rattle.ns_types.specs.State.Lists.{Each}
+use Rattle.ns_types.specs.State.Names.{Name, same_name}
+use Rattle.ns_types.specs.Asking.Nodes.{losing_jobs}
+use Rattle.ns_types.specs.State.Rows.{Tenant, is_live_on}
 
 -- the allocation is live on the node, and of those of its job that are it has the least number
 pub record IsFirstOfJob (pool node : Name) (t : Tenant) (a : Allocation) : Type 0 where

@@ -4,11 +4,11 @@ use Rattle.std.specs.List.{AllPairs, list_any}
 use Rattle.std.specs.declared.cmp.Ordering.TheVariants.{Less}
 use Rattle.ns_types.specs.declared.resources.Resources.{Resources}
 use Rattle.ns_types.specs.declared.snapshot.LiveAllocation.{LiveAllocation}
-use Rattle.ns_types.specs.Lists.{Each}
-use Rattle.ns_types.specs.Names.{name_cmp}
-use Rattle.ns_types.specs.Placement.{Candidate, fits, best_fit}
-use Rattle.ns_types.specs.Preemption.{evictable, makes_room, victims, highest_priority, best_victims}
-use Rattle.ns_types.specs.Planning.{Choice, choice}
+use Rattle.ns_types.specs.State.Lists.{Each}
+use Rattle.ns_types.specs.State.Names.{name_cmp}
+use Rattle.ns_types.specs.Placing.Placement.{Candidate, fits, best_fit}
+use Rattle.ns_types.specs.Placing.Preemption.{evictable, makes_room, victims, highest_priority, best_victims}
+use Rattle.ns_types.specs.Placing.Planning.{Choice, choice}
 
 -- ---- what the tests say
 

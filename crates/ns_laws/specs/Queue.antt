@@ -2,11 +2,11 @@
 use Rattle.std.specs.Prelude.{◌≡◌, ◌<◌, ◌≤◌, ◌&&◌, false, List, [], ◌∷◌, ◌++◌, Some, None, IsTrue, ℕ, IsFalse}
 use Rattle.std.specs.Option.{option_map_or}
 use Rattle.ns_types.specs.declared.evaluation.Evaluation.{Evaluation}
-use Rattle.ns_types.specs.Lists.{Each}
-use Rattle.ns_types.specs.Names.{Key, has_key, Name}
-use Rattle.ns_types.specs.Queue.{served, priority_at, first_waiting}
-use Rattle.ns_types.specs.Releases.{woken, wakes}
-use Rattle.ns_types.specs.Rows.{World, evaluation_at, is_blocked, Tenant, is_pending}
+use Rattle.ns_types.specs.State.Lists.{Each}
+use Rattle.ns_types.specs.State.Names.{Key, has_key, Name}
+use Rattle.ns_types.specs.Working.Queue.{served, priority_at, first_waiting}
+use Rattle.ns_types.specs.Settling.Releases.{woken, wakes}
+use Rattle.ns_types.specs.State.Rows.{World, evaluation_at, is_blocked, Tenant, is_pending}
 use Rattle.ns_types.specs.Validity.{IsSound}
 use Rattle.ns_laws.specs.Sublist.{IsSublist}
 use Rattle.std.specs.FinMap.{get}

@@ -8,33 +8,33 @@ use Rattle.ns_types.specs.declared.acl.PoolRights.{PoolRights}
 use Rattle.ns_types.specs.declared.acl.Rule.{Rule}
 use Rattle.ns_types.specs.declared.acl.RuleKind.{RuleKind}
 use Rattle.ns_types.specs.declared.acl.Token.{Token}
-use Rattle.ns_types.specs.declared.acl.TokenKind.TheVariants as tokens
-use Rattle.ns_types.specs.declared.refusal.Refusal.TheVariants as refusals
+use Rattle.ns_types.specs.declared.acl.TokenKind.TheVariants as TokenKind
+use Rattle.ns_types.specs.declared.refusal.Refusal.TheVariants as Refusal
 use Rattle.ns_types.specs.declared.step.Step.{Step}
-use Rattle.ns_types.specs.declared.step.Step.TheVariants as steps
-use Rattle.ns_types.specs.Lists.{Each}
-use Rattle.ns_types.specs.Names.{Name}
-use Rattle.ns_types.specs.Rights.{is_exact, is_match, counting, rules_of, no_grants, granted, rights_of, pool_rights_of, no_rights}
-use Rattle.ns_types.specs.Rows.{Acl, State}
+use Rattle.ns_types.specs.declared.step.Step.TheVariants as Step
+use Rattle.ns_types.specs.State.Lists.{Each}
+use Rattle.ns_types.specs.State.Names.{Name}
+use Rattle.ns_types.specs.Access.Rights.{is_exact, is_match, counting, rules_of, no_grants, granted, rights_of, pool_rights_of, no_rights}
+use Rattle.ns_types.specs.State.Rows.{Acl, State}
 use Rattle.ns_types.specs.Steps.{after, said, is_allowed}
 
 -- ---- whom a secret stands for
 
 -- the step is asked with that secret
 abbrev pub IsBy : Option Name → Step → Type 0
-IsBy secret (steps.Ask ns by command) = by ≡ secret
-IsBy secret (steps.Admin by command) = by ≡ secret
-IsBy secret (steps.Node pool by command) = by ≡ secret
+IsBy secret (Step.Ask ns by command) = by ≡ secret
+IsBy secret (Step.Admin by command) = by ≡ secret
+IsBy secret (Step.Node pool by command) = by ≡ secret
 IsBy secret _ = ⊥
 
 -- whatever is asked with an unknown secret is denied
 abbrev pub UnknownIsDenied : Type 0
 UnknownIsDenied = (s : State) (secret : Name) (step : Step) → get s.acl.tokens secret ≡ None → IsBy (Some secret) step
-    → after step s ≡ said (Err refusals.Denied) s
+    → after step s ≡ said (Err Refusal.Denied) s
 
 -- with a token of the kind `management` nothing is denied
 abbrev pub ManagerIsAllowed : Type 0
-ManagerIsAllowed = (acl : Acl) (secret : Name) (token : Token) (step : Step) → get acl.tokens secret ≡ Some token → token.kind ≡ tokens.Management
+ManagerIsAllowed = (acl : Acl) (secret : Name) (token : Token) (step : Step) → get acl.tokens secret ≡ Some token → token.kind ≡ TokenKind.Management
     → IsBy (Some secret) step → IsTrue (is_allowed step acl)
 
 -- ---- what rules give

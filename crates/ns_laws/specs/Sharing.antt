@@ -7,9 +7,9 @@ use Rattle.ns_types.specs.declared.evaluation.Evaluation.{Evaluation}
 use Rattle.ns_types.specs.declared.records.Namespace.{Namespace}
 use Rattle.ns_types.specs.declared.snapshot.Snapshot.{Snapshot}
 use Rattle.ns_types.specs.declared.worker.Worker.{Worker}
-use Rattle.ns_types.specs.Names.{Name}
-use Rattle.ns_types.specs.Rows.{World, Tenant, is_open, is_held}
-use Rattle.ns_types.specs.Sharing.{permits, is_unshared}
+use Rattle.ns_types.specs.State.Names.{Name}
+use Rattle.ns_types.specs.State.Rows.{World, Tenant, is_open, is_held}
+use Rattle.ns_types.specs.Access.Sharing.{permits, is_unshared}
 
 -- with a list of allowed pools, a namespace may use its default and those of the list
 abbrev pub ConfinedToItsPools : Type 0

@@ -2,9 +2,9 @@
 use Rattle.std.specs.Prelude.{ℕ, ◌<◌, ◌^◌, sum_by}
 use Rattle.std.specs.FinMap.{entries}
 use Rattle.ns_types.specs.declared.resources.Resources.{Resources}
-use Rattle.ns_types.specs.Names.{Name}
-use Rattle.ns_types.specs.Rows.{State, World, is_live}
-use Rattle.ns_types.specs.Sums.{tenant_sum, quota_use, node_load}
+use Rattle.ns_types.specs.State.Names.{Name}
+use Rattle.ns_types.specs.State.Rows.{State, World, is_live}
+use Rattle.ns_types.specs.State.Sums.{tenant_sum, quota_use, node_load}
 use Rattle.ns_types.specs.Validity.{IsValid}
 
 -- no resource reaches 2 ^ 55

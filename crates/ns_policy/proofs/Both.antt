@@ -5,9 +5,9 @@ use Rattle.ns_policy.specs.declared.fault.RuleFault.TheVariants.{Syntax}
 use Rattle.ns_types.specs.declared.acl.RuleKind.{RuleKind}
 use Rattle.ns_types.specs.declared.acl.Rule.{Rule}
 use Rattle.ns_policy.specs.declared.parser.Role.{Role}
-use Rattle.ns_policy.specs.declared.parser.Role.TheVariants as roles
+use Rattle.ns_policy.specs.declared.parser.Role.TheVariants as Role
 use Rattle.ns_policy.specs.declared.parser.Place.{Place}
-use Rattle.ns_policy.specs.declared.parser.Place.TheVariants as places
+use Rattle.ns_policy.specs.declared.parser.Place.TheVariants as Place
 use Rattle.ns_policy.specs.declared.parser.State.{State}
 use Rattle.ns_policy.specs.Rules.{Read, ◌>>=◌, with_policy, with_capability, pattern_of}
 use Rattle.ns_policy.specs.Grammar.{role_of, draft_of, unless, enter, leave, named, set_policy, begin_capabilities, add_capability, is_item, max_lists, blocks, start, finish}
@@ -64,24 +64,24 @@ capabilities_deep d s none h = h
 capabilities_deep d s (one v vs) h = post_then (capability_in s v) _ _ (capability_deep s v) (λ a k. capabilities_deep d a vs (k ∙ h))
 
 attribute_deep : (s : State) (role : Role) (v : Tree) → Deep s.depth (attribute_in s role v)
-attribute_deep s roles.Policy (text w) = policy_deep s w
-attribute_deep s roles.Policy (flag b) = tt
-attribute_deep s roles.Policy digits = tt
-attribute_deep s roles.Policy (list vs trailing) = tt
-attribute_deep s roles.Capabilities (text w) = tt
-attribute_deep s roles.Capabilities (flag b) = tt
-attribute_deep s roles.Capabilities digits = tt
-attribute_deep s roles.Capabilities (list vs trailing) = post_then (begin_capabilities s) _ _ (begin_deep s) (λ a k. capabilities_deep s.depth a vs k)
-attribute_deep s (roles.Block kind) v = refl
-attribute_deep s roles.Other v = refl
+attribute_deep s Role.Policy (text w) = policy_deep s w
+attribute_deep s Role.Policy (flag b) = tt
+attribute_deep s Role.Policy digits = tt
+attribute_deep s Role.Policy (list vs trailing) = tt
+attribute_deep s Role.Capabilities (text w) = tt
+attribute_deep s Role.Capabilities (flag b) = tt
+attribute_deep s Role.Capabilities digits = tt
+attribute_deep s Role.Capabilities (list vs trailing) = post_then (begin_capabilities s) _ _ (begin_deep s) (λ a k. capabilities_deep s.depth a vs k)
+attribute_deep s (Role.Block kind) v = refl
+attribute_deep s Role.Other v = refl
 
 opened_deep : (s : State) (role : Role) (ls : List (List ℕ)) → Deep (s.depth + 1) (opened s role ls)
-opened_deep s (roles.Block kind) [] = tt
-opened_deep s (roles.Block kind) (l ∷ []) = post_then (named s kind l) _ _ (named_deep s kind l) (λ a k. subst (λ (d : ℕ). Deep (d + 1) (enter a)) k (enter_deep a))
-opened_deep s (roles.Block kind) (l ∷ m ∷ ls) = tt
-opened_deep s roles.Other ls = enter_deep s
-opened_deep s roles.Policy ls = tt
-opened_deep s roles.Capabilities ls = tt
+opened_deep s (Role.Block kind) [] = tt
+opened_deep s (Role.Block kind) (l ∷ []) = post_then (named s kind l) _ _ (named_deep s kind l) (λ a k. subst (λ (d : ℕ). Deep (d + 1) (enter a)) k (enter_deep a))
+opened_deep s (Role.Block kind) (l ∷ m ∷ ls) = tt
+opened_deep s Role.Other ls = enter_deep s
+opened_deep s Role.Policy ls = tt
+opened_deep s Role.Capabilities ls = tt
 
 mutual
   item_deep : (i : Item) (d : ℕ) (s : State) → s.depth ≡ d → Deep d (item_in s i)
@@ -96,11 +96,11 @@ mutual
 
 -- ---- laws
 
-finished : (s : State) → s.place ≡ places.Item → s.depth ≡ 0 → finish s ≡ Ok s.rules
+finished : (s : State) → s.place ≡ Place.Item → s.depth ≡ 0 → finish s ≡ Ok s.rules
 unfolding finish
 finished s here level = rw (here, level) refl
 
-all_finished : (r : Read State) → Post r (λ a. a.place ≡ places.Item) → Post r (λ a. a.depth ≡ 0) → (r >>= finish) ≡ (r >>= λ a. Ok a.rules)
+all_finished : (r : Read State) → Post r (λ a. a.place ≡ Place.Item) → Post r (λ a. a.depth ≡ 0) → (r >>= finish) ≡ (r >>= λ a. Ok a.rules)
 all_finished (Ok a) here level = finished a here level
 all_finished (Err e) here level = refl
 
@@ -114,15 +114,15 @@ both true true h = (refl, refl)
 both true false h = (refl, h)
 both false y h = absurd (true≢false (sym h))
 
-placed_item : (p : Place) → is_item p ≡ true → p ≡ places.Item
-placed_item places.Item h = refl
+placed_item : (p : Place) → is_item p ≡ true → p ≡ Place.Item
+placed_item Place.Item h = refl
 placed_item _ h = absurd (true≢false (sym h))
 
 ends : (c : Bool) (a : State) (rules : List Rule) → (if c then Ok a.rules else Err Syntax) ≡ Ok rules → c ≡ true
 ends true a rules h = refl
 ends false a rules h = cc
 
-done : (a : State) (rules : List Rule) → finish a ≡ Ok rules → (a.place ≡ places.Item) × (a.depth ≡ 0)
+done : (a : State) (rules : List Rule) → finish a ≡ Ok rules → (a.place ≡ Place.Item) × (a.depth ≡ 0)
 unfolding finish
 done a rules h =
     let p = both (is_item a.place) (a.depth == 0) (ends (is_item a.place && (a.depth == 0)) a rules h) in
@@ -133,7 +133,7 @@ tokens_are_read is fits =
     let read : run start (items_tokens is) ≡ items_in start is = ap (run start) (sym (append-nil (items_tokens is))) ∙ items_read is start [] fits ∙ bind_run (items_in start is) in
     ap (λ r. r >>= finish) read ∙ all_finished (items_in start is) (items_placed start is refl) (items_deep is 0 start refl)
 
-finish_ok : (r : Read State) (rules : List Rule) → (r >>= finish) ≡ Ok rules → (a : State) × (r ≡ Ok a) × (a.place ≡ places.Item) × (a.depth ≡ 0)
+finish_ok : (r : Read State) (rules : List Rule) → (r >>= finish) ≡ Ok rules → (a : State) × (r ≡ Ok a) × (a.place ≡ Place.Item) × (a.depth ≡ 0)
 finish_ok (Ok a) rules h = let p = done a rules h in (a, refl, p.0, p.1)
 finish_ok (Err e) rules h = cc
 

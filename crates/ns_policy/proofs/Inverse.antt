@@ -5,9 +5,9 @@ use Rattle.std.proofs.lemmas.Slice.Eq.{bytes_eq-Decides}
 use Rattle.std.specs.Bool.{Decides}
 use Rattle.std.proofs.lemmas.Bool.{eqb-false, ltb-false, lt-ltb}
 use Rattle.ns_policy.specs.declared.parser.Role.{Role}
-use Rattle.ns_policy.specs.declared.parser.Role.TheVariants as roles
+use Rattle.ns_policy.specs.declared.parser.Role.TheVariants as Role
 use Rattle.ns_policy.specs.declared.parser.Place.{Place}
-use Rattle.ns_policy.specs.declared.parser.Place.TheVariants as places
+use Rattle.ns_policy.specs.declared.parser.Place.TheVariants as Place
 use Rattle.ns_policy.specs.declared.parser.State.{State}
 use Rattle.ns_policy.specs.Lex.{Token, open_block, close_block, begin_list, end_list, comma, equals, word, string, number}
 use Rattle.ns_policy.specs.Rules.{Read, ◌>>=◌, with_policy, with_capability, pattern_of}
@@ -40,26 +40,26 @@ Assigned d ts = (us : List Token) × (ts ≡ equals ∷ us) × Valued d us
 
 -- capabilities are no lists of lists
 abbrev Narrow : Role → ℕ → Type 0
-Narrow roles.Capabilities n = n ≡ 0
-Narrow (roles.Block kind) n = Unit {0}
-Narrow roles.Policy n = Unit {0}
-Narrow roles.Other n = Unit {0}
+Narrow Role.Capabilities n = n ≡ 0
+Narrow (Role.Block kind) n = Unit {0}
+Narrow Role.Policy n = Unit {0}
+Narrow Role.Other n = Unit {0}
 
 fewer : (role : Role) (n : ℕ) → Narrow role (suc n) → Narrow role n
-fewer roles.Capabilities n h = absurd (omega arith)
-fewer (roles.Block kind) n h = tt
-fewer roles.Policy n h = tt
-fewer roles.Other n h = tt
+fewer Role.Capabilities n h = absurd (omega arith)
+fewer (Role.Block kind) n h = tt
+fewer Role.Policy n h = tt
+fewer Role.Other n h = tt
 
 abbrev Left : Place → ℕ → List Token → Type 0
-Left places.Item d ts = Blocks d ts
-Left (places.Name role) d ts = Labels d ts ⊎ Assigned d ts
-Left (places.Label role) d ts = Labels d ts
-Left (places.Value role) d ts = Valued d ts
-Left (places.Before role zero) d ts = Unit {0}
-Left (places.Before role (suc n)) d ts = Narrow role n → Firsts n d ts
-Left (places.After role zero) d ts = Unit {0}
-Left (places.After role (suc n)) d ts = Narrow role n → Lists (suc n) d ts
+Left Place.Item d ts = Blocks d ts
+Left (Place.Name role) d ts = Labels d ts ⊎ Assigned d ts
+Left (Place.Label role) d ts = Labels d ts
+Left (Place.Value role) d ts = Valued d ts
+Left (Place.Before role zero) d ts = Unit {0}
+Left (Place.Before role (suc n)) d ts = Narrow role n → Firsts n d ts
+Left (Place.After role zero) d ts = Unit {0}
+Left (Place.After role (suc n)) d ts = Narrow role n → Lists (suc n) d ts
 
 -- a token may stand before what is left after it
 abbrev Back : Place → ℕ → Token → List Token → State → Type 0
@@ -91,7 +91,7 @@ item_back w d ts (inr a) = attribute_back w d ts a
 closing : (d e : ℕ) (ts : List Token) → d ≡ suc e → Blocks e ts → Blocks d (close_block ∷ ts)
 closing d e ts h b = subst (λ x. Blocks x (close_block ∷ ts)) (sym h) (no_items, ts, refl, b)
 
-leave_back : (s : State) (ts : List Token) → Post (leave s) (Back places.Item s.depth close_block ts)
+leave_back : (s : State) (ts : List Token) → Post (leave s) (Back Place.Item s.depth close_block ts)
 unfolding leave
 leave_back s ts =
     post_if_is (s.depth == 0) _ _ _ (λ h. tt)
@@ -129,37 +129,37 @@ after_comma : (n d : ℕ) (ts us : List Token) (vs : Trees) (trailing : Bool) �
 after_comma n d ts us none trailing e l = (none, true, us, ap (λ x. comma ∷ x) e, l)
 after_comma n d ts us (one v vs) trailing e l = (one v vs, trailing, us, ap (λ x. comma ∷ x) e, l)
 
-closed : (role : Role) (n d : ℕ) (ts : List Token) → Left (if nat_lt 1 (suc n) then places.After role (suc n - 1) else places.Item) d ts → Narrow role n → Lists n d ts
+closed : (role : Role) (n d : ℕ) (ts : List Token) → Left (if nat_lt 1 (suc n) then Place.After role (suc n - 1) else Place.Item) d ts → Narrow role n → Lists n d ts
 closed role zero d ts l narrow = l
 closed role (suc n) d ts l narrow =
     let test : nat_lt 1 (suc (suc n)) ≡ true = lt-ltb _ _ (omega arith) in
     let back : suc (suc n) - 1 ≡ suc n = omega arith in
-    let place_is : (if nat_lt 1 (suc (suc n)) then places.After role (suc (suc n) - 1) else places.Item) ≡ places.After role (suc n) = rw (test, back) refl in
+    let place_is : (if nat_lt 1 (suc (suc n)) then Place.After role (suc (suc n) - 1) else Place.Item) ≡ Place.After role (suc n) = rw (test, back) refl in
     subst (λ p. Left p d ts) place_is l (fewer role n narrow)
 
 -- ---- steps
 
-back_item : (s : State) (t : Token) (ts : List Token) → Post (step_item s t) (Back places.Item s.depth t ts)
+back_item : (s : State) (t : Token) (ts : List Token) → Post (step_item s t) (Back Place.Item s.depth t ts)
 unfolding step_item
 back_item s (word w) ts = λ b. item_back w s.depth ts b
 back_item s close_block ts = leave_back s ts
 back_item s _ ts = tt
 
-back_name : (s : State) (role : Role) (t : Token) (ts : List Token) → Post (step_name s role t) (Back (places.Name role) s.depth t ts)
+back_name : (s : State) (role : Role) (t : Token) (ts : List Token) → Post (step_name s role t) (Back (Place.Name role) s.depth t ts)
 unfolding step_name named
 back_name s role equals ts = λ v. inr (ts, refl, v)
-back_name s (roles.Block kind) (string l) ts = post_bind (pattern_of kind l) _ _ (λ p. λ b. inl (label l s.depth ts b))
-back_name s roles.Other (string l) ts = λ b. inl (label l s.depth ts b)
-back_name s roles.Other open_block ts = post_map (enter s) _ _ (λ a h b. inl (h b)) (enter_back s ts)
+back_name s (Role.Block kind) (string l) ts = post_bind (pattern_of kind l) _ _ (λ p. λ b. inl (label l s.depth ts b))
+back_name s Role.Other (string l) ts = λ b. inl (label l s.depth ts b)
+back_name s Role.Other open_block ts = post_map (enter s) _ _ (λ a h b. inl (h b)) (enter_back s ts)
 back_name s _ _ ts = tt
 
-back_label : (s : State) (role : Role) (t : Token) (ts : List Token) → s.place ≡ places.Label role → Post (step_label s role t) (Back (places.Label role) s.depth t ts)
+back_label : (s : State) (role : Role) (t : Token) (ts : List Token) → s.place ≡ Place.Label role → Post (step_label s role t) (Back (Place.Label role) s.depth t ts)
 unfolding step_label
-back_label s roles.Other (string l) ts here = λ b. label l s.depth ts (subst (λ p. Left p s.depth ts) here b)
-back_label s roles.Other open_block ts here = enter_back s ts
-back_label s (roles.Block kind) open_block ts here = enter_back s ts
-back_label s roles.Policy open_block ts here = enter_back s ts
-back_label s roles.Capabilities open_block ts here = enter_back s ts
+back_label s Role.Other (string l) ts here = λ b. label l s.depth ts (subst (λ p. Left p s.depth ts) here b)
+back_label s Role.Other open_block ts here = enter_back s ts
+back_label s (Role.Block kind) open_block ts here = enter_back s ts
+back_label s Role.Policy open_block ts here = enter_back s ts
+back_label s Role.Capabilities open_block ts here = enter_back s ts
 back_label s _ _ ts here = tt
 
 either_flag : (x y : Bool) (w : List ℕ) → Decides x (w ≡ codes "true") → Decides y (w ≡ codes "false") → (x || y) ≡ true → (b : Bool) × (w ≡ flag_word b)
@@ -179,51 +179,51 @@ word_first w n d ts h l = let f = is_a_flag w h in subst (λ x. Firsts n d (word
 plain_back : (s : State) (role : Role) (p : Place) (X : Type 0) (ts : List Token) → (Left p s.depth ts → X) → Post (plain s role p) (λ a. Left a.place a.depth ts → X)
 plain_back s role p X ts h = post_if (is_plain role) _ _ _ h tt
 
-back_value : (s : State) (role : Role) (t : Token) (ts : List Token) → Post (step_value s role t) (Back (places.Value role) s.depth t ts)
+back_value : (s : State) (role : Role) (t : Token) (ts : List Token) → Post (step_value s role t) (Back (Place.Value role) s.depth t ts)
 unfolding step_value set_policy begin_capabilities
-back_value s roles.Policy (string w) ts = post_bind (draft_of s) _ _ (λ d. post_bind (unless d.has_policy d) _ _ (λ e. post_bind (with_policy e.kind w e.grants) _ _ (λ g. λ b. alone (text w) s.depth ts b)))
-back_value s roles.Capabilities begin_list ts = post_bind (draft_of s) _ _ (λ d. post_bind (unless d.has_capabilities d) _ _ (λ e. λ b. list_alone s.depth ts (b refl)))
-back_value s (roles.Block kind) (string w) ts = λ b. alone (text w) s.depth ts b
-back_value s roles.Other (string w) ts = λ b. alone (text w) s.depth ts b
-back_value s roles.Capabilities (string w) ts = tt
-back_value s role number ts = plain_back s role places.Item _ ts (λ b. alone digits s.depth ts b)
-back_value s (roles.Block kind) begin_list ts = λ b. list_alone s.depth ts (b tt)
-back_value s roles.Other begin_list ts = λ b. list_alone s.depth ts (b tt)
-back_value s roles.Policy begin_list ts = tt
-back_value s role (word w) ts = post_if_is (is_flag w) _ _ _ (λ h. plain_back s role places.Item _ ts (λ b. word_alone w s.depth ts h b)) (λ h. tt)
+back_value s Role.Policy (string w) ts = post_bind (draft_of s) _ _ (λ d. post_bind (unless d.has_policy d) _ _ (λ e. post_bind (with_policy e.kind w e.grants) _ _ (λ g. λ b. alone (text w) s.depth ts b)))
+back_value s Role.Capabilities begin_list ts = post_bind (draft_of s) _ _ (λ d. post_bind (unless d.has_capabilities d) _ _ (λ e. λ b. list_alone s.depth ts (b refl)))
+back_value s (Role.Block kind) (string w) ts = λ b. alone (text w) s.depth ts b
+back_value s Role.Other (string w) ts = λ b. alone (text w) s.depth ts b
+back_value s Role.Capabilities (string w) ts = tt
+back_value s role number ts = plain_back s role Place.Item _ ts (λ b. alone digits s.depth ts b)
+back_value s (Role.Block kind) begin_list ts = λ b. list_alone s.depth ts (b tt)
+back_value s Role.Other begin_list ts = λ b. list_alone s.depth ts (b tt)
+back_value s Role.Policy begin_list ts = tt
+back_value s role (word w) ts = post_if_is (is_flag w) _ _ _ (λ h. plain_back s role Place.Item _ ts (λ b. word_alone w s.depth ts h b)) (λ h. tt)
 back_value s role _ ts = tt
 
 in_list_back : (s : State) (role : Role) (p : Place) (X : Type 0) (ts : List Token) → (Left p s.depth ts → X) → Post (in_list s role p) (λ a. Left a.place a.depth ts → X)
-in_list_back s roles.Capabilities p X ts h = tt
-in_list_back s (roles.Block kind) p X ts h = h
-in_list_back s roles.Policy p X ts h = h
-in_list_back s roles.Other p X ts h = h
+in_list_back s Role.Capabilities p X ts h = tt
+in_list_back s (Role.Block kind) p X ts h = h
+in_list_back s Role.Policy p X ts h = h
+in_list_back s Role.Other p X ts h = h
 
-end_back : (role : Role) (n d : ℕ) (ts : List Token) → Left (if nat_lt 1 (suc n) then places.After role (suc n - 1) else places.Item) d ts → Narrow role n → Firsts n d (end_list ∷ ts)
+end_back : (role : Role) (n d : ℕ) (ts : List Token) → Left (if nat_lt 1 (suc n) then Place.After role (suc n - 1) else Place.Item) d ts → Narrow role n → Firsts n d (end_list ∷ ts)
 end_back role n d ts l narrow = (none, false, ts, refl, closed role n d ts l narrow)
 
-more_open : (role : Role) (n d : ℕ) (ts : List Token) → Narrow role (suc n) → Left (places.Before role (suc n + 1)) d ts → Firsts n d (begin_list ∷ ts)
-more_open role n d ts narrow l = first_list n d ts (subst (λ (m : ℕ). Left (places.Before role m) d ts) (add-one (suc n)) l narrow)
+more_open : (role : Role) (n d : ℕ) (ts : List Token) → Narrow role (suc n) → Left (Place.Before role (suc n + 1)) d ts → Firsts n d (begin_list ∷ ts)
+more_open role n d ts narrow l = first_list n d ts (subst (λ (m : ℕ). Left (Place.Before role m) d ts) (add-one (suc n)) l narrow)
 
 a_capability : (w : List ℕ) (n d : ℕ) (ts : List Token) → Lists 1 d ts → n ≡ 0 → Firsts n d (string w ∷ ts)
 a_capability w n d ts l narrow = subst (λ (m : ℕ). Firsts m d (string w ∷ ts)) (sym narrow) (first (text w) 0 d ts l)
 
-back_before : (s : State) (role : Role) (n : ℕ) (t : Token) (ts : List Token) → Post (step_before s role (suc n) t) (Back (places.Before role (suc n)) s.depth t ts)
+back_before : (s : State) (role : Role) (n : ℕ) (t : Token) (ts : List Token) → Post (step_before s role (suc n) t) (Back (Place.Before role (suc n)) s.depth t ts)
 unfolding step_before add_capability
 back_before s role n end_list ts = λ l narrow. end_back role n s.depth ts l narrow
-back_before s roles.Capabilities n (string w) ts = post_bind (draft_of s) _ _ (λ d. post_bind (with_capability d.kind w d.grants) _ _ (λ g. λ l narrow. a_capability w n s.depth ts (l refl) narrow))
-back_before s (roles.Block kind) n (string w) ts = λ l narrow. first (text w) n s.depth ts (l narrow)
-back_before s roles.Policy n (string w) ts = λ l narrow. first (text w) n s.depth ts (l narrow)
-back_before s roles.Other n (string w) ts = λ l narrow. first (text w) n s.depth ts (l narrow)
-back_before s role n number ts = in_list_back s role (places.After role (suc n)) _ ts (λ l narrow. first digits n s.depth ts (l narrow))
-back_before s roles.Capabilities n begin_list ts = tt
-back_before s (roles.Block kind) n begin_list ts = post_if (nat_lt (suc n) max_lists) _ _ _ (λ l narrow. more_open (roles.Block kind) n s.depth ts tt l) tt
-back_before s roles.Policy n begin_list ts = post_if (nat_lt (suc n) max_lists) _ _ _ (λ l narrow. more_open roles.Policy n s.depth ts tt l) tt
-back_before s roles.Other n begin_list ts = post_if (nat_lt (suc n) max_lists) _ _ _ (λ l narrow. more_open roles.Other n s.depth ts tt l) tt
-back_before s role n (word w) ts = post_if_is (is_flag w) _ _ _ (λ h. in_list_back s role (places.After role (suc n)) _ ts (λ l narrow. word_first w n s.depth ts h (l narrow))) (λ h. tt)
+back_before s Role.Capabilities n (string w) ts = post_bind (draft_of s) _ _ (λ d. post_bind (with_capability d.kind w d.grants) _ _ (λ g. λ l narrow. a_capability w n s.depth ts (l refl) narrow))
+back_before s (Role.Block kind) n (string w) ts = λ l narrow. first (text w) n s.depth ts (l narrow)
+back_before s Role.Policy n (string w) ts = λ l narrow. first (text w) n s.depth ts (l narrow)
+back_before s Role.Other n (string w) ts = λ l narrow. first (text w) n s.depth ts (l narrow)
+back_before s role n number ts = in_list_back s role (Place.After role (suc n)) _ ts (λ l narrow. first digits n s.depth ts (l narrow))
+back_before s Role.Capabilities n begin_list ts = tt
+back_before s (Role.Block kind) n begin_list ts = post_if (nat_lt (suc n) max_lists) _ _ _ (λ l narrow. more_open (Role.Block kind) n s.depth ts tt l) tt
+back_before s Role.Policy n begin_list ts = post_if (nat_lt (suc n) max_lists) _ _ _ (λ l narrow. more_open Role.Policy n s.depth ts tt l) tt
+back_before s Role.Other n begin_list ts = post_if (nat_lt (suc n) max_lists) _ _ _ (λ l narrow. more_open Role.Other n s.depth ts tt l) tt
+back_before s role n (word w) ts = post_if_is (is_flag w) _ _ _ (λ h. in_list_back s role (Place.After role (suc n)) _ ts (λ l narrow. word_first w n s.depth ts h (l narrow))) (λ h. tt)
 back_before s role n _ ts = tt
 
-back_after : (s : State) (role : Role) (n : ℕ) (t : Token) (ts : List Token) → Post (step_after s role (suc n) t) (Back (places.After role (suc n)) s.depth t ts)
+back_after : (s : State) (role : Role) (n : ℕ) (t : Token) (ts : List Token) → Post (step_after s role (suc n) t) (Back (Place.After role (suc n)) s.depth t ts)
 unfolding step_after
 back_after s role n comma ts = λ l narrow. let f = l narrow in after_comma n s.depth ts f.2 f.0 f.1 f.3 f.4
 back_after s role n end_list ts = λ l narrow. (none, false, ts, refl, closed role n s.depth ts l narrow)
@@ -234,14 +234,14 @@ unasked (Ok a) Q = λ q. tt
 unasked (Err e) Q = tt
 
 back : (s : State) (p : Place) (t : Token) (ts : List Token) → s.place ≡ p → Post (step_at s p t) (Back p s.depth t ts)
-back s places.Item t ts here = back_item s t ts
-back s (places.Name role) t ts here = back_name s role t ts
-back s (places.Label role) t ts here = back_label s role t ts here
-back s (places.Value role) t ts here = back_value s role t ts
-back s (places.Before role zero) t ts here = unasked (step_before s role zero t) _
-back s (places.Before role (suc n)) t ts here = back_before s role n t ts
-back s (places.After role zero) t ts here = unasked (step_after s role zero t) _
-back s (places.After role (suc n)) t ts here = back_after s role n t ts
+back s Place.Item t ts here = back_item s t ts
+back s (Place.Name role) t ts here = back_name s role t ts
+back s (Place.Label role) t ts here = back_label s role t ts here
+back s (Place.Value role) t ts here = back_value s role t ts
+back s (Place.Before role zero) t ts here = unasked (step_before s role zero t) _
+back s (Place.Before role (suc n)) t ts here = back_before s role n t ts
+back s (Place.After role zero) t ts here = unasked (step_after s role zero t) _
+back s (Place.After role (suc n)) t ts here = back_after s role n t ts
 
 -- ---- runs
 
@@ -249,11 +249,11 @@ goes : (r : Read State) (ts : List Token) (end : State) (X : Type 0) → Post r 
 goes (Ok a) ts end X post rest h = post (rest a h)
 goes (Err e) ts end X post rest h = cc
 
-pub left_of : (ts : List Token) (s end : State) → end.place ≡ places.Item → end.depth ≡ 0 → run s ts ≡ Ok end → Left s.place s.depth ts
+pub left_of : (ts : List Token) (s end : State) → end.place ≡ Place.Item → end.depth ≡ 0 → run s ts ≡ Ok end → Left s.place s.depth ts
 unfolding run step
 left_of [] s end here level h =
     let same : s ≡ end = cc in
-    let place_is : places.Item ≡ s.place = sym (ap (λ a. a.place) same ∙ here) in
+    let place_is : Place.Item ≡ s.place = sym (ap (λ a. a.place) same ∙ here) in
     let depth_is : 0 ≡ s.depth = sym (ap (λ a. a.depth) same ∙ level) in
     subst (λ p. Left p s.depth []) place_is (subst (λ (d : ℕ). Blocks d []) depth_is (no_items, refl))
 left_of (t ∷ ts) s end here level h = goes (step s t) ts end (Left s.place s.depth (t ∷ ts)) (back s s.place t ts refl) (λ a k. left_of ts a end here level k) h

@@ -6,7 +6,7 @@ use Rattle.serde_json.specs.Find.{as_array}
 use Rattle.serde_json.specs.View.{view, items_view, members_view}
 use Rattle.serde_json.specs.declared.value.Value.{Value}
 use Rattle.ns_policy.specs.declared.fault.RuleFault.{RuleFault}
-use Rattle.ns_policy.specs.declared.fault.RuleFault.TheVariants as faults
+use Rattle.ns_policy.specs.declared.fault.RuleFault.TheVariants as RuleFault
 use Rattle.ns_types.specs.declared.acl.RuleKind.{RuleKind}
 use Rattle.ns_types.specs.declared.acl.Grants.{Grants}
 use Rattle.ns_types.specs.declared.acl.Rule.{Rule}
@@ -15,9 +15,9 @@ use Rattle.ns_policy.specs.Json.{each_capability, one_capability, each_rule, wit
 
 -- where the first step of a reading fails, so does the whole
 pub fails_first : {A B : Type 0} (f : RuleFault) (first : Read A) (more : A → Read B) (whole : Read B) → whole ≡ (first >>= more) → Fails f first → Fails f whole
-fails_first faults.Memory first more whole is bad = tt
-fails_first faults.Syntax first more whole is bad = is ∙ rw bad refl
-fails_first faults.Value first more whole is bad = is ∙ rw bad refl
+fails_first RuleFault.Memory first more whole is bad = tt
+fails_first RuleFault.Syntax first more whole is bad = is ∙ rw bad refl
+fails_first RuleFault.Value first more whole is bad = is ∙ rw bad refl
 
 next : (vs : List Value) (i : ℕ) (v : Value) → i < length vs → v ≡ get_or vs i v → items_view (drop i vs) ≡ item (view v) (items_view (drop (i + 1) vs))
 next vs i v lt is = ap items_view (drop_more vs i v lt) ∙ rw (← is) refl

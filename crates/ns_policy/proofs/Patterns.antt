@@ -6,19 +6,19 @@ use Rattle.std.proofs.lemmas.List.Sums.{AllPass-from_list_all}
 use Rattle.std.proofs.lemmas.Str.{IsUtf8-from_ascii}
 use Rattle.std.proofs.lemmas.Str.Ascii.{IsAscii-from_all}
 use Rattle.ns_types.specs.declared.name.NameKind.{NameKind}
-use Rattle.ns_types.specs.declared.name.NameKind.TheVariants as names
-use Rattle.ns_types.specs.Name.{is_name_byte}
+use Rattle.ns_types.specs.declared.name.NameKind.TheVariants as NameKind
+use Rattle.ns_types.specs.State.Name.{is_name_byte}
 
 name_byte_is_ascii : (kind : NameKind) (b : ℕ) → is_name_byte kind b ≡ true → b < 128
-name_byte_is_ascii names.Namespace b h = grind (arith, nat_tests)
-name_byte_is_ascii names.Policy b h = grind (arith, nat_tests)
-name_byte_is_ascii names.Pool b h = grind (arith, nat_tests)
-name_byte_is_ascii names.Quota b h = grind (arith, nat_tests)
-name_byte_is_ascii names.Node b h = grind (arith, nat_tests)
-name_byte_is_ascii names.Job b h = grind (arith, nat_tests)
-name_byte_is_ascii names.Group b h = grind (arith, nat_tests)
-name_byte_is_ascii names.Task b h = grind (arith, nat_tests)
-name_byte_is_ascii names.Secret b h = grind (arith, nat_tests)
+name_byte_is_ascii NameKind.Namespace b h = grind (arith, nat_tests)
+name_byte_is_ascii NameKind.Policy b h = grind (arith, nat_tests)
+name_byte_is_ascii NameKind.Pool b h = grind (arith, nat_tests)
+name_byte_is_ascii NameKind.Quota b h = grind (arith, nat_tests)
+name_byte_is_ascii NameKind.Node b h = grind (arith, nat_tests)
+name_byte_is_ascii NameKind.Job b h = grind (arith, nat_tests)
+name_byte_is_ascii NameKind.Group b h = grind (arith, nat_tests)
+name_byte_is_ascii NameKind.Task b h = grind (arith, nat_tests)
+name_byte_is_ascii NameKind.Secret b h = grind (arith, nat_tests)
 
 pub names_are_utf8 : (kind : NameKind) (s : List ℕ) → list_all (is_name_byte kind) s ≡ true → IsUtf8 s
 names_are_utf8 kind s h =

@@ -2,12 +2,12 @@
 use Rattle.std.proofs.Common.{◌≡◌, ℕ, List, Bool, true, false, Ok, Err, Some, refl, sym, subst, nat_lt, nat_le, ◌==◌, if◌then◌else◌}
 use Rattle.ns_policy.specs.declared.fault.RuleFault.TheVariants.{Value}
 use Rattle.ns_types.specs.declared.acl.RuleKind.{RuleKind}
-use Rattle.ns_policy.specs.declared.parser.Role.TheVariants as roles
+use Rattle.ns_policy.specs.declared.parser.Role.TheVariants as Role
 use Rattle.ns_policy.specs.declared.parser.Place.{Place}
-use Rattle.ns_policy.specs.declared.parser.Place.TheVariants as places
+use Rattle.ns_policy.specs.declared.parser.Place.TheVariants as Place
 use Rattle.ns_policy.specs.declared.parser.State.{State}
 use Rattle.ns_types.specs.declared.acl.Pattern.{Pattern}
-use Rattle.ns_types.specs.Rights.{no_grants}
+use Rattle.ns_types.specs.Access.Rights.{no_grants}
 use Rattle.ns_policy.specs.Rules.{Read, ◌>>=◌, with_policy, with_capability, pattern_of}
 use Rattle.ns_policy.specs.Grammar.{at, enter, leave, named, set_policy, begin_capabilities, add_capability, draft_of, unless}
 
@@ -55,27 +55,27 @@ pub along : {A : Type 0} (p : Place) (r : Read State) (f g : State → Read A) �
 along p (Ok a) f g h same = subst (λ (q : Place). f (at a q) ≡ g (at a q)) (sym h) (same a)
 along p (Err e) f g h same = refl
 
-pub enter_placed : (s : State) → Placed places.Item (enter s)
+pub enter_placed : (s : State) → Placed Place.Item (enter s)
 unfolding enter
 enter_placed s = post_if (nat_le 16 s.depth) _ _ _ tt refl
 
-pub leave_placed : (s : State) → Placed places.Item (leave s)
+pub leave_placed : (s : State) → Placed Place.Item (leave s)
 unfolding leave
 leave_placed s = post_if (s.depth == 0) _ _ _ tt (post_if (nat_lt 1 s.depth) _ _ _ refl refl)
 
-pub named_placed : (s : State) (kind : RuleKind) (l : List ℕ) → Placed (places.Label (roles.Block kind)) (named s kind l)
+pub named_placed : (s : State) (kind : RuleKind) (l : List ℕ) → Placed (Place.Label (Role.Block kind)) (named s kind l)
 unfolding named
 named_placed s kind l = post_bind (pattern_of kind l) _ _ (λ p. refl)
 
-pub policy_placed : (s : State) (w : List ℕ) → Placed places.Item (set_policy s w)
+pub policy_placed : (s : State) (w : List ℕ) → Placed Place.Item (set_policy s w)
 unfolding set_policy
 policy_placed s w = post_bind (draft_of s) _ _ (λ d. post_bind (unless d.has_policy d) _ _ (λ e. post_bind (with_policy e.kind w e.grants) _ _ (λ g. refl)))
 
-pub begin_placed : (s : State) → Placed (places.Before roles.Capabilities 1) (begin_capabilities s)
+pub begin_placed : (s : State) → Placed (Place.Before Role.Capabilities 1) (begin_capabilities s)
 unfolding begin_capabilities
 begin_placed s = post_bind (draft_of s) _ _ (λ d. post_bind (unless d.has_capabilities d) _ _ (λ e. refl))
 
-pub add_placed : (s : State) (w : List ℕ) → Placed (places.After roles.Capabilities 1) (add_capability s w)
+pub add_placed : (s : State) (w : List ℕ) → Placed (Place.After Role.Capabilities 1) (add_capability s w)
 unfolding add_capability
 add_placed s w = post_bind (draft_of s) _ _ (λ d. post_bind (with_capability d.kind w d.grants) _ _ (λ g. refl))
 
@@ -84,6 +84,6 @@ broken true x k f h = h x
 broken false x k f h = refl
 
 -- a pattern is only broken by a value
-pub pattern_fault : {A : Type 0} (s : State) (kind : RuleKind) (l : List ℕ) (f : State → Read A) → ((a : State) → f (at a (places.Label (roles.Block kind))) ≡ Err Value) → (named s kind l >>= f) ≡ Err Value
+pub pattern_fault : {A : Type 0} (s : State) (kind : RuleKind) (l : List ℕ) (f : State → Read A) → ((a : State) → f (at a (Place.Label (Role.Block kind))) ≡ Err Value) → (named s kind l >>= f) ≡ Err Value
 unfolding named pattern_of
-pattern_fault s kind l f h = broken _ _ _ f (λ p. h (record s { draft = Some (record { kind = kind; pattern = p; grants = no_grants; has_policy = false; has_capabilities = false }); place = places.Label (roles.Block kind) }))
+pattern_fault s kind l f h = broken _ _ _ f (λ p. h (record s { draft = Some (record { kind = kind; pattern = p; grants = no_grants; has_policy = false; has_capabilities = false }); place = Place.Label (Role.Block kind) }))

@@ -8,7 +8,7 @@ use Rattle.ns_types.specs.declared.acl.RuleKind.{RuleKind}
 use Rattle.ns_types.specs.declared.acl.RuleKind.TheVariants.{Namespace, Pool}
 use Rattle.ns_types.specs.declared.acl.Grants.{Grants}
 use Rattle.ns_types.specs.declared.acl.Rule.{Rule}
-use Rattle.ns_types.specs.Rights.{no_grants}
+use Rattle.ns_types.specs.Access.Rights.{no_grants}
 use Rattle.ns_policy.specs.Lex.{is_json}
 use Rattle.ns_policy.specs.Rules.{Read, ◌>>=◌, with_policy, with_capability, pattern_of}
 use Rattle.ns_policy.specs.Grammar.{blocks}

@@ -3,8 +3,8 @@ use Rattle.std.specs.Prelude.{◌≡◌, ℕ, ◌==◌, ◌-◌, ◌&&◌, nat_l
 use Rattle.std.specs.List.{list_all}
 use Rattle.std.specs.Str.{bytes_eq}
 use Rattle.ns_types.specs.declared.name.NameKind.{NameKind}
-use Rattle.ns_types.specs.declared.name.NameKind.TheVariants as names
-use Rattle.ns_types.specs.Name.{is_name_byte}
+use Rattle.ns_types.specs.declared.name.NameKind.TheVariants as NameKind
+use Rattle.ns_types.specs.State.Name.{is_name_byte}
 use Rattle.ns_policy.specs.declared.fault.RuleFault.{RuleFault}
 use Rattle.ns_policy.specs.declared.fault.RuleFault.TheVariants.{Syntax, Value, Memory}
 use Rattle.ns_types.specs.declared.acl.RuleKind.{RuleKind}
@@ -33,8 +33,8 @@ abbrev pub same : {A : Type 0} → A → A
 same x = x
 
 abbrev pub name_kind : RuleKind → NameKind
-name_kind Namespace = names.Namespace
-name_kind Pool = names.Pool
+name_kind Namespace = NameKind.Namespace
+name_kind Pool = NameKind.Pool
 
 -- `policy` of a namespace
 abbrev pub namespace_policy : List ℕ → Grants → Read Grants

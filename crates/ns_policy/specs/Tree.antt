@@ -3,8 +3,8 @@ use Rattle.std.specs.Prelude.{ℕ, List, [], ◌∷◌, ◌++◌, map, is_some, 
 use Rattle.ns_policy.specs.declared.fault.RuleFault.TheVariants.{Value}
 use Rattle.ns_types.specs.declared.acl.Rule.{Rule}
 use Rattle.ns_policy.specs.declared.parser.Role.{Role}
-use Rattle.ns_policy.specs.declared.parser.Role.TheVariants as roles
-use Rattle.ns_policy.specs.declared.parser.Place.TheVariants as places
+use Rattle.ns_policy.specs.declared.parser.Role.TheVariants as Role
+use Rattle.ns_policy.specs.declared.parser.Place.TheVariants as Place
 use Rattle.ns_policy.specs.declared.parser.State.{State}
 use Rattle.ns_policy.specs.Lex.{Token, open_block, close_block, begin_list, end_list, comma, equals, word, string, number}
 use Rattle.ns_policy.specs.Rules.{Read, ◌>>=◌}
@@ -74,21 +74,21 @@ capability_in s (text w) = add_capability s w
 capability_in s _ = Err Value
 
 abbrev pub capabilities_in : State → Trees → Read State
-capabilities_in s none = Ok (at s places.Item)
+capabilities_in s none = Ok (at s Place.Item)
 capabilities_in s (one v vs) = capability_in s v >>= λ a. capabilities_in a vs
 
 abbrev pub attribute_in : State → Role → Tree → Read State
-attribute_in s roles.Policy (text w) = set_policy s w
-attribute_in s roles.Policy _ = Err Value
-attribute_in s roles.Capabilities (list vs trailing) = begin_capabilities s >>= λ a. capabilities_in a vs
-attribute_in s roles.Capabilities _ = Err Value
-attribute_in s _ v = Ok (at s places.Item)
+attribute_in s Role.Policy (text w) = set_policy s w
+attribute_in s Role.Policy _ = Err Value
+attribute_in s Role.Capabilities (list vs trailing) = begin_capabilities s >>= λ a. capabilities_in a vs
+attribute_in s Role.Capabilities _ = Err Value
+attribute_in s _ v = Ok (at s Place.Item)
 
 -- a block of that role and those labels opens
 abbrev pub opened : State → Role → List (List ℕ) → Read State
-opened s (roles.Block kind) (l ∷ []) = named s kind l >>= enter
-opened s (roles.Block kind) _ = Err Value
-opened s roles.Other ls = enter s
+opened s (Role.Block kind) (l ∷ []) = named s kind l >>= enter
+opened s (Role.Block kind) _ = Err Value
+opened s Role.Other ls = enter s
 opened s _ ls = Err Value
 
 abbrev mutual

@@ -1,7 +1,7 @@
 //! What the words of a rule give, and on which names.
 
 ghost use Rattle.std.specs.Prelude.{◌≡◌};
-ghost use Rattle.ns_types.specs.Rights.{no_grants};
+ghost use Rattle.ns_types.specs.Access.Rights.{no_grants};
 ghost use Rattle.ns_policy.specs.Rules.{Gives, same, name_kind as name_kind_of, namespace_policy as namespace_policy_in, pool_policy as pool_policy_in, with_policy as with_policy_in, namespace_capability as namespace_capability_in, pool_capability as pool_capability_in, with_capability as with_capability_in, pattern_of};
 
 use crate::fault::RuleFault;

@@ -9,8 +9,8 @@ use Rattle.keyed.proofs.Tables.{get-rows, has_slot-with_slot_here, rows-remove, 
 use Rattle.ns_types.proofs.Named.{names, one_name}
 use Rattle.ns_types.proofs.Tables.{tied}
 use Rattle.ns_types.specs.declared.resources.Resources.{Resources}
-use Rattle.ns_types.specs.Names.{Name, ByName, name_cmp}
-use Rattle.ns_types.specs.Resources.{minus, none}
+use Rattle.ns_types.specs.State.Names.{Name, ByName, name_cmp}
+use Rattle.ns_types.specs.State.Resources.{minus, none}
 use Rattle.ns_quota.specs.Totals.{SetsTotal, total_of}
 
 set_by : (b : Bool) (x : Resources) (y : Option Resources) → unwrap_or (cond b (Some x) y) none ≡ (if b then x else unwrap_or y none)

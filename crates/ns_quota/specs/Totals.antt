@@ -3,8 +3,8 @@ use Rattle.std.specs.Prelude.{◌≡◌, if◌then◌else◌}
 use Rattle.std.specs.Option.{unwrap_or}
 use Rattle.std.specs.FinMap.{get}
 use Rattle.ns_types.specs.declared.resources.Resources.{Resources}
-use Rattle.ns_types.specs.Names.{Name, ByName, same_name}
-use Rattle.ns_types.specs.Resources.{none}
+use Rattle.ns_types.specs.State.Names.{Name, ByName, same_name}
+use Rattle.ns_types.specs.State.Resources.{none}
 
 abbrev pub total_of : ByName Resources → Name → Resources
 total_of totals quota = unwrap_or (get totals quota) none

@@ -1,7 +1,7 @@
 // Running totals by the names of quotas.
 ghost use Rattle.std.specs.Prelude.{◌≡◌, ◌+◌, ◌<◌, ◌^◌, IsTrue, OnOk, OnErr};
 ghost use Rattle.std.specs.FinMap.{empty};
-ghost use Rattle.ns_types.specs.Resources.{is_within, limit_allows as limit_admits, limits_allow, minus, plus};
+ghost use Rattle.ns_types.specs.State.Resources.{is_within, limit_allows as limit_admits, limits_allow, minus, plus};
 ghost use Rattle.ns_quota.specs.Totals.{SetsTotal, total_of};
 
 use keyed::NameTable;
@@ -39,7 +39,7 @@ impl Model for Uses {
     ghost use Rattle.std.specs.FinMap as table;
     ghost use Rattle.keyed.specs.Table.{rows};
     ghost use Rattle.ns_types.specs.declared.resources.Resources.{Resources};
-    ghost use Rattle.ns_types.specs.Names.{ByName};
+    ghost use Rattle.ns_types.specs.State.Names.{ByName};
 
     ghost Value = { ByName Resources };
 

@@ -12,10 +12,10 @@ use Rattle.serde_json.specs.Written.{compact_text, members_outline}
 use Rattle.serde_json.proofs.Texts.{print-outline}
 use Rattle.ns_types.specs.declared.node.Attribute.{Attribute}
 use Rattle.ns_types.specs.declared.records.Namespace.{Namespace}
-use Rattle.ns_types.specs.declared.id.IdKind.TheVariants as ids
+use Rattle.ns_types.specs.declared.id.IdKind.TheVariants as IdKind
 use Rattle.ns_types.specs.declared.reply.NodeShown.{NodeShown}
-use Rattle.ns_types.specs.Words.{eligibility_text, node_status_text}
-use Rattle.ns_types.specs.Id.{id_text}
+use Rattle.ns_types.specs.Wire.Words.{eligibility_text, node_status_text}
+use Rattle.ns_types.specs.State.Id.{id_text}
 use Rattle.ns_json.specs.Part.{Follows, tokens_of}
 use Rattle.ns_json.specs.Rendering.{list_of, texts_of, members_of, resources_json, attributes_json, node_json, allowed_json, pools_json, stopped_json}
 use Rattle.ns_json.proofs.Parts.{follows_more, list_tokens}
@@ -72,12 +72,12 @@ text_written old new d items h none is =
 pub nothing_text : (items : List ℕ) → items ≡ print (begin_object ∷ end_object ∷ []) → items ≡ codes "{}"
 nothing_text items is = is ∙ print-outline (object no_members)
 
-pub stopped_tokens : (evaluation index : ℕ) (id : List ℕ) → id ≡ id_text ids.Evaluation evaluation
+pub stopped_tokens : (evaluation index : ℕ) (id : List ℕ) → id ≡ id_text IdKind.Evaluation evaluation
     → begin_object ∷ key (codes "EvalID") ∷ string id ∷ key (codes "Index") ∷ number (decimal index) ∷ end_object ∷ [] ≡ tokens_of (stopped_json evaluation index)
 unfolding stopped_json
 stopped_tokens evaluation index id e = rw (← e) refl
 
-pub stopped_text : (evaluation index : ℕ) (id items : List ℕ) → id ≡ id_text ids.Evaluation evaluation
+pub stopped_text : (evaluation index : ℕ) (id items : List ℕ) → id ≡ id_text IdKind.Evaluation evaluation
     → items ≡ print (begin_object ∷ key (codes "EvalID") ∷ string id ∷ key (codes "Index") ∷ number (decimal index) ∷ end_object ∷ []) → items ≡ compact_text (stopped_json evaluation index)
 stopped_text evaluation index id items e is = is ∙ rw (stopped_tokens evaluation index id e) (print-outline (stopped_json evaluation index))
 
@@ -87,6 +87,6 @@ unfolding escape_byte
 room_with index id small len = omega (arith, length-number index small, length-quoted id, len)
 
 -- what answers a stop fits where what answers a registration does
-pub stopped_room : (evaluation index : ℕ) (id : List ℕ) → id ≡ id_text ids.Evaluation evaluation → index < 2 ^ 64
+pub stopped_room : (evaluation index : ℕ) (id : List ℕ) → id ≡ id_text IdKind.Evaluation evaluation → index < 2 ^ 64
     → room (begin_object ∷ key (codes "EvalID") ∷ string id ∷ key (codes "Index") ∷ number (decimal index) ∷ end_object ∷ []) ≤ 320
-stopped_room evaluation index id e small = room_with index id small (ap length e ∙ length-id ids.Evaluation evaluation)
+stopped_room evaluation index id e small = room_with index id small (ap length e ∙ length-id IdKind.Evaluation evaluation)

@@ -3,7 +3,7 @@ use Rattle.std.specs.Prelude.{List, [], ◌∷◌, ◌++◌, codes, decimal}
 use Rattle.json.specs.Token.{Token}
 use Rattle.ns_types.specs.declared.reply.AllocationShown.{AllocationShown}
 use Rattle.ns_types.specs.declared.reply.EvaluationShown.{EvaluationShown}
-use Rattle.ns_types.specs.Words.{kind_text, status_text, trigger_text}
+use Rattle.ns_types.specs.Wire.Words.{kind_text, status_text, trigger_text}
 use Rattle.ns_json.specs.Part.{tokens_of}
 use Rattle.ns_json.specs.Rendering.{text_or_empty, resources_json}
 

@@ -1,7 +1,7 @@
 //! The responses to what succeeded.
 
 ghost use Rattle.std.specs.Prelude.{◌≡◌, IfOk, Ok, string_bytes};
-ghost use Rattle.ns_types.specs.Wire.{rendered_of};
+ghost use Rattle.ns_types.specs.Wire.Responses.{rendered_of};
 ghost use Rattle.ns_json.specs.Replies.{body_of, rendered};
 ghost use Rattle.ns_replies.specs.Rendered.{IsRendered, IsText};
 

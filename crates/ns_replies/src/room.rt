@@ -3,8 +3,8 @@
 ghost use Rattle.std.specs.Prelude.{◌≡◌, ◌≤◌, IfOk, Ok, Some, None, string_bytes, vec_capacity, length, map, []};
 ghost use Rattle.json.specs.Print.{print};
 ghost use Rattle.json.specs.Tree as tree;
-ghost use Rattle.ns_types.specs.declared.reply.Content.TheVariants as contents;
-ghost use Rattle.ns_types.specs.Wire.{rendered_of};
+ghost use Rattle.ns_types.specs.declared.reply.Content.TheVariants as Content;
+ghost use Rattle.ns_types.specs.Wire.Responses.{rendered_of};
 ghost use Rattle.ns_json.specs.Part.{token_of};
 ghost use Rattle.ns_json.specs.Rendered.{IsRegistered, longest_registered};
 ghost use Rattle.ns_json.specs.Replies.{body_of, rendered};
@@ -51,7 +51,7 @@ impl Room {
     /// The same, and room for what answers the making of that token.
     #[tactic(auto, unfolding(ns_json::specs::Replies::body_of))]
     pub fn for_token(alloc: Global, new: &NewToken) -> Result<Room, AllocError>
-        ensures { IfOk result (λ room. room ≡ Some (body_of (contents.Token (made_token new.now)))) }
+        ensures { IfOk result (λ room. room ≡ Some (body_of (Content.Token (made_token new.now)))) }
     {
         let numbers = ns_json::Room::new(alloc)?;
         let body = text_of(alloc, new)?;
@@ -98,13 +98,13 @@ fn parts_text(bytes: Vec<u8>, parts: &[Part<'_>]) -> String
 }
 
 fn nothing_text(numbers: ns_json::Room) -> String
-    ensures { string_bytes result ≡ body_of contents.Written }
+    ensures { string_bytes result ≡ body_of Content.Written }
 {
     parts_text(numbers.into_bytes(), &[Part::BeginObject, Part::EndObject])
 }
 
 fn stopped_text(numbers: ns_json::Room, evaluation: u64, index: u64) -> String
-    ensures { string_bytes result ≡ body_of (contents.Stopped evaluation index) }
+    ensures { string_bytes result ≡ body_of (Content.Stopped evaluation index) }
 {
     let mut buffer = [0; 36];
     let id = id_str(IdKind::Evaluation, evaluation, &mut buffer);

@@ -2,7 +2,7 @@
 
 ghost use Rattle.std.specs.Prelude.{◌≡◌, []};
 ghost use Rattle.std.specs.Option.{option_map_or};
-ghost use Rattle.ns_types.specs.Words as words;
+ghost use Rattle.ns_types.specs.Wire.Words as words;
 
 use ns_types::acl::TokenKind;
 use ns_types::allocation::{ClientStatus, DesiredStatus};

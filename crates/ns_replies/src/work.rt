@@ -2,7 +2,7 @@
 
 ghost use Rattle.std.specs.Prelude.{OnOk, ◌∷◌, []};
 ghost use Rattle.json.specs.Token as token;
-ghost use Rattle.ns_types.specs.Id.{id_text};
+ghost use Rattle.ns_types.specs.State.Id.{id_text};
 ghost use Rattle.ns_json.specs.Part.{Follows, tokens_of};
 ghost use Rattle.ns_json.specs.Rendering.{id_or_empty, evaluation_json, allocation_json};
 ghost use Rattle.ns_replies.specs.Tokens.{evaluation_end, allocation_end};

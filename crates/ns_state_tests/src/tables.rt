@@ -1,7 +1,7 @@
 // Tables with ample memory: what administrators lay out, and each refusal.
 ghost use Rattle.std.specs.Prelude.{◌≡◌, IfOk, List};
-ghost use Rattle.ns_types.specs.Admins.{list_namespaces};
-ghost use Rattle.ns_types.specs.Names.{Key, same_name};
+ghost use Rattle.ns_types.specs.Asking.Admins.{list_namespaces};
+ghost use Rattle.ns_types.specs.State.Names.{Key, same_name};
 ghost use Rattle.ns_tables.specs.Viewed.{world_of};
 
 use crate::owned::{holds, seen};

@@ -6,13 +6,13 @@ use Rattle.std.specs.FinMap.{get, get-remove, insert, remove}
 use Rattle.ns_types.specs.declared.records.Namespace.{Namespace}
 use Rattle.ns_types.specs.declared.records.Pool.{Pool}
 use Rattle.ns_types.specs.declared.refusal.Refusal.{Refusal}
-use Rattle.ns_types.specs.declared.refusal.Refusal.TheVariants as refusals
-use Rattle.ns_types.specs.Admins.{delete_namespace, delete_pool, delete_quota, has_live, has_open, put_namespace, put_pool_record, with_namespace, with_pool}
-use Rattle.ns_types.specs.Making.{put_tenant}
-use Rattle.ns_types.specs.Names.{Name, ByName, name_cmp}
-use Rattle.ns_types.specs.Outcome.{Outcome, NotEnabled, Refused, Done, found, unless}
-use Rattle.ns_types.specs.Rows.{World, Tenant, PoolRows, QuotaRows, is_live, is_open}
-use Rattle.ns_types.specs.Tables.{any_row}
+use Rattle.ns_types.specs.declared.refusal.Refusal.TheVariants as Refusal
+use Rattle.ns_types.specs.Asking.Admins.{delete_namespace, delete_pool, delete_quota, has_live, has_open, put_namespace, put_pool_record, with_namespace, with_pool}
+use Rattle.ns_types.specs.Settling.Making.{put_tenant}
+use Rattle.ns_types.specs.State.Names.{Name, ByName, name_cmp}
+use Rattle.ns_types.specs.Settling.Outcome.{Outcome, NotEnabled, Refused, Done, found, unless}
+use Rattle.ns_types.specs.State.Rows.{World, Tenant, PoolRows, QuotaRows, is_live, is_open}
+use Rattle.ns_types.specs.State.Tables.{any_row}
 use Rattle.ns_types.proofs.Lists.{left_none, not_both, right_none}
 use Rattle.ns_types.proofs.Named.{names, one_name, one_number}
 use Rattle.ns_types.proofs.Tables.{none_of_any, tied}
@@ -56,7 +56,7 @@ taken m k q x is none = by (eq_by_cmp name_cmp q k) refl
 
 -- a refusal of a step that is enabled
 abbrev pub is_of_step : Refusal → Bool
-is_of_step refusals.NotEnabled = false
+is_of_step Refusal.NotEnabled = false
 is_of_step _ = true
 
 abbrev pub Leaves : World → Outcome World → Type 0

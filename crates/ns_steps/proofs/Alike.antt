@@ -18,11 +18,11 @@ use Rattle.ns_types.specs.declared.resources.Limit.{Limit}
 use Rattle.ns_types.specs.declared.resources.Limit.TheVariants.{Unlimited, AtMost, Nothing}
 use Rattle.ns_types.specs.declared.resources.Limits.{Limits}
 use Rattle.ns_types.specs.declared.resources.Resources.{Resources}
-use Rattle.ns_types.specs.Names.{attribute_cmp, name_cmp, same_name, same_number}
-use Rattle.ns_types.specs.Releases.{same_offer}
-use Rattle.ns_types.specs.Resources.{same_resources, same_limit, same_limits}
-use Rattle.ns_types.specs.Same.{same_flag, same_constraint, same_task, same_group, same_document, same_job, same_evaluation, same_allocation}
-use Rattle.ns_types.specs.Words.{kind_text, operand_text, target_text, status_text, trigger_text, desired_text, client_text}
+use Rattle.ns_types.specs.State.Names.{attribute_cmp, name_cmp, same_name, same_number}
+use Rattle.ns_types.specs.Settling.Releases.{same_offer}
+use Rattle.ns_types.specs.State.Resources.{same_resources, same_limit, same_limits}
+use Rattle.ns_types.specs.Settling.Same.{same_flag, same_constraint, same_task, same_group, same_document, same_job, same_evaluation, same_allocation}
+use Rattle.ns_types.specs.Wire.Words.{kind_text, operand_text, target_text, status_text, trigger_text, desired_text, client_text}
 use Rattle.ns_types.proofs.Named.{names, same_name_refl, same_number_refl}
 
 -- ---- tests of lists and of what may be absent

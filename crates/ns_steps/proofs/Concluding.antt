@@ -5,25 +5,25 @@ use Rattle.std.specs.Option.{option_map_or}
 use Rattle.std.specs.FinMap.{get, insert}
 use Rattle.ns_types.specs.declared.records.Quota.{Quota}
 use Rattle.ns_types.specs.declared.refusal.Refusal.{Refusal}
-use Rattle.ns_types.specs.declared.refusal.Refusal.TheVariants as refusals
+use Rattle.ns_types.specs.declared.refusal.Refusal.TheVariants as Refusal
 use Rattle.ns_types.specs.declared.reply.Content.{Content}
-use Rattle.ns_types.specs.declared.reply.Content.TheVariants as contents
+use Rattle.ns_types.specs.declared.reply.Content.TheVariants as Content
 use Rattle.ns_types.specs.declared.step.AdminCommand.{AdminCommand}
-use Rattle.ns_types.specs.declared.step.AdminCommand.TheVariants as admins
-use Rattle.ns_types.specs.declared.step.NodeCommand.TheVariants as tells
-use Rattle.ns_types.specs.declared.step.Step.TheVariants as steps
-use Rattle.ns_types.specs.Access.{administer, create_token, delete_policy, delete_token, in_world, may_administer, put_policy, read_policy, with_acl, with_world}
-use Rattle.ns_types.specs.Admins.{is_full, put_quota, read_quota, with_quota}
-use Rattle.ns_types.specs.Names.{Name}
-use Rattle.ns_types.specs.Nodes.{read_pool, tell}
-use Rattle.ns_types.specs.Outcome.{Changes, Outcome, NotEnabled, Refused, Done, found, lift, unless}
-use Rattle.ns_types.specs.Releases.{changes_limits}
-use Rattle.ns_types.specs.Resources.{limits_in}
-use Rattle.ns_types.specs.Rights.{pool_rights_of}
-use Rattle.ns_types.specs.Rows.{Acl, State, World, PoolRows, QuotaRows}
-use Rattle.ns_types.specs.Settle.{after_quota_release, settle}
+use Rattle.ns_types.specs.declared.step.AdminCommand.TheVariants as AdminCommand
+use Rattle.ns_types.specs.declared.step.NodeCommand.TheVariants as NodeCommand
+use Rattle.ns_types.specs.declared.step.Step.TheVariants as Step
+use Rattle.ns_types.specs.Asking.Policies.{administer, create_token, delete_policy, delete_token, in_world, may_administer, put_policy, read_policy, with_acl, with_world}
+use Rattle.ns_types.specs.Asking.Admins.{is_full, put_quota, read_quota, with_quota}
+use Rattle.ns_types.specs.State.Names.{Name}
+use Rattle.ns_types.specs.Asking.Nodes.{read_pool, tell}
+use Rattle.ns_types.specs.Settling.Outcome.{Changes, Outcome, NotEnabled, Refused, Done, found, lift, unless}
+use Rattle.ns_types.specs.Settling.Releases.{changes_limits}
+use Rattle.ns_types.specs.State.Resources.{limits_in}
+use Rattle.ns_types.specs.Access.Rights.{pool_rights_of}
+use Rattle.ns_types.specs.State.Rows.{Acl, State, World, PoolRows, QuotaRows}
+use Rattle.ns_types.specs.Settling.Settle.{after_quota_release, settle}
 use Rattle.ns_types.specs.Steps.{Makes, act, after, concluded, concluded_with, greatest, is_over, said}
-use Rattle.ns_types.specs.Tables.{any_row, map_rows}
+use Rattle.ns_types.specs.State.Tables.{any_row, map_rows}
 use Rattle.ns_types.proofs.Lists.{not_both}
 use Rattle.ns_types.proofs.Named.{names, one_name}
 use Rattle.ns_types.proofs.Tables.{any_row-none, map_rows_idle, none_of_any}
@@ -72,53 +72,53 @@ acl_leaves s (Done content acl) h = nothing_changes s.world
 read_quota_leaves : (w : World) (name : Name) → Leaves w (read_quota name w)
 read_quota_leaves w name = by (get w.quotas name)
   where
-    by : (o : Option QuotaRows) → Leaves w (found o (λ q. Done (contents.Quota (record { name = name; row = q.quota })) w))
+    by : (o : Option QuotaRows) → Leaves w (found o (λ q. Done (Content.Quota (record { name = name; row = q.quota })) w))
     by None = refl
     by (Some q) = nothing_changes w
 
 calm_leaves : (secret : Option Name) (command : AdminCommand) (s : State) → IsCalm command → LeavesState s (administer secret command s)
 unfolding administer
-calm_leaves secret admins.ListNamespaces s calm = nothing_changes s.world
-calm_leaves secret (admins.PutNamespace name namespace) s calm = world_leaves s _ (put_namespace_leaves s.world name namespace)
-calm_leaves secret (admins.DeleteNamespace name) s calm = world_leaves s _ (delete_namespace_leaves s.world name)
-calm_leaves secret admins.ListQuotas s calm = nothing_changes s.world
-calm_leaves secret (admins.ReadQuota name) s calm = world_leaves s _ (read_quota_leaves s.world name)
-calm_leaves secret (admins.PutQuota name quota) s calm = absurd calm
-calm_leaves secret (admins.DeleteQuota name) s calm = world_leaves s _ (delete_quota_leaves s.world name)
-calm_leaves secret admins.ListPools s calm = nothing_changes s.world
-calm_leaves secret (admins.PutPool name pool) s calm = world_leaves s _ (put_pool_leaves s.world name pool)
-calm_leaves secret (admins.DeletePool name) s calm = world_leaves s _ (delete_pool_leaves s.world name)
-calm_leaves secret (admins.ReadPolicy name) s calm = acl_leaves s (read_policy name s.acl) (named_found (get s.acl.policies name) _ (λ policy. tt))
-calm_leaves secret (admins.PutPolicy name policy) s calm = acl_leaves s (put_policy name policy s.acl) (named_unless _ _ _ refl tt)
-calm_leaves secret (admins.DeletePolicy name) s calm = acl_leaves s (delete_policy name s.acl) (named_found (get s.acl.policies name) _ (λ policy. tt))
-calm_leaves secret (admins.CreateToken new) s calm = acl_leaves s (create_token new s.acl) (named_unless _ _ _ refl (named_unless _ _ _ refl tt))
-calm_leaves secret (admins.DeleteToken accessor) s calm = acl_leaves s (delete_token accessor s.acl) (named_found _ _ (λ token. named_unless _ _ _ refl tt))
+calm_leaves secret AdminCommand.ListNamespaces s calm = nothing_changes s.world
+calm_leaves secret (AdminCommand.PutNamespace name namespace) s calm = world_leaves s _ (put_namespace_leaves s.world name namespace)
+calm_leaves secret (AdminCommand.DeleteNamespace name) s calm = world_leaves s _ (delete_namespace_leaves s.world name)
+calm_leaves secret AdminCommand.ListQuotas s calm = nothing_changes s.world
+calm_leaves secret (AdminCommand.ReadQuota name) s calm = world_leaves s _ (read_quota_leaves s.world name)
+calm_leaves secret (AdminCommand.PutQuota name quota) s calm = absurd calm
+calm_leaves secret (AdminCommand.DeleteQuota name) s calm = world_leaves s _ (delete_quota_leaves s.world name)
+calm_leaves secret AdminCommand.ListPools s calm = nothing_changes s.world
+calm_leaves secret (AdminCommand.PutPool name pool) s calm = world_leaves s _ (put_pool_leaves s.world name pool)
+calm_leaves secret (AdminCommand.DeletePool name) s calm = world_leaves s _ (delete_pool_leaves s.world name)
+calm_leaves secret (AdminCommand.ReadPolicy name) s calm = acl_leaves s (read_policy name s.acl) (named_found (get s.acl.policies name) _ (λ policy. tt))
+calm_leaves secret (AdminCommand.PutPolicy name policy) s calm = acl_leaves s (put_policy name policy s.acl) (named_unless _ _ _ refl tt)
+calm_leaves secret (AdminCommand.DeletePolicy name) s calm = acl_leaves s (delete_policy name s.acl) (named_found (get s.acl.policies name) _ (λ policy. tt))
+calm_leaves secret (AdminCommand.CreateToken new) s calm = acl_leaves s (create_token new s.acl) (named_unless _ _ _ refl (named_unless _ _ _ refl tt))
+calm_leaves secret (AdminCommand.DeleteToken accessor) s calm = acl_leaves s (delete_token accessor s.acl) (named_found _ _ (λ token. named_unless _ _ _ refl tt))
 
 -- ---- what a step answers
 
 module _ (s : State) (secret : Option Name) (command : AdminCommand) where
-  pub admin_denied : may_administer s.acl secret command ≡ false → after (steps.Admin secret command) s ≡ said (Err refusals.Denied) s
+  pub admin_denied : may_administer s.acl secret command ≡ false → after (Step.Admin secret command) s ≡ said (Err Refusal.Denied) s
   unfolding after
-  admin_denied denied = ap (λ b. cond b (concluded (steps.Admin secret command) s (act (steps.Admin secret command) s)) (said (Err refusals.Denied) s)) denied
+  admin_denied denied = ap (λ b. cond b (concluded (Step.Admin secret command) s (act (Step.Admin secret command) s)) (said (Err Refusal.Denied) s)) denied
 
   module _ (allowed : may_administer s.acl secret command ≡ true) where
-    pub admin_concludes : (o : Outcome State) → administer secret command s ≡ o → after (steps.Admin secret command) s ≡ concluded (steps.Admin secret command) s o
+    pub admin_concludes : (o : Outcome State) → administer secret command s ≡ o → after (Step.Admin secret command) s ≡ concluded (Step.Admin secret command) s o
     unfolding after act
-    admin_concludes o is = ap (λ b. cond b (concluded (steps.Admin secret command) s (administer secret command s)) (said (Err refusals.Denied) s)) allowed
-        ∙ ap (concluded (steps.Admin secret command) s) is
+    admin_concludes o is = ap (λ b. cond b (concluded (Step.Admin secret command) s (administer secret command s)) (said (Err Refusal.Denied) s)) allowed
+        ∙ ap (concluded (Step.Admin secret command) s) is
 
     -- where the settled world passes no bound
     pub admin_done : (content : Content) (s' : State) (w : World) → administer secret command s ≡ Done content s' → settle s.world s'.world ≡ w → is_over w ≡ false
-        → after (steps.Admin secret command) s ≡ said (Ok (record { index = None; content = content })) (record s' { world = w })
+        → after (Step.Admin secret command) s ≡ said (Ok (record { index = None; content = content })) (record s' { world = w })
     admin_done content s' w is settles within = admin_concludes (Done content s') is
-        ∙ ap (λ x. concluded_with (steps.Admin secret command) s content (record s' { world = x })) settles
-        ∙ ap (λ b. cond b (said (Err refusals.Full) s) (said (Ok (record { index = None; content = content })) (record s' { world = w }))) within
+        ∙ ap (λ x. concluded_with (Step.Admin secret command) s content (record s' { world = x })) settles
+        ∙ ap (λ b. cond b (said (Err Refusal.Full) s) (said (Ok (record { index = None; content = content })) (record s' { world = w }))) within
 
     pub admin_over : (content : Content) (s' : State) (w : World) → administer secret command s ≡ Done content s' → settle s.world s'.world ≡ w → is_over w ≡ true
-        → after (steps.Admin secret command) s ≡ said (Err refusals.Full) s
+        → after (Step.Admin secret command) s ≡ said (Err Refusal.Full) s
     admin_over content s' w is settles over = admin_concludes (Done content s') is
-        ∙ ap (λ x. concluded_with (steps.Admin secret command) s content (record s' { world = x })) settles
-        ∙ ap (λ b. cond b (said (Err refusals.Full) s) (said (Ok (record { index = None; content = content })) (record s' { world = w }))) over
+        ∙ ap (λ x. concluded_with (Step.Admin secret command) s content (record s' { world = x })) settles
+        ∙ ap (λ b. cond b (said (Err Refusal.Full) s) (said (Ok (record { index = None; content = content })) (record s' { world = w }))) over
 
 -- ---- steps that release nothing
 
@@ -137,23 +137,23 @@ module _ (s s' : State) (rests : Rests s.world s'.world) (keeps : KeepsQuotas s.
       (any_row-none names one_name _ s'.world.quotas (λ name q is. none_of_any one_name (λ _ q. nat_lt greatest q.release) s.world.quotas name q (all_within s.world early.within).2 (keeps name q is)))
 
 module _ (s : State) (secret : Option Name) (command : AdminCommand) (allowed : may_administer s.acl secret command ≡ true) (early : IsEarly s.world) (calm : IsCalm command) where
-  refuses_so : (refusal : Refusal) (s' : State) → administer secret command s ≡ Refused refusal → s' ≡ s → Makes (steps.Admin secret command) s (Err refusal) s' × IsEarly s'.world
+  refuses_so : (refusal : Refusal) (s' : State) → administer secret command s ≡ Refused refusal → s' ≡ s → Makes (Step.Admin secret command) s (Err refusal) s' × IsEarly s'.world
   refuses_so refusal s' is same = (by refusal (subst (LeavesState s) is (calm_leaves secret command s calm)) (admin_concludes s secret command allowed (Refused refusal) is), subst (λ x. IsEarly x.world) (sym same) early)
     where
-      by : (r : Refusal) → is_of_step r ≡ true → after (steps.Admin secret command) s ≡ said (Err r) s → Makes (steps.Admin secret command) s (Err r) s'
-      by refusals.NotEnabled named e = not_both named refl
-      by refusals.Memory named e = same
+      by : (r : Refusal) → is_of_step r ≡ true → after (Step.Admin secret command) s ≡ said (Err r) s → Makes (Step.Admin secret command) s (Err r) s'
+      by Refusal.NotEnabled named e = not_both named refl
+      by Refusal.Memory named e = same
       by _ named e = (e, same)
 
-  pub admin_makes : (result : Result Content Refusal) (s' : State) → Changes (administer secret command s) s result s' → Makes (steps.Admin secret command) s (plain result) s' × IsEarly s'.world
+  pub admin_makes : (result : Result Content Refusal) (s' : State) → Changes (administer secret command s) s result s' → Makes (Step.Admin secret command) s (plain result) s' × IsEarly s'.world
   admin_makes (Ok content) s' is =
       let left : Rests s.world s'.world × KeepsQuotas s.world s'.world = subst (LeavesState s) is (calm_leaves secret command s calm) in
       let stays : IsEarly s'.world = calm_early s s' left.0 left.1 early in
       (admin_done s secret command allowed content s' s'.world is (calm_settles s s' left.0 left.1 early) stays.within, stays)
   admin_makes (Err refusal) s' h = by refusal h
     where
-      by : (r : Refusal) → Changes (administer secret command s) s (Err r) s' → Makes (steps.Admin secret command) s (Err r) s' × IsEarly s'.world
-      by refusals.Memory h = (h, subst (λ x. IsEarly x.world) (sym h) early)
+      by : (r : Refusal) → Changes (administer secret command s) s (Err r) s' → Makes (Step.Admin secret command) s (Err r) s' × IsEarly s'.world
+      by Refusal.Memory h = (h, subst (λ x. IsEarly x.world) (sym h) early)
       by r h = refuses_so r s' h.0 h.1
 
 -- whatever it answers, it leaves all but records alone
@@ -164,7 +164,7 @@ admin_rests s secret command calm (Ok content) s' is =
 admin_rests s secret command calm (Err refusal) s' h = subst (λ x. Rests s.world x.world) (sym (by refusal h)) (nothing_changes s.world).0
   where
     by : (r : Refusal) → Changes (administer secret command s) s (Err r) s' → s' ≡ s
-    by refusals.Memory h = h
+    by Refusal.Memory h = h
     by r h = h.1
 
 -- ---- a put of a quota
@@ -198,46 +198,46 @@ module _ (s : State) (name : Name) (quota : Quota) where
     over_is = let parts = all_within s.world early.within in
         (λ i. (parts.0 i || parts.1 i) || any_row-put names one_name (λ _ q. nat_lt greatest q.release) s.world.quotas name (relimited s.world name quota) parts.2 i)
 
-    module _ (secret : Option Name) (allowed : may_administer s.acl secret (admins.PutQuota name quota) ≡ true) where
+    module _ (secret : Option Name) (allowed : may_administer s.acl secret (AdminCommand.PutQuota name quota) ≡ true) where
       put_is : (b : Bool) → is_full s.world.quotas name ≡ b
-          → administer secret (admins.PutQuota name quota) s ≡ cond b (Refused refusals.Full) (Done contents.Written (record s { world = put_world }))
+          → administer secret (AdminCommand.PutQuota name quota) s ≡ cond b (Refused Refusal.Full) (Done Content.Written (record s { world = put_world }))
       unfolding administer put_quota unless
-      put_is true full = ap (λ b. lift (with_world s.acl) (cond b (Refused refusals.Full) (Done contents.Written put_world))) full
-      put_is false room = ap (λ b. lift (with_world s.acl) (cond b (Refused refusals.Full) (Done contents.Written put_world))) room
+      put_is true full = ap (λ b. lift (with_world s.acl) (cond b (Refused Refusal.Full) (Done Content.Written put_world))) full
+      put_is false room = ap (λ b. lift (with_world s.acl) (cond b (Refused Refusal.Full) (Done Content.Written put_world))) room
 
       -- the table has no room, or the release number would pass its bound
-      pub quota_full : nat_lt greatest (relimited s.world name quota).release ≡ true → after (steps.Admin secret (admins.PutQuota name quota)) s ≡ said (Err refusals.Full) s
+      pub quota_full : nat_lt greatest (relimited s.world name quota).release ≡ true → after (Step.Admin secret (AdminCommand.PutQuota name quota)) s ≡ said (Err Refusal.Full) s
       quota_full over = by (is_full s.world.quotas name) refl
         where
-          by : (b : Bool) → is_full s.world.quotas name ≡ b → after (steps.Admin secret (admins.PutQuota name quota)) s ≡ said (Err refusals.Full) s
-          by true full = admin_concludes s secret (admins.PutQuota name quota) allowed (Refused refusals.Full) (put_is true full)
-          by false room = admin_over s secret (admins.PutQuota name quota) allowed contents.Written (record s { world = put_world }) (relimited_state s name quota).world (put_is false room) quota_settles (over_is ∙ over)
+          by : (b : Bool) → is_full s.world.quotas name ≡ b → after (Step.Admin secret (AdminCommand.PutQuota name quota)) s ≡ said (Err Refusal.Full) s
+          by true full = admin_concludes s secret (AdminCommand.PutQuota name quota) allowed (Refused Refusal.Full) (put_is true full)
+          by false room = admin_over s secret (AdminCommand.PutQuota name quota) allowed Content.Written (record s { world = put_world }) (relimited_state s name quota).world (put_is false room) quota_settles (over_is ∙ over)
 
       -- else what its change says is answered
-      put_cases_of : (b : Bool) → is_full s.world.quotas name ≡ b → put_quota name quota s.world ≡ cond b (Refused refusals.Full) (Done contents.Written put_world)
+      put_cases_of : (b : Bool) → is_full s.world.quotas name ≡ b → put_quota name quota s.world ≡ cond b (Refused Refusal.Full) (Done Content.Written put_world)
       unfolding put_quota unless
-      put_cases_of b is = ap (λ b. cond b (Refused refusals.Full) (Done contents.Written put_world)) is
+      put_cases_of b is = ap (λ b. cond b (Refused Refusal.Full) (Done Content.Written put_world)) is
 
       abbrev refusal_of : Outcome World → Refusal
       refusal_of (Refused refusal) = refusal
-      refusal_of _ = refusals.Full
+      refusal_of _ = Refusal.Full
 
       pub quota_refused : (refusal : Refusal) → put_quota name quota s.world ≡ Refused refusal → (s' : State) → s' ≡ s
-          → Makes (steps.Admin secret (admins.PutQuota name quota)) s (Err refusal) s'
+          → Makes (Step.Admin secret (AdminCommand.PutQuota name quota)) s (Err refusal) s'
       quota_refused refusal e s' same = by (is_full s.world.quotas name) refl
         where
           is_done : Outcome World → Bool
           is_done (Done content w) = true
           is_done _ = false
 
-          by : (b : Bool) → is_full s.world.quotas name ≡ b → Makes (steps.Admin secret (admins.PutQuota name quota)) s (Err refusal) s'
-          by true full = subst (λ r. Makes (steps.Admin secret (admins.PutQuota name quota)) s (Err r) s') (ap refusal_of (sym (put_cases_of true full) ∙ e))
-              (admin_concludes s secret (admins.PutQuota name quota) allowed (Refused refusals.Full) (put_is true full), same)
+          by : (b : Bool) → is_full s.world.quotas name ≡ b → Makes (Step.Admin secret (AdminCommand.PutQuota name quota)) s (Err refusal) s'
+          by true full = subst (λ r. Makes (Step.Admin secret (AdminCommand.PutQuota name quota)) s (Err r) s') (ap refusal_of (sym (put_cases_of true full) ∙ e))
+              (admin_concludes s secret (AdminCommand.PutQuota name quota) allowed (Refused Refusal.Full) (put_is true full), same)
           by false room = not_both refl (sym (ap is_done (sym e ∙ put_cases_of false room)))
 
       -- and with other limits it has one more release
       pub quota_done : nat_lt greatest (relimited s.world name quota).release ≡ false → (content : Content) (w' : World) → put_quota name quota s.world ≡ Done content w'
-          → after (steps.Admin secret (admins.PutQuota name quota)) s ≡ said (Ok (record { index = None; content = content })) (relimited_state s name quota)
+          → after (Step.Admin secret (AdminCommand.PutQuota name quota)) s ≡ said (Ok (record { index = None; content = content })) (relimited_state s name quota)
       quota_done within content w' e = by (is_full s.world.quotas name) refl
         where
           is_refused : Outcome World → Bool
@@ -246,12 +246,12 @@ module _ (s : State) (name : Name) (quota : Quota) where
 
           content_of : Outcome World → Content
           content_of (Done content w) = content
-          content_of _ = contents.Written
+          content_of _ = Content.Written
 
-          by : (b : Bool) → is_full s.world.quotas name ≡ b → after (steps.Admin secret (admins.PutQuota name quota)) s ≡ said (Ok (record { index = None; content = content })) (relimited_state s name quota)
+          by : (b : Bool) → is_full s.world.quotas name ≡ b → after (Step.Admin secret (AdminCommand.PutQuota name quota)) s ≡ said (Ok (record { index = None; content = content })) (relimited_state s name quota)
           by true full = not_both refl (sym (ap is_refused (sym e ∙ put_cases_of true full)))
-          by false room = subst (λ c. after (steps.Admin secret (admins.PutQuota name quota)) s ≡ said (Ok (record { index = None; content = c })) (relimited_state s name quota)) (ap content_of (sym (put_cases_of false room) ∙ e))
-              (admin_done s secret (admins.PutQuota name quota) allowed contents.Written (record s { world = put_world }) (relimited_state s name quota).world (put_is false room) quota_settles (over_is ∙ within))
+          by false room = subst (λ c. after (Step.Admin secret (AdminCommand.PutQuota name quota)) s ≡ said (Ok (record { index = None; content = c })) (relimited_state s name quota)) (ap content_of (sym (put_cases_of false room) ∙ e))
+              (admin_done s secret (AdminCommand.PutQuota name quota) allowed Content.Written (record s { world = put_world }) (relimited_state s name quota).world (put_is false room) quota_settles (over_is ∙ within))
 
     pub relimited_rests : Rests s.world (relimited_state s name quota).world
     relimited_rests = put_quota_rests s.world name (relimited s.world name quota)
@@ -265,23 +265,23 @@ module _ (s : State) (name : Name) (quota : Quota) where
 -- ---- a read of a pool
 
 module _ (s : State) (secret : Option Name) (name : Name) where
-  pub pool_denied : (pool_rights_of s.acl secret name).read ≡ false → after (steps.Node name secret tells.ReadPool) s ≡ said (Err refusals.Denied) s
+  pub pool_denied : (pool_rights_of s.acl secret name).read ≡ false → after (Step.Node name secret NodeCommand.ReadPool) s ≡ said (Err Refusal.Denied) s
   unfolding after
-  pool_denied denied = ap (λ b. cond b (concluded (steps.Node name secret tells.ReadPool) s (act (steps.Node name secret tells.ReadPool) s)) (said (Err refusals.Denied) s)) denied
+  pool_denied denied = ap (λ b. cond b (concluded (Step.Node name secret NodeCommand.ReadPool) s (act (Step.Node name secret NodeCommand.ReadPool) s)) (said (Err Refusal.Denied) s)) denied
 
   module _ (allowed : (pool_rights_of s.acl secret name).read ≡ true) where
     pool_found : (o : Option PoolRows) → get s.world.pools name ≡ o
-        → after (steps.Node name secret tells.ReadPool) s
-        ≡ concluded (steps.Node name secret tells.ReadPool) s (lift (with_world s.acl) (option_map_or (λ p. Done (read_pool name p) s.world) o (Refused refusals.NotFound)))
+        → after (Step.Node name secret NodeCommand.ReadPool) s
+        ≡ concluded (Step.Node name secret NodeCommand.ReadPool) s (lift (with_world s.acl) (option_map_or (λ p. Done (read_pool name p) s.world) o (Refused Refusal.NotFound)))
     unfolding after act tell
-    pool_found o is = ap (λ b. cond b (concluded (steps.Node name secret tells.ReadPool) s (in_world s (tell name tells.ReadPool))) (said (Err refusals.Denied) s)) allowed
-        ∙ ap (λ o. concluded (steps.Node name secret tells.ReadPool) s (lift (with_world s.acl) (option_map_or (λ p. Done (read_pool name p) s.world) o (Refused refusals.NotFound)))) is
+    pool_found o is = ap (λ b. cond b (concluded (Step.Node name secret NodeCommand.ReadPool) s (in_world s (tell name NodeCommand.ReadPool))) (said (Err Refusal.Denied) s)) allowed
+        ∙ ap (λ o. concluded (Step.Node name secret NodeCommand.ReadPool) s (lift (with_world s.acl) (option_map_or (λ p. Done (read_pool name p) s.world) o (Refused Refusal.NotFound)))) is
 
-    pub pool_not_found : get s.world.pools name ≡ None → after (steps.Node name secret tells.ReadPool) s ≡ said (Err refusals.NotFound) s
+    pub pool_not_found : get s.world.pools name ≡ None → after (Step.Node name secret NodeCommand.ReadPool) s ≡ said (Err Refusal.NotFound) s
     pool_not_found none = pool_found None none
 
     pub pool_read : (p : PoolRows) → get s.world.pools name ≡ Some p → is_over s.world ≡ false
-        → after (steps.Node name secret tells.ReadPool) s ≡ said (Ok (record { index = None; content = read_pool name p })) s
+        → after (Step.Node name secret NodeCommand.ReadPool) s ≡ said (Ok (record { index = None; content = read_pool name p })) s
     pool_read p is within = pool_found (Some p) is
-        ∙ ap (λ w. concluded_with (steps.Node name secret tells.ReadPool) s (read_pool name p) (record s { world = w })) (settle_same s.world)
-        ∙ ap (λ b. cond b (said (Err refusals.Full) s) (said (Ok (record { index = None; content = read_pool name p })) s)) within
+        ∙ ap (λ w. concluded_with (Step.Node name secret NodeCommand.ReadPool) s (read_pool name p) (record s { world = w })) (settle_same s.world)
+        ∙ ap (λ b. cond b (said (Err Refusal.Full) s) (said (Ok (record { index = None; content = read_pool name p })) s)) within

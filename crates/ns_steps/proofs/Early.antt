@@ -9,9 +9,9 @@ use Rattle.ns_types.specs.declared.evaluation.Evaluation.{Evaluation}
 use Rattle.ns_types.specs.declared.job.Registration.{Registration}
 use Rattle.ns_types.specs.declared.node.Node.{Node}
 use Rattle.ns_types.specs.declared.worker.Worker.{Worker}
-use Rattle.ns_types.specs.Names.{Name, Key, default_name, has_key, name_cmp, same_key, same_name, same_number}
-use Rattle.ns_types.specs.Queue.{is_busy}
-use Rattle.ns_types.specs.Rows.{World, Tenant, QuotaRows, is_pending}
+use Rattle.ns_types.specs.State.Names.{Name, Key, default_name, has_key, name_cmp, same_key, same_name, same_number}
+use Rattle.ns_types.specs.Working.Queue.{is_busy}
+use Rattle.ns_types.specs.State.Rows.{World, Tenant, QuotaRows, is_pending}
 use Rattle.ns_types.specs.Steps.{greatest, is_over, is_over_pool, is_over_tenant, opening, opening_pool, opening_tenant, opening_world}
 use Rattle.ns_types.specs.Validity.{IsReady, IsSound}
 use Rattle.ns_types.proofs.Lists.{not_both}

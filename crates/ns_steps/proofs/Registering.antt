@@ -7,22 +7,22 @@ use Rattle.std.specs.List.{list_any}
 use Rattle.std.specs.Ordering.{eq_by_cmp}
 use Rattle.std.specs.FinMap.{contains_key, entries, get, insert}
 use Rattle.ns_types.specs.declared.evaluation.Evaluation.{Evaluation}
-use Rattle.ns_types.specs.declared.evaluation.Trigger.TheVariants as triggers
-use Rattle.ns_types.specs.declared.event.Topic.TheVariants as topics
+use Rattle.ns_types.specs.declared.evaluation.Trigger.TheVariants as Trigger
+use Rattle.ns_types.specs.declared.event.Topic.TheVariants as Topic
 use Rattle.ns_types.specs.declared.job.Document.{Document}
 use Rattle.ns_types.specs.declared.job.Job.{Job}
 use Rattle.ns_types.specs.declared.job.Registration.{Registration}
 use Rattle.ns_types.specs.declared.worker.Worker.{Worker}
-use Rattle.ns_types.specs.Asks.{document_of, registered_job}
-use Rattle.ns_types.specs.Making.{evaluation_of, put_tenant, with_evaluation, with_job}
-use Rattle.ns_types.specs.Lists.{last}
-use Rattle.ns_types.specs.Names.{Name, Key, name_cmp, same_key, same_name, same_number}
-use Rattle.ns_types.specs.Queue.{is_busy, is_of_job, queue}
-use Rattle.ns_types.specs.Rows.{World, Tenant, evaluation_at}
-use Rattle.ns_types.specs.Settle.{changes_allocation, changes_evaluation, changes_job, created_at, is_changed, is_touched, job_ids, job_topic, settle, stamp_tenant, stamped, stamped_allocation, stamped_evaluation, topics_of}
-use Rattle.ns_types.specs.Same.{same_document, same_evaluation, same_job}
+use Rattle.ns_types.specs.Asking.Asks.{document_of, registered_job}
+use Rattle.ns_types.specs.Settling.Making.{evaluation_of, put_tenant, with_evaluation, with_job}
+use Rattle.ns_types.specs.State.Lists.{last}
+use Rattle.ns_types.specs.State.Names.{Name, Key, name_cmp, same_key, same_name, same_number}
+use Rattle.ns_types.specs.Working.Queue.{is_busy, is_of_job, queue}
+use Rattle.ns_types.specs.State.Rows.{World, Tenant, evaluation_at}
+use Rattle.ns_types.specs.Settling.Settle.{changes_allocation, changes_evaluation, changes_job, created_at, is_changed, is_touched, job_ids, job_topic, settle, stamp_tenant, stamped, stamped_allocation, stamped_evaluation, topics_of}
+use Rattle.ns_types.specs.Settling.Same.{same_document, same_evaluation, same_job}
 use Rattle.ns_types.specs.Steps.{greatest, is_over, is_over_pool, is_over_tenant}
-use Rattle.ns_types.specs.Tables.{any_row, map_rows}
+use Rattle.ns_types.specs.State.Tables.{any_row, map_rows}
 use Rattle.ns_types.proofs.Lists.{any_alike, each_map, left_none, right_none}
 use Rattle.ns_types.proofs.Named.{names, one_name, numbers, one_number}
 use Rattle.ns_types.proofs.Tables.{map_rows_idle, none_of_any, tied}
@@ -66,7 +66,7 @@ news_is_change r t = news_with (next_index t) (document_of t r) (get t.jobs r.id
 -- ---- the namespace
 
 abbrev new_evaluation : Registration → Tenant → Evaluation
-new_evaluation r t = evaluation_of r.id (job_of r t).document triggers.JobRegister
+new_evaluation r t = evaluation_of r.id (job_of r t).document Trigger.JobRegister
 
 -- the namespace with its new rows, before the step settles
 abbrev with_rows : Registration → Tenant → Tenant
@@ -84,9 +84,9 @@ module _ (r : Registration) (t : Tenant) where
   changes_no_other : (id : Name) → eq_by_cmp name_cmp id r.id ≡ false → changes_job t (with_rows r t) id ≡ false
   changes_no_other id other = ap (λ x. option_map_or (is_changed same_job (get t.jobs id)) x (contains_key t.jobs id)) (get_other names one_name t.jobs r.id (job_of r t) id other) ∙ kept_job t id
 
-  topic_own : job_topic (with_rows r t) r.id ≡ topics.JobRegistered r.id
-  topic_own = ap (λ x. cond (option_map_or (λ job. job.stop) x true) (topics.JobDeregistered r.id) (topics.JobRegistered r.id)) job_found
-      ∙ ap (λ b. cond b (topics.JobDeregistered r.id) (topics.JobRegistered r.id)) (registered_runs (next_index t) (document_of t r) (get t.jobs r.id))
+  topic_own : job_topic (with_rows r t) r.id ≡ Topic.JobRegistered r.id
+  topic_own = ap (λ x. cond (option_map_or (λ job. job.stop) x true) (Topic.JobDeregistered r.id) (Topic.JobRegistered r.id)) job_found
+      ∙ ap (λ b. cond b (Topic.JobDeregistered r.id) (Topic.JobRegistered r.id)) (registered_runs (next_index t) (document_of t r) (get t.jobs r.id))
 
   jobs_changed : filter (changes_job t (with_rows r t)) (job_ids t (with_rows r t)) ≡ cond (changes_job t (with_rows r t) r.id) (r.id ∷ []) []
   jobs_changed = by (get t.jobs r.id) refl
@@ -99,7 +99,7 @@ module _ (r : Registration) (t : Tenant) where
 
   job_topics_made : map (job_topic (with_rows r t)) (filter (changes_job t (with_rows r t)) (job_ids t (with_rows r t))) ≡ job_topics r t
   job_topics_made = ap (map (job_topic (with_rows r t))) (jobs_changed ∙ ap (λ b. cond b (r.id ∷ []) []) changes_own)
-      ∙ elim (is_news (document_of t r) (get t.jobs r.id)) as (λ b. map (job_topic (with_rows r t)) (cond b (r.id ∷ []) []) ≡ cond b (topics.JobRegistered r.id ∷ []) []) [
+      ∙ elim (is_news (document_of t r) (get t.jobs r.id)) as (λ b. map (job_topic (with_rows r t)) (cond b (r.id ∷ []) []) ≡ cond b (Topic.JobRegistered r.id ∷ []) []) [
         | true ↦ ap (λ topic. topic ∷ []) topic_own
         | false ↦ refl
       ]
@@ -116,10 +116,10 @@ module _ (r : Registration) (t : Tenant) where
         (λ n e is other. kept_evaluation t n e (sym (get_other numbers one_number t.evaluations (next_number t) (new_evaluation r t) n other) ∙ is))
         ∙ ap (λ b. cond b ((next_number t, new_evaluation r t) ∷ []) []) changes_new
 
-    topics_made : topics_of t (with_rows r t) ≡ job_topics r t ++ topics.EvaluationUpdated (next_number t) ∷ []
+    topics_made : topics_of t (with_rows r t) ≡ job_topics r t ++ Topic.EvaluationUpdated (next_number t) ∷ []
     topics_made = (λ i. job_topics_made i
-        ++ map (λ e. topics.EvaluationUpdated e.0) (evaluations_changed i)
-        ++ map (λ a. topics.AllocationUpdated a.0) (filter_no_row numbers one_number (changes_allocation t) t.allocations (kept_allocation t) i))
+        ++ map (λ e. Topic.EvaluationUpdated e.0) (evaluations_changed i)
+        ++ map (λ a. Topic.AllocationUpdated a.0) (filter_no_row numbers one_number (changes_allocation t) t.allocations (kept_allocation t) i))
         ∙ append-nil _
 
     evaluation_stamped : stamped_evaluation (next_index t) t (next_number t) (new_evaluation r t) ≡ made_evaluation r t

@@ -6,15 +6,15 @@ use Rattle.std.specs.Ordering.{nat_cmp}
 use Rattle.std.specs.FinMap.{get, get-empty}
 use Rattle.ns_types.specs.declared.allocation.Allocation.{Allocation}
 use Rattle.ns_types.specs.declared.evaluation.Evaluation.{Evaluation}
-use Rattle.ns_types.specs.declared.evaluation.Status.TheVariants as statuses
+use Rattle.ns_types.specs.declared.evaluation.Status.TheVariants as Status
 use Rattle.ns_types.specs.declared.node.Node.{Node}
 use Rattle.ns_types.specs.declared.worker.Worker.{Worker}
-use Rattle.ns_types.specs.Names.{Name, Key, has_key, name_cmp}
-use Rattle.ns_types.specs.Releases.{changes_limits, counts_in, gives_room, released_classes, releases_quota, woken}
-use Rattle.ns_types.specs.Rows.{World, Tenant, PoolRows, QuotaRows, class_of, is_live, is_open, is_pending}
-use Rattle.ns_types.specs.Settle.{after_quota_release, after_release, is_touched, number_releases, settle, stamp, stamp_tenant, stamped, wake}
+use Rattle.ns_types.specs.State.Names.{Name, Key, has_key, name_cmp}
+use Rattle.ns_types.specs.Settling.Releases.{changes_limits, counts_in, gives_room, released_classes, releases_quota, woken}
+use Rattle.ns_types.specs.State.Rows.{World, Tenant, PoolRows, QuotaRows, class_of, is_live, is_open, is_pending}
+use Rattle.ns_types.specs.Settling.Settle.{after_quota_release, after_release, is_touched, number_releases, settle, stamp, stamp_tenant, stamped, wake}
 use Rattle.ns_types.specs.Steps.{greatest, is_over, is_over_pool, is_over_tenant}
-use Rattle.ns_types.specs.Tables.{any_row, map_rows}
+use Rattle.ns_types.specs.State.Tables.{any_row, map_rows}
 use Rattle.ns_types.specs.Validity.{IsReady}
 use Rattle.ns_types.proofs.Lists.{not_both}
 use Rattle.ns_types.proofs.Named.{names, one_name}
@@ -41,11 +41,11 @@ pub record Rests (w w' : World) : Type 0 where
 
 open_if_pending : (e : Evaluation) → is_pending e.status ≡ true → is_open e.status ≡ true
 open_if_pending e = elim e.status as (λ s. is_pending s ≡ true → is_open s ≡ true) [
-  | statuses.Pending ↦ λ _. refl
-  | statuses.Blocked ↦ λ h. refl
-  | statuses.Complete ↦ λ h. not_both h refl
-  | statuses.Failed ↦ λ h. not_both h refl
-  | statuses.Canceled ↦ λ h. not_both h refl
+  | Status.Pending ↦ λ _. refl
+  | Status.Blocked ↦ λ h. refl
+  | Status.Complete ↦ λ h. not_both h refl
+  | Status.Failed ↦ λ h. not_both h refl
+  | Status.Canceled ↦ λ h. not_both h refl
 ]
 
 module _ (w w' : World) (rests : Rests w w') where

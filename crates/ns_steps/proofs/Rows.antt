@@ -6,9 +6,9 @@ use Rattle.std.specs.Cmp.{IsTotalOrder, eq_by_cmp_equiv, tied_itself}
 use Rattle.std.specs.List.{list_any}
 use Rattle.std.specs.Option.{option_or}
 use Rattle.std.specs.FinMap.{FinMap, IsAntisymmetric, empty, entries, entries-insert, get, get-empty, get-entries, get-from_entries, get-insert, from_entries, find, insert, keys, len-empty, len-entries, put, retain_keys, same_map}
-use Rattle.ns_types.specs.Tables.{map_rows, any_row}
-use Rattle.ns_types.specs.Lists.{Each}
-use Rattle.ns_types.specs.Names.{same_number}
+use Rattle.ns_types.specs.State.Tables.{map_rows, any_row}
+use Rattle.ns_types.specs.State.Lists.{Each}
+use Rattle.ns_types.specs.State.Names.{same_number}
 use Rattle.ns_types.proofs.Lists.{any_alike, filter_none, left_none, not_both, right_none}
 use Rattle.ns_types.proofs.Tables.{any_row-none, each_row, filter-retain, get-map_rows, get-retain, none_of_any, tied}
 use Rattle.ns_types.proofs.Named.{one_number}

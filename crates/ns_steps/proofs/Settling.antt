@@ -10,13 +10,13 @@ use Rattle.ns_types.specs.declared.evaluation.Evaluation.{Evaluation}
 use Rattle.ns_types.specs.declared.job.Job.{Job}
 use Rattle.ns_types.specs.declared.node.Node.{Node}
 use Rattle.ns_types.specs.declared.records.Namespace.{Namespace}
-use Rattle.ns_types.specs.Names.{Name, Key, name_cmp, has_key}
-use Rattle.ns_types.specs.Releases.{ends, is_on, counts_in, changes_limits, gives_room, released_classes, classes_of, releases_quota, is_released_quota, same_offer, wakes, wakes_by, woken}
-use Rattle.ns_types.specs.Resources.{limits_in}
-use Rattle.ns_types.specs.Rows.{World, Tenant, PoolRows, QuotaRows, is_live, is_free, allocation_at, evaluation_at, node_at, class_of}
-use Rattle.ns_types.specs.Same.{same_job, same_evaluation, same_allocation}
-use Rattle.ns_types.specs.Settle.{after_release, after_quota_release, changes_job, changes_evaluation, changes_allocation, is_changed, is_touched, number_releases, settle, stamp, stamp_tenant, stamped, wake}
-use Rattle.ns_types.specs.Tables.{map_rows}
+use Rattle.ns_types.specs.State.Names.{Name, Key, name_cmp, has_key}
+use Rattle.ns_types.specs.Settling.Releases.{ends, is_on, counts_in, changes_limits, gives_room, released_classes, classes_of, releases_quota, is_released_quota, same_offer, wakes, wakes_by, woken}
+use Rattle.ns_types.specs.State.Resources.{limits_in}
+use Rattle.ns_types.specs.State.Rows.{World, Tenant, PoolRows, QuotaRows, is_live, is_free, allocation_at, evaluation_at, node_at, class_of}
+use Rattle.ns_types.specs.Settling.Same.{same_job, same_evaluation, same_allocation}
+use Rattle.ns_types.specs.Settling.Settle.{after_release, after_quota_release, changes_job, changes_evaluation, changes_allocation, is_changed, is_touched, number_releases, settle, stamp, stamp_tenant, stamped, wake}
+use Rattle.ns_types.specs.State.Tables.{map_rows}
 use Rattle.ns_types.proofs.Lists.{each, filter_all, filter_none}
 use Rattle.ns_types.proofs.Named.{names, one_name, numbers, one_number}
 use Rattle.ns_types.proofs.Tables.{any_row-none, map_rows_idle, tied}

@@ -3,27 +3,27 @@ use Rattle.std.specs.Prelude.{◌≡◌, ◌+◌, Bool, true, false, cond, Optio
 use Rattle.std.proofs.Common.{refl, sym, ap, subst, ◌∙◌}
 use Rattle.std.specs.FinMap.{get}
 use Rattle.ns_types.specs.declared.refusal.Refusal.{Refusal}
-use Rattle.ns_types.specs.declared.refusal.Refusal.TheVariants as refusals
+use Rattle.ns_types.specs.declared.refusal.Refusal.TheVariants as Refusal
 use Rattle.ns_types.specs.declared.reply.Content.{Content}
-use Rattle.ns_types.specs.declared.reply.Content.TheVariants as contents
+use Rattle.ns_types.specs.declared.reply.Content.TheVariants as Content
 use Rattle.ns_types.specs.declared.reply.Reply.{Reply}
 use Rattle.ns_types.specs.declared.step.AdminCommand.{AdminCommand}
-use Rattle.ns_types.specs.declared.step.AdminCommand.TheVariants as admins
+use Rattle.ns_types.specs.declared.step.AdminCommand.TheVariants as AdminCommand
 use Rattle.ns_types.specs.declared.step.AskCommand.{AskCommand}
-use Rattle.ns_types.specs.declared.step.AskCommand.TheVariants as asks
-use Rattle.ns_types.specs.declared.step.NodeCommand.TheVariants as tells
+use Rattle.ns_types.specs.declared.step.AskCommand.TheVariants as AskCommand
+use Rattle.ns_types.specs.declared.step.NodeCommand.TheVariants as NodeCommand
 use Rattle.ns_types.specs.declared.step.Step.{Step}
-use Rattle.ns_types.specs.declared.step.Step.TheVariants as steps
-use Rattle.ns_types.specs.Access.{administer, create_token, delete_policy, delete_token, put_policy, read_policy, secret_of, with_acl, with_world}
-use Rattle.ns_types.specs.Admins.{delete_namespace, delete_pool, delete_quota, put_namespace, put_pool_record, put_quota, read_quota}
-use Rattle.ns_types.specs.Asks.{ask, asked_in, document_of, registered_job, registered_with}
-use Rattle.ns_types.specs.Names.{Name}
-use Rattle.ns_types.specs.Nodes.{tell}
-use Rattle.ns_types.specs.Outcome.{Outcome, NotEnabled, Refused, Done, found, lift, unless}
-use Rattle.ns_types.specs.Rows.{State, Tenant, World}
-use Rattle.ns_types.specs.Settle.{settle}
+use Rattle.ns_types.specs.declared.step.Step.TheVariants as Step
+use Rattle.ns_types.specs.Asking.Policies.{administer, create_token, delete_policy, delete_token, put_policy, read_policy, secret_of, with_acl, with_world}
+use Rattle.ns_types.specs.Asking.Admins.{delete_namespace, delete_pool, delete_quota, put_namespace, put_pool_record, put_quota, read_quota}
+use Rattle.ns_types.specs.Asking.Asks.{ask, asked_in, document_of, registered_job, registered_with}
+use Rattle.ns_types.specs.State.Names.{Name}
+use Rattle.ns_types.specs.Asking.Nodes.{tell}
+use Rattle.ns_types.specs.Settling.Outcome.{Outcome, NotEnabled, Refused, Done, found, lift, unless}
+use Rattle.ns_types.specs.State.Rows.{State, Tenant, World}
+use Rattle.ns_types.specs.Settling.Settle.{settle}
 use Rattle.ns_types.specs.Steps.{Answer, act, after, concluded, is_allowed, is_over, reply_of, said}
-use Rattle.ns_types.specs.Sums.{names_quota, quota_use}
+use Rattle.ns_types.specs.State.Sums.{names_quota, quota_use}
 use Rattle.ns_types.proofs.Lists.{not_both}
 use Rattle.ns_steps.specs.Served.{IsReading, IsReadingAsk, IsReadingRecords, IsServed, IsServedAsk, IsToldAsk, IsToldBy}
 use Rattle.ns_steps.specs.Told.{IsToldOf, IsUsage}
@@ -58,7 +58,7 @@ tells_concluded P step s NotEnabled reply s' h e = absurd h
 tells_concluded P step s (Refused refusal) reply s' h e = not_both refl (ap (λ x. is_ok x.0) (sym (same_Some _ _ e)))
 tells_concluded P step s (Done content x) reply s' h e = by (is_over (settle s.world x.world)) e
   where
-    by : (b : Bool) → cond b (said (Err refusals.Full) s) (said (Ok (reply_of step content (settle s.world x.world))) (record x { world = settle s.world x.world })) ≡ said (Ok reply) s' → P reply.content
+    by : (b : Bool) → cond b (said (Err Refusal.Full) s) (said (Ok (reply_of step content (settle s.world x.world))) (record x { world = settle s.world x.world })) ≡ said (Ok reply) s' → P reply.content
     by true e = not_both refl (ap (λ x. is_ok x.0) (sym (same_Some _ _ e)))
     by false e = subst P (ap (λ x. (told reply x.0).content) (same_Some _ _ e)) h
 
@@ -66,35 +66,35 @@ tells_concluded P step s (Done content x) reply s' h e = by (is_over (settle s.w
 
 told_of : (secret : Option Name) (command : AdminCommand) (s : State) → Tells (IsToldOf command) (administer secret command s)
 unfolding administer put_namespace delete_namespace put_quota delete_quota put_pool_record delete_pool
-told_of secret admins.ListNamespaces s = tt
-told_of secret (admins.PutNamespace name namespace) s = tells_lift _ (with_world s.acl) (put_namespace name namespace s.world)
+told_of secret AdminCommand.ListNamespaces s = tt
+told_of secret (AdminCommand.PutNamespace name namespace) s = tells_lift _ (with_world s.acl) (put_namespace name namespace s.world)
     (tells_unless _ _ _ _ (tells_unless _ _ _ _ (tells_unless _ _ _ _ (tells_unless _ _ _ _ (tells_unless _ _ _ _ tt)))))
-told_of secret (admins.DeleteNamespace name) s = tells_lift _ (with_world s.acl) (delete_namespace name s.world)
+told_of secret (AdminCommand.DeleteNamespace name) s = tells_lift _ (with_world s.acl) (delete_namespace name s.world)
     (tells_found _ (get s.world.tenants name) _ (λ t. tells_unless _ _ _ _ (tells_unless _ _ _ _ tt)))
-told_of secret admins.ListQuotas s = tt
-told_of secret (admins.ReadQuota name) s = tells_lift _ (with_world s.acl) (read_quota name s.world) (tells_found _ (get s.world.quotas name) _ (λ q. tt))
-told_of secret (admins.PutQuota name quota) s = tells_lift _ (with_world s.acl) (put_quota name quota s.world) (tells_unless _ _ _ _ tt)
-told_of secret (admins.DeleteQuota name) s = tells_lift _ (with_world s.acl) (delete_quota name s.world) (tells_found _ (get s.world.quotas name) _ (λ q. tells_unless _ _ _ _ tt))
-told_of secret admins.ListPools s = tt
-told_of secret (admins.PutPool name pool) s = tells_lift _ (with_world s.acl) (put_pool_record name pool s.world) (tells_unless _ _ _ _ tt)
-told_of secret (admins.DeletePool name) s = tells_lift _ (with_world s.acl) (delete_pool name s.world)
+told_of secret AdminCommand.ListQuotas s = tt
+told_of secret (AdminCommand.ReadQuota name) s = tells_lift _ (with_world s.acl) (read_quota name s.world) (tells_found _ (get s.world.quotas name) _ (λ q. tt))
+told_of secret (AdminCommand.PutQuota name quota) s = tells_lift _ (with_world s.acl) (put_quota name quota s.world) (tells_unless _ _ _ _ tt)
+told_of secret (AdminCommand.DeleteQuota name) s = tells_lift _ (with_world s.acl) (delete_quota name s.world) (tells_found _ (get s.world.quotas name) _ (λ q. tells_unless _ _ _ _ tt))
+told_of secret AdminCommand.ListPools s = tt
+told_of secret (AdminCommand.PutPool name pool) s = tells_lift _ (with_world s.acl) (put_pool_record name pool s.world) (tells_unless _ _ _ _ tt)
+told_of secret (AdminCommand.DeletePool name) s = tells_lift _ (with_world s.acl) (delete_pool name s.world)
     (tells_found _ (get s.world.pools name) _ (λ p. tells_unless _ _ _ _ (tells_unless _ _ _ _ tt)))
-told_of secret (admins.ReadPolicy name) s = tells_lift _ (with_acl s.world) (read_policy name s.acl) (tells_found _ (get s.acl.policies name) _ (λ policy. tt))
-told_of secret (admins.PutPolicy name policy) s = tells_lift _ (with_acl s.world) (put_policy name policy s.acl) (tells_unless _ _ _ _ tt)
-told_of secret (admins.DeletePolicy name) s = tells_lift _ (with_acl s.world) (delete_policy name s.acl) (tells_found _ (get s.acl.policies name) _ (λ policy. tt))
-told_of secret (admins.CreateToken new) s = tells_lift _ (with_acl s.world) (create_token new s.acl) (tells_unless _ _ _ _ (tells_unless _ _ _ _ refl))
-told_of secret (admins.DeleteToken accessor) s = tells_lift _ (with_acl s.world) (delete_token accessor s.acl) (tells_found _ (secret_of s.acl accessor) _ (λ token. tells_unless _ _ _ _ tt))
+told_of secret (AdminCommand.ReadPolicy name) s = tells_lift _ (with_acl s.world) (read_policy name s.acl) (tells_found _ (get s.acl.policies name) _ (λ policy. tt))
+told_of secret (AdminCommand.PutPolicy name policy) s = tells_lift _ (with_acl s.world) (put_policy name policy s.acl) (tells_unless _ _ _ _ tt)
+told_of secret (AdminCommand.DeletePolicy name) s = tells_lift _ (with_acl s.world) (delete_policy name s.acl) (tells_found _ (get s.acl.policies name) _ (λ policy. tt))
+told_of secret (AdminCommand.CreateToken new) s = tells_lift _ (with_acl s.world) (create_token new s.acl) (tells_unless _ _ _ _ (tells_unless _ _ _ _ refl))
+told_of secret (AdminCommand.DeleteToken accessor) s = tells_lift _ (with_acl s.world) (delete_token accessor s.acl) (tells_found _ (secret_of s.acl accessor) _ (λ token. tells_unless _ _ _ _ tt))
 
 -- ---- what is asked in a namespace
 
 told_in : (ns : Name) (command : AskCommand) (w : World) (t : Tenant) → IsServedAsk command → Tells (IsToldAsk command) (asked_in ns command w t)
-told_in ns (asks.Register r) w t served = tells_unless _ _ _ _ (tells_unless _ _ _ _ (tells_unless _ _ _ _ (tells_unless _ _ _ (registered_with ns r w t (registered_job (t.index + 1) (document_of t r) (get t.jobs r.id))) tt)))
-told_in ns (asks.ReadJob id) w t served = tells_found _ (get t.jobs id) _ (λ job. tt)
-told_in ns (asks.ListJobs prefix) w t served = tt
-told_in ns asks.ReadNamespace w t served = tt
-told_in ns (asks.QuotaUsage quota) w t served = by (names_quota quota t.namespace)
+told_in ns (AskCommand.Register r) w t served = tells_unless _ _ _ _ (tells_unless _ _ _ _ (tells_unless _ _ _ _ (tells_unless _ _ _ (registered_with ns r w t (registered_job (t.index + 1) (document_of t r) (get t.jobs r.id))) tt)))
+told_in ns (AskCommand.ReadJob id) w t served = tells_found _ (get t.jobs id) _ (λ job. tt)
+told_in ns (AskCommand.ListJobs prefix) w t served = tt
+told_in ns AskCommand.ReadNamespace w t served = tt
+told_in ns (AskCommand.QuotaUsage quota) w t served = by (names_quota quota t.namespace)
   where
-    by : (b : Bool) → Tells IsUsage (cond b (Done (contents.Usage quota (quota_use w quota)) w) (Refused refusals.NotFound))
+    by : (b : Bool) → Tells IsUsage (cond b (Done (Content.Usage quota (quota_use w quota)) w) (Refused Refusal.NotFound))
     by true = tt
     by false = tt
 told_in ns _ w t served = absurd served
@@ -107,9 +107,9 @@ told_ask ns command w served = tells_found _ (get w.tenants ns) (asked_in ns com
 
 told_by : (step : Step) (s : State) → IsServed step → Tells (IsToldBy step) (act step s)
 unfolding act tell
-told_by (steps.Ask ns secret command) s served = tells_lift _ (with_world s.acl) (ask ns command s.world) (told_ask ns command s.world served)
-told_by (steps.Admin secret command) s served = told_of secret command s
-told_by (steps.Node pool secret tells.ReadPool) s served = tells_lift _ (with_world s.acl) (tell pool tells.ReadPool s.world) (tells_found _ (get s.world.pools pool) _ (λ p. tt))
+told_by (Step.Ask ns secret command) s served = tells_lift _ (with_world s.acl) (ask ns command s.world) (told_ask ns command s.world served)
+told_by (Step.Admin secret command) s served = told_of secret command s
+told_by (Step.Node pool secret NodeCommand.ReadPool) s served = tells_lift _ (with_world s.acl) (tell pool NodeCommand.ReadPool s.world) (tells_found _ (get s.world.pools pool) _ (λ p. tt))
 told_by _ s served = absurd served
 
 decided_concluded : (P : Content → Type 0) (step : Step) (s : State) (o : Outcome State) → Tells P o → concluded step s o ≡ None → ⊥
@@ -117,7 +117,7 @@ decided_concluded P step s NotEnabled h e = h
 decided_concluded P step s (Refused refusal) h e = not_both refl (ap is_some e)
 decided_concluded P step s (Done content x) h e = by (is_over (settle s.world x.world)) e
   where
-    by : (b : Bool) → cond b (said (Err refusals.Full) s) (said (Ok (reply_of step content (settle s.world x.world))) (record x { world = settle s.world x.world })) ≡ None → ⊥
+    by : (b : Bool) → cond b (said (Err Refusal.Full) s) (said (Ok (reply_of step content (settle s.world x.world))) (record x { world = settle s.world x.world })) ≡ None → ⊥
     by true e = not_both refl (ap is_some e)
     by false e = not_both refl (ap is_some e)
 
@@ -126,7 +126,7 @@ pub served_tells : (step : Step) (s s' : State) (reply : Reply) → IsServed ste
 unfolding after
 served_tells step s s' reply served e = by (is_allowed step s.acl) e
   where
-    by : (b : Bool) → cond b (concluded step s (act step s)) (said (Err refusals.Denied) s) ≡ said (Ok reply) s' → IsToldBy step reply.content
+    by : (b : Bool) → cond b (concluded step s (act step s)) (said (Err Refusal.Denied) s) ≡ said (Ok reply) s' → IsToldBy step reply.content
     by true e = tells_concluded (IsToldBy step) step s (act step s) reply s' (told_by step s served) e
     by false e = not_both refl (ap (λ x. is_ok x.0) (sym (same_Some _ _ e)))
 
@@ -135,7 +135,7 @@ pub served_decides : (step : Step) (s : State) → IsServed step → after step 
 unfolding after
 served_decides step s served e = by (is_allowed step s.acl) e
   where
-    by : (b : Bool) → cond b (concluded step s (act step s)) (said (Err refusals.Denied) s) ≡ None → ⊥
+    by : (b : Bool) → cond b (concluded step s (act step s)) (said (Err Refusal.Denied) s) ≡ None → ⊥
     by true e = decided_concluded (IsToldBy step) step s (act step s) (told_by step s served) e
     by false e = not_both refl (ap is_some e)
 
@@ -156,12 +156,12 @@ rests_lift whole a (Refused refusal) h = tt
 rests_lift whole a (Done content x) h = ap whole h
 
 rests_in : (ns : Name) (command : AskCommand) (w : World) (t : Tenant) → IsReadingAsk command → Rests w (asked_in ns command w t)
-rests_in ns (asks.ReadJob id) w t reads = rests_found w (get t.jobs id) _ (λ job. refl)
-rests_in ns (asks.ListJobs prefix) w t reads = refl
-rests_in ns asks.ReadNamespace w t reads = refl
-rests_in ns (asks.QuotaUsage quota) w t reads = by (names_quota quota t.namespace)
+rests_in ns (AskCommand.ReadJob id) w t reads = rests_found w (get t.jobs id) _ (λ job. refl)
+rests_in ns (AskCommand.ListJobs prefix) w t reads = refl
+rests_in ns AskCommand.ReadNamespace w t reads = refl
+rests_in ns (AskCommand.QuotaUsage quota) w t reads = by (names_quota quota t.namespace)
   where
-    by : (b : Bool) → Rests w (cond b (Done (contents.Usage quota (quota_use w quota)) w) (Refused refusals.NotFound))
+    by : (b : Bool) → Rests w (cond b (Done (Content.Usage quota (quota_use w quota)) w) (Refused Refusal.NotFound))
     by true = refl
     by false = tt
 rests_in ns _ w t reads = absurd reads
@@ -172,18 +172,18 @@ rests_ask ns command w reads = rests_found w (get w.tenants ns) (asked_in ns com
 
 rests_records : (secret : Option Name) (command : AdminCommand) (s : State) → IsReadingRecords command → Rests s (administer secret command s)
 unfolding administer
-rests_records secret admins.ListNamespaces s reads = refl
-rests_records secret admins.ListQuotas s reads = refl
-rests_records secret (admins.ReadQuota name) s reads = rests_lift (with_world s.acl) s.world (read_quota name s.world) (rests_found s.world (get s.world.quotas name) _ (λ q. refl))
-rests_records secret admins.ListPools s reads = refl
-rests_records secret (admins.ReadPolicy name) s reads = rests_lift (with_acl s.world) s.acl (read_policy name s.acl) (rests_found s.acl (get s.acl.policies name) _ (λ policy. refl))
+rests_records secret AdminCommand.ListNamespaces s reads = refl
+rests_records secret AdminCommand.ListQuotas s reads = refl
+rests_records secret (AdminCommand.ReadQuota name) s reads = rests_lift (with_world s.acl) s.world (read_quota name s.world) (rests_found s.world (get s.world.quotas name) _ (λ q. refl))
+rests_records secret AdminCommand.ListPools s reads = refl
+rests_records secret (AdminCommand.ReadPolicy name) s reads = rests_lift (with_acl s.world) s.acl (read_policy name s.acl) (rests_found s.acl (get s.acl.policies name) _ (λ policy. refl))
 rests_records secret _ s reads = absurd reads
 
 rests_by : (step : Step) (s : State) → IsReading step → Rests s (act step s)
 unfolding act tell
-rests_by (steps.Ask ns secret command) s reads = rests_lift (with_world s.acl) s.world (ask ns command s.world) (rests_ask ns command s.world reads)
-rests_by (steps.Admin secret command) s reads = rests_records secret command s reads
-rests_by (steps.Node pool secret tells.ReadPool) s reads = rests_lift (with_world s.acl) s.world (tell pool tells.ReadPool s.world) (rests_found s.world (get s.world.pools pool) _ (λ p. refl))
+rests_by (Step.Ask ns secret command) s reads = rests_lift (with_world s.acl) s.world (ask ns command s.world) (rests_ask ns command s.world reads)
+rests_by (Step.Admin secret command) s reads = rests_records secret command s reads
+rests_by (Step.Node pool secret NodeCommand.ReadPool) s reads = rests_lift (with_world s.acl) s.world (tell pool NodeCommand.ReadPool s.world) (rests_found s.world (get s.world.pools pool) _ (λ p. refl))
 rests_by _ s reads = absurd reads
 
 rests_concluded : (step : Step) (s : State) (o : Outcome State) (answer : Answer) (s' : State) → Rests s o → concluded step s o ≡ said answer s' → s' ≡ s
@@ -194,7 +194,7 @@ rests_concluded step s (Done content x) answer s' h e = by (is_over (settle s.wo
     same : record x { world = settle s.world x.world } ≡ s
     same = (λ i. record (h i) { world = settle s.world (h i).world }) ∙ (λ i. record s { world = settle_same s.world i })
 
-    by : (b : Bool) → cond b (said (Err refusals.Full) s) (said (Ok (reply_of step content (settle s.world x.world))) (record x { world = settle s.world x.world })) ≡ said answer s' → s' ≡ s
+    by : (b : Bool) → cond b (said (Err Refusal.Full) s) (said (Ok (reply_of step content (settle s.world x.world))) (record x { world = settle s.world x.world })) ≡ said answer s' → s' ≡ s
     by true e = sym (ap (λ x. x.1) (same_Some _ _ e))
     by false e = sym (ap (λ x. x.1) (same_Some _ _ e)) ∙ same
 
@@ -203,6 +203,6 @@ pub reading_rests : (step : Step) (s s' : State) (answer : Answer) → IsReading
 unfolding after
 reading_rests step s s' answer reads e = by (is_allowed step s.acl) e
   where
-    by : (b : Bool) → cond b (concluded step s (act step s)) (said (Err refusals.Denied) s) ≡ said answer s' → s' ≡ s
+    by : (b : Bool) → cond b (concluded step s (act step s)) (said (Err Refusal.Denied) s) ≡ said answer s' → s' ≡ s
     by true e = rests_concluded step s (act step s) answer s' (rests_by step s reads) e
     by false e = sym (ap (λ x. x.1) (same_Some _ _ e))

@@ -6,12 +6,12 @@ use Rattle.ns_types.specs.declared.records.Quota.{Quota}
 use Rattle.ns_types.specs.declared.refusal.Refusal.{Refusal}
 use Rattle.ns_types.specs.declared.reply.Content.{Content}
 use Rattle.ns_types.specs.declared.step.AdminCommand.{AdminCommand}
-use Rattle.ns_types.specs.declared.step.AdminCommand.TheVariants as admins
-use Rattle.ns_types.specs.Admins.{with_quota, with_pool, new_tenant}
-use Rattle.ns_types.specs.Names.{Name}
-use Rattle.ns_types.specs.Releases.{changes_limits}
-use Rattle.ns_types.specs.Rows.{State, World, Tenant, PoolRows, QuotaRows}
-use Rattle.ns_types.specs.Settle.{after_quota_release}
+use Rattle.ns_types.specs.declared.step.AdminCommand.TheVariants as AdminCommand
+use Rattle.ns_types.specs.Asking.Admins.{with_quota, with_pool, new_tenant}
+use Rattle.ns_types.specs.State.Names.{Name}
+use Rattle.ns_types.specs.Settling.Releases.{changes_limits}
+use Rattle.ns_types.specs.State.Rows.{State, World, Tenant, PoolRows, QuotaRows}
+use Rattle.ns_types.specs.Settling.Settle.{after_quota_release}
 use Rattle.ns_types.specs.Steps.{Answer}
 
 -- the quota is there, and the put gives it other limits
@@ -28,7 +28,7 @@ relimited_state s name quota = record s { world = record s.world { quotas = inse
 
 -- all other steps of administrators release nothing
 abbrev pub IsCalm : AdminCommand → Type 0
-IsCalm (admins.PutQuota name quota) = ⊥
+IsCalm (AdminCommand.PutQuota name quota) = ⊥
 IsCalm _ = Unit {0}
 
 -- the answer to a step that shows no index

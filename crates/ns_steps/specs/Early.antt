@@ -3,8 +3,8 @@ use Rattle.std.specs.Prelude.{◌≡◌, ◌≢◌, ℕ, ◌≤◌, true, false,
 use Rattle.std.specs.FinMap.{get}
 use Rattle.ns_types.specs.declared.evaluation.Evaluation.{Evaluation}
 use Rattle.ns_types.specs.declared.worker.Worker.{Worker}
-use Rattle.ns_types.specs.Names.{Name, Key, has_key}
-use Rattle.ns_types.specs.Rows.{World, Tenant}
+use Rattle.ns_types.specs.State.Names.{Name, Key, has_key}
+use Rattle.ns_types.specs.State.Rows.{World, Tenant}
 use Rattle.ns_types.specs.Steps.{is_over}
 use Rattle.ns_types.specs.Validity.{IsReady}
 use Rattle.ns_steps.specs.Registered.{next_number}

@@ -3,23 +3,23 @@ use Rattle.std.specs.Prelude.{◌≡◌, ◌≢◌, ◌||◌, true, false, if◌
 use Rattle.std.specs.FinMap.{get}
 use Rattle.ns_types.specs.declared.job.Registration.{Registration}
 use Rattle.ns_types.specs.declared.refusal.Refusal.{Refusal}
-use Rattle.ns_types.specs.declared.refusal.Refusal.TheVariants as refusals
+use Rattle.ns_types.specs.declared.refusal.Refusal.TheVariants as Refusal
 use Rattle.ns_types.specs.declared.records.Quota.{Quota}
 use Rattle.ns_types.specs.declared.reply.Content.{Content}
 use Rattle.ns_types.specs.declared.step.AdminCommand.{AdminCommand}
-use Rattle.ns_types.specs.declared.step.AdminCommand.TheVariants as admins
-use Rattle.ns_types.specs.declared.step.AskCommand.TheVariants as asks
+use Rattle.ns_types.specs.declared.step.AdminCommand.TheVariants as AdminCommand
+use Rattle.ns_types.specs.declared.step.AskCommand.TheVariants as AskCommand
 use Rattle.ns_types.specs.declared.reply.Reply.{Reply}
 use Rattle.ns_types.specs.declared.step.Step.{Step}
-use Rattle.ns_types.specs.declared.step.Step.TheVariants as steps
-use Rattle.ns_types.specs.declared.evaluation.Trigger.TheVariants as triggers
-use Rattle.ns_types.specs.Making.{evaluation_of, make_in, with_job}
-use Rattle.ns_types.specs.Access.{administer, may_administer}
-use Rattle.ns_types.specs.Admins.{put_quota}
-use Rattle.ns_types.specs.Names.{Name}
-use Rattle.ns_types.specs.Outcome.{Changes, Done}
-use Rattle.ns_types.specs.Releases.{released_classes, releases_quota, woken}
-use Rattle.ns_types.specs.Rows.{World, State, Tenant, PoolRows, QuotaRows}
+use Rattle.ns_types.specs.declared.step.Step.TheVariants as Step
+use Rattle.ns_types.specs.declared.evaluation.Trigger.TheVariants as Trigger
+use Rattle.ns_types.specs.Settling.Making.{evaluation_of, make_in, with_job}
+use Rattle.ns_types.specs.Asking.Policies.{administer, may_administer}
+use Rattle.ns_types.specs.Asking.Admins.{put_quota}
+use Rattle.ns_types.specs.State.Names.{Name}
+use Rattle.ns_types.specs.Settling.Outcome.{Changes, Done}
+use Rattle.ns_types.specs.Settling.Releases.{released_classes, releases_quota, woken}
+use Rattle.ns_types.specs.State.Rows.{World, State, Tenant, PoolRows, QuotaRows}
 use Rattle.ns_types.specs.Steps.{Answer, Makes, after, greatest, is_over, said}
 use Rattle.ns_steps.specs.Administered.{IsCalm, plain, relimited, relimited_state}
 use Rattle.ns_steps.specs.Early.{IsEarly, IsFresh}
@@ -28,7 +28,7 @@ use Rattle.ns_steps.specs.Registered.{IsRegistrable, Refuses, job_of, next_index
 
 -- the world with the rows of a registration put, before the step settles
 abbrev pub put_world : Name → Registration → World → Tenant → World
-put_world ns r w t = make_in ns (evaluation_of r.id (job_of r t).document triggers.JobRegister) w (with_job r.id (job_of r t) t)
+put_world ns r w t = make_in ns (evaluation_of r.id (job_of r t).document Trigger.JobRegister) w (with_job r.id (job_of r t) t)
 
 pub record ReleasesNothing (w w' : World) : Type 0 where
   pub classes : (name : Name) (pool : PoolRows) → get w'.pools name ≡ Some pool → released_classes w w' name pool ≡ []
@@ -40,14 +40,14 @@ RegistrationReleasesNothing = (ns : Name) (r : Registration) (w : World) (t : Te
 
 abbrev pub RegistrationRefused : Type 0
 RegistrationRefused = (s : State) (ns : Name) (secret : Option Name) (r : Registration) (refusal : Refusal)
-    → Refuses s ns secret r refusal → after (steps.Ask ns secret (asks.Register r)) s ≡ said (Err refusal) s
+    → Refuses s ns secret r refusal → after (Step.Ask ns secret (AskCommand.Register r)) s ≡ said (Err refusal) s
 
 -- it is made, unless a counter would pass its bound
 abbrev pub RegistrationIs : Type 0
 RegistrationIs = (s : State) (ns : Name) (secret : Option Name) (r : Registration) (t : Tenant)
     → IsRegistrable s ns secret r t → IsFresh s.world ns t → is_over s.world ≡ false
-    → after (steps.Ask ns secret (asks.Register r)) s
-    ≡ (if nat_lt greatest (next_index t) || nat_lt greatest (next_number t) then said (Err refusals.Full) s
+    → after (Step.Ask ns secret (AskCommand.Register r)) s
+    ≡ (if nat_lt greatest (next_index t) || nat_lt greatest (next_number t) then said (Err Refusal.Full) s
     else said (Ok (registered_reply r t)) (registered_state ns r s t))
 
 -- ---- administrators
@@ -56,13 +56,13 @@ RegistrationIs = (s : State) (ns : Name) (secret : Option Name) (r : Registratio
 abbrev pub AdministrationMakes : Type 0
 AdministrationMakes = (s s' : State) (secret : Option Name) (command : AdminCommand) (result : Result Content Refusal)
     → may_administer s.acl secret command ≡ true → IsEarly s.world → IsCalm command → Changes (administer secret command s) s result s'
-    → Makes (steps.Admin secret command) s (plain result) s' × IsEarly s'.world
+    → Makes (Step.Admin secret command) s (plain result) s' × IsEarly s'.world
 
 -- a quota with other limits has one more release
 abbrev pub QuotaPutIs : Type 0
 QuotaPutIs = (s : State) (secret : Option Name) (name : Name) (quota : Quota) (content : Content) (w : World)
-    → may_administer s.acl secret (admins.PutQuota name quota) ≡ true → IsEarly s.world → nat_lt greatest (relimited s.world name quota).release ≡ false
-    → put_quota name quota s.world ≡ Done content w → after (steps.Admin secret (admins.PutQuota name quota)) s ≡ said (Ok (record { index = None; content = content })) (relimited_state s name quota)
+    → may_administer s.acl secret (AdminCommand.PutQuota name quota) ≡ true → IsEarly s.world → nat_lt greatest (relimited s.world name quota).release ≡ false
+    → put_quota name quota s.world ≡ Done content w → after (Step.Admin secret (AdminCommand.PutQuota name quota)) s ≡ said (Ok (record { index = None; content = content })) (relimited_state s name quota)
 
 -- ---- every step that is served
 

@@ -1,68 +1,68 @@
 -- The steps that are served so far, and those among them that only read.
 use Rattle.ns_types.specs.declared.reply.Content.{Content}
 use Rattle.ns_types.specs.declared.step.AdminCommand.{AdminCommand}
-use Rattle.ns_types.specs.declared.step.AdminCommand.TheVariants as admins
+use Rattle.ns_types.specs.declared.step.AdminCommand.TheVariants as AdminCommand
 use Rattle.ns_types.specs.declared.step.AskCommand.{AskCommand}
-use Rattle.ns_types.specs.declared.step.AskCommand.TheVariants as asks
+use Rattle.ns_types.specs.declared.step.AskCommand.TheVariants as AskCommand
 use Rattle.ns_types.specs.declared.step.NodeCommand.{NodeCommand}
-use Rattle.ns_types.specs.declared.step.NodeCommand.TheVariants as tells
+use Rattle.ns_types.specs.declared.step.NodeCommand.TheVariants as NodeCommand
 use Rattle.ns_types.specs.declared.step.Step.{Step}
-use Rattle.ns_types.specs.declared.step.Step.TheVariants as steps
+use Rattle.ns_types.specs.declared.step.Step.TheVariants as Step
 use Rattle.ns_steps.specs.Told.{IsJob, IsJobs, IsNamespace, IsPool, IsRegistered, IsToldOf, IsUsage}
 
 abbrev pub IsServedAsk : AskCommand → Type 0
-IsServedAsk (asks.Register r) = Unit {0}
-IsServedAsk (asks.ReadJob id) = Unit {0}
-IsServedAsk (asks.ListJobs prefix) = Unit {0}
-IsServedAsk asks.ReadNamespace = Unit {0}
-IsServedAsk (asks.QuotaUsage quota) = Unit {0}
+IsServedAsk (AskCommand.Register r) = Unit {0}
+IsServedAsk (AskCommand.ReadJob id) = Unit {0}
+IsServedAsk (AskCommand.ListJobs prefix) = Unit {0}
+IsServedAsk AskCommand.ReadNamespace = Unit {0}
+IsServedAsk (AskCommand.QuotaUsage quota) = Unit {0}
 IsServedAsk _ = ⊥
 
 abbrev pub IsServedTelling : NodeCommand → Type 0
-IsServedTelling tells.ReadPool = Unit {0}
+IsServedTelling NodeCommand.ReadPool = Unit {0}
 IsServedTelling _ = ⊥
 
 abbrev pub IsServed : Step → Type 0
-IsServed (steps.Ask ns secret command) = IsServedAsk command
-IsServed (steps.Admin secret command) = Unit {0}
-IsServed (steps.Node pool secret command) = IsServedTelling command
+IsServed (Step.Ask ns secret command) = IsServedAsk command
+IsServed (Step.Admin secret command) = Unit {0}
+IsServed (Step.Node pool secret command) = IsServedTelling command
 IsServed _ = ⊥
 
 -- ---- reads
 
 abbrev pub IsReadingAsk : AskCommand → Type 0
-IsReadingAsk (asks.ReadJob id) = Unit {0}
-IsReadingAsk (asks.ListJobs prefix) = Unit {0}
-IsReadingAsk asks.ReadNamespace = Unit {0}
-IsReadingAsk (asks.QuotaUsage quota) = Unit {0}
+IsReadingAsk (AskCommand.ReadJob id) = Unit {0}
+IsReadingAsk (AskCommand.ListJobs prefix) = Unit {0}
+IsReadingAsk AskCommand.ReadNamespace = Unit {0}
+IsReadingAsk (AskCommand.QuotaUsage quota) = Unit {0}
 IsReadingAsk _ = ⊥
 
 abbrev pub IsReadingRecords : AdminCommand → Type 0
-IsReadingRecords admins.ListNamespaces = Unit {0}
-IsReadingRecords admins.ListQuotas = Unit {0}
-IsReadingRecords (admins.ReadQuota name) = Unit {0}
-IsReadingRecords admins.ListPools = Unit {0}
-IsReadingRecords (admins.ReadPolicy name) = Unit {0}
+IsReadingRecords AdminCommand.ListNamespaces = Unit {0}
+IsReadingRecords AdminCommand.ListQuotas = Unit {0}
+IsReadingRecords (AdminCommand.ReadQuota name) = Unit {0}
+IsReadingRecords AdminCommand.ListPools = Unit {0}
+IsReadingRecords (AdminCommand.ReadPolicy name) = Unit {0}
 IsReadingRecords _ = ⊥
 
 abbrev pub IsReading : Step → Type 0
-IsReading (steps.Ask ns secret command) = IsReadingAsk command
-IsReading (steps.Admin secret command) = IsReadingRecords command
-IsReading (steps.Node pool secret command) = IsServedTelling command
+IsReading (Step.Ask ns secret command) = IsReadingAsk command
+IsReading (Step.Admin secret command) = IsReadingRecords command
+IsReading (Step.Node pool secret command) = IsServedTelling command
 IsReading _ = ⊥
 
 -- ---- what is told
 
 abbrev pub IsToldAsk : AskCommand → Content → Type 0
-IsToldAsk (asks.Register r) content = IsRegistered content
-IsToldAsk (asks.ReadJob id) content = IsJob content
-IsToldAsk (asks.ListJobs prefix) content = IsJobs content
-IsToldAsk asks.ReadNamespace content = IsNamespace content
-IsToldAsk (asks.QuotaUsage quota) content = IsUsage content
+IsToldAsk (AskCommand.Register r) content = IsRegistered content
+IsToldAsk (AskCommand.ReadJob id) content = IsJob content
+IsToldAsk (AskCommand.ListJobs prefix) content = IsJobs content
+IsToldAsk AskCommand.ReadNamespace content = IsNamespace content
+IsToldAsk (AskCommand.QuotaUsage quota) content = IsUsage content
 IsToldAsk _ content = ⊥
 
 abbrev pub IsToldBy : Step → Content → Type 0
-IsToldBy (steps.Ask ns secret command) content = IsToldAsk command content
-IsToldBy (steps.Admin secret command) content = IsToldOf command content
-IsToldBy (steps.Node pool secret command) content = IsPool content
+IsToldBy (Step.Ask ns secret command) content = IsToldAsk command content
+IsToldBy (Step.Admin secret command) content = IsToldOf command content
+IsToldBy (Step.Node pool secret command) content = IsPool content
 IsToldBy _ content = ⊥

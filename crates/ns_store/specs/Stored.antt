@@ -10,9 +10,9 @@ use Rattle.ns_types.specs.declared.evaluation.Status.{Status}
 use Rattle.ns_types.specs.declared.evaluation.Status.TheVariants.{Pending, Blocked, Complete, Failed, Canceled}
 use Rattle.ns_types.specs.declared.event.Event.{Event}
 use Rattle.ns_types.specs.declared.job.Job.{Job}
-use Rattle.ns_types.specs.Names.{Name, ByNumber, name_cmp, same_name}
-use Rattle.ns_types.specs.Rows.{is_open, is_pending}
-use Rattle.ns_types.specs.Tables.{any_row}
+use Rattle.ns_types.specs.State.Names.{Name, ByNumber, name_cmp, same_name}
+use Rattle.ns_types.specs.State.Rows.{is_open, is_pending}
+use Rattle.ns_types.specs.State.Tables.{any_row}
 
 -- the last events, and how many can be added without memory
 pub record Log : Type 0 where

@@ -1,6 +1,6 @@
 // The last events, the newest last.
 ghost use Rattle.std.specs.Prelude.{◌≡◌, ◌+◌, ◌<◌, ◌≤◌, ◌++◌, ◌∷◌, [], OnOk, length};
-ghost use Rattle.ns_types.specs.Lists.{last};
+ghost use Rattle.ns_types.specs.State.Lists.{last};
 
 use ns_types::event::Event;
 use std::alloc::{AllocError, Global};

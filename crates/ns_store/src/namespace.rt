@@ -2,7 +2,7 @@
 ghost use Rattle.std.specs.Prelude.{◌≡◌, ◌+◌, ◌^◌, ◌<◌, ◌≤◌, ◌++◌, ◌∷◌, [], IsTrue, OnOk, IfOk, length, option_copied};
 ghost use Rattle.std.specs.FinMap as table;
 ghost use Rattle.keyed.specs.Table.{rows, has_slot, without_vacant, KeepsSlots};
-ghost use Rattle.ns_types.specs.Lists.{last};
+ghost use Rattle.ns_types.specs.State.Lists.{last};
 ghost use Rattle.ns_store.specs.Stored.{nothing_stored, numbers_of_job, numbers_of_status, has_open, has_pending};
 
 use crate::events::Events;

@@ -11,10 +11,10 @@ use Rattle.ns_types.proofs.Named.{numbers, one_number}
 use Rattle.ns_types.specs.declared.allocation.Allocation.{Allocation}
 use Rattle.ns_types.specs.declared.records.Namespace.{Namespace}
 use Rattle.ns_types.specs.declared.worker.Worker.{Worker}
-use Rattle.ns_types.specs.Admins.{forbids_put, has_live, has_open, is_withdrawn, looks_to_pool, same_quota, uses_pool}
-use Rattle.ns_types.specs.Names.{Name}
-use Rattle.ns_types.specs.Rows.{is_live, is_open}
-use Rattle.ns_types.specs.Tables.{any_row}
+use Rattle.ns_types.specs.Asking.Admins.{forbids_put, has_live, has_open, is_withdrawn, looks_to_pool, same_quota, uses_pool}
+use Rattle.ns_types.specs.State.Names.{Name}
+use Rattle.ns_types.specs.State.Rows.{is_live, is_open}
+use Rattle.ns_types.specs.State.Tables.{any_row}
 use Rattle.ns_tables.specs.declared.tables.TenantRows.{TenantRows}
 use Rattle.ns_tables.specs.Viewed.{job_in, open_in, tenant_of}
 use Rattle.ns_tables.proofs.Viewing.{any_row-empty, any_row-rows}

@@ -7,10 +7,10 @@ use Rattle.keyed.proofs.Tables.{rows-empty}
 use Rattle.ns_store.specs.Stored.{Stored, nothing_stored}
 use Rattle.ns_types.proofs.Named.{names, one_name}
 use Rattle.ns_types.specs.declared.records.Pool.{Pool}
-use Rattle.ns_types.specs.Admins.{with_pool}
-use Rattle.ns_types.specs.Names.{Name, Key, default_name}
+use Rattle.ns_types.specs.Asking.Admins.{with_pool}
+use Rattle.ns_types.specs.State.Names.{Name, Key, default_name}
 use Rattle.ns_types.specs.Steps.{opening_tenant, opening_world}
-use Rattle.ns_types.specs.Tables.{table_of}
+use Rattle.ns_types.specs.State.Tables.{table_of}
 use Rattle.ns_tables.specs.declared.tables.Tables.{Tables}
 use Rattle.ns_tables.specs.declared.tables.TenantRows.{TenantRows}
 use Rattle.ns_tables.specs.Viewed.{quota_of, tenant_of, world_of}

@@ -3,8 +3,8 @@ use Rattle.std.specs.Prelude.{◌≡◌, Bool, true, false, T, Option, Some, Non
 use Rattle.std.proofs.Common.{refl, sym, ap, subst}
 use Rattle.std.specs.Option.{option_map_or}
 use Rattle.ns_types.specs.declared.refusal.Refusal.{Refusal}
-use Rattle.ns_types.specs.declared.refusal.Refusal.TheVariants as refusals
-use Rattle.ns_types.specs.Outcome.{Outcome, Refused, found, unless}
+use Rattle.ns_types.specs.declared.refusal.Refusal.TheVariants as Refusal
+use Rattle.ns_types.specs.Settling.Outcome.{Outcome, Refused, found, unless}
 
 module _ {S : Type 0} where
   pub unless_so : (b : Bool) (r : Refusal) (rest : Outcome S) → b ≡ true → unless b r rest ≡ Refused r
@@ -15,13 +15,13 @@ module _ {S : Type 0} where
   unfolding unless
   unless_not b r rest e = ap (λ b. if b then Refused r else rest) e
 
-  pub found_none : {A : Type 0} (thing : Option A) (go : A → Outcome S) → thing ≡ None → found thing go ≡ Refused refusals.NotFound
-  found_none thing go e = ap (λ x. option_map_or go x (Refused refusals.NotFound)) e
+  pub found_none : {A : Type 0} (thing : Option A) (go : A → Outcome S) → thing ≡ None → found thing go ≡ Refused Refusal.NotFound
+  found_none thing go e = ap (λ x. option_map_or go x (Refused Refusal.NotFound)) e
 
   pub found_some : {A : Type 0} (thing : Option A) (go : A → Outcome S) (x : A) → thing ≡ Some x → found thing go ≡ go x
-  found_some thing go x e = ap (λ x. option_map_or go x (Refused refusals.NotFound)) e
+  found_some thing go x e = ap (λ x. option_map_or go x (Refused Refusal.NotFound)) e
 
-  pub found_absent : {A : Type 0} (thing : Option A) (go : A → Outcome S) → is_some thing ≡ false → found thing go ≡ Refused refusals.NotFound
+  pub found_absent : {A : Type 0} (thing : Option A) (go : A → Outcome S) → is_some thing ≡ false → found thing go ≡ Refused Refusal.NotFound
   found_absent None go e = refl
   found_absent (Some x) go e = absurd (subst T e tt)
 

@@ -10,7 +10,7 @@ use Rattle.std.specs.FinMap.{FinMap, IsAntisymmetric, empty, entries, get, get-e
 use Rattle.keyed.specs.Table.{at_slot, row_list, rows}
 use Rattle.keyed.proofs.Tables.{any-at_slot, entries-rows}
 use Rattle.ns_types.proofs.Tables.{any_row-none, entries-table_of, get-table_of, tied}
-use Rattle.ns_types.specs.Tables.{any_row, table_of}
+use Rattle.ns_types.specs.State.Tables.{any_row, table_of}
 
 module _ {X Y : Type 0} where
   list_any-map : (p : Y → Bool) (f : X → Y) (xs : List X) → list_any p (map f xs) ≡ list_any (λ x. p (f x)) xs

@@ -9,14 +9,14 @@ use Rattle.keyed.proofs.Tables.{get-rows, rows-empty}
 use Rattle.ns_types.proofs.Named.{names, one_name}
 use Rattle.ns_types.specs.declared.records.Namespace.{Namespace}
 use Rattle.ns_types.specs.declared.records.Pool.{Pool}
-use Rattle.ns_types.specs.Admins.{new_tenant, with_namespace, with_pool, with_quota}
-use Rattle.ns_types.specs.Making.{put_pool, put_tenant}
+use Rattle.ns_types.specs.Asking.Admins.{new_tenant, with_namespace, with_pool, with_quota}
+use Rattle.ns_types.specs.Settling.Making.{put_pool, put_tenant}
 use Rattle.ns_types.specs.declared.node.Node.{Node}
-use Rattle.ns_types.specs.declared.refusal.Refusal.TheVariants as refusals
-use Rattle.ns_types.specs.Names.{Name, Key, default_name, name_cmp, same_name}
-use Rattle.ns_types.specs.Outcome.{Outcome, Refused, in_pool, unless}
-use Rattle.ns_types.specs.Rows.{World, PoolRows}
-use Rattle.ns_types.specs.Tables.{any_row}
+use Rattle.ns_types.specs.declared.refusal.Refusal.TheVariants as Refusal
+use Rattle.ns_types.specs.State.Names.{Name, Key, default_name, name_cmp, same_name}
+use Rattle.ns_types.specs.Settling.Outcome.{Outcome, Refused, in_pool, unless}
+use Rattle.ns_types.specs.State.Rows.{World, PoolRows}
+use Rattle.ns_types.specs.State.Tables.{any_row}
 use Rattle.ns_tables.specs.declared.tables.QuotaRows.{QuotaRows as StoredQuota}
 use Rattle.ns_tables.specs.declared.tables.Tables.{Tables}
 use Rattle.ns_tables.specs.declared.tables.TenantRows.{TenantRows}
@@ -95,18 +95,18 @@ module _ (t : Tables) (ready : List Key) (name : Name) where
 
   -- to delete a pool that is there, which has no nodes
   pub found_pool : (used : Bool) (done : Outcome World) → contains_key (rows t.pools) name ≡ true
-      → in_pool (world_of ready t) name (λ pool. unless (same_name name default_name) refusals.InUse (unless (any_row (λ _ node. true) pool.nodes || used) refusals.InUse done))
-      ≡ unless (same_name name default_name) refusals.InUse (unless used refusals.InUse done)
+      → in_pool (world_of ready t) name (λ pool. unless (same_name name default_name) Refusal.InUse (unless (any_row (λ _ node. true) pool.nodes || used) Refusal.InUse done))
+      ≡ unless (same_name name default_name) Refusal.InUse (unless used Refusal.InUse done)
   found_pool used done there = by (row_at t.pools name) refl
     where
       by : (x : Option Pool) → row_at t.pools name ≡ x
-          → in_pool (world_of ready t) name (λ pool. unless (same_name name default_name) refusals.InUse (unless (any_row (λ _ node. true) pool.nodes || used) refusals.InUse done))
-          ≡ unless (same_name name default_name) refusals.InUse (unless used refusals.InUse done)
+          → in_pool (world_of ready t) name (λ pool. unless (same_name name default_name) Refusal.InUse (unless (any_row (λ _ node. true) pool.nodes || used) Refusal.InUse done))
+          ≡ unless (same_name name default_name) Refusal.InUse (unless used Refusal.InUse done)
       by None e = absurd (subst T (sym (sym (ap is_some (get-rows names t.pools name ∙ e)) ∙ there)) tt)
       by (Some x) e = found_some _ _ (with_pool x None) (pool_at (Some x) e)
-          ∙ ap (λ b. unless (same_name name default_name) refusals.InUse (unless (b || used) refusals.InUse done)) (any_row-empty names one_name (λ _ (node : Node). true))
+          ∙ ap (λ b. unless (same_name name default_name) Refusal.InUse (unless (b || used) Refusal.InUse done)) (any_row-empty names one_name (λ _ (node : Node). true))
 
-  pub no_pool : (go : PoolRows → Outcome World) → contains_key (rows t.pools) name ≡ false → in_pool (world_of ready t) name go ≡ Refused refusals.NotFound
+  pub no_pool : (go : PoolRows → Outcome World) → contains_key (rows t.pools) name ≡ false → in_pool (world_of ready t) name go ≡ Refused Refusal.NotFound
   no_pool go absent = found_absent _ go (pool_there ∙ absent)
 
   -- ---- quotas

@@ -8,9 +8,9 @@ use Rattle.keyed.specs.Table.{has_slot, row_at, rows, with_slot}
 use Rattle.keyed.proofs.Tables.{get-rows, has_slot-with_slot_here, rows-empty, rows-remove, rows-set, rows-with_slot}
 use Rattle.ns_types.proofs.Named.{names, one_name}
 use Rattle.ns_types.proofs.Tables.{get-table_of}
-use Rattle.ns_types.specs.Admins.{is_full}
-use Rattle.ns_types.specs.Names.{Name, name_cmp}
-use Rattle.ns_types.specs.Tables.{table_of}
+use Rattle.ns_types.specs.Asking.Admins.{is_full}
+use Rattle.ns_types.specs.State.Names.{Name, name_cmp}
+use Rattle.ns_types.specs.State.Tables.{table_of}
 use Rattle.ns_tables.proofs.Viewing.{get_mapped, len-table_of, table_of-insert, table_of-remove}
 
 module _ {X : Type 0} where

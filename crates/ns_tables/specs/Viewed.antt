@@ -10,12 +10,12 @@ use Rattle.ns_types.specs.declared.records.Namespace.{Namespace}
 use Rattle.ns_types.specs.declared.records.Pool.{Pool}
 use Rattle.ns_types.specs.declared.evaluation.Evaluation.{Evaluation}
 use Rattle.ns_types.specs.declared.job.Job.{Job}
-use Rattle.ns_types.specs.Admins.{looks_to_pool, names_pool, with_pool}
-use Rattle.ns_types.specs.Names.{Name, Key, same_name}
-use Rattle.ns_types.specs.Rows.{World, Tenant, QuotaRows, is_open}
-use Rattle.ns_types.specs.Sharing.{overlaps}
-use Rattle.ns_types.specs.Sums.{names_quota}
-use Rattle.ns_types.specs.Tables.{table_of}
+use Rattle.ns_types.specs.Asking.Admins.{looks_to_pool, names_pool, with_pool}
+use Rattle.ns_types.specs.State.Names.{Name, Key, same_name}
+use Rattle.ns_types.specs.State.Rows.{World, Tenant, QuotaRows, is_open}
+use Rattle.ns_types.specs.Access.Sharing.{overlaps}
+use Rattle.ns_types.specs.State.Sums.{names_quota}
+use Rattle.ns_types.specs.State.Tables.{table_of}
 use Rattle.ns_tables.specs.declared.tables.QuotaRows.{QuotaRows as StoredQuota}
 use Rattle.ns_tables.specs.declared.tables.Tables.{Tables}
 use Rattle.ns_tables.specs.declared.tables.TenantRows.{TenantRows}

@@ -4,9 +4,9 @@
 ghost use Rattle.std.specs.Prelude.{◌≡◌, ◌||◌, true};
 ghost use Rattle.std.specs.List.{list_any};
 ghost use Rattle.keyed.specs.Table.{at_slot};
-ghost use Rattle.ns_types.specs.Admins.{forbids_put as forbids, has_live, has_open, is_withdrawn as withdraws, looks_to_pool as looks_to, uses_pool};
-ghost use Rattle.ns_types.specs.Names.{same_name};
-ghost use Rattle.ns_types.specs.Tables.{any_row};
+ghost use Rattle.ns_types.specs.Asking.Admins.{forbids_put as forbids, has_live, has_open, is_withdrawn as withdraws, looks_to_pool as looks_to, uses_pool};
+ghost use Rattle.ns_types.specs.State.Names.{same_name};
+ghost use Rattle.ns_types.specs.State.Tables.{any_row};
 ghost use Rattle.ns_tables.specs.Viewed.{job_in, open_in, tenant_of};
 
 use crate::sharing::{is_withdrawn, same_quota, same_text};

@@ -3,8 +3,8 @@
 ghost use Rattle.std.specs.Prelude.{◌≡◌, Bool, List, IfOk, map, filter};
 ghost use Rattle.std.specs.Fn.{FnReturnsAt};
 ghost use Rattle.keyed.specs.Table.{row_list};
-ghost use Rattle.ns_types.specs.Admins.{list_namespaces, list_pools, list_quotas};
-ghost use Rattle.ns_types.specs.Names.{Key, Name};
+ghost use Rattle.ns_types.specs.Asking.Admins.{list_namespaces, list_pools, list_quotas};
+ghost use Rattle.ns_types.specs.State.Names.{Key, Name};
 ghost use Rattle.ns_tables.specs.Viewed.{namespace_shown, pool_shown, quota_shown, world_of};
 
 use crate::tables::{QuotaRows, Slot, Tables, TenantRows};

@@ -5,10 +5,10 @@ ghost use Rattle.std.specs.List.{list_all};
 ghost use Rattle.std.specs.FinMap.{contains_key, get};
 ghost use Rattle.std.specs.Option.{option_map_or};
 ghost use Rattle.keyed.specs.Table.{rows};
-ghost use Rattle.ns_types.specs.Admins.{delete_namespace, forbids_put as forbids, lacks_allowed, lacks_quota, put_namespace, with_namespace};
-ghost use Rattle.ns_types.specs.Making.{put_tenant};
-ghost use Rattle.ns_types.specs.Names.{Key};
-ghost use Rattle.ns_types.specs.Outcome.{Changes};
+ghost use Rattle.ns_types.specs.Asking.Admins.{delete_namespace, forbids_put as forbids, lacks_allowed, lacks_quota, put_namespace, with_namespace};
+ghost use Rattle.ns_types.specs.Settling.Making.{put_tenant};
+ghost use Rattle.ns_types.specs.State.Names.{Key};
+ghost use Rattle.ns_types.specs.Settling.Outcome.{Changes};
 ghost use Rattle.ns_tables.specs.Viewed.{world_of};
 
 use crate::held::{forbids_put, has_work};

@@ -3,9 +3,9 @@
 ghost use Rattle.std.specs.Prelude.{◌≡◌, List};
 ghost use Rattle.std.specs.List.{list_any};
 ghost use Rattle.keyed.specs.Table.{at_slot};
-ghost use Rattle.ns_types.specs.Admins.{delete_pool, is_pool_in_use, put_pool_record};
-ghost use Rattle.ns_types.specs.Names.{Key};
-ghost use Rattle.ns_types.specs.Outcome.{Changes};
+ghost use Rattle.ns_types.specs.Asking.Admins.{delete_pool, is_pool_in_use, put_pool_record};
+ghost use Rattle.ns_types.specs.State.Names.{Key};
+ghost use Rattle.ns_types.specs.Settling.Outcome.{Changes};
 ghost use Rattle.ns_tables.specs.Viewed.{tenant_uses_pool, world_of};
 
 use crate::held::looks_to_pool;

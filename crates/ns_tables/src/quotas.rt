@@ -5,12 +5,12 @@ ghost use Rattle.std.specs.FinMap.{get, insert};
 ghost use Rattle.std.specs.List.{list_any};
 ghost use Rattle.std.specs.Option.{option_map_or};
 ghost use Rattle.keyed.specs.Table.{at_slot, row_at};
-ghost use Rattle.ns_types.specs.Admins.{delete_quota, put_quota, read_quota, with_quota};
-ghost use Rattle.ns_types.specs.Names.{Key};
-ghost use Rattle.ns_types.specs.Outcome.{Changes};
-ghost use Rattle.ns_types.specs.Releases.{changes_limits};
-ghost use Rattle.ns_types.specs.Resources.{limits_in as limits_of, same_limit as limit_is, same_limits as limits_are};
-ghost use Rattle.ns_types.specs.Sums.{names_quota as quota_is_named};
+ghost use Rattle.ns_types.specs.Asking.Admins.{delete_quota, put_quota, read_quota, with_quota};
+ghost use Rattle.ns_types.specs.State.Names.{Key};
+ghost use Rattle.ns_types.specs.Settling.Outcome.{Changes};
+ghost use Rattle.ns_types.specs.Settling.Releases.{changes_limits};
+ghost use Rattle.ns_types.specs.State.Resources.{limits_in as limits_of, same_limit as limit_is, same_limits as limits_are};
+ghost use Rattle.ns_types.specs.State.Sums.{names_quota as quota_is_named};
 ghost use Rattle.ns_tables.specs.declared.tables.QuotaRows.{QuotaRows as StoredQuota};
 ghost use Rattle.ns_tables.specs.Viewed.{tenant_names_quota, with_quota_written, with_release, world_of};
 

@@ -3,10 +3,10 @@
 ghost use Rattle.std.specs.Prelude.{◌≡◌, false};
 ghost use Rattle.std.specs.List.{list_any};
 ghost use Rattle.std.specs.Option.{option_map_or};
-ghost use Rattle.ns_types.specs.Admins.{is_withdrawn as withdraws, names_pool as pool_is_named, same_quota as quota_is};
-ghost use Rattle.ns_types.specs.Names.{has_name as is_listed, same_name};
-ghost use Rattle.ns_types.specs.Sharing.{is_confined as confines, overlaps as is_overlap, permits as permits_pool, pools_of};
-ghost use Rattle.ns_types.specs.Sums.{names_quota as quota_is_named};
+ghost use Rattle.ns_types.specs.Asking.Admins.{is_withdrawn as withdraws, names_pool as pool_is_named, same_quota as quota_is};
+ghost use Rattle.ns_types.specs.State.Names.{has_name as is_listed, same_name};
+ghost use Rattle.ns_types.specs.Access.Sharing.{is_confined as confines, overlaps as is_overlap, permits as permits_pool, pools_of};
+ghost use Rattle.ns_types.specs.State.Sums.{names_quota as quota_is_named};
 
 use ns_types::records::Namespace;
 use ns_types::text::Text;

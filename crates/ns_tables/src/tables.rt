@@ -5,9 +5,9 @@ ghost use Rattle.std.specs.FinMap.{contains_key, get, insert, empty};
 ghost use Rattle.std.specs.List.{list_any};
 ghost use Rattle.std.specs.Option.{option_map_or};
 ghost use Rattle.keyed.specs.Table.{at_slot, rows};
-ghost use Rattle.ns_types.specs.Admins.{is_full as is_full_table};
-ghost use Rattle.ns_types.specs.Names.{Key, default_name, same_name};
-ghost use Rattle.ns_types.specs.Sharing.{is_confined as confines, permits as permits_pool, shares};
+ghost use Rattle.ns_types.specs.Asking.Admins.{is_full as is_full_table};
+ghost use Rattle.ns_types.specs.State.Names.{Key, default_name, same_name};
+ghost use Rattle.ns_types.specs.Access.Sharing.{is_confined as confines, permits as permits_pool, shares};
 ghost use Rattle.ns_types.specs.Steps.{opening_tenant, opening_world};
 ghost use Rattle.ns_tables.specs.Viewed.{overlaps_other, tenant_of, world_of};
 

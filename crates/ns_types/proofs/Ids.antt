@@ -12,7 +12,7 @@ use Rattle.uuid.proofs.RoundTrips.{parses_hyphenated}
 use Rattle.uuid.proofs.OrderLemmas.{from_be_bytes-to_be_bytes_16}
 use Rattle.ns_types.specs.declared.id.IdKind.{IdKind}
 use Rattle.ns_types.specs.declared.id.IdKind.TheVariants.{Evaluation, Allocation}
-use Rattle.ns_types.specs.Id.{kind_number, id_number, id_text, uuid_number}
+use Rattle.ns_types.specs.State.Id.{kind_number, id_number, id_text, uuid_number}
 
 pub id_number-below : (kind : IdKind) (n : ℕ) → n < 2 ^ 64 → id_number kind n < 2 ^ 128
 id_number-below Evaluation n h = omega arith

@@ -7,7 +7,7 @@ use Rattle.httparse.specs.Grammar.{RequestHead, IsRequestHead, print_request, Re
 use Rattle.httparse.specs.Spans.{RequestOverflows, name_and_value}
 use Rattle.httparse.proofs.GrammarLemmas.{request_unique}
 use Rattle.ns_types.specs.declared.reply.HeadFault.{HeadFault}
-use Rattle.ns_types.specs.Http.{IsHead, Message, print_message, IsMessage, closes, body_len, RefusesHead, malformed, framing, too_long, too_many, IsPartial, in_head, in_body, Received, Whole, Refused, Takes, End, Clean, Partial, Closed, is_closed, IsRest, IsFaultyAndOver, faulty_long, faulty_many, Agree}
+use Rattle.ns_types.specs.Wire.Http.{IsHead, Message, print_message, IsMessage, closes, body_len, RefusesHead, malformed, framing, too_long, too_many, IsPartial, in_head, in_body, Received, Whole, Refused, Takes, End, Clean, Partial, Closed, is_closed, IsRest, IsFaultyAndOver, faulty_long, faulty_many, Agree}
 
 -- a head takes some bytes
 length-print_request : (h : RequestHead) → IsRequestHead h → 0 < length (print_request h)

@@ -6,8 +6,8 @@ use Rattle.std.specs.Ordering.{eq_by_cmp}
 use Rattle.std.specs.Cmp.{IsTotalOrder, tied_itself}
 use Rattle.std.specs.FinMap.{FinMap, IsAntisymmetric, entries, entries_sorted, entries-from_sorted, same_map, get, get-entries, get-insert, get-retain_keys, insert, retain_keys}
 use Rattle.std.specs.FinMap.Entries.{find, where_key, below_all, is_sorted, same_entries, is_sorted-where_key, find-where_key}
-use Rattle.ns_types.specs.Tables.{map_rows, table_of, any_row}
-use Rattle.ns_types.specs.Lists.{Each}
+use Rattle.ns_types.specs.State.Tables.{map_rows, table_of, any_row}
+use Rattle.ns_types.specs.State.Lists.{Each}
 use Rattle.ns_types.proofs.Lists.{filter_inside, flat_map_inside, any_part, left_none, right_none}
 
 pub equal_by : (r : Ordering) → is_eq r ≡ true → r ≡ Equal

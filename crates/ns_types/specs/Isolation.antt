@@ -6,15 +6,15 @@ use Rattle.ns_types.specs.declared.records.Namespace.{Namespace}
 use Rattle.ns_types.specs.declared.records.Pool.{Pool}
 use Rattle.ns_types.specs.declared.records.Quota.{Quota}
 use Rattle.ns_types.specs.declared.step.NodeCommand.{NodeCommand}
-use Rattle.ns_types.specs.declared.step.NodeCommand.TheVariants as tells
+use Rattle.ns_types.specs.declared.step.NodeCommand.TheVariants as NodeCommand
 use Rattle.ns_types.specs.declared.step.Step.{Step}
-use Rattle.ns_types.specs.declared.step.Step.TheVariants as steps
-use Rattle.ns_types.specs.Names.{Name, same_name}
-use Rattle.ns_types.specs.Rights.{rights_of, pool_rights_of, has_any}
-use Rattle.ns_types.specs.Rows.{State, World}
-use Rattle.ns_types.specs.Sharing.{permits, is_unshared}
+use Rattle.ns_types.specs.declared.step.Step.TheVariants as Step
+use Rattle.ns_types.specs.State.Names.{Name, same_name}
+use Rattle.ns_types.specs.Access.Rights.{rights_of, pool_rights_of, has_any}
+use Rattle.ns_types.specs.State.Rows.{State, World}
+use Rattle.ns_types.specs.Access.Sharing.{permits, is_unshared}
 use Rattle.ns_types.specs.Steps.{Answer, said, after}
-use Rattle.ns_types.specs.Sums.{names_quota}
+use Rattle.ns_types.specs.State.Sums.{names_quota}
 
 -- ---- a choice of owners
 
@@ -77,20 +77,20 @@ pub record Agree (ns : Name) (s t : State) : Type 0 where
 
 -- a report of another namespace's allocation is that namespace's affair
 abbrev pub is_told_of : Name → NodeCommand → Bool
-is_told_of ns (tells.Report name report) = same_name ns report.namespace
+is_told_of ns (NodeCommand.Report name report) = same_name ns report.namespace
 is_told_of ns _ = true
 
 -- asked in the namespace with a right there in the first state, told of a pool of it, or made by a worker for it
 unfoldable pub is_own : Name → State → Step → Bool
-is_own ns s0 (steps.Ask asked secret command) = same_name ns asked && has_any (rights_of s0.acl secret ns)
-is_own ns s0 (steps.Admin secret command) = false
-is_own ns s0 (steps.Node pool secret command) = has_pool s0.world ns pool && is_told_of ns command
-is_own ns s0 (steps.Dequeue worker label n) = same_name ns label
-is_own ns s0 (steps.Snap worker label) = same_name ns label
-is_own ns s0 (steps.Submit worker label) = same_name ns label
-is_own ns s0 (steps.Apply worker label) = same_name ns label
-is_own ns s0 (steps.Finish worker label) = same_name ns label
-is_own ns s0 (steps.Nack worker label) = same_name ns label
+is_own ns s0 (Step.Ask asked secret command) = same_name ns asked && has_any (rights_of s0.acl secret ns)
+is_own ns s0 (Step.Admin secret command) = false
+is_own ns s0 (Step.Node pool secret command) = has_pool s0.world ns pool && is_told_of ns command
+is_own ns s0 (Step.Dequeue worker label n) = same_name ns label
+is_own ns s0 (Step.Snap worker label) = same_name ns label
+is_own ns s0 (Step.Submit worker label) = same_name ns label
+is_own ns s0 (Step.Apply worker label) = same_name ns label
+is_own ns s0 (Step.Finish worker label) = same_name ns label
+is_own ns s0 (Step.Nack worker label) = same_name ns label
 
 -- what remains once the others are struck out
 abbrev pub struck : Name → State → List Step → List Step
@@ -106,7 +106,7 @@ struck_answers ns s0 _ _ = []
 
 -- an administrator's step leaves the tables as they are
 abbrev pub Keeps : Name → Step → State → State → Type 0
-Keeps ns (steps.Admin secret command) s s' = SameTables ns s s'
+Keeps ns (Step.Admin secret command) s s' = SameTables ns s s'
 Keeps ns _ s s' = Unit {0}
 
 -- a run in which the namespace shares nothing at any state, and administrators leave its tables alone

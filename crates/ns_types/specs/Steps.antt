@@ -1,48 +1,48 @@
 -- One step of the server, and a run of them.
 use Rattle.std.specs.Prelude.{◌≡◌, ℕ, ◌-◌, ◌^◌, Bool, true, ◌||◌, if◌then◌else◌, List, [], ◌∷◌, Option, Some, None, nat_lt, option_map}
 use Rattle.std.specs.FinMap.{get, insert, empty}
-use Rattle.ns_types.specs.declared.acl.TokenKind.TheVariants as tokens
+use Rattle.ns_types.specs.declared.acl.TokenKind.TheVariants as TokenKind
 use Rattle.ns_types.specs.declared.refusal.Refusal.{Refusal}
-use Rattle.ns_types.specs.declared.refusal.Refusal.TheVariants as refusals
+use Rattle.ns_types.specs.declared.refusal.Refusal.TheVariants as Refusal
 use Rattle.ns_types.specs.declared.reply.Content.{Content}
 use Rattle.ns_types.specs.declared.reply.Reply.{Reply}
 use Rattle.ns_types.specs.declared.step.Step.{Step}
-use Rattle.ns_types.specs.declared.step.Step.TheVariants as steps
+use Rattle.ns_types.specs.declared.step.Step.TheVariants as Step
 use Rattle.std.specs.Prelude.{Result, Ok, Err}
-use Rattle.ns_types.specs.Access.{administer, may_administer, bootstrap_accessor, in_world}
-use Rattle.ns_types.specs.Admins.{new_tenant, with_pool}
-use Rattle.ns_types.specs.Asks.{ask, right_of}
-use Rattle.ns_types.specs.Commit.{apply}
-use Rattle.ns_types.specs.Names.{Name, default_name}
-use Rattle.ns_types.specs.Nodes.{tell, pool_right_of}
-use Rattle.ns_types.specs.Outcome.{Outcome, NotEnabled, Refused, Done}
-use Rattle.ns_types.specs.Rights.{rights_of, pool_rights_of}
-use Rattle.ns_types.specs.Rows.{State, World, Acl, Tenant, PoolRows}
-use Rattle.ns_types.specs.Settle.{settle}
-use Rattle.ns_types.specs.Tables.{any_row}
-use Rattle.ns_types.specs.Work.{dequeue, snap, submit, finish, nack}
+use Rattle.ns_types.specs.Asking.Policies.{administer, may_administer, bootstrap_accessor, in_world}
+use Rattle.ns_types.specs.Asking.Admins.{new_tenant, with_pool}
+use Rattle.ns_types.specs.Asking.Asks.{ask, right_of}
+use Rattle.ns_types.specs.Working.Commit.{apply}
+use Rattle.ns_types.specs.State.Names.{Name, default_name}
+use Rattle.ns_types.specs.Asking.Nodes.{tell, pool_right_of}
+use Rattle.ns_types.specs.Settling.Outcome.{Outcome, NotEnabled, Refused, Done}
+use Rattle.ns_types.specs.Access.Rights.{rights_of, pool_rights_of}
+use Rattle.ns_types.specs.State.Rows.{State, World, Acl, Tenant, PoolRows}
+use Rattle.ns_types.specs.Settling.Settle.{settle}
+use Rattle.ns_types.specs.State.Tables.{any_row}
+use Rattle.ns_types.specs.Working.Work.{dequeue, snap, submit, finish, nack}
 
 -- ---- who may make a step
 
 -- the secret is known and gives the right, which comes before anything else of the state
 abbrev pub is_allowed : Step → Acl → Bool
-is_allowed (steps.Ask ns secret command) acl = right_of command (rights_of acl secret ns)
-is_allowed (steps.Admin secret command) acl = may_administer acl secret command
-is_allowed (steps.Node pool secret command) acl = pool_right_of command (pool_rights_of acl secret pool)
+is_allowed (Step.Ask ns secret command) acl = right_of command (rights_of acl secret ns)
+is_allowed (Step.Admin secret command) acl = may_administer acl secret command
+is_allowed (Step.Node pool secret command) acl = pool_right_of command (pool_rights_of acl secret pool)
 is_allowed _ acl = true
 
 -- ---- what the step itself changes
 
 unfoldable pub act : Step → State → Outcome State
-act (steps.Ask ns secret command) s = in_world s (ask ns command)
-act (steps.Admin secret command) s = administer secret command s
-act (steps.Node pool secret command) s = in_world s (tell pool command)
-act (steps.Dequeue worker ns n) s = in_world s (dequeue worker (ns, n))
-act (steps.Snap worker ns) s = in_world s (snap worker ns)
-act (steps.Submit worker ns) s = in_world s (submit worker ns)
-act (steps.Apply worker ns) s = in_world s (apply worker ns)
-act (steps.Finish worker ns) s = in_world s (finish worker ns)
-act (steps.Nack worker ns) s = in_world s (nack worker ns)
+act (Step.Ask ns secret command) s = in_world s (ask ns command)
+act (Step.Admin secret command) s = administer secret command s
+act (Step.Node pool secret command) s = in_world s (tell pool command)
+act (Step.Dequeue worker ns n) s = in_world s (dequeue worker (ns, n))
+act (Step.Snap worker ns) s = in_world s (snap worker ns)
+act (Step.Submit worker ns) s = in_world s (submit worker ns)
+act (Step.Apply worker ns) s = in_world s (apply worker ns)
+act (Step.Finish worker ns) s = in_world s (finish worker ns)
+act (Step.Nack worker ns) s = in_world s (nack worker ns)
 
 -- ---- counters
 
@@ -66,7 +66,7 @@ Answer = Result Reply Refusal
 
 -- what is asked in a namespace is answered with its index after the step
 abbrev pub index_shown : Step → World → Option ℕ
-index_shown (steps.Ask ns secret command) w = option_map (λ t. t.index) (get w.tenants ns)
+index_shown (Step.Ask ns secret command) w = option_map (λ t. t.index) (get w.tenants ns)
 index_shown _ w = None
 
 abbrev pub reply_of : Step → Content → World → Reply
@@ -80,7 +80,7 @@ settled s s' = record s' { world = settle s.world s'.world }
 
 -- a step that would pass a counter's bound is refused
 abbrev pub concluded_with : Step → State → Content → State → Option (Answer × State)
-concluded_with step s content s' = if is_over s'.world then said (Err refusals.Full) s else said (Ok (reply_of step content s'.world)) s'
+concluded_with step s content s' = if is_over s'.world then said (Err Refusal.Full) s else said (Ok (reply_of step content s'.world)) s'
 
 -- the answer and the state afterwards; a refusal leaves the state as it is
 abbrev pub concluded : Step → State → Outcome State → Option (Answer × State)
@@ -90,14 +90,14 @@ concluded step s (Done content s') = concluded_with step s content (settled s s'
 
 -- the one answer and the one state to which a step leads; none where it is not enabled
 unfoldable pub after : Step → State → Option (Answer × State)
-after step s = if is_allowed step s.acl then concluded step s (act step s) else said (Err refusals.Denied) s
+after step s = if is_allowed step s.acl then concluded step s (act step s) else said (Err Refusal.Denied) s
 
 -- What a call that makes the step answers, and the state that it leaves. Want of memory is no step, and it and
 -- a call out of turn change nothing.
 abbrev pub Makes : Step → State → Answer → State → Type 0
 Makes step s (Ok reply) s' = after step s ≡ said (Ok reply) s'
-Makes step s (Err refusals.Memory) s' = s' ≡ s
-Makes step s (Err refusals.NotEnabled) s' = (after step s ≡ None) × (s' ≡ s)
+Makes step s (Err Refusal.Memory) s' = s' ≡ s
+Makes step s (Err Refusal.NotEnabled) s' = (after step s ≡ None) × (s' ≡ s)
 Makes step s (Err refusal) s' = (after step s ≡ said (Err refusal) s) × (s' ≡ s)
 
 -- ---- runs
@@ -130,7 +130,7 @@ opening_world = record {
 abbrev pub opening_acl : Name → Acl
 opening_acl secret = record {
   policies = empty;
-  tokens = insert empty secret (record { accessor = bootstrap_accessor; name = []; kind = tokens.Management; policies = [] });
+  tokens = insert empty secret (record { accessor = bootstrap_accessor; name = []; kind = TokenKind.Management; policies = [] });
 }
 
 unfoldable pub opening : Name → State

@@ -1,7 +1,7 @@
 //! Ids of evaluations and allocations: UUID texts that say a kind and a number.
 
 ghost use Rattle.std.specs.Prelude.{◌≡◌, ◌<◌, ◌^◌, ℕ, Some, IfSome, IfNone, IfOk, ◌≤◌, length};
-ghost use Rattle.ns_types.specs.Id.{id_text as text_of, id_number, kind_number, uuid_number};
+ghost use Rattle.ns_types.specs.State.Id.{id_text as text_of, id_number, kind_number, uuid_number};
 
 use crate::text::Text;
 use std::alloc::{AllocError, Global};

@@ -1,6 +1,6 @@
 //! Laws of the definitions, each the contract of a function that does nothing.
 ghost use Rattle.std.specs.Prelude.{ℕ, List, ◌++◌};
-ghost use Rattle.ns_types.specs.Http.{Received, End, Closed, Requests, Agree};
+ghost use Rattle.ns_types.specs.Wire.Http.{Received, End, Closed, Requests, Agree};
 
 /// A byte string has one reading, but for the two freedoms.
 pub fn one_reading()

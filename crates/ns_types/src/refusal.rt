@@ -1,8 +1,8 @@
 //! Why a request is refused, and how a refusal is sent.
 
 ghost use Rattle.std.specs.Prelude.{◌≡◌};
-ghost use Rattle.ns_types.specs.Member.{member_name};
-ghost use Rattle.ns_types.specs.Refused.{field_text, refusal_status, refusal_text};
+ghost use Rattle.ns_types.specs.Wire.Member.{member_name};
+ghost use Rattle.ns_types.specs.Wire.Refused.{field_text, refusal_status, refusal_text};
 
 use std::alloc::{AllocError, AllocFailed};
 

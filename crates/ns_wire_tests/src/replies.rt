@@ -1,6 +1,6 @@
 // Each reply is made again where memory ran out.
 ghost use Rattle.std.specs.Prelude.{◌≡◌, IfOk};
-ghost use Rattle.ns_types.specs.declared.reply.Content.TheVariants as contents;
+ghost use Rattle.ns_types.specs.declared.reply.Content.TheVariants as Content;
 ghost use Rattle.ns_replies.specs.Made.{made_token};
 ghost use Rattle.ns_replies.specs.Rendered.{IsRendered, HasRoom};
 
@@ -588,7 +588,7 @@ fn longest_token(alloc: Global) -> Result<NewToken, AllocError> {
 }
 
 fn token_content(new: NewToken) -> Content
-    ensures { result ≡ contents.Token (made_token new) }
+    ensures { result ≡ Content.Token (made_token new) }
 {
     Content::Token(TokenShown {
         accessor: new.accessor,

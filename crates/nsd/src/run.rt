@@ -3,8 +3,8 @@
 ghost use Rattle.std.specs.Prelude.{◌≡◌, ◌≢◌, IfOk};
 ghost use Rattle.ns_http.specs.Conversation.{streams_of, EndsWell, IsReadFault};
 ghost use Rattle.ns_http.specs.Counts.{HasFailed};
-ghost use Rattle.ns_types.specs.Http.{End};
-ghost use Rattle.ns_types.specs.Rows.{State};
+ghost use Rattle.ns_types.specs.Wire.Http.{End};
+ghost use Rattle.ns_types.specs.State.Rows.{State};
 ghost use Rattle.ns_types.specs.Steps.{opening};
 ghost use Rattle.ns_api.specs.Serving.{Served, ServedInPart};
 ghost use Rattle.std.specs.IoError.{error_kind};

@@ -1,4 +1,4 @@
-use Rattle.ns_audit.proofs.Heading.{other_step}
+use Rattle.ns_audit.proofs.Alone.Heading.{other_step}
 use Rattle.ns_audit.proofs.laws.other_step.Goals as goal
 
 pub returns : goal.returns

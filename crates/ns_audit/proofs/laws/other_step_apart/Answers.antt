@@ -1,4 +1,4 @@
-use Rattle.ns_audit.proofs.Stepping.{other_step_apart}
+use Rattle.ns_audit.proofs.Alone.Stepping.{other_step_apart}
 use Rattle.ns_audit.proofs.laws.other_step_apart.Goals as goal
 
 pub returns : goal.returns

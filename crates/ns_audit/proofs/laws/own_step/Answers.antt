@@ -1,4 +1,4 @@
-use Rattle.ns_audit.proofs.Heading.{own_step}
+use Rattle.ns_audit.proofs.Alone.Heading.{own_step}
 use Rattle.ns_audit.proofs.laws.own_step.Goals as goal
 
 pub returns : goal.returns

@@ -1,4 +1,4 @@
-use Rattle.ns_audit.proofs.Stepping.{own_step_apart}
+use Rattle.ns_audit.proofs.Alone.Stepping.{own_step_apart}
 use Rattle.ns_audit.proofs.laws.own_step_apart.Goals as goal
 
 pub returns : goal.returns

@@ -1,4 +1,4 @@
-use Rattle.ns_audit.proofs.Opening.{reached_is_steady}
+use Rattle.ns_audit.proofs.Steady.Opening.{reached_is_steady}
 use Rattle.ns_audit.proofs.laws.reached_is_steady.Goals as goal
 
 pub returns : goal.returns

@@ -1,4 +1,4 @@
-use Rattle.ns_audit.proofs.Idle.{settle_idle}
+use Rattle.ns_audit.proofs.Alone.Idle.{settle_idle}
 use Rattle.ns_audit.proofs.laws.settling_leaves_the_idle.Goals as goal
 
 pub returns : goal.returns

@@ -1,4 +1,4 @@
-use Rattle.ns_audit.proofs.Running.{steady_step}
+use Rattle.ns_audit.proofs.Alone.Running.{steady_step}
 use Rattle.ns_audit.proofs.laws.steady_step.Goals as goal
 
 pub returns : goal.returns

@@ -1,4 +1,4 @@
-use Rattle.ns_audit.proofs.Running.{struck_run}
+use Rattle.ns_audit.proofs.Alone.Running.{struck_run}
 use Rattle.ns_audit.proofs.laws.struck_run.Goals as goal
 
 pub returns : goal.returns

@@ -1,4 +1,4 @@
-use Rattle.ns_audit.proofs.Stepping.{struck_run_apart}
+use Rattle.ns_audit.proofs.Alone.Stepping.{struck_run_apart}
 use Rattle.ns_audit.proofs.laws.struck_run_apart.Goals as goal
 
 pub returns : goal.returns

@@ -1,4 +1,4 @@
-use Rattle.ns_audit.proofs.Running.{valid_is_steady}
+use Rattle.ns_audit.proofs.Alone.Running.{valid_is_steady}
 use Rattle.ns_audit.proofs.laws.valid_is_steady.Goals as goal
 
 pub returns : goal.returns

@@ -1,7 +1,7 @@
 use Rattle.std.proofs.Common.{◌≡◌, ◌++◌, length}
 use Rattle.std.specs.Prelude.{filter, map}
 use Rattle.keyed.specs.Table.{row_list}
-use Rattle.ns_types.specs.Names.{begins_with}
+use Rattle.ns_types.specs.State.Names.{begins_with}
 use Rattle.ns_core.specs.Viewed.{shown_in}
 use Rattle.ns_core.proofs.reading.jobs_shown.Given as goal
 

@@ -2,7 +2,7 @@ use Rattle.std.proofs.Common.{◌≡◌, ◌≢◌, ◌<◌, inl, inr, length, r
 use Rattle.std.specs.Prelude.{Ok}
 use Rattle.std.proofs.lemmas.List.{length-append}
 use Rattle.std.proofs.lemmas.Bool.{eqb-true, eqb-false, false≢true}
-use Rattle.ns_types.specs.Http.{Clean, Partial, Closed}
+use Rattle.ns_types.specs.Wire.Http.{Clean, Partial, Closed}
 use Rattle.ns_http.specs.Input.{unread}
 use Rattle.ns_http.proofs.StreamLemmas.{HasFailed-after}
 use Rattle.ns_http.proofs.ServeLemmas.{progress_first, progress_more, progress_short, progress_kept, ends_open, ends_clean, ends_partial, ends_closed, ends_cut, nil_from_length, Keeps_from_none, Keeps-same}

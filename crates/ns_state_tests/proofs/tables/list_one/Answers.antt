@@ -1,5 +1,5 @@
 use Rattle.std.proofs.Common.{rules}
-use Rattle.ns_types.specs.Names.{same_name}
+use Rattle.ns_types.specs.State.Names.{same_name}
 use Rattle.ns_state_tests.proofs.tables.list_one.Goals as goal
 
 pub returns : goal.returns

@@ -1,7 +1,7 @@
 use Rattle.std.proofs.Common.{refl, ap, ◌∙◌}
 use Rattle.std.specs.List.{list_any}
 use Rattle.keyed.specs.Table.{at_slot}
-use Rattle.ns_types.specs.Admins.{is_withdrawn}
+use Rattle.ns_types.specs.Asking.Admins.{is_withdrawn}
 use Rattle.ns_tables.specs.Viewed.{job_in, open_in}
 use Rattle.ns_tables.proofs.Holdings.{either_first, either_second, uses}
 use Rattle.ns_tables.proofs.held.has_withdrawn.Goals as goal

@@ -1,7 +1,7 @@
 use Rattle.std.proofs.Common.{refl, ap, ◌∙◌}
 use Rattle.std.specs.List.{list_any}
 use Rattle.keyed.specs.Table.{at_slot}
-use Rattle.ns_types.specs.Names.{same_name}
+use Rattle.ns_types.specs.State.Names.{same_name}
 use Rattle.ns_tables.specs.Viewed.{job_in, open_in}
 use Rattle.ns_tables.proofs.Holdings.{either_first, either_second, looks}
 use Rattle.ns_tables.proofs.held.looks_to_pool.Goals as goal

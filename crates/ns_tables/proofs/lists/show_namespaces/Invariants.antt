@@ -2,7 +2,7 @@ use Rattle.std.proofs.Common.{◌≡◌, ◌++◌, Bool, length}
 use Rattle.std.specs.Prelude.{filter, map}
 use Rattle.std.specs.Fn.{FnReturnsAt}
 use Rattle.keyed.specs.Table.{row_list}
-use Rattle.ns_types.specs.Names.{Name}
+use Rattle.ns_types.specs.State.Names.{Name}
 use Rattle.ns_tables.specs.Viewed.{namespace_shown}
 use Rattle.ns_tables.proofs.lists.show_namespaces.Given as goal
 

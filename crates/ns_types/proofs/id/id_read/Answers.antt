@@ -1,6 +1,6 @@
 use Rattle.std.proofs.Common.{◌≡◌, None, Some, sym, ap, ◌∙◌, refl, option_map}
 use Rattle.std.specs.Int.{w128, from_be_bytes}
-use Rattle.ns_types.specs.Id.{uuid_number}
+use Rattle.ns_types.specs.State.Id.{uuid_number}
 use Rattle.ns_types.proofs.Ids.{refused, none_at, written_at, id_text-number, no_id}
 use Rattle.ns_types.proofs.id.id_read.Goals as goal
 

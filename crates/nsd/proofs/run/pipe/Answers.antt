@@ -1,7 +1,7 @@
 use Rattle.std.proofs.Common.{◌≡◌, rules, subst}
 use Rattle.ns_http.specs.Conversation.{Streams}
-use Rattle.ns_types.specs.Http.{End}
-use Rattle.ns_types.specs.Rows.{State}
+use Rattle.ns_types.specs.Wire.Http.{End}
+use Rattle.ns_types.specs.State.Rows.{State}
 use Rattle.ns_api.specs.Serving.{Served, ServedInPart}
 use Rattle.nsd.proofs.run.pipe.Goals as goal
 

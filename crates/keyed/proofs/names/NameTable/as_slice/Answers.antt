@@ -1,4 +1,4 @@
-use Rattle.ns_types.specs.Names.{name_cmp}
+use Rattle.ns_types.specs.State.Names.{name_cmp}
 use Rattle.std.proofs.Common.{◌∙◌, sym, ap}
 use Rattle.std.specs.FinMap as table
 use Rattle.keyed.proofs.names.NameTable.as_slice.Goals as goal

@@ -1,4 +1,4 @@
-use Rattle.ns_types.specs.Names.{name_cmp}
+use Rattle.ns_types.specs.State.Names.{name_cmp}
 use Rattle.keyed.specs.Slots.{is_row}
 use Rattle.std.proofs.Common.{◌∙◌, T, sym, ap, subst}
 use Rattle.std.specs.Prelude.{is_some}

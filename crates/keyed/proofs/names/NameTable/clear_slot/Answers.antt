@@ -1,7 +1,7 @@
 use Rattle.std.proofs.Common.{◌∙◌, T, sym, ap, subst}
 use Rattle.std.specs.FinMap as table
 use Rattle.std.specs.FinMap.Entries.{is_sorted}
-use Rattle.ns_types.specs.Names.{name_cmp}
+use Rattle.ns_types.specs.State.Names.{name_cmp}
 use Rattle.ns_types.proofs.Named.{names, one_name}
 use Rattle.keyed.specs.Table.{without_vacant}
 use Rattle.keyed.proofs.Tables.{sorted-without_vacant, from_sorted-without_vacant}

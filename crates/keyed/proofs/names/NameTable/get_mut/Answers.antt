@@ -3,7 +3,7 @@ use Rattle.std.proofs.Common.{◌∙◌, Some, sym, ap}
 use Rattle.std.specs.Option.{ghost_name_of}
 use Rattle.std.specs.FinMap as table
 use Rattle.std.specs.FinMap.Entries.{is_sorted-put}
-use Rattle.ns_types.specs.Names.{name_cmp}
+use Rattle.ns_types.specs.State.Names.{name_cmp}
 use Rattle.ns_types.proofs.Named.{names}
 use Rattle.keyed.specs.Table.{flat, row_at}
 use Rattle.keyed.proofs.Tables.{from_sorted-put}

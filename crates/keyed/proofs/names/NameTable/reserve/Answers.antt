@@ -2,7 +2,7 @@ use Rattle.std.proofs.Common.{◌∙◌, T, None, cond, sym, ap, subst}
 use Rattle.std.specs.Prelude.{is_some}
 use Rattle.std.specs.FinMap as table
 use Rattle.std.specs.FinMap.Entries.{is_sorted}
-use Rattle.ns_types.specs.Names.{name_cmp}
+use Rattle.ns_types.specs.State.Names.{name_cmp}
 use Rattle.ns_types.proofs.Named.{names}
 use Rattle.keyed.specs.Table.{with_slot, has_slot}
 use Rattle.keyed.proofs.Tables.{sorted-with_slot, from_sorted-with_slot}

@@ -1,7 +1,7 @@
 use Rattle.std.proofs.Common.{sym, ap, ◌∙◌}
 use Rattle.std.specs.FinMap.{get}
 use Rattle.std.specs.Option.{option_copied, option_map_or}
-use Rattle.ns_types.specs.Rights.{Unknown, bearer_with}
+use Rattle.ns_types.specs.Access.Rights.{Unknown, bearer_with}
 use Rattle.ns_acl.proofs.Slotted.{row_found}
 use Rattle.ns_acl.proofs.acl.Acl.bearer.Goals as goal
 

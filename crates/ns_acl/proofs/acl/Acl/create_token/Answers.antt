@@ -1,9 +1,9 @@
 use Rattle.std.proofs.Common.{refl, sym, ap, ◌∙◌}
 use Rattle.std.specs.FinMap.{insert, len}
 use Rattle.std.specs.Prelude.{nat_le}
-use Rattle.ns_types.specs.declared.reply.Content.TheVariants as contents
-use Rattle.ns_types.specs.Access.{token_of}
-use Rattle.ns_types.specs.Admins.{most_rows}
+use Rattle.ns_types.specs.declared.reply.Content.TheVariants as Content
+use Rattle.ns_types.specs.Asking.Policies.{token_of}
+use Rattle.ns_types.specs.Asking.Admins.{most_rows}
 use Rattle.keyed.specs.Table.{rows}
 use Rattle.ns_acl.proofs.Answering.{token_created, token_full, token_taken}
 use Rattle.ns_acl.proofs.acl.Acl.create_token.Goals as goal
@@ -19,10 +19,10 @@ returns-then-has_no_room c = (
 )
 
 pub returns : goal.returns
-returns c = token_created c.args.self.now c.args.new.now (contents.Token c.in_ok-shown.shown) (token_of c.args.new.now) (record { policies = rows c.self.inside.policies; tokens = rows c.add_token.new.tokens })
+returns c = token_created c.args.self.now c.args.new.now (Content.Token c.in_ok-shown.shown) (token_of c.args.new.now) (record { policies = rows c.self.inside.policies; tokens = rows c.add_token.new.tokens })
     (sym c.is_taken.ensures ∙ c.if-is_taken.false)
     (ap (λ acl. nat_le most_rows (len acl.tokens)) (sym c.self.view_is) ∙ sym c.has_no_room.ensures ∙ c.if-has_no_room.false)
-    (ap contents.Token c.in_ok-shown.ensures)
+    (ap Content.Token c.in_ok-shown.ensures)
     refl
     (ap (λ acl. acl.policies) c.self.view_is)
     (c.in_ok-add_token.ensures.ok ∙ ap (λ acl. insert acl.tokens c.args.new.now.secret (token_of c.args.new.now)) c.self.view_is)

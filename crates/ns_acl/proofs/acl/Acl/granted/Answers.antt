@@ -2,7 +2,7 @@ use Rattle.std.proofs.Common.{ap, sym, take, take_all, ◌∙◌, ◌++◌}
 use Rattle.std.specs.FinMap.{get}
 use Rattle.std.specs.Option.{option_copied}
 use Rattle.std.specs.Prelude.{filter}
-use Rattle.ns_types.specs.Rights.{is_of_kind, rules_of}
+use Rattle.ns_types.specs.Access.Rights.{is_of_kind, rules_of}
 use Rattle.ns_acl.specs.Gathered.{gathered}
 use Rattle.ns_acl.proofs.Counting.{names-more, rules-absent, rules-there}
 use Rattle.ns_acl.proofs.Slotted.{row_found}

@@ -1,5 +1,5 @@
 use Rattle.std.proofs.Common.{◌≡◌, take}
-use Rattle.ns_types.specs.Rights.{rules_of}
+use Rattle.ns_types.specs.Access.Rights.{rules_of}
 use Rattle.ns_acl.specs.Gathered.{gathered}
 use Rattle.ns_acl.proofs.acl.Acl.granted.Given as goal
 

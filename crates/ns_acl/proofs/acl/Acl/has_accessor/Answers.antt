@@ -1,6 +1,6 @@
 use Rattle.std.proofs.Common.{ap, ◌∙◌}
-use Rattle.ns_types.specs.Access.{has_accessor}
-use Rattle.ns_types.specs.Names.{same_name}
+use Rattle.ns_types.specs.Asking.Policies.{has_accessor}
+use Rattle.ns_types.specs.State.Names.{same_name}
 use Rattle.ns_acl.proofs.Slotted.{any_slot}
 use Rattle.ns_acl.proofs.acl.Acl.has_accessor.Goals as goal
 

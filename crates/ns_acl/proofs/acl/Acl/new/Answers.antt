@@ -2,7 +2,7 @@ use Rattle.std.proofs.Common.{ap, ◌∙◌}
 use Rattle.std.specs.FinMap.{empty, insert}
 use Rattle.keyed.specs.Table.{rows}
 use Rattle.keyed.proofs.Tables.{rows-empty}
-use Rattle.ns_types.specs.Names.{name_cmp}
+use Rattle.ns_types.specs.State.Names.{name_cmp}
 use Rattle.ns_acl.proofs.acl.Acl.new.Goals as goal
 
 pub returns : goal.returns

@@ -1,6 +1,6 @@
 use Rattle.std.proofs.Common.{◌∙◌}
 use Rattle.std.specs.Option.{option_copied}
-use Rattle.ns_types.specs.Rights.{Holder, Manager, Unknown}
+use Rattle.ns_types.specs.Access.Rights.{Holder, Manager, Unknown}
 use Rattle.ns_acl.proofs.Standing.{pool_rights_when}
 use Rattle.ns_acl.proofs.acl.Acl.pool_rights.Goals as goal
 

@@ -1,6 +1,6 @@
 use Rattle.std.proofs.Common.{refl, sym, ap, ◌∙◌}
 use Rattle.std.specs.FinMap.{insert}
-use Rattle.ns_types.specs.Admins.{is_full}
+use Rattle.ns_types.specs.Asking.Admins.{is_full}
 use Rattle.keyed.specs.Table.{rows}
 use Rattle.ns_acl.proofs.Answering.{put_done, put_full}
 use Rattle.ns_acl.proofs.acl.Acl.put_policy.Goals as goal

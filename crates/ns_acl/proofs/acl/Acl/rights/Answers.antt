@@ -1,6 +1,6 @@
 use Rattle.std.proofs.Common.{ap, ◌∙◌}
 use Rattle.std.specs.Option.{option_copied}
-use Rattle.ns_types.specs.Rights.{Holder, Manager, Unknown, rights_in}
+use Rattle.ns_types.specs.Access.Rights.{Holder, Manager, Unknown, rights_in}
 use Rattle.ns_acl.proofs.Standing.{rights_when}
 use Rattle.ns_acl.proofs.acl.Acl.rights.Goals as goal
 

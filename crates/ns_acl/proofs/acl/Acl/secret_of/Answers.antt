@@ -1,6 +1,6 @@
 use Rattle.std.proofs.Common.{ap, ◌∙◌}
-use Rattle.ns_types.specs.Access.{secret_of}
-use Rattle.ns_types.specs.Names.{same_name}
+use Rattle.ns_types.specs.Asking.Policies.{secret_of}
+use Rattle.ns_types.specs.State.Names.{same_name}
 use Rattle.ns_acl.proofs.Slotted.{first_slot}
 use Rattle.ns_acl.proofs.acl.Acl.secret_of.Goals as goal
 

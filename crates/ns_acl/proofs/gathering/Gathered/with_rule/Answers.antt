@@ -1,5 +1,5 @@
 use Rattle.std.proofs.Common.{sym, ap, ◌∙◌, length, arith}
-use Rattle.ns_types.specs.Rights.{both}
+use Rattle.ns_types.specs.Access.Rights.{both}
 use Rattle.ns_acl.proofs.Counting.{other-more, shorter-more, longer-more, level-more}
 use Rattle.ns_acl.proofs.gathering.Gathered.with_rule.Goals as goal
 

@@ -1,5 +1,5 @@
 use Rattle.std.proofs.Common.{filter, take}
-use Rattle.ns_types.specs.Rights.{is_of_kind}
+use Rattle.ns_types.specs.Access.Rights.{is_of_kind}
 use Rattle.ns_acl.specs.Gathered.{Adds}
 use Rattle.ns_acl.proofs.gathering.Gathered.with_rules.Given as goal
 

@@ -1,6 +1,6 @@
 use Rattle.std.proofs.Common.{refl, sym, ap, ◌∙◌}
-use Rattle.ns_types.specs.Access.{administer, with_acl, with_world}
-use Rattle.ns_types.specs.Outcome.{Done}
+use Rattle.ns_types.specs.Asking.Policies.{administer, with_acl, with_world}
+use Rattle.ns_types.specs.Settling.Outcome.{Done}
 use Rattle.ns_core.specs.Viewed.{state_of, world_of}
 use Rattle.ns_core.proofs.Changing.{changes_lift}
 use Rattle.ns_core.proofs.parts.Parts.administer.Goals as goal

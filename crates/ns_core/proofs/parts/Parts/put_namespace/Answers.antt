@@ -1,8 +1,8 @@
 use Rattle.std.specs.Prelude.{Err}
 use Rattle.std.proofs.Common.{refl, sym, ap, subst, ◌∙◌}
-use Rattle.ns_types.specs.Access.{administer, with_acl, with_world}
-use Rattle.ns_types.specs.Admins.{put_namespace}
-use Rattle.ns_types.specs.Outcome.{Changes}
+use Rattle.ns_types.specs.Asking.Policies.{administer, with_acl, with_world}
+use Rattle.ns_types.specs.Asking.Admins.{put_namespace}
+use Rattle.ns_types.specs.Settling.Outcome.{Changes}
 use Rattle.ns_core.specs.Viewed.{world_of}
 use Rattle.ns_core.proofs.Changing.{changes_lift}
 use Rattle.ns_core.proofs.parts.Parts.put_namespace.Goals as goal

@@ -1,7 +1,7 @@
 use Rattle.std.specs.Prelude.{Err}
 use Rattle.std.proofs.Common.{refl, sym, ap, subst, ◌∙◌}
-use Rattle.ns_types.specs.Access.{administer, put_policy, with_acl}
-use Rattle.ns_types.specs.Outcome.{Changes}
+use Rattle.ns_types.specs.Asking.Policies.{administer, put_policy, with_acl}
+use Rattle.ns_types.specs.Settling.Outcome.{Changes}
 use Rattle.ns_core.specs.Viewed.{world_of}
 use Rattle.ns_core.proofs.Changing.{changes_lift}
 use Rattle.ns_core.proofs.parts.Parts.put_policy.Goals as goal

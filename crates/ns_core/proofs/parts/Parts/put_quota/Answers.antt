@@ -2,8 +2,8 @@ use Rattle.std.specs.Prelude.{◌≡◌, ◌&&◌, true, false, Ok, Err, nat_lt}
 use Rattle.std.proofs.Common.{refl, sym, ap, subst, ◌∙◌}
 use Rattle.std.proofs.lemmas.Result.{err_from_is_err_and}
 use Rattle.std.specs.Option.{option_copied}
-use Rattle.ns_types.specs.Admins.{put_quota}
-use Rattle.ns_types.specs.Outcome.{Changes, Done}
+use Rattle.ns_types.specs.Asking.Admins.{put_quota}
+use Rattle.ns_types.specs.Settling.Outcome.{Changes, Done}
 use Rattle.ns_types.specs.Steps.{greatest, said}
 use Rattle.ns_types.proofs.Lists.{not_both}
 use Rattle.ns_steps.specs.Administered.{is_relimited, relimited, relimited_state}

@@ -1,9 +1,9 @@
 use Rattle.std.specs.Prelude.{◌≡◌, Bool, true, false, None, Ok}
-use Rattle.ns_types.specs.Admins.{with_pool}
+use Rattle.ns_types.specs.Asking.Admins.{with_pool}
 use Rattle.std.proofs.Common.{refl, sym, ap, ◌∙◌}
 use Rattle.std.specs.Option.{option_copied}
 use Rattle.ns_types.specs.declared.acl.PoolRights.{PoolRights}
-use Rattle.ns_types.specs.declared.reply.Content.TheVariants as contents
+use Rattle.ns_types.specs.declared.reply.Content.TheVariants as Content
 use Rattle.ns_types.specs.Steps.{said}
 use Rattle.ns_steps.proofs.Concluding.{pool_denied, pool_not_found, pool_read}
 use Rattle.ns_tables.proofs.World.{pool_at}
@@ -26,5 +26,5 @@ returns-in_default c = (
 pub returns : goal.returns
 returns c = pool_read (state_of c.args.self.now) (option_copied c.args.secret) c.args.name.now (may _ _ c.pool_rights.ensures true c.if-not-pool_rights.false) (with_pool c.in-Some.pool.now None)
     (pool_at c.args.self.now.tables c.args.self.now.ready.items c.args.name.now _ (sym c.get.ensures ∙ ap option_copied c.in-Some.is)) c.requires.early.within
-    ∙ (λ i. said (Ok (record { index = None; content = contents.Pool (record { name = sym c.in_ok-clone.ensures.cases i; row = sym c.in_ok-clone-2.ensures.cases i }) })) (state_of c.args.self.now))
+    ∙ (λ i. said (Ok (record { index = None; content = Content.Pool (record { name = sym c.in_ok-clone.ensures.cases i; row = sym c.in_ok-clone-2.ensures.cases i }) })) (state_of c.args.self.now))
     ∙ ap (λ reply. said (Ok reply) (state_of c.args.self.now)) (sym c.plain.ensures)

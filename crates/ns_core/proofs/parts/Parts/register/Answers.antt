@@ -3,7 +3,7 @@ use Rattle.std.proofs.Common.{not, refl, sym, ap, subst, ◌∙◌}
 use Rattle.std.specs.Option.{option_copied}
 use Rattle.std.specs.Prelude.{◌≡◌, Bool, true, false, Ok}
 use Rattle.ns_types.specs.declared.acl.Rights.{Rights}
-use Rattle.ns_types.specs.declared.step.AskCommand.TheVariants as asks
+use Rattle.ns_types.specs.declared.step.AskCommand.TheVariants as AskCommand
 use Rattle.ns_tables.specs.Viewed.{tenant_of}
 use Rattle.ns_steps.proofs.Steps.{ask_denied, ask_nowhere}
 use Rattle.ns_types.specs.Steps.{said}
@@ -20,10 +20,10 @@ may : (a b : Rights) → a ≡ b → (v : Bool) → not a.submit_job ≡ not v �
 may a b e v is = ap (λ r. r.submit_job) (sym e) ∙ sym (not-not a.submit_job) ∙ ap not is ∙ not-not v
 
 pub returns-then-not-rights-clause-answered : goal.returns-then-not-rights-clause-answered
-returns-then-not-rights-clause-answered c = (ask_denied (state_of c.args.self.now) c.args.namespace.now (option_copied c.args.secret) (asks.Register c.args.registration.now) (may _ _ c.rights.ensures false c.if-not-rights.true), refl)
+returns-then-not-rights-clause-answered c = (ask_denied (state_of c.args.self.now) c.args.namespace.now (option_copied c.args.secret) (AskCommand.Register c.args.registration.now) (may _ _ c.rights.ensures false c.if-not-rights.true), refl)
 
 pub returns-in_default-clause-answered : goal.returns-in_default-clause-answered
-returns-in_default-clause-answered c = (ask_nowhere (state_of c.args.self.now) c.args.namespace.now (option_copied c.args.secret) (asks.Register c.args.registration.now) (may _ _ c.rights.ensures true c.if-not-rights.false) (nowhere c.args.self.now c.args.namespace.now (sym c.get.ensures ∙ ap option_copied c.in_default.is)), refl)
+returns-in_default-clause-answered c = (ask_nowhere (state_of c.args.self.now) c.args.namespace.now (option_copied c.args.secret) (AskCommand.Register c.args.registration.now) (may _ _ c.rights.ensures true c.if-not-rights.false) (nowhere c.args.self.now c.args.namespace.now (sym c.get.ensures ∙ ap option_copied c.in_default.is)), refl)
 
 pub returns-in-Some-refusal-clause-answered : goal.returns-in-Some-refusal-clause-answered
 returns-in-Some-refusal-clause-answered c =

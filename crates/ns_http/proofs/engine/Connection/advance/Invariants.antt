@@ -1,5 +1,5 @@
 use Rattle.std.proofs.Common.{◌+◌, ◌≤◌, false, List, [], length}
-use Rattle.ns_types.specs.Wire.{Exchange}
+use Rattle.ns_types.specs.Wire.Responses.{Exchange}
 use Rattle.ns_http.specs.Input.{unread}
 use Rattle.ns_http.specs.Waiting.{waiting}
 use Rattle.ns_http.specs.Steps.{Queued}

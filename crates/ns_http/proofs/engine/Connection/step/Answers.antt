@@ -1,7 +1,7 @@
 use Rattle.std.proofs.Common.{◌++◌, drop, true, subst, arith}
 use Rattle.std.proofs.lemmas.List.{length-drop}
-use Rattle.ns_types.specs.Wire.{rendered_of, refusal_of, wire}
-use Rattle.ns_types.specs.Http.{Whole, Refused}
+use Rattle.ns_types.specs.Wire.Responses.{rendered_of, refusal_of, wire}
+use Rattle.ns_types.specs.Wire.Http.{Whole, Refused}
 use Rattle.ns_http.specs.Waiting.{waiting}
 use Rattle.ns_http.specs.Output.{WritesSome, Queues}
 use Rattle.ns_http.specs.Input.{unread}

@@ -1,7 +1,7 @@
 use Rattle.std.specs.Prelude.{Some}
 use Rattle.std.proofs.Common.{ap, ◌∙◌}
 use Rattle.std.specs.FinMap.{insert}
-use Rattle.ns_types.specs.Resources.{plus}
+use Rattle.ns_types.specs.State.Resources.{plus}
 use Rattle.ns_quota.specs.Totals.{total_of}
 use Rattle.ns_quota.proofs.Changes.{set_new, slot_made}
 use Rattle.ns_quota.proofs.uses.Uses.charge.Goals as goal

@@ -2,7 +2,7 @@ use Rattle.std.specs.Prelude.{Some}
 use Rattle.std.proofs.Common.{sym, ap, ◌∙◌}
 use Rattle.std.specs.FinMap.{insert}
 use Rattle.std.specs.Option.{option_copied_mut}
-use Rattle.ns_types.specs.Resources.{minus}
+use Rattle.ns_types.specs.State.Resources.{minus}
 use Rattle.ns_quota.proofs.Changes.{dropped, set_over, unchanged}
 use Rattle.ns_quota.proofs.uses.Uses.release.Goals as goal
 

@@ -5,7 +5,7 @@ use Rattle.std.specs.Ordering.{nat_cmp}
 use Rattle.keyed.specs.Table.{at_slot}
 use Rattle.keyed.proofs.Tables.{entries-rows}
 use Rattle.keyed.proofs.Tables.{any-at_slot}
-use Rattle.ns_types.specs.Tables.{any_row}
+use Rattle.ns_types.specs.State.Tables.{any_row}
 use Rattle.ns_store.specs.Stored.{is_unfinished}
 use Rattle.ns_store.proofs.namespace.NamespaceRows.has_open.Goals as goal
 

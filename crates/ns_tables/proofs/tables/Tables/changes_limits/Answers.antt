@@ -1,9 +1,9 @@
 use Rattle.std.specs.Prelude.{false, Some, None}
 use Rattle.std.proofs.Common.{not, sym, ap, ◌∙◌}
 use Rattle.std.specs.Option.{option_copied, option_map_or}
-use Rattle.ns_types.specs.Admins.{with_quota}
-use Rattle.ns_types.specs.Releases.{changes_limits}
-use Rattle.ns_types.specs.Resources.{same_limits}
+use Rattle.ns_types.specs.Asking.Admins.{with_quota}
+use Rattle.ns_types.specs.Settling.Releases.{changes_limits}
+use Rattle.ns_types.specs.State.Resources.{same_limits}
 use Rattle.ns_tables.proofs.World.{quota_at}
 use Rattle.ns_tables.proofs.tables.Tables.changes_limits.Goals as goal
 

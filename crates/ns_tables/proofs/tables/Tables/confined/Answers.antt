@@ -1,7 +1,7 @@
 use Rattle.std.specs.Prelude.{false}
 use Rattle.std.proofs.Common.{sym, ap, ◌∙◌}
 use Rattle.std.specs.Option.{option_copied, option_map_or}
-use Rattle.ns_types.specs.Sharing.{is_confined}
+use Rattle.ns_types.specs.Access.Sharing.{is_confined}
 use Rattle.ns_tables.specs.Viewed.{tenant_of}
 use Rattle.ns_tables.proofs.Written.{found_at}
 use Rattle.ns_tables.proofs.tables.Tables.confined.Goals as goal

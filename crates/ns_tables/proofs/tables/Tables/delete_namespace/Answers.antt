@@ -1,9 +1,9 @@
 use Rattle.std.specs.Prelude.{Some, None}
 use Rattle.std.proofs.Common.{refl, sym, ap, ◌∙◌}
 use Rattle.std.specs.Option.{option_copied}
-use Rattle.ns_types.specs.declared.reply.Content.TheVariants as contents
-use Rattle.ns_types.specs.Admins.{delete_namespace}
-use Rattle.ns_types.specs.Outcome.{Done}
+use Rattle.ns_types.specs.declared.reply.Content.TheVariants as Content
+use Rattle.ns_types.specs.Asking.Admins.{delete_namespace}
+use Rattle.ns_types.specs.Settling.Outcome.{Done}
 use Rattle.ns_tables.proofs.Outcomes.{found_none, found_some, unless_not, unless_so}
 use Rattle.ns_tables.proofs.World.{tenant_at, tenant_removed}
 use Rattle.ns_tables.proofs.tables.Tables.delete_namespace.Goals as goal
@@ -35,4 +35,4 @@ returns c ready =
     found_some _ _ _ (tenant_at c.args.self.now ready c.args.name.now (Some c.in-Some.tenant.now) (sym c.get.ensures ∙ ap option_copied c.in-Some.is))
     ∙ unless_not _ _ _ (sym c.is_default.ensures ∙ c.if-is_default.false)
     ∙ unless_not _ _ _ (sym c.has_work.ensures ∙ c.if-has_work.false)
-    ∙ ap (Done contents.Written) (sym (tenant_removed c.args.self.now ready c.args.name.now _ c.remove.ensures))
+    ∙ ap (Done Content.Written) (sym (tenant_removed c.args.self.now ready c.args.name.now _ c.remove.ensures))

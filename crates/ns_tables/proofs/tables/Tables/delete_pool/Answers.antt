@@ -1,7 +1,7 @@
 use Rattle.std.proofs.Common.{refl, sym, ap, ◌∙◌}
-use Rattle.ns_types.specs.declared.reply.Content.TheVariants as contents
-use Rattle.ns_types.specs.Admins.{delete_pool}
-use Rattle.ns_types.specs.Outcome.{Done}
+use Rattle.ns_types.specs.declared.reply.Content.TheVariants as Content
+use Rattle.ns_types.specs.Asking.Admins.{delete_pool}
+use Rattle.ns_types.specs.Settling.Outcome.{Done}
 use Rattle.ns_tables.proofs.World.{found_pool, no_pool, pool_removed}
 use Rattle.ns_tables.proofs.Outcomes.{unless_not, unless_so}
 use Rattle.ns_tables.proofs.tables.Tables.delete_pool.Goals as goal
@@ -33,4 +33,4 @@ returns c ready =
     found_pool c.args.self.now ready c.args.name.now _ _ (sym c.has_pool.ensures ∙ c.if-not-has_pool.false)
     ∙ unless_not _ _ _ (sym c.is_default.ensures ∙ c.if-is_default.false)
     ∙ unless_not _ _ _ (sym (c.is_pool_in_use.ensures ready) ∙ c.if-is_pool_in_use.false)
-    ∙ ap (Done contents.Written) (sym (pool_removed c.args.self.now ready c.args.name.now _ c.remove.ensures))
+    ∙ ap (Done Content.Written) (sym (pool_removed c.args.self.now ready c.args.name.now _ c.remove.ensures))

@@ -1,10 +1,10 @@
 use Rattle.std.proofs.Common.{refl, sym, ap, ◌∙◌}
 use Rattle.std.specs.List.{list_any}
 use Rattle.keyed.specs.Table.{at_slot}
-use Rattle.ns_types.specs.declared.reply.Content.TheVariants as contents
-use Rattle.ns_types.specs.Admins.{delete_quota}
-use Rattle.ns_types.specs.Outcome.{Done}
-use Rattle.ns_types.specs.Sums.{names_quota}
+use Rattle.ns_types.specs.declared.reply.Content.TheVariants as Content
+use Rattle.ns_types.specs.Asking.Admins.{delete_quota}
+use Rattle.ns_types.specs.Settling.Outcome.{Done}
+use Rattle.ns_types.specs.State.Sums.{names_quota}
 use Rattle.ns_tables.specs.Viewed.{tenant_names_quota, tenant_of}
 use Rattle.ns_tables.proofs.Outcomes.{found_absent, found_there, unless_not, unless_so}
 use Rattle.ns_tables.proofs.Viewing.{any_row-table_of}
@@ -30,4 +30,4 @@ returns c ready =
     found_there _ _ (quota_there c.args.self.now ready c.args.name.now ∙ sym c.has_quota.ensures ∙ c.if-not-has_quota.false)
     ∙ unless_not _ _ _ (any_row-table_of (λ _ x. tenant_of x) (λ _ t. names_quota c.args.name.now t.namespace) c.args.self.now.tenants
     ∙ sym (c.any_names_quota.ensures ∙ ap (list_any (at_slot (tenant_names_quota c.args.name.now))) c.as_slice.ensures) ∙ c.if-any_names_quota.false)
-    ∙ ap (Done contents.Written) (sym (quota_removed c.args.self.now ready c.args.name.now _ c.remove.ensures))
+    ∙ ap (Done Content.Written) (sym (quota_removed c.args.self.now ready c.args.name.now _ c.remove.ensures))

@@ -1,7 +1,7 @@
 use Rattle.std.specs.Prelude.{false}
 use Rattle.std.proofs.Common.{sym, ap, ◌∙◌}
 use Rattle.std.specs.Option.{option_copied, option_map_or}
-use Rattle.ns_types.specs.Admins.{forbids_put}
+use Rattle.ns_types.specs.Asking.Admins.{forbids_put}
 use Rattle.ns_tables.specs.Viewed.{tenant_of}
 use Rattle.ns_tables.proofs.Written.{found_at}
 use Rattle.ns_tables.proofs.tables.Tables.forbids.Goals as goal

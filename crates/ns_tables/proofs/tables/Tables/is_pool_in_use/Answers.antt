@@ -1,8 +1,8 @@
 use Rattle.std.proofs.Common.{◌||◌, sym, ap, ◌∙◌}
 use Rattle.std.specs.List.{list_any}
 use Rattle.keyed.specs.Table.{at_slot}
-use Rattle.ns_types.specs.Admins.{looks_to_pool, names_pool}
-use Rattle.ns_types.specs.Names.{same_name}
+use Rattle.ns_types.specs.Asking.Admins.{looks_to_pool, names_pool}
+use Rattle.ns_types.specs.State.Names.{same_name}
 use Rattle.ns_tables.specs.Viewed.{tenant_of, tenant_uses_pool}
 use Rattle.ns_tables.proofs.Viewing.{any_row-table_of}
 use Rattle.ns_tables.proofs.tables.Tables.is_pool_in_use.Goals as goal

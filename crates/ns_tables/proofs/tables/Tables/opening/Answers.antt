@@ -1,6 +1,6 @@
 use Rattle.std.proofs.Common.{ap, ◌∙◌}
 use Rattle.std.specs.FinMap.{empty, insert}
-use Rattle.ns_types.specs.Names.{name_cmp}
+use Rattle.ns_types.specs.State.Names.{name_cmp}
 use Rattle.ns_tables.proofs.Opening.{opening_tables}
 use Rattle.ns_tables.proofs.tables.Tables.opening.Goals as goal
 

@@ -1,7 +1,7 @@
 use Rattle.std.specs.Prelude.{false}
 use Rattle.std.proofs.Common.{sym, ap, ◌∙◌}
 use Rattle.std.specs.Option.{option_copied, option_map_or}
-use Rattle.ns_types.specs.Sharing.{permits}
+use Rattle.ns_types.specs.Access.Sharing.{permits}
 use Rattle.ns_tables.specs.Viewed.{tenant_of}
 use Rattle.ns_tables.proofs.Written.{found_at}
 use Rattle.ns_tables.proofs.tables.Tables.permits.Goals as goal

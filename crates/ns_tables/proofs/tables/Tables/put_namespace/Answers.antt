@@ -1,8 +1,8 @@
 use Rattle.std.specs.Prelude.{not}
 use Rattle.std.proofs.Common.{refl, sym, ap, ◌∙◌}
-use Rattle.ns_types.specs.declared.reply.Content.TheVariants as contents
-use Rattle.ns_types.specs.Admins.{put_namespace}
-use Rattle.ns_types.specs.Outcome.{Done}
+use Rattle.ns_types.specs.declared.reply.Content.TheVariants as Content
+use Rattle.ns_types.specs.Asking.Admins.{put_namespace}
+use Rattle.ns_types.specs.Settling.Outcome.{Done}
 use Rattle.ns_tables.specs.Viewed.{tenant_of}
 use Rattle.ns_tables.proofs.Outcomes.{unless_not, unless_so}
 use Rattle.ns_tables.proofs.World.{pool_there}
@@ -59,4 +59,4 @@ returns c ready =
     ∙ unless_not _ _ _ (sym (c.lacks_allowed.ensures ready) ∙ c.if-lacks_allowed.false)
     ∙ unless_not _ _ _ (sym (c.forbids.ensures ready) ∙ c.if-forbids.false)
     ∙ unless_not _ _ _ (full_at tenant_of c.args.self.now.tenants c.args.name.now ∙ sym c.is_full.ensures ∙ c.if-is_full.false)
-    ∙ ap (Done contents.Written) (sym (c.in_ok-write_namespace.ensures.done ready))
+    ∙ ap (Done Content.Written) (sym (c.in_ok-write_namespace.ensures.done ready))

@@ -1,7 +1,7 @@
 use Rattle.std.proofs.Common.{refl, sym, ap, ◌∙◌}
-use Rattle.ns_types.specs.declared.reply.Content.TheVariants as contents
-use Rattle.ns_types.specs.Admins.{put_quota}
-use Rattle.ns_types.specs.Outcome.{Done}
+use Rattle.ns_types.specs.declared.reply.Content.TheVariants as Content
+use Rattle.ns_types.specs.Asking.Admins.{put_quota}
+use Rattle.ns_types.specs.Settling.Outcome.{Done}
 use Rattle.ns_tables.specs.Viewed.{quota_of}
 use Rattle.ns_tables.proofs.Outcomes.{unless_not, unless_so}
 use Rattle.ns_tables.proofs.Written.{full_at}
@@ -14,4 +14,4 @@ returns-then-is_full c ready = (unless_so _ _ _ (full_at quota_of c.args.self.no
 pub returns : goal.returns
 unfolding put_quota
 returns c ready = unless_not _ _ _ (full_at quota_of c.args.self.now.quotas c.args.name.now ∙ sym c.is_full.ensures ∙ c.if-is_full.false)
-    ∙ ap (Done contents.Written) (sym (c.in_ok-write_quota.ensures.done ready))
+    ∙ ap (Done Content.Written) (sym (c.in_ok-write_quota.ensures.done ready))

@@ -1,8 +1,8 @@
 use Rattle.std.specs.Prelude.{Some, None}
 use Rattle.std.proofs.Common.{refl, sym, ap, ◌∙◌}
 use Rattle.std.specs.Option.{option_copied}
-use Rattle.ns_types.specs.declared.reply.Content.TheVariants as contents
-use Rattle.ns_types.specs.Outcome.{Done}
+use Rattle.ns_types.specs.declared.reply.Content.TheVariants as Content
+use Rattle.ns_types.specs.Settling.Outcome.{Done}
 use Rattle.ns_tables.specs.Viewed.{world_of}
 use Rattle.ns_tables.proofs.Outcomes.{found_none, found_some}
 use Rattle.ns_tables.proofs.World.{quota_at}
@@ -13,4 +13,4 @@ returns-in_default c ready = (found_none _ _ (quota_at c.args.self.now ready c.a
 
 pub returns : goal.returns
 returns c ready = found_some _ _ _ (quota_at c.args.self.now ready c.args.name.now (Some c.in-Some.row.now) (sym c.get.ensures ∙ ap option_copied c.in-Some.is))
-    ∙ (λ i. Done (contents.Quota (record { name = sym c.in_ok-clone.ensures.cases i; row = sym c.in_ok-clone-2.ensures.cases i })) (world_of ready c.args.self.now))
+    ∙ (λ i. Done (Content.Quota (record { name = sym c.in_ok-clone.ensures.cases i; row = sym c.in_ok-clone-2.ensures.cases i })) (world_of ready c.args.self.now))

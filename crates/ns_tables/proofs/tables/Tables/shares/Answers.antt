@@ -3,9 +3,9 @@ use Rattle.std.proofs.Common.{not, ◌||◌, ◌&&◌, sym, ap, ◌∙◌}
 use Rattle.std.specs.List.{list_any}
 use Rattle.std.specs.Option.{option_copied, option_map_or}
 use Rattle.keyed.specs.Table.{at_slot}
-use Rattle.ns_types.specs.Names.{same_name}
-use Rattle.ns_types.specs.Sharing.{overlaps, shares, shares_with_any}
-use Rattle.ns_types.specs.Tables.{any_row}
+use Rattle.ns_types.specs.State.Names.{same_name}
+use Rattle.ns_types.specs.Access.Sharing.{overlaps, shares, shares_with_any}
+use Rattle.ns_types.specs.State.Tables.{any_row}
 use Rattle.ns_tables.specs.Viewed.{overlaps_other, tenant_of, world_of}
 use Rattle.ns_tables.proofs.Viewing.{any_row-table_of}
 use Rattle.ns_tables.proofs.World.{tenant_at}

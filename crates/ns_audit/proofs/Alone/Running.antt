@@ -1,0 +1,99 @@
+-- Steps keep a state orderly and its counters within their bound, and so the laws of steps hold all along a run.
+use Rattle.std.specs.Prelude.{◌≡◌, Bool, true, false, cond, List, [], ◌∷◌, Ok, Err}
+use Rattle.std.proofs.Common.{refl, sym, ap, subst, ◌∙◌}
+use Rattle.ns_types.specs.declared.refusal.Refusal.TheVariants as Refusal
+use Rattle.ns_types.specs.declared.step.Step.{Step}
+use Rattle.ns_types.specs.declared.step.Step.TheVariants as Step
+use Rattle.ns_types.specs.Isolation.{alone, Agree, is_own, struck, struck_answers, IsIsolated}
+use Rattle.ns_types.specs.State.Names.{Name}
+use Rattle.ns_types.specs.Settling.Outcome.{Outcome, NotEnabled, Refused, Done}
+use Rattle.ns_types.specs.State.Rows.{State}
+use Rattle.ns_types.specs.Settling.Settle.{settle}
+use Rattle.ns_types.specs.Steps.{Answer, said, act, after, is_allowed, concluded, reply_of, is_over, Run}
+use Rattle.ns_audit.specs.Headline.{ValidIsSteady, SteadyStep, UnsharedIsApart, StruckRun, StruckSteadyRun}
+use Rattle.ns_audit.specs.Orderly.{IsOrderly, IsSteady}
+use Rattle.ns_audit.proofs.Alone.Chosen.{no_path, same_Some}
+use Rattle.ns_audit.proofs.Alone.Heading.{Reaches, reaches, from_part, own_of, other_of}
+use Rattle.ns_audit.proofs.Steady.Admins.{KeepsOrderState, of_world, administer_orderly}
+use Rattle.ns_audit.proofs.Steady.Apply.{apply_orderly}
+use Rattle.ns_audit.proofs.Steady.Asks.{ask_orderly}
+use Rattle.ns_audit.proofs.Steady.Finish.{finish_orderly}
+use Rattle.ns_audit.proofs.Steady.Nodes.{tell_orderly}
+use Rattle.ns_audit.proofs.Steady.Workers.{dequeue_orderly, snap_orderly, submit_orderly, nack_orderly}
+use Rattle.ns_audit.proofs.Alone.Owning.{orderly, fit_of}
+use Rattle.ns_audit.proofs.Steady.Resting.{settle_orderly}
+
+pub act_orderly : (s : State) → IsOrderly s.world → (step : Step) → KeepsOrderState (act step s)
+unfolding act
+act_orderly s o (Step.Ask ns secret command) = of_world s o _ (ask_orderly s.world o ns command)
+act_orderly s o (Step.Admin secret command) = administer_orderly s o secret command
+act_orderly s o (Step.Node pool secret command) = of_world s o _ (tell_orderly s.world o pool command)
+act_orderly s o (Step.Dequeue worker ns n) = of_world s o _ (dequeue_orderly s.world o ns worker n)
+act_orderly s o (Step.Snap worker ns) = of_world s o _ (snap_orderly s.world o ns worker)
+act_orderly s o (Step.Submit worker ns) = of_world s o _ (submit_orderly s.world o ns worker)
+act_orderly s o (Step.Apply worker ns) = of_world s o _ (apply_orderly s.world o ns worker)
+act_orderly s o (Step.Finish worker ns) = of_world s o _ (finish_orderly s.world o ns worker)
+act_orderly s o (Step.Nack worker ns) = of_world s o _ (nack_orderly s.world o ns worker)
+
+module _ (s : State) (steady : IsSteady s) (step : Step) (s' : State) (answer : Answer) where
+  concluded_steady : (o : Outcome State) → KeepsOrderState o → concluded step s o ≡ said answer s' → IsSteady s'
+  concluded_steady NotEnabled h e = absurd (no_path e)
+  concluded_steady (Refused refusal) h e = subst IsSteady (ap (λ x. x.1) (same_Some _ _ e)) steady
+  concluded_steady (Done content x) h e = by (is_over (settle s.world x.world)) refl e
+    where
+      y : State
+      y = record x { world = settle s.world x.world }
+
+      by : (b : Bool) → is_over (settle s.world x.world) ≡ b → cond b (said (Err Refusal.Full) s) (said (Ok (reply_of step content (settle s.world x.world))) y) ≡ said answer s' → IsSteady s'
+      by true over e = subst IsSteady (ap (λ x. x.1) (same_Some _ _ e)) steady
+      by false within e = subst IsSteady (ap (λ x. x.1) (same_Some _ _ e)) (record { orderly = settle_orderly s.world x.world h; within = within })
+
+  after_steady : after step s ≡ said answer s' → IsSteady s'
+  unfolding after
+  after_steady e = by (is_allowed step s.acl) e
+    where
+      by : (b : Bool) → cond b (concluded step s (act step s)) (said (Err Refusal.Denied) s) ≡ said answer s' → IsSteady s'
+      by true e = concluded_steady (act step s) (act_orderly s steady.orderly step) e
+      by false e = subst IsSteady (ap (λ x. x.1) (same_Some _ _ e)) steady
+
+pub valid_is_steady : ValidIsSteady
+valid_is_steady s valid = record { orderly = orderly s.world valid.world; within = valid.world.within }
+
+pub steady_step : SteadyStep
+steady_step s s' step answer steady e = after_steady s steady step s' answer e
+
+pub unshared_is_apart : UnsharedIsApart
+unshared_is_apart ns s steady unshared = fit_of s ns steady.orderly steady.within unshared
+
+reaches_on : (ns : Name) (s0 s s' : State) → Reaches ns s0 s → Reaches ns s s' → Reaches ns s0 s'
+reaches_on ns s0 s s' a b = record { namespace = b.namespace ∙ a.namespace; rights = λ secret. b.rights secret ∙ a.rights secret }
+
+from_agreeing : (ns : Name) (s0 s t s1 : State) (steps : List Step) (answers : List Answer) → IsSteady s → Reaches ns s0 s → Agree ns s t → IsIsolated ns s steps answers s1
+    → (t1 : State) × Run t (struck ns s0 steps) (struck_answers ns s0 steps answers) t1 × Agree ns s1 t1
+from_agreeing ns s0 s t s1 [] [] steady r agree run = (t, refl, subst (λ x. Agree ns x t) (sym run.1) agree)
+from_agreeing ns s0 s t s1 [] (answer ∷ answers) steady r agree run = absurd run
+from_agreeing ns s0 s t s1 (step ∷ steps) [] steady r agree run = absurd run
+from_agreeing ns s0 s t s1 (step ∷ steps) (answer ∷ answers) steady r agree run =
+    let mid = run.0 in
+    let fit = fit_of s ns steady.orderly steady.within run.1 in
+    let next_steady = after_steady s steady step run.0 answer run.2 in
+    let next_reach = reaches_on ns s0 s run.0 r (reaches ns s run.0 step answer run.3 run.2) in
+    elim (is_own ns s0 step) as (λ b. is_own ns s0 step ≡ b → (t1 : State)
+    × Run t (cond b (step ∷ struck ns s0 steps) (struck ns s0 steps)) (cond b (answer ∷ struck_answers ns s0 steps answers) (struck_answers ns s0 steps answers)) t1 × Agree ns s1 t1) [
+      | true ↦ λ own.
+          let next = own_of ns s0 s t run.0 step answer fit r agree own run.2 in
+          let later = from_agreeing ns s0 run.0 next.0 s1 steps answers next_steady next_reach next.2 run.4 in
+          (later.0, (next.0, next.1, later.1), later.2)
+      | false ↦ λ other. from_agreeing ns s0 run.0 t s1 steps answers next_steady next_reach (other_of ns s0 s t run.0 step answer fit r agree other run.3 run.2) run.4
+    ] refl
+
+-- the server that holds the namespace alone agrees at first
+first_agrees : (ns : Name) (s : State) → Agree ns s (alone ns s)
+unfolding alone
+first_agrees ns s = from_part ns s (alone ns s) (record { world = refl; rights = record { spaces = λ secret k own. refl; pools = λ secret pool own. refl } })
+
+pub struck_steady_run : StruckSteadyRun
+struck_steady_run ns s0 s1 steps answers steady run = from_agreeing ns s0 s0 (alone ns s0) s1 steps answers steady (record { namespace = refl; rights = λ secret. refl }) (first_agrees ns s0) run
+
+pub struck_run : StruckRun
+struck_run ns s0 s1 steps answers valid run = struck_steady_run ns s0 s1 steps answers (valid_is_steady s0 valid) run

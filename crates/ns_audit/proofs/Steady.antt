@@ -1,0 +1,10 @@
+pub mod Keeping
+pub mod Resting
+pub mod Asks
+pub mod Nodes
+pub mod Admins
+pub mod Work
+pub mod Workers
+pub mod Finish
+pub mod Apply
+pub mod Opening

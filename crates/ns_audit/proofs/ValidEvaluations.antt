@@ -1,0 +1,10 @@
+pub mod Work
+pub mod Asks
+pub mod Filed
+pub mod Step
+pub mod Pairs
+pub mod Settle
+pub mod Finish
+pub mod Apply
+pub mod Nodes
+pub mod Admins

@@ -1,0 +1,12 @@
+pub mod Once
+pub mod Busy
+pub mod Finish
+pub mod Change
+pub mod Work
+pub mod Step
+pub mod Admins
+pub mod Quiet
+pub mod Lists
+pub mod Asks
+pub mod Settle
+pub mod Staff

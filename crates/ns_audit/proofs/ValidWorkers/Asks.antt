@@ -1,0 +1,194 @@
+-- What is asked and told, and what a plan does, leaves workers and their evaluations alone.
+use Rattle.std.specs.Prelude.{◌≡◌, ℕ, ◌≤◌, Bool, true, false, cond, not, List, [], ◌∷◌, ◌++◌, Option, Some, None, fold}
+use Rattle.std.proofs.Common.{refl, sym, ap, ◌∙◌, arith}
+use Rattle.std.specs.FinMap.{get, insert}
+use Rattle.std.specs.Option.{option_map_or}
+use Rattle.ns_types.specs.declared.allocation.Allocation.{Allocation}
+use Rattle.ns_types.specs.declared.allocation.ClientStatus.{ClientStatus}
+use Rattle.ns_types.specs.declared.allocation.DesiredStatus.{DesiredStatus}
+use Rattle.ns_types.specs.declared.allocation.DesiredStatus.TheVariants as DesiredStatus
+use Rattle.ns_types.specs.declared.evaluation.Trigger.TheVariants as Trigger
+use Rattle.ns_types.specs.declared.job.Job.{Job}
+use Rattle.ns_types.specs.declared.node.Node.{Node}
+use Rattle.ns_types.specs.declared.plan.Eviction.{Eviction}
+use Rattle.ns_types.specs.declared.plan.Placement.{Placement}
+use Rattle.ns_types.specs.declared.plan.Plan.{Plan}
+use Rattle.ns_types.specs.declared.refusal.Refusal.TheVariants as Refusal
+use Rattle.ns_types.specs.declared.reply.Content.TheVariants as Content
+use Rattle.ns_types.specs.declared.snapshot.Snapshot.{Snapshot}
+use Rattle.ns_types.specs.declared.step.AskCommand.{AskCommand}
+use Rattle.ns_types.specs.declared.step.AskCommand.TheVariants as AskCommand
+use Rattle.ns_types.specs.declared.step.NodeCommand.{NodeCommand}
+use Rattle.ns_types.specs.declared.step.NodeCommand.TheVariants as NodeCommand
+use Rattle.ns_types.specs.declared.step.Report.{Report}
+use Rattle.ns_types.specs.Asking.Asks.{deregistered, asked_in, ask}
+use Rattle.ns_types.specs.Working.Commit.{still_stands, live_stops, stop_all, node_name, nodes_in, part_of, size_of, victims_of, evict, evict_all, Commit, begun, accepts_at, decide, new_allocation, with_allocation, with_place, place_with, place_one, committed_placements, place_all, Victim, evicted_rows, same_victim_job, least_of_job, make_up, refused_whole, done, commit}
+use Rattle.ns_types.specs.State.Lists.{first_each}
+use Rattle.ns_types.specs.Settling.Making.{change_tenant, put_pool, with_node, with_desired, with_client, evaluation_for, make}
+use Rattle.ns_types.specs.State.Names.{Name}
+use Rattle.ns_types.specs.Asking.Nodes.{losses, lost, lose, go_down, may_become, same_client, calls_for_one, reported, is_on, report_of, told_in, tell}
+use Rattle.ns_types.specs.Settling.Outcome.{Refused, Done, unless}
+use Rattle.ns_types.specs.State.Resources.{plus}
+use Rattle.ns_types.specs.State.Rows.{World, Tenant, PoolRows, is_ready, allocation_at, node_at}
+use Rattle.ns_types.specs.State.Sums.{names_quota, quota_use}
+use Rattle.ns_types.specs.State.Tables.{map_rows}
+use Rattle.ns_audit.proofs.Alone.Chosen.{same_Some}
+use Rattle.ns_audit.proofs.Outcomes.{leads_unless, leads_found, leads_if}
+use Rattle.ns_audit.proofs.ValidWorkers.Quiet.{Grows, grows_none, grows_then, Quiet, quiet_same, quiet_then, quiet_each, quiet_change, quiet_map, quiet_make_in, quiet_make, quiet_pool, Quietly}
+
+-- ---- one namespace
+
+grows_desired : (n : ℕ) (d : DesiredStatus) (t : Tenant) → Grows t (with_desired n d t)
+grows_desired n d t = by (get t.allocations n)
+  where
+    by : (o : Option Allocation) → Grows t (option_map_or (λ a. record t { allocations = insert t.allocations n (record a { desired = d }) }) o t)
+    by None = grows_none t t refl refl refl
+    by (Some a) = grows_none t _ refl refl refl
+
+grows_client : (n : ℕ) (c : ClientStatus) (t : Tenant) → Grows t (with_client n c t)
+grows_client n c t = by (get t.allocations n)
+  where
+    by : (o : Option Allocation) → Grows t (option_map_or (λ a. record t { allocations = insert t.allocations n (record a { client = c }) }) o t)
+    by None = grows_none t t refl refl refl
+    by (Some a) = grows_none t _ refl refl refl
+
+grows_stops : (stops : List ℕ) (t : Tenant) → Grows t (fold (λ x n. with_desired n DesiredStatus.Stop x) t stops)
+grows_stops [] t = grows_none t t refl refl refl
+grows_stops (n ∷ stops) t = grows_then t (with_desired n DesiredStatus.Stop t) _ (grows_desired n DesiredStatus.Stop t) (grows_stops stops (with_desired n DesiredStatus.Stop t))
+
+grows_deregistered : (purge : Bool) (id : Name) (job : Job) (t : Tenant) → Grows t (deregistered purge id job t)
+grows_deregistered true id job t = grows_none t _ refl refl refl
+grows_deregistered false id job t = grows_none t _ refl refl refl
+
+-- ---- what is asked
+
+asked_quiet : (w : World) (ns : Name) (command : AskCommand) (t : Tenant) → get w.tenants ns ≡ Some t → Quietly w (asked_in ns command w t)
+asked_quiet w ns (AskCommand.ListJobs prefix) t is = quiet_same w
+asked_quiet w ns (AskCommand.Register r) t is = leads_unless (Quiet w) _ _ _ (λ _. leads_unless (Quiet w) _ _ _ (λ _. leads_unless (Quiet w) _ _ _ (λ _. leads_unless (Quiet w) _ _ _ (λ _. quiet_make_in ns _ t _ w is (grows_none t _ refl refl refl)))))
+asked_quiet w ns (AskCommand.ReadJob id) t is = leads_found (Quiet w) (get t.jobs id) _ (λ job _. quiet_same w)
+asked_quiet w ns (AskCommand.Deregister id purge) t is = leads_found (Quiet w) (get t.jobs id) _ (λ job _. quiet_make_in ns _ t (deregistered purge id job t) w is (grows_deregistered purge id job t))
+asked_quiet w ns (AskCommand.JobAllocations id) t is = quiet_same w
+asked_quiet w ns (AskCommand.JobEvaluations id) t is = quiet_same w
+asked_quiet w ns (AskCommand.ListEvaluations prefix) t is = quiet_same w
+asked_quiet w ns (AskCommand.ReadEvaluation n) t is = leads_found (Quiet w) (get t.evaluations n) _ (λ e _. quiet_same w)
+asked_quiet w ns (AskCommand.ListAllocations prefix) t is = quiet_same w
+asked_quiet w ns (AskCommand.ReadAllocation n) t is = leads_found (Quiet w) (get t.allocations n) _ (λ a _. quiet_same w)
+asked_quiet w ns (AskCommand.StopAllocation n) t is = leads_found (Quiet w) (get t.allocations n) _ (λ a _. leads_unless (Quiet w) _ _ _ (λ _. quiet_make_in ns _ t (with_desired n DesiredStatus.Stop t) w is (grows_desired n DesiredStatus.Stop t)))
+asked_quiet w ns AskCommand.ReadNamespace t is = quiet_same w
+asked_quiet w ns (AskCommand.QuotaUsage quota) t is = leads_if (Quiet w) (names_quota quota t.namespace) (Done (Content.Usage quota (quota_use w quota)) w) (Refused Refusal.NotFound) (λ _. quiet_same w) (λ _. tt)
+asked_quiet w ns (AskCommand.Events index) t is = quiet_same w
+
+pub ask_quiet : (w : World) (ns : Name) (command : AskCommand) → Quietly w (ask ns command w)
+unfolding ask
+ask_quiet w ns command = leads_found (Quiet w) (get w.tenants ns) (asked_in ns command w) (λ t is. asked_quiet w ns command t is)
+
+-- ---- what is told
+
+down_quiet : (pool node : Name) (w : World) → Quiet w (go_down pool node w)
+unfolding go_down
+down_quiet pool node w = quiet_then w (lose pool node w) _
+    (quiet_map (λ _ t. record t { allocations = map_rows (λ _ a. lost pool node a) t.allocations }) (λ ns t. grows_none t _ refl refl refl) w)
+    (quiet_each (λ x (loss : Name × Allocation). make loss.0 (λ t. evaluation_for t loss.1 Trigger.NodeUpdate) x) (λ x loss. quiet_make loss.0 _ x) (losses pool node w) (lose pool node w))
+
+reported_quiet : (r : Report) (a : Allocation) (w : World) → Quiet w (reported r a w)
+reported_quiet r a w = by (option_map_or (λ t. calls_for_one t a r.client) (get w.tenants r.namespace) false)
+  where
+    x : World
+    x = change_tenant r.namespace (with_client r.number r.client) w
+
+    first : Quiet w x
+    first = quiet_change r.namespace (with_client r.number r.client) (grows_client r.number r.client) w
+
+    by : (b : Bool) → Quiet w (cond b (make r.namespace (λ t. evaluation_for t a Trigger.AllocFailure) x) x)
+    by true = quiet_then w x _ first (quiet_make r.namespace (λ t. evaluation_for t a Trigger.AllocFailure) x)
+    by false = first
+
+as_many : (w : World) (pool : Name) (p q : PoolRows) (n : ℕ) → get w.pools pool ≡ Some p → n ≡ p.release → get w.pools pool ≡ Some q → q.release ≤ n
+as_many w pool p q n is same q_is = let e = ap (λ (p : PoolRows). p.release) (same_Some _ _ (sym q_is ∙ is)) in omega (arith, e, same)
+
+told_quiet : (w : World) (pool : Name) (command : NodeCommand) (p : PoolRows) → get w.pools pool ≡ Some p → Quietly w (told_in pool command w p)
+told_quiet w pool NodeCommand.ReadPool p is = quiet_same w
+told_quiet w pool NodeCommand.ListNodes p is = quiet_same w
+told_quiet w pool (NodeCommand.PutNode name offer) p is = leads_unless (Quiet w) _ _ _ (λ _. leads_unless (Quiet w) _ _ _ (λ _. quiet_pool pool _ w (λ q q_is. as_many w pool p q p.release is refl q_is)))
+told_quiet w pool (NodeCommand.DeleteNode name) p is = leads_found (Quiet w) (get p.nodes name) _ (λ node _. leads_unless (Quiet w) _ _ _ (λ _. quiet_pool pool _ w (λ q q_is. as_many w pool p q p.release is refl q_is)))
+told_quiet w pool (NodeCommand.SetStatus name status) p is = leads_found (Quiet w) (get p.nodes name) _ (λ node _. by (with_node name (record node { status = status }) p) refl (is_ready status))
+  where
+    by : (p' : PoolRows) → p'.release ≡ p.release → (b : Bool) → Quiet w (cond b (put_pool pool p' w) (go_down pool name (put_pool pool p' w)))
+    by p' same true = quiet_pool pool p' w (λ q q_is. as_many w pool p q p'.release is same q_is)
+    by p' same false = quiet_then w (put_pool pool p' w) _ (quiet_pool pool p' w (λ q q_is. as_many w pool p q p'.release is same q_is)) (down_quiet pool name (put_pool pool p' w))
+told_quiet w pool (NodeCommand.SetEligible name eligible) p is = leads_found (Quiet w) (get p.nodes name) _ (λ node _. quiet_pool pool _ w (λ q q_is. as_many w pool p q p.release is refl q_is))
+told_quiet w pool (NodeCommand.Report name r) p is = leads_found (Quiet w) (get p.nodes name) _ (λ node _.
+    leads_found (Quiet w) (allocation_at w (r.namespace, r.number)) (λ x. unless (not (is_on pool name x)) Refusal.NotFound (report_of r w x)) (λ a _.
+    leads_unless (Quiet w) (not (is_on pool name a)) Refusal.NotFound (report_of r w a) (λ _.
+    leads_if (Quiet w) (same_client a.client r.client) (Done Content.Written w) (unless (not (may_become a.client r.client)) Refusal.Conflict (Done Content.Written (reported r a w))) (λ _. quiet_same w)
+    (λ _. leads_unless (Quiet w) (not (may_become a.client r.client)) Refusal.Conflict (Done Content.Written (reported r a w)) (λ _. reported_quiet r a w)))))
+
+pub tell_quiet : (w : World) (pool : Name) (command : NodeCommand) → Quietly w (tell pool command w)
+unfolding tell
+tell_quiet w pool command = leads_found (Quiet w) (get w.pools pool) (told_in pool command w) (λ p is. told_quiet w pool command p is)
+
+-- ---- what a plan does
+
+evicted_quiet : (vs : List Eviction) (w : World) → Quiet w (evict_all w vs)
+evicted_quiet vs w = quiet_each evict (λ x v. quiet_change v.namespace (with_desired v.number DesiredStatus.Evict) (grows_desired v.number DesiredStatus.Evict) x) vs w
+
+decided_one : (kept : Snapshot) (ps : List Placement) (c : Commit) (n : ℕ) → Quiet c.world (decide kept ps c n).world
+unfolding decide
+decided_one kept ps c n = by (accepts_at kept (evict_all c.world (victims_of c.world kept (part_of n ps))) (node_name kept n) (part_of n ps) c.placed)
+  where
+    by : (b : Bool) → Quiet c.world (cond b (record { world = evict_all c.world (victims_of c.world kept (part_of n ps)); placed = plus c.placed (size_of (part_of n ps)); committed = c.committed ++ n ∷ []; dropped = c.dropped }) (record c { dropped = c.dropped ++ n ∷ [] })).world
+    by true = evicted_quiet (victims_of c.world kept (part_of n ps)) c.world
+    by false = quiet_same c.world
+
+decided_quiet : (kept : Snapshot) (ps : List Placement) (ks : List ℕ) (c : Commit) → Quiet c.world (fold (decide kept ps) c ks).world
+decided_quiet kept ps [] c = quiet_same c.world
+decided_quiet kept ps (n ∷ ks) c = quiet_then c.world (decide kept ps c n).world _ (decided_one kept ps c n) (decided_quiet kept ps ks (decide kept ps c n))
+
+-- the node's pool has as many releases as before
+counted_quiet : (pool name : Name) (node : Node) (x : World) → Quiet x (option_map_or (λ p. put_pool pool (with_place name node p) x) (get x.pools pool) x)
+counted_quiet pool name node x = by (get x.pools pool) refl
+  where
+    by : (o : Option PoolRows) → get x.pools pool ≡ o → Quiet x (option_map_or (λ p. put_pool pool (with_place name node p) x) o x)
+    by None is = quiet_same x
+    by (Some p) is = quiet_pool pool (with_place name node p) x (λ q q_is. as_many x pool p q p.release is refl q_is)
+
+placed_quiet : (kept : Snapshot) (p : Placement) (w : World) → Quiet w (place_one kept w p)
+unfolding place_one
+placed_quiet kept p w = job kept.job
+  where
+    node : (j : Job) (o : Option Node) → Quiet w (option_map_or (place_with kept p w j) o w)
+    node j None = quiet_same w
+    node j (Some n) =
+        let x = change_tenant kept.namespace (with_allocation (new_allocation kept j p n)) w in
+        quiet_then w x _ (quiet_change kept.namespace (with_allocation (new_allocation kept j p n)) (λ t. grows_none t _ refl refl refl) w) (counted_quiet kept.pool (node_name kept p.node) n x)
+
+    job : (o : Option Job) → Quiet w (option_map_or (λ job. option_map_or (place_with kept p w job) (node_at w kept.pool (node_name kept p.node)) w) o w)
+    job None = quiet_same w
+    job (Some j) = node j (node_at w kept.pool (node_name kept p.node))
+
+made_up_quiet : (victims : List Victim) (w : World) → Quiet w (make_up victims w)
+unfolding make_up
+made_up_quiet victims w = quiet_each (λ x v. make v.0 (λ t. evaluation_for t (least_of_job victims v) Trigger.Preemption) x) (λ x v. quiet_make v.0 _ x) (first_each same_victim_job victims) w
+
+pub commit_quiet : (kept : Snapshot) (p : Plan) (w : World) (t : Tenant) → Quiet w (commit kept p w t).world
+unfolding commit
+commit_quiet kept p w t = by (still_stands kept.job (get t.jobs kept.evaluation.job))
+  where
+    stops : List ℕ
+    stops = live_stops t p.stops
+
+    x : World
+    x = stop_all kept.namespace stops w
+
+    c : Commit
+    c = fold (decide kept p.placing.placements) (begun x) (nodes_in p.placing.placements)
+
+    placed : List Placement
+    placed = committed_placements c p.placing.placements
+
+    by : (b : Bool) → Quiet w (cond b (done kept p w t) (refused_whole kept p w)).world
+    by true = quiet_then w x _ (quiet_change kept.namespace (λ t. fold (λ x n. with_desired n DesiredStatus.Stop x) t stops) (grows_stops stops) w)
+        (quiet_then x c.world _ (decided_quiet kept p.placing.placements (nodes_in p.placing.placements) (begun x))
+        (quiet_then c.world (place_all kept c.world placed) _ (quiet_each (place_one kept) (λ y q. placed_quiet kept q y) placed c.world)
+        (made_up_quiet (evicted_rows x kept placed) (place_all kept c.world placed))))
+    by false = quiet_same w

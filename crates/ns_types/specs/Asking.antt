@@ -1,0 +1,5 @@
+pub mod Asks
+pub mod Reads
+pub mod Admins
+pub mod Policies
+pub mod Nodes

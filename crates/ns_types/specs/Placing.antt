@@ -1,0 +1,7 @@
+pub mod Constraint
+pub mod Choice
+pub mod Placement
+pub mod Preemption
+pub mod Wanted
+pub mod Planning
+pub mod Plan

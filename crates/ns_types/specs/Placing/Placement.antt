@@ -1,0 +1,34 @@
+-- The choice of a node among those with room.
+-- Nomad's page "How Nomad job placement works".
+use Rattle.std.specs.Prelude.{ℕ, ◌-◌, Bool, ◌&&◌, List, Option}
+use Rattle.std.specs.Cmp.Lexicographic.{slice_cmp}
+use Rattle.std.specs.Ordering.{is_lt, nat_cmp, on, then_cmp}
+use Rattle.std.specs.declared.cmp.Ordering.{Ordering}
+use Rattle.ns_types.specs.declared.snapshot.LiveAllocation.{LiveAllocation}
+use Rattle.ns_types.specs.declared.resources.Resources.{Resources}
+use Rattle.ns_types.specs.Placing.Choice.{best}
+use Rattle.ns_types.specs.State.Resources.{is_within}
+
+-- a node as a plan sees it: whether the job may use it, what is left of it, and whom the job may evict there,
+-- the first to go first
+pub record Candidate : Type 0 where
+  pub name : List ℕ
+  pub feasible : Bool
+  pub left : Resources
+  pub evictable : List LiveAllocation
+
+abbrev pub fits : Resources → Candidate → Bool
+fits size c = c.feasible && is_within size c.left
+
+-- least CPU left afterwards, then least memory, then least name
+abbrev pub compare_left : Resources → Candidate → Candidate → Ordering
+compare_left size =
+    then_cmp (on (λ c. c.left.cpu - size.cpu) nat_cmp)
+    (then_cmp (on (λ c. c.left.memory - size.memory) nat_cmp) (on (λ c. c.name) (slice_cmp nat_cmp)))
+
+abbrev pub better : Resources → Candidate → Candidate → Bool
+better size a b = is_lt (compare_left size a b)
+
+-- the place of the node that fits and that none that fits betters
+abbrev pub best_fit : Resources → List Candidate → Option ℕ
+best_fit size = best (fits size) (better size)

@@ -1,0 +1,42 @@
+-- What a step makes of a state, before its releases, wakes, indexes and events.
+use Rattle.std.specs.Prelude.{◌≡◌, Bool, if◌then◌else◌, Option, Result, Ok, Err}
+use Rattle.std.specs.Option.{option_map_or}
+use Rattle.std.specs.FinMap.{get}
+use Rattle.ns_types.specs.declared.refusal.Refusal.{Refusal}
+use Rattle.ns_types.specs.declared.refusal.Refusal.TheVariants as Refusal
+use Rattle.ns_types.specs.declared.reply.Content.{Content}
+use Rattle.ns_types.specs.State.Names.{Name}
+use Rattle.ns_types.specs.State.Rows.{World, Tenant, PoolRows}
+
+pub data Outcome (S : Type 0) : Type 0 where
+  -- the step is not enabled, and no run has it
+  NotEnabled : Outcome S
+  -- nothing changes
+  Refused : Refusal → Outcome S
+  Done : Content → S → Outcome S
+
+-- a refusal that comes before all that follows it
+unfoldable pub unless : {S : Type 0} → Bool → Refusal → Outcome S → Outcome S
+unless refuses refusal rest = if refuses then Refused refusal else rest
+
+-- the change of a part, as one of the whole
+abbrev pub lift : {A B : Type 0} → (A → B) → Outcome A → Outcome B
+lift whole NotEnabled = NotEnabled
+lift whole (Refused refusal) = Refused refusal
+lift whole (Done content a) = Done content (whole a)
+
+-- with what was found, which else is not there
+abbrev pub found : {S A : Type 0} → Option A → (A → Outcome S) → Outcome S
+found thing go = option_map_or go thing (Refused Refusal.NotFound)
+
+abbrev pub in_tenant : World → Name → (Tenant → Outcome World) → Outcome World
+in_tenant w ns go = found (get w.tenants ns) go
+
+abbrev pub in_pool : World → Name → (PoolRows → Outcome World) → Outcome World
+in_pool w pool go = found (get w.pools pool) go
+
+-- What a call that makes this change of a part answers, and the part that it leaves. Want of memory changes nothing.
+abbrev pub Changes : {S : Type 0} → Outcome S → S → Result Content Refusal → S → Type 0
+Changes outcome s (Ok content) s' = outcome ≡ Done content s'
+Changes outcome s (Err Refusal.Memory) s' = s' ≡ s
+Changes outcome s (Err refusal) s' = (outcome ≡ Refused refusal) × (s' ≡ s)

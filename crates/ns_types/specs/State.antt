@@ -1,0 +1,9 @@
+pub mod Name
+pub mod Names
+pub mod Id
+pub mod Lists
+pub mod Tables
+pub mod Rows
+pub mod Resources
+pub mod Sums
+pub mod Limits

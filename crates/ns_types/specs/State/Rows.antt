@@ -1,0 +1,139 @@
+-- The state: rows by owner, which is a namespace, a pool, a quota or the access lists, and three lists.
+-- Nomad's pages on namespaces, node pools and resource quotas.
+use Rattle.std.specs.Prelude.{ℕ, Bool, true, false, not, ◌&&◌, List, Option, filter}
+use Rattle.std.specs.FinMap.{get}
+use Rattle.std.specs.Option.{option_and_then}
+use Rattle.ns_types.specs.declared.acl.Policy.{Policy}
+use Rattle.ns_types.specs.declared.acl.Token.{Token}
+use Rattle.ns_types.specs.declared.allocation.Allocation.{Allocation}
+use Rattle.ns_types.specs.declared.allocation.ClientStatus.{ClientStatus}
+use Rattle.ns_types.specs.declared.allocation.ClientStatus.TheVariants as ClientStatus
+use Rattle.ns_types.specs.declared.allocation.DesiredStatus.{DesiredStatus}
+use Rattle.ns_types.specs.declared.allocation.DesiredStatus.TheVariants as DesiredStatus
+use Rattle.ns_types.specs.declared.evaluation.Evaluation.{Evaluation}
+use Rattle.ns_types.specs.declared.evaluation.Status.{Status}
+use Rattle.ns_types.specs.declared.evaluation.Status.TheVariants as Status
+use Rattle.ns_types.specs.declared.event.Event.{Event}
+use Rattle.ns_types.specs.declared.job.Job.{Job}
+use Rattle.ns_types.specs.declared.node.Class.{Class}
+use Rattle.ns_types.specs.declared.node.Node.{Node}
+use Rattle.ns_types.specs.declared.node.NodeStatus.{NodeStatus}
+use Rattle.ns_types.specs.declared.node.NodeStatus.TheVariants as NodeStatus
+use Rattle.ns_types.specs.declared.records.Namespace.{Namespace}
+use Rattle.ns_types.specs.declared.records.Pool.{Pool}
+use Rattle.ns_types.specs.declared.records.Quota.{Quota}
+use Rattle.ns_types.specs.declared.worker.Worker.{Worker}
+use Rattle.std.specs.Prelude.{codes}
+use Rattle.ns_types.specs.State.Names.{Name, Key, ByName, ByNumber, ByClass, same_name, begins_with}
+
+-- what a namespace owns
+pub record Tenant : Type 0 where
+  pub namespace : Namespace
+  pub index : ℕ
+  -- the last numbers given
+  pub evaluation_number : ℕ
+  pub allocation_number : ℕ
+  pub jobs : ByName Job
+  pub evaluations : ByNumber Evaluation
+  pub allocations : ByNumber Allocation
+  -- those that are busy for it
+  pub workers : ByNumber Worker
+  -- the last hundred, the newest last
+  pub events : List Event
+
+-- what a pool owns
+pub record PoolRows : Type 0 where
+  pub pool : Pool
+  -- the number of its last release
+  pub release : ℕ
+  -- the number of each class's last release
+  pub classes : ByClass ℕ
+  pub nodes : ByName Node
+
+-- what a quota owns
+pub record QuotaRows : Type 0 where
+  pub quota : Quota
+  pub release : ℕ
+
+-- all but the access lists
+pub record World : Type 0 where
+  pub tenants : ByName Tenant
+  pub pools : ByName PoolRows
+  pub quotas : ByName QuotaRows
+  pub ready : List Key
+  pub plans : List Key
+  pub blocked : List Key
+
+pub record Acl : Type 0 where
+  pub policies : ByName Policy
+  -- by secret
+  pub tokens : ByName Token
+
+pub record State : Type 0 where
+  pub acl : Acl
+  pub world : World
+
+-- ---- what rows say
+
+abbrev pub is_run : DesiredStatus → Bool
+is_run DesiredStatus.Run = true
+is_run _ = false
+
+abbrev pub is_held : ClientStatus → Bool
+is_held ClientStatus.Pending = true
+is_held ClientStatus.Running = true
+is_held _ = false
+
+abbrev pub is_complete : ClientStatus → Bool
+is_complete ClientStatus.Complete = true
+is_complete _ = false
+
+-- the desired status is `run`, and the client's `pending` or `running`
+abbrev pub is_live : Allocation → Bool
+is_live a = is_run a.desired && is_held a.client
+
+-- the desired status is `run`, and the client's `complete`
+abbrev pub is_done : Allocation → Bool
+is_done a = is_run a.desired && is_complete a.client
+
+abbrev pub is_live_on : Name → Name → Allocation → Bool
+is_live_on pool node a = is_live a && (same_name pool a.pool && same_name node a.node)
+
+abbrev pub is_pending : Status → Bool
+is_pending Status.Pending = true
+is_pending _ = false
+
+abbrev pub is_blocked : Status → Bool
+is_blocked Status.Blocked = true
+is_blocked _ = false
+
+abbrev pub is_open : Status → Bool
+is_open Status.Pending = true
+is_open Status.Blocked = true
+is_open _ = false
+
+abbrev pub is_ready : NodeStatus → Bool
+is_ready NodeStatus.Ready = true
+is_ready NodeStatus.Down = false
+
+-- a node that may take allocations
+abbrev pub is_free : Node → Bool
+is_free node = is_ready node.status && node.eligible
+
+abbrev pub is_unique : Name → Bool
+is_unique key = begins_with (codes "unique.") key
+
+-- the class of a node, with all attributes that are not unique
+abbrev pub class_of : Node → Class
+class_of node = record { name = node.offer.class; attributes = filter (λ a. not (is_unique a.key)) node.offer.attributes }
+
+-- ---- look-ups
+
+abbrev pub evaluation_at : World → Key → Option Evaluation
+evaluation_at w key = option_and_then (λ t. get t.evaluations key.1) (get w.tenants key.0)
+
+abbrev pub allocation_at : World → Key → Option Allocation
+allocation_at w key = option_and_then (λ t. get t.allocations key.1) (get w.tenants key.0)
+
+abbrev pub node_at : World → Name → Name → Option Node
+node_at w pool node = option_and_then (λ p. get p.nodes node) (get w.pools pool)

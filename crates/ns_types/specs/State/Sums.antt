@@ -1,0 +1,31 @@
+-- What the live allocations of a quota, and of a node, take together.
+-- Nomad's page on resource quotas.
+use Rattle.std.specs.Prelude.{Bool, false, cond, sum_by, ℕ}
+use Rattle.std.specs.Option.{option_map_or}
+use Rattle.std.specs.FinMap.{entries}
+use Rattle.ns_types.specs.declared.records.Namespace.{Namespace}
+use Rattle.ns_types.specs.declared.resources.Resources.{Resources}
+use Rattle.ns_types.specs.declared.allocation.Allocation.{Allocation}
+use Rattle.ns_types.specs.State.Names.{Name, same_name}
+use Rattle.ns_types.specs.State.Rows.{World, Tenant, is_live, is_live_on}
+
+abbrev pub names_quota : Name → Namespace → Bool
+names_quota quota namespace = option_map_or (same_name quota) namespace.quota false
+
+-- the sum over a namespace's allocations that count
+abbrev pub tenant_sum : (Allocation → Bool) → (Resources → ℕ) → Tenant → ℕ
+tenant_sum counts amount t = sum_by (λ e. cond (counts e.1) (amount e.1.size) 0) (entries t.allocations)
+
+-- over the live allocations of all namespaces that name the quota
+unfoldable pub quota_sum : World → Name → (Resources → ℕ) → ℕ
+quota_sum w quota amount = sum_by (λ e. cond (names_quota quota e.1.namespace) (tenant_sum is_live amount e.1) 0) (entries w.tenants)
+
+abbrev pub quota_use : World → Name → Resources
+quota_use w quota = record { cpu = quota_sum w quota (λ r. r.cpu); memory = quota_sum w quota (λ r. r.memory) }
+
+-- over the live allocations of all namespaces on the node
+unfoldable pub node_sum : World → Name → Name → (Resources → ℕ) → ℕ
+node_sum w pool node amount = sum_by (λ e. tenant_sum (is_live_on pool node) amount e.1) (entries w.tenants)
+
+abbrev pub node_load : World → Name → Name → Resources
+node_load w pool node = record { cpu = node_sum w pool node (λ r. r.cpu); memory = node_sum w pool node (λ r. r.memory) }

@@ -1,0 +1,269 @@
+-- Apply: what of a plan is done in the present state. Each node does its whole part or none of it.
+-- Nomad's page "Scheduling in Nomad", of the plan queue.
+use Rattle.std.specs.Prelude.{ℕ, ◌+◌, ◌-◌, Bool, true, false, not, ◌&&◌, ◌||◌, if◌then◌else◌, List, [], ◌∷◌, ◌++◌, Option, Some, None, filter, filter_map, flat_map, fold, map, slice_get, option_map}
+use Rattle.std.specs.Option.{option_map_or, option_and_then}
+use Rattle.std.specs.FinMap.{get, insert}
+use Rattle.ns_types.specs.declared.allocation.Allocation.{Allocation}
+use Rattle.ns_types.specs.declared.allocation.ClientStatus.TheVariants as ClientStatus
+use Rattle.ns_types.specs.declared.allocation.DesiredStatus.TheVariants as DesiredStatus
+use Rattle.ns_types.specs.declared.evaluation.Evaluation.{Evaluation}
+use Rattle.ns_types.specs.declared.evaluation.Trigger.TheVariants as Trigger
+use Rattle.ns_types.specs.declared.job.Job.{Job}
+use Rattle.ns_types.specs.declared.node.Node.{Node}
+use Rattle.ns_types.specs.declared.plan.Eviction.{Eviction}
+use Rattle.ns_types.specs.declared.plan.Placement.{Placement}
+use Rattle.ns_types.specs.declared.plan.Plan.{Plan}
+use Rattle.ns_types.specs.declared.reply.Content.TheVariants as Content
+use Rattle.ns_types.specs.declared.resources.Resources.{Resources}
+use Rattle.ns_types.specs.declared.snapshot.Snapshot.{Snapshot}
+use Rattle.ns_types.specs.declared.worker.Phase.{Phase}
+use Rattle.ns_types.specs.declared.worker.Phase.TheVariants as Phase
+use Rattle.ns_types.specs.declared.worker.Worker.{Worker}
+use Rattle.ns_types.specs.Placing.Constraint.{is_feasible}
+use Rattle.ns_types.specs.State.Lists.{is_empty, first_each, sorted_names}
+use Rattle.ns_types.specs.Settling.Making.{change_tenant, put_pool, with_node, with_desired, evaluation_for, make, least}
+use Rattle.ns_types.specs.State.Names.{Name, same_name, same_number, has_number}
+use Rattle.ns_types.specs.Settling.Outcome.{Outcome, NotEnabled, Done}
+use Rattle.ns_types.specs.Placing.Plan.{plan, constraints_of}
+use Rattle.ns_types.specs.Working.Queue.{is_served}
+use Rattle.ns_types.specs.State.Resources.{none, plus, total, is_within, limits_in, limits_allow, unlimited}
+use Rattle.ns_types.specs.State.Rows.{World, Tenant, PoolRows, is_live, is_live_on, allocation_at, node_at}
+use Rattle.ns_types.specs.State.Sums.{quota_use, node_load}
+use Rattle.ns_types.specs.Working.Work.{at_work, with_worker, without_key, is_submitted, tries_for}
+
+-- ---- whether the plan still stands
+
+abbrev pub is_over : Option Job → Bool
+is_over None = true
+is_over (Some job) = job.stop
+
+abbrev pub same_version : Option Job → Option Job → Bool
+same_version (Some a) (Some b) = same_number a.modify_index b.modify_index
+same_version _ _ = false
+
+-- one for an unstopped job wants it unstopped, with the same index; one for a job that was gone or stopped wants it so still
+abbrev pub still_stands : Option Job → Option Job → Bool
+still_stands planned present = if is_over planned then is_over present else not (is_over present) && same_version planned present
+
+-- ---- stops
+
+abbrev pub live_stops : Tenant → List ℕ → List ℕ
+live_stops t stops = filter (λ n. option_map_or is_live (get t.allocations n) false) stops
+
+abbrev pub stop_all : Name → List ℕ → World → World
+stop_all ns stops w = change_tenant ns (λ t. fold (λ x n. with_desired n DesiredStatus.Stop x) t stops) w
+
+-- ---- a node's part of the plan
+
+-- the name of the node at a place of the snapshot
+abbrev pub node_name : Snapshot → ℕ → Name
+node_name kept k = option_map_or (λ n. n.name) (slice_get kept.nodes k) []
+
+-- the nodes of the placements, in the order of first placement
+abbrev pub nodes_in : List Placement → List ℕ
+nodes_in placements = first_each same_number (map (λ p. p.node) placements)
+
+abbrev pub part_of : ℕ → List Placement → List Placement
+part_of k placements = filter (λ p. same_number p.node k) placements
+
+abbrev pub size_of : List Placement → Resources
+size_of part = total (λ p. p.size) part
+
+-- an eviction counts where its allocation is live on that node with the priority that the snapshot had
+unfoldable pub counts : World → Name → Name → Eviction → Bool
+counts w pool node e = option_map_or (λ a. is_live_on pool node a && same_number a.priority e.priority) (allocation_at w (e.namespace, e.number)) false
+
+abbrev pub victims_in : World → Snapshot → Placement → List Eviction
+victims_in w kept p = filter (counts w kept.pool (node_name kept p.node)) p.evictions
+
+abbrev pub victims_of : World → Snapshot → List Placement → List Eviction
+victims_of w kept part = flat_map (victims_in w kept) part
+
+abbrev pub evict : World → Eviction → World
+evict w e = change_tenant e.namespace (with_desired e.number DesiredStatus.Evict) w
+
+abbrev pub evict_all : World → List Eviction → World
+evict_all w victims = fold evict w victims
+
+-- the namespace's quota, or none that limits
+abbrev pub quota_named : World → Name → Option Name
+quota_named w ns = option_and_then (λ t. t.namespace.quota) (get w.tenants ns)
+
+-- with what is placed already, the quota allows the amount
+abbrev pub quota_allows : World → Name → Resources → Bool
+quota_allows w ns amount = option_map_or (λ q.
+    limits_allow (option_map_or (λ rows. limits_in rows.quota.limits) (get w.quotas q) unlimited) (plus (quota_use w q) amount)) (quota_named w ns) true
+
+-- ---- node by node
+
+-- what is decided so far: the state without the stops and the victims of the nodes that do their part
+pub record Commit : Type 0 where
+  pub world : World
+  -- what these nodes place
+  pub placed : Resources
+  pub committed : List ℕ
+  pub dropped : List ℕ
+
+abbrev pub begun : World → Commit
+begun w = record { world = w; placed = none; committed = []; dropped = [] }
+
+-- ready and eligible, all constraints met; without its own victims it has room, and the quota allows all its placements
+abbrev pub accepts : Snapshot → World → Name → List Placement → Resources → Node → Bool
+accepts kept w name part placed node =
+    is_feasible (constraints_of kept.job) name node
+    && is_within (plus (node_load w kept.pool name) (size_of part)) node.offer.capacity
+    && quota_allows w kept.namespace (plus placed (size_of part))
+
+abbrev pub accepts_at : Snapshot → World → Name → List Placement → Resources → Bool
+accepts_at kept w name part placed = option_map_or (accepts kept w name part placed) (node_at w kept.pool name) false
+
+unfoldable pub decide : Snapshot → List Placement → Commit → ℕ → Commit
+decide kept placements c k =
+    let part = part_of k placements in
+    let w = evict_all c.world (victims_of c.world kept part) in
+    if accepts_at kept w (node_name kept k) part c.placed
+    then record { world = w; placed = plus c.placed (size_of part); committed = c.committed ++ k ∷ []; dropped = c.dropped }
+    else record c { dropped = c.dropped ++ k ∷ [] }
+
+-- ---- placements, in the order of the plan
+
+abbrev pub group_name : Job → ℕ → Name
+group_name job group = option_map_or (λ g. g.name) (slice_get job.document.groups group) []
+
+-- a committed placement is pending on its node, with the next number of its namespace and of the node
+abbrev pub new_allocation : Snapshot → Job → Placement → Node → Allocation
+new_allocation kept job p node = record {
+  job = kept.evaluation.job;
+  group = group_name job p.group;
+  evaluation = kept.number;
+  pool = kept.pool;
+  node = node_name kept p.node;
+  place = node.places + 1;
+  size = p.size;
+  priority = job.document.priority;
+  job_modify_index = job.modify_index;
+  desired = DesiredStatus.Run;
+  client = ClientStatus.Pending;
+  create_index = 0;
+  modify_index = 0;
+}
+
+abbrev pub with_allocation : Allocation → Tenant → Tenant
+with_allocation a t = record t { allocation_number = t.allocation_number + 1; allocations = insert t.allocations (t.allocation_number + 1) a }
+
+abbrev pub with_place : Name → Node → PoolRows → PoolRows
+with_place name node pool = with_node name (record node { places = node.places + 1 }) pool
+
+abbrev pub counted : Name → Name → Node → World → World
+counted pool name node w = option_map_or (λ p. put_pool pool (with_place name node p) w) (get w.pools pool) w
+
+abbrev pub place_with : Snapshot → Placement → World → Job → Node → World
+place_with kept p w job node = counted kept.pool (node_name kept p.node) node (change_tenant kept.namespace (with_allocation (new_allocation kept job p node)) w)
+
+-- a plan that places something is for a job
+unfoldable pub place_one : Snapshot → World → Placement → World
+place_one kept w p =
+    option_map_or (λ job. option_map_or (place_with kept p w job) (node_at w kept.pool (node_name kept p.node)) w) kept.job w
+
+abbrev pub committed_placements : Commit → List Placement → List Placement
+committed_placements c placements = filter (λ p. has_number c.committed p.node) placements
+
+abbrev pub place_all : Snapshot → World → List Placement → World
+place_all kept w placements = fold (place_one kept) w placements
+
+-- ---- evaluations of those that lost an allocation
+
+-- a victim with its row before it went
+abbrev pub Victim : Type 0
+Victim = Name × (ℕ × Allocation)
+
+abbrev pub victim_at : World → Eviction → Option Victim
+victim_at w e = option_map (λ a. (e.namespace, (e.number, a))) (allocation_at w (e.namespace, e.number))
+
+-- the evictions of committed nodes that counted, in the order of the plan
+abbrev pub evicted_rows : World → Snapshot → List Placement → List Victim
+evicted_rows w kept placements = filter_map (victim_at w) (victims_of w kept placements)
+
+abbrev pub same_victim_job : Victim → Victim → Bool
+same_victim_job a b = same_name a.0 b.0 && same_name a.1.1.job b.1.1.job
+
+-- of the victims of a job the one with the least number
+abbrev pub least_of_job : List Victim → Victim → Allocation
+least_of_job victims v = option_map_or (λ a. a) (least (map (λ x. x.1) (filter (same_victim_job v) victims))) v.1.1
+
+-- each job that lost one gets an evaluation, in the order of first victim
+unfoldable pub make_up : List Victim → World → World
+make_up victims w =
+    fold (λ x v. make v.0 (λ t. evaluation_for t (least_of_job victims v) Trigger.Preemption) x) w (first_each same_victim_job victims)
+
+-- ---- Apply
+
+-- what an Apply does: the state, the numbers of the placements, the dropped nodes, what it did and what not
+pub record Applied : Type 0 where
+  pub world : World
+  pub made : List ℕ
+  pub dropped : List Name
+  pub has_dropped : Bool
+  pub has_committed : Bool
+
+abbrev pub names_in : Snapshot → List ℕ → List Name
+names_in kept nodes = sorted_names (map (node_name kept) nodes)
+
+-- a plan that no longer stands commits nothing and drops all
+abbrev pub refused_whole : Snapshot → Plan → World → Applied
+refused_whole kept p w = record { world = w; made = []; dropped = names_in kept (nodes_in p.placing.placements); has_dropped = true; has_committed = false }
+
+-- the numbers of as many new allocations
+abbrev pub numbers_after : {X : Type 0} → ℕ → List X → List ℕ
+numbers_after n [] = []
+numbers_after n (x ∷ xs) = (n + 1) ∷ numbers_after (n + 1) xs
+
+abbrev pub done_with : Snapshot → Tenant → List ℕ → List Placement → World → Commit → Applied
+done_with kept t stops placements stopped c =
+    let placed = committed_placements c placements in
+    record {
+      world = make_up (evicted_rows stopped kept placed) (place_all kept c.world placed);
+      made = numbers_after t.allocation_number placed;
+      dropped = names_in kept c.dropped;
+      has_dropped = not (is_empty c.dropped);
+      has_committed = not (is_empty stops) || not (is_empty placed);
+    }
+
+-- the stops of those that are live still, then node by node
+abbrev pub done : Snapshot → Plan → World → Tenant → Applied
+done kept p w t =
+    let stops = live_stops t p.stops in
+    let stopped = stop_all kept.namespace stops w in
+    let placements = p.placing.placements in
+    done_with kept t stops placements stopped (fold (decide kept placements) (begun stopped) (nodes_in placements))
+
+unfoldable pub commit : Snapshot → Plan → World → Tenant → Applied
+commit kept p w t = if still_stands kept.job (get t.jobs kept.evaluation.job) then done kept p w t else refused_whole kept p w
+
+-- a commit resets the tries, and a drop without one uses a try
+abbrev pub tries_after : Applied → Worker → Evaluation → ℕ
+tries_after a worker e =
+    if a.has_committed then tries_for e.kind
+    else if a.has_dropped then worker.tries - 1
+    else worker.tries
+
+abbrev pub phase_after : Applied → Phase
+phase_after a = if a.has_dropped then Phase.Dropped else Phase.Applied
+
+abbrev pub applied_worker : Applied → Worker → Evaluation → Worker
+applied_worker a worker e = record worker { phase = phase_after a; tries = tries_after a worker e }
+
+abbrev pub applied : ℕ → Name → Worker → Evaluation → Applied → Outcome World
+applied number ns worker e a =
+    Done (Content.Applied a.made a.dropped)
+    (record (change_tenant ns (with_worker number (applied_worker a worker e)) a.world) { plans = without_key (ns, worker.evaluation) a.world.plans })
+
+-- the worker's plan is the one served
+abbrev pub apply_for : ℕ → Name → World → Tenant → Worker → Evaluation → Snapshot → Outcome World
+apply_for number ns w t worker e kept =
+    if is_submitted worker.phase && is_served w w.plans (ns, worker.evaluation)
+    then applied number ns worker e (commit kept (plan kept) w t)
+    else NotEnabled
+
+unfoldable pub apply : ℕ → Name → World → Outcome World
+apply number ns w = at_work number ns w (λ t worker e. option_map_or (apply_for number ns w t worker e) worker.kept NotEnabled)

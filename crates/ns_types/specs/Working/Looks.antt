@@ -1,0 +1,44 @@
+-- What can be looked at without a step, and what a worker's hand-in answers.
+use Rattle.std.specs.Prelude.{◌≡◌, ◌≢◌, ℕ, true, false, Option, Some, None, find, option_map}
+use Rattle.std.specs.FinMap.{get, entries, contains_key}
+use Rattle.std.specs.Option.{option_and_then}
+use Rattle.ns_types.specs.declared.plan.Plan.{Plan}
+use Rattle.ns_types.specs.declared.refusal.Refusal.{Refusal}
+use Rattle.ns_types.specs.declared.refusal.Refusal.TheVariants as Refusal
+use Rattle.ns_types.specs.declared.snapshot.Snapshot.{Snapshot}
+use Rattle.ns_types.specs.declared.worker.Worker.{Worker}
+use Rattle.ns_types.specs.State.Names.{Name, Key}
+use Rattle.ns_types.specs.Placing.Plan.{plan, does_nothing}
+use Rattle.ns_types.specs.Working.Queue.{served}
+use Rattle.ns_types.specs.State.Rows.{World}
+use Rattle.ns_types.specs.Working.Work.{is_snapped}
+
+-- the evaluation that is served, and the one whose plan is
+abbrev pub served_ready : World → Option Key
+served_ready w = served w w.ready
+
+abbrev pub first_plan : World → Option Key
+first_plan w = served w w.plans
+
+-- the namespace for which a worker is busy, with its row
+abbrev pub row_of : World → ℕ → Option (Name × Worker)
+row_of w number = option_and_then (λ t. option_map (λ worker. (t.0, worker)) (get t.1.workers number))
+    (find (λ t. contains_key t.1.workers number) (entries w.tenants))
+
+-- ---- a plan handed in
+
+-- a plan, with the snapshot of which it was made
+pub record Planned : Type 0 where
+  pub snapshot : Snapshot
+  pub plan_of : Plan
+  pub made : plan_of ≡ plan snapshot
+
+abbrev pub worker_at : World → ℕ → Name → Option Worker
+worker_at w number ns = option_and_then (λ t. get t.workers number) (get w.tenants ns)
+
+-- why a plan is refused: the worker is not at that, the snapshot is another than the kept one, or the plan does nothing
+pub data RefusesPlan (w : World) (number : ℕ) (ns : Name) (p : Planned) : Refusal → Type 0 where
+  idle : worker_at w number ns ≡ None → RefusesPlan w number ns p Refusal.NotEnabled
+  out_of_turn : (worker : Worker) → worker_at w number ns ≡ Some worker → is_snapped worker.phase ≡ false → RefusesPlan w number ns p Refusal.NotEnabled
+  foreign : (worker : Worker) → worker_at w number ns ≡ Some worker → is_snapped worker.phase ≡ true → worker.kept ≢ Some p.snapshot → RefusesPlan w number ns p Refusal.Foreign
+  empty : (worker : Worker) → worker_at w number ns ≡ Some worker → is_snapped worker.phase ≡ true → worker.kept ≡ Some p.snapshot → does_nothing p.plan_of ≡ true → RefusesPlan w number ns p Refusal.NotEnabled
