@@ -9,21 +9,21 @@ use Rattle.ns_types.specs.State.Names.{Name}
 use Rattle.ns_types.specs.Access.Rights.{rights_of, pool_rights_of}
 use Rattle.ns_types.specs.State.Rows.{Acl, State, World}
 use Rattle.ns_types.specs.Settling.Settle.{settle}
-use Rattle.ns_types.specs.Steps.{Answer, said, after, is_over, Run}
+use Rattle.ns_types.specs.Steps.{Answer, said, after, is_past_bound, Run}
 use Rattle.ns_audit.specs.Apart.{IsApart, IsAtHome}
 
 -- ---- whose a step is
 
 -- a report belongs to the namespace that it names, too
-abbrev pub tells_of : Part → NodeCommand → Bool
-tells_of part (NodeCommand.Report name report) = part.spaces report.namespace
-tells_of part _ = true
+abbrev pub concerns_part : Part → NodeCommand → Bool
+concerns_part part (NodeCommand.Report name report) = part.spaces report.namespace
+concerns_part part _ = true
 
 -- asked in a chosen namespace, told of a chosen pool, or made by a worker for a chosen namespace
 abbrev pub belongs : Part → Step → Bool
 belongs part (Step.Ask ns secret command) = part.spaces ns
 belongs part (Step.Admin secret command) = false
-belongs part (Step.Node pool secret command) = part.pools pool && tells_of part command
+belongs part (Step.Node pool secret command) = part.pools pool && concerns_part part command
 belongs part (Step.Dequeue worker ns n) = part.spaces ns
 belongs part (Step.Snap worker ns) = part.spaces ns
 belongs part (Step.Submit worker ns) = part.spaces ns
@@ -59,7 +59,7 @@ LeavesTables part _ s s' = Unit {0}
 pub record IsFit (part : Part) (s : State) : Type 0 where
   pub apart : IsApart part s.world
   pub at_home : IsAtHome part s.world
-  pub within : is_over s.world ≡ false
+  pub within : is_past_bound s.world ≡ false
 
 -- ---- one step
 

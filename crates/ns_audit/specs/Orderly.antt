@@ -12,7 +12,7 @@ use Rattle.ns_types.specs.declared.worker.Worker.{Worker}
 use Rattle.ns_types.specs.State.Names.{Name, has_key}
 use Rattle.ns_types.specs.State.Rows.{State, World, Tenant, is_open, is_live}
 use Rattle.ns_types.specs.Access.Sharing.{permits}
-use Rattle.ns_types.specs.Steps.{is_over}
+use Rattle.ns_types.specs.Steps.{is_past_bound}
 
 -- a pool that the namespace may use, and its own quota if there is one
 pub record IsAllowedTo (namespace : Namespace) (pool : Name) (quota : Option Name) : Type 0 where
@@ -65,4 +65,4 @@ pub record IsOrderly (w : World) : Type 0 where
 -- orderly, and no counter has passed its bound
 pub record IsSteady (s : State) : Type 0 where
   pub orderly : IsOrderly s.world
-  pub within : is_over s.world ≡ false
+  pub within : is_past_bound s.world ≡ false

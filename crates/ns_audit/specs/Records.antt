@@ -14,7 +14,7 @@ use Rattle.ns_types.specs.State.Name.{is_name}
 use Rattle.ns_types.specs.State.Names.{Name}
 use Rattle.ns_types.specs.Asking.Nodes.{most_nodes}
 use Rattle.ns_types.specs.State.Rows.{State, World, Tenant, PoolRows, QuotaRows}
-use Rattle.ns_types.specs.Steps.{Answer, said, after, is_over, opening}
+use Rattle.ns_types.specs.Steps.{Answer, said, after, is_past_bound, opening}
 use Rattle.ns_types.specs.Validity.{IsInOrder, IsSoundRecord, IsSoundJob, IsSoundQuota, IsSoundAcl, IsValid}
 use Rattle.ns_types.specs.Within.{IsGoodStep}
 
@@ -47,7 +47,7 @@ pub record HasRecords (s : State) : Type 0 where
   pub tenant : (ns : Name) (t : Tenant) → get s.world.tenants ns ≡ Some t → IsGoodTenant s.world ns t
   pub pool : (name : Name) (p : PoolRows) → get s.world.pools name ≡ Some p → IsGoodPool name p
   pub quota : (name : Name) (q : QuotaRows) → get s.world.quotas name ≡ Some q → IsSoundQuota name q
-  pub within : is_over s.world ≡ false
+  pub within : is_past_bound s.world ≡ false
 
 -- Each step whose members are within the limits leads a valid state to one that has this.
 abbrev pub RecordsStep : Type 0

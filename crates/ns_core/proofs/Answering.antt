@@ -13,7 +13,7 @@ use Rattle.ns_types.specs.State.Names.{Name}
 use Rattle.ns_types.specs.Access.Rights.{rights_of}
 use Rattle.ns_types.specs.State.Rows.{State, Tenant}
 use Rattle.ns_types.specs.Access.Sharing.{permits}
-use Rattle.ns_types.specs.Steps.{Answer, Makes, after, said, is_over, greatest}
+use Rattle.ns_types.specs.Steps.{Answer, Makes, after, said, is_past_bound, greatest}
 use Rattle.ns_steps.specs.Early.{IsEarly}
 use Rattle.ns_steps.specs.Registered.{IsRegistrable, has_no_room, is_outdated, next_index, next_number, registered_reply, registered_state}
 use Rattle.ns_steps.proofs.Early.{fresh}

@@ -18,7 +18,7 @@ use Rattle.ns_types.specs.State.Names.{Name, ByName, name_cmp}
 use Rattle.ns_types.specs.Settling.Outcome.{Changes, Outcome, lift}
 use Rattle.ns_types.specs.State.Rows.{State, World, Tenant, QuotaRows}
 use Rattle.ns_types.specs.Settling.Settle.{after_quota_release}
-use Rattle.ns_types.specs.Steps.{greatest, is_over}
+use Rattle.ns_types.specs.Steps.{greatest, is_past_bound}
 use Rattle.ns_types.proofs.Lists.{not_both}
 use Rattle.ns_types.proofs.Named.{names, one_name}
 use Rattle.ns_types.proofs.Tables.{none_of_any, tied}

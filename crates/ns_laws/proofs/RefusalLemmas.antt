@@ -20,11 +20,11 @@ use Rattle.ns_types.specs.Asking.Admins.{put_namespace, delete_namespace, put_qu
 use Rattle.ns_types.specs.Asking.Asks.{ask, asked_in}
 use Rattle.ns_types.specs.Working.Commit.{apply, apply_for}
 use Rattle.ns_types.specs.State.Names.{Name, Key}
-use Rattle.ns_types.specs.Asking.Nodes.{tell, told_in, same_client}
+use Rattle.ns_types.specs.Asking.Nodes.{ask_pool, asked_in_pool, same_client}
 use Rattle.ns_types.specs.Settling.Outcome.{Outcome, NotEnabled, Refused, Done, unless, found, lift}
 use Rattle.ns_types.specs.Working.Queue.{is_served}
 use Rattle.ns_types.specs.State.Rows.{State, World, Tenant, PoolRows, allocation_at}
-use Rattle.ns_types.specs.Steps.{Answer, after, act, said, concluded, is_allowed, is_over, settled, reply_of}
+use Rattle.ns_types.specs.Steps.{Answer, after, act, said, concluded, is_allowed, is_past_bound, settled, reply_of}
 use Rattle.ns_types.specs.State.Sums.{names_quota}
 use Rattle.ns_types.specs.Working.Work.{at_work, workers_end, is_idle, dequeue, dequeue_in, may_snap, snap, snap_for, may_submit, submit, submit_for, may_finish, needs_follower, finish, finish_for, is_submitted, most_nacks, nack, nack_for}
 use Rattle.ns_types.proofs.Lists.{not_both}
@@ -91,7 +91,7 @@ asked ns AskCommand.ReadNamespace w t = refl
 asked ns (AskCommand.QuotaUsage quota) w t = by_if later (names_quota quota t.namespace) _ _ refl refl
 asked ns (AskCommand.Events index) w t = refl
 
-told : (pool : Name) (command : NodeCommand) (w : World) (p : PoolRows) → only later (told_in pool command w p) ≡ true
+told : (pool : Name) (command : NodeCommand) (w : World) (p : PoolRows) → only later (asked_in_pool pool command w p) ≡ true
 told pool NodeCommand.ReadPool w p = refl
 told pool NodeCommand.ListNodes w p = refl
 told pool (NodeCommand.PutNode name offer) w p = by_unless later _ _ _ refl (by_unless later _ _ _ refl refl)
@@ -184,10 +184,10 @@ more (Refused refusal) e = not_both e refl
 more (Done content s) e = refl
 
 acts : (step : Step) (s : State) → only later (act step s) ≡ true
-unfolding act ask tell
+unfolding act ask ask_pool
 acts (Step.Ask ns secret command) s = by_lift later (with_world s.acl) (ask ns command s.world) (by_found (get s.world.tenants ns) (asked_in ns command s.world) (λ t. asked ns command s.world t))
 acts (Step.Admin secret command) s = administered secret command s
-acts (Step.Node pool secret command) s = by_lift later (with_world s.acl) (tell pool command s.world) (by_found (get s.world.pools pool) (told_in pool command s.world) (λ p. told pool command s.world p))
+acts (Step.Node pool secret command) s = by_lift later (with_world s.acl) (ask_pool pool command s.world) (by_found (get s.world.pools pool) (asked_in_pool pool command s.world) (λ p. told pool command s.world p))
 acts (Step.Dequeue worker ns n) s = more _ (worker_acts (Step.Dequeue worker ns n) s refl)
 acts (Step.Snap worker ns) s = more _ (worker_acts (Step.Snap worker ns) s refl)
 acts (Step.Submit worker ns) s = more _ (worker_acts (Step.Submit worker ns) s refl)
@@ -208,7 +208,7 @@ concluded_so : (passes : Refusal → Bool) (step : Step) (s t : State) (o : Outc
     → concluded step s o ≡ said (Err refusal) t → passes refusal ≡ true
 concluded_so passes step s t NotEnabled refusal full e f = not_said (Err refusal) t f
 concluded_so passes step s t (Refused r) refusal full e f = ap passes (sym (same_refusal r refusal s t f)) ∙ e
-concluded_so passes step s t (Done content s') refusal full e f = by (is_over (settled s s').world) f
+concluded_so passes step s t (Done content s') refusal full e f = by (is_past_bound (settled s s').world) f
   where
     by : (b : Bool) → cond b (said (Err Refusal.Full) s) (said (Ok (reply_of step content (settled s s').world)) (settled s s')) ≡ said (Err refusal) t → passes refusal ≡ true
     by true f = ap passes (sym (same_refusal Refusal.Full refusal s t f)) ∙ full

@@ -19,7 +19,7 @@ use Rattle.ns_types.specs.Settling.Outcome.{Outcome, Refused, Done, unless, foun
 use Rattle.ns_types.specs.Access.Rights.{rights_of}
 use Rattle.ns_types.specs.State.Rows.{State, World, Tenant}
 use Rattle.ns_types.specs.Access.Sharing.{permits}
-use Rattle.ns_types.specs.Steps.{after, act, said, concluded, is_over, settled, reply_of}
+use Rattle.ns_types.specs.Steps.{after, act, said, concluded, is_past_bound, settled, reply_of}
 use Rattle.ns_types.proofs.Lists.{not_both}
 use Rattle.ns_types.proofs.Named.{first_of_both, second_of_both, same_number_refl}
 use Rattle.ns_laws.specs.Refusals as law
@@ -161,7 +161,7 @@ module _ (s : State) (secret : Option Name) (ns : Name) (r : Registration) where
   by_known known refusal t why is e = inl (subst (SpeaksAgainst s secret ns r) (same_refusal known refusal s t (sym is ∙ e)) why)
 
   by_done : (refusal : Refusal) (t : State) (content : Content) (w : World) → concluded step s (Done content (with_world s.acl w)) ≡ said (Err refusal) t → IsWhy refusal
-  by_done refusal t content w e = by (is_over (settled s (with_world s.acl w)).world) e
+  by_done refusal t content w e = by (is_past_bound (settled s (with_world s.acl w)).world) e
     where
       by : (b : Bool) → cond b (said (Err Refusal.Full) s) (said (Ok (reply_of step content (settled s (with_world s.acl w)).world)) (settled s (with_world s.acl w))) ≡ said (Err refusal) t → IsWhy refusal
       by true e = inr (sym (same_refusal Refusal.Full refusal s t e))

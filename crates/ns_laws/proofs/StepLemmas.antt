@@ -7,7 +7,7 @@ use Rattle.ns_types.specs.declared.reply.Reply.{Reply}
 use Rattle.ns_types.specs.declared.step.Step.{Step}
 use Rattle.ns_types.specs.Settling.Outcome.{Outcome, NotEnabled, Refused, Done}
 use Rattle.ns_types.specs.State.Rows.{State}
-use Rattle.ns_types.specs.Steps.{Answer, Run, after, act, said, concluded, is_allowed, is_over, reply_of, settled}
+use Rattle.ns_types.specs.Steps.{Answer, Run, after, act, said, concluded, is_allowed, is_past_bound, reply_of, settled}
 use Rattle.ns_laws.specs.Steps.{OneOutcome, RefusalLeavesAll, AnswerEachStep, RunSplits, RunsJoin}
 
 -- ---- what is said is said once
@@ -43,7 +43,7 @@ leaves_concluded : (step : Step) (s t : State) (o : Outcome State) (refusal : Re
 leaves_concluded step s t NotEnabled refusal e = not_said _ t e
 leaves_concluded step s t (Refused r) refusal e = sym (same_state _ _ s t e)
 leaves_concluded step s t (Done content s') refusal e =
-    leaves_done (is_over (settled s s').world) s (settled s s') t (reply_of step content (settled s s').world) refusal e
+    leaves_done (is_past_bound (settled s s').world) s (settled s s') t (reply_of step content (settled s s').world) refusal e
 
 pub refusal_leaves_all : RefusalLeavesAll
 unfolding after

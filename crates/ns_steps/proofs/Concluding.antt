@@ -15,14 +15,14 @@ use Rattle.ns_types.specs.declared.step.Step.TheVariants as Step
 use Rattle.ns_types.specs.Asking.Policies.{administer, create_token, delete_policy, delete_token, in_world, may_administer, put_policy, read_policy, with_acl, with_world}
 use Rattle.ns_types.specs.Asking.Admins.{is_full, put_quota, read_quota, with_quota}
 use Rattle.ns_types.specs.State.Names.{Name}
-use Rattle.ns_types.specs.Asking.Nodes.{read_pool, tell}
+use Rattle.ns_types.specs.Asking.Nodes.{read_pool, ask_pool}
 use Rattle.ns_types.specs.Settling.Outcome.{Changes, Outcome, NotEnabled, Refused, Done, found, lift, unless}
 use Rattle.ns_types.specs.Settling.Releases.{changes_limits}
 use Rattle.ns_types.specs.State.Resources.{limits_in}
 use Rattle.ns_types.specs.Access.Rights.{pool_rights_of}
 use Rattle.ns_types.specs.State.Rows.{Acl, State, World, PoolRows, QuotaRows}
 use Rattle.ns_types.specs.Settling.Settle.{after_quota_release, settle}
-use Rattle.ns_types.specs.Steps.{Makes, act, after, concluded, concluded_with, greatest, is_over, said}
+use Rattle.ns_types.specs.Steps.{Makes, act, after, concluded, concluded_with, greatest, is_past_bound, said}
 use Rattle.ns_types.specs.State.Tables.{any_row, map_rows}
 use Rattle.ns_types.proofs.Lists.{not_both}
 use Rattle.ns_types.proofs.Named.{names, one_name}
@@ -108,13 +108,13 @@ module _ (s : State) (secret : Option Name) (command : AdminCommand) where
         ∙ ap (concluded (Step.Admin secret command) s) is
 
     -- where the settled world passes no bound
-    pub admin_done : (content : Content) (s' : State) (w : World) → administer secret command s ≡ Done content s' → settle s.world s'.world ≡ w → is_over w ≡ false
+    pub admin_done : (content : Content) (s' : State) (w : World) → administer secret command s ≡ Done content s' → settle s.world s'.world ≡ w → is_past_bound w ≡ false
         → after (Step.Admin secret command) s ≡ said (Ok (record { index = None; content = content })) (record s' { world = w })
     admin_done content s' w is settles within = admin_concludes (Done content s') is
         ∙ ap (λ x. concluded_with (Step.Admin secret command) s content (record s' { world = x })) settles
         ∙ ap (λ b. cond b (said (Err Refusal.Full) s) (said (Ok (record { index = None; content = content })) (record s' { world = w }))) within
 
-    pub admin_over : (content : Content) (s' : State) (w : World) → administer secret command s ≡ Done content s' → settle s.world s'.world ≡ w → is_over w ≡ true
+    pub admin_over : (content : Content) (s' : State) (w : World) → administer secret command s ≡ Done content s' → settle s.world s'.world ≡ w → is_past_bound w ≡ true
         → after (Step.Admin secret command) s ≡ said (Err Refusal.Full) s
     admin_over content s' w is settles over = admin_concludes (Done content s') is
         ∙ ap (λ x. concluded_with (Step.Admin secret command) s content (record s' { world = x })) settles
@@ -193,8 +193,8 @@ module _ (s : State) (name : Name) (quota : Quota) where
         rows = map_rows-put names one_name _ s.world.quotas name (with_quota quota (get s.world.quotas name)) (quotas_rest s.world s.world (λ k q is. is))
             ∙ ap (insert s.world.quotas name) (released_as (get s.world.quotas name) refl)
 
-    over_is : is_over (relimited_state s name quota).world ≡ nat_lt greatest (relimited s.world name quota).release
-    unfolding is_over
+    over_is : is_past_bound (relimited_state s name quota).world ≡ nat_lt greatest (relimited s.world name quota).release
+    unfolding is_past_bound
     over_is = let parts = all_within s.world early.within in
         (λ i. (parts.0 i || parts.1 i) || any_row-put names one_name (λ _ q. nat_lt greatest q.release) s.world.quotas name (relimited s.world name quota) parts.2 i)
 
@@ -273,14 +273,14 @@ module _ (s : State) (secret : Option Name) (name : Name) where
     pool_found : (o : Option PoolRows) → get s.world.pools name ≡ o
         → after (Step.Node name secret NodeCommand.ReadPool) s
         ≡ concluded (Step.Node name secret NodeCommand.ReadPool) s (lift (with_world s.acl) (option_map_or (λ p. Done (read_pool name p) s.world) o (Refused Refusal.NotFound)))
-    unfolding after act tell
-    pool_found o is = ap (λ b. cond b (concluded (Step.Node name secret NodeCommand.ReadPool) s (in_world s (tell name NodeCommand.ReadPool))) (said (Err Refusal.Denied) s)) allowed
+    unfolding after act ask_pool
+    pool_found o is = ap (λ b. cond b (concluded (Step.Node name secret NodeCommand.ReadPool) s (in_world s (ask_pool name NodeCommand.ReadPool))) (said (Err Refusal.Denied) s)) allowed
         ∙ ap (λ o. concluded (Step.Node name secret NodeCommand.ReadPool) s (lift (with_world s.acl) (option_map_or (λ p. Done (read_pool name p) s.world) o (Refused Refusal.NotFound)))) is
 
     pub pool_not_found : get s.world.pools name ≡ None → after (Step.Node name secret NodeCommand.ReadPool) s ≡ said (Err Refusal.NotFound) s
     pool_not_found none = pool_found None none
 
-    pub pool_read : (p : PoolRows) → get s.world.pools name ≡ Some p → is_over s.world ≡ false
+    pub pool_read : (p : PoolRows) → get s.world.pools name ≡ Some p → is_past_bound s.world ≡ false
         → after (Step.Node name secret NodeCommand.ReadPool) s ≡ said (Ok (record { index = None; content = read_pool name p })) s
     pool_read p is within = pool_found (Some p) is
         ∙ ap (λ w. concluded_with (Step.Node name secret NodeCommand.ReadPool) s (read_pool name p) (record s { world = w })) (settle_same s.world)

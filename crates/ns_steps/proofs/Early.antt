@@ -12,7 +12,7 @@ use Rattle.ns_types.specs.declared.worker.Worker.{Worker}
 use Rattle.ns_types.specs.State.Names.{Name, Key, default_name, has_key, name_cmp, same_key, same_name, same_number}
 use Rattle.ns_types.specs.Working.Queue.{is_busy}
 use Rattle.ns_types.specs.State.Rows.{World, Tenant, QuotaRows, is_pending}
-use Rattle.ns_types.specs.Steps.{greatest, is_over, is_over_pool, is_over_tenant, opening, opening_pool, opening_tenant, opening_world}
+use Rattle.ns_types.specs.Steps.{greatest, is_past_bound, is_pool_past_bound, is_tenant_past_bound, opening, opening_pool, opening_tenant, opening_world}
 use Rattle.ns_types.specs.Validity.{IsReady, IsSound}
 use Rattle.ns_types.proofs.Lists.{not_both}
 use Rattle.ns_types.proofs.Named.{names, numbers, one_name, one_number}
@@ -46,10 +46,10 @@ fresh w ns t early is = record { row = none; entry = entry (has_key w.ready (ns,
 
 -- ---- the opening
 
-opening_within : is_over opening_world ≡ false
-unfolding is_over
-opening_within = λ i. (any_row-put names one_name (λ _ t. is_over_tenant t) empty default_name opening_tenant (any_row-empty names one_name (λ _ t. is_over_tenant t)) i
-    || (any_row-put names one_name (λ _ p. is_over_pool p) empty default_name opening_pool (any_row-empty names one_name (λ _ p. is_over_pool p))
+opening_within : is_past_bound opening_world ≡ false
+unfolding is_past_bound
+opening_within = λ i. (any_row-put names one_name (λ _ t. is_tenant_past_bound t) empty default_name opening_tenant (any_row-empty names one_name (λ _ t. is_tenant_past_bound t)) i
+    || (any_row-put names one_name (λ _ p. is_pool_past_bound p) empty default_name opening_pool (any_row-empty names one_name (λ _ p. is_pool_past_bound p))
     ∙ any_row-empty names one_name (λ _ (node : Node). nat_lt greatest node.places)) i)
     || any_row-empty names one_name (λ _ (q : QuotaRows). nat_lt greatest q.release) i
 

@@ -21,7 +21,7 @@ use Rattle.ns_types.specs.Working.Queue.{is_busy, is_of_job, queue}
 use Rattle.ns_types.specs.State.Rows.{World, Tenant, evaluation_at}
 use Rattle.ns_types.specs.Settling.Settle.{changes_allocation, changes_evaluation, changes_job, created_at, is_changed, is_touched, job_ids, job_topic, settle, stamp_tenant, stamped, stamped_allocation, stamped_evaluation, topics_of}
 use Rattle.ns_types.specs.Settling.Same.{same_document, same_evaluation, same_job}
-use Rattle.ns_types.specs.Steps.{greatest, is_over, is_over_pool, is_over_tenant}
+use Rattle.ns_types.specs.Steps.{greatest, is_past_bound, is_pool_past_bound, is_tenant_past_bound}
 use Rattle.ns_types.specs.State.Tables.{any_row, map_rows}
 use Rattle.ns_types.proofs.Lists.{any_alike, each_map, left_none, right_none}
 use Rattle.ns_types.proofs.Named.{names, one_name, numbers, one_number}
@@ -221,23 +221,23 @@ module _ (ns : Name) (r : Registration) (w : World) (t : Tenant) where
 
 -- ---- the bound of the counters
 
-pub all_within : (w : World) → is_over w ≡ false → (any_row (λ _ t. is_over_tenant t) w.tenants ≡ false) × (any_row (λ _ p. is_over_pool p) w.pools ≡ false) × (any_row (λ _ q. nat_lt greatest q.release) w.quotas ≡ false)
-unfolding is_over
+pub all_within : (w : World) → is_past_bound w ≡ false → (any_row (λ _ t. is_tenant_past_bound t) w.tenants ≡ false) × (any_row (λ _ p. is_pool_past_bound p) w.pools ≡ false) × (any_row (λ _ q. nat_lt greatest q.release) w.quotas ≡ false)
+unfolding is_past_bound
 all_within w within = by _ _ _ within
   where
     by : (a b c : Bool) → (a || b || c) ≡ false → (a ≡ false) × (b ≡ false) × (c ≡ false)
     by a b c e = (left_none a b (left_none (a || b) c e), right_none a b (left_none (a || b) c e), right_none (a || b) c e)
 
-over_tenant : (r : Registration) (t : Tenant) → is_over_tenant t ≡ false → is_over_tenant (registered_tenant r t) ≡ (nat_lt greatest (next_index t) || nat_lt greatest (next_number t))
+over_tenant : (r : Registration) (t : Tenant) → is_tenant_past_bound t ≡ false → is_tenant_past_bound (registered_tenant r t) ≡ (nat_lt greatest (next_index t) || nat_lt greatest (next_number t))
 unfolding registered_tenant
 over_tenant r t within = ap (λ b. (nat_lt greatest (next_index t) || nat_lt greatest (next_number t)) || b)
     (right_none (nat_lt greatest t.index || nat_lt greatest t.evaluation_number) (nat_lt greatest t.allocation_number) within)
     ∙ or_none _
 
-pub over_registered : (ns : Name) (r : Registration) (w : World) (t : Tenant) → get w.tenants ns ≡ Some t → is_over w ≡ false
-    → is_over (registered_world ns r w t) ≡ (nat_lt greatest (next_index t) || nat_lt greatest (next_number t))
-unfolding is_over registered_world
+pub over_registered : (ns : Name) (r : Registration) (w : World) (t : Tenant) → get w.tenants ns ≡ Some t → is_past_bound w ≡ false
+    → is_past_bound (registered_world ns r w t) ≡ (nat_lt greatest (next_index t) || nat_lt greatest (next_number t))
+unfolding is_past_bound registered_world
 over_registered ns r w t is within =
     let parts = all_within w within in
-    (λ i. (any_row-put names one_name (λ _ t. is_over_tenant t) w.tenants ns (registered_tenant r t) parts.0 i || parts.1 i) || parts.2 i)
-    ∙ or_none _ ∙ or_none _ ∙ over_tenant r t (none_of_any one_name (λ _ t. is_over_tenant t) w.tenants ns t parts.0 is)
+    (λ i. (any_row-put names one_name (λ _ t. is_tenant_past_bound t) w.tenants ns (registered_tenant r t) parts.0 i || parts.1 i) || parts.2 i)
+    ∙ or_none _ ∙ or_none _ ∙ over_tenant r t (none_of_any one_name (λ _ t. is_tenant_past_bound t) w.tenants ns t parts.0 is)

@@ -13,7 +13,7 @@ use Rattle.ns_types.specs.State.Names.{Name, Key, has_key, name_cmp}
 use Rattle.ns_types.specs.Settling.Releases.{changes_limits, counts_in, gives_room, released_classes, releases_quota, woken}
 use Rattle.ns_types.specs.State.Rows.{World, Tenant, PoolRows, QuotaRows, class_of, is_live, is_open, is_pending}
 use Rattle.ns_types.specs.Settling.Settle.{after_quota_release, after_release, is_touched, number_releases, settle, stamp, stamp_tenant, stamped, wake}
-use Rattle.ns_types.specs.Steps.{greatest, is_over, is_over_pool, is_over_tenant}
+use Rattle.ns_types.specs.Steps.{greatest, is_past_bound, is_pool_past_bound, is_tenant_past_bound}
 use Rattle.ns_types.specs.State.Tables.{any_row, map_rows}
 use Rattle.ns_types.specs.Validity.{IsReady}
 use Rattle.ns_types.proofs.Lists.{not_both}
@@ -127,23 +127,23 @@ module _ (w w' : World) (rests : Rests w w') where
   -- ---- and the world stays early
 
   module _ (early : IsEarly w) where
-    tenant_within : (ns : Name) (t' : Tenant) → get w'.tenants ns ≡ Some t' → is_over_tenant t' ≡ false
+    tenant_within : (ns : Name) (t' : Tenant) → get w'.tenants ns ≡ Some t' → is_tenant_past_bound t' ≡ false
     tenant_within ns t' is = by (get w.tenants ns) refl (rests.tenant ns t' is)
       where
-        by : (o : Option Tenant) → get w.tenants ns ≡ o → IsTenantOf o t' → is_over_tenant t' ≡ false
-        by None none new = ap is_over_tenant new
-        by (Some t) there same = ap is_over_tenant same ∙ none_of_any one_name (λ _ t. is_over_tenant t) w.tenants ns t (all_within w early.within).0 there
+        by : (o : Option Tenant) → get w.tenants ns ≡ o → IsTenantOf o t' → is_tenant_past_bound t' ≡ false
+        by None none new = ap is_tenant_past_bound new
+        by (Some t) there same = ap is_tenant_past_bound same ∙ none_of_any one_name (λ _ t. is_tenant_past_bound t) w.tenants ns t (all_within w early.within).0 there
 
-    pool_within : (name : Name) (p' : PoolRows) → get w'.pools name ≡ Some p' → is_over_pool p' ≡ false
+    pool_within : (name : Name) (p' : PoolRows) → get w'.pools name ≡ Some p' → is_pool_past_bound p' ≡ false
     pool_within name p' is = by (get w.pools name) refl (rests.pool name p' is)
       where
-        by : (o : Option PoolRows) → get w.pools name ≡ o → IsPoolOf o p' → is_over_pool p' ≡ false
-        by None none new = ap is_over_pool new ∙ any_row-empty names one_name (λ _ (node : Node). nat_lt greatest node.places)
-        by (Some p) there same = ap is_over_pool same ∙ none_of_any one_name (λ _ p. is_over_pool p) w.pools name p (all_within w early.within).1 there
+        by : (o : Option PoolRows) → get w.pools name ≡ o → IsPoolOf o p' → is_pool_past_bound p' ≡ false
+        by None none new = ap is_pool_past_bound new ∙ any_row-empty names one_name (λ _ (node : Node). nat_lt greatest node.places)
+        by (Some p) there same = ap is_pool_past_bound same ∙ none_of_any one_name (λ _ p. is_pool_past_bound p) w.pools name p (all_within w early.within).1 there
 
-    rests_within : any_row (λ _ q. nat_lt greatest q.release) w'.quotas ≡ false → is_over w' ≡ false
-    unfolding is_over
-    rests_within quotas = λ i. (any_row-none names one_name (λ _ t. is_over_tenant t) w'.tenants tenant_within i || any_row-none names one_name (λ _ p. is_over_pool p) w'.pools pool_within i) || quotas i
+    rests_within : any_row (λ _ q. nat_lt greatest q.release) w'.quotas ≡ false → is_past_bound w' ≡ false
+    unfolding is_past_bound
+    rests_within quotas = λ i. (any_row-none names one_name (λ _ t. is_tenant_past_bound t) w'.tenants tenant_within i || any_row-none names one_name (λ _ p. is_pool_past_bound p) w'.pools pool_within i) || quotas i
 
     below : (ns : Name) (t' : Tenant) (n : ℕ) (e : Evaluation) → get w'.tenants ns ≡ Some t' → get t'.evaluations n ≡ Some e → n ≤ t'.evaluation_number
     below ns t' n e is at = by (get w.tenants ns) refl (rests.tenant ns t' is)

@@ -24,7 +24,7 @@ use Rattle.ns_types.specs.Access.Rights.{rights_of}
 use Rattle.ns_types.specs.State.Rows.{State, Tenant, World}
 use Rattle.ns_types.specs.Settling.Settle.{settle}
 use Rattle.ns_types.specs.Access.Sharing.{permits}
-use Rattle.ns_types.specs.Steps.{Answer, act, after, concluded, concluded_with, greatest, is_over, reply_of, said}
+use Rattle.ns_types.specs.Steps.{Answer, act, after, concluded, concluded_with, greatest, is_past_bound, reply_of, said}
 use Rattle.ns_types.proofs.Lists.{not_both}
 use Rattle.ns_types.proofs.Named.{names, one_name}
 use Rattle.ns_steps.specs.Early.{IsFresh}
@@ -72,7 +72,7 @@ module _ (step : Step) (s : State) where
   says_concluded : (P : Content → Type 0) (o : Outcome World) (reply : Reply) (s' : State) → Says P o → concluded step s (lift (with_world s.acl) o) ≡ said (Ok reply) s' → P reply.content
   says_concluded P NotEnabled reply s' h e = absurd (no_path e)
   says_concluded P (Refused refusal) reply s' h e = not_both refl (ap (λ x. is_ok x.0) (sym (same_Some _ _ e)))
-  says_concluded P (Done content w) reply s' h e = by (is_over (settle s.world w)) e
+  says_concluded P (Done content w) reply s' h e = by (is_past_bound (settle s.world w)) e
     where
       by : (b : Bool) → cond b (said (Err Refusal.Full) s) (said (Ok (reply_of step content (settle s.world w))) (record s { world = settle s.world w })) ≡ said (Ok reply) s' → P reply.content
       by true e = not_both refl (ap (λ x. is_ok x.0) (sym (same_Some _ _ e)))
@@ -81,7 +81,7 @@ module _ (step : Step) (s : State) where
   leaves_concluded : (o : Outcome World) (answer : Answer) (s' : State) → Leaves s.world o → concluded step s (lift (with_world s.acl) o) ≡ said answer s' → s' ≡ s
   leaves_concluded NotEnabled answer s' h e = absurd (no_path e)
   leaves_concluded (Refused refusal) answer s' h e = sym (ap (λ x. x.1) (same_Some _ _ e))
-  leaves_concluded (Done content w) answer s' h e = by (is_over (settle s.world w)) e
+  leaves_concluded (Done content w) answer s' h e = by (is_past_bound (settle s.world w)) e
     where
       same : settle s.world w ≡ s.world
       same = ap (settle s.world) h ∙ settle_same s.world
@@ -150,7 +150,7 @@ module _ (s : State) (ns : Name) (secret : Option Name) where
         register_no_room current full = refused_ask (AskCommand.Register r) t Refusal.Full allowed tenant
             (passes _ _ _ (ap not permitted) ∙ passes _ _ _ (ap not pool) ∙ passes _ _ _ current ∙ refuses _ _ _ full)
 
-  module _ (r : Registration) (t : Tenant) (can : IsRegistrable s ns secret r t) (fresh : IsFresh s.world ns t) (within : is_over s.world ≡ false) where
+  module _ (r : Registration) (t : Tenant) (can : IsRegistrable s ns secret r t) (fresh : IsFresh s.world ns t) (within : is_past_bound s.world ≡ false) where
     register_settles : after (Step.Ask ns secret (AskCommand.Register r)) s
         ≡ concluded_with (Step.Ask ns secret (AskCommand.Register r)) s (Content.Registered (next_number t) (next_index t) (job_of r t).modify_index) (registered_state ns r s t)
     register_settles = done_ask (AskCommand.Register r) t _ _ (registered_world ns r s.world t) can.allowed can.tenant
@@ -201,7 +201,7 @@ module _ (s : State) (ns : Name) (secret : Option Name) where
     read_no_job none = refused_ask (AskCommand.ReadJob id) t Refusal.NotFound allowed tenant
         (ap (λ o. option_map_or (λ job. Done (Content.Job (job_shown ns t id job)) s.world) o (Refused Refusal.NotFound)) none)
 
-    pub read_done : (job : Job) → get t.jobs id ≡ Some job → is_over s.world ≡ false
+    pub read_done : (job : Job) → get t.jobs id ≡ Some job → is_past_bound s.world ≡ false
         → after (Step.Ask ns secret (AskCommand.ReadJob id)) s ≡ said (Ok (record { index = Some t.index; content = Content.Job (job_shown ns t id job) })) s
     read_done job is within = done_ask (AskCommand.ReadJob id) t _ s.world s.world allowed tenant
         (ap (λ o. option_map_or (λ job. Done (Content.Job (job_shown ns t id job)) s.world) o (Refused Refusal.NotFound)) is) (settle_same s.world)
@@ -210,7 +210,7 @@ module _ (s : State) (ns : Name) (secret : Option Name) where
 
   -- ---- every read
 
-  pub ask_reads : (command : AskCommand) (t : Tenant) (content : Content) → right_of command (rights_of s.acl secret ns) ≡ true → get s.world.tenants ns ≡ Some t → is_over s.world ≡ false
+  pub ask_reads : (command : AskCommand) (t : Tenant) (content : Content) → right_of command (rights_of s.acl secret ns) ≡ true → get s.world.tenants ns ≡ Some t → is_past_bound s.world ≡ false
       → asked_in ns command s.world t ≡ Done content s.world
       → after (Step.Ask ns secret command) s ≡ said (Ok (record { index = Some t.index; content = content })) s
   ask_reads command t content allowed tenant within is = done_ask command t content s.world s.world allowed tenant is (settle_same s.world)

@@ -18,11 +18,11 @@ use Rattle.ns_types.specs.Asking.Policies.{administer, create_token, delete_poli
 use Rattle.ns_types.specs.Asking.Admins.{delete_namespace, delete_pool, delete_quota, put_namespace, put_pool_record, put_quota, read_quota}
 use Rattle.ns_types.specs.Asking.Asks.{ask, asked_in, document_of, registered_job, registered_with}
 use Rattle.ns_types.specs.State.Names.{Name}
-use Rattle.ns_types.specs.Asking.Nodes.{tell}
+use Rattle.ns_types.specs.Asking.Nodes.{ask_pool}
 use Rattle.ns_types.specs.Settling.Outcome.{Outcome, NotEnabled, Refused, Done, found, lift, unless}
 use Rattle.ns_types.specs.State.Rows.{State, Tenant, World}
 use Rattle.ns_types.specs.Settling.Settle.{settle}
-use Rattle.ns_types.specs.Steps.{Answer, act, after, concluded, is_allowed, is_over, reply_of, said}
+use Rattle.ns_types.specs.Steps.{Answer, act, after, concluded, is_allowed, is_past_bound, reply_of, said}
 use Rattle.ns_types.specs.State.Sums.{names_quota, quota_use}
 use Rattle.ns_types.proofs.Lists.{not_both}
 use Rattle.ns_steps.specs.Served.{IsReading, IsReadingAsk, IsReadingRecords, IsServed, IsServedAsk, IsToldAsk, IsToldBy}
@@ -56,7 +56,7 @@ module _ {S : Type 0} (P : Content → Type 0) where
 tells_concluded : (P : Content → Type 0) (step : Step) (s : State) (o : Outcome State) (reply : Reply) (s' : State) → Tells P o → concluded step s o ≡ said (Ok reply) s' → P reply.content
 tells_concluded P step s NotEnabled reply s' h e = absurd h
 tells_concluded P step s (Refused refusal) reply s' h e = not_both refl (ap (λ x. is_ok x.0) (sym (same_Some _ _ e)))
-tells_concluded P step s (Done content x) reply s' h e = by (is_over (settle s.world x.world)) e
+tells_concluded P step s (Done content x) reply s' h e = by (is_past_bound (settle s.world x.world)) e
   where
     by : (b : Bool) → cond b (said (Err Refusal.Full) s) (said (Ok (reply_of step content (settle s.world x.world))) (record x { world = settle s.world x.world })) ≡ said (Ok reply) s' → P reply.content
     by true e = not_both refl (ap (λ x. is_ok x.0) (sym (same_Some _ _ e)))
@@ -87,35 +87,35 @@ told_of secret (AdminCommand.DeleteToken accessor) s = tells_lift _ (with_acl s.
 
 -- ---- what is asked in a namespace
 
-told_in : (ns : Name) (command : AskCommand) (w : World) (t : Tenant) → IsServedAsk command → Tells (IsToldAsk command) (asked_in ns command w t)
-told_in ns (AskCommand.Register r) w t served = tells_unless _ _ _ _ (tells_unless _ _ _ _ (tells_unless _ _ _ _ (tells_unless _ _ _ (registered_with ns r w t (registered_job (t.index + 1) (document_of t r) (get t.jobs r.id))) tt)))
-told_in ns (AskCommand.ReadJob id) w t served = tells_found _ (get t.jobs id) _ (λ job. tt)
-told_in ns (AskCommand.ListJobs prefix) w t served = tt
-told_in ns AskCommand.ReadNamespace w t served = tt
-told_in ns (AskCommand.QuotaUsage quota) w t served = by (names_quota quota t.namespace)
+asked_in_pool : (ns : Name) (command : AskCommand) (w : World) (t : Tenant) → IsServedAsk command → Tells (IsToldAsk command) (asked_in ns command w t)
+asked_in_pool ns (AskCommand.Register r) w t served = tells_unless _ _ _ _ (tells_unless _ _ _ _ (tells_unless _ _ _ _ (tells_unless _ _ _ (registered_with ns r w t (registered_job (t.index + 1) (document_of t r) (get t.jobs r.id))) tt)))
+asked_in_pool ns (AskCommand.ReadJob id) w t served = tells_found _ (get t.jobs id) _ (λ job. tt)
+asked_in_pool ns (AskCommand.ListJobs prefix) w t served = tt
+asked_in_pool ns AskCommand.ReadNamespace w t served = tt
+asked_in_pool ns (AskCommand.QuotaUsage quota) w t served = by (names_quota quota t.namespace)
   where
     by : (b : Bool) → Tells IsUsage (cond b (Done (Content.Usage quota (quota_use w quota)) w) (Refused Refusal.NotFound))
     by true = tt
     by false = tt
-told_in ns _ w t served = absurd served
+asked_in_pool ns _ w t served = absurd served
 
 told_ask : (ns : Name) (command : AskCommand) (w : World) → IsServedAsk command → Tells (IsToldAsk command) (ask ns command w)
 unfolding ask
-told_ask ns command w served = tells_found _ (get w.tenants ns) (asked_in ns command w) (λ t. told_in ns command w t served)
+told_ask ns command w served = tells_found _ (get w.tenants ns) (asked_in ns command w) (λ t. asked_in_pool ns command w t served)
 
 -- ---- every step that is served
 
 told_by : (step : Step) (s : State) → IsServed step → Tells (IsToldBy step) (act step s)
-unfolding act tell
+unfolding act ask_pool
 told_by (Step.Ask ns secret command) s served = tells_lift _ (with_world s.acl) (ask ns command s.world) (told_ask ns command s.world served)
 told_by (Step.Admin secret command) s served = told_of secret command s
-told_by (Step.Node pool secret NodeCommand.ReadPool) s served = tells_lift _ (with_world s.acl) (tell pool NodeCommand.ReadPool s.world) (tells_found _ (get s.world.pools pool) _ (λ p. tt))
+told_by (Step.Node pool secret NodeCommand.ReadPool) s served = tells_lift _ (with_world s.acl) (ask_pool pool NodeCommand.ReadPool s.world) (tells_found _ (get s.world.pools pool) _ (λ p. tt))
 told_by _ s served = absurd served
 
 decided_concluded : (P : Content → Type 0) (step : Step) (s : State) (o : Outcome State) → Tells P o → concluded step s o ≡ None → ⊥
 decided_concluded P step s NotEnabled h e = h
 decided_concluded P step s (Refused refusal) h e = not_both refl (ap is_some e)
-decided_concluded P step s (Done content x) h e = by (is_over (settle s.world x.world)) e
+decided_concluded P step s (Done content x) h e = by (is_past_bound (settle s.world x.world)) e
   where
     by : (b : Bool) → cond b (said (Err Refusal.Full) s) (said (Ok (reply_of step content (settle s.world x.world))) (record x { world = settle s.world x.world })) ≡ None → ⊥
     by true e = not_both refl (ap is_some e)
@@ -180,16 +180,16 @@ rests_records secret (AdminCommand.ReadPolicy name) s reads = rests_lift (with_a
 rests_records secret _ s reads = absurd reads
 
 rests_by : (step : Step) (s : State) → IsReading step → Rests s (act step s)
-unfolding act tell
+unfolding act ask_pool
 rests_by (Step.Ask ns secret command) s reads = rests_lift (with_world s.acl) s.world (ask ns command s.world) (rests_ask ns command s.world reads)
 rests_by (Step.Admin secret command) s reads = rests_records secret command s reads
-rests_by (Step.Node pool secret NodeCommand.ReadPool) s reads = rests_lift (with_world s.acl) s.world (tell pool NodeCommand.ReadPool s.world) (rests_found s.world (get s.world.pools pool) _ (λ p. refl))
+rests_by (Step.Node pool secret NodeCommand.ReadPool) s reads = rests_lift (with_world s.acl) s.world (ask_pool pool NodeCommand.ReadPool s.world) (rests_found s.world (get s.world.pools pool) _ (λ p. refl))
 rests_by _ s reads = absurd reads
 
 rests_concluded : (step : Step) (s : State) (o : Outcome State) (answer : Answer) (s' : State) → Rests s o → concluded step s o ≡ said answer s' → s' ≡ s
 rests_concluded step s NotEnabled answer s' h e = not_both refl (sym (ap is_some e))
 rests_concluded step s (Refused refusal) answer s' h e = sym (ap (λ x. x.1) (same_Some _ _ e))
-rests_concluded step s (Done content x) answer s' h e = by (is_over (settle s.world x.world)) e
+rests_concluded step s (Done content x) answer s' h e = by (is_past_bound (settle s.world x.world)) e
   where
     same : record x { world = settle s.world x.world } ≡ s
     same = (λ i. record (h i) { world = settle s.world (h i).world }) ∙ (λ i. record s { world = settle_same s.world i })

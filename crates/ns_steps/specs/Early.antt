@@ -5,7 +5,7 @@ use Rattle.ns_types.specs.declared.evaluation.Evaluation.{Evaluation}
 use Rattle.ns_types.specs.declared.worker.Worker.{Worker}
 use Rattle.ns_types.specs.State.Names.{Name, Key, has_key}
 use Rattle.ns_types.specs.State.Rows.{World, Tenant}
-use Rattle.ns_types.specs.Steps.{is_over}
+use Rattle.ns_types.specs.Steps.{is_past_bound}
 use Rattle.ns_types.specs.Validity.{IsReady}
 use Rattle.ns_steps.specs.Registered.{next_number}
 
@@ -16,7 +16,7 @@ pub record IsFresh (w : World) (ns : Name) (t : Tenant) : Type 0 where
   pub worker : (k : ℕ) (worker : Worker) → get t.workers k ≡ Some worker → worker.evaluation ≢ next_number t
 
 pub record IsEarly (w : World) : Type 0 where
-  pub within : is_over w ≡ false
+  pub within : is_past_bound w ≡ false
   -- numbers of evaluations are at or under the counter
   pub below : (ns : Name) (t : Tenant) (n : ℕ) (e : Evaluation) → get w.tenants ns ≡ Some t → get t.evaluations n ≡ Some e → n ≤ t.evaluation_number
   -- an entry of `ready` names a pending evaluation, and a worker has one that is there

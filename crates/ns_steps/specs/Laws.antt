@@ -20,7 +20,7 @@ use Rattle.ns_types.specs.State.Names.{Name}
 use Rattle.ns_types.specs.Settling.Outcome.{Changes, Done}
 use Rattle.ns_types.specs.Settling.Releases.{released_classes, releases_quota, woken}
 use Rattle.ns_types.specs.State.Rows.{World, State, Tenant, PoolRows, QuotaRows}
-use Rattle.ns_types.specs.Steps.{Answer, Makes, after, greatest, is_over, said}
+use Rattle.ns_types.specs.Steps.{Answer, Makes, after, greatest, is_past_bound, said}
 use Rattle.ns_steps.specs.Administered.{IsCalm, plain, relimited, relimited_state}
 use Rattle.ns_steps.specs.Early.{IsEarly, IsFresh}
 use Rattle.ns_steps.specs.Served.{IsReading, IsServed, IsToldBy}
@@ -45,7 +45,7 @@ RegistrationRefused = (s : State) (ns : Name) (secret : Option Name) (r : Regist
 -- it is made, unless a counter would pass its bound
 abbrev pub RegistrationIs : Type 0
 RegistrationIs = (s : State) (ns : Name) (secret : Option Name) (r : Registration) (t : Tenant)
-    → IsRegistrable s ns secret r t → IsFresh s.world ns t → is_over s.world ≡ false
+    → IsRegistrable s ns secret r t → IsFresh s.world ns t → is_past_bound s.world ≡ false
     → after (Step.Ask ns secret (AskCommand.Register r)) s
     ≡ (if nat_lt greatest (next_index t) || nat_lt greatest (next_number t) then said (Err Refusal.Full) s
     else said (Ok (registered_reply r t)) (registered_state ns r s t))

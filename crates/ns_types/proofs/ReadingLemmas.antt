@@ -7,7 +7,7 @@ use Rattle.httparse.specs.Grammar.{RequestHead, IsRequestHead, print_request, Re
 use Rattle.httparse.specs.Spans.{RequestOverflows, name_and_value}
 use Rattle.httparse.proofs.GrammarLemmas.{request_unique}
 use Rattle.ns_types.specs.declared.reply.HeadFault.{HeadFault}
-use Rattle.ns_types.specs.Wire.Http.{IsHead, Message, print_message, IsMessage, closes, body_len, RefusesHead, malformed, framing, too_long, too_many, IsPartial, in_head, in_body, Received, Whole, Refused, Takes, End, Clean, Partial, Closed, is_closed, IsRest, IsFaultyAndOver, faulty_long, faulty_many, Agree}
+use Rattle.ns_types.specs.Wire.Http.{IsHead, Message, print_message, IsMessage, closes, body_len, RefusesHead, malformed, framing, too_long, too_many, IsPartial, in_head, in_body, Received, Whole, Refused, Takes, End, Clean, Partial, Closed, is_closed, IsRest, IsFaultyAndOver, faulty_long, faulty_many, ReadAlike}
 
 -- a head takes some bytes
 length-print_request : (h : RequestHead) → IsRequestHead h → 0 < length (print_request h)
@@ -122,11 +122,11 @@ closed_end Clean f p q = absurd (false≢true p)
 closed_end Partial f p q = absurd (false≢true p)
 
 -- what follows a whole request is read in one way
-after_whole : (b : Bool) (after : List ℕ) (xs ys : List Received) (e f : End) (r q : List ℕ) → MatchBool b ((xs ≡ []) × (is_closed e ≡ true) × (after ≡ r)) (Takes after xs (is_closed e) r) → MatchBool b ((ys ≡ []) × (is_closed f ≡ true) × (after ≡ q)) (Takes after ys (is_closed f) q) → (Takes after xs (is_closed e) r → Takes after ys (is_closed f) q → Agree after xs e ys f) → MatchBool b ((xs ≡ []) × (ys ≡ []) × (e ≡ f)) (Agree after xs e ys f)
+after_whole : (b : Bool) (after : List ℕ) (xs ys : List Received) (e f : End) (r q : List ℕ) → MatchBool b ((xs ≡ []) × (is_closed e ≡ true) × (after ≡ r)) (Takes after xs (is_closed e) r) → MatchBool b ((ys ≡ []) × (is_closed f ≡ true) × (after ≡ q)) (Takes after ys (is_closed f) q) → (Takes after xs (is_closed e) r → Takes after ys (is_closed f) q → ReadAlike after xs e ys f) → MatchBool b ((xs ≡ []) × (ys ≡ []) × (e ≡ f)) (ReadAlike after xs e ys f)
 after_whole true after xs ys e f r q x y agree = (x.0, y.0, closed_end e f x.1 y.1)
 after_whole false after xs ys e f r q x y agree = agree x y
 
-pub one_reading : (xs ys : List Received) (bytes : List ℕ) (e f : End) (r q : List ℕ) → Takes bytes xs (is_closed e) r → IsRest e r → Takes bytes ys (is_closed f) q → IsRest f q → Agree bytes xs e ys f
+pub one_reading : (xs ys : List Received) (bytes : List ℕ) (e f : End) (r q : List ℕ) → Takes bytes xs (is_closed e) r → IsRest e r → Takes bytes ys (is_closed f) q → IsRest f q → ReadAlike bytes xs e ys f
 one_reading [] [] bytes e f r q t i u j = same_end bytes e f t.0 u.0 (subst (IsRest e) (sym t.1) i) (subst (IsRest f) (sym u.1) j)
 one_reading [] (Refused b ∷ ys) bytes e f r q t i u j = (refused_rest bytes b e u.0 t.0 (subst (IsRest e) (sym t.1) i), t.0)
 one_reading [] (Whole n ∷ ys) bytes e f r q t i u j = not_rest bytes n u.1 e u.0 u.2 t.0 (subst (IsRest e) (sym t.1) i)

@@ -76,15 +76,15 @@ pub record Agree (ns : Name) (s t : State) : Type 0 where
 -- ---- own steps
 
 -- a report of another namespace's allocation is that namespace's affair
-abbrev pub is_told_of : Name → NodeCommand → Bool
-is_told_of ns (NodeCommand.Report name report) = same_name ns report.namespace
-is_told_of ns _ = true
+abbrev pub concerns : Name → NodeCommand → Bool
+concerns ns (NodeCommand.Report name report) = same_name ns report.namespace
+concerns ns _ = true
 
 -- asked in the namespace with a right there in the first state, told of a pool of it, or made by a worker for it
 unfoldable pub is_own : Name → State → Step → Bool
 is_own ns s0 (Step.Ask asked secret command) = same_name ns asked && has_any (rights_of s0.acl secret ns)
 is_own ns s0 (Step.Admin secret command) = false
-is_own ns s0 (Step.Node pool secret command) = has_pool s0.world ns pool && is_told_of ns command
+is_own ns s0 (Step.Node pool secret command) = has_pool s0.world ns pool && concerns ns command
 is_own ns s0 (Step.Dequeue worker label n) = same_name ns label
 is_own ns s0 (Step.Snap worker label) = same_name ns label
 is_own ns s0 (Step.Submit worker label) = same_name ns label

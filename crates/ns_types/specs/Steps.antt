@@ -14,7 +14,7 @@ use Rattle.ns_types.specs.Asking.Admins.{new_tenant, with_pool}
 use Rattle.ns_types.specs.Asking.Asks.{ask, right_of}
 use Rattle.ns_types.specs.Working.Commit.{apply}
 use Rattle.ns_types.specs.State.Names.{Name, default_name}
-use Rattle.ns_types.specs.Asking.Nodes.{tell, pool_right_of}
+use Rattle.ns_types.specs.Asking.Nodes.{ask_pool, pool_right_of}
 use Rattle.ns_types.specs.Settling.Outcome.{Outcome, NotEnabled, Refused, Done}
 use Rattle.ns_types.specs.Access.Rights.{rights_of, pool_rights_of}
 use Rattle.ns_types.specs.State.Rows.{State, World, Acl, Tenant, PoolRows}
@@ -36,7 +36,7 @@ is_allowed _ acl = true
 unfoldable pub act : Step → State → Outcome State
 act (Step.Ask ns secret command) s = in_world s (ask ns command)
 act (Step.Admin secret command) s = administer secret command s
-act (Step.Node pool secret command) s = in_world s (tell pool command)
+act (Step.Node pool secret command) s = in_world s (ask_pool pool command)
 act (Step.Dequeue worker ns n) s = in_world s (dequeue worker (ns, n))
 act (Step.Snap worker ns) s = in_world s (snap worker ns)
 act (Step.Submit worker ns) s = in_world s (submit worker ns)
@@ -49,15 +49,15 @@ act (Step.Nack worker ns) s = in_world s (nack worker ns)
 abbrev pub greatest : ℕ
 greatest = 2 ^ 64 - 1
 
-abbrev pub is_over_tenant : Tenant → Bool
-is_over_tenant t = nat_lt greatest t.index || nat_lt greatest t.evaluation_number || nat_lt greatest t.allocation_number
+abbrev pub is_tenant_past_bound : Tenant → Bool
+is_tenant_past_bound t = nat_lt greatest t.index || nat_lt greatest t.evaluation_number || nat_lt greatest t.allocation_number
 
-abbrev pub is_over_pool : PoolRows → Bool
-is_over_pool p = nat_lt greatest p.release || any_row (λ _ node. nat_lt greatest node.places) p.nodes
+abbrev pub is_pool_past_bound : PoolRows → Bool
+is_pool_past_bound p = nat_lt greatest p.release || any_row (λ _ node. nat_lt greatest node.places) p.nodes
 
 -- some counter has passed its bound
-unfoldable pub is_over : World → Bool
-is_over w = any_row (λ _ t. is_over_tenant t) w.tenants || any_row (λ _ p. is_over_pool p) w.pools || any_row (λ _ q. nat_lt greatest q.release) w.quotas
+unfoldable pub is_past_bound : World → Bool
+is_past_bound w = any_row (λ _ t. is_tenant_past_bound t) w.tenants || any_row (λ _ p. is_pool_past_bound p) w.pools || any_row (λ _ q. nat_lt greatest q.release) w.quotas
 
 -- ---- steps
 
@@ -80,7 +80,7 @@ settled s s' = record s' { world = settle s.world s'.world }
 
 -- a step that would pass a counter's bound is refused
 abbrev pub concluded_with : Step → State → Content → State → Option (Answer × State)
-concluded_with step s content s' = if is_over s'.world then said (Err Refusal.Full) s else said (Ok (reply_of step content s'.world)) s'
+concluded_with step s content s' = if is_past_bound s'.world then said (Err Refusal.Full) s else said (Ok (reply_of step content s'.world)) s'
 
 -- the answer and the state afterwards; a refusal leaves the state as it is
 abbrev pub concluded : Step → State → Outcome State → Option (Answer × State)

@@ -1,11 +1,11 @@
 //! Laws of the definitions, each the contract of a function that does nothing.
 ghost use Rattle.std.specs.Prelude.{ℕ, List, ◌++◌};
-ghost use Rattle.ns_types.specs.Wire.Http.{Received, End, Closed, Requests, Agree};
+ghost use Rattle.ns_types.specs.Wire.Http.{Received, End, Closed, Requests, ReadAlike};
 
 /// A byte string has one reading, but for the two freedoms.
 pub fn one_reading()
     ensures { (bytes : List ℕ) (xs ys : List Received) (e f : End)
-        → Requests bytes xs e → Requests bytes ys f → Agree bytes xs e ys f }
+        → Requests bytes xs e → Requests bytes ys f → ReadAlike bytes xs e ys f }
 {}
 
 /// Once a request has closed the connection, what follows changes nothing.

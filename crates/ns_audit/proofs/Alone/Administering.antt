@@ -17,7 +17,7 @@ use Rattle.ns_types.specs.State.Names.{Name, ByName}
 use Rattle.ns_types.specs.Settling.Outcome.{Outcome, NotEnabled, Refused, Done, unless, lift}
 use Rattle.ns_types.specs.State.Rows.{State, World, Acl, Tenant, PoolRows}
 use Rattle.ns_types.specs.Settling.Settle.{settle}
-use Rattle.ns_types.specs.Steps.{Answer, said, act, after, is_allowed, concluded, reply_of, is_over}
+use Rattle.ns_types.specs.Steps.{Answer, said, act, after, is_allowed, concluded, reply_of, is_past_bound}
 use Rattle.ns_types.proofs.Named.{names, one_name, same_name_refl}
 use Rattle.ns_types.proofs.Tables.{retain-insert, insert_same}
 use Rattle.ns_audit.specs.Apart.{IsApart}
@@ -157,7 +157,7 @@ module _ (part : Part) (s s' : State) (secret : Option Name) (command : AdminCom
   concluded_keeps : (o : Outcome State) → AltersState part s o → concluded (Step.Admin secret command) s o ≡ said answer s' → alone_in part s'.world ≡ alone_in part s.world
   concluded_keeps NotEnabled alters e = absurd (no_path e)
   concluded_keeps (Refused refusal) alters e = same_state s (ap (λ x. x.1) (same_Some _ _ e)) refl
-  concluded_keeps (Done content x) alters e = by (is_over (settle s.world x.world)) e
+  concluded_keeps (Done content x) alters e = by (is_past_bound (settle s.world x.world)) e
     where
       y : State
       y = record x { world = settle s.world x.world }

@@ -12,7 +12,7 @@ use Rattle.ns_types.specs.declared.step.Step.{Step}
 use Rattle.ns_types.specs.declared.step.Step.TheVariants as Step
 use Rattle.ns_types.specs.Asking.Policies.{with_world}
 use Rattle.ns_types.specs.Asking.Asks.{right_of}
-use Rattle.ns_types.specs.Isolation.{namespace_at, has_pool, part_of, alone, quota_record, pool_record, SameTables, Agree, is_told_of, is_own, Keeps}
+use Rattle.ns_types.specs.Isolation.{namespace_at, has_pool, part_of, alone, quota_record, pool_record, SameTables, Agree, concerns, is_own, Keeps}
 use Rattle.ns_types.specs.State.Names.{Name, same_name}
 use Rattle.ns_types.specs.Settling.Outcome.{Outcome, NotEnabled, Refused, Done, lift}
 use Rattle.ns_types.specs.Access.Rights.{rights_of, has_any}
@@ -21,11 +21,11 @@ use Rattle.ns_types.specs.Settling.Settle.{settle}
 use Rattle.std.specs.Option.{option_map_or}
 use Rattle.ns_types.specs.Access.Sharing.{permits}
 use Rattle.ns_types.specs.State.Sums.{names_quota}
-use Rattle.ns_types.specs.Steps.{Answer, said, act, after, is_allowed, concluded, reply_of, is_over}
+use Rattle.ns_types.specs.Steps.{Answer, said, act, after, is_allowed, concluded, reply_of, is_past_bound}
 use Rattle.ns_types.proofs.Lists.{left_none, right_none}
 use Rattle.ns_types.proofs.Named.{same_name_is, same_name_refl, first_of_both}
 use Rattle.ns_audit.specs.Headline.{OwnStep, OtherStep}
-use Rattle.ns_audit.specs.Laws.{tells_of, belongs, AgreeOn, KeepsTables, LeavesTables, IsFit}
+use Rattle.ns_audit.specs.Laws.{concerns_part, belongs, AgreeOn, KeepsTables, LeavesTables, IsFit}
 use Rattle.ns_audit.proofs.Alone.Chosen.{no_path, same_Some, tenant_alone, pool_alone, quota_alone}
 use Rattle.ns_audit.proofs.Alone.Naming.{Named, change_named}
 use Rattle.ns_audit.proofs.Alone.Owning.{fit_of}
@@ -42,7 +42,7 @@ module _ (s s' : State) (step : Step) (answer : Answer) (plain : is_admin step �
   concluded_keeps : (ns : Name) (o : Outcome World) → Named s.world o → concluded step s (lift (with_world s.acl) o) ≡ said answer s' → (namespace_at s'.world ns ≡ namespace_at s.world ns) × (s'.acl ≡ s.acl)
   concluded_keeps ns NotEnabled named e = absurd (no_path e)
   concluded_keeps ns (Refused refusal) named e = same_there s (ap (λ x. x.1) (same_Some _ _ e)) ns refl refl
-  concluded_keeps ns (Done content w) named e = by (is_over (settle s.world w)) e
+  concluded_keeps ns (Done content w) named e = by (is_past_bound (settle s.world w)) e
     where
       by : (b : Bool) → cond b (said (Err Refusal.Full) s) (said (Ok (reply_of step content (settle s.world w))) (record { acl = s.acl; world = settle s.world w })) ≡ said answer s' → (namespace_at s'.world ns ≡ namespace_at s.world ns) × (s'.acl ≡ s.acl)
       by true e = same_there s (ap (λ x. x.1) (same_Some _ _ e)) ns refl refl
@@ -115,18 +115,18 @@ from_part ns s t agree = record {
 
 -- ---- whose a step is
 
-told_alike : (ns : Name) (w : World) (command : NodeCommand) → tells_of (part_of w ns) command ≡ is_told_of ns command
-told_alike ns w NodeCommand.ReadPool = refl
-told_alike ns w NodeCommand.ListNodes = refl
-told_alike ns w (NodeCommand.PutNode name offer) = refl
-told_alike ns w (NodeCommand.DeleteNode name) = refl
-told_alike ns w (NodeCommand.SetStatus name status) = refl
-told_alike ns w (NodeCommand.SetEligible name eligible) = refl
-told_alike ns w (NodeCommand.Report name report) = refl
+asked_in_pool_alike : (ns : Name) (w : World) (command : NodeCommand) → concerns_part (part_of w ns) command ≡ concerns ns command
+asked_in_pool_alike ns w NodeCommand.ReadPool = refl
+asked_in_pool_alike ns w NodeCommand.ListNodes = refl
+asked_in_pool_alike ns w (NodeCommand.PutNode name offer) = refl
+asked_in_pool_alike ns w (NodeCommand.DeleteNode name) = refl
+asked_in_pool_alike ns w (NodeCommand.SetStatus name status) = refl
+asked_in_pool_alike ns w (NodeCommand.SetEligible name eligible) = refl
+asked_in_pool_alike ns w (NodeCommand.Report name report) = refl
 
 module _ (ns : Name) (s0 s : State) (r : Reaches ns s0 s) where
-  own_node : (pool : Name) (command : NodeCommand) → ((part_of s.world ns).pools pool && tells_of (part_of s.world ns) command) ≡ (has_pool s0.world ns pool && is_told_of ns command)
-  own_node pool command = λ i. ap (λ p. p.pools pool) (same_part ns s0.world s.world r.namespace) i && told_alike ns s.world command i
+  own_node : (pool : Name) (command : NodeCommand) → ((part_of s.world ns).pools pool && concerns_part (part_of s.world ns) command) ≡ (has_pool s0.world ns pool && concerns ns command)
+  own_node pool command = λ i. ap (λ p. p.pools pool) (same_part ns s0.world s.world r.namespace) i && asked_in_pool_alike ns s.world command i
 
   -- a step that is its own belongs to it
   pub belongs_own : (step : Step) → is_own ns s0 step ≡ true → belongs (part_of s.world ns) step ≡ true

@@ -30,7 +30,7 @@ use Rattle.ns_types.specs.Settling.Making.{put_tenant, change_tenant, put_pool, 
 use Rattle.ns_types.specs.State.Names.{Name}
 use Rattle.std.specs.Prelude.{not}
 use Rattle.ns_types.specs.State.Rows.{allocation_at}
-use Rattle.ns_types.specs.Asking.Nodes.{is_on, report_of, same_client, may_become, lose, lost, losses, go_down, reported, calls_for_one, told_in, tell}
+use Rattle.ns_types.specs.Asking.Nodes.{is_on, report_of, same_client, may_become, lose, lost, losses, go_down, reported, calls_for_one, asked_in_pool, ask_pool}
 use Rattle.ns_types.specs.Settling.Outcome.{Outcome, NotEnabled, Refused, Done, unless}
 use Rattle.ns_types.specs.Working.Queue.{promote, first_waiting, is_busy}
 use Rattle.ns_types.specs.State.Rows.{World, Tenant, PoolRows}
@@ -168,7 +168,7 @@ module _ (w : World) where
         | false ↦ named_change r.namespace (with_client r.number r.client) (client_same r.number r.client) w k
       ]
 
-  named_told : (pool : Name) (command : NodeCommand) (p : PoolRows) → Named w (told_in pool command w p)
+  named_told : (pool : Name) (command : NodeCommand) (p : PoolRows) → Named w (asked_in_pool pool command w p)
   named_told pool NodeCommand.ReadPool p = λ k. refl
   named_told pool NodeCommand.ListNodes p = λ k. refl
   named_told pool (NodeCommand.PutNode name offer) p = named_unless _ _ _ (named_unless _ _ _ (λ k. refl))
@@ -231,7 +231,7 @@ named_apply w number ns = named_keeping w number ns (apply_for number ns w) (λ 
 -- ---- all steps
 
 pub change_named : (step : Step) (w : World) → Named w (change step w)
-unfolding ask tell dequeue snap submit
+unfolding ask ask_pool dequeue snap submit
 change_named (Step.Ask ns secret command) w = leads_found (SameNamed w) (get w.tenants ns) _ (λ t is. named_asked w ns command t is)
 change_named (Step.Admin secret command) w = tt
 change_named (Step.Node pool secret command) w = leads_found (SameNamed w) (get w.pools pool) _ (λ p is. named_told w pool command p)

@@ -12,7 +12,7 @@ use Rattle.ns_types.specs.State.Lists.{Each}
 use Rattle.ns_types.specs.State.Names.{Name, Key, same_name, same_key, has_key}
 use Rattle.ns_types.specs.State.Rows.{State, World, Tenant, is_open, is_pending, is_blocked, is_held, evaluation_at}
 use Rattle.ns_types.specs.Access.Sharing.{permits_by, permits, is_confined, pools_of, overlaps, shares_with_any, shares, strays, is_unshared}
-use Rattle.ns_types.specs.Steps.{is_over}
+use Rattle.ns_types.specs.Steps.{is_past_bound}
 use Rattle.ns_types.specs.State.Sums.{names_quota}
 use Rattle.ns_types.specs.Validity.{IsAllowed, IsSound, IsSoundTenant}
 use Rattle.ns_types.proofs.Lists.{not_both, left_none, right_none}
@@ -203,7 +203,7 @@ module _ (w : World) (ns : Name) (t : Tenant) (is : get w.tenants ns ≡ Some t)
       by true h e lacks = refl
       by false h e lacks = not_both (ap (λ h. h && true) e) lacks
 
-pub fit_of : (s : State) (ns : Name) → IsOrderly s.world → is_over s.world ≡ false → is_unshared s.world ns ≡ true → IsFit (part_of s.world ns) s
+pub fit_of : (s : State) (ns : Name) → IsOrderly s.world → is_past_bound s.world ≡ false → is_unshared s.world ns ≡ true → IsFit (part_of s.world ns) s
 unfolding is_unshared shares
 fit_of s ns o within unshared = by (get s.world.tenants ns) refl (off _ (first_of_both _ _ unshared)) (second_of_both (not (shares s.world ns)) _ unshared)
   where

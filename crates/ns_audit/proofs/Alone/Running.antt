@@ -9,7 +9,7 @@ use Rattle.ns_types.specs.State.Names.{Name}
 use Rattle.ns_types.specs.Settling.Outcome.{Outcome, NotEnabled, Refused, Done}
 use Rattle.ns_types.specs.State.Rows.{State}
 use Rattle.ns_types.specs.Settling.Settle.{settle}
-use Rattle.ns_types.specs.Steps.{Answer, said, act, after, is_allowed, concluded, reply_of, is_over, Run}
+use Rattle.ns_types.specs.Steps.{Answer, said, act, after, is_allowed, concluded, reply_of, is_past_bound, Run}
 use Rattle.ns_audit.specs.Headline.{ValidIsSteady, SteadyStep, UnsharedIsApart, StruckRun, StruckSteadyRun}
 use Rattle.ns_audit.specs.Orderly.{IsOrderly, IsSteady}
 use Rattle.ns_audit.proofs.Alone.Chosen.{no_path, same_Some}
@@ -18,7 +18,7 @@ use Rattle.ns_audit.proofs.Steady.Admins.{KeepsOrderState, of_world, administer_
 use Rattle.ns_audit.proofs.Steady.Apply.{apply_orderly}
 use Rattle.ns_audit.proofs.Steady.Asks.{ask_orderly}
 use Rattle.ns_audit.proofs.Steady.Finish.{finish_orderly}
-use Rattle.ns_audit.proofs.Steady.Nodes.{tell_orderly}
+use Rattle.ns_audit.proofs.Steady.Nodes.{ask_pool_orderly}
 use Rattle.ns_audit.proofs.Steady.Workers.{dequeue_orderly, snap_orderly, submit_orderly, nack_orderly}
 use Rattle.ns_audit.proofs.Alone.Owning.{orderly, fit_of}
 use Rattle.ns_audit.proofs.Steady.Resting.{settle_orderly}
@@ -27,7 +27,7 @@ pub act_orderly : (s : State) → IsOrderly s.world → (step : Step) → KeepsO
 unfolding act
 act_orderly s o (Step.Ask ns secret command) = of_world s o _ (ask_orderly s.world o ns command)
 act_orderly s o (Step.Admin secret command) = administer_orderly s o secret command
-act_orderly s o (Step.Node pool secret command) = of_world s o _ (tell_orderly s.world o pool command)
+act_orderly s o (Step.Node pool secret command) = of_world s o _ (ask_pool_orderly s.world o pool command)
 act_orderly s o (Step.Dequeue worker ns n) = of_world s o _ (dequeue_orderly s.world o ns worker n)
 act_orderly s o (Step.Snap worker ns) = of_world s o _ (snap_orderly s.world o ns worker)
 act_orderly s o (Step.Submit worker ns) = of_world s o _ (submit_orderly s.world o ns worker)
@@ -39,12 +39,12 @@ module _ (s : State) (steady : IsSteady s) (step : Step) (s' : State) (answer : 
   concluded_steady : (o : Outcome State) → KeepsOrderState o → concluded step s o ≡ said answer s' → IsSteady s'
   concluded_steady NotEnabled h e = absurd (no_path e)
   concluded_steady (Refused refusal) h e = subst IsSteady (ap (λ x. x.1) (same_Some _ _ e)) steady
-  concluded_steady (Done content x) h e = by (is_over (settle s.world x.world)) refl e
+  concluded_steady (Done content x) h e = by (is_past_bound (settle s.world x.world)) refl e
     where
       y : State
       y = record x { world = settle s.world x.world }
 
-      by : (b : Bool) → is_over (settle s.world x.world) ≡ b → cond b (said (Err Refusal.Full) s) (said (Ok (reply_of step content (settle s.world x.world))) y) ≡ said answer s' → IsSteady s'
+      by : (b : Bool) → is_past_bound (settle s.world x.world) ≡ b → cond b (said (Err Refusal.Full) s) (said (Ok (reply_of step content (settle s.world x.world))) y) ≡ said answer s' → IsSteady s'
       by true over e = subst IsSteady (ap (λ x. x.1) (same_Some _ _ e)) steady
       by false within e = subst IsSteady (ap (λ x. x.1) (same_Some _ _ e)) (record { orderly = settle_orderly s.world x.world h; within = within })
 

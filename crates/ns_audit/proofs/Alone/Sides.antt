@@ -12,18 +12,18 @@ use Rattle.ns_types.specs.Asking.Asks.{ask, right_of}
 use Rattle.ns_types.specs.Working.Commit.{apply}
 use Rattle.ns_types.specs.Isolation.{Part, alone_in}
 use Rattle.ns_types.specs.State.Names.{Name}
-use Rattle.ns_types.specs.Asking.Nodes.{tell, pool_right_of}
+use Rattle.ns_types.specs.Asking.Nodes.{ask_pool, pool_right_of}
 use Rattle.ns_types.specs.Settling.Outcome.{Outcome, NotEnabled, lift}
 use Rattle.ns_types.specs.State.Rows.{State, World, Acl, Tenant}
 use Rattle.ns_types.specs.Settling.Settle.{settle}
-use Rattle.ns_types.specs.Steps.{act, is_allowed, reply_of, is_over, is_over_tenant, is_over_pool, greatest}
+use Rattle.ns_types.specs.Steps.{act, is_allowed, reply_of, is_past_bound, is_tenant_past_bound, is_pool_past_bound, greatest}
 use Rattle.ns_types.specs.Working.Work.{dequeue, snap, submit, finish, nack}
 use Rattle.std.specs.Prelude.{nat_lt}
 use Rattle.ns_types.proofs.Lists.{not_both, each_map, left_none, right_none}
 use Rattle.ns_types.proofs.Named.{names, one_name, first_of_both, second_of_both}
 use Rattle.ns_types.proofs.Tables.{any_row-chosen, any_row-retain-none}
 use Rattle.ns_audit.specs.Apart.{rest, IsWith, IsApart, IsAtHome}
-use Rattle.ns_audit.specs.Laws.{tells_of, belongs, SameRights}
+use Rattle.ns_audit.specs.Laws.{concerns_part, belongs, SameRights}
 use Rattle.ns_audit.proofs.Alone.Chosen.{tenant_alone}
 use Rattle.ns_audit.proofs.Alone.Idle.{settle_idle}
 use Rattle.ns_audit.proofs.Alone.Settling.{settle_alone}
@@ -75,7 +75,7 @@ is_admin _ = false
 abbrev pub change : Step → World → Outcome World
 change (Step.Ask ns secret command) w = ask ns command w
 change (Step.Admin secret command) w = NotEnabled
-change (Step.Node pool secret command) w = tell pool command w
+change (Step.Node pool secret command) w = ask_pool pool command w
 change (Step.Dequeue worker ns n) w = dequeue worker (ns, n) w
 change (Step.Snap worker ns) w = snap worker ns w
 change (Step.Submit worker ns) w = submit worker ns w
@@ -83,7 +83,7 @@ change (Step.Apply worker ns) w = apply worker ns w
 change (Step.Finish worker ns) w = finish worker ns w
 change (Step.Nack worker ns) w = nack worker ns w
 
-own_tell : (part : Part) (w : World) (pool : Name) (command : NodeCommand) → (part.pools pool && tells_of part command) ≡ true → TellsOn part w true pool command
+own_tell : (part : Part) (w : World) (pool : Name) (command : NodeCommand) → (part.pools pool && concerns_part part command) ≡ true → TellsOn part w true pool command
 own_tell part w pool NodeCommand.ReadPool own = first_of_both _ _ own
 own_tell part w pool NodeCommand.ListNodes own = first_of_both _ _ own
 own_tell part w pool (NodeCommand.PutNode name offer) own = first_of_both _ _ own
@@ -107,7 +107,7 @@ both_off : (a : Bool) → (a && true) ≡ false → a ≡ false
 both_off true e = e
 both_off false e = refl
 
-other_tell : (part : Part) (w : World) (pool : Name) (command : NodeCommand) → IsAtHome part w → (part.pools pool && tells_of part command) ≡ false → TellsOn part w false pool command
+other_tell : (part : Part) (w : World) (pool : Name) (command : NodeCommand) → IsAtHome part w → (part.pools pool && concerns_part part command) ≡ false → TellsOn part w false pool command
 other_tell part w pool NodeCommand.ReadPool home other = both_off _ other
 other_tell part w pool NodeCommand.ListNodes home other = both_off _ other
 other_tell part w pool (NodeCommand.PutNode name offer) home other = both_off _ other
@@ -202,18 +202,18 @@ reply_alike part (Step.Nack worker ns) content w own = refl
 
 -- ---- the bound of the counters
 
-pub over_alone : (part : Part) (x : World) → is_over (alone_in (rest part) x) ≡ false → is_over x ≡ is_over (alone_in part x)
-unfolding is_over
+pub over_alone : (part : Part) (x : World) → is_past_bound (alone_in (rest part) x) ≡ false → is_past_bound x ≡ is_past_bound (alone_in part x)
+unfolding is_past_bound
 over_alone part x e = λ i.
-    any_row-chosen names one_name (λ _ t. is_over_tenant t) x.tenants part.spaces (left_none _ _ (left_none _ _ e)) i
-    || any_row-chosen names one_name (λ _ p. is_over_pool p) x.pools part.pools (right_none _ _ (left_none _ _ e)) i
+    any_row-chosen names one_name (λ _ t. is_tenant_past_bound t) x.tenants part.spaces (left_none _ _ (left_none _ _ e)) i
+    || any_row-chosen names one_name (λ _ p. is_pool_past_bound p) x.pools part.pools (right_none _ _ (left_none _ _ e)) i
     || any_row-chosen names one_name (λ _ q. nat_lt greatest q.release) x.quotas part.quotas (right_none _ _ e) i
 
-pub over_part : (part : Part) (x : World) → is_over x ≡ false → is_over (alone_in part x) ≡ false
-unfolding is_over
+pub over_part : (part : Part) (x : World) → is_past_bound x ≡ false → is_past_bound (alone_in part x) ≡ false
+unfolding is_past_bound
 over_part part x e = λ i.
-    any_row-retain-none names one_name (λ _ t. is_over_tenant t) x.tenants part.spaces (left_none _ _ (left_none _ _ e)) i
-    || any_row-retain-none names one_name (λ _ p. is_over_pool p) x.pools part.pools (right_none _ _ (left_none _ _ e)) i
+    any_row-retain-none names one_name (λ _ t. is_tenant_past_bound t) x.tenants part.spaces (left_none _ _ (left_none _ _ e)) i
+    || any_row-retain-none names one_name (λ _ p. is_pool_past_bound p) x.pools part.pools (right_none _ _ (left_none _ _ e)) i
     || any_row-retain-none names one_name (λ _ q. nat_lt greatest q.release) x.quotas part.quotas (right_none _ _ e) i
 
 -- a change that leaves the chosen owners leaves them when all is settled, too

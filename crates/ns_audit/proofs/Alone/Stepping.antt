@@ -11,7 +11,7 @@ use Rattle.ns_types.specs.Isolation.{Part, alone_in}
 use Rattle.ns_types.specs.Settling.Outcome.{Outcome, NotEnabled, Refused, Done, lift}
 use Rattle.ns_types.specs.State.Rows.{State, World, Acl}
 use Rattle.ns_types.specs.Settling.Settle.{settle}
-use Rattle.ns_types.specs.Steps.{Answer, said, after, act, is_allowed, concluded, reply_of, is_over, Run}
+use Rattle.ns_types.specs.Steps.{Answer, said, after, act, is_allowed, concluded, reply_of, is_past_bound, Run}
 use Rattle.ns_audit.specs.Apart.{rest, IsApart, Leaves, Follows}
 use Rattle.ns_audit.specs.Laws.{belongs, SameRights, AgreeOn, IsFit, OwnStepApart, OtherStepApart, QuietRun, its_answers, alone_on, StruckRunApart}
 use Rattle.ns_audit.proofs.Alone.Chosen.{no_path, same_Some}
@@ -21,7 +21,7 @@ use Rattle.ns_audit.proofs.Alone.Administering.{admin_keeps}
 use Rattle.ns_audit.proofs.Alone.Applying.{apply_goes}
 use Rattle.ns_audit.proofs.Alone.Asking.{ask_goes}
 use Rattle.ns_audit.proofs.Alone.Sides.{apart_rest, IsOn, is_admin, change, is_of_own, is_of_other, not_of_rest, plain_own, act_is, allowed_alike, reply_alike, over_alone, over_part, settled_leaves}
-use Rattle.ns_audit.proofs.Alone.Telling.{tell_goes}
+use Rattle.ns_audit.proofs.Alone.Telling.{ask_pool_goes}
 use Rattle.ns_audit.proofs.Alone.Working.{dequeue_goes, snap_goes, submit_goes, finish_goes, nack_goes}
 
 -- ---- the own step
@@ -38,13 +38,13 @@ module _ (part : Part) (s t : State) (step : Step) (agree : AgreeOn part s t) (f
   concluded_alike NotEnabled o' follows leaves s' answer e = absurd (no_path e)
   concluded_alike (Refused refusal) o' follows leaves s' answer e = subst (λ x. Answered s' answer (concluded step t (lift (with_world t.acl) x))) (sym follows) (refused_alike refusal s' answer e)
   concluded_alike (Done content w) o' follows leaves s' answer e =
-      subst (λ x. Answered s' answer (concluded step t (lift (with_world t.acl) x))) (sym follows) (by (is_over (settle s.world w)) refl e)
+      subst (λ x. Answered s' answer (concluded step t (lift (with_world t.acl) x))) (sym follows) (by (is_past_bound (settle s.world w)) refl e)
     where
       settled_alike : settle t.world (alone_in part w) ≡ alone_in part (settle s.world w)
       settled_alike = ap (λ x. settle x (alone_in part w)) agree.world ∙ sym (settle_alone part s.world w fit.apart)
 
-      over : is_over (settle s.world w) ≡ is_over (settle t.world (alone_in part w))
-      over = over_alone part (settle s.world w) (ap is_over (settled_leaves (rest part) s.world w (apart_rest part s.world fit.apart) leaves) ∙ over_part (rest part) s.world fit.within) ∙ ap is_over (sym settled_alike)
+      over : is_past_bound (settle s.world w) ≡ is_past_bound (settle t.world (alone_in part w))
+      over = over_alone part (settle s.world w) (ap is_past_bound (settled_leaves (rest part) s.world w (apart_rest part s.world fit.apart) leaves) ∙ over_part (rest part) s.world fit.within) ∙ ap is_past_bound (sym settled_alike)
 
       t' : State
       t' = record { acl = t.acl; world = settle t.world (alone_in part w) }
@@ -52,7 +52,7 @@ module _ (part : Part) (s t : State) (step : Step) (agree : AgreeOn part s t) (f
       replied : reply_of step content t'.world ≡ reply_of step content (settle s.world w)
       replied = ap (reply_of step content) settled_alike ∙ reply_alike part step content (settle s.world w) own
 
-      by : (b : Bool) → is_over (settle s.world w) ≡ b → cond b (said (Err Refusal.Full) s) (said (Ok (reply_of step content (settle s.world w))) (record { acl = s.acl; world = settle s.world w })) ≡ said answer s'
+      by : (b : Bool) → is_past_bound (settle s.world w) ≡ b → cond b (said (Err Refusal.Full) s) (said (Ok (reply_of step content (settle s.world w))) (record { acl = s.acl; world = settle s.world w })) ≡ said answer s'
           → Answered s' answer (concluded step t (Done content (with_world t.acl (alone_in part w))))
       by true is e = subst (λ b. Answered s' answer (cond b (said (Err Refusal.Full) t) (said (Ok (reply_of step content t'.world)) t'))) (sym is ∙ over) (refused_alike Refusal.Full s' answer e)
       by false is e = subst (λ b. Answered s' answer (cond b (said (Err Refusal.Full) t) (said (Ok (reply_of step content t'.world)) t'))) (sym is ∙ over) (
@@ -84,7 +84,7 @@ module _ (part : Part) (s t : State) (step : Step) (agree : AgreeOn part s t) (f
   unfolding Leaves
   concluded_leaves NotEnabled leaves s' answer e = absurd (no_path e)
   concluded_leaves (Refused refusal) leaves s' answer e = subst (λ x. AgreeOn part x t) (ap (λ x. x.1) (same_Some _ _ e)) agree
-  concluded_leaves (Done content w) leaves s' answer e = by (is_over (settle s.world w)) e
+  concluded_leaves (Done content w) leaves s' answer e = by (is_past_bound (settle s.world w)) e
     where
       by : (b : Bool) → cond b (said (Err Refusal.Full) s) (said (Ok (reply_of step content (settle s.world w))) (record { acl = s.acl; world = settle s.world w })) ≡ said answer s' → AgreeOn part s' t
       by true e = subst (λ x. AgreeOn part x t) (ap (λ x. x.1) (same_Some _ _ e)) agree
@@ -106,7 +106,7 @@ chained part a b c h k = record { spaces = λ secret ns own. h.spaces secret ns 
 change_goes : (part : Part) (w : World) → IsApart part w → (step : Step) (b : Bool) → IsOn part w b step → Goes part w b (change step w) (change step (alone_in part w))
 change_goes part w apart (Step.Ask ns secret command) b on = ask_goes part b ns on w apart command
 change_goes part w apart (Step.Admin secret command) b on = absurd on
-change_goes part w apart (Step.Node pool secret command) b on = tell_goes part w apart b pool command on
+change_goes part w apart (Step.Node pool secret command) b on = ask_pool_goes part w apart b pool command on
 change_goes part w apart (Step.Dequeue worker ns n) b on = dequeue_goes part b ns on w worker n
 change_goes part w apart (Step.Snap worker ns) b on = snap_goes part b ns on w apart worker
 change_goes part w apart (Step.Submit worker ns) b on = submit_goes part b ns on w apart worker

@@ -18,7 +18,7 @@ use Rattle.ns_types.specs.Isolation.{Part, alone_in}
 use Rattle.ns_types.specs.State.Lists.{Each}
 use Rattle.ns_types.specs.Settling.Making.{put_pool, with_node, change_tenant, with_client, evaluation_for, make}
 use Rattle.ns_types.specs.State.Names.{Name, name_cmp}
-use Rattle.ns_types.specs.Asking.Nodes.{most_nodes, with_offer, put_node, delete_node, losing_jobs, losses, lost, go_down, set_status, set_eligible, may_become, same_client, calls_for_one, reported, is_on, report_of, report, told_in, tell}
+use Rattle.ns_types.specs.Asking.Nodes.{most_nodes, with_offer, put_node, delete_node, losing_jobs, losses, lost, go_down, set_status, set_eligible, may_become, same_client, calls_for_one, reported, is_on, report_of, report, asked_in_pool, ask_pool}
 use Rattle.ns_types.specs.State.Resources.{is_within}
 use Rattle.ns_types.specs.State.Rows.{World, Tenant, PoolRows, is_ready, is_held, is_live_on, allocation_at}
 use Rattle.ns_types.specs.State.Tables.{map_rows}
@@ -108,7 +108,7 @@ module _ (part : Part) (b : Bool) (pool : Name) (side : part.pools pool ≡ b) (
       by true _ = refl
       by false other = nothing_lost part pool name w apart.allocation (side ∙ other)
 
-  list_goes : (p : PoolRows) → Goes part w b (told_in pool NodeCommand.ListNodes w p) (told_in pool NodeCommand.ListNodes (alone_in part w) p)
+  list_goes : (p : PoolRows) → Goes part w b (asked_in_pool pool NodeCommand.ListNodes w p) (asked_in_pool pool NodeCommand.ListNodes (alone_in part w) p)
   list_goes p = goes_done part w b _ _ w (alone_in part w)
       (λ own i. Content.Nodes (map (λ n. record { pool = pool; name = n.0; row = n.1; used = node_load_alone part w apart.allocation pool n.0 (side ∙ own) i }) (entries p.nodes)))
       (sym (cond_same b (alone_in part w)))
@@ -200,15 +200,15 @@ module _ (part : Part) (w : World) (r : Report) where
 
 -- ---- all that is told
 
-pub tell_goes : (part : Part) (w : World) → IsApart part w → (b : Bool) (pool : Name) (command : NodeCommand) → TellsOn part w b pool command → Goes part w b (tell pool command w) (tell pool command (alone_in part w))
-unfolding tell
-tell_goes part w apart b pool NodeCommand.ReadPool on = goes_found part w b (get w.pools pool) _ _ _ (λ own. pool_alone part w pool (on ∙ own)) (λ p _. goes_read part w b _)
-tell_goes part w apart b pool NodeCommand.ListNodes on = goes_found part w b (get w.pools pool) _ _ _ (λ own. pool_alone part w pool (on ∙ own)) (λ p _. list_goes part b pool on w apart p)
-tell_goes part w apart b pool (NodeCommand.PutNode name offer) on = goes_found part w b (get w.pools pool) _ _ _ (λ own. pool_alone part w pool (on ∙ own)) (λ p _. put_goes part b pool on w apart name offer p)
-tell_goes part w apart b pool (NodeCommand.DeleteNode name) on = goes_found part w b (get w.pools pool) _ _ _ (λ own. pool_alone part w pool (on ∙ own)) (λ p _. delete_goes part b pool on w apart name p)
-tell_goes part w apart b pool (NodeCommand.SetStatus name status) on = goes_found part w b (get w.pools pool) _ _ _ (λ own. pool_alone part w pool (on ∙ own)) (λ p _. status_goes part b pool on w apart name status p)
-tell_goes part w apart b pool (NodeCommand.SetEligible name eligible) on = goes_found part w b (get w.pools pool) _ _ _ (λ own. pool_alone part w pool (on ∙ own)) (λ p _. eligible_goes part b pool on w apart name eligible p)
-tell_goes part w apart b pool (NodeCommand.Report name r) on = goes_found part w b (get w.pools pool) _ _ _ (λ own. there b own on) (λ p _. report_goes part w r b pool name p on)
+pub ask_pool_goes : (part : Part) (w : World) → IsApart part w → (b : Bool) (pool : Name) (command : NodeCommand) → TellsOn part w b pool command → Goes part w b (ask_pool pool command w) (ask_pool pool command (alone_in part w))
+unfolding ask_pool
+ask_pool_goes part w apart b pool NodeCommand.ReadPool on = goes_found part w b (get w.pools pool) _ _ _ (λ own. pool_alone part w pool (on ∙ own)) (λ p _. goes_read part w b _)
+ask_pool_goes part w apart b pool NodeCommand.ListNodes on = goes_found part w b (get w.pools pool) _ _ _ (λ own. pool_alone part w pool (on ∙ own)) (λ p _. list_goes part b pool on w apart p)
+ask_pool_goes part w apart b pool (NodeCommand.PutNode name offer) on = goes_found part w b (get w.pools pool) _ _ _ (λ own. pool_alone part w pool (on ∙ own)) (λ p _. put_goes part b pool on w apart name offer p)
+ask_pool_goes part w apart b pool (NodeCommand.DeleteNode name) on = goes_found part w b (get w.pools pool) _ _ _ (λ own. pool_alone part w pool (on ∙ own)) (λ p _. delete_goes part b pool on w apart name p)
+ask_pool_goes part w apart b pool (NodeCommand.SetStatus name status) on = goes_found part w b (get w.pools pool) _ _ _ (λ own. pool_alone part w pool (on ∙ own)) (λ p _. status_goes part b pool on w apart name status p)
+ask_pool_goes part w apart b pool (NodeCommand.SetEligible name eligible) on = goes_found part w b (get w.pools pool) _ _ _ (λ own. pool_alone part w pool (on ∙ own)) (λ p _. eligible_goes part b pool on w apart name eligible p)
+ask_pool_goes part w apart b pool (NodeCommand.Report name r) on = goes_found part w b (get w.pools pool) _ _ _ (λ own. there b own on) (λ p _. report_goes part w r b pool name p on)
   where
     there : (c : Bool) → c ≡ true → ReportsOn part w c pool r → get (alone_in part w).pools pool ≡ get w.pools pool
     there true own on = pool_alone part w pool on.0

@@ -17,7 +17,7 @@ use Rattle.ns_types.specs.declared.step.Report.{Report}
 use Rattle.ns_types.specs.State.Lists.{Each}
 use Rattle.ns_types.specs.Settling.Making.{put_tenant, put_pool, with_node, change_tenant, with_client, evaluation_for, make}
 use Rattle.ns_types.specs.State.Names.{Name, name_cmp}
-use Rattle.ns_types.specs.Asking.Nodes.{losing_jobs, losses, lost, lose, go_down, may_become, same_client, calls_for_one, reported, is_on, report_of, report, told_in, tell}
+use Rattle.ns_types.specs.Asking.Nodes.{losing_jobs, losses, lost, lose, go_down, may_become, same_client, calls_for_one, reported, is_on, report_of, report, asked_in_pool, ask_pool}
 use Rattle.ns_types.specs.Settling.Outcome.{Done, unless}
 use Rattle.ns_types.specs.State.Rows.{World, Tenant, PoolRows, is_ready, is_run, is_held, is_live, is_live_on, allocation_at}
 use Rattle.ns_types.specs.Access.Sharing.{permits}
@@ -150,19 +150,19 @@ module _ (w : World) (s : IsOrderly w) (r : Report) where
 put_pool_orderly : (pool : Name) (p : PoolRows) (w : World) → IsOrderly w → IsOrderly (put_pool pool p w)
 put_pool_orderly pool p w s = same_orderly w (put_pool pool p w) refl (λ key has. has) (λ key has. has) s
 
-told_orderly : (w : World) → IsOrderly w → (pool : Name) (command : NodeCommand) (p : PoolRows) → KeepsOrder (told_in pool command w p)
-told_orderly w s pool NodeCommand.ReadPool p = s
-told_orderly w s pool NodeCommand.ListNodes p = s
-told_orderly w s pool (NodeCommand.PutNode name offer) p = leads_unless IsOrderly _ _ _ (λ _. leads_unless IsOrderly _ _ _ (λ _. put_pool_orderly pool _ w s))
-told_orderly w s pool (NodeCommand.DeleteNode name) p = leads_found IsOrderly (get p.nodes name) _ (λ node _. leads_unless IsOrderly _ _ _ (λ _. put_pool_orderly pool _ w s))
-told_orderly w s pool (NodeCommand.SetStatus name status) p = leads_found IsOrderly (get p.nodes name) _ (λ node _. by (with_node name (record node { status = status }) p) (is_ready status))
+asked_in_pool_orderly : (w : World) → IsOrderly w → (pool : Name) (command : NodeCommand) (p : PoolRows) → KeepsOrder (asked_in_pool pool command w p)
+asked_in_pool_orderly w s pool NodeCommand.ReadPool p = s
+asked_in_pool_orderly w s pool NodeCommand.ListNodes p = s
+asked_in_pool_orderly w s pool (NodeCommand.PutNode name offer) p = leads_unless IsOrderly _ _ _ (λ _. leads_unless IsOrderly _ _ _ (λ _. put_pool_orderly pool _ w s))
+asked_in_pool_orderly w s pool (NodeCommand.DeleteNode name) p = leads_found IsOrderly (get p.nodes name) _ (λ node _. leads_unless IsOrderly _ _ _ (λ _. put_pool_orderly pool _ w s))
+asked_in_pool_orderly w s pool (NodeCommand.SetStatus name status) p = leads_found IsOrderly (get p.nodes name) _ (λ node _. by (with_node name (record node { status = status }) p) (is_ready status))
   where
     by : (p' : PoolRows) (b : Bool) → IsOrderly (cond b (put_pool pool p' w) (go_down pool name (put_pool pool p' w)))
     by p' true = put_pool_orderly pool p' w s
     by p' false = down_orderly pool name (put_pool pool p' w) (put_pool_orderly pool p' w s)
-told_orderly w s pool (NodeCommand.SetEligible name eligible) p = leads_found IsOrderly (get p.nodes name) _ (λ node _. put_pool_orderly pool _ w s)
-told_orderly w s pool (NodeCommand.Report name r) p = report_orderly w s r pool name p
+asked_in_pool_orderly w s pool (NodeCommand.SetEligible name eligible) p = leads_found IsOrderly (get p.nodes name) _ (λ node _. put_pool_orderly pool _ w s)
+asked_in_pool_orderly w s pool (NodeCommand.Report name r) p = report_orderly w s r pool name p
 
-pub tell_orderly : (w : World) → IsOrderly w → (pool : Name) (command : NodeCommand) → KeepsOrder (tell pool command w)
-unfolding tell
-tell_orderly w s pool command = leads_found IsOrderly (get w.pools pool) (told_in pool command w) (λ p _. told_orderly w s pool command p)
+pub ask_pool_orderly : (w : World) → IsOrderly w → (pool : Name) (command : NodeCommand) → KeepsOrder (ask_pool pool command w)
+unfolding ask_pool
+ask_pool_orderly w s pool command = leads_found IsOrderly (get w.pools pool) (asked_in_pool pool command w) (λ p _. asked_in_pool_orderly w s pool command p)

@@ -11,7 +11,7 @@ use Rattle.ns_types.specs.declared.node.Node.{Node}
 use Rattle.ns_types.specs.declared.plan.Placement.{Placement}
 use Rattle.ns_types.specs.declared.snapshot.Snapshot.{Snapshot}
 use Rattle.ns_types.specs.declared.worker.Worker.{Worker}
-use Rattle.ns_types.specs.Working.Commit.{still_stands, is_over, same_version, live_stops, stop_all, node_name, nodes_in, Commit, begun, decide, committed_placements, place_all, evicted_rows, Victim, same_victim_job, least_of_job, make_up, Applied, refused_whole, done, commit, applied_worker, applied, apply_for, apply}
+use Rattle.ns_types.specs.Working.Commit.{still_stands, has_ended, same_version, live_stops, stop_all, node_name, nodes_in, Commit, begun, decide, committed_placements, place_all, evicted_rows, Victim, same_victim_job, least_of_job, make_up, Applied, refused_whole, done, commit, applied_worker, applied, apply_for, apply}
 use Rattle.ns_types.specs.Isolation.{namespace_at}
 use Rattle.ns_types.specs.State.Limits.{is_pool_name}
 use Rattle.ns_types.specs.State.Lists.{Each, first_each}
@@ -53,9 +53,9 @@ node_named w v pool name node at = let r = node_row w pool name node at in ((v.p
 
 -- an unstopped job is still as it was planned for
 as_planned : (j : Job) (present : Option Job) → j.stop ≡ false → still_stands (Some j) present ≡ true → (i : Job) × (present ≡ Some i) × (j.modify_index ≡ i.modify_index)
-as_planned j present running stands = by present refl (ap (λ b. cond b (is_over present) (not (is_over present) && same_version (Some j) present)) (sym running) ∙ stands)
+as_planned j present running stands = by present refl (ap (λ b. cond b (has_ended present) (not (has_ended present) && same_version (Some j) present)) (sym running) ∙ stands)
   where
-    by : (o : Option Job) → present ≡ o → (not (is_over o) && same_version (Some j) o) ≡ true → (i : Job) × (present ≡ Some i) × (j.modify_index ≡ i.modify_index)
+    by : (o : Option Job) → present ≡ o → (not (has_ended o) && same_version (Some j) o) ≡ true → (i : Job) × (present ≡ Some i) × (j.modify_index ≡ i.modify_index)
     by None is e = absurd (subst T (sym e) tt)
     by (Some i) is e = (i, is, tied one_number j.modify_index i.modify_index (second_of_both (not i.stop) _ e))
 

@@ -17,7 +17,7 @@ use Rattle.ns_types.specs.declared.step.Report.{Report}
 use Rattle.ns_types.specs.Settling.Making.{put_tenant, put_pool, with_node, change_tenant, with_client, evaluation_for, make_in, make}
 use Rattle.ns_types.specs.declared.evaluation.Evaluation.{Evaluation}
 use Rattle.ns_types.specs.State.Names.{Name, same_name}
-use Rattle.ns_types.specs.Asking.Nodes.{most_nodes, with_offer, put_node, losses, lost, lose, go_down, may_become, same_client, calls_for_one, reported, is_on, report_of, report, told_in, tell}
+use Rattle.ns_types.specs.Asking.Nodes.{most_nodes, with_offer, put_node, losses, lost, lose, go_down, may_become, same_client, calls_for_one, reported, is_on, report_of, report, asked_in_pool, ask_pool}
 use Rattle.ns_types.specs.Settling.Outcome.{Done, unless}
 use Rattle.ns_types.specs.State.Resources.{is_within}
 use Rattle.ns_types.specs.State.Rows.{World, Tenant, PoolRows, is_ready, is_run, is_held, is_live, is_live_on, allocation_at, node_at}
@@ -261,16 +261,16 @@ module _ (w : World) (s : IsAllocated w) (pool : Name) (p : PoolRows) (is : get 
   status_allocates name status node there true up = node_allocates w s pool p is name (record node { status = status }) (λ _ old at ready. (up, le_same old.places node.places (ap (λ (n : Node). n.places) (same_Some old node (sym at ∙ there))))) (row_within name node there)
   status_allocates name status node there false down = down_allocates pool name w s p is node (record node { status = status }) there refl
 
-  told_allocates : (command : NodeCommand) → Leads (Allocates w) (told_in pool command w p)
-  told_allocates NodeCommand.ReadPool = allocates_still w s
-  told_allocates NodeCommand.ListNodes = allocates_still w s
-  told_allocates (NodeCommand.PutNode name offer) = put_allocates w s pool p is name offer
-  told_allocates (NodeCommand.DeleteNode name) = leads_found (Allocates w) (get p.nodes name) _ (λ node there. leads_unless (Allocates w) (is_ready node.status) Refusal.InUse _ (λ down. gone_allocates w s pool p is name node there down))
-  told_allocates (NodeCommand.SetStatus name status) = leads_found (Allocates w) (get p.nodes name) _ (λ node there. status_allocates name status node there (is_ready status) refl)
-  told_allocates (NodeCommand.SetEligible name eligible) = leads_found (Allocates w) (get p.nodes name) _ (λ node there.
+  asked_in_pool_allocates : (command : NodeCommand) → Leads (Allocates w) (asked_in_pool pool command w p)
+  asked_in_pool_allocates NodeCommand.ReadPool = allocates_still w s
+  asked_in_pool_allocates NodeCommand.ListNodes = allocates_still w s
+  asked_in_pool_allocates (NodeCommand.PutNode name offer) = put_allocates w s pool p is name offer
+  asked_in_pool_allocates (NodeCommand.DeleteNode name) = leads_found (Allocates w) (get p.nodes name) _ (λ node there. leads_unless (Allocates w) (is_ready node.status) Refusal.InUse _ (λ down. gone_allocates w s pool p is name node there down))
+  asked_in_pool_allocates (NodeCommand.SetStatus name status) = leads_found (Allocates w) (get p.nodes name) _ (λ node there. status_allocates name status node there (is_ready status) refl)
+  asked_in_pool_allocates (NodeCommand.SetEligible name eligible) = leads_found (Allocates w) (get p.nodes name) _ (λ node there.
       node_allocates w s pool p is name (record node { eligible = eligible }) (λ _ old at ready. let e = same_Some old node (sym at ∙ there) in (ap (λ (n : Node). is_ready n.status) (sym e) ∙ ready, le_same old.places node.places (ap (λ (n : Node). n.places) e))) (row_within name node there))
-  told_allocates (NodeCommand.Report name r) = leads_of (Continues w) (Allocates w) (λ x c. continues_allocates w x s c) (report pool name r w p) (report_goes w r pool name p)
+  asked_in_pool_allocates (NodeCommand.Report name r) = leads_of (Continues w) (Allocates w) (λ x c. continues_allocates w x s c) (report pool name r w p) (report_goes w r pool name p)
 
-pub tell_allocates : (w : World) → IsAllocated w → (pool : Name) (command : NodeCommand) → Leads (Allocates w) (tell pool command w)
-unfolding tell
-tell_allocates w s pool command = leads_found (Allocates w) (get w.pools pool) (told_in pool command w) (λ p is. told_allocates w s pool p is command)
+pub ask_pool_allocates : (w : World) → IsAllocated w → (pool : Name) (command : NodeCommand) → Leads (Allocates w) (ask_pool pool command w)
+unfolding ask_pool
+ask_pool_allocates w s pool command = leads_found (Allocates w) (get w.pools pool) (asked_in_pool pool command w) (λ p is. asked_in_pool_allocates w s pool p is command)

@@ -12,7 +12,7 @@ use Rattle.ns_types.specs.Settling.Outcome.{Outcome, NotEnabled, Refused, Done}
 use Rattle.ns_types.specs.State.Names.{Name, name_cmp, default_name}
 use Rattle.ns_types.specs.State.Rows.{State, Tenant, PoolRows, node_at}
 use Rattle.ns_types.specs.Settling.Settle.{settle}
-use Rattle.ns_types.specs.Steps.{Answer, said, act, after, is_allowed, concluded, reply_of, is_over, opening_tenant, opening_pool, opening_world, opening}
+use Rattle.ns_types.specs.Steps.{Answer, said, act, after, is_allowed, concluded, reply_of, is_past_bound, opening_tenant, opening_pool, opening_world, opening}
 use Rattle.ns_types.specs.Validity.{IsValid}
 use Rattle.ns_audit.specs.Allocated.{IsAllocated, AllocationsStep, AllocationsOpening}
 use Rattle.ns_audit.proofs.Alone.Chosen.{no_path, same_Some}
@@ -22,7 +22,7 @@ use Rattle.ns_audit.proofs.ValidAllocations.Sound.{allocation_row, node_row}
 use Rattle.ns_audit.proofs.ValidAllocations.Admins.{of_world, of_continuing, administer_allocates}
 use Rattle.ns_audit.proofs.ValidAllocations.Apply.{sound_allocated, apply_allocates}
 use Rattle.ns_audit.proofs.ValidAllocations.Going.{Allocates, settle_allocated}
-use Rattle.ns_audit.proofs.ValidAllocations.Nodes.{tell_allocates}
+use Rattle.ns_audit.proofs.ValidAllocations.Nodes.{ask_pool_allocates}
 use Rattle.ns_audit.proofs.ValidAllocations.Work.{ask_goes, dequeue_goes, snap_goes, submit_goes, finish_goes, nack_goes}
 
 module _ (s : State) (valid : IsValid s) where
@@ -33,7 +33,7 @@ module _ (s : State) (valid : IsValid s) where
   unfolding act
   act_allocates (Step.Ask ns secret command) = of_continuing s sound _ (ask_goes s.world ns command)
   act_allocates (Step.Admin secret command) = administer_allocates s sound secret command
-  act_allocates (Step.Node pool secret command) = of_world s sound _ (tell_allocates s.world sound pool command)
+  act_allocates (Step.Node pool secret command) = of_world s sound _ (ask_pool_allocates s.world sound pool command)
   act_allocates (Step.Dequeue worker ns n) = of_continuing s sound _ (dequeue_goes s.world worker (ns, n))
   act_allocates (Step.Snap worker ns) = of_continuing s sound _ (snap_goes s.world worker ns)
   act_allocates (Step.Submit worker ns) = of_continuing s sound _ (submit_goes s.world worker ns)
@@ -45,7 +45,7 @@ module _ (s : State) (valid : IsValid s) where
     concluded_allocated : (o : Outcome State) → Leads (λ x. Allocates s.world x.world) o → concluded step s o ≡ said answer s' → IsAllocated s'.world
     concluded_allocated NotEnabled h e = absurd (no_path e)
     concluded_allocated (Refused refusal) h e = subst (λ (x : State). IsAllocated x.world) (ap (λ x. x.1) (same_Some _ _ e)) sound
-    concluded_allocated (Done content x) h e = by (is_over (settle s.world x.world)) e
+    concluded_allocated (Done content x) h e = by (is_past_bound (settle s.world x.world)) e
       where
         y : State
         y = record x { world = settle s.world x.world }

@@ -13,7 +13,7 @@ use Rattle.ns_types.specs.declared.step.Report.{Report}
 use Rattle.ns_types.specs.State.Lists.{Each}
 use Rattle.ns_types.specs.Settling.Making.{put_pool, with_node, change_tenant, with_client, evaluation_for, make}
 use Rattle.ns_types.specs.State.Names.{Name, name_cmp, has_key}
-use Rattle.ns_types.specs.Asking.Nodes.{losing_jobs, losses, lost, lose, go_down, may_become, same_client, calls_for_one, reported, is_on, report_of, report, told_in, tell}
+use Rattle.ns_types.specs.Asking.Nodes.{losing_jobs, losses, lost, lose, go_down, may_become, same_client, calls_for_one, reported, is_on, report_of, report, asked_in_pool, ask_pool}
 use Rattle.ns_types.specs.Settling.Outcome.{Outcome, Done, unless}
 use Rattle.ns_types.specs.State.Rows.{World, Tenant, PoolRows, is_ready, is_held, is_live_on, allocation_at}
 use Rattle.ns_types.specs.State.Tables.{map_rows}
@@ -96,19 +96,19 @@ module _ (w : World) (s : IsSound w) where
 
   -- ---- all that is told
 
-  told_filed : (pool : Name) (command : NodeCommand) (p : PoolRows) → Keeps (told_in pool command w p)
-  told_filed pool NodeCommand.ReadPool p = filed
-  told_filed pool NodeCommand.ListNodes p = filed
-  told_filed pool (NodeCommand.PutNode name offer) p = leads_unless _ _ _ _ (λ _. leads_unless _ _ _ _ (λ _. put_pool_filed (pools_in w) (index_in w) pool _ w filed))
-  told_filed pool (NodeCommand.DeleteNode name) p = leads_found _ (get p.nodes name) _ (λ node _. leads_unless _ _ _ _ (λ _. put_pool_filed (pools_in w) (index_in w) pool _ w filed))
-  told_filed pool (NodeCommand.SetStatus name status) p = leads_found _ (get p.nodes name) _ (λ node _. by (with_node name (record node { status = status }) p) (is_ready status))
+  asked_in_pool_filed : (pool : Name) (command : NodeCommand) (p : PoolRows) → Keeps (asked_in_pool pool command w p)
+  asked_in_pool_filed pool NodeCommand.ReadPool p = filed
+  asked_in_pool_filed pool NodeCommand.ListNodes p = filed
+  asked_in_pool_filed pool (NodeCommand.PutNode name offer) p = leads_unless _ _ _ _ (λ _. leads_unless _ _ _ _ (λ _. put_pool_filed (pools_in w) (index_in w) pool _ w filed))
+  asked_in_pool_filed pool (NodeCommand.DeleteNode name) p = leads_found _ (get p.nodes name) _ (λ node _. leads_unless _ _ _ _ (λ _. put_pool_filed (pools_in w) (index_in w) pool _ w filed))
+  asked_in_pool_filed pool (NodeCommand.SetStatus name status) p = leads_found _ (get p.nodes name) _ (λ node _. by (with_node name (record node { status = status }) p) (is_ready status))
     where
       by : (p' : PoolRows) (b : Bool) → IsFiled (pools_in w) (index_in w) (cond b (put_pool pool p' w) (go_down pool name (put_pool pool p' w)))
       by p' true = put_pool_filed (pools_in w) (index_in w) pool p' w filed
       by p' false = down_filed pool name p'
-  told_filed pool (NodeCommand.SetEligible name eligible) p = leads_found _ (get p.nodes name) _ (λ node _. put_pool_filed (pools_in w) (index_in w) pool _ w filed)
-  told_filed pool (NodeCommand.Report name r) p = report_filed r pool name p
+  asked_in_pool_filed pool (NodeCommand.SetEligible name eligible) p = leads_found _ (get p.nodes name) _ (λ node _. put_pool_filed (pools_in w) (index_in w) pool _ w filed)
+  asked_in_pool_filed pool (NodeCommand.Report name r) p = report_filed r pool name p
 
-pub tell_filed : (w : World) → IsSound w → (pool : Name) (command : NodeCommand) → Leads (IsFiled (pools_in w) (index_in w)) (tell pool command w)
-unfolding tell
-tell_filed w s pool command = leads_found _ (get w.pools pool) (told_in pool command w) (λ p _. told_filed w s pool command p)
+pub ask_pool_filed : (w : World) → IsSound w → (pool : Name) (command : NodeCommand) → Leads (IsFiled (pools_in w) (index_in w)) (ask_pool pool command w)
+unfolding ask_pool
+ask_pool_filed w s pool command = leads_found _ (get w.pools pool) (asked_in_pool pool command w) (λ p _. asked_in_pool_filed w s pool command p)

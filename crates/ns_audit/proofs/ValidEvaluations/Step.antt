@@ -9,7 +9,7 @@ use Rattle.ns_types.specs.State.Names.{has_key, default_name}
 use Rattle.ns_types.specs.Settling.Outcome.{Outcome, NotEnabled, Refused, Done}
 use Rattle.ns_types.specs.State.Rows.{State, Tenant}
 use Rattle.ns_types.specs.Settling.Settle.{settle}
-use Rattle.ns_types.specs.Steps.{Answer, said, act, after, is_allowed, concluded, reply_of, is_over, opening_tenant, opening_world, opening}
+use Rattle.ns_types.specs.Steps.{Answer, said, act, after, is_allowed, concluded, reply_of, is_past_bound, opening_tenant, opening_world, opening}
 use Rattle.ns_types.specs.Validity.{IsValid}
 use Rattle.ns_types.specs.Within.{IsGoodStep}
 use Rattle.ns_types.proofs.Lists.{not_both}
@@ -26,7 +26,7 @@ use Rattle.ns_audit.proofs.ValidEvaluations.Apply.{apply_filed}
 use Rattle.ns_audit.proofs.ValidEvaluations.Asks.{ask_filed}
 use Rattle.ns_audit.proofs.ValidEvaluations.Filed.{IsFiledTenant, IsFiled}
 use Rattle.ns_audit.proofs.ValidEvaluations.Finish.{finish_filed}
-use Rattle.ns_audit.proofs.ValidEvaluations.Nodes.{tell_filed}
+use Rattle.ns_audit.proofs.ValidEvaluations.Nodes.{ask_pool_filed}
 use Rattle.ns_audit.proofs.ValidEvaluations.Settle.{index_in, pools_in, sound_filed, filed_sound, settle_filed}
 use Rattle.ns_audit.proofs.ValidEvaluations.Work.{dequeue_filed, snap_filed, submit_filed, nack_filed}
 
@@ -36,7 +36,7 @@ act_filed : (s : State) → IsValid s → (step : Step) → IsGoodStep step → 
 unfolding act
 act_filed s valid (Step.Ask ns secret command) good = of_same_pools s valid.world _ (ask_filed s.world valid.world ns command good)
 act_filed s valid (Step.Admin secret command) good = administer_filed s valid.world secret command
-act_filed s valid (Step.Node pool secret command) good = of_same_pools s valid.world _ (tell_filed s.world valid.world pool command)
+act_filed s valid (Step.Node pool secret command) good = of_same_pools s valid.world _ (ask_pool_filed s.world valid.world pool command)
 act_filed s valid (Step.Dequeue worker ns n) good = of_same_pools s valid.world _ (dequeue_filed s.world valid.world worker (ns, n))
 act_filed s valid (Step.Snap worker ns) good = of_same_pools s valid.world _ (snap_filed s.world valid.world worker ns)
 act_filed s valid (Step.Submit worker ns) good = of_same_pools s valid.world _ (submit_filed s.world valid.world worker ns)
@@ -57,7 +57,7 @@ module _ (s : State) (valid : IsValid s) (step : Step) (s' : State) (answer : An
   concluded_sound : (o : Outcome State) → KeepsOrderState o → HoldsAfter s.world o → concluded step s o ≡ said answer s' → IsSoundInEvaluations s'.world
   concluded_sound NotEnabled h f e = absurd (no_path e)
   concluded_sound (Refused refusal) h f e = subst (λ (x : State). IsSoundInEvaluations x.world) (ap (λ x. x.1) (same_Some _ _ e)) unchanged
-  concluded_sound (Done content x) h f e = by (is_over (settle s.world x.world)) e
+  concluded_sound (Done content x) h f e = by (is_past_bound (settle s.world x.world)) e
     where
       y : State
       y = record x { world = settle s.world x.world }

@@ -18,7 +18,7 @@ use Rattle.ns_types.specs.State.Limits.{is_good_offer}
 use Rattle.ns_types.specs.Settling.Making.{put_pool, with_node, change_tenant, with_client, evaluation_for, make}
 use Rattle.ns_types.specs.State.Name.{is_name}
 use Rattle.ns_types.specs.State.Names.{Name}
-use Rattle.ns_types.specs.Asking.Nodes.{most_nodes, with_offer, losses, lost, lose, go_down, may_become, same_client, calls_for_one, reported, is_on, report_of, report, told_in, tell}
+use Rattle.ns_types.specs.Asking.Nodes.{most_nodes, with_offer, losses, lost, lose, go_down, may_become, same_client, calls_for_one, reported, is_on, report_of, report, asked_in_pool, ask_pool}
 use Rattle.ns_types.specs.Settling.Outcome.{Done, unless}
 use Rattle.ns_types.specs.State.Rows.{World, PoolRows, is_ready, allocation_at}
 use Rattle.ns_types.specs.State.Tables.{map_rows}
@@ -100,20 +100,20 @@ module _ (w : World) (s : IsRecorded w) (pool : Name) (p : PoolRows) (is : get w
   put : (p' : PoolRows) → IsGoodPool pool p' → IsNear w (put_pool pool p' w)
   put p' good = near_pool w w here pool p p' is good
 
-  told_near : (command : NodeCommand) → IsGoodTelling command → Leads (IsNear w) (told_in pool command w p)
-  told_near NodeCommand.ReadPool good = here
-  told_near NodeCommand.ListNodes good = here
-  told_near (NodeCommand.PutNode name offer) good = leads_unless (IsNear w) _ _ _ (λ _. leads_unless (IsNear w) _ _ _ (λ room.
+  asked_in_pool_near : (command : NodeCommand) → IsGoodTelling command → Leads (IsNear w) (asked_in_pool pool command w p)
+  asked_in_pool_near NodeCommand.ReadPool good = here
+  asked_in_pool_near NodeCommand.ListNodes good = here
+  asked_in_pool_near (NodeCommand.PutNode name offer) good = leads_unless (IsNear w) _ _ _ (λ _. leads_unless (IsNear w) _ _ _ (λ room.
       put (with_node name (with_offer offer (get p.nodes name)) p) (offered_good pool p good_pool name offer room (first_of_both _ _ good.0) (second_of_both _ _ good.0) good.1)))
-  told_near (NodeCommand.DeleteNode name) good = leads_found (IsNear w) (get p.nodes name) _ (λ node _. leads_unless (IsNear w) _ _ _ (λ _. put (record p { nodes = remove p.nodes name }) (removed_good pool p good_pool name)))
-  told_near (NodeCommand.SetStatus name status) good = leads_found (IsNear w) (get p.nodes name) _ (λ node at. by (with_node name (record node { status = status }) p) (same_node_good pool p good_pool name node (record node { status = status }) at refl) (is_ready status))
+  asked_in_pool_near (NodeCommand.DeleteNode name) good = leads_found (IsNear w) (get p.nodes name) _ (λ node _. leads_unless (IsNear w) _ _ _ (λ _. put (record p { nodes = remove p.nodes name }) (removed_good pool p good_pool name)))
+  asked_in_pool_near (NodeCommand.SetStatus name status) good = leads_found (IsNear w) (get p.nodes name) _ (λ node at. by (with_node name (record node { status = status }) p) (same_node_good pool p good_pool name node (record node { status = status }) at refl) (is_ready status))
     where
       by : (p' : PoolRows) → IsGoodPool pool p' → (b : Bool) → IsNear w (cond b (put_pool pool p' w) (go_down pool name (put_pool pool p' w)))
       by p' g true = put p' g
       by p' g false = down_near w (put_pool pool p' w) (put p' g) pool name
-  told_near (NodeCommand.SetEligible name eligible) good = leads_found (IsNear w) (get p.nodes name) _ (λ node at. put (with_node name (record node { eligible = eligible }) p) (same_node_good pool p good_pool name node (record node { eligible = eligible }) at refl))
-  told_near (NodeCommand.Report name r) good = report_near w here pool name r p
+  asked_in_pool_near (NodeCommand.SetEligible name eligible) good = leads_found (IsNear w) (get p.nodes name) _ (λ node at. put (with_node name (record node { eligible = eligible }) p) (same_node_good pool p good_pool name node (record node { eligible = eligible }) at refl))
+  asked_in_pool_near (NodeCommand.Report name r) good = report_near w here pool name r p
 
-pub tell_near : (w : World) → IsRecorded w → (pool : Name) (command : NodeCommand) → IsGoodTelling command → Leads (IsNear w) (tell pool command w)
-unfolding tell
-tell_near w s pool command good = leads_found (IsNear w) (get w.pools pool) (told_in pool command w) (λ p is. told_near w s pool p is command good)
+pub ask_pool_near : (w : World) → IsRecorded w → (pool : Name) (command : NodeCommand) → IsGoodTelling command → Leads (IsNear w) (ask_pool pool command w)
+unfolding ask_pool
+ask_pool_near w s pool command good = leads_found (IsNear w) (get w.pools pool) (asked_in_pool pool command w) (λ p is. asked_in_pool_near w s pool p is command good)

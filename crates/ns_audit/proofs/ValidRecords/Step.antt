@@ -13,7 +13,7 @@ use Rattle.ns_types.specs.State.Names.{Name}
 use Rattle.ns_types.specs.Settling.Outcome.{Outcome, NotEnabled, Refused, Done, lift}
 use Rattle.ns_types.specs.State.Rows.{Acl, State, World}
 use Rattle.ns_types.specs.Settling.Settle.{settle}
-use Rattle.ns_types.specs.Steps.{Answer, said, act, after, is_allowed, concluded, reply_of, is_over}
+use Rattle.ns_types.specs.Steps.{Answer, said, act, after, is_allowed, concluded, reply_of, is_past_bound}
 use Rattle.ns_types.specs.Validity.{IsSoundAcl, IsSound}
 use Rattle.ns_types.specs.Within.{is_good_admin, IsGoodStep}
 use Rattle.ns_types.proofs.Named.{first_of_both, second_of_both}
@@ -26,7 +26,7 @@ use Rattle.ns_audit.proofs.ValidRecords.Sound.{IsRecorded, IsNear, near_first}
 use Rattle.ns_audit.proofs.ValidRecords.Acl.{policy_read, policy_put, policy_deleted, token_created, token_deleted}
 use Rattle.ns_audit.proofs.ValidRecords.Admins.{pool_put, pool_deleted, quota_put, quota_deleted, namespace_put, namespace_deleted}
 use Rattle.ns_audit.proofs.ValidRecords.Asks.{ask_near}
-use Rattle.ns_audit.proofs.ValidRecords.Nodes.{tell_near}
+use Rattle.ns_audit.proofs.ValidRecords.Nodes.{ask_pool_near}
 use Rattle.ns_audit.proofs.ValidRecords.Settled.{settled_recorded}
 use Rattle.ns_audit.proofs.ValidRecords.Work.{dequeue_near, snap_near, submit_near, nack_near, finish_near, apply_near}
 
@@ -97,7 +97,7 @@ module _ (s : State) (acl : IsSoundAcl s.acl) (world : IsRecorded s.world) where
   unfolding act
   act_near (Step.Ask ns secret command) good = of_world _ (ask_near s.world world ns command good)
   act_near (Step.Admin secret command) good = administer_near secret command good
-  act_near (Step.Node pool secret command) good = of_world _ (tell_near s.world world pool command good)
+  act_near (Step.Node pool secret command) good = of_world _ (ask_pool_near s.world world pool command good)
   act_near (Step.Dequeue worker ns n) good = of_world _ (dequeue_near s.world world worker ns n)
   act_near (Step.Snap worker ns) good = of_world _ (snap_near s.world world worker ns)
   act_near (Step.Submit worker ns) good = of_world _ (submit_near s.world world worker ns)
@@ -116,7 +116,7 @@ module _ (s : State) (kept : IsRecordedState s) (step : Step) (s' : State) (answ
   concluded_recorded : (o : Outcome State) → Leads (IsNearState s) o → concluded step s o ≡ said answer s' → IsRecordedState s'
   concluded_recorded NotEnabled h e = absurd (no_path e)
   concluded_recorded (Refused refusal) h e = subst IsRecordedState (ap (λ x. x.1) (same_Some _ _ e)) kept
-  concluded_recorded (Done content x) h e = by (is_over (settle s.world x.world)) e
+  concluded_recorded (Done content x) h e = by (is_past_bound (settle s.world x.world)) e
     where
       y : State
       y = record x { world = settle s.world x.world }

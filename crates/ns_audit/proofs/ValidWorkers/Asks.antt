@@ -26,7 +26,7 @@ use Rattle.ns_types.specs.Working.Commit.{still_stands, live_stops, stop_all, no
 use Rattle.ns_types.specs.State.Lists.{first_each}
 use Rattle.ns_types.specs.Settling.Making.{change_tenant, put_pool, with_node, with_desired, with_client, evaluation_for, make}
 use Rattle.ns_types.specs.State.Names.{Name}
-use Rattle.ns_types.specs.Asking.Nodes.{losses, lost, lose, go_down, may_become, same_client, calls_for_one, reported, is_on, report_of, told_in, tell}
+use Rattle.ns_types.specs.Asking.Nodes.{losses, lost, lose, go_down, may_become, same_client, calls_for_one, reported, is_on, report_of, asked_in_pool, ask_pool}
 use Rattle.ns_types.specs.Settling.Outcome.{Refused, Done, unless}
 use Rattle.ns_types.specs.State.Resources.{plus}
 use Rattle.ns_types.specs.State.Rows.{World, Tenant, PoolRows, is_ready, allocation_at, node_at}
@@ -106,26 +106,26 @@ reported_quiet r a w = by (option_map_or (λ t. calls_for_one t a r.client) (get
 as_many : (w : World) (pool : Name) (p q : PoolRows) (n : ℕ) → get w.pools pool ≡ Some p → n ≡ p.release → get w.pools pool ≡ Some q → q.release ≤ n
 as_many w pool p q n is same q_is = let e = ap (λ (p : PoolRows). p.release) (same_Some _ _ (sym q_is ∙ is)) in omega (arith, e, same)
 
-told_quiet : (w : World) (pool : Name) (command : NodeCommand) (p : PoolRows) → get w.pools pool ≡ Some p → Quietly w (told_in pool command w p)
-told_quiet w pool NodeCommand.ReadPool p is = quiet_same w
-told_quiet w pool NodeCommand.ListNodes p is = quiet_same w
-told_quiet w pool (NodeCommand.PutNode name offer) p is = leads_unless (Quiet w) _ _ _ (λ _. leads_unless (Quiet w) _ _ _ (λ _. quiet_pool pool _ w (λ q q_is. as_many w pool p q p.release is refl q_is)))
-told_quiet w pool (NodeCommand.DeleteNode name) p is = leads_found (Quiet w) (get p.nodes name) _ (λ node _. leads_unless (Quiet w) _ _ _ (λ _. quiet_pool pool _ w (λ q q_is. as_many w pool p q p.release is refl q_is)))
-told_quiet w pool (NodeCommand.SetStatus name status) p is = leads_found (Quiet w) (get p.nodes name) _ (λ node _. by (with_node name (record node { status = status }) p) refl (is_ready status))
+asked_in_pool_quiet : (w : World) (pool : Name) (command : NodeCommand) (p : PoolRows) → get w.pools pool ≡ Some p → Quietly w (asked_in_pool pool command w p)
+asked_in_pool_quiet w pool NodeCommand.ReadPool p is = quiet_same w
+asked_in_pool_quiet w pool NodeCommand.ListNodes p is = quiet_same w
+asked_in_pool_quiet w pool (NodeCommand.PutNode name offer) p is = leads_unless (Quiet w) _ _ _ (λ _. leads_unless (Quiet w) _ _ _ (λ _. quiet_pool pool _ w (λ q q_is. as_many w pool p q p.release is refl q_is)))
+asked_in_pool_quiet w pool (NodeCommand.DeleteNode name) p is = leads_found (Quiet w) (get p.nodes name) _ (λ node _. leads_unless (Quiet w) _ _ _ (λ _. quiet_pool pool _ w (λ q q_is. as_many w pool p q p.release is refl q_is)))
+asked_in_pool_quiet w pool (NodeCommand.SetStatus name status) p is = leads_found (Quiet w) (get p.nodes name) _ (λ node _. by (with_node name (record node { status = status }) p) refl (is_ready status))
   where
     by : (p' : PoolRows) → p'.release ≡ p.release → (b : Bool) → Quiet w (cond b (put_pool pool p' w) (go_down pool name (put_pool pool p' w)))
     by p' same true = quiet_pool pool p' w (λ q q_is. as_many w pool p q p'.release is same q_is)
     by p' same false = quiet_then w (put_pool pool p' w) _ (quiet_pool pool p' w (λ q q_is. as_many w pool p q p'.release is same q_is)) (down_quiet pool name (put_pool pool p' w))
-told_quiet w pool (NodeCommand.SetEligible name eligible) p is = leads_found (Quiet w) (get p.nodes name) _ (λ node _. quiet_pool pool _ w (λ q q_is. as_many w pool p q p.release is refl q_is))
-told_quiet w pool (NodeCommand.Report name r) p is = leads_found (Quiet w) (get p.nodes name) _ (λ node _.
+asked_in_pool_quiet w pool (NodeCommand.SetEligible name eligible) p is = leads_found (Quiet w) (get p.nodes name) _ (λ node _. quiet_pool pool _ w (λ q q_is. as_many w pool p q p.release is refl q_is))
+asked_in_pool_quiet w pool (NodeCommand.Report name r) p is = leads_found (Quiet w) (get p.nodes name) _ (λ node _.
     leads_found (Quiet w) (allocation_at w (r.namespace, r.number)) (λ x. unless (not (is_on pool name x)) Refusal.NotFound (report_of r w x)) (λ a _.
     leads_unless (Quiet w) (not (is_on pool name a)) Refusal.NotFound (report_of r w a) (λ _.
     leads_if (Quiet w) (same_client a.client r.client) (Done Content.Written w) (unless (not (may_become a.client r.client)) Refusal.Conflict (Done Content.Written (reported r a w))) (λ _. quiet_same w)
     (λ _. leads_unless (Quiet w) (not (may_become a.client r.client)) Refusal.Conflict (Done Content.Written (reported r a w)) (λ _. reported_quiet r a w)))))
 
-pub tell_quiet : (w : World) (pool : Name) (command : NodeCommand) → Quietly w (tell pool command w)
-unfolding tell
-tell_quiet w pool command = leads_found (Quiet w) (get w.pools pool) (told_in pool command w) (λ p is. told_quiet w pool command p is)
+pub ask_pool_quiet : (w : World) (pool : Name) (command : NodeCommand) → Quietly w (ask_pool pool command w)
+unfolding ask_pool
+ask_pool_quiet w pool command = leads_found (Quiet w) (get w.pools pool) (asked_in_pool pool command w) (λ p is. asked_in_pool_quiet w pool command p is)
 
 -- ---- what a plan does
 

@@ -14,7 +14,7 @@ use Rattle.ns_types.specs.State.Names.{Name, default_name, same_key, has_key}
 use Rattle.ns_types.specs.Settling.Outcome.{Outcome, NotEnabled, Refused, Done}
 use Rattle.ns_types.specs.State.Rows.{State, World, Tenant, is_pending}
 use Rattle.ns_types.specs.Settling.Settle.{settle}
-use Rattle.ns_types.specs.Steps.{Answer, said, act, after, is_allowed, concluded, reply_of, is_over, opening_tenant, opening_world, opening}
+use Rattle.ns_types.specs.Steps.{Answer, said, act, after, is_allowed, concluded, reply_of, is_past_bound, opening_tenant, opening_world, opening}
 use Rattle.ns_types.specs.Validity.{IsSound, IsSoundWorker, IsSoundSnapshot, IsValid, same_found, busy_with, jobs_at}
 use Rattle.ns_audit.specs.Orderly.{IsReadyIn, IsOrderly}
 use Rattle.ns_audit.specs.ValidWorkers.{IsManned, HasSoundWorkers, WorkersStep, WorkersOpening}
@@ -24,7 +24,7 @@ use Rattle.ns_audit.proofs.Steady.Workers.{at_tenant}
 use Rattle.ns_audit.proofs.Alone.Owning.{orderly}
 use Rattle.ns_audit.proofs.Alone.Running.{valid_is_steady, steady_step}
 use Rattle.ns_audit.proofs.ValidWorkers.Admins.{quiet_well, KeepsStaffState, of_world, administer_well}
-use Rattle.ns_audit.proofs.ValidWorkers.Asks.{ask_quiet, tell_quiet}
+use Rattle.ns_audit.proofs.ValidWorkers.Asks.{ask_quiet, ask_pool_quiet}
 use Rattle.ns_audit.proofs.ValidWorkers.Busy.{HasWorker, IsBusyIn, IsQueuedIn, IsQueued}
 use Rattle.ns_audit.proofs.ValidWorkers.Finish.{nack_well, finish_well}
 use Rattle.ns_audit.proofs.ValidWorkers.Lists.{one_of_list, list_of_one}
@@ -121,7 +121,7 @@ act_well : (s : State) → IsSound s.world → IsQueued s.world → (step : Step
 unfolding act
 act_well s o q (Step.Ask ns secret command) = of_world s o q _ (quiet_well s.world o q _ (ask_quiet s.world ns command))
 act_well s o q (Step.Admin secret command) = administer_well s o q secret command
-act_well s o q (Step.Node pool secret command) = of_world s o q _ (quiet_well s.world o q _ (tell_quiet s.world pool command))
+act_well s o q (Step.Node pool secret command) = of_world s o q _ (quiet_well s.world o q _ (ask_pool_quiet s.world pool command))
 act_well s o q (Step.Dequeue worker ns n) = of_world s o q _ (dequeue_well s.world o q ns worker n)
 act_well s o q (Step.Snap worker ns) = of_world s o q _ (snap_well s.world o q ns worker)
 act_well s o q (Step.Submit worker ns) = of_world s o q _ (submit_well s.world o q ns worker)
@@ -144,7 +144,7 @@ module _ (s : State) (valid : IsValid s) (step : Step) (s' : State) (answer : An
   concluded_right : (o : Outcome State) → KeepsStaffState s.world o → concluded step s o ≡ said answer s' → IsRight s'.world
   concluded_right NotEnabled h e = absurd (no_path e)
   concluded_right (Refused refusal) h e = subst (λ (x : State). IsRight x.world) (ap (λ x. x.1) (same_Some _ _ e)) at_first
-  concluded_right (Done content x) h e = by (is_over (settle s.world x.world)) e
+  concluded_right (Done content x) h e = by (is_past_bound (settle s.world x.world)) e
     where
       y : State
       y = record x { world = settle s.world x.world }

@@ -133,17 +133,17 @@ report pool name r w p = found (get p.nodes name) (λ node. found (allocation_at
 
 -- ---- all that is told
 
-abbrev pub told_in : Name → NodeCommand → World → PoolRows → Outcome World
-told_in pool NodeCommand.ReadPool w p = Done (read_pool pool p) w
-told_in pool NodeCommand.ListNodes w p = Done (list_nodes pool w p) w
-told_in pool (NodeCommand.PutNode name offer) w p = put_node pool name offer w p
-told_in pool (NodeCommand.DeleteNode name) w p = delete_node pool name w p
-told_in pool (NodeCommand.SetStatus name status) w p = set_status pool name status w p
-told_in pool (NodeCommand.SetEligible name eligible) w p = set_eligible pool name eligible w p
-told_in pool (NodeCommand.Report name r) w p = report pool name r w p
+abbrev pub asked_in_pool : Name → NodeCommand → World → PoolRows → Outcome World
+asked_in_pool pool NodeCommand.ReadPool w p = Done (read_pool pool p) w
+asked_in_pool pool NodeCommand.ListNodes w p = Done (list_nodes pool w p) w
+asked_in_pool pool (NodeCommand.PutNode name offer) w p = put_node pool name offer w p
+asked_in_pool pool (NodeCommand.DeleteNode name) w p = delete_node pool name w p
+asked_in_pool pool (NodeCommand.SetStatus name status) w p = set_status pool name status w p
+asked_in_pool pool (NodeCommand.SetEligible name eligible) w p = set_eligible pool name eligible w p
+asked_in_pool pool (NodeCommand.Report name r) w p = report pool name r w p
 
-unfoldable pub tell : Name → NodeCommand → World → Outcome World
-tell pool command w = in_pool w pool (told_in pool command w)
+unfoldable pub ask_pool : Name → NodeCommand → World → Outcome World
+ask_pool pool command w = in_pool w pool (asked_in_pool pool command w)
 
 -- the right that each needs
 abbrev pub pool_right_of : NodeCommand → PoolRights → Bool

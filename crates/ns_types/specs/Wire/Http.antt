@@ -164,15 +164,15 @@ pub data IsFaultyAndOver (bytes : List ℕ) : Type 0 where
 
 -- Two readings of the same bytes agree, but for two freedoms: a head that is both faulty and over a limit may be refused as
 -- either, and a head without its end, where the bytes end, may be refused or not.
-abbrev pub Agree : List ℕ → List Received → End → List Received → End → Type 0
-Agree bytes [] e [] f = e ≡ f
-Agree bytes [] e (Refused b ∷ ys) f = HasNoRequest bytes × (is_closed e ≡ false)
-Agree bytes [] e (Whole n ∷ ys) f = ⊥
-Agree bytes (Refused a ∷ xs) e [] f = HasNoRequest bytes × (is_closed f ≡ false)
-Agree bytes (Refused a ∷ xs) e (Refused b ∷ ys) f = (a ≡ b) ⊎ IsFaultyAndOver bytes
-Agree bytes (Refused a ∷ xs) e (Whole n ∷ ys) f = ⊥
-Agree bytes (Whole m ∷ xs) e [] f = ⊥
-Agree bytes (Whole m ∷ xs) e (Refused b ∷ ys) f = ⊥
-Agree bytes (Whole m ∷ xs) e (Whole n ∷ ys) f =
+abbrev pub ReadAlike : List ℕ → List Received → End → List Received → End → Type 0
+ReadAlike bytes [] e [] f = e ≡ f
+ReadAlike bytes [] e (Refused b ∷ ys) f = HasNoRequest bytes × (is_closed e ≡ false)
+ReadAlike bytes [] e (Whole n ∷ ys) f = ⊥
+ReadAlike bytes (Refused a ∷ xs) e [] f = HasNoRequest bytes × (is_closed f ≡ false)
+ReadAlike bytes (Refused a ∷ xs) e (Refused b ∷ ys) f = (a ≡ b) ⊎ IsFaultyAndOver bytes
+ReadAlike bytes (Refused a ∷ xs) e (Whole n ∷ ys) f = ⊥
+ReadAlike bytes (Whole m ∷ xs) e [] f = ⊥
+ReadAlike bytes (Whole m ∷ xs) e (Refused b ∷ ys) f = ⊥
+ReadAlike bytes (Whole m ∷ xs) e (Whole n ∷ ys) f =
     (m ≡ n) × (rest : List ℕ) × (bytes ≡ print_message m ++ rest)
-    × MatchBool (closes m) ((xs ≡ []) × (ys ≡ []) × (e ≡ f)) (Agree rest xs e ys f)
+    × MatchBool (closes m) ((xs ≡ []) × (ys ≡ []) × (e ≡ f)) (ReadAlike rest xs e ys f)

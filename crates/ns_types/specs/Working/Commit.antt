@@ -33,9 +33,9 @@ use Rattle.ns_types.specs.Working.Work.{at_work, with_worker, without_key, is_su
 
 -- ---- whether the plan still stands
 
-abbrev pub is_over : Option Job → Bool
-is_over None = true
-is_over (Some job) = job.stop
+abbrev pub has_ended : Option Job → Bool
+has_ended None = true
+has_ended (Some job) = job.stop
 
 abbrev pub same_version : Option Job → Option Job → Bool
 same_version (Some a) (Some b) = same_number a.modify_index b.modify_index
@@ -43,7 +43,7 @@ same_version _ _ = false
 
 -- one for an unstopped job wants it unstopped, with the same index; one for a job that was gone or stopped wants it so still
 abbrev pub still_stands : Option Job → Option Job → Bool
-still_stands planned present = if is_over planned then is_over present else not (is_over present) && same_version planned present
+still_stands planned present = if has_ended planned then has_ended present else not (has_ended present) && same_version planned present
 
 -- ---- stops
 
