@@ -30,7 +30,8 @@ module _ {K V : Type 0} (R : K → K → Ordering) (o : IsTotalOrder R) where
       → length (row_list (put R k x es)) + size (flat (find R k es)) ≡ length (row_list es) + size x
   counted-put k x [] s = let one = counted k x [] in omega arith
   counted-put k x (e ∷ es) s =
-      elim (R k e.0) as (λ r. R k e.0 ≡ r → length (row_list (by_order r ((k, x) ∷ e ∷ es) ((e.0, x) ∷ es) (e ∷ put R k x es))) + size (flat (cond (is_eq r) (Some e.1) (find R k es))) ≡ length (row_list (e ∷ es)) + size x) [
+      elim (R k e.0) as (λ r. R k e.0 ≡ r → length (row_list (by_order r ((k, x) ∷ e ∷ es) ((e.0, x) ∷ es) (e ∷ put R k x es))) + size
+          (flat (cond (is_eq r) (Some e.1) (find R k es))) ≡ length (row_list (e ∷ es)) + size x) [
         | Less ↦ λ t.
             let none : size (flat (find R k es)) ≡ 0 = ap (λ y. size (flat y)) (not_there R o k e es s t).0 in
             let one = counted k x (row_list (e ∷ es)) in
@@ -50,7 +51,8 @@ module _ {K V : Type 0} (R : K → K → Ordering) (o : IsTotalOrder R) where
       → length (row_list (without R k es)) + size (flat (find R k es)) ≡ length (row_list es)
   counted-without k [] s = omega arith
   counted-without k (e ∷ es) s =
-      elim (R k e.0) as (λ r. R k e.0 ≡ r → length (row_list (cond (not (is_eq r)) (e ∷ without R k es) (without R k es))) + size (flat (cond (is_eq r) (Some e.1) (find R k es))) ≡ length (row_list (e ∷ es))) [
+      elim (R k e.0) as (λ r. R k e.0 ≡ r → length (row_list (cond (not (is_eq r)) (e ∷ without R k es) (without R k es))) + size
+          (flat (cond (is_eq r) (Some e.1) (find R k es))) ≡ length (row_list (e ∷ es))) [
         | Less ↦ λ t.
             let rest : length (row_list (without R k es)) + size (flat (find R k es)) ≡ length (row_list es) = counted-without k es (second _ _ s) in
             let new = counted e.0 e.1 (row_list (without R k es)) in

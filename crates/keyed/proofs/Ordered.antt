@@ -37,7 +37,8 @@ module _ {K X : Type 0} (R : K → K → Ordering) where
   is_sorted-filter p [] h = tt
   is_sorted-filter p (e ∷ es) h =
       let rest = is_sorted-filter p es (second _ _ h) in
-      elim (p e) as (λ b. T (is_sorted R (cond b (e ∷ filter p es) (filter p es)))) [ true ↦ both _ _ (below-filter p e.0 es (first _ _ h)) rest | false ↦ rest ]
+      elim (p e) as (λ b. T (is_sorted R (cond b (e ∷ filter p es) (filter p es)))) [ true ↦ both _ _ (below-filter p e.0 es (first _ _ h)) rest | false ↦
+          rest ]
 
   -- the entry is kept, if its key does not tie
   pub kept : (k : K) (e : K × X) (es : List (K × X)) (r : Ordering) → R k e.0 ≡ r → is_eq r ≡ false → without R k (e ∷ es) ≡ e ∷ without R k es

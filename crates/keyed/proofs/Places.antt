@@ -64,7 +64,8 @@ module _ {K X : Type 0} (R : K → K → Ordering) where
             turned R o _ _ (o.trans (get_or es j d).0 (get_or es m c).0 k (rises es j m d c s earlier l) (back R o _ _ t))
 
     -- a write at the entry itself, or further on
-    put_here : (k : K) (v : X) (e : K × X) (es : List (K × X)) (r : Ordering) → R k e.0 ≡ r → by_order r ((k, v) ∷ e ∷ es) ((e.0, v) ∷ es) (e ∷ put R k v es) ≡ put R k v (e ∷ es)
+    put_here : (k : K) (v : X) (e : K × X) (es : List (K × X)) (r : Ordering) → R k e.0 ≡ r →
+        by_order r ((k, v) ∷ e ∷ es) ((e.0, v) ∷ es) (e ∷ put R k v es) ≡ put R k v (e ∷ es)
     put_here k v e es r t = sym (ap (λ r. by_order r ((k, v) ∷ e ∷ es) ((e.0, v) ∷ es) (e ∷ put R k v es)) t)
 
     find_here : (k : K) (e : K × X) (es : List (K × X)) (r : Ordering) → R k e.0 ≡ r → find R k (e ∷ es) ≡ cond (is_eq r) (Some e.1) (find R k es)
@@ -112,7 +113,8 @@ module _ {K X : Type 0} (R : K → K → Ordering) where
         }
     belongs k (e ∷ es) (suc i) s l p a =
         let before : R k e.0 ≡ Greater = p 0 e (omega arith) (omega arith) in
-        let rest = belongs k es i (second _ _ s) (omega arith) (λ j d m n. p (suc j) d (omega arith) (omega arith)) (λ j d m n. a (suc j) d (omega arith) (omega arith)) in
+        let rest = belongs k es i (second _ _ s) (omega arith) (λ j d m n. p (suc j) d (omega arith) (omega arith))
+            (λ j d m n. a (suc j) d (omega arith) (omega arith)) in
         record {
           within = omega (arith, rest.within);
           find_is = find_here k e es Greater before ∙ rest.find_is;

@@ -6,7 +6,11 @@ use Rattle.std.specs.declared.cmp.Ordering.TheVariants.{Less, Equal, Greater}
 use Rattle.std.specs.Ordering.{eq_by_cmp, is_eq}
 use Rattle.std.specs.Cmp.{IsTotalOrder, tied_itself, alike_right, eq_by_cmp_equiv}
 use Rattle.std.specs.List.{filter, list_any}
-use Rattle.std.specs.FinMap.{IsAntisymmetric, FinMap, entries, get, insert, from_sorted, empty, empty_of_len, len, len-entries, entries_sorted, entries-from_sorted, entries-insert, get-entries, get-insert, get-from_sorted, get-remove, remove, same_map, same_entries_map}
+use Rattle.std.specs.FinMap.{
+    IsAntisymmetric, FinMap, entries, get, insert, from_sorted, empty, empty_of_len, len, len-entries, entries_sorted,
+    entries-from_sorted, entries-insert, get-entries, get-insert, get-from_sorted, get-remove, remove, same_map,
+    same_entries_map
+}
 use Rattle.std.specs.FinMap.Entries.{find, put, is_sorted, below_all, is_sorted-put, find-where_key}
 use Rattle.keyed.specs.Table.{flat, with_row, row_list, at_slot, rows, with_slot, emptied, without_vacant, has_slot, row_at}
 use Rattle.keyed.specs.Slots.{without}
@@ -39,18 +43,21 @@ module _ {K V : Type 0} (R : K → K → Ordering) where
         | Greater ↦ λ t. passed e es Greater t refl rest
       ] refl
     where
-      passed : (e : K × Option V) (es : List (K × Option V)) (r : Ordering) → R k e.0 ≡ r → is_eq r ≡ false → find R k (row_list es) ≡ flat (find R k es) → find R k (with_row e.0 e.1 (row_list es)) ≡ flat (find R k es)
+      passed : (e : K × Option V) (es : List (K × Option V)) (r : Ordering) → R k e.0 ≡ r → is_eq r ≡ false → find R k (row_list es) ≡ flat (find R k es) →
+          find R k (with_row e.0 e.1 (row_list es)) ≡ flat (find R k es)
       passed e es r t apart rest = elim e.1 as (λ x. find R k (with_row e.0 x (row_list es)) ≡ flat (find R k es)) [
         | None ↦ rest
         | Some v ↦ ap (λ b. cond b (Some v) (find R k (row_list es))) (ap is_eq t ∙ apart) ∙ rest
       ]
 
   -- what a scan of the slots collects is what a scan of the rows does
-  pub map-at_slot : {Y : Type 0} (p : K × V → Bool) (f : K → Y) (es : List (K × Option V)) → map (λ e. f e.0) (filter (at_slot p) es) ≡ map (λ e. f e.0) (filter p (row_list es))
+  pub map-at_slot : {Y : Type 0} (p : K × V → Bool) (f : K → Y) (es : List (K × Option V)) →
+      map (λ e. f e.0) (filter (at_slot p) es) ≡ map (λ e. f e.0) (filter p (row_list es))
   map-at_slot p f [] = refl
   map-at_slot p f ((k, None) ∷ es) = map-at_slot p f es
   map-at_slot p f ((k, Some v) ∷ es) =
-      elim (p (k, v)) as (λ b. map (λ e. f e.0) (cond b ((k, Some v) ∷ filter (at_slot p) es) (filter (at_slot p) es)) ≡ map (λ e. f e.0) (cond b ((k, v) ∷ filter p (row_list es)) (filter p (row_list es)))) [
+      elim (p (k, v)) as (λ b. map (λ e. f e.0) (cond b ((k, Some v) ∷ filter (at_slot p) es) (filter (at_slot p) es)) ≡ map (λ e. f e.0)
+          (cond b ((k, v) ∷ filter p (row_list es)) (filter p (row_list es)))) [
         | true ↦ ap (λ ys. f k ∷ ys) (map-at_slot p f es)
         | false ↦ map-at_slot p f es
       ]
@@ -66,19 +73,23 @@ module _ {K V : Type 0} (R : K → K → Ordering) where
   filled_rows ((k, Some v) ∷ es) = ap (λ fs. (k, v) ∷ fs) (filled_rows es)
 
   -- of the slots those with a row are left
-  find-filled : IsTotalOrder R → (k : K) (es : List (K × Option V)) → T (is_sorted R es) → is_some (find R k (filter (λ e. is_some e.1) es)) ≡ is_some (flat (find R k es))
+  find-filled : IsTotalOrder R → (k : K) (es : List (K × Option V)) → T (is_sorted R es) →
+      is_some (find R k (filter (λ e. is_some e.1) es)) ≡ is_some (flat (find R k es))
   find-filled o k [] s = refl
   find-filled o k (e ∷ es) s =
       let rest = find-filled o k es (second _ _ s) in
-      elim (R k e.0) as (λ r. R k e.0 ≡ r → is_some (find R k (cond (is_some e.1) (e ∷ filter (λ e. is_some e.1) es) (filter (λ e. is_some e.1) es))) ≡ is_some (flat (cond (is_eq r) (Some e.1) (find R k es)))) [
+      elim (R k e.0) as (λ r. R k e.0 ≡ r → is_some (find R k (cond (is_some e.1) (e ∷ filter (λ e. is_some e.1) es) (filter (λ e. is_some e.1) es))) ≡ is_some
+          (flat (cond (is_eq r) (Some e.1) (find R k es)))) [
         | Less ↦ λ t. passed e es Less t refl rest
         | Equal ↦ λ t. here e es t (below-filter R (λ e. is_some e.1) k es (below_tied R o k e.0 es t (first _ _ s)))
         | Greater ↦ λ t. passed e es Greater t refl rest
       ] refl
     where
-      passed : (e : K × Option V) (es : List (K × Option V)) (r : Ordering) → R k e.0 ≡ r → is_eq r ≡ false → is_some (find R k (filter (λ e. is_some e.1) es)) ≡ is_some (flat (find R k es))
+      passed : (e : K × Option V) (es : List (K × Option V)) (r : Ordering) → R k e.0 ≡ r → is_eq r ≡ false →
+          is_some (find R k (filter (λ e. is_some e.1) es)) ≡ is_some (flat (find R k es))
           → is_some (find R k (cond (is_some e.1) (e ∷ filter (λ e. is_some e.1) es) (filter (λ e. is_some e.1) es))) ≡ is_some (flat (find R k es))
-      passed e es r t apart rest = elim (is_some e.1) as (λ b. is_some (find R k (cond b (e ∷ filter (λ e. is_some e.1) es) (filter (λ e. is_some e.1) es))) ≡ is_some (flat (find R k es))) [
+      passed e es r t apart rest = elim (is_some e.1) as
+          (λ b. is_some (find R k (cond b (e ∷ filter (λ e. is_some e.1) es) (filter (λ e. is_some e.1) es))) ≡ is_some (flat (find R k es))) [
         | true ↦ ap (λ b. is_some (cond b (Some e.1) (find R k (filter (λ e. is_some e.1) es)))) (ap is_eq t ∙ apart) ∙ rest
         | false ↦ rest
       ]
@@ -193,13 +204,15 @@ module _ {K V : Type 0} {R : K → K → Ordering} (o : IsTotalOrder R) where
 module _ {K X : Type 0} {R : K → K → Ordering} (o : IsTotalOrder R) where
   pub from_sorted-put : (k : K) (v : X) (es : List (K × X)) → T (is_sorted R es) → from_sorted {R = R} (put R k v es) ≡ insert (from_sorted es) k v
   from_sorted-put k v es s =
-      same_entries_map _ _ (entries-from_sorted R _ (is_sorted-put R o k v es s) ∙ ap (put R k v) (sym (entries-from_sorted R es s)) ∙ sym (entries-insert o (from_sorted es) k v))
+      same_entries_map _ _ (entries-from_sorted R _ (is_sorted-put R o k v es s) ∙ ap (put R k v) (sym (entries-from_sorted R es s)) ∙
+          sym (entries-insert o (from_sorted es) k v))
 
   turned : (b : Bool) (x : Option X) → cond (not b) x None ≡ cond b None x
   turned true x = refl
   turned false x = refl
 
-  pub from_sorted-without : IsAntisymmetric R → (k : K) (es : List (K × X)) → T (is_sorted R es) → from_sorted {R = R} (without R k es) ≡ remove (from_sorted es) k
+  pub from_sorted-without : IsAntisymmetric R → (k : K) (es : List (K × X)) → T (is_sorted R es) →
+      from_sorted {R = R} (without R k es) ≡ remove (from_sorted es) k
   from_sorted-without same k es s =
       same_map o same _ _ (λ q.
       get-from_sorted R _ q (is_sorted-filter R (λ e. not (eq_by_cmp R k e.0)) es s)
@@ -214,41 +227,51 @@ empty_table {R = R} = empty_of_len _ (len-entries _ ∙ ap length (entries-from_
 
 module _ {K V : Type 0} {R : K → K → Ordering} (o : IsTotalOrder R) where
   pub sorted-with_slot : (k : K) (es : List (K × Option V)) → T (is_sorted R es) → T (is_sorted R (cond (is_some (find R k es)) es (put R k None es)))
-  sorted-with_slot k es s = elim (is_some (find R k es)) as (λ b. T (is_sorted R (cond b es (put R k None es)))) [ true ↦ s | false ↦ is_sorted-put R o k None es s ]
+  sorted-with_slot k es s = elim (is_some (find R k es)) as (λ b. T (is_sorted R (cond b es (put R k None es))))
+      [ true ↦ s | false ↦ is_sorted-put R o k None es s ]
 
-  pub from_sorted-with_slot : (k : K) (es : List (K × Option V)) → T (is_sorted R es) → from_sorted {R = R} (cond (is_some (find R k es)) es (put R k None es)) ≡ with_slot (from_sorted es) k
+  pub from_sorted-with_slot : (k : K) (es : List (K × Option V)) → T (is_sorted R es) →
+      from_sorted {R = R} (cond (is_some (find R k es)) es (put R k None es)) ≡ with_slot (from_sorted es) k
   from_sorted-with_slot k es s =
       ap (λ x. from_sorted (cond (is_some x) es (put R k None es))) (sym (get-from_sorted R es k s))
-      ∙ elim (is_some (get (from_sorted {R = R} es) k)) as (λ b. from_sorted {R = R} (cond b es (put R k None es)) ≡ cond b (from_sorted es) (insert (from_sorted es) k None)) [
+      ∙ elim (is_some (get (from_sorted {R = R} es) k)) as
+          (λ b. from_sorted {R = R} (cond b es (put R k None es)) ≡ cond b (from_sorted es) (insert (from_sorted es) k None)) [
         | true ↦ refl
         | false ↦ from_sorted-put o k None es s
       ]
 
   pub sorted-emptied : (k : K) (es : List (K × Option V)) → T (is_sorted R es) → T (is_sorted R (cond (is_some (find R k es)) (put R k None es) es))
-  sorted-emptied k es s = elim (is_some (find R k es)) as (λ b. T (is_sorted R (cond b (put R k None es) es))) [ true ↦ is_sorted-put R o k None es s | false ↦ s ]
+  sorted-emptied k es s = elim (is_some (find R k es)) as (λ b. T (is_sorted R (cond b (put R k None es) es))) [ true ↦ is_sorted-put R o k None es s | false ↦
+      s ]
 
-  pub from_sorted-emptied : (k : K) (es : List (K × Option V)) → T (is_sorted R es) → from_sorted {R = R} (cond (is_some (find R k es)) (put R k None es) es) ≡ emptied (from_sorted es) k
+  pub from_sorted-emptied : (k : K) (es : List (K × Option V)) → T (is_sorted R es) →
+      from_sorted {R = R} (cond (is_some (find R k es)) (put R k None es) es) ≡ emptied (from_sorted es) k
   from_sorted-emptied k es s =
       ap (λ x. from_sorted (cond (is_some x) (put R k None es) es)) (sym (get-from_sorted R es k s))
-      ∙ elim (is_some (get (from_sorted {R = R} es) k)) as (λ b. from_sorted {R = R} (cond b (put R k None es) es) ≡ cond b (insert (from_sorted es) k None) (from_sorted es)) [
+      ∙ elim (is_some (get (from_sorted {R = R} es) k)) as
+          (λ b. from_sorted {R = R} (cond b (put R k None es) es) ≡ cond b (insert (from_sorted es) k None) (from_sorted es)) [
         | true ↦ from_sorted-put o k None es s
         | false ↦ refl
       ]
 
-  pub sorted-without_vacant : (k : K) (es : List (K × Option V)) → T (is_sorted R es) → T (is_sorted R (cond (is_some (flat (find R k es))) es (without R k es)))
-  sorted-without_vacant k es s = elim (is_some (flat (find R k es))) as (λ b. T (is_sorted R (cond b es (without R k es)))) [ true ↦ s | false ↦ is_sorted-filter R (λ e. not (eq_by_cmp R k e.0)) es s ]
+  pub sorted-without_vacant : (k : K) (es : List (K × Option V)) → T (is_sorted R es) →
+      T (is_sorted R (cond (is_some (flat (find R k es))) es (without R k es)))
+  sorted-without_vacant k es s = elim (is_some (flat (find R k es))) as (λ b. T (is_sorted R (cond b es (without R k es))))
+      [ true ↦ s | false ↦ is_sorted-filter R (λ e. not (eq_by_cmp R k e.0)) es s ]
 
   pub from_sorted-without_vacant : IsAntisymmetric R → (k : K) (es : List (K × Option V)) → T (is_sorted R es)
       → from_sorted {R = R} (cond (is_some (flat (find R k es))) es (without R k es)) ≡ without_vacant (from_sorted es) k
   from_sorted-without_vacant same k es s =
       ap (λ x. from_sorted (cond (is_some (flat x)) es (without R k es))) (sym (get-from_sorted R es k s))
-      ∙ elim (is_some (flat (get (from_sorted {R = R} es) k))) as (λ b. from_sorted {R = R} (cond b es (without R k es)) ≡ cond b (from_sorted es) (remove (from_sorted es) k)) [
+      ∙ elim (is_some (flat (get (from_sorted {R = R} es) k))) as
+          (λ b. from_sorted {R = R} (cond b es (without R k es)) ≡ cond b (from_sorted es) (remove (from_sorted es) k)) [
         | true ↦ refl
         | false ↦ from_sorted-without o same k es s
       ]
 
   -- of the slots those with a row are left
-  pub has_slot-filled : (es : List (K × Option V)) → T (is_sorted R es) → (k : K) → has_slot (from_sorted {R = R} (filter (λ e. is_some e.1) es)) k ≡ is_some (row_at (from_sorted {R = R} es) k)
+  pub has_slot-filled : (es : List (K × Option V)) → T (is_sorted R es) → (k : K) →
+      has_slot (from_sorted {R = R} (filter (λ e. is_some e.1) es)) k ≡ is_some (row_at (from_sorted {R = R} es) k)
   has_slot-filled es s k =
       ap is_some (get-from_sorted R (filter (λ e. is_some e.1) es) k (is_sorted-filter R (λ e. is_some e.1) es s))
       ∙ find-filled R o k es s ∙ sym (ap (λ x. is_some (flat x)) (get-from_sorted R es k s))

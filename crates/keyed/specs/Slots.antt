@@ -1,5 +1,7 @@
 -- Words on a table: a list of slots whose keys strictly rise. A slot has a row, or is vacant: room for a row.
-use Rattle.std.specs.Prelude.{◌≡◌, ℕ, ◌<◌, ◌≤◌, T, length, Bool, cond, not, List, is_some, Result, Ok, Err, Option, Some, None}
+use Rattle.std.specs.Prelude.{
+    ◌≡◌, ℕ, ◌<◌, ◌≤◌, T, length, Bool, cond, not, List, is_some, Result, Ok, Err, Option, Some, None
+}
 use Rattle.std.specs.declared.cmp.Ordering.{Ordering}
 use Rattle.std.specs.Ordering.{eq_by_cmp}
 use Rattle.std.specs.List.{filter, insert, remove}

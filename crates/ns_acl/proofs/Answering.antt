@@ -8,7 +8,10 @@ use Rattle.ns_types.specs.declared.refusal.Refusal.TheVariants as Refusal
 use Rattle.ns_types.specs.declared.reply.Content.{Content}
 use Rattle.ns_types.specs.declared.reply.Content.TheVariants as Content
 use Rattle.ns_types.specs.declared.step.NewToken.{NewToken}
-use Rattle.ns_types.specs.Asking.Policies.{bootstrap_accessor, create_token, delete_policy, delete_token, has_accessor, put_policy, read_policy, secret_of, token_of}
+use Rattle.ns_types.specs.Asking.Policies.{
+    bootstrap_accessor, create_token, delete_policy, delete_token, has_accessor, put_policy, read_policy, secret_of,
+    token_of
+}
 use Rattle.ns_types.specs.Asking.Admins.{is_full, most_rows}
 use Rattle.ns_types.specs.State.Names.{Name, same_name}
 use Rattle.ns_types.specs.Settling.Outcome.{Outcome, Done, Refused, found, unless}
@@ -36,7 +39,8 @@ module _ (acl : Acl) where
     pub read_nothing : get acl.policies name ≡ None → read_policy name acl ≡ Refused Refusal.NotFound
     read_nothing e = found_none (get acl.policies name) (λ policy. Done (Content.Policy (record { name = name; row = policy })) acl) (ap is_some e)
 
-    pub read_done : (policy : Policy) → get acl.policies name ≡ Some policy → read_policy name acl ≡ Done (Content.Policy (record { name = name; row = policy })) acl
+    pub read_done : (policy : Policy) → get acl.policies name ≡ Some policy →
+        read_policy name acl ≡ Done (Content.Policy (record { name = name; row = policy })) acl
     read_done policy e = ap (λ x. found x (λ policy. Done (Content.Policy (record { name = name; row = policy })) acl)) e
 
     pub put_full : (policy : Policy) → is_full acl.policies name ≡ true → put_policy name policy acl ≡ Refused Refusal.Full
@@ -66,12 +70,14 @@ module _ (acl : Acl) where
     unfolding shown created
     token_taken e = refuses e (unless (nat_le most_rows (len acl.tokens)) Refusal.Full (Done shown created)) Refusal.Conflict
 
-    pub token_full : (contains_key acl.tokens new.secret || has_accessor acl new.accessor) ≡ false → nat_le most_rows (len acl.tokens) ≡ true → create_token new acl ≡ Refused Refusal.Full
+    pub token_full : (contains_key acl.tokens new.secret || has_accessor acl new.accessor) ≡ false → nat_le most_rows (len acl.tokens) ≡ true →
+        create_token new acl ≡ Refused Refusal.Full
     unfolding shown created
     token_full e f = passes e (unless (nat_le most_rows (len acl.tokens)) Refusal.Full (Done shown created)) Refusal.Conflict
         ∙ refuses f (Done shown created) Refusal.Full
 
-    pub token_created : (content : Content) (token : Token) (after : Acl) → (contains_key acl.tokens new.secret || has_accessor acl new.accessor) ≡ false → nat_le most_rows (len acl.tokens) ≡ false
+    pub token_created : (content : Content) (token : Token) (after : Acl) → (contains_key acl.tokens new.secret || has_accessor acl new.accessor) ≡ false →
+        nat_le most_rows (len acl.tokens) ≡ false
         → content ≡ Content.Token (record { accessor = new.accessor; secret = new.secret; name = new.name; kind = new.kind; policies = new.policies })
         → token ≡ token_of new → after.policies ≡ acl.policies → after.tokens ≡ insert acl.tokens new.secret token
         → create_token new acl ≡ Done content after
@@ -88,11 +94,13 @@ module _ (acl : Acl) where
     unfolding removed
     no_token e = found_none (secret_of acl accessor) removed (ap is_some e)
 
-    pub token_kept : (secret : Name) → secret_of acl accessor ≡ Some secret → same_name accessor bootstrap_accessor ≡ true → delete_token accessor acl ≡ Refused Refusal.InUse
+    pub token_kept : (secret : Name) → secret_of acl accessor ≡ Some secret → same_name accessor bootstrap_accessor ≡ true →
+        delete_token accessor acl ≡ Refused Refusal.InUse
     unfolding removed
     token_kept secret e b = ap (λ x. found x removed) e ∙ refuses b (Done Content.Written (record acl { tokens = remove acl.tokens secret })) Refusal.InUse
 
-    pub token_deleted : (secret copy : Name) (after : Acl) → secret_of acl accessor ≡ Some secret → same_name accessor bootstrap_accessor ≡ false → copy ≡ secret
+    pub token_deleted : (secret copy : Name) (after : Acl) → secret_of acl accessor ≡ Some secret → same_name accessor bootstrap_accessor ≡ false →
+        copy ≡ secret
         → after.policies ≡ acl.policies → after.tokens ≡ remove acl.tokens copy
         → delete_token accessor acl ≡ Done Content.Written after
     unfolding removed

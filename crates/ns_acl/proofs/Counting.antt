@@ -1,5 +1,8 @@
 -- What is kept of rules, as more rules come.
-use Rattle.std.specs.Prelude.{◌≡◌, ℕ, max, ◌<◌, ◌≤◌, Bool, true, false, not, ◌&&◌, cond, List, [], ◌∷◌, ◌++◌, Option, Some, None, filter, flat_map, fold, length, unwrap_or, ◌+◌}
+use Rattle.std.specs.Prelude.{
+    ◌≡◌, ℕ, max, ◌<◌, ◌≤◌, Bool, true, false, not, ◌&&◌, cond, List, [], ◌∷◌, ◌++◌, Option, Some, None, filter,
+    flat_map, fold, length, unwrap_or, ◌+◌
+}
 use Rattle.std.proofs.Common.{refl, sym, ap, subst, ◌∙◌, arith, T, append_assoc, get_or, take}
 use Rattle.std.proofs.lemmas.List.{append-nil, flat_map_more, take_more}
 use Rattle.std.proofs.lemmas.List.Sums.{fold-append}
@@ -95,7 +98,8 @@ one_of_them false x y e = refl
 
 module _ (target : Name) (before : List Rule) (rule : Rule) where
   pub exact-more : is_exact target rule ≡ true
-      → gathered target (before ++ rule ∷ []) ≡ record (gathered target before) { exact = Some (both (unwrap_or (gathered target before).exact no_grants) rule.grants) }
+      → gathered target (before ++ rule ∷ []) ≡ record (gathered target before)
+          { exact = Some (both (unwrap_or (gathered target before).exact no_grants) rule.grants) }
   exact-more e =
       let matching = filter-passed (is_match target) before rule (one_of_them rule.pattern.is_prefix _ _ e) in
       λ i. record {
@@ -141,7 +145,8 @@ module _ (target : Name) (before : List Rule) (rule : Rule) where
         λ i. record {
           exact = merged_if_any (filter-passed (is_exact target) before rule e i);
           longest = (ap longest matches ∙ longest-more (filter (is_match target) before) rule ∙ least) i;
-          matching = (ap (λ rules. merged (top rules)) matches ∙ ap merged (top-level (filter (is_match target) before) rule h) ∙ merged-more (top (filter (is_match target) before)) rule) i;
+          matching = (ap (λ rules. merged (top rules)) matches ∙ ap merged (top-level (filter (is_match target) before) rule h) ∙
+              merged-more (top (filter (is_match target) before)) rule) i;
         }
 
 -- ---- more rules
@@ -157,14 +162,16 @@ module _ (acl : Acl) (kind : RuleKind) (names : List Name) (name : Name) where
   rules_at : Option Policy → List Rule
   rules_at policy = option_map_or (λ policy. policy.rules) policy []
 
-  rules-more : (policy : Option Policy) → get acl.policies name ≡ policy → rules_of acl kind (names ++ name ∷ []) ≡ rules_of acl kind names ++ filter (is_of_kind kind) (rules_at policy)
+  rules-more : (policy : Option Policy) → get acl.policies name ≡ policy → rules_of acl kind (names ++ name ∷ []) ≡ rules_of acl kind names ++
+      filter (is_of_kind kind) (rules_at policy)
   unfolding rules_at
   rules-more policy at =
       ap (filter (is_of_kind kind)) (sym (flat_map_more (λ name. option_map_or (λ policy. policy.rules) (get acl.policies name) []) [] names name))
       ∙ filter-append (is_of_kind kind) (flat_map (λ name. option_map_or (λ policy. policy.rules) (get acl.policies name) []) names) _
       ∙ ap (λ policy. rules_of acl kind names ++ filter (is_of_kind kind) (option_map_or (λ policy. policy.rules) policy [])) at
 
-  pub rules-there : (policy : Policy) → get acl.policies name ≡ Some policy → rules_of acl kind (names ++ name ∷ []) ≡ rules_of acl kind names ++ filter (is_of_kind kind) policy.rules
+  pub rules-there : (policy : Policy) → get acl.policies name ≡ Some policy → rules_of acl kind (names ++ name ∷ []) ≡ rules_of acl kind names ++
+      filter (is_of_kind kind) policy.rules
   unfolding rules_at
   rules-there policy at = rules-more (Some policy) at
 

@@ -17,9 +17,11 @@ module _ {V : Type 0} where
   pub slot_made : (old made : FinMap name_cmp (Option V)) (key : Name) → made ≡ with_slot old key → IsTrue (has_slot made key)
   slot_made old made key e = subst (λ m. IsTrue (has_slot m key)) (sym e) (has_slot-with_slot_here names old key)
 
-  pub row_put : (old made new : FinMap name_cmp (Option V)) (key : Name) (row : V) → made ≡ with_slot old key → new ≡ insert made key (Some row) → rows new ≡ insert (rows old) key row
+  pub row_put : (old made new : FinMap name_cmp (Option V)) (key : Name) (row : V) → made ≡ with_slot old key → new ≡ insert made key (Some row) →
+      rows new ≡ insert (rows old) key row
   row_put old made new key row e f =
-      ap (λ m. rows m) f ∙ rows-set names one_name made key row ∙ ap (λ m. insert (rows m) key row) e ∙ ap (λ m. insert m key row) (rows-with_slot names one_name old key)
+      ap (λ m. rows m) f ∙ rows-set names one_name made key row ∙ ap (λ m. insert (rows m) key row) e ∙
+          ap (λ m. insert m key row) (rows-with_slot names one_name old key)
 
   -- what a look-up finds is the row
   pub has_row : (m : FinMap name_cmp (Option V)) (key : Name) (row : Option V) (b : Bool) → row_at m key ≡ row → b ≡ is_some row → b ≡ contains_key (rows m) key
@@ -29,11 +31,13 @@ module _ {V : Type 0} where
   row_found m key row e = get-rows names m key ∙ e
 
 -- the first row that passes, of slots and of rows
-pub find-at_slot : {K V : Type 0} (p : K × V → Bool) (es : List (K × Option V)) → option_map (λ e. e.0) (find (at_slot p) es) ≡ option_map (λ e. e.0) (find p (row_list es))
+pub find-at_slot : {K V : Type 0} (p : K × V → Bool) (es : List (K × Option V)) →
+    option_map (λ e. e.0) (find (at_slot p) es) ≡ option_map (λ e. e.0) (find p (row_list es))
 find-at_slot p [] = refl
 find-at_slot p ((k, None) ∷ es) = find-at_slot p es
 find-at_slot p ((k, Some v) ∷ es) =
-    elim (p (k, v)) as (λ b. option_map (λ e. e.0) (cond b (Some (k, Some v)) (find (at_slot p) es)) ≡ option_map (λ e. e.0) (cond b (Some (k, v)) (find p (row_list es)))) [
+    elim (p (k, v)) as (λ b. option_map (λ e. e.0) (cond b (Some (k, Some v)) (find (at_slot p) es)) ≡ option_map (λ e. e.0)
+        (cond b (Some (k, v)) (find p (row_list es)))) [
       | true ↦ refl
       | false ↦ find-at_slot p es
     ]
@@ -44,4 +48,5 @@ module _ {V : Type 0} (p : Name × V → Bool) (m : FinMap name_cmp (Option V)) 
   any_slot = ap (list_any (at_slot p)) all ∙ any-at_slot name_cmp p (entries m) ∙ ap (list_any p) (sym (entries-rows m))
 
   pub first_slot : option_map (λ e. e.0) (find (at_slot p) slots) ≡ option_map (λ e. e.0) (find p (entries (rows m)))
-  first_slot = ap (λ es. option_map (λ e. e.0) (find (at_slot p) es)) all ∙ find-at_slot p (entries m) ∙ ap (λ es. option_map (λ e. e.0) (find p es)) (sym (entries-rows m))
+  first_slot = ap (λ es. option_map (λ e. e.0) (find (at_slot p) es)) all ∙ find-at_slot p (entries m) ∙
+      ap (λ es. option_map (λ e. e.0) (find p es)) (sym (entries-rows m))

@@ -3,7 +3,10 @@ use Rattle.std.specs.Prelude.{◌≡◌, List, Option}
 use Rattle.std.proofs.Common.{refl, ap}
 use Rattle.ns_types.specs.declared.acl.RuleKind.{RuleKind}
 use Rattle.ns_types.specs.State.Names.{Name}
-use Rattle.ns_types.specs.Access.Rights.{Bearer, bearer, counting, granted, merged, pool_rights_for, pool_rights_of, rights_for, rights_of, rules_of, unless_denied}
+use Rattle.ns_types.specs.Access.Rights.{
+    Bearer, bearer, counting, granted, merged, pool_rights_for, pool_rights_of, rights_for, rights_of, rules_of,
+    unless_denied
+}
 use Rattle.ns_types.specs.State.Rows.{Acl}
 
 module _ (acl : Acl) (secret : Option Name) (target : Name) (b : Bearer) (stands : b ≡ bearer acl secret) where
@@ -15,6 +18,7 @@ module _ (acl : Acl) (secret : Option Name) (target : Name) (b : Bearer) (stands
   unfolding pool_rights_of
   pool_rights_when = ap (pool_rights_for acl target) stands
 
-pub granted_is : (acl : Acl) (kind : RuleKind) (policies : List Name) (target : Name) → unless_denied (merged (counting target (rules_of acl kind policies))) ≡ granted acl kind policies target
+pub granted_is : (acl : Acl) (kind : RuleKind) (policies : List Name) (target : Name) →
+    unless_denied (merged (counting target (rules_of acl kind policies))) ≡ granted acl kind policies target
 unfolding granted
 granted_is acl kind policies target = refl

@@ -20,4 +20,5 @@ gathered target rules = record {
 
 -- what was of some rules is then of these too
 abbrev pub Adds : Name → List Rule → Gathered → Gathered → Type 0
-Adds target rules old new = (before : List Rule) → old ≡ gathered target before → new ≡ gathered target (before ++ rules)
+Adds target rules old new = (before : List Rule) → old ≡ gathered target before →
+    new ≡ gathered target (before ++ rules)

@@ -34,7 +34,8 @@ refused_so : (step : Step) (s s' : State) (refusal : Refusal) → (after step s 
 unfolding rendered
 refused_so step s s' refusal m = inl (Err refusal, subst (λ x. after step s ≡ said (Err refusal) x) (sym m.1) m.0, refl)
 
-refused_answer : (step : Step) (s s' : State) (refusal : Refusal) → (after step s ≡ None → ⊥) → Makes step s (Err refusal) s' → AnswersOrWants step s (refused refusal) s'
+refused_answer : (step : Step) (s s' : State) (refusal : Refusal) → (after step s ≡ None → ⊥) → Makes step s (Err refusal) s' →
+    AnswersOrWants step s (refused refusal) s'
 refused_answer step s s' Refusal.Memory enabled m = inr (refl, m)
 refused_answer step s s' Refusal.NotEnabled enabled m = absurd (enabled m.0)
 refused_answer step s s' (Refusal.BadField member) enabled m = refused_so step s s' (Refusal.BadField member) m
@@ -54,7 +55,8 @@ refused_answer step s s' Refusal.LogFull enabled m = refused_so step s s' Refusa
 refused_answer step s s' Refusal.Foreign enabled m = refused_so step s s' Refusal.Foreign m
 
 -- a step that was refused, or was not made for want of memory
-pub answers_refused : (step : Step) (s s' : State) (refusal : Refusal) → IsServed step → Makes step s (Err refusal) s' → AnswersOrWants step s (refused refusal) s'
+pub answers_refused : (step : Step) (s s' : State) (refusal : Refusal) → IsServed step → Makes step s (Err refusal) s' →
+    AnswersOrWants step s (refused refusal) s'
 answers_refused step s s' refusal served m = refused_answer step s s' refusal (served_decides step s served) m
 
 -- ---- reads
@@ -77,7 +79,8 @@ reads (Step.Node pool secret _) served e = absurd served
 reads _ served e = absurd served
 
 -- a read may find no memory for its reply
-pub answers_read : (step : Step) (s s' : State) (answer : Answer) (reply : Rendered) → IsServed step → is_reading step ≡ true → Makes step s answer s' → ShowsOrWants answer reply → AnswersOrWants step s reply s'
+pub answers_read : (step : Step) (s s' : State) (answer : Answer) (reply : Rendered) → IsServed step → is_reading step ≡ true → Makes step s answer s' →
+    ShowsOrWants answer reply → AnswersOrWants step s reply s'
 answers_read step s s' (Ok told) reply served reading m (inl e) = inl (Ok told, m, e)
 answers_read step s s' (Ok told) reply served reading m (inr e) = inr (e, reading_rests step s s' (Ok told) (reads step served reading) m)
 answers_read step s s' (Err refusal) reply served reading m e = subst (λ r. AnswersOrWants step s r s') (sym e) (answers_refused step s s' refusal served m)
@@ -139,7 +142,8 @@ read_rendered (Step.Node pool secret _) content reading t = absurd reading
 read_rendered _ content reading t = absurd reading
 
 -- what a read answers can be rendered
-pub shows : (step : Step) (s s' : State) (answer : Answer) → IsServed step → is_reading step ≡ true → Makes step s answer s' → IfOk answer (λ reply. IsRendered reply.content)
+pub shows : (step : Step) (s s' : State) (answer : Answer) → IsServed step → is_reading step ≡ true → Makes step s answer s' →
+    IfOk answer (λ reply. IsRendered reply.content)
 shows step s s' (Ok reply) served reading m = read_rendered step reply.content (reads step served reading) (served_tells step s s' reply served m)
 shows step s s' (Err refusal) served reading m = tt
 
@@ -164,16 +168,21 @@ write_fits (Step.Admin secret (AdminCommand.PutPool name pool)) content served e
 write_fits (Step.Admin secret (AdminCommand.DeletePool name)) content served e t = room_of_written None content t
 write_fits (Step.Admin secret (AdminCommand.PutPolicy name policy)) content served e t = room_of_written None content t
 write_fits (Step.Admin secret (AdminCommand.DeletePolicy name)) content served e t = room_of_written None content t
-write_fits (Step.Admin secret (AdminCommand.CreateToken new)) content served e t = subst (λ c. HasRoom (room_of (Step.Admin secret (AdminCommand.CreateToken new))) c) (sym t) refl
+write_fits (Step.Admin secret (AdminCommand.CreateToken new)) content served e t =
+    subst (λ c. HasRoom (room_of (Step.Admin secret (AdminCommand.CreateToken new))) c) (sym t) refl
 write_fits (Step.Admin secret (AdminCommand.DeleteToken accessor)) content served e t = room_of_written None content t
 write_fits (Step.Admin secret _) content served e t = not_both refl e
 write_fits _ content served e t = not_both refl e
 
 -- what a write answers fits in the room of its step
-pub fits : (step : Step) (s s' : State) (answer : Answer) (room : Option Name) → room ≡ room_of step → IsServed step → is_reading step ≡ false → Makes step s answer s' → IfOk answer (λ reply. HasRoom room reply.content)
-fits step s s' (Ok reply) room is served writing m = subst (λ r. HasRoom r reply.content) (sym is) (write_fits step reply.content served writing (served_tells step s s' reply served m))
+pub fits : (step : Step) (s s' : State) (answer : Answer) (room : Option Name) → room ≡ room_of step → IsServed step → is_reading step ≡ false →
+    Makes step s answer s' → IfOk answer (λ reply. HasRoom room reply.content)
+fits step s s' (Ok reply) room is served writing m =
+    subst (λ r. HasRoom r reply.content) (sym is) (write_fits step reply.content served writing (served_tells step s s' reply served m))
 fits step s s' (Err refusal) room is served writing m = tt
 
-pub answers_write : (step : Step) (s s' : State) (answer : Answer) (reply : Rendered) → IsServed step → Makes step s answer s' → reply ≡ rendered answer → AnswersOrWants step s reply s'
+pub answers_write : (step : Step) (s s' : State) (answer : Answer) (reply : Rendered) → IsServed step → Makes step s answer s' → reply ≡ rendered answer →
+    AnswersOrWants step s reply s'
 answers_write step s s' (Ok told) reply served m e = inl (Ok told, m, e)
-answers_write step s s' (Err refusal) reply served m e = subst (λ r. AnswersOrWants step s r s') (sym (e ∙ rendered_refusal refusal)) (answers_refused step s s' refusal served m)
+answers_write step s s' (Err refusal) reply served m e =
+    subst (λ r. AnswersOrWants step s r s') (sym (e ∙ rendered_refusal refusal)) (answers_refused step s s' refusal served m)

@@ -27,7 +27,8 @@ pub segment_none : (bytes path : List ℕ) (place : ℕ) (r : Option (Bor (List 
 segment_none bytes path place r same found is =
     ap (λ o. unwrap_or (option_map (λ (x : Bor (List ℕ)). x.now) o) []) (sym is) ∙ ap (λ o. unwrap_or o []) found ∙ ap (λ b. segment_at place b) same
 
-pub part-good : (part : Part) (segment text : List ℕ) → text ≡ percent_decode segment → IsUtf8 (percent_decode segment) → is_good part text ≡ is_part part segment
+pub part-good : (part : Part) (segment text : List ℕ) → text ≡ percent_decode segment → IsUtf8 (percent_decode segment) →
+    is_good part text ≡ is_part part segment
 unfolding is_part
 part-good part segment text same utf8 =
     ap (λ x. is_good part x) same

@@ -29,7 +29,8 @@ asked_first m reply s mid s' exchanges (Ok step) is a r = record {
   steps = a.0 ∷ r.steps;
   answers = a.2.0 ∷ r.answers;
   run = (mid, a.2.1, r.run);
-  made = inr (r.steps, r.answers, record { wanted = step; made = a.0; told = a.2.0; asks_wanted = is; draws_made = a.1; shows_told = a.2.2; made_first = refl; told_first = refl }, r.made);
+  made = inr (r.steps, r.answers, record { wanted = step; made = a.0; told = a.2.0; asks_wanted = is; draws_made = a.1; shows_told = a.2.2; made_first =
+      refl; told_first = refl }, r.made);
 }
 
 whole_first : (m : Message) (reply : Rendered) (s mid s' : State) (exchanges : List Exchange) → Answers s (asked_by m) reply mid

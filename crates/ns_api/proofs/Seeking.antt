@@ -1,5 +1,8 @@
 -- Which route a router finds, where each parameter takes a whole segment.
-use Rattle.std.proofs.Common.{◌≡◌, ◌≢◌, ◌⊎◌, inl, inr, ℕ, zero, suc, ◌-◌, ◌<◌, List, [], ◌∷◌, ◌++◌, length, drop, Option, Some, None, Bool, true, false, ◌&&◌, cond, ltb, eqb, MatchBool, refl, sym, ap, subst, ◌∙◌, arith, length-append}
+use Rattle.std.proofs.Common.{
+    ◌≡◌, ◌≢◌, ◌⊎◌, inl, inr, ℕ, zero, suc, ◌-◌, ◌<◌, List, [], ◌∷◌, ◌++◌, length, drop, Option, Some, None, Bool, true,
+    false, ◌&&◌, cond, ltb, eqb, MatchBool, refl, sym, ap, subst, ◌∙◌, arith, length-append
+}
 use Rattle.std.proofs.Math.Seq.{drop-append_seam}
 use Rattle.std.proofs.lemmas.Bool.{eqb-true, eqb-false}
 use Rattle.std.proofs.lemmas.Bool.Decides.{nat_tests}
@@ -230,8 +233,10 @@ longest-cases : {K : Type 0} (seg : List ℕ) (rs : RowsOf K) → AllOpen rs →
 longest-cases seg [] o = inl refl
 longest-cases seg (([], key) ∷ rest) o = longest-cases seg rest o.1
 longest-cases seg ((x ∷ u, key) ∷ rest) o =
-    subst (λ y. (longest_from seg (better seg [] (segment (y ∷ u))) rest ≡ []) ⊎ (longest_from seg (better seg [] (segment (y ∷ u))) rest ≡ slash ∷ [])) (sym o.0)
-    (elim (cuts seg (slash ∷ [])) as (λ v. (longest_from seg (cond v (slash ∷ []) []) rest ≡ []) ⊎ (longest_from seg (cond v (slash ∷ []) []) rest ≡ slash ∷ [])) [
+    subst (λ y. (longest_from seg (better seg [] (segment (y ∷ u))) rest ≡ []) ⊎ (longest_from seg (better seg [] (segment (y ∷ u))) rest ≡ slash ∷ []))
+        (sym o.0)
+    (elim (cuts seg (slash ∷ [])) as (λ v. (longest_from seg (cond v (slash ∷ []) []) rest ≡ [])
+        ⊎ (longest_from seg (cond v (slash ∷ []) []) rest ≡ slash ∷ [])) [
       | true ↦ inr (longest-kept seg rest o.1)
       | false ↦ longest-cases seg rest o.1
     ])
@@ -248,8 +253,10 @@ with_in : {K : Type 0} (rs : RowsOf K) (t : List ℕ) (k : K) → In (slash ∷ 
 with_in [] t k h = h
 with_in ((u, key) ∷ rest) t k h =
     elim h [
-      | inl p ↦ subst (λ w. In (slash ∷ t) k (cond (same_text (segment w) (slash ∷ [])) ((w, key) ∷ with_suffix (slash ∷ []) rest) (with_suffix (slash ∷ []) rest))) (sym p.0) (inl (refl, p.1))
-      | inr q ↦ elim (same_text (segment u) (slash ∷ [])) as (λ v. In (slash ∷ t) k (cond v ((u, key) ∷ with_suffix (slash ∷ []) rest) (with_suffix (slash ∷ []) rest))) [
+      | inl p ↦ subst (λ w. In (slash ∷ t) k (cond (same_text (segment w) (slash ∷ [])) ((w, key) ∷ with_suffix (slash ∷ []) rest)
+          (with_suffix (slash ∷ []) rest))) (sym p.0) (inl (refl, p.1))
+      | inr q ↦ elim (same_text (segment u) (slash ∷ [])) as
+          (λ v. In (slash ∷ t) k (cond v ((u, key) ∷ with_suffix (slash ∷ []) rest) (with_suffix (slash ∷ []) rest))) [
         | true ↦ inr (with_in rest t k q)
         | false ↦ with_in rest t k q
       ]
@@ -342,7 +349,8 @@ matches-byte b t p m =
       | false ↦ λ e. (p, refl, m)
     ] refl
 
-pub matches-part : (part rest t path : List ℕ) → path ≡ part ++ rest → 0 < length part → has_slash part ≡ false → Matches t rest → Matches (param_token ∷ t) path
+pub matches-part : (part rest t path : List ℕ) → path ≡ part ++ rest → 0 < length part → has_slash part ≡ false → Matches t rest →
+    Matches (param_token ∷ t) path
 matches-part part rest t path e some h m = (part, rest, e, some, h, m)
 
 found-byte : {K : Type 0} (b : ℕ) (p : List ℕ) (rs : RowsOf K) (k : K) → Found (step b rs) k p → Found rs k (b ∷ p)

@@ -1,5 +1,8 @@
 -- What a path spells, by its segments and by the tokens of a route.
-use Rattle.std.proofs.Common.{◌≡◌, ◌⊎◌, inl, inr, ℕ, ◌<◌, List, [], ◌∷◌, ◌++◌, length, Bool, true, false, ◌&&◌, ◌||◌, not, cond, ltb, eqb, MatchBool, refl, sym, ap, subst, ◌∙◌, arith}
+use Rattle.std.proofs.Common.{
+    ◌≡◌, ◌⊎◌, inl, inr, ℕ, ◌<◌, List, [], ◌∷◌, ◌++◌, length, Bool, true, false, ◌&&◌, ◌||◌, not, cond, ltb, eqb,
+    MatchBool, refl, sym, ap, subst, ◌∙◌, arith
+}
 use Rattle.std.proofs.lemmas.Bool.{eqb-true}
 use Rattle.std.proofs.lemmas.Bool.Decides.{nat_tests}
 use Rattle.std.proofs.lemmas.Slice.Eq.{bytes_eq-Decides}
@@ -82,7 +85,8 @@ nil_from_zero (b ∷ s) h = let z : length (b ∷ s) ≡ 0 = eqb-true (length (b
 fits-matches : (word part t rest : List ℕ) → fits word part ≡ true → has_slash part ≡ false → Matches t rest → Matches (token_of word ++ t) (part ++ rest)
 fits-matches [] part t rest f h m = subst (λ x. Matches t (x ++ rest)) (sym (nil_from_zero part f)) m
 fits-matches (b ∷ word) part t rest f h m =
-    elim (eqb b 123) as (λ v. cond v (ltb 0 (length part)) (bytes_eq part (b ∷ word)) ≡ true → Matches (cond v (param_token ∷ []) (b ∷ word) ++ t) (part ++ rest)) [
+    elim (eqb b 123) as (λ v. cond v (ltb 0 (length part)) (bytes_eq part (b ∷ word)) ≡ true →
+        Matches (cond v (param_token ∷ []) (b ∷ word) ++ t) (part ++ rest)) [
       | true ↦ λ g. let some : 0 < length part = grind (arith, nat_tests) in matches-part part rest t (part ++ rest) refl some h m
       | false ↦ λ g. subst (λ x. Matches ((b ∷ word) ++ t) (x ++ rest)) (sym ((bytes_eq-Decides part (b ∷ word)).0 g)) (matches-word (b ∷ word) t rest m)
     ] f
@@ -91,7 +95,8 @@ matches-fits : (word t path : List ℕ) → is_plain word ≡ true → Matches (
     → (part : List ℕ) × (rest : List ℕ) × (path ≡ part ++ rest) × (has_slash part ≡ false) × (fits word part ≡ true) × Matches t rest
 matches-fits [] t path h m = ([], path, refl, refl, refl, m)
 matches-fits (b ∷ word) t path h m =
-    elim (eqb b 123) as (λ v. Matches (cond v (param_token ∷ []) (b ∷ word) ++ t) path → (part : List ℕ) × (rest : List ℕ) × (path ≡ part ++ rest) × (has_slash part ≡ false)
+    elim (eqb b 123) as (λ v. Matches (cond v (param_token ∷ []) (b ∷ word) ++ t) path → (part : List ℕ) × (rest : List ℕ) × (path ≡ part ++ rest) ×
+        (has_slash part ≡ false)
     × (cond v (ltb 0 (length part)) (bytes_eq part (b ∷ word)) ≡ true) × Matches t rest) [
       | true ↦ λ n. let some = n.3 in let long : ltb 0 (length n.0) ≡ true = grind (arith, nat_tests) in (n.0, n.1, n.2, n.4, long, n.5)
       | false ↦ λ n.
@@ -138,7 +143,8 @@ nil-spelled path h = by (cuts_of path)
 and_nil : (a b : Bool) → (a && b) ≡ true → b ≡ true
 and_nil a b h = (and_true a b h).1
 
-spelled-plain : (word : List ℕ) (words : List (List ℕ)) (path : List ℕ) → has_slash path ≡ false → Spelled (word ∷ words) path → Matches (tokens_of (word ∷ words)) path
+spelled-plain : (word : List ℕ) (words : List (List ℕ)) (path : List ℕ) → has_slash path ≡ false → Spelled (word ∷ words) path →
+    Matches (tokens_of (word ∷ words)) path
 spelled-plain word [] path p h =
     let s = subst (λ x. pointwise fits (word ∷ []) x ≡ true) (segments-plain path p) h in
     subst (λ x. Matches (token_of word ++ []) x) (sym (append_nil path)) (fits-matches word path [] [] (and_true (fits word path) true s).0 p refl)

@@ -24,13 +24,16 @@ use Rattle.ns_api.proofs.Spelling.{and_true}
 pub part_text : (part : Part) (place : ℕ) (path : List ℕ) → (b : Bool) → (is_part part (segment_at place path) && b) ≡ true → IsUtf8 (text_at place path)
 unfolding is_part
 part_text part place path b h = IsUtf8-from_is_utf8 (percent_decode (segment_at place path))
-    (and_true (is_utf8 (percent_decode (segment_at place path))) (is_good part (percent_decode (segment_at place path))) (and_true (is_part part (segment_at place path)) b h).0).0
+    (and_true (is_utf8 (percent_decode (segment_at place path))) (is_good part (percent_decode (segment_at place path)))
+        (and_true (is_part part (segment_at place path)) b h).0).0
 
 -- an accessor is a UUID
-pub accessor_parsed : (place : ℕ) (path : List ℕ) → (b : Bool) → (is_part Part.Accessor (segment_at place path) && b) ≡ true → is_some (parsed (text_at place path)) ≡ true
+pub accessor_parsed : (place : ℕ) (path : List ℕ) → (b : Bool) → (is_part Part.Accessor (segment_at place path) && b) ≡ true →
+    is_some (parsed (text_at place path)) ≡ true
 unfolding is_part is_good
 accessor_parsed place path b h = by (parsed (text_at place path))
-    (and_true (is_utf8 (percent_decode (segment_at place path))) (is_some (uuid_number (text_at place path))) (and_true (is_part Part.Accessor (segment_at place path)) b h).0).1
+    (and_true (is_utf8 (percent_decode (segment_at place path))) (is_some (uuid_number (text_at place path)))
+        (and_true (is_part Part.Accessor (segment_at place path)) b h).0).1
   where
     by : (o : Option (List ℕ)) → is_some (option_map (from_be_bytes w128) o) ≡ true → is_some o ≡ true
     by None e = e
@@ -43,9 +46,11 @@ unparsed (Some u) e refused = not_both (refused (u, refl)) refl
 
 -- what is not built
 pub asked_elsewhere : (endpoint : Endpoint) (method : Method) (a : Asked)
-    → (endpoint ≡ Endpoint.Jobs → ⊥) → (endpoint ≡ Endpoint.Job → ⊥) → (endpoint ≡ Endpoint.Namespaces → ⊥) → (endpoint ≡ Endpoint.NewNamespace → ⊥) → (endpoint ≡ Endpoint.Namespace → ⊥)
+    → (endpoint ≡ Endpoint.Jobs → ⊥) → (endpoint ≡ Endpoint.Job → ⊥) → (endpoint ≡ Endpoint.Namespaces → ⊥) → (endpoint ≡ Endpoint.NewNamespace → ⊥) →
+        (endpoint ≡ Endpoint.Namespace → ⊥)
     → (endpoint ≡ Endpoint.Quotas → ⊥) → (endpoint ≡ Endpoint.NewQuota → ⊥) → (endpoint ≡ Endpoint.Quota → ⊥) → (endpoint ≡ Endpoint.QuotaUsage → ⊥)
-    → (endpoint ≡ Endpoint.Pools → ⊥) → (endpoint ≡ Endpoint.Pool → ⊥) → (endpoint ≡ Endpoint.Policy → ⊥) → (endpoint ≡ Endpoint.NewToken → ⊥) → (endpoint ≡ Endpoint.Token → ⊥)
+    → (endpoint ≡ Endpoint.Pools → ⊥) → (endpoint ≡ Endpoint.Pool → ⊥) → (endpoint ≡ Endpoint.Policy → ⊥) → (endpoint ≡ Endpoint.NewToken → ⊥) →
+        (endpoint ≡ Endpoint.Token → ⊥)
     → asked_of endpoint method a ≡ not_served
 unfolding asked_of
 asked_elsewhere Endpoint.Jobs _ a f _ _ _ _ _ _ _ _ _ _ _ _ _ = absurd (f refl)

@@ -48,7 +48,8 @@ MakesNone (Err refusal) reply = (reply ≡ refused refusal) ⊎ (reply ≡ refus
 MakesNone (Ok step) reply = reply ≡ refused Memory
 
 -- a request that made the first of these steps, whose answer it got
-pub record MakesFirst (asks : Result Step Refusal) (reply : Rendered) (steps : List Step) (answers : List Answer) (steps' : List Step) (answers' : List Answer) : Type 0 where
+pub record MakesFirst (asks : Result Step Refusal) (reply : Rendered) (steps : List Step) (answers : List Answer)
+    (steps' : List Step) (answers' : List Answer) : Type 0 where
   pub wanted : Step
   pub made : Step
   pub told : Answer
@@ -64,7 +65,8 @@ Made [] steps answers = (steps ≡ []) × (answers ≡ [])
 Made ((Refused fault, reply) ∷ exchanges) steps answers = (reply ≡ refusal_of fault) × Made exchanges steps answers
 Made ((Whole m, reply) ∷ exchanges) steps answers =
     (MakesNone (asked (asked_by m)) reply × Made exchanges steps answers)
-    ⊎ ((steps' : List Step) × (answers' : List Answer) × MakesFirst (asked (asked_by m)) reply steps answers steps' answers' × Made exchanges steps' answers')
+    ⊎ ((steps' : List Step) × (answers' : List Answer) ×
+        MakesFirst (asked (asked_by m)) reply steps answers steps' answers' × Made exchanges steps' answers')
 
 -- what the requests of a connection made is a run
 pub record RunsAs (s : State) (exchanges : List Exchange) (s' : State) : Type 0 where

@@ -13,7 +13,9 @@ use Rattle.ns_types.specs.declared.step.Step.TheVariants as Step
 use Rattle.ns_types.specs.Wire.Http.{Asked}
 use Rattle.ns_types.specs.State.Names.{Name, default_name}
 use Rattle.ns_documents.specs.Access.{policy_in, token_in}
-use Rattle.ns_documents.specs.Records.{namespace_in as namespace_document, pool_in as pool_document, quota_in as quota_document}
+use Rattle.ns_documents.specs.Records.{
+    namespace_in as namespace_document, pool_in as pool_document, quota_in as quota_document
+}
 use Rattle.ns_json.specs.Reading.{◌>>=◌, body_in}
 use Rattle.ns_json.specs.Registration.{registration_in}
 use Rattle.ns_api.specs.declared.endpoint.Endpoint.{Endpoint}
@@ -69,7 +71,8 @@ unfoldable pub registration_asked : Asked → Result Step Refusal
 registration_asked a = do
   document ← body_in registration_in a.body
   parameter ← namespace_in (query_in a.target)
-  Ok (Step.Ask (namespace_of parameter document.namespace) (secret_of a.token) (AskCommand.Register document.registration))
+  Ok (Step.Ask (namespace_of parameter document.namespace) (secret_of a.token)
+      (AskCommand.Register document.registration))
 
 unfoldable pub namespace_put : Option Name → Asked → Result Step Refusal
 namespace_put named a = do
@@ -95,7 +98,8 @@ policy_put a = do
 unfoldable pub token_asked : Asked → Result Step Refusal
 token_asked a = do
   document ← body_in token_in a.body
-  admin_of (AdminCommand.CreateToken (record { accessor = []; secret = []; name = document.name; kind = document.kind; policies = document.policies })) a
+  admin_of (AdminCommand.CreateToken (record { accessor = []; secret = []; name = document.name; kind =
+      document.kind; policies = document.policies })) a
 
 -- ---- reads that name their place in the path
 
@@ -121,20 +125,27 @@ by_kind Method.Write get write delete = write
 by_kind Method.Delete get write delete = delete
 
 unfoldable pub asked_of : Endpoint → Method → Asked → Result Step Refusal
-asked_of Endpoint.Jobs method a = by_kind method (ask_of (AskCommand.ListJobs (prefix_in a)) a) (registration_asked a) not_served
+asked_of Endpoint.Jobs method a = by_kind method (ask_of (AskCommand.ListJobs (prefix_in a)) a) (registration_asked a)
+    not_served
 asked_of Endpoint.Job method a = by_kind method (ask_of (AskCommand.ReadJob (third_part a)) a) not_served not_served
 asked_of Endpoint.Namespaces method a = by_kind method (admin_of AdminCommand.ListNamespaces a) not_served not_served
 asked_of Endpoint.NewNamespace method a = by_kind method not_served (namespace_put None a) not_served
-asked_of Endpoint.Namespace method a = by_kind method (namespace_read a) (namespace_put (Some (third_part a)) a) (admin_of (AdminCommand.DeleteNamespace (third_part a)) a)
+asked_of Endpoint.Namespace method a = by_kind method (namespace_read a) (namespace_put (Some (third_part a)) a)
+    (admin_of (AdminCommand.DeleteNamespace (third_part a)) a)
 asked_of Endpoint.Quotas method a = by_kind method (admin_of AdminCommand.ListQuotas a) not_served not_served
 asked_of Endpoint.NewQuota method a = by_kind method not_served (quota_put None a) not_served
-asked_of Endpoint.Quota method a = by_kind method (admin_of (AdminCommand.ReadQuota (third_part a)) a) (quota_put (Some (third_part a)) a) (admin_of (AdminCommand.DeleteQuota (third_part a)) a)
-asked_of Endpoint.QuotaUsage method a = by_kind method (ask_of (AskCommand.QuotaUsage (fourth_part a)) a) not_served not_served
+asked_of Endpoint.Quota method a = by_kind method (admin_of (AdminCommand.ReadQuota (third_part a)) a)
+    (quota_put (Some (third_part a)) a) (admin_of (AdminCommand.DeleteQuota (third_part a)) a)
+asked_of Endpoint.QuotaUsage method a = by_kind method (ask_of (AskCommand.QuotaUsage (fourth_part a)) a)
+    not_served not_served
 asked_of Endpoint.Pools method a = by_kind method (admin_of AdminCommand.ListPools a) (pool_put None a) not_served
-asked_of Endpoint.Pool method a = by_kind method (pool_read a) (pool_put (Some (fourth_part a)) a) (admin_of (AdminCommand.DeletePool (fourth_part a)) a)
-asked_of Endpoint.Policy method a = by_kind method (admin_of (AdminCommand.ReadPolicy (fourth_part a)) a) (policy_put a) (admin_of (AdminCommand.DeletePolicy (fourth_part a)) a)
+asked_of Endpoint.Pool method a = by_kind method (pool_read a) (pool_put (Some (fourth_part a)) a)
+    (admin_of (AdminCommand.DeletePool (fourth_part a)) a)
+asked_of Endpoint.Policy method a = by_kind method (admin_of (AdminCommand.ReadPolicy (fourth_part a)) a) (policy_put a)
+    (admin_of (AdminCommand.DeletePolicy (fourth_part a)) a)
 asked_of Endpoint.NewToken method a = by_kind method not_served (token_asked a) not_served
-asked_of Endpoint.Token method a = by_kind method not_served not_served (admin_of (AdminCommand.DeleteToken (canonical (fourth_part a))) a)
+asked_of Endpoint.Token method a = by_kind method not_served not_served
+    (admin_of (AdminCommand.DeleteToken (canonical (fourth_part a))) a)
 asked_of _ method a = not_served
 
 abbrev pub asked_by_method : Endpoint → Option Method → Asked → Result Step Refusal

@@ -12,7 +12,8 @@ use Rattle.ns_types.specs.State.Names.{Name}
 
 -- the text of a UUID of version 4, in lower case with hyphens
 abbrev pub IsRandomId : Name → Type 0
-IsRandomId text = (bytes : List ℕ) × (version_num bytes ≡ 4) × (variant_of (slice_index bytes 8) ≡ Variant.RFC4122) × (text ≡ hyphenated_text lower bytes)
+IsRandomId text = (bytes : List ℕ) × (version_num bytes ≡ 4) × (variant_of (slice_index bytes 8) ≡ Variant.RFC4122) ×
+    (text ≡ hyphenated_text lower bytes)
 
 abbrev pub with_texts : Name → Name → NewToken → NewToken
 with_texts accessor secret new = record new { accessor = accessor; secret = secret }
@@ -20,5 +21,6 @@ with_texts accessor secret new = record new { accessor = accessor; secret = secr
 -- the step that is made where this one is asked for: a new token has its two texts drawn
 abbrev pub Draws : Step → Step → Type 0
 Draws (Step.Admin bearer (AdminCommand.CreateToken new)) made =
-    (accessor : Name) × (secret : Name) × IsRandomId accessor × IsRandomId secret × (made ≡ Step.Admin bearer (AdminCommand.CreateToken (with_texts accessor secret new)))
+    (accessor : Name) × (secret : Name) × IsRandomId accessor × IsRandomId secret ×
+        (made ≡ Step.Admin bearer (AdminCommand.CreateToken (with_texts accessor secret new)))
 Draws step made = made ≡ step

@@ -1,5 +1,8 @@
 -- The parts of a path.
-use Rattle.std.specs.Prelude.{ℕ, ◌/◌, ◌%◌, ◌^◌, ◌==◌, Bool, ◌&&◌, List, [], Option, Some, None, option_and_then, is_some, if◌then◌else◌, unwrap_or, slice_get}
+use Rattle.std.specs.Prelude.{
+    ℕ, ◌/◌, ◌%◌, ◌^◌, ◌==◌, Bool, ◌&&◌, List, [], Option, Some, None, option_and_then, is_some, if◌then◌else◌,
+    unwrap_or, slice_get
+}
 use Rattle.std.specs.List.{slice_split}
 use Rattle.std.specs.Str.{is_utf8}
 use Rattle.percent_encoding.specs.Percent.{percent_decode}

@@ -11,7 +11,8 @@ use Rattle.ns_types.proofs.Tables.{tied}
 use Rattle.ns_audit.proofs.Alone.Chosen.{no_path, same_Some}
 
 -- a row of a table after an insertion is the new one or an old one
-pub row_of_insert : {K X : Type 0} {R : K → K → Ordering} (o : IsTotalOrder R) (same : IsAntisymmetric R) (m : FinMap R X) (k : K) (v : X) (q : K) (x : X) → get (insert m k v) q ≡ Some x
+pub row_of_insert : {K X : Type 0} {R : K → K → Ordering} (o : IsTotalOrder R) (same : IsAntisymmetric R) (m : FinMap R X) (k : K) (v : X) (q : K) (x : X) →
+    get (insert m k v) q ≡ Some x
     → ((q ≡ k) × (v ≡ x)) ⊎ (get m q ≡ Some x)
 row_of_insert {X = X} {R = R} o same m k v q x e = by (eq_by_cmp R q k) refl (sym (get-insert o m k v q) ∙ e)
   where
@@ -39,7 +40,8 @@ module _ {A : Type 0} where
 
   pub each_still : (P : A → Type 0) (f : A → Bool) (xs : List A) → Each P xs → Each P (filter f xs)
   each_still P f [] h = tt
-  each_still P f (x ∷ xs) h = elim (f x) as (λ b. Each P (cond b (x ∷ filter f xs) (filter f xs))) [ true ↦ (h.0, each_still P f xs h.1) | false ↦ each_still P f xs h.1 ]
+  each_still P f (x ∷ xs) h = elim (f x) as (λ b. Each P (cond b (x ∷ filter f xs) (filter f xs))) [ true ↦ (h.0, each_still P f xs h.1) | false ↦
+      each_still P f xs h.1 ]
 
   pub each_first : (P : A → Type 0) (same : A → A → Bool) (xs : List A) → Each P xs → Each P (first_each same xs)
   each_first P same [] h = tt
@@ -58,7 +60,8 @@ module _ {A : Type 0} where
 
   pub each_left : (P : A → Type 0) (f : A → Bool) (xs : List A) → Each P xs → Each (λ x. P x × (f x ≡ true)) (filter f xs)
   each_left P f [] h = tt
-  each_left P f (x ∷ xs) h = elim (f x) as (λ b. f x ≡ b → Each (λ x. P x × (f x ≡ true)) (cond b (x ∷ filter f xs) (filter f xs))) [ true ↦ λ t. ((h.0, t), each_left P f xs h.1) | false ↦ λ _. each_left P f xs h.1 ] refl
+  each_left P f (x ∷ xs) h = elim (f x) as (λ b. f x ≡ b → Each (λ x. P x × (f x ≡ true)) (cond b (x ∷ filter f xs) (filter f xs)))
+      [ true ↦ λ t. ((h.0, t), each_left P f xs h.1) | false ↦ λ _. each_left P f xs h.1 ] refl
 
 pub each_flat : {A B : Type 0} (P : B → Type 0) (f : A → List B) (xs : List A) → Each (λ x. Each P (f x)) xs → Each P (flat_map f xs)
 each_flat P f [] h = tt

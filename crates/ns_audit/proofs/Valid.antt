@@ -22,7 +22,8 @@ use Rattle.ns_audit.proofs.ValidRecords.Opening.{records_opening}
 use Rattle.ns_audit.proofs.ValidRecords.Step.{records_step}
 use Rattle.ns_audit.proofs.ValidWorkers.Step.{workers_step, workers_opening}
 
-module _ (s : State) (records : HasRecords s) (evaluations : IsSoundInEvaluations s.world) (workers : HasSoundWorkers s.world) (allocations : IsAllocated s.world) where
+module _ (s : State) (records : HasRecords s) (evaluations : IsSoundInEvaluations s.world) (workers : HasSoundWorkers s.world)
+    (allocations : IsAllocated s.world) where
   sound_tenant : (ns : Name) (t : Tenant) → get s.world.tenants ns ≡ Some t → IsSoundTenant s.world ns t
   sound_tenant ns t is = let good = records.tenant ns t is in let staff = workers.tenant ns t is in record {
     named = good.named;
@@ -84,7 +85,8 @@ valid_step s s' step answer valid good e = all_valid s' (records_step s s' step 
     (workers_step s s' step answer valid good e) (allocations_step s s' step answer valid good e)
 
 pub opening_is_valid : OpeningValid
-opening_is_valid secret named = all_valid (opening secret) (records_opening secret named) (evaluations_opening secret named) (workers_opening secret) (allocations_opening secret)
+opening_is_valid secret named = all_valid (opening secret) (records_opening secret named) (evaluations_opening secret named) (workers_opening secret)
+    (allocations_opening secret)
 
 along : (s s' : State) (steps : List Step) (answers : List Answer) → IsValid s → Each IsGoodStep steps → Run s steps answers s' → IsValid s'
 along s s' [] [] valid good run = subst IsValid (sym run) valid

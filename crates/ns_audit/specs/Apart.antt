@@ -15,7 +15,8 @@ use Rattle.ns_types.specs.Access.Sharing.{permits}
 
 -- the owners that are not chosen
 abbrev pub rest : Part → Part
-rest part = record { spaces = λ ns. not (part.spaces ns); pools = λ pool. not (part.pools pool); quotas = λ quota. not (part.quotas quota) }
+rest part = record { spaces = λ ns. not (part.spaces ns); pools = λ pool. not (part.pools pool); quotas =
+    λ quota. not (part.quotas quota) }
 
 -- a pool, and a quota if there is one, that are chosen exactly where the namespace is
 pub record IsWith (part : Part) (ns pool : Name) (quota : Option Name) : Type 0 where
@@ -29,20 +30,28 @@ pub record IsKeptWith (part : Part) (ns : Name) (kept : Snapshot) : Type 0 where
 
 -- no namespace reaches over the border of the choice
 pub record IsApart (part : Part) (w : World) : Type 0 where
-  pub quota : (ns : Name) (t : Tenant) (q : Name) → get w.tenants ns ≡ Some t → t.namespace.quota ≡ Some q → part.quotas q ≡ part.spaces ns
-  pub pool : (ns : Name) (t : Tenant) (p : Name) → get w.tenants ns ≡ Some t → permits t.namespace p ≡ true → part.pools p ≡ part.spaces ns
-  pub blocked : Each (λ key. (e : Evaluation) → evaluation_at w key ≡ Some e → IsWith part key.0 e.pool e.quota) w.blocked
-  pub allocation : (ns : Name) (t : Tenant) (n : ℕ) (a : Allocation) → get w.tenants ns ≡ Some t → get t.allocations n ≡ Some a → is_live a ≡ true
+  pub quota : (ns : Name) (t : Tenant) (q : Name) → get w.tenants ns ≡ Some t → t.namespace.quota ≡ Some q →
+      part.quotas q ≡ part.spaces ns
+  pub pool : (ns : Name) (t : Tenant) (p : Name) → get w.tenants ns ≡ Some t → permits t.namespace p ≡ true →
+      part.pools p ≡ part.spaces ns
+  pub blocked : Each (λ key. (e : Evaluation) → evaluation_at w key ≡ Some e → IsWith part key.0 e.pool e.quota)
+      w.blocked
+  pub allocation : (ns : Name) (t : Tenant) (n : ℕ) (a : Allocation) → get w.tenants ns ≡ Some t →
+      get t.allocations n ≡ Some a → is_live a ≡ true
       → part.pools a.pool ≡ part.spaces ns
-  pub job : (ns : Name) (t : Tenant) (id : Name) (j : Job) → get w.tenants ns ≡ Some t → get t.jobs id ≡ Some j → part.pools j.document.pool ≡ part.spaces ns
-  pub held : (ns : Name) (t : Tenant) (n : ℕ) (worker : Worker) (e : Evaluation) → get w.tenants ns ≡ Some t → get t.workers n ≡ Some worker
+  pub job : (ns : Name) (t : Tenant) (id : Name) (j : Job) → get w.tenants ns ≡ Some t → get t.jobs id ≡ Some j →
+      part.pools j.document.pool ≡ part.spaces ns
+  pub held : (ns : Name) (t : Tenant) (n : ℕ) (worker : Worker) (e : Evaluation) → get w.tenants ns ≡ Some t →
+      get t.workers n ≡ Some worker
       → get t.evaluations worker.evaluation ≡ Some e → part.pools e.pool ≡ part.spaces ns
-  pub kept : (ns : Name) (t : Tenant) (n : ℕ) (worker : Worker) (kept : Snapshot) → get w.tenants ns ≡ Some t → get t.workers n ≡ Some worker
+  pub kept : (ns : Name) (t : Tenant) (n : ℕ) (worker : Worker) (kept : Snapshot) → get w.tenants ns ≡ Some t →
+      get t.workers n ≡ Some worker
       → worker.kept ≡ Some kept → IsKeptWith part ns kept
 
 -- what a client has not ended of the chosen namespaces is on chosen pools, whatever is desired of it
 abbrev pub IsAtHome : Part → World → Type 0
-IsAtHome part w = (ns : Name) (t : Tenant) (n : ℕ) (a : Allocation) → get w.tenants ns ≡ Some t → get t.allocations n ≡ Some a → is_held a.client ≡ true
+IsAtHome part w = (ns : Name) (t : Tenant) (n : ℕ) (a : Allocation) → get w.tenants ns ≡ Some t →
+    get t.allocations n ≡ Some a → is_held a.client ≡ true
     → part.spaces ns ≡ true → part.pools a.pool ≡ true
 
 -- ---- what a step's own change may do

@@ -35,8 +35,10 @@ belongs part (Step.Nack worker ns) = part.spaces ns
 
 -- both say the same of each secret's rights at the chosen owners
 pub record SameRights (part : Part) (a b : Acl) : Type 0 where
-  pub spaces : (secret : Option Name) (ns : Name) → part.spaces ns ≡ true → rights_of b secret ns ≡ rights_of a secret ns
-  pub pools : (secret : Option Name) (pool : Name) → part.pools pool ≡ true → pool_rights_of b secret pool ≡ pool_rights_of a secret pool
+  pub spaces : (secret : Option Name) (ns : Name) → part.spaces ns ≡ true →
+      rights_of b secret ns ≡ rights_of a secret ns
+  pub pools : (secret : Option Name) (pool : Name) → part.pools pool ≡ true →
+      pool_rights_of b secret pool ≡ pool_rights_of a secret pool
 
 -- t holds the rows and entries of the chosen owners in s, and no others
 pub record AgreeOn (part : Part) (s t : State) : Type 0 where
@@ -65,12 +67,14 @@ pub record IsFit (part : Part) (s : State) : Type 0 where
 
 -- a step of its own is answered alike, and leads to states that agree again
 abbrev pub OwnStepApart : Type 0
-OwnStepApart = (part : Part) (s t s' : State) (step : Step) (answer : Answer) → AgreeOn part s t → IsFit part s → belongs part step ≡ true
+OwnStepApart = (part : Part) (s t s' : State) (step : Step) (answer : Answer) → AgreeOn part s t → IsFit part s →
+    belongs part step ≡ true
     → after step s ≡ said answer s' → (t' : State) × (after step t ≡ said answer t') × AgreeOn part s' t'
 
 -- any other step changes nothing of what it has
 abbrev pub OtherStepApart : Type 0
-OtherStepApart = (part : Part) (s t s' : State) (step : Step) (answer : Answer) → AgreeOn part s t → IsFit part s → belongs part step ≡ false
+OtherStepApart = (part : Part) (s t s' : State) (step : Step) (answer : Answer) → AgreeOn part s t → IsFit part s →
+    belongs part step ≡ false
     → LeavesTables part step s s' → after step s ≡ said answer s' → AgreeOn part s' t
 
 -- ---- runs
@@ -79,13 +83,15 @@ OtherStepApart = (part : Part) (s t s' : State) (step : Step) (answer : Answer) 
 abbrev pub QuietRun : Part → State → List Step → List Answer → State → Type 0
 QuietRun part s [] [] s' = s' ≡ s
 QuietRun part s (step ∷ steps) (answer ∷ answers) s' =
-    (mid : State) × (after step s ≡ said answer mid) × IsFit part s × LeavesTables part step s mid × QuietRun part mid steps answers s'
+    (mid : State) × (after step s ≡ said answer mid) × IsFit part s × LeavesTables part step s mid ×
+        QuietRun part mid steps answers s'
 QuietRun part s [] (answer ∷ answers) s' = ⊥
 QuietRun part s (step ∷ steps) [] s' = ⊥
 
 -- the answers of the steps of its own
 abbrev pub its_answers : Part → List Step → List Answer → List Answer
-its_answers part (step ∷ steps) (answer ∷ answers) = if belongs part step then answer ∷ its_answers part steps answers else its_answers part steps answers
+its_answers part (step ∷ steps) (answer ∷ answers) = if belongs part step then answer ∷ its_answers part steps answers
+    else its_answers part steps answers
 its_answers part _ _ = []
 
 abbrev pub alone_on : Part → State → State
@@ -93,14 +99,17 @@ alone_on part s = record s { world = alone_in part s.world }
 
 -- what remains is a run of the server that holds it alone
 abbrev pub StruckRunApart : Type 0
-StruckRunApart = (part : Part) (s s' : State) (steps : List Step) (answers : List Answer) → QuietRun part s steps answers s'
-    → (t' : State) × Run (alone_on part s) (filter (belongs part) steps) (its_answers part steps answers) t' × AgreeOn part s' t'
+StruckRunApart = (part : Part) (s s' : State) (steps : List Step) (answers : List Answer) →
+    QuietRun part s steps answers s'
+    → (t' : State) × Run (alone_on part s) (filter (belongs part) steps) (its_answers part steps answers) t' ×
+        AgreeOn part s' t'
 
 -- ---- what each step does at its end
 
 -- releases, wakes, indexes and events of the chosen owners are what they are without the others
 abbrev pub SettlesAlone : Type 0
-SettlesAlone = (part : Part) (w w' : World) → IsApart part w → alone_in part (settle w w') ≡ settle (alone_in part w) (alone_in part w')
+SettlesAlone = (part : Part) (w w' : World) → IsApart part w →
+    alone_in part (settle w w') ≡ settle (alone_in part w) (alone_in part w')
 
 -- where nothing changed, nothing is released, woken or stamped
 abbrev pub SettlesIdle : Type 0

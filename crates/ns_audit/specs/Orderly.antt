@@ -32,12 +32,16 @@ pub record IsPendingIn (t : Tenant) (n : ℕ) : Type 0 where
 
 pub record IsOrderlyTenant (ns : Name) (t : Tenant) : Type 0 where
   pub job : (id : Name) (j : Job) → get t.jobs id ≡ Some j → permits t.namespace j.document.pool ≡ true
-  pub evaluation : (n : ℕ) (e : Evaluation) → get t.evaluations n ≡ Some e → is_open e.status ≡ true → IsAllowedTo t.namespace e.pool e.quota
-  pub allocation : (n : ℕ) (a : Allocation) → get t.allocations n ≡ Some a → is_live a ≡ true → permits t.namespace a.pool ≡ true
-  pub snapshot : (n : ℕ) (worker : Worker) (kept : Snapshot) → get t.workers n ≡ Some worker → worker.kept ≡ Some kept → IsKeptBy ns t kept
+  pub evaluation : (n : ℕ) (e : Evaluation) → get t.evaluations n ≡ Some e → is_open e.status ≡ true →
+      IsAllowedTo t.namespace e.pool e.quota
+  pub allocation : (n : ℕ) (a : Allocation) → get t.allocations n ≡ Some a → is_live a ≡ true →
+      permits t.namespace a.pool ≡ true
+  pub snapshot : (n : ℕ) (worker : Worker) (kept : Snapshot) → get t.workers n ≡ Some worker → worker.kept ≡ Some kept →
+      IsKeptBy ns t kept
   pub held : (n : ℕ) (worker : Worker) → get t.workers n ≡ Some worker → IsPendingIn t worker.evaluation
   -- no two workers have one evaluation
-  pub one_each : (m n : ℕ) (v x : Worker) → get t.workers m ≡ Some v → get t.workers n ≡ Some x → v.evaluation ≡ x.evaluation → m ≡ n
+  pub one_each : (m n : ℕ) (v x : Worker) → get t.workers m ≡ Some v → get t.workers n ≡ Some x →
+      v.evaluation ≡ x.evaluation → m ≡ n
   pub numbers : (n : ℕ) (e : Evaluation) → get t.evaluations n ≡ Some e → n ≤ t.evaluation_number
 
 -- what stands in `ready` is pending, and no worker has it

@@ -51,7 +51,8 @@ pub record HasRecords (s : State) : Type 0 where
 
 -- Each step whose members are within the limits leads a valid state to one that has this.
 abbrev pub RecordsStep : Type 0
-RecordsStep = (s s' : State) (step : Step) (answer : Answer) → IsValid s → IsGoodStep step → after step s ≡ said answer s' → HasRecords s'
+RecordsStep = (s s' : State) (step : Step) (answer : Answer) → IsValid s → IsGoodStep step →
+    after step s ≡ said answer s' → HasRecords s'
 
 -- So has the state in which the server begins.
 abbrev pub RecordsOpening : Type 0

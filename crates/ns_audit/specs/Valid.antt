@@ -10,9 +10,11 @@ use Rattle.ns_types.specs.Steps.{Answer, said, after, opening, Run}
 use Rattle.ns_types.specs.Validity.{IsValid}
 use Rattle.ns_types.specs.Within.{IsGoodStep}
 
--- A step whose names, members and lists are within the limits leads from a valid state to a valid one, whatever it is answered.
+-- A step whose names, members and lists are within the limits leads from a valid state to a valid one, whatever it is
+-- answered.
 abbrev pub ValidStep : Type 0
-ValidStep = (s s' : State) (step : Step) (answer : Answer) → IsValid s → IsGoodStep step → after step s ≡ said answer s' → IsValid s'
+ValidStep = (s s' : State) (step : Step) (answer : Answer) → IsValid s → IsGoodStep step →
+    after step s ≡ said answer s' → IsValid s'
 
 -- The state in which the server begins is valid, if its secret is one.
 abbrev pub OpeningValid : Type 0
@@ -20,5 +22,6 @@ OpeningValid = (secret : Name) → IsTrue (is_name NameKind.Secret secret) → I
 
 -- So each state that such steps reach from there is valid.
 abbrev pub ReachedIsValid : Type 0
-ReachedIsValid = (secret : Name) (s : State) (steps : List Step) (answers : List Answer) → IsTrue (is_name NameKind.Secret secret) → Each IsGoodStep steps
+ReachedIsValid = (secret : Name) (s : State) (steps : List Step) (answers : List Answer) →
+    IsTrue (is_name NameKind.Secret secret) → Each IsGoodStep steps
     → Run (opening secret) steps answers s → IsValid s

@@ -13,7 +13,8 @@ use Rattle.ns_types.specs.Within.{IsGoodStep}
 -- the workers of a namespace, and its busy evaluations
 pub record IsManned (w : World) (ns : Name) (t : Tenant) : Type 0 where
   pub worker : (n : ℕ) (worker : Worker) → get t.workers n ≡ Some worker → IsSoundWorker w ns t n worker
-  pub one_each : (m n : ℕ) (v x : Worker) → get t.workers m ≡ Some v → get t.workers n ≡ Some x → v.evaluation ≡ x.evaluation → m ≡ n
+  pub one_each : (m n : ℕ) (v x : Worker) → get t.workers m ≡ Some v → get t.workers n ≡ Some x →
+      v.evaluation ≡ x.evaluation → m ≡ n
   pub one_busy : IsTrue (is_distinct same_found (jobs_at t (busy_with w ns t)))
 
 pub record HasSoundWorkers (w : World) : Type 0 where
@@ -27,7 +28,8 @@ pub record HasSoundWorkers (w : World) : Type 0 where
 
 -- Each step of a valid state leaves workers sound.
 abbrev pub WorkersStep : Type 0
-WorkersStep = (s s' : State) (step : Step) (answer : Answer) → IsValid s → IsGoodStep step → after step s ≡ said answer s' → HasSoundWorkers s'.world
+WorkersStep = (s s' : State) (step : Step) (answer : Answer) → IsValid s → IsGoodStep step →
+    after step s ≡ said answer s' → HasSoundWorkers s'.world
 
 -- They are sound at first.
 abbrev pub WorkersOpening : Type 0

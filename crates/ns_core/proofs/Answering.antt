@@ -28,10 +28,12 @@ Concludes s ns secret r t None = (passes_bound t ≡ false)
 
 module _ (s : State) (ns : Name) (secret : Option Name) (r : Registration) (t : Tenant)
     (allowed : (rights_of s.acl secret ns).submit_job ≡ true) (tenant : get s.world.tenants ns ≡ Some t) (early : IsEarly s.world) where
-  can : permits t.namespace (pool_of t r) ≡ true → contains_key s.world.pools (pool_of t r) ≡ true → is_outdated r t ≡ false → has_no_room r t ≡ false → IsRegistrable s ns secret r t
+  can : permits t.namespace (pool_of t r) ≡ true → contains_key s.world.pools (pool_of t r) ≡ true → is_outdated r t ≡ false → has_no_room r t ≡ false →
+      IsRegistrable s ns secret r t
   can p q c m = record { allowed = allowed; tenant = tenant; permitted = p; pool = q; current = c; room = m }
 
-  after_all : permits t.namespace (pool_of t r) ≡ true → contains_key s.world.pools (pool_of t r) ≡ true → is_outdated r t ≡ false → (a b : Bool) → has_no_room r t ≡ a → passes_bound t ≡ b
+  after_all : permits t.namespace (pool_of t r) ≡ true → contains_key s.world.pools (pool_of t r) ≡ true → is_outdated r t ≡ false → (a b : Bool) →
+      has_no_room r t ≡ a → passes_bound t ≡ b
       → Concludes s ns secret r t (if a || b then Some Refusal.Full else None)
   after_all p q k true b m i = (register_no_room s ns secret r t allowed tenant p q k m, refl)
   after_all p q k false true m i = (register_over s ns secret r t (can p q k m) (fresh s.world ns t early tenant) early.within i, refl)
@@ -43,12 +45,15 @@ module _ (s : State) (ns : Name) (secret : Option Name) (r : Registration) (t : 
   after_pool p q false k = after_all p q k (has_no_room r t) (passes_bound t) refl refl
 
   after_permit : permits t.namespace (pool_of t r) ≡ true → (q : Bool) → contains_key s.world.pools (pool_of t r) ≡ q
-      → Concludes s ns secret r t (if not q then Some (Refusal.BadField Member.NodePool) else if is_outdated r t then Some Refusal.Conflict else if has_no_room r t || passes_bound t then Some Refusal.Full else None)
+      → Concludes s ns secret r t (if not q then Some (Refusal.BadField Member.NodePool) else if is_outdated r t then Some Refusal.Conflict
+          else if has_no_room r t || passes_bound t then Some Refusal.Full else None)
   after_permit p false q = (register_no_pool s ns secret r t allowed tenant p q, refl)
   after_permit p true q = after_pool p q (is_outdated r t) refl
 
   from_permit : (p : Bool) → permits t.namespace (pool_of t r) ≡ p
-      → Concludes s ns secret r t (if not p then Some Refusal.PoolNotPermitted else if not (contains_key s.world.pools (pool_of t r)) then Some (Refusal.BadField Member.NodePool) else if is_outdated r t then Some Refusal.Conflict else if has_no_room r t || passes_bound t then Some Refusal.Full else None)
+      → Concludes s ns secret r t (if not p then Some Refusal.PoolNotPermitted else if not (contains_key s.world.pools (pool_of t r))
+          then Some (Refusal.BadField Member.NodePool) else if is_outdated r t then Some Refusal.Conflict else if has_no_room r t || passes_bound t
+          then Some Refusal.Full else None)
   from_permit false p = (register_not_permitted s ns secret r t allowed tenant p, refl)
   from_permit true p = after_permit p (contains_key s.world.pools (pool_of t r)) refl
 

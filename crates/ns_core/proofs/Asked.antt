@@ -1,5 +1,8 @@
 -- What is answered in a namespace, over the parts.
-use Rattle.std.specs.Prelude.{◌≡◌, ℕ, ◌+◌, if◌then◌else◌, Bool, true, false, Option, Some, None, Ok, Err, List, [], ◌∷◌, filter, map, option_map, cond, ◌&&◌, ◌||◌, sum_by}
+use Rattle.std.specs.Prelude.{
+    ◌≡◌, ℕ, ◌+◌, if◌then◌else◌, Bool, true, false, Option, Some, None, Ok, Err, List, [], ◌∷◌, filter, map, option_map,
+    cond, ◌&&◌, ◌||◌, sum_by
+}
 use Rattle.std.proofs.Common.{refl, sym, ap, ◌∙◌}
 use Rattle.std.specs.FinMap.{get, entries}
 use Rattle.std.specs.Option.{option_map_or}
@@ -38,12 +41,14 @@ use Rattle.ns_core.specs.Viewed.{shown_in, state_of, status_without_allocations,
 use Rattle.ns_core.proofs.Busy.{tenant_at}
 
 -- nothing is placed, so a job is dead or pending
-pub shown_is : (ns id : Name) (x : TenantRows) (job : Job) → record { namespace = ns; id = id; row = job; status = status_without_allocations job } ≡ job_shown ns (tenant_of x) id job
+pub shown_is : (ns id : Name) (x : TenantRows) (job : Job) → record { namespace = ns; id = id; row = job; status = status_without_allocations job }
+    ≡ job_shown ns (tenant_of x) id job
 shown_is ns id x job = λ i. record {
   namespace = ns;
   id = id;
   row = job;
-  status = cond job.stop JobStatus.Dead (cond (sym (any_row-empty numbers one_number (λ _ a. same_name id a.job && is_live a)) i) JobStatus.Running JobStatus.Pending);
+  status = cond job.stop JobStatus.Dead (cond (sym (any_row-empty numbers one_number (λ _ a. same_name id a.job && is_live a)) i)
+      JobStatus.Running JobStatus.Pending);
 }
 
 -- ---- the use of a quota is none
@@ -52,9 +57,11 @@ module _ (quota : Name) (amount : Resources → ℕ) where
   of_tenant : (x : TenantRows) → tenant_sum is_live amount (tenant_of x) ≡ 0
   of_tenant x = ap (sum_by {X = ℕ × Allocation} (λ e. cond (is_live e.1) (amount e.1.size) 0)) (entries_empty numbers one_number)
 
-  of_all : (es : List (Name × TenantRows)) → sum_by {X = Name × Tenant} (λ e. cond (names_quota quota e.1.namespace) (tenant_sum is_live amount e.1) 0) (map (λ e. (e.0, tenant_of e.1)) es) ≡ 0
+  of_all : (es : List (Name × TenantRows)) → sum_by {X = Name × Tenant} (λ e. cond (names_quota quota e.1.namespace) (tenant_sum is_live amount e.1) 0)
+      (map (λ e. (e.0, tenant_of e.1)) es) ≡ 0
   of_all [] = refl
-  of_all (e ∷ es) = sum_by-cons (λ e. cond (names_quota quota e.1.namespace) (tenant_sum is_live amount e.1) 0) (e.0, tenant_of e.1) (map (λ e. (e.0, tenant_of e.1)) es)
+  of_all (e ∷ es) = sum_by-cons (λ e. cond (names_quota quota e.1.namespace) (tenant_sum is_live amount e.1) 0) (e.0, tenant_of e.1)
+      (map (λ e. (e.0, tenant_of e.1)) es)
       ∙ (λ i. cond (names_quota quota e.1.namespace) (of_tenant e.1 i) 0 + of_all es i) ∙ by (names_quota quota e.1.namespace)
     where
       by : (b : Bool) → cond b 0 0 + 0 ≡ 0
@@ -65,21 +72,28 @@ none_used : (t : Parts) (quota : Name) → quota_use (world_of t) quota ≡ reco
 unfolding quota_sum
 none_used t quota = λ i. record { cpu = by (λ r. r.cpu) i; memory = by (λ r. r.memory) i }
   where
-    by : (amount : Resources → ℕ) → sum_by {X = Name × Tenant} (λ e. cond (names_quota quota e.1.namespace) (tenant_sum is_live amount e.1) 0) (entries (world_of t).tenants) ≡ 0
-    by amount = ap (sum_by {X = Name × Tenant} (λ e. cond (names_quota quota e.1.namespace) (tenant_sum is_live amount e.1) 0)) (entries-table_of (λ _ x. tenant_of x) (rows t.tables.tenants)) ∙ of_all quota amount (entries (rows t.tables.tenants))
+    by : (amount : Resources → ℕ) → sum_by {X = Name × Tenant} (λ e. cond (names_quota quota e.1.namespace) (tenant_sum is_live amount e.1) 0)
+        (entries (world_of t).tenants) ≡ 0
+    by amount = ap (sum_by {X = Name × Tenant} (λ e. cond (names_quota quota e.1.namespace) (tenant_sum is_live amount e.1) 0))
+        (entries-table_of (λ _ x. tenant_of x) (rows t.tables.tenants)) ∙ of_all quota amount (entries (rows t.tables.tenants))
 
 -- ---- reads
 
 module _ (t : Parts) (ns : Name) (secret : Option Name) (x : TenantRows) (at : row_at t.tables.tenants ns ≡ Some x) where
   -- a read that says so
-  pub reads : (command : AskCommand) (content : Content) → right_of command (rights_of t.acl secret ns) ≡ true → IsHeld (world_of t) → asked_in ns command (world_of t) (tenant_of x) ≡ Done content (world_of t)
-      → (index : ℕ) → index ≡ x.rows.index → after (Step.Ask ns secret command) (state_of t) ≡ said (Ok (record { index = Some index; content = content })) (state_of t)
-  reads command content allowed held is index same = ask_reads (state_of t) ns secret command (tenant_of x) content allowed (tenant_at t ns x at) held.early.within is
+  pub reads : (command : AskCommand) (content : Content) → right_of command (rights_of t.acl secret ns) ≡ true → IsHeld (world_of t) →
+      asked_in ns command (world_of t) (tenant_of x) ≡ Done content (world_of t)
+      → (index : ℕ) → index ≡ x.rows.index → after (Step.Ask ns secret command) (state_of t) ≡ said (Ok (record { index = Some index; content = content }))
+          (state_of t)
+  reads command content allowed held is index same = ask_reads (state_of t) ns secret command (tenant_of x) content allowed (tenant_at t ns x at)
+      held.early.within is
       ∙ ap (λ n. said (Ok (record { index = Some n; content = content })) (state_of t)) (sym same)
 
-  pub job_told : (id : Name) (job : Job) (shown : JobShown) → get (rows x.rows.jobs) id ≡ Some job → shown ≡ record { namespace = ns; id = id; row = job; status = status_without_allocations job }
+  pub job_told : (id : Name) (job : Job) (shown : JobShown) → get (rows x.rows.jobs) id ≡ Some job →
+      shown ≡ record { namespace = ns; id = id; row = job; status = status_without_allocations job }
       → asked_in ns (AskCommand.ReadJob id) (world_of t) (tenant_of x) ≡ Done (Content.Job shown) (world_of t)
-  job_told id job shown is e = ap (λ o. option_map_or (λ job. Done (Content.Job (job_shown ns (tenant_of x) id job)) (world_of t)) o (Refused Refusal.NotFound)) is
+  job_told id job shown is e = ap (λ o. option_map_or (λ job. Done (Content.Job (job_shown ns (tenant_of x) id job)) (world_of t)) o (Refused Refusal.NotFound))
+      is
       ∙ ap (λ s. Done (Content.Job s) (world_of t)) (sym (e ∙ shown_is ns id x job))
 
   -- the jobs of the slots are those of the rows
@@ -93,8 +107,10 @@ module _ (t : Parts) (ns : Name) (secret : Option Name) (x : TenantRows) (at : r
 
   pub usage_told : (quota name : Name) → names_quota quota x.namespace ≡ true → name ≡ quota
       → asked_in ns (AskCommand.QuotaUsage quota) (world_of t) (tenant_of x) ≡ Done (Content.Usage name (record { cpu = 0; memory = 0 })) (world_of t)
-  usage_told quota name named same = ap (λ b. if b then Done (Content.Usage quota (quota_use (world_of t) quota)) (world_of t) else Refused Refusal.NotFound) named
+  usage_told quota name named same = ap (λ b. if b then Done (Content.Usage quota (quota_use (world_of t) quota)) (world_of t) else Refused Refusal.NotFound)
+      named
       ∙ (λ i. Done (Content.Usage (sym same i) (none_used t quota i)) (world_of t))
 
-  pub usage_refused : (quota : Name) → names_quota quota x.namespace ≡ false → asked_in ns (AskCommand.QuotaUsage quota) (world_of t) (tenant_of x) ≡ Refused Refusal.NotFound
+  pub usage_refused : (quota : Name) → names_quota quota x.namespace ≡ false →
+      asked_in ns (AskCommand.QuotaUsage quota) (world_of t) (tenant_of x) ≡ Refused Refusal.NotFound
   usage_refused quota other = ap (λ b. if b then Done (Content.Usage quota (quota_use (world_of t) quota)) (world_of t) else Refused Refusal.NotFound) other

@@ -42,12 +42,16 @@ module _ (t' : Parts) (ns id : Name) (x : TenantRows) (at : row_at t'.tables.ten
   same_entry : (key : Key) → entry_of_job ns id x.rows key ≡ is_of_job (world_of t') ns id key
   same_entry key = by (same_name ns key.0) refl
     where
-      by : (b : Bool) → same_name ns key.0 ≡ b → (b && option_map_or (λ e. same_name id e.job) (get (rows x.rows.evaluations) key.1) false) ≡ (b && option_map_or (λ e. same_name id e.job) (evaluation_at (world_of t') key) false)
-      by true e = ap (λ r. option_map_or (λ e. same_name id e.job) (option_and_then (λ t. get t.evaluations key.1) r) false) (sym (ap (get (world_of t').tenants) (sym (same_name_is ns key.0 e)) ∙ tenant_at t' ns x at))
+      by : (b : Bool) → same_name ns key.0 ≡ b → (b && option_map_or (λ e. same_name id e.job) (get (rows x.rows.evaluations) key.1) false) ≡
+          (b && option_map_or (λ e. same_name id e.job) (evaluation_at (world_of t') key) false)
+      by true e = ap (λ r. option_map_or (λ e. same_name id e.job) (option_and_then (λ t. get t.evaluations key.1) r) false)
+          (sym (ap (get (world_of t').tenants) (sym (same_name_is ns key.0 e)) ∙ tenant_at t' ns x at))
       by false e = refl
 
-  no_worker : option_map_or (λ t. any_row (λ _ worker. is_of_job (world_of t') ns id (ns, worker.evaluation)) t.workers) (get (world_of t').tenants ns) false ≡ false
-  no_worker = ap (λ r. option_map_or (λ t. any_row (λ _ worker. is_of_job (world_of t') ns id (ns, worker.evaluation)) t.workers) r false) (tenant_at t' ns x at)
+  no_worker : option_map_or (λ t. any_row (λ _ worker. is_of_job (world_of t') ns id (ns, worker.evaluation)) t.workers) (get (world_of t').tenants ns)
+      false ≡ false
+  no_worker = ap (λ r. option_map_or (λ t. any_row (λ _ worker. is_of_job (world_of t') ns id (ns, worker.evaluation)) t.workers) r false)
+      (tenant_at t' ns x at)
       ∙ any_row-empty numbers one_number (λ _ worker. is_of_job (world_of t') ns id (ns, worker.evaluation))
 
   or_none : (b : Bool) → b ≡ (b || false)
@@ -55,4 +59,5 @@ module _ (t' : Parts) (ns id : Name) (x : TenantRows) (at : row_at t'.tables.ten
   or_none false = refl
 
   pub busy_is : list_any (entry_of_job ns id x.rows) t'.ready.items ≡ is_busy (world_of t') ns id
-  busy_is = ap (λ f. list_any f t'.ready.items) (λ i key. same_entry key i) ∙ or_none _ ∙ ap (λ b. list_any (is_of_job (world_of t') ns id) t'.ready.items || b) (sym no_worker)
+  busy_is = ap (λ f. list_any f t'.ready.items) (λ i key. same_entry key i) ∙ or_none _ ∙
+      ap (λ b. list_any (is_of_job (world_of t') ns id) t'.ready.items || b) (sym no_worker)

@@ -52,16 +52,20 @@ module _ (w : World) (name : Name) (quota : Quota) (early : IsEarly w) where
 
       by : (o : Option QuotaRows) → get w.quotas name ≡ o → (b : Bool)
           → nat_lt greatest (after_quota_release b (with_quota quota (get w.quotas name))).release ≡ (b && is_exhausted w name)
-      by None is true = ap (λ o. nat_lt greatest (option_map_or (λ q. q.release) o 0 + 1)) is ∙ sym (ap (λ o. option_map_or (λ q. nat_lt greatest (q.release + 1)) o false) is)
+      by None is true = ap (λ o. nat_lt greatest (option_map_or (λ q. q.release) o 0 + 1)) is ∙
+          sym (ap (λ o. option_map_or (λ q. nat_lt greatest (q.release + 1)) o false) is)
       by None is false = ap (λ o. nat_lt greatest (option_map_or (λ q. q.release) o 0)) is
-      by (Some old) is true = ap (λ o. nat_lt greatest (option_map_or (λ q. q.release) o 0 + 1)) is ∙ sym (ap (λ o. option_map_or (λ q. nat_lt greatest (q.release + 1)) o false) is)
+      by (Some old) is true = ap (λ o. nat_lt greatest (option_map_or (λ q. q.release) o 0 + 1)) is ∙
+          sym (ap (λ o. option_map_or (λ q. nat_lt greatest (q.release + 1)) o false) is)
       by (Some old) is false = ap (λ o. nat_lt greatest (option_map_or (λ q. q.release) o 0)) is ∙ fits old is
 
 -- the last number is the greatest
 pub last_release : (n : ℕ) → nat_le (2 ^ 64 - 1) n ≡ nat_lt greatest (n + 1)
 last_release n = elim (leb_tells greatest n) [
-  | inl is ↦ elim (leb_tells (2 ^ 64) (n + 1)) [ inl more ↦ is.0 ∙ sym more.0 | inr less ↦ let a : greatest ≤ n = is.1 in let b : n + 1 < 2 ^ 64 = less.1 in absurd (omega arith) ]
-  | inr not ↦ elim (leb_tells (2 ^ 64) (n + 1)) [ inl more ↦ let a : n < greatest = not.1 in let b : 2 ^ 64 ≤ n + 1 = more.1 in absurd (omega arith) | inr less ↦ not.0 ∙ sym less.0 ]
+  | inl is ↦ elim (leb_tells (2 ^ 64) (n + 1)) [ inl more ↦ is.0 ∙ sym more.0 | inr less ↦ let a : greatest ≤ n = is.1 in let b : n + 1 < 2 ^ 64 = less.1 in
+      absurd (omega arith) ]
+  | inr not ↦ elim (leb_tells (2 ^ 64) (n + 1)) [ inl more ↦ let a : n < greatest = not.1 in let b : 2 ^ 64 ≤ n + 1 = more.1 in absurd (omega arith)
+      | inr less ↦ not.0 ∙ sym less.0 ]
 ]
 
 pub not-not : (b : Bool) → not (not b) ≡ b
@@ -70,7 +74,8 @@ not-not false = refl
 
 -- a row put twice is put once
 pub put_twice : {X : Type 0} (m : ByName X) (k : Name) (u v : X) → insert (insert m k u) k v ≡ insert m k v
-put_twice m k u v = same_map names one_name _ _ (λ q. get-insert names (insert m k u) k v q ∙ by q (eq_by_cmp name_cmp q k) refl ∙ sym (get-insert names m k v q))
+put_twice m k u v = same_map names one_name _ _ (λ q. get-insert names (insert m k u) k v q ∙ by q (eq_by_cmp name_cmp q k) refl ∙
+    sym (get-insert names m k v q))
   where
     by : (q : Name) (b : Bool) → eq_by_cmp name_cmp q k ≡ b → cond b (Some v) (get (insert m k u) q) ≡ cond b (Some v) (get m q)
     by q true e = refl

@@ -1,5 +1,8 @@
 -- A namespace's rows, taken out of the tables, changed and set back.
-use Rattle.std.specs.Prelude.{◌≡◌, ℕ, ◌+◌, ◌≤◌, ◌<◌, ◌^◌, ◌-◌, ◌||◌, ◌&&◌, not, Bool, true, false, cond, if◌then◌else◌, List, [], ◌∷◌, ◌++◌, map, nat_lt, Option, Some, None, Ok, IsTrue, option_map}
+use Rattle.std.specs.Prelude.{
+    ◌≡◌, ℕ, ◌+◌, ◌≤◌, ◌<◌, ◌^◌, ◌-◌, ◌||◌, ◌&&◌, not, Bool, true, false, cond, if◌then◌else◌, List, [], ◌∷◌, ◌++◌, map,
+    nat_lt, Option, Some, None, Ok, IsTrue, option_map
+}
 use Rattle.std.proofs.Common.{refl, sym, ap, subst, ◌∙◌, arith}
 use Rattle.std.specs.FinMap.{FinMap, get, get-insert, insert}
 use Rattle.std.specs.Ordering.{eq_by_cmp}
@@ -20,7 +23,10 @@ use Rattle.ns_types.specs.State.Rows.{World, Tenant}
 use Rattle.ns_types.specs.Settling.Same.{same_document}
 use Rattle.ns_types.specs.State.Tables.{table_of}
 use Rattle.ns_steps.specs.Early.{IsEarly}
-use Rattle.ns_steps.specs.Registered.{is_news, job_of, made_events, next_index, next_number, registered_reply, registered_state, registered_tenant, registered_world}
+use Rattle.ns_steps.specs.Registered.{
+    is_news, job_of, made_events, next_index, next_number, registered_reply, registered_state, registered_tenant,
+    registered_world
+}
 use Rattle.ns_steps.proofs.Early.{registered_early}
 use Rattle.ns_steps.proofs.Rows.{same_Some}
 use Rattle.ns_core.specs.declared.registering.Made.{Made}
@@ -37,7 +43,8 @@ use Rattle.ns_core.proofs.Busy.{tenant_at}
 
 module _ {V : Type 0} where
   pub slot_kept : (m n : FinMap name_cmp (Option V)) (k : Name) (x : V) → row_at m k ≡ Some x → n ≡ emptied m k → IsTrue (has_slot n k)
-  slot_kept m n k x is e = subst (λ n. IsTrue (has_slot n k)) (sym (e ∙ ap (λ b. cond b (insert m k None) m) (has_slot-row m k x is))) (has_slot-insert_here names m k None)
+  slot_kept m n k x is e = subst (λ n. IsTrue (has_slot n k)) (sym (e ∙ ap (λ b. cond b (insert m k None) m) (has_slot-row m k x is)))
+      (has_slot-insert_here names m k None)
 
 module _ (t : Parts) (ns : Name) (x y : TenantRows) (at : row_at t.tables.tenants ns ≡ Some x) where
   pub put_back : (m n : FinMap name_cmp (Option TenantRows)) → m ≡ emptied t.tables.tenants ns → n ≡ insert m ns (Some y)
@@ -51,7 +58,8 @@ module _ (t : Parts) (ns : Name) (x y : TenantRows) (at : row_at t.tables.tenant
   put_same m n e f same = put_back m n e f ∙ insert_same names one_name (world_of t).tenants ns (tenant_of y) (tenant_at t ns x at ∙ ap Some (sym same))
 
 -- rows set back as they were leave the state
-pub kept_state : (old new : Parts) → (world_of new).tenants ≡ (world_of old).tenants → new.ready.items ≡ old.ready.items → new.tables.pools ≡ old.tables.pools → new.tables.quotas ≡ old.tables.quotas → new.acl ≡ old.acl
+pub kept_state : (old new : Parts) → (world_of new).tenants ≡ (world_of old).tenants → new.ready.items ≡ old.ready.items → new.tables.pools ≡ old.tables.pools →
+    new.tables.quotas ≡ old.tables.quotas → new.acl ≡ old.acl
     → state_of new ≡ state_of old
 kept_state old new tenants ready pools quotas acl = λ i. record {
   acl = acl i;
@@ -69,7 +77,8 @@ pub puts_rows : (old new : Parts) (ns id : Name) (made : Made) (waits : Bool) (x
     → tenant_of y ≡ with_made id (x.rows.index + 1) made (tenant_of x)
     → new.ready.items ≡ (if waits then old.ready.items else old.ready.items ++ made.key ∷ [])
     → new.tables.pools ≡ old.tables.pools → new.tables.quotas ≡ old.tables.quotas → new.acl ≡ old.acl → PutsMade old ns id made waits new
-puts_rows old new ns id made waits x y m at e f tenant ready pools quotas acl = λ z is. subst (PutsRows old ns id made waits new) (same_Some _ _ (sym at ∙ is)) (record {
+puts_rows old new ns id made waits x y m at e f tenant ready pools quotas acl =
+    λ z is. subst (PutsRows old ns id made waits new) (same_Some _ _ (sym at ∙ is)) (record {
   tenants = put_back old ns x y at m new.tables.tenants e f ∙ ap (λ t. insert (world_of old).tenants ns t) tenant;
   ready = ready;
   pools = pools;
@@ -82,8 +91,10 @@ puts_rows old new ns id made waits x y m at e f tenant ready pools quotas acl = 
 module _ (made : Made) (ns : Name) (r : Registration) (t : Tenant) (is : IsMade made ns r t) where
   events_by : (b : Bool) → is_news (document_of t r) (get t.jobs r.id) ≡ b
       → events_made (job_event_of b r.id (next_index t)) (record { index = next_index t; topic = Topic.EvaluationUpdated (next_number t) }) ≡ made_events r t
-  events_by true e = ap (λ b. map (λ topic. record { index = next_index t; topic = topic }) ((if b then Topic.JobRegistered r.id ∷ [] else []) ++ Topic.EvaluationUpdated (next_number t) ∷ [])) (sym e)
-  events_by false e = ap (λ b. map (λ topic. record { index = next_index t; topic = topic }) ((if b then Topic.JobRegistered r.id ∷ [] else []) ++ Topic.EvaluationUpdated (next_number t) ∷ [])) (sym e)
+  events_by true e = ap (λ b. map (λ topic. record { index = next_index t; topic = topic }) ((if b then Topic.JobRegistered r.id ∷ [] else []) ++
+      Topic.EvaluationUpdated (next_number t) ∷ [])) (sym e)
+  events_by false e = ap (λ b. map (λ topic. record { index = next_index t; topic = topic }) ((if b then Topic.JobRegistered r.id ∷ [] else []) ++
+      Topic.EvaluationUpdated (next_number t) ∷ [])) (sym e)
 
   events_are : events_made made.job_event made.evaluation_event ≡ made_events r t
   events_are = (λ i. events_made (is.job_event i) (is.evaluation_event i)) ∙ events_by (is_news (document_of t r) (get t.jobs r.id)) refl
@@ -126,7 +137,8 @@ few r t h = by (get t.jobs r.id) refl
     by None e = omega arith
     by (Some job) e = at (same_document (document_of t r) job.document && not job.stop)
       where
-        at : (b : Bool) → (if b then job else record { document = document_of t r; stop = false; version = job.version + 1; create_index = job.create_index; modify_index = next_index t }).version ≤ t.index + 1
+        at : (b : Bool) → (if b then job else record { document = document_of t r; stop = false; version = job.version + 1; create_index =
+            job.create_index; modify_index = next_index t }).version ≤ t.index + 1
         at true = let v : job.version ≤ t.index = h r.id job e in omega (arith, v)
         at false = let v : job.version ≤ t.index = h r.id job e in omega (arith, v)
 
@@ -138,13 +150,15 @@ few_registered r t h id job e = by (eq_by_cmp name_cmp id r.id) refl (sym (get-i
     by true same e = subst (λ j. j.version ≤ t.index + 1) (same_Some _ _ e) (few r t h)
     by false other e = let v : job.version ≤ t.index = h id job e in omega (arith, v)
 
-pub held_registered : (ns : Name) (r : Registration) (w : World) (t : Tenant) → IsHeld w → get w.tenants ns ≡ Some t → passes_bound t ≡ false → IsHeld (registered_world ns r w t)
+pub held_registered : (ns : Name) (r : Registration) (w : World) (t : Tenant) → IsHeld w → get w.tenants ns ≡ Some t → passes_bound t ≡ false →
+    IsHeld (registered_world ns r w t)
 unfolding registered_world
 held_registered ns r w t held at within = record {
   early = registered_early ns r w t held.early at within;
   versions = λ other t' e. by other t' (eq_by_cmp name_cmp other ns) refl (sym (get-insert names w.tenants ns (registered_tenant r t) other) ∙ e);
 }
   where
-    by : (other : Name) (t' : Tenant) (b : Bool) → eq_by_cmp name_cmp other ns ≡ b → cond b (Some (registered_tenant r t)) (get w.tenants other) ≡ Some t' → HasFewVersions t'
+    by : (other : Name) (t' : Tenant) (b : Bool) → eq_by_cmp name_cmp other ns ≡ b → cond b (Some (registered_tenant r t)) (get w.tenants other) ≡ Some t' →
+        HasFewVersions t'
     by other t' true same e = subst HasFewVersions (same_Some _ _ e) (few_registered r t (held.versions ns t at))
     by other t' false apart e = held.versions other t' e

@@ -69,22 +69,31 @@ module _ (w w' : World) (name : Name) (quota : Quota) (content : Content) (done 
       by (Some old) there =
           let number : q.release ≡ old.release = ap (λ x. x.release) same ∙ ap (λ o. option_map_or (λ x. x.release) o 0) there in
           let fits : nat_lt greatest (old.release + 1) ≡ false = sym (ap (λ o. option_map_or (λ x. nat_lt greatest (x.release + 1)) o false) there) ∙ room in
-          elim (leb_tells (2 ^ 64) (old.release + 1)) [ inl more ↦ not_both more.0 fits | inr less ↦ let b : old.release + 1 < 2 ^ 64 = less.1 in omega (arith, number) ]
+          elim (leb_tells (2 ^ 64) (old.release + 1)) [ inl more ↦ not_both more.0 fits | inr less ↦ let b : old.release + 1 < 2 ^ 64 = less.1 in
+              omega (arith, number) ]
 
-  pub release_settles : (b : Bool) → is_relimited w name quota ≡ b → (if b then with_release name w' else w') ≡ record w { quotas = insert w.quotas name (relimited w name quota) }
-  release_settles false is = world_left ∙ (λ i. record w { quotas = insert w.quotas name (after_quota_release (sym is i) (with_quota quota (get w.quotas name))) })
-  release_settles true is = ap {A = Option QuotaRows} (λ o. option_map_or (λ q. record w' { quotas = insert w'.quotas name (record q { release = q.release + 1 }) }) o w') found
-      ∙ ap {A = World} (λ x. record x { quotas = insert x.quotas name (record (with_quota quota (get w.quotas name)) { release = (with_quota quota (get w.quotas name)).release + 1 }) }) world_left
-      ∙ (λ i. record w { quotas = put_twice w.quotas name (with_quota quota (get w.quotas name)) (after_quota_release true (with_quota quota (get w.quotas name))) i })
+  pub release_settles : (b : Bool) → is_relimited w name quota ≡ b →
+      (if b then with_release name w' else w') ≡ record w { quotas = insert w.quotas name (relimited w name quota) }
+  release_settles false is = world_left ∙ (λ i. record w
+      { quotas = insert w.quotas name (after_quota_release (sym is i) (with_quota quota (get w.quotas name))) })
+  release_settles true is = ap {A = Option QuotaRows}
+      (λ o. option_map_or (λ q. record w' { quotas = insert w'.quotas name (record q { release = q.release + 1 }) }) o w') found
+      ∙ ap {A = World} (λ x. record x { quotas = insert x.quotas name
+          (record (with_quota quota (get w.quotas name)) { release = (with_quota quota (get w.quotas name)).release + 1 }) }) world_left
+      ∙ (λ i. record w { quotas = put_twice w.quotas name (with_quota quota (get w.quotas name))
+          (after_quota_release true (with_quota quota (get w.quotas name))) i })
       ∙ (λ i. record w { quotas = insert w.quotas name (after_quota_release (sym is i) (with_quota quota (get w.quotas name))) })
 
 -- ---- a put that is refused
 
-module _ (s : State) (name : Name) (quota : Quota) (early : IsEarly s.world) (secret : Option Name) (allowed : may_administer s.acl secret (AdminCommand.PutQuota name quota) ≡ true) where
-  pub put_refused : (refusal : Refusal) (w' : World) → Changes (put_quota name quota s.world) s.world (Err refusal) w' → Makes (Step.Admin secret (AdminCommand.PutQuota name quota)) s (Err refusal) (record s { world = w' })
+module _ (s : State) (name : Name) (quota : Quota) (early : IsEarly s.world) (secret : Option Name)
+    (allowed : may_administer s.acl secret (AdminCommand.PutQuota name quota) ≡ true) where
+  pub put_refused : (refusal : Refusal) (w' : World) → Changes (put_quota name quota s.world) s.world (Err refusal) w' →
+      Makes (Step.Admin secret (AdminCommand.PutQuota name quota)) s (Err refusal) (record s { world = w' })
   put_refused refusal w' h = by refusal h
     where
-      by : (r : Refusal) → Changes (put_quota name quota s.world) s.world (Err r) w' → Makes (Step.Admin secret (AdminCommand.PutQuota name quota)) s (Err r) (record s { world = w' })
+      by : (r : Refusal) → Changes (put_quota name quota s.world) s.world (Err r) w' →
+          Makes (Step.Admin secret (AdminCommand.PutQuota name quota)) s (Err r) (record s { world = w' })
       by Refusal.Memory h = λ i. record s { world = h i }
       by r h = quota_refused s name quota early secret allowed r h.0 (record s { world = w' }) (λ i. record s { world = h.1 i })
 

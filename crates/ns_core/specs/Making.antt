@@ -17,7 +17,8 @@ use Rattle.ns_steps.specs.Registered.{is_news, job_of, made_evaluation, next_ind
 use Rattle.ns_core.specs.declared.registering.Made.{Made}
 
 abbrev pub evaluation_at_index : Name → Document → ℕ → Evaluation
-evaluation_at_index id document index = record (evaluation_of id document Trigger.JobRegister) { create_index = index; modify_index = index }
+evaluation_at_index id document index =
+    record (evaluation_of id document Trigger.JobRegister) { create_index = index; modify_index = index }
 
 abbrev pub job_event_of : Bool → Name → ℕ → Option Event
 job_event_of true id index = Some (record { index = index; topic = Topic.JobRegistered id })
@@ -27,7 +28,8 @@ pub record IsMade (made : Made) (ns : Name) (r : Registration) (t : Tenant) : Ty
   pub job : made.job ≡ job_of r t
   pub evaluation : made.evaluation ≡ made_evaluation r t
   pub job_event : made.job_event ≡ job_event_of (is_news (document_of t r) (get t.jobs r.id)) r.id (next_index t)
-  pub evaluation_event : made.evaluation_event ≡ record { index = next_index t; topic = Topic.EvaluationUpdated (next_number t) }
+  pub evaluation_event : made.evaluation_event ≡ record { index = next_index t; topic =
+      Topic.EvaluationUpdated (next_number t) }
   pub key : made.key ≡ (ns, next_number t)
 
 -- the events of what was made: the job's, if there is one, and the evaluation's
@@ -49,4 +51,5 @@ with_events events t = record t { events = last 100 (t.events ++ events) }
 
 -- all that a registration makes
 abbrev pub with_made : Name → ℕ → Made → Tenant → Tenant
-with_made id index made t = with_events (events_made made.job_event made.evaluation_event) (with_rows id index made.job made.evaluation t)
+with_made id index made t = with_events (events_made made.job_event made.evaluation_event)
+    (with_rows id index made.job made.evaluation t)

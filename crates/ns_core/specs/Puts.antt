@@ -19,15 +19,19 @@ pub record HasBounds (x : TenantRows) : Type 0 where
   pub number : x.rows.evaluation_number + 1 < 2 ^ 64
 
 abbrev pub reply_with : Made → Tenant → Reply
-reply_with made t = record { index = Some (t.index + 1); content = Content.Registered (t.evaluation_number + 1) (t.index + 1) made.job.modify_index }
+reply_with made t = record { index = Some (t.index + 1); content =
+    Content.Registered (t.evaluation_number + 1) (t.index + 1) made.job.modify_index }
 
 -- the namespace has the rows, and `ready` the entry unless it waits
-pub record PutsRows (old : Parts) (ns id : Name) (made : Made) (waits : Bool) (new : Parts) (x : TenantRows) : Type 0 where
-  pub tenants : (world_of new).tenants ≡ insert (world_of old).tenants ns (with_made id (x.rows.index + 1) made (tenant_of x))
+pub record PutsRows (old : Parts) (ns id : Name) (made : Made) (waits : Bool) (new : Parts)
+    (x : TenantRows) : Type 0 where
+  pub tenants : (world_of new).tenants ≡ insert (world_of old).tenants ns
+      (with_made id (x.rows.index + 1) made (tenant_of x))
   pub ready : new.ready.items ≡ (if waits then old.ready.items else old.ready.items ++ made.key ∷ [])
   pub pools : new.tables.pools ≡ old.tables.pools
   pub quotas : new.tables.quotas ≡ old.tables.quotas
   pub acl : new.acl ≡ old.acl
 
 abbrev pub PutsMade : Parts → Name → Name → Made → Bool → Parts → Type 0
-PutsMade old ns id made waits new = (x : TenantRows) → row_at old.tables.tenants ns ≡ Some x → PutsRows old ns id made waits new x
+PutsMade old ns id made waits new = (x : TenantRows) → row_at old.tables.tenants ns ≡ Some x →
+    PutsRows old ns id made waits new x

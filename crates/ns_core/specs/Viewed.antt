@@ -27,7 +27,8 @@ state_of p = record { acl = p.acl; world = world_of p }
 
 -- a command that is the same whoever asks: what it answers and leaves
 abbrev pub ChangesState : AdminCommand → Parts → Result Content Refusal → Parts → Type 0
-ChangesState command old result new = (secret : Option Name) → Changes (administer secret command (state_of old)) (state_of old) result (state_of new)
+ChangesState command old result new = (secret : Option Name) →
+    Changes (administer secret command (state_of old)) (state_of old) result (state_of new)
 
 -- one more release of the quota would pass the bound of its number
 abbrev pub is_exhausted : World → Name → Bool
@@ -35,7 +36,8 @@ is_exhausted w name = option_map_or (λ q. nat_lt greatest (q.release + 1)) (get
 
 -- whether an entry is of that job of the namespace whose rows these are
 abbrev pub entry_of_job : Name → Name → Stored → Key → Bool
-entry_of_job ns id stored key = same_name ns key.0 && option_map_or (λ e. same_name id e.job) (get (rows stored.evaluations) key.1) false
+entry_of_job ns id stored key = same_name ns key.0
+    && option_map_or (λ e. same_name id e.job) (get (rows stored.evaluations) key.1) false
 
 -- while nothing is placed
 abbrev pub status_without_allocations : Job → JobStatus

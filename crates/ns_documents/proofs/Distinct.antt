@@ -30,7 +30,8 @@ last_other x y ys h other =
 pub distinct_more : (xs : List Name) (x : Name) → Distinct xs → list_any (λ y. bytes_eq y x) xs ≡ false → Distinct (xs ++ x ∷ [])
 distinct_more [] x h new = (refl, tt)
 distinct_more (y ∷ ys) x h new =
-    (last_other x y ys h.0 (left_none (bytes_eq y x) (list_any (λ z. bytes_eq z x) ys) new), distinct_more ys x h.1 (right_none (bytes_eq y x) (list_any (λ z. bytes_eq z x) ys) new))
+    (last_other x y ys h.0 (left_none (bytes_eq y x) (list_any (λ z. bytes_eq z x) ys) new), distinct_more ys x h.1
+        (right_none (bytes_eq y x) (list_any (λ z. bytes_eq z x) ys) new))
 
 filter_other : (p : Name → Bool) (xs : List Name) → list_any p xs ≡ false → filter (λ y. not (p y)) xs ≡ xs
 filter_other p [] h = refl
@@ -51,10 +52,12 @@ distinct_is xs h =
     rw once (eq-eqb (length xs) (length xs) refl)
 
 -- names of pools, none of which is `all`
-pub pools_without_all : (xs : List Name) → list_all (is_name NameKind.Pool) xs ≡ true → list_any (λ x. bytes_eq x (codes "all")) xs ≡ false → list_all is_pool_name xs ≡ true
+pub pools_without_all : (xs : List Name) → list_all (is_name NameKind.Pool) xs ≡ true → list_any (λ x. bytes_eq x (codes "all")) xs ≡ false →
+    list_all is_pool_name xs ≡ true
 pools_without_all [] h none = refl
 pools_without_all (x ∷ xs) h none =
     let here : is_name NameKind.Pool x ≡ true = first_of_both (is_name NameKind.Pool x) (list_all (is_name NameKind.Pool) xs) h in
     let other : bytes_eq x (codes "all") ≡ false = left_none (bytes_eq x (codes "all")) (list_any (λ y. bytes_eq y (codes "all")) xs) none in
-    let more : list_all is_pool_name xs ≡ true = pools_without_all xs (second_of_both (is_name NameKind.Pool x) (list_all (is_name NameKind.Pool) xs) h) (right_none (bytes_eq x (codes "all")) (list_any (λ y. bytes_eq y (codes "all")) xs) none) in
+    let more : list_all is_pool_name xs ≡ true = pools_without_all xs (second_of_both (is_name NameKind.Pool x) (list_all (is_name NameKind.Pool) xs) h)
+        (right_none (bytes_eq x (codes "all")) (list_any (λ y. bytes_eq y (codes "all")) xs) none) in
     rw (here, other, more) refl

@@ -1,5 +1,9 @@
 -- What is read is within the limits.
-use Rattle.std.proofs.Common.{◌≡◌, ℕ, ◌+◌, ◌≤◌, ◌==◌, ℤ, pos, negsuc, List, [], ◌∷◌, ◌++◌, length, Bool, true, false, not, ◌&&◌, ◌||◌, nat_le, Option, Some, None, is_some, Ok, Err, IfOk, codes, if◌then◌else◌, refl, sym, ◌∙◌, subst, true≢false, arith, length-append, option_and_then}
+use Rattle.std.proofs.Common.{
+    ◌≡◌, ℕ, ◌+◌, ◌≤◌, ◌==◌, ℤ, pos, negsuc, List, [], ◌∷◌, ◌++◌, length, Bool, true, false, not, ◌&&◌, ◌||◌, nat_le,
+    Option, Some, None, is_some, Ok, Err, IfOk, codes, if◌then◌else◌, refl, sym, ◌∙◌, subst, true≢false, arith,
+    length-append, option_and_then
+}
 use Rattle.std.specs.Bool.{IsTrue}
 use Rattle.std.specs.List.{list_all}
 use Rattle.std.specs.Option.{option_map_or, is_none}
@@ -29,7 +33,10 @@ use Rattle.ns_types.specs.State.Names as names
 use Rattle.ns_types.specs.State.Resources.{limits_in, unlimited}
 use Rattle.ns_types.proofs.Lists.{left_none, right_none}
 use Rattle.ns_types.proofs.Named.{same_name_is}
-use Rattle.ns_json.specs.Reading.{◌>>=◌, Read, Gives, same, top, present, demanded, or_else, or_refuse, some, an_object, a_text, a_name, has_name, unless, a_list, each}
+use Rattle.ns_json.specs.Reading.{
+    ◌>>=◌, Read, Gives, same, top, present, demanded, or_else, or_refuse, some, an_object, a_text, a_name, has_name,
+    unless, a_list, each
+}
 use Rattle.ns_json.specs.Registration.{name_if_any}
 use Rattle.ns_policy.specs.Json.{rules_of}
 use Rattle.ns_documents.specs.declared.namespace.NamedNamespace.{NamedNamespace}
@@ -38,7 +45,10 @@ use Rattle.ns_documents.specs.declared.quota.NamedQuota.{NamedQuota}
 use Rattle.ns_documents.specs.declared.pool.NamedPool.{NamedPool}
 use Rattle.ns_documents.specs.declared.token.TokenDocument.{TokenDocument}
 use Rattle.ns_documents.specs.Members.{is_path_name, repeated, named, description_in, listed_name, names_in}
-use Rattle.ns_documents.specs.Records.{is_all, pool_or_default, default_pool_in, pools_in, configuration_in, every_pool, namespace_in, max_limit, limit_of, limit_in, region_limit_in, region_in, entry_in, first_entry, entries_in, quota_in, pool_in}
+use Rattle.ns_documents.specs.Records.{
+    is_all, pool_or_default, default_pool_in, pools_in, configuration_in, every_pool, namespace_in, max_limit, limit_of,
+    limit_in, region_limit_in, region_in, entry_in, first_entry, entries_in, quota_in, pool_in
+}
 use Rattle.ns_documents.specs.Access.{with_accessor, rules_text_in, or_bad_rules, policy_in, token_kind_in, token_in}
 use Rattle.ns_documents.proofs.Distinct.{Distinct, distinct_more, distinct_is, pools_without_all}
 
@@ -72,7 +82,8 @@ post_unless : {A : Type 0} (bad : Bool) (m : Member) (x : A) (P : A → Type 0) 
 post_unless true m x P h = tt
 post_unless false m x P h = h refl
 
-post_else : {A : Type 0} (default : A) (read : Data → Read A) (P : A → Type 0) (d : Option Data) → P default → ((v : Data) → Post (read v) P) → Post (or_else default read d) P
+post_else : {A : Type 0} (default : A) (read : Data → Read A) (P : A → Type 0) (d : Option Data) → P default → ((v : Data) → Post (read v) P) →
+    Post (or_else default read d) P
 post_else default read P None h k = h
 post_else default read P (Some v) h k = k v
 
@@ -98,7 +109,8 @@ name_good : (m : Member) (kind : NameKind) (d : Data) → Post (a_name m kind d)
 unfolding a_name
 name_good m kind d = post_any (or_refuse m (as_str d)) _ _ (λ s. post_if (is_name kind s) s _ _ (λ h. h))
 
-name_at : (c : Bool) (m : Member) (kind : NameKind) (d : Data) → Post (if c then Ok None else some (a_name m kind d)) (λ o. IsTrue (option_map_or (is_name kind) o true))
+name_at : (c : Bool) (m : Member) (kind : NameKind) (d : Data) →
+    Post (if c then Ok None else some (a_name m kind d)) (λ o. IsTrue (option_map_or (is_name kind) o true))
 name_at true m kind d = refl
 name_at false m kind d = post_some (a_name m kind d) (λ s. IsTrue (is_name kind s)) _ (λ s h. h) (name_good m kind d)
 
@@ -117,36 +129,44 @@ repeated_good path d P h = post_any (or_refuse Member.Name (as_str d)) _ _ (λ s
 named_good : (kind : NameKind) (path : Option Name) (d : Data) → IsTrue (is_path_name kind path) → Post (named kind path d) (λ s. IsTrue (is_name kind s))
 unfolding named
 named_good kind None d h = post_any (demanded Member.Name d) _ _ (λ s. name_good Member.Name kind s)
-named_good kind (Some path) d h = post_else path (repeated path) (λ s. IsTrue (is_name kind s)) (present Member.Name d) h (λ v. repeated_good path v (λ s. IsTrue (is_name kind s)) h)
+named_good kind (Some path) d h = post_else path (repeated path) (λ s. IsTrue (is_name kind s)) (present Member.Name d) h
+    (λ v. repeated_good path v (λ s. IsTrue (is_name kind s)) h)
 
 -- ---- lists of names
 
-each_good : {A : Type 0} (read : List A → Data → Read A) (P : List A → Type 0) (done : List A) (ds : Items) → ((before : List A) (d : Data) → P before → Post (read before d) (λ x. P (before ++ x ∷ []))) → P done → Post (each read done ds) P
+each_good : {A : Type 0} (read : List A → Data → Read A) (P : List A → Type 0) (done : List A) (ds : Items) →
+    ((before : List A) (d : Data) → P before → Post (read before d) (λ x. P (before ++ x ∷ []))) → P done → Post (each read done ds) P
 unfolding each
 each_good read P done no_items step h = h
 each_good read P done (item d ds) step h = post_then (read done d) _ P (step done d h) (λ x k. each_good read P (done ++ x ∷ []) ds step k)
 
-each_length : {A : Type 0} (read : List A → Data → Read A) (done : List A) (ds : Items) → Post (each read done ds) (λ xs. length xs ≡ length done + items_len ds)
+each_length : {A : Type 0} (read : List A → Data → Read A) (done : List A) (ds : Items) →
+    Post (each read done ds) (λ xs. length xs ≡ length done + items_len ds)
 unfolding each
 each_length read done no_items = omega arith
 each_length read done (item d ds) =
-    post_any (read done d) _ _ (λ x. post_map (each read (done ++ x ∷ []) ds) (λ xs. length xs ≡ length (done ++ x ∷ []) + items_len ds) _ (λ xs e. omega (arith, e, length-append done (x ∷ []))) (each_length read (done ++ x ∷ []) ds))
+    post_any (read done d) _ _ (λ x. post_map (each read (done ++ x ∷ []) ds) (λ xs. length xs ≡ length (done ++ x ∷ []) + items_len ds) _
+        (λ xs e. omega (arith, e, length-append done (x ∷ []))) (each_length read (done ++ x ∷ []) ds))
 
 abbrev AllNamed : NameKind → List Name → Type 0
 AllNamed kind xs = IsTrue (list_all (is_name kind) xs) × Distinct xs
 
-all_more : (kind : NameKind) (xs : List Name) (x : Name) → IsTrue (list_all (is_name kind) xs) → IsTrue (is_name kind x) → IsTrue (list_all (is_name kind) (xs ++ x ∷ []))
+all_more : (kind : NameKind) (xs : List Name) (x : Name) → IsTrue (list_all (is_name kind) xs) → IsTrue (is_name kind x) →
+    IsTrue (list_all (is_name kind) (xs ++ x ∷ []))
 all_more kind xs x h k = list_all-append (is_name kind) xs (x ∷ []) ∙ rw (h, k) refl
 
-listed_good : (m : Member) (kind : NameKind) (before : List Name) (d : Data) → AllNamed kind before → Post (listed_name m kind before d) (λ x. AllNamed kind (before ++ x ∷ []))
+listed_good : (m : Member) (kind : NameKind) (before : List Name) (d : Data) → AllNamed kind before →
+    Post (listed_name m kind before d) (λ x. AllNamed kind (before ++ x ∷ []))
 unfolding listed_name
 listed_good m kind before d h =
     post_then (a_name m kind d) _ _ (name_good m kind d)
-    (λ x k. post_unless (has_name same before x) m x (λ y. AllNamed kind (before ++ y ∷ [])) (λ new. (all_more kind before x h.0 k, distinct_more before x h.1 new)))
+    (λ x k. post_unless (has_name same before x) m x (λ y. AllNamed kind (before ++ y ∷ []))
+        (λ new. (all_more kind before x h.0 k, distinct_more before x h.1 new)))
 
 list_good : (m : Member) (most : ℕ) (d : Data) → Post (a_list m 0 most d) (λ ds. items_len ds ≤ most)
 unfolding a_list
-list_good m most d = post_any (or_refuse m (as_array d)) _ _ (λ ds. post_if (nat_le 0 (items_len ds) && nat_le (items_len ds) most) ds _ _ (λ h. grind (arith, nat_tests)))
+list_good m most d = post_any (or_refuse m (as_array d)) _ _
+    (λ ds. post_if (nat_le 0 (items_len ds) && nat_le (items_len ds) most) ds _ _ (λ h. grind (arith, nat_tests)))
 
 abbrev Listed : NameKind → ℕ → List Name → Type 0
 Listed kind most xs = AllNamed kind xs × (length xs ≤ most)
@@ -155,7 +175,8 @@ names_good : (m : Member) (kind : NameKind) (most : ℕ) (d : Data) → Post (na
 unfolding names_in
 names_good m kind most d =
     post_then (a_list m 0 most d) _ _ (list_good m most d)
-    (λ ds fits. post_map (each (listed_name m kind) [] ds) _ (Listed kind most) (λ xs (k : AllNamed kind xs × (length xs ≡ 0 + items_len ds)). (k.0, omega arith))
+    (λ ds fits. post_map (each (listed_name m kind) [] ds) _ (Listed kind most)
+        (λ xs (k : AllNamed kind xs × (length xs ≡ 0 + items_len ds)). (k.0, omega arith))
     (post_both (each (listed_name m kind) [] ds) (AllNamed kind) (λ xs. length xs ≡ 0 + items_len ds)
     (each_good (listed_name m kind) (AllNamed kind) [] ds (listed_good m kind) (refl, tt)) (each_length (listed_name m kind) [] ds)))
 
@@ -181,7 +202,8 @@ pool_or_default_good (Some s) h = post_unless (is_all s) Member.Default s (λ t.
 
 default_pool_good : (d : Data) → Post (default_pool_in d) (λ s. IsTrue (is_pool_name s))
 unfolding default_pool_in
-default_pool_good d = post_then (name_if_any Member.Default NameKind.Pool d) _ _ (name_if_any_good Member.Default NameKind.Pool d) (λ o h. pool_or_default_good o h)
+default_pool_good d = post_then (name_if_any Member.Default NameKind.Pool d) _ _ (name_if_any_good Member.Default NameKind.Pool d)
+    (λ o h. pool_or_default_good o h)
 
 other_way : (x y : Name) → bytes_eq y x ≡ false → same_name x y ≡ false
 other_way x y h = by (same_name x y) refl
@@ -199,7 +221,8 @@ any_other (y ∷ ys) x h =
     rw (here, more) refl
 
 abbrev IsGood : PoolConfiguration → Type 0
-IsGood c = IsTrue (is_pool_name c.default_pool) × IsTrue (option_map_or is_pool_list c.allowed true) × IsTrue (is_pool_list c.denied) × IsTrue (is_none c.allowed || is_empty c.denied) × IsTrue (not (names.has_name c.denied c.default_pool))
+IsGood c = IsTrue (is_pool_name c.default_pool) × IsTrue (option_map_or is_pool_list c.allowed true) × IsTrue (is_pool_list c.denied) ×
+    IsTrue (is_none c.allowed || is_empty c.denied) × IsTrue (not (names.has_name c.denied c.default_pool))
 
 one_list : (a b : Bool) → (a && not b) ≡ false → (not a || b) ≡ true
 one_list true true h = refl
@@ -210,9 +233,13 @@ configuration_good : (d : Data) → Post (configuration_in d) IsGood
 unfolding configuration_in
 configuration_good d =
     post_any (an_object Member.NodePoolConfiguration d) _ _ (λ c.
-    post_then (or_else default_name default_pool_in (present Member.Default c)) _ _ (post_else default_name default_pool_in (λ s. IsTrue (is_pool_name s)) (present Member.Default c) refl default_pool_good) (λ default h.
-    post_then (or_else None (λ a. some (pools_in Member.Allowed a)) (present Member.Allowed c)) _ _ (post_else None (λ a. some (pools_in Member.Allowed a)) (λ o. IsTrue (option_map_or is_pool_list o true)) (present Member.Allowed c) refl (λ a. post_some (pools_in Member.Allowed a) (λ xs. IsTrue (is_pool_list xs)) _ (λ xs k. k) (pools_good Member.Allowed a))) (λ allowed k.
-    post_then (or_else [] (pools_in Member.Denied) (present Member.Denied c)) _ _ (post_else [] (pools_in Member.Denied) (λ xs. IsTrue (is_pool_list xs)) (present Member.Denied c) refl (pools_good Member.Denied)) (λ denied l.
+    post_then (or_else default_name default_pool_in (present Member.Default c)) _ _
+        (post_else default_name default_pool_in (λ s. IsTrue (is_pool_name s)) (present Member.Default c) refl default_pool_good) (λ default h.
+    post_then (or_else None (λ a. some (pools_in Member.Allowed a)) (present Member.Allowed c)) _ _
+        (post_else None (λ a. some (pools_in Member.Allowed a)) (λ o. IsTrue (option_map_or is_pool_list o true)) (present Member.Allowed c) refl
+        (λ a. post_some (pools_in Member.Allowed a) (λ xs. IsTrue (is_pool_list xs)) _ (λ xs k. k) (pools_good Member.Allowed a))) (λ allowed k.
+    post_then (or_else [] (pools_in Member.Denied) (present Member.Denied c)) _ _
+        (post_else [] (pools_in Member.Denied) (λ xs. IsTrue (is_pool_list xs)) (present Member.Denied c) refl (pools_good Member.Denied)) (λ denied l.
     post_unless ((is_some allowed && not (is_empty denied)) || has_name same denied default) Member.Denied _ IsGood
     (λ n. (
       h,
@@ -222,7 +249,8 @@ configuration_good d =
       not_from_false _ (any_other denied default (right_none (is_some allowed && not (is_empty denied)) (has_name same denied default) n)),
     ))))))
 
-namespace_from : (description : Name) (quota : Option Name) (c : PoolConfiguration) → IsTrue (is_text description) → IsTrue (option_map_or (is_name NameKind.Quota) quota true) → IsGood c
+namespace_from : (description : Name) (quota : Option Name) (c : PoolConfiguration) → IsTrue (is_text description) →
+    IsTrue (option_map_or (is_name NameKind.Quota) quota true) → IsGood c
     → IsTrue (is_good_namespace (record { description = description; quota = quota; default_pool = c.default_pool; allowed = c.allowed; denied = c.denied }))
 namespace_from description quota c h k g = rw (h, k, g.0, g.1, g.2, g.3, g.4) refl
 
@@ -231,8 +259,11 @@ unfolding namespace_in
 namespace_post path d =
     post_any (top d) _ _ (λ t. post_any (named NameKind.Namespace path t) _ _ (λ name.
     post_then (description_in t) _ _ (description_good t) (λ description h.
-    post_then (or_else None (name_if_any Member.Quota NameKind.Quota) (present Member.Quota t)) _ _ (post_else None (name_if_any Member.Quota NameKind.Quota) (λ o. IsTrue (option_map_or (is_name NameKind.Quota) o true)) (present Member.Quota t) refl (name_if_any_good Member.Quota NameKind.Quota)) (λ quota k.
-    post_then (or_else every_pool configuration_in (present Member.NodePoolConfiguration t)) _ _ (post_else every_pool configuration_in IsGood (present Member.NodePoolConfiguration t) (refl, refl, refl, refl, refl) configuration_good) (λ c g.
+    post_then (or_else None (name_if_any Member.Quota NameKind.Quota) (present Member.Quota t)) _ _
+        (post_else None (name_if_any Member.Quota NameKind.Quota) (λ o. IsTrue (option_map_or (is_name NameKind.Quota) o true)) (present Member.Quota t) refl
+        (name_if_any_good Member.Quota NameKind.Quota)) (λ quota k.
+    post_then (or_else every_pool configuration_in (present Member.NodePoolConfiguration t)) _ _
+        (post_else every_pool configuration_in IsGood (present Member.NodePoolConfiguration t) (refl, refl, refl, refl, refl) configuration_good) (λ c g.
     namespace_from description quota c h k g)))))
 
 -- ---- quotas
@@ -240,7 +271,8 @@ namespace_post path d =
 limit_of_good : (z : ℤ) → IsTrue (option_map_or is_limit (limit_of z) true)
 limit_of_good (pos n) = by (n == 0) (nat_le n max_limit) refl refl
   where
-    by : (a b : Bool) → (n == 0) ≡ a → nat_le n max_limit ≡ b → IsTrue (option_map_or is_limit (if a then Some Limit.Unlimited else if b then Some (Limit.AtMost n) else None) true)
+    by : (a b : Bool) → (n == 0) ≡ a → nat_le n max_limit ≡ b →
+        IsTrue (option_map_or is_limit (if a then Some Limit.Unlimited else if b then Some (Limit.AtMost n) else None) true)
     by true b e f = refl
     by false true e f =
         let some : n ≡ 0 → ⊥ = eqb-false n 0 e in
@@ -276,7 +308,8 @@ unfolding region_limit_in
 region_limit_good d =
     post_any (an_object Member.RegionLimit d) _ _ (λ r.
     post_then (or_else Limit.Unlimited (limit_in Member.Cpu) (present Member.Cpu r)) _ _ (limit_or_unlimited_good Member.Cpu (present Member.Cpu r)) (λ cpu h.
-    post_then (or_else Limit.Unlimited (limit_in Member.MemoryMb) (present Member.MemoryMb r)) _ _ (limit_or_unlimited_good Member.MemoryMb (present Member.MemoryMb r)) (λ memory k. (h, k))))
+    post_then (or_else Limit.Unlimited (limit_in Member.MemoryMb) (present Member.MemoryMb r)) _ _
+        (limit_or_unlimited_good Member.MemoryMb (present Member.MemoryMb r)) (λ memory k. (h, k))))
 
 entry_good : (d : Data) → Post (entry_in d) AreLimits
 unfolding entry_in
@@ -296,7 +329,8 @@ entries_good : (d : Data) → Post (entries_in d) AreLimitsIn
 unfolding entries_in
 entries_good d = post_any (a_list Member.Limits 0 1 d) _ _ first_entry_good
 
-quota_from : (description : Name) (limits : Option Limits) → IsTrue (is_text description) → AreLimitsIn limits → IsTrue (is_good_quota (record { description = description; limits = limits }))
+quota_from : (description : Name) (limits : Option Limits) → IsTrue (is_text description) → AreLimitsIn limits →
+    IsTrue (is_good_quota (record { description = description; limits = limits }))
 quota_from description limits h k = rw (h, k.0, k.1) refl
 
 quota_post : (path : Option Name) (d : Data) → Post (quota_in path d) (λ q. IsTrue (is_good_quota q.quota))
@@ -304,7 +338,8 @@ unfolding quota_in
 quota_post path d =
     post_any (top d) _ _ (λ t. post_any (named NameKind.Quota path t) _ _ (λ name.
     post_then (description_in t) _ _ (description_good t) (λ description h.
-    post_then (or_else None entries_in (present Member.Limits t)) _ _ (post_else None entries_in AreLimitsIn (present Member.Limits t) (refl, refl) entries_good) (λ limits k.
+    post_then (or_else None entries_in (present Member.Limits t)) _ _
+        (post_else None entries_in AreLimitsIn (present Member.Limits t) (refl, refl) entries_good) (λ limits k.
     quota_from description limits h k))))
 
 -- ---- pools
@@ -319,7 +354,8 @@ pool_post path d =
 
 rules_text_good : (d : Data) → Post (rules_text_in d) (λ s. IsTrue (nat_le (length s) 65536))
 unfolding rules_text_in
-rules_text_good d = post_any (or_refuse Member.Rules (as_str d)) _ _ (λ s. post_unless (not (nat_le (length s) 65536)) Member.Rules s _ (λ h. is_true (nat_le (length s) 65536) h))
+rules_text_good d = post_any (or_refuse Member.Rules (as_str d)) _ _
+    (λ s. post_unless (not (nat_le (length s) 65536)) Member.Rules s _ (λ h. is_true (nat_le (length s) 65536) h))
   where
     is_true : (b : Bool) → not b ≡ false → b ≡ true
     is_true true h = refl
@@ -335,7 +371,8 @@ policy_post d =
     post_any (demanded Member.Rules t) _ _ (λ v. post_then (rules_text_in v) _ _ (rules_text_good v) (λ text k.
     post_any (or_bad_rules (rules_of text)) _ _ (λ rules. policy_from (record { description = description; text = text; rules = rules }) h k)))))
 
-token_from : (accessor : Name) (t : TokenDocument) → IsTrue (is_text t.name) → Listed NameKind.Policy 64 t.policies → IsTrue (is_good_token (with_accessor accessor t))
+token_from : (accessor : Name) (t : TokenDocument) → IsTrue (is_text t.name) → Listed NameKind.Policy 64 t.policies →
+    IsTrue (is_good_token (with_accessor accessor t))
 token_from accessor t h k =
     let fits : nat_le (length t.policies) 64 ≡ true = le-leb (length t.policies) 64 k.1 in
     rw (h, fits, k.0.0, distinct_is t.policies k.0.1) refl
@@ -343,14 +380,18 @@ token_from accessor t h k =
 token_post : (d : Data) → Post (token_in d) (λ t. (accessor : Name) → IsTrue (is_good_token (with_accessor accessor t)))
 unfolding token_in
 token_post d =
-    post_any (top d) _ _ (λ t. post_then (or_else [] (a_text Member.Name) (present Member.Name t)) _ _ (post_else [] (a_text Member.Name) (λ s. IsTrue (is_text s)) (present Member.Name t) refl (text_good Member.Name)) (λ name h.
+    post_any (top d) _ _ (λ t. post_then (or_else [] (a_text Member.Name) (present Member.Name t)) _ _
+        (post_else [] (a_text Member.Name) (λ s. IsTrue (is_text s)) (present Member.Name t) refl (text_good Member.Name)) (λ name h.
     post_any (or_else TokenKind.Client token_kind_in (present Member.Type t)) _ _ (λ kind.
-    post_then (or_else [] (names_in Member.Policies NameKind.Policy 64) (present Member.Policies t)) _ _ (post_else [] (names_in Member.Policies NameKind.Policy 64) (Listed NameKind.Policy 64) (present Member.Policies t) ((refl, tt), omega arith) (names_good Member.Policies NameKind.Policy 64)) (λ policies k.
+    post_then (or_else [] (names_in Member.Policies NameKind.Policy 64) (present Member.Policies t)) _ _
+        (post_else [] (names_in Member.Policies NameKind.Policy 64) (Listed NameKind.Policy 64) (present Member.Policies t) ((refl, tt), omega arith)
+        (names_good Member.Policies NameKind.Policy 64)) (λ policies k.
     λ accessor. token_from accessor (record { name = name; kind = kind; policies = policies }) h k))))
 
 -- ---- names
 
-namespace_named : (path : Option Name) (d : Data) → IsTrue (is_path_name NameKind.Namespace path) → Post (namespace_in path d) (λ n. IsTrue (is_name NameKind.Namespace n.name))
+namespace_named : (path : Option Name) (d : Data) → IsTrue (is_path_name NameKind.Namespace path) →
+    Post (namespace_in path d) (λ n. IsTrue (is_name NameKind.Namespace n.name))
 unfolding namespace_in
 namespace_named path d h =
     post_any (top d) _ _ (λ t. post_then (named NameKind.Namespace path t) _ _ (named_good NameKind.Namespace path t h) (λ name k.
@@ -367,31 +408,39 @@ pool_named : (path : Option Name) (d : Data) → IsTrue (is_path_name NameKind.P
 unfolding pool_in
 pool_named path d h =
     post_any (top d) _ _ (λ t. post_then (named NameKind.Pool path t) _ _ (named_good NameKind.Pool path t h) (λ name k.
-    post_then (unless (is_all name) Member.Name name) _ _ (post_unless (is_all name) Member.Name name (λ s. IsTrue (is_pool_name s)) (λ other. pool_name name k other)) (λ checked l.
+    post_then (unless (is_all name) Member.Name name) _ _
+        (post_unless (is_all name) Member.Name name (λ s. IsTrue (is_pool_name s)) (λ other. pool_name name k other)) (λ checked l.
     post_any (description_in t) _ _ (λ description. l))))
 
 -- ---- what is read
 
-pub namespace_good : (r : Read NamedNamespace) (path : Option Name) (d : Data) → Gives same r (namespace_in path d) → IfOk r (λ n. IsTrue (is_good_namespace n.namespace))
+pub namespace_good : (r : Read NamedNamespace) (path : Option Name) (d : Data) → Gives same r (namespace_in path d) →
+    IfOk r (λ n. IsTrue (is_good_namespace n.namespace))
 namespace_good r path d h = read_so r (namespace_in path d) _ h (namespace_post path d)
 
-pub namespace_has_name : (r : Read NamedNamespace) (path : Option Name) (d : Data) → Gives same r (namespace_in path d) → IfOk r (λ n. IsTrue (is_path_name NameKind.Namespace path) → IsTrue (is_name NameKind.Namespace n.name))
-namespace_has_name r path d h = read_if (IsTrue (is_path_name NameKind.Namespace path)) r (namespace_in path d) (λ n. IsTrue (is_name NameKind.Namespace n.name)) h (namespace_named path d)
+pub namespace_has_name : (r : Read NamedNamespace) (path : Option Name) (d : Data) → Gives same r (namespace_in path d) →
+    IfOk r (λ n. IsTrue (is_path_name NameKind.Namespace path) → IsTrue (is_name NameKind.Namespace n.name))
+namespace_has_name r path d h = read_if (IsTrue (is_path_name NameKind.Namespace path)) r (namespace_in path d)
+    (λ n. IsTrue (is_name NameKind.Namespace n.name)) h (namespace_named path d)
 
 pub quota_good : (r : Read NamedQuota) (path : Option Name) (d : Data) → Gives same r (quota_in path d) → IfOk r (λ q. IsTrue (is_good_quota q.quota))
 quota_good r path d h = read_so r (quota_in path d) _ h (quota_post path d)
 
-pub quota_has_name : (r : Read NamedQuota) (path : Option Name) (d : Data) → Gives same r (quota_in path d) → IfOk r (λ q. IsTrue (is_path_name NameKind.Quota path) → IsTrue (is_name NameKind.Quota q.name))
-quota_has_name r path d h = read_if (IsTrue (is_path_name NameKind.Quota path)) r (quota_in path d) (λ q. IsTrue (is_name NameKind.Quota q.name)) h (quota_named path d)
+pub quota_has_name : (r : Read NamedQuota) (path : Option Name) (d : Data) → Gives same r (quota_in path d) →
+    IfOk r (λ q. IsTrue (is_path_name NameKind.Quota path) → IsTrue (is_name NameKind.Quota q.name))
+quota_has_name r path d h = read_if (IsTrue (is_path_name NameKind.Quota path)) r (quota_in path d) (λ q. IsTrue (is_name NameKind.Quota q.name)) h
+    (quota_named path d)
 
 pub pool_good : (r : Read NamedPool) (path : Option Name) (d : Data) → Gives same r (pool_in path d) → IfOk r (λ p. IsTrue (is_text p.pool.description))
 pool_good r path d h = read_so r (pool_in path d) _ h (pool_post path d)
 
-pub pool_has_name : (r : Read NamedPool) (path : Option Name) (d : Data) → Gives same r (pool_in path d) → IfOk r (λ p. IsTrue (is_path_name NameKind.Pool path) → IsTrue (is_pool_name p.name))
+pub pool_has_name : (r : Read NamedPool) (path : Option Name) (d : Data) → Gives same r (pool_in path d) →
+    IfOk r (λ p. IsTrue (is_path_name NameKind.Pool path) → IsTrue (is_pool_name p.name))
 pool_has_name r path d h = read_if (IsTrue (is_path_name NameKind.Pool path)) r (pool_in path d) (λ p. IsTrue (is_pool_name p.name)) h (pool_named path d)
 
 pub policy_good : (r : Read Policy) (d : Data) → Gives same r (policy_in d) → IfOk r (λ p. IsTrue (is_good_policy p))
 policy_good r d h = read_so r (policy_in d) _ h (policy_post d)
 
-pub token_good : (r : Read TokenDocument) (d : Data) → Gives same r (token_in d) → IfOk r (λ t. (accessor : Name) → IsTrue (is_good_token (with_accessor accessor t)))
+pub token_good : (r : Read TokenDocument) (d : Data) → Gives same r (token_in d) →
+    IfOk r (λ t. (accessor : Name) → IsTrue (is_good_token (with_accessor accessor t)))
 token_good r d h = read_so r (token_in d) _ h (token_post d)

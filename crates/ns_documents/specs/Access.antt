@@ -1,5 +1,7 @@
 -- The documents of policies and tokens.
-use Rattle.std.specs.Prelude.{ℕ, nat_le, not, List, [], length, Option, Some, None, Result, Ok, Err, codes, if◌then◌else◌}
+use Rattle.std.specs.Prelude.{
+    ℕ, nat_le, not, List, [], length, Option, Some, None, Result, Ok, Err, codes, if◌then◌else◌
+}
 use Rattle.std.specs.Str.{bytes_eq}
 use Rattle.serde_json.specs.Data.{Data}
 use Rattle.serde_json.specs.Find.{as_str}
@@ -44,7 +46,8 @@ policy_in d = do
 -- ---- tokens
 
 unfoldable pub token_kind_of : List ℕ → Option TokenKind
-token_kind_of s = if bytes_eq s (codes "client") then Some TokenKind.Client else if bytes_eq s (codes "management") then Some TokenKind.Management else None
+token_kind_of s = if bytes_eq s (codes "client") then Some TokenKind.Client else if bytes_eq s (codes "management")
+    then Some TokenKind.Management else None
 
 unfoldable pub token_kind_in : Data → Read TokenKind
 token_kind_in d = do

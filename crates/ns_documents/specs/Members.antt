@@ -8,7 +8,9 @@ use Rattle.ns_types.specs.declared.name.NameKind.{NameKind}
 use Rattle.ns_types.specs.declared.refusal.Member.{Member}
 use Rattle.ns_types.specs.declared.refusal.Member.TheVariants as Member
 use Rattle.ns_types.specs.State.Name.{is_name}
-use Rattle.ns_json.specs.Reading.{◌>>=◌, Read, same, present, demanded, or_else, or_refuse, a_text, a_name, has_name, unless, a_list, each}
+use Rattle.ns_json.specs.Reading.{
+    ◌>>=◌, Read, same, present, demanded, or_else, or_refuse, a_text, a_name, has_name, unless, a_list, each
+}
 
 -- the path holds no name, or one of that kind
 abbrev pub is_path_name : NameKind → Option (List ℕ) → Bool

@@ -1,5 +1,8 @@
 -- Facts on numbers that digits write, and on the values of a name.
-use Rattle.std.proofs.Common.{◌≡◌, ℕ, zero, suc, ◌+◌, ◌-◌, ◌*◌, ◌<◌, ◌≤◌, Bool, true, false, cond, ◌&&◌, List, [], ◌∷◌, ◌++◌, map, length, get_or, take, drop, sym, refl, ap, ◌∙◌, arith}
+use Rattle.std.proofs.Common.{
+    ◌≡◌, ℕ, zero, suc, ◌+◌, ◌-◌, ◌*◌, ◌<◌, ◌≤◌, Bool, true, false, cond, ◌&&◌, List, [], ◌∷◌, ◌++◌, map, length, get_or,
+    take, drop, sym, refl, ap, ◌∙◌, arith
+}
 use Rattle.std.specs.Prelude.{codes, Ok, Err}
 use Rattle.std.specs.List.{list_all, list_any}
 use Rattle.std.proofs.lemmas.Bool.{and_parts, or_left, or_right, cond-true, cond-false, lt-leb, le-leb}
@@ -30,11 +33,14 @@ digits_value-take-le radix i ds some =
     omega (arith, digits_value_after-ge radix (drop i ds) (digits_value radix (take i ds)) some)
 
 -- what one more header adds
-pub values_named-push : (name : List ℕ) (hs : List Header) (h : Header) → values_named name (hs ++ h ∷ []) ≡ values_named name hs ++ cond (eq_ignore_case h.0 name) (h.1 ∷ []) []
+pub values_named-push : (name : List ℕ) (hs : List Header) (h : Header) → values_named name (hs ++ h ∷ []) ≡ values_named name hs ++
+    cond (eq_ignore_case h.0 name) (h.1 ∷ []) []
 values_named-push name [] h = refl
 values_named-push name (x ∷ hs) h = by_test (eq_ignore_case x.0 name) (values_named-push name hs h)
   where
-    by_test : (t : Bool) → values_named name (hs ++ h ∷ []) ≡ values_named name hs ++ cond (eq_ignore_case h.0 name) (h.1 ∷ []) [] → cond t (x.1 ∷ values_named name (hs ++ h ∷ [])) (values_named name (hs ++ h ∷ [])) ≡ cond t (x.1 ∷ values_named name hs) (values_named name hs) ++ cond (eq_ignore_case h.0 name) (h.1 ∷ []) []
+    by_test : (t : Bool) → values_named name (hs ++ h ∷ []) ≡ values_named name hs ++ cond (eq_ignore_case h.0 name) (h.1 ∷ []) [] →
+        cond t (x.1 ∷ values_named name (hs ++ h ∷ [])) (values_named name (hs ++ h ∷ [])) ≡ cond t (x.1 ∷ values_named name hs) (values_named name hs) ++
+        cond (eq_ignore_case h.0 name) (h.1 ∷ []) []
     by_test true e = ap (λ l. x.1 ∷ l) e
     by_test false e = e
 
@@ -45,7 +51,8 @@ list_all-at p (x ∷ xs) zero d inside all = (and_parts _ _ all).0
 list_all-at p (x ∷ xs) (suc i) d inside all = list_all-at p xs i d (omega arith) (and_parts _ _ all).1
 
 -- one that passes makes the whole pass
-pub list_any-at : {X Y : Type 0} (p : Y → Bool) (f : X → Y) (xs : List X) (i : ℕ) (d : X) → i < length xs → p (f (get_or xs i d)) ≡ true → list_any p (map f xs) ≡ true
+pub list_any-at : {X Y : Type 0} (p : Y → Bool) (f : X → Y) (xs : List X) (i : ℕ) (d : X) → i < length xs → p (f (get_or xs i d)) ≡ true →
+    list_any p (map f xs) ≡ true
 list_any-at p f [] i d inside here = absurd (omega arith)
 list_any-at p f (x ∷ xs) zero d inside here = or_left _ _ here
 list_any-at p f (x ∷ xs) (suc i) d inside here = or_right _ _ (list_any-at p f xs i d (omega arith) here)
@@ -67,12 +74,15 @@ digit_of_length v i good inside =
     let digit : is_ascii_digit (get_or v i 0) ≡ true = list_all-at is_ascii_digit v i 0 inside (and_parts _ _ (and_parts _ _ good).1).1 in
     grind (arith, nat_tests)
 
-pub asks_close-any : (minor : ℕ) (hs : List Header) → list_any (λ h. eq_ignore_case h.0 (codes "connection") && lists_close h.1) hs ≡ true → asks_close minor hs ≡ true
+pub asks_close-any : (minor : ℕ) (hs : List Header) → list_any (λ h. eq_ignore_case h.0 (codes "connection") && lists_close h.1) hs ≡ true →
+    asks_close minor hs ≡ true
 unfolding asks_close
 asks_close-any minor hs any = or_right _ _ any
 
 -- the values of a name among the first headers and the next
-pub values_named-more : (name buf : List ℕ) (headers : List HeaderSpan) (i : ℕ) (d : HeaderSpan) → i < length headers → values_named name (map (header_bytes buf) (take (i + 1) headers)) ≡ values_named name (map (header_bytes buf) (take i headers)) ++ cond (eq_ignore_case (header_bytes buf (get_or headers i d)).0 name) ((header_bytes buf (get_or headers i d)).1 ∷ []) []
+pub values_named-more : (name buf : List ℕ) (headers : List HeaderSpan) (i : ℕ) (d : HeaderSpan) → i < length headers →
+    values_named name (map (header_bytes buf) (take (i + 1) headers)) ≡ values_named name (map (header_bytes buf) (take i headers)) ++
+    cond (eq_ignore_case (header_bytes buf (get_or headers i d)).0 name) ((header_bytes buf (get_or headers i d)).1 ∷ []) []
 values_named-more name buf headers i d inside =
     ap (λ l. values_named name (map (header_bytes buf) l)) (take_more headers i d inside)
     ∙ ap (values_named name) (map-append (header_bytes buf) (take i headers) (get_or headers i d ∷ []))

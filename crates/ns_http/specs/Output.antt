@@ -14,4 +14,5 @@ WritesSome old new bytes = (written : List ℕ) × (lost : List ℕ) × (bytes �
 
 -- The bytes came behind those that waited. Some were written, and the others wait.
 abbrev pub Queues : Option (List ℕ) → Option (List ℕ) → List ℕ → List ℕ → List ℕ → Type 0
-Queues old new waiting waiting' bytes = (written : List ℕ) × Appends old new written × (waiting ++ bytes ≡ written ++ waiting')
+Queues old new waiting waiting' bytes = (written : List ℕ) × Appends old new written ×
+    (waiting ++ bytes ≡ written ++ waiting')

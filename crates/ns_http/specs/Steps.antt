@@ -27,7 +27,8 @@ pub record Queued
   pub writes : Queues before after waiting waiting' (wires exchanges)
   pub count : answered' ≡ answered + length exchanges
 
--- the input is those exchanges and then the new input, which waits for so many bytes, or the last of them closed the connection
+-- the input is those exchanges and then the new input, which waits for so many bytes, or the last of them closed the
+-- connection
 abbrev pub Advances :
     {S : Type 0} → (S → Asked → Rendered → S → Type 0) → S → S → List ℕ → List ℕ
     → Option (List ℕ) → Option (List ℕ) → ℕ → ℕ → Option ℕ → Type 0
@@ -51,7 +52,8 @@ Steps answers old new input input' before after waiting waiting' answered answer
     (x : Exchange) × (rest : List ℕ)
     × Queued answers old new input rest before after waiting waiting' answered answered' (x ∷ []) true
 Steps answers old new input input' before after waiting waiting' answered answered' (Step.Waits wanted) =
-    (new ≡ old) × (input' ≡ input) × (after ≡ before) × (waiting' ≡ waiting) × (answered' ≡ answered) × Waits input wanted
+    (new ≡ old) × (input' ≡ input) × (after ≡ before) × (waiting' ≡ waiting) × (answered' ≡ answered) ×
+        Waits input wanted
 
 -- the writer failed while the last of these exchanges was made, or after it
 abbrev pub CutsShort :

@@ -15,7 +15,8 @@ next : (vs : List Value) (i : ℕ) (v : Value) → i < length vs → v ≡ get_o
 next vs i v lt is = ap items_view (drop_more vs i v lt) ∙ rw (← is) refl
 
 -- one more item is read
-pub goes_on : {A : Type 0} (read : List A → Data → Read A) (done : List A) (vs : List Value) (i : ℕ) (v : Value) (x : A) (total : Read (List A)) → i < length vs → v ≡ get_or vs i v
+pub goes_on : {A : Type 0} (read : List A → Data → Read A) (done : List A) (vs : List Value) (i : ℕ) (v : Value) (x : A) (total : Read (List A)) →
+    i < length vs → v ≡ get_or vs i v
     → read done (view v) ≡ Ok x → each read done (items_view (drop i vs)) ≡ total → each read (done ++ x ∷ []) (items_view (drop (i + 1) vs)) ≡ total
 unfolding each
 goes_on read done vs i v x total lt is one so_far =
@@ -43,14 +44,17 @@ fails_on Refusal.NotEnabled r after h = elim h [ ]
 fails_on Refusal.Foreign r after h = elim h [ ]
 
 -- an item that is refused
-pub ends : {A : Type 0} (read : List A → Data → Read A) (e : Refusal) (done : List A) (vs : List Value) (i : ℕ) (v : Value) (total : Read (List A)) → i < length vs → v ≡ get_or vs i v
+pub ends : {A : Type 0} (read : List A → Data → Read A) (e : Refusal) (done : List A) (vs : List Value) (i : ℕ) (v : Value) (total : Read (List A)) →
+    i < length vs → v ≡ get_or vs i v
     → Fails e (read done (view v)) → each read done (items_view (drop i vs)) ≡ total → Fails e total
 unfolding each
 ends read e done vs i v total lt is one so_far =
-    let step : each read done (items_view (drop i vs)) ≡ (read done (view v) >>= λ x. each read (done ++ x ∷ []) (items_view (drop (i + 1) vs))) = rw (next vs i v lt is) refl in
+    let step : each read done (items_view (drop i vs)) ≡ (read done (view v) >>= λ x. each read (done ++ x ∷ []) (items_view (drop (i + 1) vs))) =
+        rw (next vs i v lt is) refl in
     subst (Fails e) (sym step ∙ so_far) (fails_on e (read done (view v)) _ one)
 
-pub is_done : {A : Type 0} (read : List A → Data → Read A) (done : List A) (vs : List Value) (i : ℕ) (total : Read (List A)) → length vs ≤ i → each read done (items_view (drop i vs)) ≡ total → total ≡ Ok done
+pub is_done : {A : Type 0} (read : List A → Data → Read A) (done : List A) (vs : List Value) (i : ℕ) (total : Read (List A)) → length vs ≤ i →
+    each read done (items_view (drop i vs)) ≡ total → total ≡ Ok done
 unfolding each
 is_done read done vs i total le so_far =
     let none : drop i vs ≡ [] = drop_all i vs le in

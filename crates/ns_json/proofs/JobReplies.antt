@@ -15,9 +15,12 @@ use Rattle.ns_json.specs.Rendering.{constraint_json, group_json, job_json}
 use Rattle.ns_json.proofs.Parts.{list_tokens}
 
 -- the members, with the texts that were written
-pub with_texts : (j : JobShown) (id namespace pool status : List ℕ) → id ≡ j.id → namespace ≡ j.namespace → pool ≡ j.row.document.pool → status ≡ job_status_text j.status
-    → end_array ∷ key (codes "CreateIndex") ∷ number (decimal j.row.create_index) ∷ key (codes "ID") ∷ string id ∷ key (codes "JobModifyIndex") ∷ number (decimal j.row.modify_index) ∷ key (codes "Namespace")
-    ∷ string namespace ∷ key (codes "NodePool") ∷ string pool ∷ key (codes "Priority") ∷ number (decimal j.row.document.priority) ∷ key (codes "Status") ∷ string status ∷ key (codes "Stop") ∷ boolean j.row.stop
+pub with_texts : (j : JobShown) (id namespace pool status : List ℕ) → id ≡ j.id → namespace ≡ j.namespace → pool ≡ j.row.document.pool →
+    status ≡ job_status_text j.status
+    → end_array ∷ key (codes "CreateIndex") ∷ number (decimal j.row.create_index) ∷ key (codes "ID") ∷ string id ∷ key (codes "JobModifyIndex") ∷ number
+        (decimal j.row.modify_index) ∷ key (codes "Namespace")
+    ∷ string namespace ∷ key (codes "NodePool") ∷ string pool ∷ key (codes "Priority") ∷ number (decimal j.row.document.priority) ∷ key (codes "Status")
+        ∷ string status ∷ key (codes "Stop") ∷ boolean j.row.stop
     ∷ key (codes "TaskGroups") ∷ begin_array ∷ [] ≡ member_tokens j
 unfolding member_tokens
 with_texts j id namespace pool status e1 e2 e3 e4 = rw (e1, e2, e3, e4) refl
@@ -39,10 +42,12 @@ regroup : (a c m g t : List Token) → (((a ++ c) ++ m) ++ g) ++ t ≡ a ++ (c +
 regroup a c m g t = simp append_assoc
 
 -- a list, its closing bracket, and what comes after
-list_then : {X : Type 0} (json : X → Data) (xs : List X) (rest : List Token) → flat_map (λ x. tokens_of (json x)) xs ++ end_array ∷ rest ≡ items_tokens (items_outline (items_of (map json xs))) ++ rest
+list_then : {X : Type 0} (json : X → Data) (xs : List X) (rest : List Token) → flat_map (λ x. tokens_of (json x)) xs ++
+    end_array ∷ rest ≡ items_tokens (items_outline (items_of (map json xs))) ++ rest
 list_then json xs rest = sym (append_assoc (flat_map (λ x. tokens_of (json x)) xs) (end_array ∷ []) rest) ∙ ap (λ t. t ++ rest) (sym (list_tokens json xs))
 
-pub job_tokens : (j : JobShown) (cs : List Constraint) (gs : List Group) (kind : List ℕ) → cs ≡ j.row.document.constraints → gs ≡ j.row.document.groups → kind ≡ kind_text j.row.document.kind
+pub job_tokens : (j : JobShown) (cs : List Constraint) (gs : List Group) (kind : List ℕ) → cs ≡ j.row.document.constraints → gs ≡ j.row.document.groups →
+    kind ≡ kind_text j.row.document.kind
     → (((head ++ constraint_tokens cs) ++ member_tokens j) ++ group_tokens gs) ++ tail j kind ≡ tokens_of (job_json j)
 unfolding job_json member_tokens
 job_tokens j cs gs kind e1 e2 e3 =

@@ -1,5 +1,8 @@
 -- What replies take, and their texts.
-use Rattle.std.proofs.Common.{◌≡◌, ◌≢◌, ℕ, zero, suc, if◌then◌else◌, ◌+◌, ◌*◌, ◌/◌, ◌%◌, ◌^◌, nat_lt, ◌<◌, ◌≤◌, Bool, true, false, cond, List, [], ◌∷◌, ◌++◌, length, Result, Ok, Err, refl, ap, ◌∙◌, arith, codes, decimal, length-append}
+use Rattle.std.proofs.Common.{
+    ◌≡◌, ◌≢◌, ℕ, zero, suc, if◌then◌else◌, ◌+◌, ◌*◌, ◌/◌, ◌%◌, ◌^◌, nat_lt, ◌<◌, ◌≤◌, Bool, true, false, cond, List, [],
+    ◌∷◌, ◌++◌, length, Result, Ok, Err, refl, ap, ◌∙◌, arith, codes, decimal, length-append
+}
 use Rattle.std.specs.Prelude.{is_ok}
 use Rattle.std.specs.Char.{digit_char}
 use Rattle.json.specs.Written.{Written}
@@ -29,7 +32,8 @@ escape_at false false x y z p q r = r
 
 escape_byte-short : (x : ℕ) → length (escape_byte x) ≤ 6
 unfolding escape_byte
-escape_byte-short x = escape_at (nat_lt 0 (escape_letter x)) (nat_lt x 32) (92 ∷ escape_letter x ∷ []) (92 ∷ 117 ∷ 48 ∷ 48 ∷ digit_char (x / 16) ∷ digit_char (x % 16) ∷ []) (x ∷ []) (omega arith) (omega arith) (omega arith)
+escape_byte-short x = escape_at (nat_lt 0 (escape_letter x)) (nat_lt x 32) (92 ∷ escape_letter x ∷ [])
+    (92 ∷ 117 ∷ 48 ∷ 48 ∷ digit_char (x / 16) ∷ digit_char (x % 16) ∷ []) (x ∷ []) (omega arith) (omega arith) (omega arith)
 
 -- each byte of a text takes six at most
 pub length-escape : (s : List ℕ) → length (escape s) ≤ 6 * length s
@@ -46,19 +50,23 @@ pub length-number : (n : ℕ) → n < 2 ^ 64 → length (decimal n) ≤ 20
 length-number n h = length-decimal-le 20 n (omega arith) (omega arith) h
 
 pub registered_tokens : (evaluation index job_index : ℕ) (id : List ℕ) → id ≡ id_text Evaluation evaluation
-    → begin_object ∷ key (codes "EvalCreateIndex") ∷ number (decimal index) ∷ key (codes "EvalID") ∷ string id ∷ key (codes "JobModifyIndex") ∷ number (decimal job_index) ∷ end_object ∷ []
+    → begin_object ∷ key (codes "EvalCreateIndex") ∷ number (decimal index) ∷ key (codes "EvalID") ∷ string id ∷ key (codes "JobModifyIndex") ∷ number
+        (decimal job_index) ∷ end_object ∷ []
     ≡ tokens_of (registered_json evaluation index job_index)
 unfolding registered_json
 registered_tokens evaluation index job_index id e = rw (← e) refl
 
 room_of : (a b : ℕ) (id : List ℕ) → a < 2 ^ 64 → b < 2 ^ 64 → length id ≡ 36
-    → room (begin_object ∷ key (codes "EvalCreateIndex") ∷ number (decimal a) ∷ key (codes "EvalID") ∷ string id ∷ key (codes "JobModifyIndex") ∷ number (decimal b) ∷ end_object ∷ []) ≤ 320
+    → room (begin_object ∷ key (codes "EvalCreateIndex") ∷ number (decimal a) ∷ key (codes "EvalID") ∷ string id ∷ key (codes "JobModifyIndex") ∷ number
+        (decimal b) ∷ end_object ∷ []) ≤ 320
 unfolding escape_byte
 room_of a b id p q r = omega (arith, length-number a p, length-number b q, length-quoted id, r)
 
-pub registered_room : (evaluation index job_index : ℕ) → index < 2 ^ 64 → job_index < 2 ^ 64 → room (tokens_of (registered_json evaluation index job_index)) ≤ 320
+pub registered_room : (evaluation index job_index : ℕ) → index < 2 ^ 64 → job_index < 2 ^ 64 →
+    room (tokens_of (registered_json evaluation index job_index)) ≤ 320
 registered_room evaluation index job_index p q =
-    rw (← registered_tokens evaluation index job_index (id_text Evaluation evaluation) refl) (room_of index job_index (id_text Evaluation evaluation) p q (length-id Evaluation evaluation))
+    rw (← registered_tokens evaluation index job_index (id_text Evaluation evaluation) refl)
+        (room_of index job_index (id_text Evaluation evaluation) p q (length-id Evaluation evaluation))
 
 plain_one : (x : ℕ) → 44 < x → x < 103 → x ≢ 92 → length (escape_byte x) ≡ 1
 unfolding escape_byte
@@ -84,7 +92,8 @@ pub length-escaped_id : (kind : IdKind) (n : ℕ) → length (escape (id_text ki
 length-escaped_id kind n = escaped_places 36 _ (λ k. place_one (is_hyphen_place k) _ (nibble_small (to_be_bytes w128 (id_number kind n)) (digit_place k)))
 
 -- the longest body that answers a registration
-pub registered_short : (evaluation index job_index : ℕ) → index < 2 ^ 64 → job_index < 2 ^ 64 → length (compact_text (registered_json evaluation index job_index)) ≤ longest_registered
+pub registered_short : (evaluation index job_index : ℕ) → index < 2 ^ 64 → job_index < 2 ^ 64 →
+    length (compact_text (registered_json evaluation index job_index)) ≤ longest_registered
 unfolding registered_json escape_byte
 registered_short evaluation index job_index p q =
     let id : List ℕ = id_text Evaluation evaluation in
@@ -107,7 +116,8 @@ has_room (Ok u) old new ts h fits = refl
 has_room (Err e) old new ts h fits = absurd (omega (arith, h.room))
 
 -- the text of what was written first
-pub text_of : {E : Type 0} (r : Result (Unit {0}) E) (old new : Written) (d : Data) (items : List ℕ) → Adds r old new (tokens_of d) → is_ok r ≡ true → old.tokens ≡ [] → old.before ≡ []
+pub text_of : {E : Type 0} (r : Result (Unit {0}) E) (old new : Written) (d : Data) (items : List ℕ) → Adds r old new (tokens_of d) → is_ok r ≡ true →
+    old.tokens ≡ [] → old.before ≡ []
     → items ≡ new.before ++ print new.tokens → items ≡ compact_text d
 text_of (Ok u) old new d items h ok none empty is =
     let all : new.tokens ≡ tokens_of d = h.ok ∙ ap (λ t. t ++ tokens_of d) none in
@@ -115,7 +125,8 @@ text_of (Ok u) old new d items h ok none empty is =
     is ∙ rw (before, all) (print-outline d)
 text_of (Err e) old new d items h ok none empty is = absurd cc
 
-pub text_that_follows : (old new : Written) (d : Data) (items : List ℕ) → Follows old new (tokens_of d) → old.tokens ≡ [] → old.before ≡ [] → items ≡ new.before ++ print new.tokens → items ≡ compact_text d
+pub text_that_follows : (old new : Written) (d : Data) (items : List ℕ) → Follows old new (tokens_of d) → old.tokens ≡ [] → old.before ≡ [] → items ≡ new.before
+    ++ print new.tokens → items ≡ compact_text d
 text_that_follows old new d items h none empty is =
     let all : new.tokens ≡ tokens_of d = h.tokens ∙ ap (λ t. t ++ tokens_of d) none in
     let before : new.before ≡ [] = h.before ∙ empty in

@@ -32,7 +32,8 @@ has_prefix p s x (k, finds, is, len) =
     let yes : true ≡ starts_with eqb s p = starts_text true p s (k, finds, rw finds.0 finds.2) in
     rw (← yes, ← finds.0, is) refl
 
-pub suffix_is : (p s : List ℕ) (r : Option (Bor (List ℕ))) → MatchOption r (FindsTextSuffix p s None) (λ x. StripsSuffix (FindsTextSuffix p) s x.now) → option_map (λ x. x.now) r ≡ without_suffix p s
+pub suffix_is : (p s : List ℕ) (r : Option (Bor (List ℕ))) → MatchOption r (FindsTextSuffix p s None) (λ x. StripsSuffix (FindsTextSuffix p) s x.now) →
+    option_map (λ x. x.now) r ≡ without_suffix p s
 suffix_is p s None h = rw (← ends_text false p s h) refl
 suffix_is p s (Some x) (k, finds, is, len) =
     let le : k ≤ length s = omega arith in

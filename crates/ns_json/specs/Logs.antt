@@ -15,7 +15,10 @@ use Rattle.ns_types.specs.declared.step.Report.{Report}
 use Rattle.ns_types.specs.declared.step.Step.{Step}
 use Rattle.ns_types.specs.declared.step.Step.TheVariants as Step
 use Rattle.ns_types.specs.State.Names.{Name}
-use Rattle.ns_json.specs.Rendering.{number_of, object_of, list_of, text_or_empty, constraint_json, group_json, namespace_json, quota_json, pool_json, attributes_json, policy_json, token_json}
+use Rattle.ns_json.specs.Rendering.{
+    number_of, object_of, list_of, text_or_empty, constraint_json, group_json, namespace_json, quota_json, pool_json,
+    attributes_json, policy_json, token_json
+}
 use Rattle.ns_json.specs.Replies.{Entry}
 use Rattle.ns_types.specs.Wire.Words.{kind_text, node_status_text, eligibility_text, client_text}
 
@@ -65,17 +68,20 @@ offer_json o = object_of (
     (codes "NodeClass", string o.class) ∷ [])
 
 abbrev pub new_token_json : NewToken → Data
-new_token_json t = token_json (record { accessor = t.accessor; secret = t.secret; name = t.name; kind = t.kind; policies = t.policies })
+new_token_json t = token_json (record { accessor = t.accessor; secret = t.secret; name = t.name; kind =
+    t.kind; policies = t.policies })
 
 abbrev pub report_members : Name → Report → List (Name × Data)
 report_members name r =
-    (codes "ClientStatus", string (client_text r.client)) ∷ named name ∷ (codes "Namespace", string r.namespace) ∷ numbered r.number ∷ []
+    (codes "ClientStatus", string (client_text r.client)) ∷ named name ∷ (codes "Namespace", string r.namespace)
+        ∷ numbered r.number ∷ []
 
 -- ---- commands
 
 unfoldable pub asked : AskCommand → Call
 asked (AskCommand.ListJobs prefix) = (codes "ListJobs", with_prefix prefix ∷ [])
-asked (AskCommand.Register r) = (codes "Register", documented (registration_json r) ∷ (codes "Enforce", number_or_null r.enforced) ∷ [])
+asked (AskCommand.Register r) = (codes "Register", documented (registration_json r) ∷
+    (codes "Enforce", number_or_null r.enforced) ∷ [])
 asked (AskCommand.ReadJob id) = (codes "ReadJob", with_id id ∷ [])
 asked (AskCommand.Deregister id purge) = (codes "Deregister", with_id id ∷ (codes "Purge", boolean purge) ∷ [])
 asked (AskCommand.JobAllocations id) = (codes "JobAllocations", with_id id ∷ [])
@@ -91,17 +97,21 @@ asked (AskCommand.Events index) = (codes "Events", (codes "From", number_of inde
 
 unfoldable pub administered : AdminCommand → Call
 administered AdminCommand.ListNamespaces = (codes "ListNamespaces", [])
-administered (AdminCommand.PutNamespace name n) = (codes "PutNamespace", documented (namespace_json (record { name = name; row = n })) ∷ [])
+administered (AdminCommand.PutNamespace name n) =
+    (codes "PutNamespace", documented (namespace_json (record { name = name; row = n })) ∷ [])
 administered (AdminCommand.DeleteNamespace name) = (codes "DeleteNamespace", named name ∷ [])
 administered AdminCommand.ListQuotas = (codes "ListQuotas", [])
 administered (AdminCommand.ReadQuota name) = (codes "ReadQuota", named name ∷ [])
-administered (AdminCommand.PutQuota name q) = (codes "PutQuota", documented (quota_json (record { name = name; row = q })) ∷ [])
+administered (AdminCommand.PutQuota name q) =
+    (codes "PutQuota", documented (quota_json (record { name = name; row = q })) ∷ [])
 administered (AdminCommand.DeleteQuota name) = (codes "DeleteQuota", named name ∷ [])
 administered AdminCommand.ListPools = (codes "ListPools", [])
-administered (AdminCommand.PutPool name p) = (codes "PutPool", documented (pool_json (record { name = name; row = p })) ∷ [])
+administered (AdminCommand.PutPool name p) =
+    (codes "PutPool", documented (pool_json (record { name = name; row = p })) ∷ [])
 administered (AdminCommand.DeletePool name) = (codes "DeletePool", named name ∷ [])
 administered (AdminCommand.ReadPolicy name) = (codes "ReadPolicy", named name ∷ [])
-administered (AdminCommand.PutPolicy name p) = (codes "PutPolicy", documented (policy_json (record { name = name; row = p })) ∷ [])
+administered (AdminCommand.PutPolicy name p) =
+    (codes "PutPolicy", documented (policy_json (record { name = name; row = p })) ∷ [])
 administered (AdminCommand.DeletePolicy name) = (codes "DeletePolicy", named name ∷ [])
 administered (AdminCommand.CreateToken t) = (codes "CreateToken", documented (new_token_json t) ∷ [])
 administered (AdminCommand.DeleteToken accessor) = (codes "DeleteToken", (codes "AccessorID", string accessor) ∷ [])
@@ -111,8 +121,10 @@ told NodeCommand.ReadPool = (codes "ReadPool", [])
 told NodeCommand.ListNodes = (codes "ListNodes", [])
 told (NodeCommand.PutNode name offer) = (codes "PutNode", documented (offer_json offer) ∷ named name ∷ [])
 told (NodeCommand.DeleteNode name) = (codes "DeleteNode", named name ∷ [])
-told (NodeCommand.SetStatus name status) = (codes "SetStatus", named name ∷ (codes "Status", string (node_status_text status)) ∷ [])
-told (NodeCommand.SetEligible name eligible) = (codes "SetEligible", (codes "Eligibility", string (eligibility_text eligible)) ∷ named name ∷ [])
+told (NodeCommand.SetStatus name status) =
+    (codes "SetStatus", named name ∷ (codes "Status", string (node_status_text status)) ∷ [])
+told (NodeCommand.SetEligible name eligible) =
+    (codes "SetEligible", (codes "Eligibility", string (eligibility_text eligible)) ∷ named name ∷ [])
 told (NodeCommand.Report name r) = (codes "Report", report_members name r)
 
 -- ---- steps
@@ -130,9 +142,12 @@ abbrev pub work_members : Name → ℕ → Name → List (Name × Data)
 work_members word worker ns = kind word ∷ (codes "Ns", string ns) ∷ (codes "Worker", number_of worker) ∷ []
 
 unfoldable pub step_members : Step → List (Name × Data)
-step_members (Step.Ask ns secret command) = call_members (asked command) (kind (codes "Ask") ∷ (codes "Ns", string ns) ∷ with_secret secret ∷ [])
-step_members (Step.Admin secret command) = call_members (administered command) (kind (codes "Admin") ∷ with_secret secret ∷ [])
-step_members (Step.Node pool secret command) = call_members (told command) (kind (codes "Node") ∷ (codes "Pool", string pool) ∷ with_secret secret ∷ [])
+step_members (Step.Ask ns secret command) =
+    call_members (asked command) (kind (codes "Ask") ∷ (codes "Ns", string ns) ∷ with_secret secret ∷ [])
+step_members (Step.Admin secret command) =
+    call_members (administered command) (kind (codes "Admin") ∷ with_secret secret ∷ [])
+step_members (Step.Node pool secret command) =
+    call_members (told command) (kind (codes "Node") ∷ (codes "Pool", string pool) ∷ with_secret secret ∷ [])
 step_members (Step.Dequeue worker ns n) = (codes "Eval", number_of n) ∷ work_members (codes "Dequeue") worker ns
 step_members (Step.Snap worker ns) = work_members (codes "Snap") worker ns
 step_members (Step.Submit worker ns) = work_members (codes "Submit") worker ns
@@ -153,4 +168,5 @@ abbrev pub line_of : Name → Name
 line_of text = text ++ 10 ∷ []
 
 unfoldable pub log_text : Name → List Entry → Name
-log_text secret log = line_of (codes "nsd-log 1 " ++ secret) ++ flat_map (λ e. line_of (compact_text (entry_json e))) log
+log_text secret log = line_of (codes "nsd-log 1 " ++ secret) ++
+    flat_map (λ e. line_of (compact_text (entry_json e))) log

@@ -1,5 +1,8 @@
 -- The document of a registration.
-use Rattle.std.specs.Prelude.{ℕ, ◌^◌, ◌-◌, ◌==◌, eqb, List, [], length, take, drop, codes, Bool, true, false, Option, Some, None, option_and_then, Ok, Err, if◌then◌else◌}
+use Rattle.std.specs.Prelude.{
+    ℕ, ◌^◌, ◌-◌, ◌==◌, eqb, List, [], length, take, drop, codes, Bool, true, false, Option, Some, None, option_and_then,
+    Ok, Err, if◌then◌else◌
+}
 use Rattle.std.specs.List.{starts_with, ends_with}
 use Rattle.std.specs.Str.{bytes_eq}
 use Rattle.serde_json.specs.Data.{Data}
@@ -20,7 +23,10 @@ use Rattle.ns_types.specs.declared.job.Group.{Group}
 use Rattle.ns_types.specs.declared.job.Constraint.{Constraint}
 use Rattle.ns_types.specs.declared.job.Registration.{Registration}
 use Rattle.ns_json.specs.declared.registration.RegistrationDocument.{RegistrationDocument}
-use Rattle.ns_json.specs.Reading.{◌>>=◌, Read, top, present, demanded, or_else, some, or_refuse, an_object, a_flag, a_number, a_text, a_name, has_name, unless, a_list, each}
+use Rattle.ns_json.specs.Reading.{
+    ◌>>=◌, Read, top, present, demanded, or_else, some, or_refuse, an_object, a_flag, a_number, a_text, a_name,
+    has_name, unless, a_list, each
+}
 
 abbrev pub max_quantity : ℕ
 max_quantity = 2147483647
@@ -110,7 +116,8 @@ constraint_in d = do
 -- ---- the job
 
 unfoldable pub kind_of : List ℕ → Option JobKind
-kind_of s = if bytes_eq s (codes "service") then Some Service else if bytes_eq s (codes "batch") then Some Batch else None
+kind_of s = if bytes_eq s (codes "service") then Some Service else if bytes_eq s (codes "batch") then Some Batch
+    else None
 
 unfoldable pub kind_in : Data → Read JobKind
 kind_in d = do
@@ -165,7 +172,8 @@ job_in d = do
   groups ← groups_in groups
   Ok (record {
     namespace = namespace;
-    registration = record { id = id; kind = kind; priority = priority; pool = pool; constraints = constraints; groups = groups; enforced = None };
+    registration = record { id = id; kind = kind; priority = priority; pool = pool; constraints = constraints; groups =
+        groups; enforced = None };
   })
 
 -- the index that is demanded, where one is

@@ -14,7 +14,11 @@ use Rattle.ns_types.specs.declared.step.Step.{Step}
 use Rattle.ns_types.specs.State.Id.{id_text}
 use Rattle.ns_types.specs.Wire.Refused.{refused}
 use Rattle.ns_types.specs.State.Names.{Name}
-use Rattle.ns_json.specs.Rendering.{number_of, object_of, list_of, texts_of, id_or_empty, registered_json, stopped_json, job_json, listed_job_json, evaluation_json, allocation_json, namespace_json, quota_json, usage_json, pool_json, node_json, policy_json, token_json}
+use Rattle.ns_json.specs.Rendering.{
+    number_of, object_of, list_of, texts_of, id_or_empty, registered_json, stopped_json, job_json, listed_job_json,
+    evaluation_json, allocation_json, namespace_json, quota_json, usage_json, pool_json, node_json, policy_json,
+    token_json
+}
 use Rattle.ns_types.specs.State.Rows.{State}
 use Rattle.ns_types.specs.Steps.{Answer, Run}
 use Rattle.ns_types.specs.Wire.Words.{status_text}
@@ -48,7 +52,8 @@ event_json ns e = object_of (
     (codes "Type", string (type_word e.topic)) ∷ [])
 
 unfoldable pub event_line : Name → Event → Name
-event_line ns e = compact_text (object_of ((codes "Events", list_of (event_json ns) (e ∷ [])) ∷ (codes "Index", number_of e.index) ∷ [])) ++ 10 ∷ []
+event_line ns e = compact_text (object_of
+    ((codes "Events", list_of (event_json ns) (e ∷ [])) ∷ (codes "Index", number_of e.index) ∷ [])) ++ 10 ∷ []
 
 -- ---- what workers' steps say
 
@@ -56,10 +61,13 @@ abbrev pub one_id : Name → ℕ → Data
 one_id name n = object_of ((name, string (id_text IdKind.Evaluation n)) ∷ [])
 
 abbrev pub applied_json : List ℕ → List Name → Data
-applied_json made dropped = object_of ((codes "Committed", list_of (λ n. string (id_text IdKind.Allocation n)) made) ∷ (codes "Dropped", texts_of dropped) ∷ [])
+applied_json made dropped = object_of
+    ((codes "Committed", list_of (λ n. string (id_text IdKind.Allocation n)) made) ∷ (codes "Dropped", texts_of dropped)
+    ∷ [])
 
 abbrev pub finished_json : Status → Option ℕ → Data
-finished_json status follower = object_of ((codes "Follower", id_or_empty follower) ∷ (codes "Status", string (status_text status)) ∷ [])
+finished_json status follower = object_of
+    ((codes "Follower", id_or_empty follower) ∷ (codes "Status", string (status_text status)) ∷ [])
 
 -- ---- bodies
 

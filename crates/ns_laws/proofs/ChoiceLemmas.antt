@@ -1,5 +1,8 @@
 -- The best of a list under an order, and the shortest prefix that will do.
-use Rattle.std.specs.Prelude.{◌≡◌, ℕ, zero, suc, ◌+◌, ◌<◌, ◌≤◌, Bool, true, false, cond, not, ◌&&◌, List, [], ◌∷◌, ◌++◌, length, take, slice_get, position, Option, Some, None, option_map}
+use Rattle.std.specs.Prelude.{
+    ◌≡◌, ℕ, zero, suc, ◌+◌, ◌<◌, ◌≤◌, Bool, true, false, cond, not, ◌&&◌, List, [], ◌∷◌, ◌++◌, length, take, slice_get,
+    position, Option, Some, None, option_map
+}
 use Rattle.std.proofs.Common.{refl, sym, ap, subst, ◌∙◌, arith}
 use Rattle.std.specs.Cmp.{IsStrictWeakOrder}
 use Rattle.std.specs.List.{list_all, position_or_len}
@@ -151,7 +154,8 @@ module _ {X : Type 0} where
       by false f e (suc n) = f
   shortest_none serves (x ∷ xs) e n = by (serves []) refl (shortest_prefix (λ zs. serves (x ∷ zs)) xs) refl e (shortest_none (λ zs. serves (x ∷ zs)) xs) n
     where
-      by : (b : Bool) → serves [] ≡ b → (o : Option (List X)) → shortest_prefix (λ zs. serves (x ∷ zs)) xs ≡ o → cond b (Some []) (option_map (λ zs. x ∷ zs) o) ≡ None
+      by : (b : Bool) → serves [] ≡ b → (o : Option (List X)) → shortest_prefix (λ zs. serves (x ∷ zs)) xs ≡ o →
+          cond b (Some []) (option_map (λ zs. x ∷ zs) o) ≡ None
           → (shortest_prefix (λ zs. serves (x ∷ zs)) xs ≡ None → (n : ℕ) → serves (x ∷ take n xs) ≡ false) → (n : ℕ) → serves (take n (x ∷ xs)) ≡ false
       by true f o is e go n = absurd (none-some [] (sym e))
       by false f (Some zs) is e go n = absurd (none-some (x ∷ zs) (sym e))

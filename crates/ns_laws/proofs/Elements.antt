@@ -79,7 +79,8 @@ module _ {X : Type 0} where
   each_passing P p [] h = tt
   each_passing P p (x ∷ xs) h = by (p x) refl h (each_passing P p xs)
     where
-      by : (b : Bool) → p x ≡ b → Each P (cond b (x ∷ filter p xs) (filter p xs)) → (Each P (filter p xs) → Each (λ x. p x ≡ true → P x) xs) → Each (λ x. p x ≡ true → P x) (x ∷ xs)
+      by : (b : Bool) → p x ≡ b → Each P (cond b (x ∷ filter p xs) (filter p xs)) → (Each P (filter p xs) → Each (λ x. p x ≡ true → P x) xs) →
+          Each (λ x. p x ≡ true → P x) (x ∷ xs)
       by true e h go = ((λ _. h.0), go h.1)
       by false e h go = ((λ t. not_both t e), go h)
 

@@ -28,10 +28,12 @@ module _ {X : Type 0} (key : X → ℕ) (xs : List X) where
       (each_map (λ x h. (omega (arith, h.0), omega (arith, h.1))) (levels (a + 1) n) (each_within (a + 1) n))
 
   -- elements of one level before others that are not below it
-  in_order : (a : ℕ) (ys zs : List X) → Each (λ x. key x ≡ a) ys → Each (λ x. a ≤ key x) zs → AllPairs (λ x y. key x ≤ key y) zs → AllPairs (λ x y. key x ≤ key y) (ys ++ zs)
+  in_order : (a : ℕ) (ys zs : List X) → Each (λ x. key x ≡ a) ys → Each (λ x. a ≤ key x) zs → AllPairs (λ x y. key x ≤ key y) zs →
+      AllPairs (λ x y. key x ≤ key y) (ys ++ zs)
   in_order a [] zs h k pairs = pairs
   in_order a (y ∷ ys) zs h k pairs = AllPairs-cons (λ x y. key x ≤ key y) y (ys ++ zs)
-      (all_from (λ z. key y ≤ key z) (ys ++ zs) (each_join _ ys zs (each_map (λ x e. omega (arith, e, h.0)) ys h.1) (each_map (λ x e. omega (arith, e, h.0)) zs k)))
+      (all_from (λ z. key y ≤ key z) (ys ++ zs) (each_join _ ys zs (each_map (λ x e. omega (arith, e, h.0)) ys h.1)
+          (each_map (λ x e. omega (arith, e, h.0)) zs k)))
       (in_order a ys zs h.1 k pairs)
 
   pairs_none : AllPairs (λ (x y : X). key x ≤ key y) []
@@ -46,7 +48,8 @@ module _ {X : Type 0} (key : X → ℕ) (xs : List X) where
   other_level p q ne = filter_none (λ x. key x == q) (level p) (each_map (λ x h. ne_eqb (key x) q (λ e. ne (sym h ∙ e))) (level p) (each_at p))
 
   none_from : (a n p : ℕ) → p < a → filter (λ x. key x == p) (levels a n) ≡ []
-  none_from a n p lt = filter_none (λ x. key x == p) (levels a n) (each_map (λ x h. ne_eqb (key x) p (λ e. omega (arith, e, h.0, lt))) (levels a n) (each_within a n))
+  none_from a n p lt = filter_none (λ x. key x == p) (levels a n)
+      (each_map (λ x h. ne_eqb (key x) p (λ e. omega (arith, e, h.0, lt))) (levels a n) (each_within a n))
 
   whole_level : (a n p : ℕ) → a ≤ p → p < a + n → filter (λ x. key x == p) (levels a n) ≡ level p
   whole_level a zero p le lt = absurd (omega (arith, le, lt))
@@ -58,11 +61,13 @@ module _ {X : Type 0} (key : X → ℕ) (xs : List X) where
         where
           own : a ≡ p → filter (λ x. key x == p) (level a) ≡ level p
           own e = filter_all (λ x. key x == p) (level a) (each_map (λ x h. eq-eqb (key x) p (h ∙ e)) (level a) (each_at a)) ∙ ap level e
-      by (inr (inl less)) go = ap (λ l. l ++ filter (λ x. key x == p) (levels (a + 1) n)) (other_level a p (λ e. omega (arith, e, less))) ∙ go (omega (arith, less)) (omega (arith, lt))
+      by (inr (inl less)) go = ap (λ l. l ++ filter (λ x. key x == p) (levels (a + 1) n)) (other_level a p (λ e. omega (arith, e, less))) ∙
+          go (omega (arith, less)) (omega (arith, lt))
       by (inr (inr more)) go = absurd (omega (arith, more, le))
 
 pub evictable_are_lower : EvictableAreLower
-evictable_are_lower priority live = each_map (λ a h. omega (arith, h.1)) (evictable priority live) (each_within (λ a. a.priority) (reverse live) 0 (priority - 9))
+evictable_are_lower priority live = each_map (λ a h. omega (arith, h.1)) (evictable priority live)
+    (each_within (λ a. a.priority) (reverse live) 0 (priority - 9))
 
 pub evictable_in_order : EvictableInOrder
 evictable_in_order priority live = each_in_order (λ a. a.priority) (reverse live) 0 (priority - 9)

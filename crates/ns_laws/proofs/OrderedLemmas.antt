@@ -49,15 +49,18 @@ module _ {X : Type 0} where
       by true f is go = let same = same_Some x e is in (ap p (sym same) ∙ f, subst P same h.0)
       by false f is go = go is
 
-  first_least : (p : ℕ × X → Bool) (es : List (ℕ × X)) (e : ℕ × X) → T (Entries.is_sorted nat_cmp es) → find p es ≡ Some e → Each (λ x. p x ≡ true → e.0 ≤ x.0) es
+  first_least : (p : ℕ × X → Bool) (es : List (ℕ × X)) (e : ℕ × X) → T (Entries.is_sorted nat_cmp es) → find p es ≡ Some e →
+      Each (λ x. p x ≡ true → e.0 ≤ x.0) es
   first_least p [] e sorted is = tt
   first_least p (x ∷ es) e sorted is = by (p x) refl is (first_least p es e (T_second _ _ sorted))
     where
       later : Each (λ y. x.0 < y.0) es
       later = above x.0 es (T_first _ _ sorted)
 
-      by : (b : Bool) → p x ≡ b → cond b (Some x) (find p es) ≡ Some e → (find p es ≡ Some e → Each (λ y. p y ≡ true → e.0 ≤ y.0) es) → Each (λ y. p y ≡ true → e.0 ≤ y.0) (x ∷ es)
-      by true f is go = let same = ap (λ (y : ℕ × X). y.0) (same_Some x e is) in ((λ _. omega (arith, same)), each_map (λ y less _. omega (arith, same, less)) es later)
+      by : (b : Bool) → p x ≡ b → cond b (Some x) (find p es) ≡ Some e → (find p es ≡ Some e → Each (λ y. p y ≡ true → e.0 ≤ y.0) es) →
+          Each (λ y. p y ≡ true → e.0 ≤ y.0) (x ∷ es)
+      by true f is go = let same = ap (λ (y : ℕ × X). y.0) (same_Some x e is) in
+          ((λ _. omega (arith, same)), each_map (λ y less _. omega (arith, same, less)) es later)
       by false f is go = ((λ g. not_both g f), go is)
 
   none_passes : (p : ℕ × X → Bool) (es : List (ℕ × X)) → find p es ≡ None → Each (λ x. p x ≡ false) es
@@ -86,7 +89,8 @@ first_row : {X : Type 0} (p : ℕ × X → Bool) (m : ByNumber X) (n : ℕ) (x :
     → (get m n ≡ Some x) × (p (n, x) ≡ true) × ((k : ℕ) (y : X) → get m k ≡ Some y → p (k, y) ≡ true → n ≤ k)
 first_row p m n x is =
     let found = found_holds (λ e. get m e.0 ≡ Some e.1) p (entries m) (n, x) (each_row numbers one_number (λ k y. get m k ≡ Some y) m (λ k y e. e)) is in
-    (found.1, found.0, λ k y there passes. row_at one_number (λ k y. p (k, y) ≡ true → n ≤ k) m k y (first_least p (entries m) (n, x) (entries_sorted m) is) there passes)
+    (found.1, found.0, λ k y there passes. row_at one_number (λ k y. p (k, y) ≡ true → n ≤ k) m k y (first_least p (entries m) (n, x) (entries_sorted m) is)
+        there passes)
 
 -- ---- who waits
 
@@ -103,7 +107,8 @@ first_waiting_is_least t job n e = by (find (waits job) (entries t.evaluations))
       there = first.0;
       of_job = sym (same_name_is job x.job (first_of_both (same_name job x.job) (is_pending x.status) first.1));
       pending = second_of_both (same_name job x.job) (is_pending x.status) first.1;
-      least = λ m other there same pending. first.2 m other there (ap (λ b. b && is_pending other.status) (ap (same_name job) same ∙ same_name_refl job) ∙ pending);
+      least = λ m other there same pending. first.2 m other there (ap (λ b. b && is_pending other.status) (ap (same_name job) same ∙ same_name_refl job) ∙
+          pending);
     }
 
     by : (o : Option (ℕ × Evaluation)) → find (waits job) (entries t.evaluations) ≡ o → option_map (λ x. x.0) o ≡ Some n → queue.IsFirstWaiting t job n
@@ -142,7 +147,8 @@ find_kept : {X : Type 0} (p q : X → Bool) (xs : List X) → find q (filter p x
 find_kept p q [] = refl
 find_kept p q (x ∷ xs) = by (p x) (find_kept p q xs)
   where
-    by : (b : Bool) → find q (filter p xs) ≡ find (λ x. p x && q x) xs → find q (cond b (x ∷ filter p xs) (filter p xs)) ≡ cond (b && q x) (Some x) (find (λ x. p x && q x) xs)
+    by : (b : Bool) → find q (filter p xs) ≡ find (λ x. p x && q x) xs →
+        find q (cond b (x ∷ filter p xs) (filter p xs)) ≡ cond (b && q x) (Some x) (find (λ x. p x && q x) xs)
     by true rest = ap (λ o. cond (q x) (Some x) o) rest
     by false rest = rest
 
@@ -153,7 +159,8 @@ get_loser : (pool node : Name) (t : Tenant) (job : Name)
     → get (losers pool node t) job ≡ option_map (λ e. e.1) (find (λ e. lives_on pool node e && same_name job e.1.job) (entries t.allocations))
 unfolding losers
 get_loser pool node t job =
-    get-from_entries names (map by_job (filter (lives_on pool node) (entries t.allocations))) job ∙ find_job job (filter (lives_on pool node) (entries t.allocations))
+    get-from_entries names (map by_job (filter (lives_on pool node) (entries t.allocations))) job ∙
+        find_job job (filter (lives_on pool node) (entries t.allocations))
     ∙ ap (option_map (λ e. e.1)) (find_kept (lives_on pool node) (λ e. same_name job e.1.job) (entries t.allocations))
 
 loser_is_first : (pool node : Name) (t : Tenant) (job : Name) (a : Allocation) → get (losers pool node t) job ≡ Some a → law.IsFirstOfJob pool node t a
@@ -208,16 +215,21 @@ each_job_loses pool node t n a there lives = any_over_map (λ other. same_name a
     passes e = lives_on pool node e && same_name a.job e.1.job
 
     -- the row of the job is there, and of the job
-    row : (o : Option (ℕ × Allocation)) → find passes (entries t.allocations) ≡ o → (x : Allocation) × (get (losers pool node t) a.job ≡ Some x) × (same_name a.job x.job ≡ true)
-    row None f = not_both (λ i. lives i && same_name_refl a.job i) (row_at one_number (λ k x. passes (k, x) ≡ false) t.allocations n a (none_passes passes (entries t.allocations) f) there)
+    row : (o : Option (ℕ × Allocation)) → find passes (entries t.allocations) ≡ o → (x : Allocation) × (get (losers pool node t) a.job ≡ Some x) ×
+        (same_name a.job x.job ≡ true)
+    row None f = not_both (λ i. lives i && same_name_refl a.job i)
+        (row_at one_number (λ k x. passes (k, x) ≡ false) t.allocations n a (none_passes passes (entries t.allocations) f) there)
     row (Some x) f = (
       x.1,
       get_loser pool node t a.job ∙ ap (option_map (λ e. e.1)) f,
-      second_of_both (lives_on pool node x) (same_name a.job x.1.job) (found_holds (λ _. Unit {0}) passes (entries t.allocations) x (each_row numbers one_number (λ _ _. Unit {0}) t.allocations (λ _ _ _. tt)) f).0,
+      second_of_both (lives_on pool node x) (same_name a.job x.1.job)
+          (found_holds (λ _. Unit {0}) passes (entries t.allocations) x (each_row numbers one_number (λ _ _. Unit {0}) t.allocations (λ _ _ _. tt)) f).0,
     )
 
-    by : (b : Bool) → list_any (λ e. same_name a.job e.1.job) (entries (losers pool node t)) ≡ b → list_any (λ e. same_name a.job e.1.job) (entries (losers pool node t)) ≡ true
+    by : (b : Bool) → list_any (λ e. same_name a.job e.1.job) (entries (losers pool node t)) ≡ b →
+        list_any (λ e. same_name a.job e.1.job) (entries (losers pool node t)) ≡ true
     by true e = e
     by false e =
         let found = row (find passes (entries t.allocations)) refl in
-        not_both found.2 (row_at one_name (λ job x. same_name a.job x.job ≡ false) (losers pool node t) a.job found.0 (any_each (λ e. same_name a.job e.1.job) (entries (losers pool node t)) e) found.1)
+        not_both found.2 (row_at one_name (λ job x. same_name a.job x.job ≡ false) (losers pool node t) a.job found.0
+            (any_each (λ e. same_name a.job e.1.job) (entries (losers pool node t)) e) found.1)

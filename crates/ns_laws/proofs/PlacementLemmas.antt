@@ -1,5 +1,8 @@
 -- The orders by which nodes are chosen, and who may be evicted.
-use Rattle.std.specs.Prelude.{◌≡◌, ℕ, ◌-◌, ◌<◌, ◌≤◌, Bool, true, false, cond, List, [], length, Option, Some, None, unwrap_or, is_some, slice_get, option_map, IsFalse, ◌||◌, ◌==◌, ◌⊎◌, nat_le, max, fold, sum_by, ◌&&◌, ◌+◌, ◌∷◌}
+use Rattle.std.specs.Prelude.{
+    ◌≡◌, ℕ, ◌-◌, ◌<◌, ◌≤◌, Bool, true, false, cond, List, [], length, Option, Some, None, unwrap_or, is_some, slice_get,
+    option_map, IsFalse, ◌||◌, ◌==◌, ◌⊎◌, nat_le, max, fold, sum_by, ◌&&◌, ◌+◌, ◌∷◌
+}
 use Rattle.std.specs.declared.cmp.Ordering.{Ordering}
 use Rattle.std.proofs.Common.{refl, sym, ap, ◌∙◌, arith, Less, Equal, is_lt, subst, inl, inr}
 use Rattle.std.specs.Cmp.{IsStrictWeakOrder, nat_cmp_is}
@@ -82,7 +85,8 @@ pub room_is_made : law.RoomIsMade
 room_is_made size node gone =
     let cpu = node.left.cpu + sum_by (λ a. a.size.cpu) gone in
     let memory = node.left.memory + sum_by (λ a. a.size.memory) gone in (
-      (λ e. (leb-true size.cpu cpu (first_of_both (nat_le size.cpu cpu) (nat_le size.memory memory) e), leb-true size.memory memory (second_of_both (nat_le size.cpu cpu) (nat_le size.memory memory) e))),
+      (λ e. (leb-true size.cpu cpu (first_of_both (nat_le size.cpu cpu) (nat_le size.memory memory) e), leb-true size.memory memory
+          (second_of_both (nat_le size.cpu cpu) (nat_le size.memory memory) e))),
       (λ h. two size.cpu cpu size.memory memory h),
     )
 
@@ -106,11 +110,13 @@ reached_from m (x ∷ xs) = by (fold (λ m a. max m a.priority) (max m x.priorit
     later true b e = refl
     later false b e = e
 
-    start : (top : ℕ) → top ≡ max m x.priority → (m < x.priority) ⊎ (x.priority ≤ m) → (top ≡ m) ⊎ ((x.priority == top || list_any (λ a. a.priority == top) xs) ≡ true)
+    start : (top : ℕ) → top ≡ max m x.priority → (m < x.priority) ⊎ (x.priority ≤ m) → (top ≡ m)
+        ⊎ ((x.priority == top || list_any (λ a. a.priority == top) xs) ≡ true)
     start top e (inl less) = inr (here top (omega (arith, e, less)))
     start top e (inr more) = inl (omega (arith, e, more))
 
-    by : (top : ℕ) → (top ≡ max m x.priority) ⊎ (list_any (λ a. a.priority == top) xs ≡ true) → (top ≡ m) ⊎ ((x.priority == top || list_any (λ a. a.priority == top) xs) ≡ true)
+    by : (top : ℕ) → (top ≡ max m x.priority) ⊎ (list_any (λ a. a.priority == top) xs ≡ true) → (top ≡ m)
+        ⊎ ((x.priority == top || list_any (λ a. a.priority == top) xs) ≡ true)
     by top (inl e) = start top e (cases_lt m x.priority)
     by top (inr e) = inr (later (x.priority == top) (list_any (λ a. a.priority == top) xs) e)
 
@@ -120,7 +126,8 @@ highest_is_highest first others =
     let is = highest_from 0 (first ∷ others) in
     (is.1, by (highest_priority (first ∷ others)) (highest_from 0 (first ∷ others)).1.0 (reached_from 0 (first ∷ others)))
   where
-    by : (top : ℕ) → first.priority ≤ top → (top ≡ 0) ⊎ (list_any (λ a. a.priority == top) (first ∷ others) ≡ true) → list_any (λ a. a.priority == top) (first ∷ others) ≡ true
+    by : (top : ℕ) → first.priority ≤ top → (top ≡ 0) ⊎ (list_any (λ a. a.priority == top) (first ∷ others) ≡ true) →
+        list_any (λ a. a.priority == top) (first ∷ others) ≡ true
     by top le (inl e) = ap (λ b. b || list_any (λ a. a.priority == top) others) (eq-eqb first.priority top (omega (arith, e, le)))
     by top le (inr e) = e
 
@@ -129,12 +136,16 @@ highest_is_highest first others =
 better_with_less : (size : Resources) (a b : Candidate) → fits size a ≡ true → fits size b ≡ true → HasLessLeft a b → better size a b ≡ true
 better_with_less size a b f g less = by less
   where
-    by : HasLessLeft a b → ranks (a.left.cpu - size.cpu) (b.left.cpu - size.cpu) (a.left.memory - size.memory) (b.left.memory - size.memory) (name_cmp a.name b.name) ≡ true
-    by (less_cpu h) = first_less (a.left.cpu - size.cpu) (b.left.cpu - size.cpu) (a.left.memory - size.memory) (b.left.memory - size.memory) (name_cmp a.name b.name)
+    by : HasLessLeft a b → ranks (a.left.cpu - size.cpu) (b.left.cpu - size.cpu) (a.left.memory - size.memory) (b.left.memory - size.memory)
+        (name_cmp a.name b.name) ≡ true
+    by (less_cpu h) = first_less (a.left.cpu - size.cpu) (b.left.cpu - size.cpu) (a.left.memory - size.memory) (b.left.memory - size.memory)
+        (name_cmp a.name b.name)
         (omega (arith, cpu_fits size a f, cpu_fits size b g, h))
-    by (less_memory e h) = second_less (a.left.cpu - size.cpu) (b.left.cpu - size.cpu) (a.left.memory - size.memory) (b.left.memory - size.memory) (name_cmp a.name b.name)
+    by (less_memory e h) = second_less (a.left.cpu - size.cpu) (b.left.cpu - size.cpu) (a.left.memory - size.memory) (b.left.memory - size.memory)
+        (name_cmp a.name b.name)
         (ap (λ n. n - size.cpu) e) (omega (arith, memory_fits size a f, memory_fits size b g, h))
-    by (less_name e h n) = third_less (a.left.cpu - size.cpu) (b.left.cpu - size.cpu) (a.left.memory - size.memory) (b.left.memory - size.memory) (name_cmp a.name b.name)
+    by (less_name e h n) = third_less (a.left.cpu - size.cpu) (b.left.cpu - size.cpu) (a.left.memory - size.memory) (b.left.memory - size.memory)
+        (name_cmp a.name b.name)
         (ap (λ n. n - size.cpu) e) (ap (λ n. n - size.memory) h) n
 
 pub chosen_is_best : ChosenIsBest
@@ -173,7 +184,8 @@ cheaper_with_less : (size : Resources) (a b : Candidate) (lost gone : List LiveA
 cheaper_with_less size a b lost gone e f less = (λ i. cost (e i) (f i)) ∙ by less
   where
     cost : Option (List LiveAllocation) → Option (List LiveAllocation) → Bool
-    cost o p = ranks (highest_priority (unwrap_or o [])) (highest_priority (unwrap_or p [])) (length (unwrap_or o [])) (length (unwrap_or p [])) (name_cmp a.name b.name)
+    cost o p = ranks (highest_priority (unwrap_or o [])) (highest_priority (unwrap_or p [])) (length (unwrap_or o [])) (length (unwrap_or p []))
+        (name_cmp a.name b.name)
 
     by : law.CostsLess lost a gone b → ranks (highest_priority lost) (highest_priority gone) (length lost) (length gone) (name_cmp a.name b.name) ≡ true
     by (law.lower h) = first_less (highest_priority lost) (highest_priority gone) (length lost) (length gone) (name_cmp a.name b.name) h
@@ -206,9 +218,11 @@ none_evicted_of_none size nodes e =
 -- ---- room before victims
 
 abbrev chosen_with : Resources → List Candidate → Option ℕ → Option Choice
-chosen_with size nodes place = option_and_then (λ k. option_map (λ v. record { node = k; victims = v }) (option_and_then (victims size) (slice_get nodes k))) place
+chosen_with size nodes place = option_and_then (λ k. option_map (λ v. record { node = k; victims = v }) (option_and_then (victims size) (slice_get nodes k)))
+    place
 
-victims_at : (size : Resources) (nodes : List Candidate) (k : ℕ) (is : law.IsCheapestNode size nodes k) → chosen_with size nodes (Some k) ≡ Some (record { node = k; victims = is.gone })
+victims_at : (size : Resources) (nodes : List Candidate) (k : ℕ) (is : law.IsCheapestNode size nodes k) →
+    chosen_with size nodes (Some k) ≡ Some (record { node = k; victims = is.gone })
 victims_at size nodes k is = ap (option_map (λ v. record { node = k; victims = v })) (ap (option_and_then (victims size)) is.there ∙ is.give_way)
 
 pub room_before_victims : law.RoomBeforeVictims
@@ -227,8 +241,10 @@ pub no_choice_of_none : law.NoChoiceOfNone
 no_choice_of_none size nodes e = by (best_fit size nodes) refl (best_victims size nodes) refl e
   where
     by : (b : Option ℕ) → best_fit size nodes ≡ b → (v : Option ℕ) → best_victims size nodes ≡ v
-        → option_map_or (λ k. Some (record { node = k; victims = [] })) b (chosen_with size nodes v) ≡ None → Each (λ node. IsFalse (fits size node) × (victims size node ≡ None)) nodes
+        → option_map_or (λ k. Some (record { node = k; victims = [] })) b (chosen_with size nodes v) ≡ None →
+            Each (λ node. IsFalse (fits size node) × (victims size node ≡ None)) nodes
     by (Some k) f v g e = absurd (none-some (record { node = k; victims = [] }) (sym e))
     by None f (Some k) g e =
         let is = evicted_cost_least size nodes k g in absurd (none-some (record { node = k; victims = is.gone }) (sym e ∙ victims_at size nodes k is))
-    by None f None g e = each_both (λ node. fits size node ≡ false) (λ node. victims size node ≡ None) nodes (none_chosen_of_none size nodes f) (none_evicted_of_none size nodes g)
+    by None f None g e = each_both (λ node. fits size node ≡ false) (λ node. victims size node ≡ None) nodes (none_chosen_of_none size nodes f)
+        (none_evicted_of_none size nodes g)

@@ -48,7 +48,8 @@ first_is : (p : Key → ℕ) (keys : List Key) (key : Key) → first_of_greatest
 first_is p [] key e = not_Some None key refl e
 first_is p (x ∷ xs) key e = by (list_all (λ o. nat_le (p o) (p x)) xs) refl (first_is p xs key) e
   where
-    by : (b : Bool) → list_all (λ o. nat_le (p o) (p x)) xs ≡ b → (first_of_greatest p xs ≡ Some key → IsFirst p xs key) → cond b (Some x) (first_of_greatest p xs) ≡ Some key → IsFirst p (x ∷ xs) key
+    by : (b : Bool) → list_all (λ o. nat_le (p o) (p x)) xs ≡ b → (first_of_greatest p xs ≡ Some key → IsFirst p xs key) →
+        cond b (Some x) (first_of_greatest p xs) ≡ Some key → IsFirst p (x ∷ xs) key
     by true all go e = let same = some_key x key e in record {
       before = [];
       later = xs;
@@ -86,7 +87,8 @@ none_of_none : (p : Key → ℕ) (keys : List Key) → first_of_greatest p keys 
 none_of_none p [] e = refl
 none_of_none p (x ∷ xs) e = by (list_all (λ o. nat_le (p o) (p x)) xs) refl (none_of_none p xs) e
   where
-    by : (b : Bool) → list_all (λ o. nat_le (p o) (p x)) xs ≡ b → (first_of_greatest p xs ≡ None → xs ≡ []) → cond b (Some x) (first_of_greatest p xs) ≡ None → x ∷ xs ≡ []
+    by : (b : Bool) → list_all (λ o. nat_le (p o) (p x)) xs ≡ b → (first_of_greatest p xs ≡ None → xs ≡ []) → cond b (Some x) (first_of_greatest p xs) ≡ None →
+        x ∷ xs ≡ []
     by true all go e = not_Some _ x e refl
     by false some go e = not_both refl (subst (λ l. list_all (λ o. nat_le (p o) (p x)) l ≡ false) (go e) some)
 
@@ -96,7 +98,8 @@ served_is_first w keys key e = let is = first_is (priority_at w) keys key e in
 
 pub first_is_served : FirstIsServed
 first_is_served w keys key is =
-    let most = each_back (λ o. priority_at w o ≤ priority_at w key) is.before (key ∷ is.later) (subst (Each (λ o. priority_at w o ≤ priority_at w key)) is.listed is.none_greater) in
+    let most = each_back (λ o. priority_at w o ≤ priority_at w key) is.before (key ∷ is.later)
+        (subst (Each (λ o. priority_at w o ≤ priority_at w key)) is.listed is.none_greater) in
     ap (first_of_greatest (priority_at w)) is.listed ∙ is_first (priority_at w) is.before is.later key most.1 is.less_before
 
 pub none_served_of_none : NoneServedOfNone
@@ -136,15 +139,18 @@ woken_are_called w w' key =
     let calls = λ (k : Key). has_key w'.blocked k && option_map_or (wakes w w') (evaluation_at w k) false in
     any_kept (same_key key) calls (calls key) (λ other same. ap calls (sym (same_key_is key other same))) w.blocked
 
-blocked_at : (w w' : World) → IsSound w → (key : Key) → has_key w.blocked key ≡ true → option_map_or (wakes w w') (evaluation_at w key) false ≡ true → IsBlockedAt w key
+blocked_at : (w w' : World) → IsSound w → (key : Key) → has_key w.blocked key ≡ true → option_map_or (wakes w w') (evaluation_at w key) false ≡ true →
+    IsBlockedAt w key
 blocked_at w w' sound key listed called = by (get w.tenants key.0) refl called
   where
-    row : (t : Tenant) → get w.tenants key.0 ≡ Some t → (r : Option Evaluation) → get t.evaluations key.1 ≡ r → option_map_or (wakes w w') r false ≡ true → IsBlockedAt w key
+    row : (t : Tenant) → get w.tenants key.0 ≡ Some t → (r : Option Evaluation) → get t.evaluations key.1 ≡ r → option_map_or (wakes w w') r false ≡ true →
+        IsBlockedAt w key
     row t is None found f = not_both f refl
     row t is (Some e) found f =
         (e, ap (option_and_then (λ (x : Tenant). get x.evaluations key.1)) is ∙ found, sym ((sound.tenant key.0 t is).blocked_listed key.1 e found) ∙ listed)
 
-    by : (o : Option Tenant) → get w.tenants key.0 ≡ o → option_map_or (wakes w w') (option_and_then (λ t. get t.evaluations key.1) o) false ≡ true → IsBlockedAt w key
+    by : (o : Option Tenant) → get w.tenants key.0 ≡ o → option_map_or (wakes w w') (option_and_then (λ t. get t.evaluations key.1) o) false ≡ true →
+        IsBlockedAt w key
     by None is f = not_both f refl
     by (Some t) is f = row t is (get t.evaluations key.1) refl f
 
@@ -152,4 +158,5 @@ pub woken_were_blocked : WokenWereBlocked
 unfolding woken
 woken_were_blocked w w' sound =
     each_map (λ key h. blocked_at w w' sound key h.0 (second_of_both (has_key w'.blocked key) _ h.1)) (woken w w')
-    (each_kept (λ key. has_key w.blocked key ≡ true) (λ key. has_key w'.blocked key && option_map_or (wakes w w') (evaluation_at w key) false) w.blocked (each_listed w.blocked))
+    (each_kept (λ key. has_key w.blocked key ≡ true) (λ key. has_key w'.blocked key && option_map_or (wakes w w') (evaluation_at w key) false) w.blocked
+        (each_listed w.blocked))

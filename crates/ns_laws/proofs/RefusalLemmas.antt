@@ -26,7 +26,10 @@ use Rattle.ns_types.specs.Working.Queue.{is_served}
 use Rattle.ns_types.specs.State.Rows.{State, World, Tenant, PoolRows, allocation_at}
 use Rattle.ns_types.specs.Steps.{Answer, after, act, said, concluded, is_allowed, is_past_bound, settled, reply_of}
 use Rattle.ns_types.specs.State.Sums.{names_quota}
-use Rattle.ns_types.specs.Working.Work.{at_work, workers_end, is_idle, dequeue, dequeue_in, may_snap, snap, snap_for, may_submit, submit, submit_for, may_finish, needs_follower, finish, finish_for, is_submitted, most_nacks, nack, nack_for}
+use Rattle.ns_types.specs.Working.Work.{
+    at_work, workers_end, is_idle, dequeue, dequeue_in, may_snap, snap, snap_for, may_submit, submit, submit_for,
+    may_finish, needs_follower, finish, finish_for, is_submitted, most_nacks, nack, nack_for
+}
 use Rattle.ns_types.proofs.Lists.{not_both}
 use Rattle.ns_laws.specs.Refusals as law
 use Rattle.ns_laws.proofs.RightsLemmas.{denied_without}
@@ -41,7 +44,8 @@ only passes (Refused refusal) = passes refusal
 only passes (Done content s) = true
 
 module _ (passes : Refusal → Bool) where
-  by_unless : {S : Type 0} (b : Bool) (refusal : Refusal) (rest : Outcome S) → passes refusal ≡ true → only passes rest ≡ true → only passes (unless b refusal rest) ≡ true
+  by_unless : {S : Type 0} (b : Bool) (refusal : Refusal) (rest : Outcome S) → passes refusal ≡ true → only passes rest ≡ true →
+      only passes (unless b refusal rest) ≡ true
   unfolding unless
   by_unless true refusal rest e f = e
   by_unless false refusal rest e f = f
@@ -121,21 +125,24 @@ administered secret (AdminCommand.ReadPolicy name) s = by_lift later (with_acl s
 administered secret (AdminCommand.PutPolicy name policy) s = by_lift later (with_acl s.world) _ (by_unless later _ _ _ refl refl)
 administered secret (AdminCommand.DeletePolicy name) s = by_lift later (with_acl s.world) _ (by_found (get s.acl.policies name) _ (λ policy. refl))
 administered secret (AdminCommand.CreateToken new) s = by_lift later (with_acl s.world) _ (by_unless later _ _ _ refl (by_unless later _ _ _ refl refl))
-administered secret (AdminCommand.DeleteToken accessor) s = by_lift later (with_acl s.world) _ (by_found (secret_of s.acl accessor) _ (λ secret. by_unless later _ _ _ refl refl))
+administered secret (AdminCommand.DeleteToken accessor) s =
+    by_lift later (with_acl s.world) _ (by_found (secret_of s.acl accessor) _ (λ secret. by_unless later _ _ _ refl refl))
 
 -- ---- workers
 
 abbrev never : Refusal → Bool
 never refusal = false
 
-by_at_work : (number : ℕ) (ns : Name) (w : World) (go : Tenant → Worker → Evaluation → Outcome World) → ((t : Tenant) (worker : Worker) (e : Evaluation) → only never (go t worker e) ≡ true)
+by_at_work : (number : ℕ) (ns : Name) (w : World) (go : Tenant → Worker → Evaluation → Outcome World) →
+    ((t : Tenant) (worker : Worker) (e : Evaluation) → only never (go t worker e) ≡ true)
     → only never (at_work number ns w go) ≡ true
 by_at_work number ns w go f = by_option never (get w.tenants ns) _ NotEnabled refl (λ t. by_option never (get t.workers number) _ NotEnabled refl (λ worker.
     by_option never (get t.evaluations worker.evaluation) _ NotEnabled refl (λ e. f t worker e)))
 
 dequeued : (number : ℕ) (key : Key) (w : World) → only never (dequeue number key w) ≡ true
 unfolding dequeue
-dequeued number key w = by_if never (nat_lt number workers_end && is_idle w number && is_served w w.ready key) _ _ (by_option never (get w.tenants key.0) (dequeue_in number key w) NotEnabled refl
+dequeued number key w = by_if never (nat_lt number workers_end && is_idle w number && is_served w w.ready key) _ _
+    (by_option never (get w.tenants key.0) (dequeue_in number key w) NotEnabled refl
     (λ t. by_option never (get t.evaluations key.1) _ NotEnabled refl (λ e. refl))) refl
 
 snapped : (number : ℕ) (ns : Name) (w : World) → only never (snap number ns w) ≡ true
@@ -185,9 +192,11 @@ more (Done content s) e = refl
 
 acts : (step : Step) (s : State) → only later (act step s) ≡ true
 unfolding act ask ask_pool
-acts (Step.Ask ns secret command) s = by_lift later (with_world s.acl) (ask ns command s.world) (by_found (get s.world.tenants ns) (asked_in ns command s.world) (λ t. asked ns command s.world t))
+acts (Step.Ask ns secret command) s = by_lift later (with_world s.acl) (ask ns command s.world)
+    (by_found (get s.world.tenants ns) (asked_in ns command s.world) (λ t. asked ns command s.world t))
 acts (Step.Admin secret command) s = administered secret command s
-acts (Step.Node pool secret command) s = by_lift later (with_world s.acl) (ask_pool pool command s.world) (by_found (get s.world.pools pool) (asked_in_pool pool command s.world) (λ p. told pool command s.world p))
+acts (Step.Node pool secret command) s = by_lift later (with_world s.acl) (ask_pool pool command s.world)
+    (by_found (get s.world.pools pool) (asked_in_pool pool command s.world) (λ p. told pool command s.world p))
 acts (Step.Dequeue worker ns n) s = more _ (worker_acts (Step.Dequeue worker ns n) s refl)
 acts (Step.Snap worker ns) s = more _ (worker_acts (Step.Snap worker ns) s refl)
 acts (Step.Submit worker ns) s = more _ (worker_acts (Step.Submit worker ns) s refl)
@@ -210,7 +219,8 @@ concluded_so passes step s t NotEnabled refusal full e f = not_said (Err refusal
 concluded_so passes step s t (Refused r) refusal full e f = ap passes (sym (same_refusal r refusal s t f)) ∙ e
 concluded_so passes step s t (Done content s') refusal full e f = by (is_past_bound (settled s s').world) f
   where
-    by : (b : Bool) → cond b (said (Err Refusal.Full) s) (said (Ok (reply_of step content (settled s s').world)) (settled s s')) ≡ said (Err refusal) t → passes refusal ≡ true
+    by : (b : Bool) → cond b (said (Err Refusal.Full) s) (said (Ok (reply_of step content (settled s s').world)) (settled s s')) ≡ said (Err refusal) t →
+        passes refusal ≡ true
     by true f = ap passes (sym (same_refusal Refusal.Full refusal s t f)) ∙ full
     by false f = not_refused (reply_of step content (settled s s').world) refusal (same_answer _ _ (settled s s') t f)
 

@@ -75,19 +75,23 @@ module _ (s : State) (secret : Option Name) (ns : Name) (r : Registration) where
   unfolding unless
   foreign_is t is e = acts_in t is ∙ ap (λ b. in_state (tested b (is_missing t) (is_other t) (has_no_room t) (done t))) e
 
-  missing_is : (t : Tenant) → get s.world.tenants ns ≡ Some t → is_foreign t ≡ false → is_missing t ≡ true → act step s ≡ Refused (Refusal.BadField Member.NodePool)
+  missing_is : (t : Tenant) → get s.world.tenants ns ≡ Some t → is_foreign t ≡ false → is_missing t ≡ true →
+      act step s ≡ Refused (Refusal.BadField Member.NodePool)
   unfolding unless
   missing_is t is e f = acts_in t is ∙ (λ i. in_state (tested (e i) (f i) (is_other t) (has_no_room t) (done t)))
 
-  other_is : (t : Tenant) → get s.world.tenants ns ≡ Some t → is_foreign t ≡ false → is_missing t ≡ false → is_other t ≡ true → act step s ≡ Refused Refusal.Conflict
+  other_is : (t : Tenant) → get s.world.tenants ns ≡ Some t → is_foreign t ≡ false → is_missing t ≡ false → is_other t ≡ true →
+      act step s ≡ Refused Refusal.Conflict
   unfolding unless
   other_is t is e f g = acts_in t is ∙ (λ i. in_state (tested (e i) (f i) (g i) (has_no_room t) (done t)))
 
-  full_is : (t : Tenant) → get s.world.tenants ns ≡ Some t → is_foreign t ≡ false → is_missing t ≡ false → is_other t ≡ false → has_no_room t ≡ true → act step s ≡ Refused Refusal.Full
+  full_is : (t : Tenant) → get s.world.tenants ns ≡ Some t → is_foreign t ≡ false → is_missing t ≡ false → is_other t ≡ false → has_no_room t ≡ true →
+      act step s ≡ Refused Refusal.Full
   unfolding unless
   full_is t is e f g h = acts_in t is ∙ (λ i. in_state (tested (e i) (f i) (g i) (h i) (done t)))
 
-  done_is : (t : Tenant) → get s.world.tenants ns ≡ Some t → is_foreign t ≡ false → is_missing t ≡ false → is_other t ≡ false → has_no_room t ≡ false → act step s ≡ in_state (done t)
+  done_is : (t : Tenant) → get s.world.tenants ns ≡ Some t → is_foreign t ≡ false → is_missing t ≡ false → is_other t ≡ false → has_no_room t ≡ false →
+      act step s ≡ in_state (done t)
   unfolding unless
   done_is t is e f g h = acts_in t is ∙ (λ i. in_state (tested (e i) (f i) (g i) (h i) (done t)))
 
@@ -95,7 +99,8 @@ module _ (s : State) (secret : Option Name) (ns : Name) (r : Registration) where
   other_against : (t : Tenant) → get s.world.tenants ns ≡ Some t → is_other t ≡ true → SpeaksAgainst s secret ns r Refusal.Conflict
   other_against t is e = by r.enforced refl e
     where
-      by : (o : Option ℕ) → r.enforced ≡ o → option_map_or (λ index. not (meets (get t.jobs r.id) index)) o false ≡ true → SpeaksAgainst s secret ns r Refusal.Conflict
+      by : (o : Option ℕ) → r.enforced ≡ o → option_map_or (λ index. not (meets (get t.jobs r.id) index)) o false ≡ true →
+          SpeaksAgainst s secret ns r Refusal.Conflict
       by None f e = not_both e refl
       by (Some index) f e = law.other_index t index is f (is_no (meets (get t.jobs r.id) index) e)
 
@@ -121,14 +126,17 @@ module _ (s : State) (secret : Option Name) (ns : Name) (r : Registration) where
       by false e go = go e
       by true e go = (Refusal.PoolNotPermitted, law.foreign_pool t is (is_no _ e), le, refused_so Refusal.PoolNotPermitted may (foreign_is t is e))
 
-  with_pool : (n : ℕ) → 3 ≤ n → has_right ≡ true → (t : Tenant) → get s.world.tenants ns ≡ Some t → is_foreign t ≡ false → (is_missing t ≡ false → Answered n) → Answered n
+  with_pool : (n : ℕ) → 3 ≤ n → has_right ≡ true → (t : Tenant) → get s.world.tenants ns ≡ Some t → is_foreign t ≡ false → (is_missing t ≡ false → Answered n) →
+      Answered n
   with_pool n le may t is own go = by (is_missing t) refl go
     where
       by : (b : Bool) → is_missing t ≡ b → (is_missing t ≡ false → Answered n) → Answered n
       by false e go = go e
-      by true e go = (Refusal.BadField Member.NodePool, law.no_pool t is (is_no _ e), le, refused_so (Refusal.BadField Member.NodePool) may (missing_is t is own e))
+      by true e go = (Refusal.BadField Member.NodePool, law.no_pool t is (is_no _ e), le, refused_so (Refusal.BadField Member.NodePool) may
+          (missing_is t is own e))
 
-  with_index : (n : ℕ) → 4 ≤ n → has_right ≡ true → (t : Tenant) → get s.world.tenants ns ≡ Some t → is_foreign t ≡ false → is_missing t ≡ false → (is_other t ≡ false → Answered n) → Answered n
+  with_index : (n : ℕ) → 4 ≤ n → has_right ≡ true → (t : Tenant) → get s.world.tenants ns ≡ Some t → is_foreign t ≡ false → is_missing t ≡ false →
+      (is_other t ≡ false → Answered n) → Answered n
   with_index n le may t is own there go = by (is_other t) refl go
     where
       by : (b : Bool) → is_other t ≡ b → (is_other t ≡ false → Answered n) → Answered n
@@ -143,12 +151,16 @@ module _ (s : State) (secret : Option Name) (ns : Name) (r : Registration) where
 
   first_refusal : (other : Refusal) → SpeaksAgainst s secret ns r other → Answered (rank other)
   first_refusal other (law.no_right e) = (Refusal.Denied, law.no_right e, omega arith, denied_without step s e)
-  first_refusal other (law.no_namespace e) = with_right 1 (λ may. (Refusal.NotFound, law.no_namespace e, omega arith, refused_so Refusal.NotFound may (acts_nowhere e)))
+  first_refusal other (law.no_namespace e) = with_right 1
+      (λ may. (Refusal.NotFound, law.no_namespace e, omega arith, refused_so Refusal.NotFound may (acts_nowhere e)))
   first_refusal other (law.foreign_pool t is e) = with_right 2 (λ may. with_own_pool 2 (omega arith) may t is (λ own. not_both (ap not e) own))
-  first_refusal other (law.no_pool t is e) = with_right 3 (λ may. with_own_pool 3 (omega arith) may t is (λ own. with_pool 3 (omega arith) may t is own (λ there. not_both (ap not e) there)))
-  first_refusal other (law.other_index t index is of e) = with_right 4 (λ may. with_own_pool 4 (omega arith) may t is (λ own. with_pool 4 (omega arith) may t is own (λ there.
+  first_refusal other (law.no_pool t is e) = with_right 3
+      (λ may. with_own_pool 3 (omega arith) may t is (λ own. with_pool 3 (omega arith) may t is own (λ there. not_both (ap not e) there)))
+  first_refusal other (law.other_index t index is of e) =
+      with_right 4 (λ may. with_own_pool 4 (omega arith) may t is (λ own. with_pool 4 (omega arith) may t is own (λ there.
       with_index 4 (omega arith) may t is own there (λ same. not_both (other_test t index of e) same))))
-  first_refusal other (law.no_room t is e le) = with_right 6 (λ may. with_own_pool 6 (omega arith) may t is (λ own. with_pool 6 (omega arith) may t is own (λ there.
+  first_refusal other (law.no_room t is e le) = with_right 6
+      (λ may. with_own_pool 6 (omega arith) may t is (λ own. with_pool 6 (omega arith) may t is own (λ there.
       with_index 6 (omega arith) may t is own there (λ same.
       (Refusal.Full, law.no_room t is e le, omega arith, refused_so Refusal.Full may (full_is t is own there same (room_test t e le)))))))
 
@@ -157,17 +169,21 @@ module _ (s : State) (secret : Option Name) (ns : Name) (r : Registration) where
   abbrev IsWhy : Refusal → Type 0
   IsWhy refusal = SpeaksAgainst s secret ns r refusal ⊎ (refusal ≡ Refusal.Full)
 
-  by_known : (known refusal : Refusal) (t : State) → SpeaksAgainst s secret ns r known → after step s ≡ said (Err known) s → after step s ≡ said (Err refusal) t → IsWhy refusal
+  by_known : (known refusal : Refusal) (t : State) → SpeaksAgainst s secret ns r known → after step s ≡ said (Err known) s →
+      after step s ≡ said (Err refusal) t → IsWhy refusal
   by_known known refusal t why is e = inl (subst (SpeaksAgainst s secret ns r) (same_refusal known refusal s t (sym is ∙ e)) why)
 
-  by_done : (refusal : Refusal) (t : State) (content : Content) (w : World) → concluded step s (Done content (with_world s.acl w)) ≡ said (Err refusal) t → IsWhy refusal
+  by_done : (refusal : Refusal) (t : State) (content : Content) (w : World) → concluded step s (Done content (with_world s.acl w)) ≡ said (Err refusal) t →
+      IsWhy refusal
   by_done refusal t content w e = by (is_past_bound (settled s (with_world s.acl w)).world) e
     where
-      by : (b : Bool) → cond b (said (Err Refusal.Full) s) (said (Ok (reply_of step content (settled s (with_world s.acl w)).world)) (settled s (with_world s.acl w))) ≡ said (Err refusal) t → IsWhy refusal
+      by : (b : Bool) → cond b (said (Err Refusal.Full) s)
+          (said (Ok (reply_of step content (settled s (with_world s.acl w)).world)) (settled s (with_world s.acl w))) ≡ said (Err refusal) t → IsWhy refusal
       by true e = inr (sym (same_refusal Refusal.Full refusal s t e))
       by false e = not_refused (reply_of step content (settled s (with_world s.acl w)).world) refusal (same_answer _ _ (settled s (with_world s.acl w)) t e)
 
-  why_in : (refusal : Refusal) (end : State) (t : Tenant) → has_right ≡ true → get s.world.tenants ns ≡ Some t → after step s ≡ said (Err refusal) end → IsWhy refusal
+  why_in : (refusal : Refusal) (end : State) (t : Tenant) → has_right ≡ true → get s.world.tenants ns ≡ Some t → after step s ≡ said (Err refusal) end →
+      IsWhy refusal
   why_in refusal end t may is e = foreign (is_foreign t) refl
     where
       full : is_foreign t ≡ false → is_missing t ≡ false → is_other t ≡ false → (b : Bool) → has_no_room t ≡ b → IsWhy refusal
@@ -179,11 +195,13 @@ module _ (s : State) (secret : Option Name) (ns : Name) (r : Registration) where
       other f g false h = full f g h (has_no_room t) refl
 
       missing : is_foreign t ≡ false → (b : Bool) → is_missing t ≡ b → IsWhy refusal
-      missing f true g = by_known (Refusal.BadField Member.NodePool) refusal end (law.no_pool t is (is_no _ g)) (refused_so (Refusal.BadField Member.NodePool) may (missing_is t is f g)) e
+      missing f true g = by_known (Refusal.BadField Member.NodePool) refusal end (law.no_pool t is (is_no _ g))
+          (refused_so (Refusal.BadField Member.NodePool) may (missing_is t is f g)) e
       missing f false g = other f g (is_other t) refl
 
       foreign : (b : Bool) → is_foreign t ≡ b → IsWhy refusal
-      foreign true f = by_known Refusal.PoolNotPermitted refusal end (law.foreign_pool t is (is_no _ f)) (refused_so Refusal.PoolNotPermitted may (foreign_is t is f)) e
+      foreign true f = by_known Refusal.PoolNotPermitted refusal end (law.foreign_pool t is (is_no _ f))
+          (refused_so Refusal.PoolNotPermitted may (foreign_is t is f)) e
       foreign false f = missing f (is_missing t) refl
 
   why : (refusal : Refusal) (end : State) → after step s ≡ said (Err refusal) end → IsWhy refusal
@@ -207,7 +225,8 @@ pub index_is_demanded : law.IndexIsDemanded
 index_is_demanded job index = (
   ((λ e. eqb-true index 0 e), (λ e. eq-eqb index 0 e)),
   (
-    (λ e. (same_number_is job.modify_index index (first_of_both (same_number job.modify_index index) _ e), λ zero_is. not_both (eq-eqb index 0 zero_is) (is_no _ (second_of_both (same_number job.modify_index index) _ e)))),
+    (λ e. (same_number_is job.modify_index index (first_of_both (same_number job.modify_index index) _ e), λ zero_is. not_both (eq-eqb index 0 zero_is)
+        (is_no _ (second_of_both (same_number job.modify_index index) _ e)))),
     (λ h. λ i. same_number_of h.0 i && not (ne_eqb index 0 h.1 i)),
   ),
 )

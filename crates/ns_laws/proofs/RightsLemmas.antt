@@ -1,5 +1,8 @@
 -- Whom a secret stands for, which rules count, and what they give.
-use Rattle.std.specs.Prelude.{◌≡◌, ℕ, ◌≤◌, max, Bool, true, false, not, cond, ◌&&◌, ◌||◌, List, [], ◌∷◌, ◌++◌, length, take, Option, Some, None, Err, filter, fold, IsTrue}
+use Rattle.std.specs.Prelude.{
+    ◌≡◌, ℕ, ◌≤◌, max, Bool, true, false, not, cond, ◌&&◌, ◌||◌, List, [], ◌∷◌, ◌++◌, length, take, Option, Some, None,
+    Err, filter, fold, IsTrue
+}
 use Rattle.std.proofs.Common.{refl, sym, ap, subst, ◌∙◌, arith}
 use Rattle.std.specs.Cmp.Lexicographic.{same_text}
 use Rattle.std.specs.FinMap.{get}
@@ -23,7 +26,11 @@ use Rattle.ns_types.specs.Asking.Asks.{right_of}
 use Rattle.ns_types.specs.State.Lists.{Each, is_empty}
 use Rattle.ns_types.specs.State.Names.{Name, same_name, same_number}
 use Rattle.ns_types.specs.Asking.Nodes.{pool_right_of}
-use Rattle.ns_types.specs.Access.Rights.{Bearer, Unknown, Manager, Holder, bearer, bearer_with, no_rights, all_rights, no_grants, both, merged, granted, rules_of, counting, longest, longest_match, is_exact, is_match, rights_of, rights_for, pool_rights_of, pool_rights_for, is_manager, is_known}
+use Rattle.ns_types.specs.Access.Rights.{
+    Bearer, Unknown, Manager, Holder, bearer, bearer_with, no_rights, all_rights, no_grants, both, merged, granted,
+    rules_of, counting, longest, longest_match, is_exact, is_match, rights_of, rights_for, pool_rights_of,
+    pool_rights_for, is_manager, is_known
+}
 use Rattle.ns_types.specs.State.Rows.{Acl, State}
 use Rattle.ns_types.specs.Steps.{after, act, said, concluded, is_allowed}
 use Rattle.ns_types.proofs.Lists.{not_both, each_map}
@@ -39,12 +46,15 @@ unfolding after
 denied_without step s e = ap (λ b. cond b (concluded step s (act step s)) (said (Err Refusal.Denied) s)) e
 
 unknown_bearer : (acl : Acl) (secret : Name) (by : Option Name) → get acl.tokens secret ≡ None → by ≡ Some secret → bearer acl by ≡ Unknown
-unknown_bearer acl secret by none is = ap (bearer acl) is ∙ ap (λ (o : Option Token). option_map_or (λ token. bearer_with token.kind token.policies) o Unknown) none
+unknown_bearer acl secret by none is = ap (bearer acl) is ∙ ap (λ (o : Option Token). option_map_or (λ token. bearer_with token.kind token.policies) o Unknown)
+    none
 
-manager_bearer : (acl : Acl) (secret : Name) (token : Token) (by : Option Name) → get acl.tokens secret ≡ Some token → token.kind ≡ TokenKind.Management → by ≡ Some secret
+manager_bearer : (acl : Acl) (secret : Name) (token : Token) (by : Option Name) → get acl.tokens secret ≡ Some token → token.kind ≡ TokenKind.Management →
+    by ≡ Some secret
     → bearer acl by ≡ Manager
 manager_bearer acl secret token by found kind is =
-    ap (bearer acl) is ∙ ap (λ (o : Option Token). option_map_or (λ token. bearer_with token.kind token.policies) o Unknown) found ∙ ap (λ k. bearer_with k token.policies) kind
+    ap (bearer acl) is ∙ ap (λ (o : Option Token). option_map_or (λ token. bearer_with token.kind token.policies) o Unknown) found ∙
+        ap (λ k. bearer_with k token.policies) kind
 
 no_right : (command : AskCommand) → right_of command no_rights ≡ false
 no_right (AskCommand.ListJobs prefix) = refl
@@ -97,7 +107,8 @@ knows Unknown = false
 knows Manager = true
 knows (Holder policies) = true
 
-by_manager : (acl : Acl) (secret : Option Name) (b : Bool) → is_manager acl secret ≡ b → is_known acl secret ≡ b → (command : AdminCommand) → may_administer acl secret command ≡ b
+by_manager : (acl : Acl) (secret : Option Name) (b : Bool) → is_manager acl secret ≡ b → is_known acl secret ≡ b → (command : AdminCommand) →
+    may_administer acl secret command ≡ b
 by_manager acl secret b m k AdminCommand.ListNamespaces = k
 by_manager acl secret b m k (AdminCommand.PutNamespace name namespace) = m
 by_manager acl secret b m k (AdminCommand.DeleteNamespace name) = m
@@ -114,7 +125,8 @@ by_manager acl secret b m k (AdminCommand.DeletePolicy name) = m
 by_manager acl secret b m k (AdminCommand.CreateToken new) = m
 by_manager acl secret b m k (AdminCommand.DeleteToken accessor) = m
 
-administers : (acl : Acl) (secret : Option Name) (who : Bearer) (b : Bool) → bearer acl secret ≡ who → manages who ≡ b → knows who ≡ b → (command : AdminCommand) → may_administer acl secret command ≡ b
+administers : (acl : Acl) (secret : Option Name) (who : Bearer) (b : Bool) → bearer acl secret ≡ who → manages who ≡ b → knows who ≡ b →
+    (command : AdminCommand) → may_administer acl secret command ≡ b
 unfolding manages knows
 administers acl secret who b is m k command = by_manager acl secret b (ap manages is ∙ m) (ap knows is ∙ k) command
 
@@ -139,7 +151,8 @@ pub manager_is_allowed : law.ManagerIsAllowed
 unfolding rights_of pool_rights_of manages knows
 manager_is_allowed acl secret token (Step.Ask ns by command) found kind is =
     ap (λ who. right_of command (rights_for acl ns who)) (manager_bearer acl secret token by found kind is) ∙ each_right command
-manager_is_allowed acl secret token (Step.Admin by command) found kind is = administers acl by Manager true (manager_bearer acl secret token by found kind is) refl refl command
+manager_is_allowed acl secret token (Step.Admin by command) found kind is = administers acl by Manager true (manager_bearer acl secret token by found kind is)
+    refl refl command
 manager_is_allowed acl secret token (Step.Node pool by command) found kind is =
     ap (λ who. pool_right_of command (pool_rights_for acl pool who)) (manager_bearer acl secret token by found kind is) ∙ same_pool_right true command
 manager_is_allowed acl secret token (Step.Dequeue worker ns n) found kind is = absurd is
@@ -177,7 +190,8 @@ pub some_rule_gives : law.SomeRuleGives
 unfolding granted
 some_rule_gives acl kind policies target e =
     let rules = counting target (rules_of acl kind policies) in
-    let all : granted acl kind policies target ≡ merged rules = ap (λ b. cond b no_grants (merged rules)) (merged_gives (λ g. g.deny) (λ a b. refl) no_grants rules ∙ e) in record {
+    let all : granted acl kind policies target ≡ merged rules =
+        ap (λ b. cond b no_grants (merged rules)) (merged_gives (λ g. g.deny) (λ a b. refl) no_grants rules ∙ e) in record {
       list_jobs = ap (λ (g : Grants). g.list_jobs) all ∙ merged_gives (λ g. g.list_jobs) (λ a b. refl) no_grants rules;
       read_job = ap (λ (g : Grants). g.read_job) all ∙ merged_gives (λ g. g.read_job) (λ a b. refl) no_grants rules;
       submit_job = ap (λ (g : Grants). g.submit_job) all ∙ merged_gives (λ g. g.submit_job) (λ a b. refl) no_grants rules;
@@ -223,8 +237,10 @@ others_do_not_count target before later rule other none = by (list_any (is_exact
     of matching = filter (λ r. same_number (length r.pattern.text) (longest matching)) matching
 
     by : (b : Bool) → list_any (is_exact target) (before ++ later) ≡ b → counting target (before ++ rule ∷ later) ≡ counting target (before ++ later)
-    by true e = exact_counts target (before ++ rule ∷ later) (any ∙ e) ∙ filter_without (is_exact target) before later rule other ∙ sym (exact_counts target (before ++ later) e)
-    by false e = star_counts target (before ++ rule ∷ later) (any ∙ e) ∙ ap of (filter_without (is_match target) before later rule none) ∙ sym (star_counts target (before ++ later) e)
+    by true e = exact_counts target (before ++ rule ∷ later) (any ∙ e) ∙ filter_without (is_exact target) before later rule other ∙
+        sym (exact_counts target (before ++ later) e)
+    by false e = star_counts target (before ++ rule ∷ later) (any ∙ e) ∙ ap of (filter_without (is_match target) before later rule none) ∙
+        sym (star_counts target (before ++ later) e)
 
 longest_is : (rules : List Rule) (n : ℕ) → (n ≤ fold (λ most rule. max most (length rule.pattern.text)) n rules)
     × Each (λ rule. length rule.pattern.text ≤ fold (λ most rule. max most (length rule.pattern.text)) n rules) rules
@@ -237,9 +253,11 @@ pub longest_star_counts : law.LongestStarCounts
 longest_star_counts target rules none =
     let matching = filter (is_match target) rules in
     let most = each_passing (λ other. length other.pattern.text ≤ longest matching) (is_match target) rules (longest_is matching 0).1 in
-    subst (Each (λ rule. IsTrue (is_match target rule) × Each (λ other. IsTrue (is_match target other) → length other.pattern.text ≤ length rule.pattern.text) rules))
+    subst (Each (λ rule. IsTrue (is_match target rule) × Each (λ other. IsTrue (is_match target other) → length other.pattern.text ≤ length rule.pattern.text)
+        rules))
     (sym (star_counts target rules none))
-    (each_map (λ rule h. (h.0, each_map (λ other f match. omega (arith, f match, same_number_is (length rule.pattern.text) (longest matching) h.1)) rules most)) (longest_match target rules)
+    (each_map (λ rule h. (h.0, each_map (λ other f match. omega (arith, f match, same_number_is (length rule.pattern.text) (longest matching) h.1)) rules most))
+        (longest_match target rules)
     (each_kept (λ rule. is_match target rule ≡ true) (λ rule. same_number (length rule.pattern.text) (longest matching)) matching
     (each_map (λ rule h. h.1) matching (each_kept (λ _. Unit {0}) (is_match target) rules (each_true rules)))))
 
@@ -253,9 +271,11 @@ all_alike text is_prefix rules h = each_map (λ a e. each_map (λ b f. (e.0 ∙ 
 
 exact_text : (target : Name) (rule : Rule) → is_exact target rule ≡ true → (rule.pattern.text ≡ target) × (rule.pattern.is_prefix ≡ false)
 exact_text target rule e =
-    (same_name_is rule.pattern.text target (second_of_both (not rule.pattern.is_prefix) _ e), is_no rule.pattern.is_prefix (first_of_both (not rule.pattern.is_prefix) _ e))
+    (same_name_is rule.pattern.text target (second_of_both (not rule.pattern.is_prefix) _ e), is_no rule.pattern.is_prefix
+        (first_of_both (not rule.pattern.is_prefix) _ e))
 
-star_text : (target : Name) (rule : Rule) (n : ℕ) → is_match target rule ≡ true → length rule.pattern.text ≡ n → (rule.pattern.text ≡ take n target) × (rule.pattern.is_prefix ≡ true)
+star_text : (target : Name) (rule : Rule) (n : ℕ) → is_match target rule ≡ true → length rule.pattern.text ≡ n → (rule.pattern.text ≡ take n target) ×
+    (rule.pattern.is_prefix ≡ true)
 star_text target rule n e is = (
   same_text rule.pattern.text (take (length rule.pattern.text) target) (sym (second_of_both rule.pattern.is_prefix _ e)) ∙ ap (λ k. take k target) is,
   first_of_both rule.pattern.is_prefix _ e,
@@ -270,7 +290,8 @@ one_pattern_counts target rules = by (list_any (is_exact target) rules) refl
     by : (b : Bool) → list_any (is_exact target) rules ≡ b → AllAlike (counting target rules)
     by true e = subst AllAlike (sym (exact_counts target rules e))
         (all_alike target false (filter (is_exact target) rules)
-        (each_map (λ rule h. exact_text target rule h.1) (filter (is_exact target) rules) (each_kept (λ _. Unit {0}) (is_exact target) rules (each_true rules))))
+        (each_map (λ rule h. exact_text target rule h.1) (filter (is_exact target) rules)
+            (each_kept (λ _. Unit {0}) (is_exact target) rules (each_true rules))))
     by false e =
         let matching = filter (is_match target) rules in
         let matches = each_map (λ rule h. h.1) matching (each_kept (λ _. Unit {0}) (is_match target) rules (each_true rules)) in
@@ -282,4 +303,5 @@ one_pattern_counts target rules = by (list_any (is_exact target) rules) refl
 pub unknown_has_no_right : law.UnknownHasNoRight
 unfolding rights_of pool_rights_of
 unknown_has_no_right acl secret name none =
-    (ap (rights_for acl name) (unknown_bearer acl secret (Some secret) none refl), ap (pool_rights_for acl name) (unknown_bearer acl secret (Some secret) none refl))
+    (ap (rights_for acl name) (unknown_bearer acl secret (Some secret) none refl), ap (pool_rights_for acl name)
+        (unknown_bearer acl secret (Some secret) none refl))

@@ -1,5 +1,8 @@
 -- Names in lists, and what follows where no row of another namespace overlaps.
-use Rattle.std.specs.Prelude.{◌≡◌, ◌≢◌, ℕ, zero, suc, ◌<◌, Bool, true, false, not, ◌&&◌, ◌||◌, List, [], ◌∷◌, length, Option, Some, None, is_some, slice_index_or}
+use Rattle.std.specs.Prelude.{
+    ◌≡◌, ◌≢◌, ℕ, zero, suc, ◌<◌, Bool, true, false, not, ◌&&◌, ◌||◌, List, [], ◌∷◌, length, Option, Some, None, is_some,
+    slice_index_or
+}
 use Rattle.std.proofs.Common.{refl, sym, ap, ◌∙◌, arith, ◌⊎◌, inl, inr}
 use Rattle.std.specs.FinMap.{get}
 use Rattle.std.specs.List.{Contains, list_any}
@@ -128,20 +131,24 @@ no_overlap : (w : World) (ns other : Name) (t o : Tenant) → is_unshared w ns �
 no_overlap w ns other t o e is there ne =
     ap (λ b. not b && overlaps t.namespace o.namespace) (sym (other_name other ns ne))
     ∙ none_of_any one_name (λ name other. not (same_name name ns) && overlaps t.namespace other.namespace) w.tenants other o
-    (right_none (not (is_confined t.namespace)) (any_row (λ name other. not (same_name name ns) && overlaps t.namespace other.namespace) w.tenants) (shares_none w ns t e is)) there
+    (right_none (not (is_confined t.namespace)) (any_row (λ name other. not (same_name name ns) && overlaps t.namespace other.namespace) w.tenants)
+        (shares_none w ns t e is)) there
 
 pub unshared_pools_are_its_own : law.UnsharedPoolsAreItsOwn
 unshared_pools_are_its_own w ns other t o pool e is there ne may =
     let confined = unshared_is_confined w ns t e is in
-    let none = left_none (list_any (permits o.namespace) (pools_of t.namespace)) (option_map_or (λ quota. names_quota quota o.namespace) t.namespace.quota false)
+    let none = left_none (list_any (permits o.namespace) (pools_of t.namespace))
+        (option_map_or (λ quota. names_quota quota o.namespace) t.namespace.quota false)
     (no_overlap w ns other t o e is there ne) in
     none_at_name (permits o.namespace) (t.namespace.default_pool ∷ confined.0) pool
-    (ap (λ (a : Option (List Name)). list_any (permits o.namespace) (option_map_or (λ allowed. t.namespace.default_pool ∷ allowed) a [])) (sym confined.1) ∙ none)
+    (ap (λ (a : Option (List Name)). list_any (permits o.namespace) (option_map_or (λ allowed. t.namespace.default_pool ∷ allowed) a [])) (sym confined.1) ∙
+        none)
     (ap (λ a. permits_by a t.namespace pool) (sym confined.1) ∙ may)
 
 pub unshared_quota_is_its_own : law.UnsharedQuotaIsItsOwn
 unshared_quota_is_its_own w ns other t o quota e is there ne its theirs =
-    let none = right_none (list_any (permits o.namespace) (pools_of t.namespace)) (option_map_or (λ quota. names_quota quota o.namespace) t.namespace.quota false)
+    let none = right_none (list_any (permits o.namespace) (pools_of t.namespace))
+        (option_map_or (λ quota. names_quota quota o.namespace) t.namespace.quota false)
     (no_overlap w ns other t o e is there ne) in
     not_both (ap (λ (q : Option Name). option_map_or (same_name quota) q false) theirs ∙ same_name_refl quota)
     (ap (λ (q : Option Name). option_map_or (λ quota. names_quota quota o.namespace) q false) (sym its) ∙ none)
@@ -165,10 +172,13 @@ unshared_keeps_to_its_pools w ns t e is =
     let none : (open_ones || snapshots || held) ≡ false = strays_not w ns t e is in
     let first_two : (open_ones || snapshots) ≡ false = left_none (open_ones || snapshots) held none in record {
       evaluation = λ n x found is_one. both_are (is_open x.status) (permits t.namespace x.pool)
-          (none_of_any one_number (λ _ x. is_open x.status && not (permits t.namespace x.pool)) t.evaluations n x (left_none open_ones snapshots first_two) found) is_one;
+          (none_of_any one_number (λ _ x. is_open x.status && not (permits t.namespace x.pool)) t.evaluations n x (left_none open_ones snapshots first_two)
+              found) is_one;
       snapshot = λ n worker kept found keeps. is_yes (permits t.namespace kept.pool)
           (ap (λ (o : Option Snapshot). option_map_or (λ (kept : Snapshot). not (permits t.namespace kept.pool)) o false) (sym keeps)
-          ∙ none_of_any one_number (λ _ worker. option_map_or (λ (kept : Snapshot). not (permits t.namespace kept.pool)) worker.kept false) t.workers n worker (right_none open_ones snapshots first_two) found);
+          ∙ none_of_any one_number (λ _ worker. option_map_or (λ (kept : Snapshot). not (permits t.namespace kept.pool)) worker.kept false) t.workers n worker
+              (right_none open_ones snapshots first_two) found);
       allocation = λ n a found is_one. both_are (is_held a.client) (permits t.namespace a.pool)
-          (none_of_any one_number (λ _ a. is_held a.client && not (permits t.namespace a.pool)) t.allocations n a (right_none (open_ones || snapshots) held none) found) is_one;
+          (none_of_any one_number (λ _ a. is_held a.client && not (permits t.namespace a.pool)) t.allocations n a
+              (right_none (open_ones || snapshots) held none) found) is_one;
     }

@@ -1,5 +1,8 @@
 -- Sums over lists and the classes that their elements fall into, and so the sum over all live allocations by their nodes.
-use Rattle.std.specs.Prelude.{◌≡◌, ℕ, ◌+◌, ◌^◌, ◌<◌, ◌≤◌, Bool, true, false, cond, ◌&&◌, ◌||◌, List, [], ◌∷◌, ◌++◌, map, flat_map, sum_by, Option, Some, None, nat_le}
+use Rattle.std.specs.Prelude.{
+    ◌≡◌, ℕ, ◌+◌, ◌^◌, ◌<◌, ◌≤◌, Bool, true, false, cond, ◌&&◌, ◌||◌, List, [], ◌∷◌, ◌++◌, map, flat_map, sum_by, Option,
+    Some, None, nat_le
+}
 use Rattle.std.proofs.Common.{refl, sym, ap, ◌∙◌, arith, ◌⊎◌, inl, inr}
 use Rattle.std.specs.FinMap.{get, entries, len-entries}
 use Rattle.std.specs.List.{list_any}
@@ -69,19 +72,22 @@ counted_once has n (c ∷ cs) e = by (has c) refl e (counted_once has n cs)
     whole : sum_by (λ c. cond (has c) n 0) (c ∷ cs) ≡ cond (has c) n 0 + sum_by (λ c. cond (has c) n 0) cs
     whole = sum_by-cons (λ c. cond (has c) n 0) c cs
 
-    by : (b : Bool) → has c ≡ b → (b || list_any has cs) ≡ true → (list_any has cs ≡ true → n ≤ sum_by (λ c. cond (has c) n 0) cs) → n ≤ sum_by (λ c. cond (has c) n 0) (c ∷ cs)
+    by : (b : Bool) → has c ≡ b → (b || list_any has cs) ≡ true → (list_any has cs ≡ true → n ≤ sum_by (λ c. cond (has c) n 0) cs) →
+        n ≤ sum_by (λ c. cond (has c) n 0) (c ∷ cs)
     by true f e go = let here : cond (has c) n 0 ≡ n = ap (λ b. cond b n 0) f in omega (arith, whole, here)
     by false f e go = let rest = go e in omega (arith, whole, rest)
 
 -- where each element that counts is in some class, the sum is at most that of the sums by class
-pub sum_by_classes : {A C : Type 0} (f : A → ℕ) (has : C → A → Bool) (cs : List C) (xs : List A) → Each (λ x. (f x ≡ 0) ⊎ (list_any (λ c. has c x) cs ≡ true)) xs
+pub sum_by_classes : {A C : Type 0} (f : A → ℕ) (has : C → A → Bool) (cs : List C) (xs : List A) →
+    Each (λ x. (f x ≡ 0) ⊎ (list_any (λ c. has c x) cs ≡ true)) xs
     → sum_by f xs ≤ sum_by (λ c. sum_by (λ x. cond (has c x) (f x) 0) xs) cs
 sum_by_classes f has cs [] h = omega arith
 sum_by_classes f has cs (x ∷ xs) h =
     let rest = sum_by_classes f has cs xs h.1 in
     let whole = sum_by-cons f x xs in
     let by_class = sum_same (λ c. sum_by (λ x. cond (has c x) (f x) 0) (x ∷ xs)) (λ c. cond (has c x) (f x) 0 + sum_by (λ x. cond (has c x) (f x) 0) xs) cs
-    (each (λ c. sum_by (λ x. cond (has c x) (f x) 0) (x ∷ xs) ≡ cond (has c x) (f x) 0 + sum_by (λ x. cond (has c x) (f x) 0) xs) (λ c. sum_by-cons (λ x. cond (has c x) (f x) 0) x xs) cs) in
+    (each (λ c. sum_by (λ x. cond (has c x) (f x) 0) (x ∷ xs) ≡ cond (has c x) (f x) 0 + sum_by (λ x. cond (has c x) (f x) 0) xs)
+        (λ c. sum_by-cons (λ x. cond (has c x) (f x) 0) x xs) cs) in
     let split = sum_add (λ c. cond (has c x) (f x) 0) (λ c. sum_by (λ x. cond (has c x) (f x) 0) xs) cs in
     let here = own h.0 in
     omega (arith, rest, whole, by_class, split, here)
@@ -190,7 +196,8 @@ any_place w a e =
 is_on_itself : (a : Allocation) → is_live a ≡ true → is_live_on a.pool a.node a ≡ true
 is_on_itself a e = λ i. e i && (same_name_refl a.pool i && same_name_refl a.node i)
 
-placed_somewhere : (w : World) (a : Allocation) (row : Node) → node_at w a.pool a.node ≡ Some row → is_live a ≡ true → list_any (λ c. is_live_on c.0 c.1 a) (places w) ≡ true
+placed_somewhere : (w : World) (a : Allocation) (row : Node) → node_at w a.pool a.node ≡ Some row → is_live a ≡ true →
+    list_any (λ c. is_live_on c.0 c.1 a) (places w) ≡ true
 placed_somewhere w a row there e = any_place w a (by (get w.pools a.pool) refl there)
   where
     by : (o : Option PoolRows) → get w.pools a.pool ≡ o → option_and_then (λ p. get p.nodes a.node) o ≡ Some row → any_row (has_node a) w.pools ≡ true
@@ -211,7 +218,8 @@ all_covered : (w : World) (amount : Resources → ℕ) → IsSound w → Each (I
 all_covered w amount sound =
     each_flat (IsCovered w amount) (λ t. entries t.1.allocations) (entries w.tenants)
     (each_row names one_name (λ ns t. Each (IsCovered w amount) (entries t.allocations)) w.tenants (λ ns t is.
-    each_row numbers one_number (λ n a. IsCovered w amount (n, a)) t.allocations (λ n a found. covered w amount t n a ((sound.tenant ns t is).allocation n a found))))
+    each_row numbers one_number (λ n a. IsCovered w amount (n, a)) t.allocations
+        (λ n a found. covered w amount t n a ((sound.tenant ns t is).allocation n a found))))
 
 -- so all of them take no more than the loads of all nodes
 by_node : (w : World) (amount : Resources → ℕ) → IsSound w → live_sum w amount ≤ sum_by (λ c. node_sum w c.0 c.1 amount) (places w)
@@ -228,7 +236,8 @@ by_node w amount sound =
 
 -- ---- no node takes more than its capacity
 
-module _ (w : World) (amount : Resources → ℕ) (within : (pool name : Name) (node : Node) → IsSoundNode w pool name node → node_sum w pool name amount ≤ 2147483647) (sound : IsSound w) where
+module _ (w : World) (amount : Resources → ℕ) (within : (pool name : Name) (node : Node) → IsSoundNode w pool name node →
+    node_sum w pool name amount ≤ 2147483647) (sound : IsSound w) where
   pool_small : (pool : Name) (p : PoolRows) → get w.pools pool ≡ Some p → sum_by (λ c. node_sum w c.0 c.1 amount) (names_in (pool, p)) ≤ 2147483647000
   pool_small pool p is =
       let here = sound.pool pool p is in
@@ -265,7 +274,8 @@ cpu_within w pool name node sound =
     let capacity = node.offer.capacity in
     let load : node_sum w pool name (λ r. r.cpu) ≤ capacity.cpu = cpu_of_within (node_load w pool name) capacity sound.within in
     let amount : is_amount capacity ≡ true = second_of_both _ (is_amount capacity) sound.good in
-    let most : capacity.cpu ≤ 2147483647 = most_of capacity.cpu (first_of_both (is_between 1 2147483647 capacity.cpu) (is_between 1 2147483647 capacity.memory) amount) in
+    let most : capacity.cpu ≤ 2147483647 = most_of capacity.cpu
+        (first_of_both (is_between 1 2147483647 capacity.cpu) (is_between 1 2147483647 capacity.memory) amount) in
     omega (arith, load, most)
 
 memory_within : (w : World) (pool name : Name) (node : Node) → IsSoundNode w pool name node → node_sum w pool name (λ r. r.memory) ≤ 2147483647
@@ -273,7 +283,8 @@ memory_within w pool name node sound =
     let capacity = node.offer.capacity in
     let load : node_sum w pool name (λ r. r.memory) ≤ capacity.memory = memory_of_within (node_load w pool name) capacity sound.within in
     let amount : is_amount capacity ≡ true = second_of_both _ (is_amount capacity) sound.good in
-    let most : capacity.memory ≤ 2147483647 = most_of capacity.memory (second_of_both (is_between 1 2147483647 capacity.cpu) (is_between 1 2147483647 capacity.memory) amount) in
+    let most : capacity.memory ≤ 2147483647 = most_of capacity.memory
+        (second_of_both (is_between 1 2147483647 capacity.cpu) (is_between 1 2147483647 capacity.memory) amount) in
     omega (arith, load, most)
 
 cpu_small : (w : World) → IsSound w → live_sum w (λ r. r.cpu) < 2 ^ 55

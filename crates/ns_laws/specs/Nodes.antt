@@ -13,7 +13,8 @@ pub record IsFirstOfJob (pool node : Name) (t : Tenant) (a : Allocation) : Type 
   pub number : ℕ
   pub there : get t.allocations number ≡ Some a
   pub lives : IsTrue (is_live_on pool node a)
-  pub least : (m : ℕ) (other : Allocation) → get t.allocations m ≡ Some other → IsTrue (is_live_on pool node other) → other.job ≡ a.job → number ≤ m
+  pub least : (m : ℕ) (other : Allocation) → get t.allocations m ≡ Some other → IsTrue (is_live_on pool node other) →
+      other.job ≡ a.job → number ≤ m
 
 -- those for which a node that goes down makes evaluations are such
 abbrev pub LosersAreFirst : Type 0
@@ -21,5 +22,6 @@ LosersAreFirst = (pool node : Name) (t : Tenant) → Each (IsFirstOfJob pool nod
 
 -- and each job with a live allocation there has one
 abbrev pub EachJobLoses : Type 0
-EachJobLoses = (pool node : Name) (t : Tenant) (n : ℕ) (a : Allocation) → get t.allocations n ≡ Some a → IsTrue (is_live_on pool node a)
+EachJobLoses = (pool node : Name) (t : Tenant) (n : ℕ) (a : Allocation) → get t.allocations n ≡ Some a →
+    IsTrue (is_live_on pool node a)
     → IsTrue (list_any (λ other. same_name a.job other.job) (losing_jobs pool node t))

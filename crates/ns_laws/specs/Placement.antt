@@ -1,5 +1,8 @@
 -- Laws of the choice of a node, and of those who give way there.
-use Rattle.std.specs.Prelude.{◌≡◌, ℕ, ◌+◌, ◌<◌, ◌≤◌, ◌==◌, List, ◌++◌, Some, None, filter, length, reverse, slice_get, take, IsTrue, IsFalse, [], ◌↔◌, ◌∷◌, sum_by}
+use Rattle.std.specs.Prelude.{
+    ◌≡◌, ℕ, ◌+◌, ◌<◌, ◌≤◌, ◌==◌, List, ◌++◌, Some, None, filter, length, reverse, slice_get, take, IsTrue, IsFalse, [],
+    ◌↔◌, ◌∷◌, sum_by
+}
 use Rattle.std.specs.List.{AllPairs, list_any}
 use Rattle.std.specs.declared.cmp.Ordering.TheVariants.{Less}
 use Rattle.ns_types.specs.declared.resources.Resources.{Resources}
@@ -20,11 +23,13 @@ FitsWhereRoom = (size : Resources) (node : Candidate)
 -- some make room where no more is asked than is left together with what they take
 abbrev pub RoomIsMade : Type 0
 RoomIsMade = (size : Resources) (node : Candidate) (gone : List LiveAllocation) → IsTrue (makes_room size node gone)
-    ↔ ((size.cpu ≤ node.left.cpu + sum_by (λ a. a.size.cpu) gone) × (size.memory ≤ node.left.memory + sum_by (λ a. a.size.memory) gone))
+    ↔ ((size.cpu ≤ node.left.cpu + sum_by (λ a. a.size.cpu) gone) ×
+        (size.memory ≤ node.left.memory + sum_by (λ a. a.size.memory) gone))
 
 -- the highest priority is one of theirs, and none of them has a higher one
 abbrev pub HighestIsHighest : Type 0
-HighestIsHighest = (first : LiveAllocation) (others : List LiveAllocation) → Each (λ a. a.priority ≤ highest_priority (first ∷ others)) (first ∷ others)
+HighestIsHighest = (first : LiveAllocation) (others : List LiveAllocation) →
+    Each (λ a. a.priority ≤ highest_priority (first ∷ others)) (first ∷ others)
     × IsTrue (list_any (λ a. a.priority == highest_priority (first ∷ others)) (first ∷ others))
 
 -- ---- a node with room
@@ -44,21 +49,25 @@ pub record IsBestNode (size : Resources) (nodes : List Candidate) (k : ℕ) : Ty
 
 -- the chosen node fits, and none that fits has less left
 abbrev pub ChosenIsBest : Type 0
-ChosenIsBest = (size : Resources) (nodes : List Candidate) (k : ℕ) → best_fit size nodes ≡ Some k → IsBestNode size nodes k
+ChosenIsBest = (size : Resources) (nodes : List Candidate) (k : ℕ) → best_fit size nodes ≡ Some k →
+    IsBestNode size nodes k
 
 -- none is chosen only where none fits
 abbrev pub NoneChosenOfNone : Type 0
-NoneChosenOfNone = (size : Resources) (nodes : List Candidate) → best_fit size nodes ≡ None → Each (λ node. IsFalse (fits size node)) nodes
+NoneChosenOfNone = (size : Resources) (nodes : List Candidate) → best_fit size nodes ≡ None →
+    Each (λ node. IsFalse (fits size node)) nodes
 
 -- ---- who may be evicted
 
 -- their priority is lower by 10 or more
 abbrev pub EvictableAreLower : Type 0
-EvictableAreLower = (priority : ℕ) (live : List LiveAllocation) → Each (λ a. a.priority + 10 ≤ priority) (evictable priority live)
+EvictableAreLower = (priority : ℕ) (live : List LiveAllocation) →
+    Each (λ a. a.priority + 10 ≤ priority) (evictable priority live)
 
 -- the lowest priority comes first
 abbrev pub EvictableInOrder : Type 0
-EvictableInOrder = (priority : ℕ) (live : List LiveAllocation) → AllPairs (λ a b. a.priority ≤ b.priority) (evictable priority live)
+EvictableInOrder = (priority : ℕ) (live : List LiveAllocation) →
+    AllPairs (λ a b. a.priority ≤ b.priority) (evictable priority live)
 
 -- of each such priority they are all of the node's, the one placed last first
 abbrev pub EvictableAreAll : Type 0
@@ -77,22 +86,27 @@ pub record AreVictims (size : Resources) (node : Candidate) (gone : List LiveAll
 
 -- the victims are the shortest prefix that makes room
 abbrev pub VictimsAreFewest : Type 0
-VictimsAreFewest = (size : Resources) (node : Candidate) (gone : List LiveAllocation) → victims size node ≡ Some gone → AreVictims size node gone
+VictimsAreFewest = (size : Resources) (node : Candidate) (gone : List LiveAllocation) → victims size node ≡ Some gone →
+    AreVictims size node gone
 
 -- and such a prefix is the victims
 abbrev pub FewestAreVictims : Type 0
-FewestAreVictims = (size : Resources) (node : Candidate) (gone : List LiveAllocation) → AreVictims size node gone → victims size node ≡ Some gone
+FewestAreVictims = (size : Resources) (node : Candidate) (gone : List LiveAllocation) → AreVictims size node gone →
+    victims size node ≡ Some gone
 
 -- where there are none, no prefix makes room
 abbrev pub NoVictimsNoRoom : Type 0
 NoVictimsNoRoom = (size : Resources) (node : Candidate) → victims size node ≡ None → IsTrue node.feasible
     → (n : ℕ) → IsFalse (makes_room size node (take n node.evictable))
 
--- the highest priority of a victim is lower; or as high, and they are fewer; or as many too, and the node has a lesser name
-pub data CostsLess (lost : List LiveAllocation) (a : Candidate) (gone : List LiveAllocation) (b : Candidate) : Type 0 where
+-- the highest priority of a victim is lower; or as high, and they are fewer; or as many too, and the node has a lesser
+-- name
+pub data CostsLess (lost : List LiveAllocation) (a : Candidate) (gone : List LiveAllocation)
+    (b : Candidate) : Type 0 where
   lower : highest_priority lost < highest_priority gone → CostsLess lost a gone b
   fewer : highest_priority lost ≡ highest_priority gone → length lost < length gone → CostsLess lost a gone b
-  less_name : highest_priority lost ≡ highest_priority gone → length lost ≡ length gone → name_cmp a.name b.name ≡ Less → CostsLess lost a gone b
+  less_name : highest_priority lost ≡ highest_priority gone → length lost ≡ length gone →
+      name_cmp a.name b.name ≡ Less → CostsLess lost a gone b
 
 -- the node at a place has victims, and no other's cost less
 pub record IsCheapestNode (size : Resources) (nodes : List Candidate) (k : ℕ) : Type 0 where
@@ -100,24 +114,30 @@ pub record IsCheapestNode (size : Resources) (nodes : List Candidate) (k : ℕ) 
   pub there : slice_get nodes k ≡ Some node
   pub gone : List LiveAllocation
   pub give_way : victims size node ≡ Some gone
-  pub least : Each (λ other. (lost : List LiveAllocation) → victims size other ≡ Some lost → CostsLess lost other gone node → ⊥) nodes
+  pub least : Each (λ other. (lost : List LiveAllocation) → victims size other ≡ Some lost →
+      CostsLess lost other gone node → ⊥) nodes
 
 -- the node on which some are evicted is the one whose victims cost least
 abbrev pub EvictedCostLeast : Type 0
-EvictedCostLeast = (size : Resources) (nodes : List Candidate) (k : ℕ) → best_victims size nodes ≡ Some k → IsCheapestNode size nodes k
+EvictedCostLeast = (size : Resources) (nodes : List Candidate) (k : ℕ) → best_victims size nodes ≡ Some k →
+    IsCheapestNode size nodes k
 
 -- none are evicted only where no node has victims
 abbrev pub NoneEvictedOfNone : Type 0
-NoneEvictedOfNone = (size : Resources) (nodes : List Candidate) → best_victims size nodes ≡ None → Each (λ node. victims size node ≡ None) nodes
+NoneEvictedOfNone = (size : Resources) (nodes : List Candidate) → best_victims size nodes ≡ None →
+    Each (λ node. victims size node ≡ None) nodes
 
 -- the best node with room is taken without victims; where none has room, the node whose victims cost least, with these
 pub data IsChoice (size : Resources) (nodes : List Candidate) : Choice → Type 0 where
   room : (k : ℕ) → IsBestNode size nodes k → IsChoice size nodes (record { node = k; victims = [] })
-  preempted : (k : ℕ) (is : IsCheapestNode size nodes k) → Each (λ node. IsFalse (fits size node)) nodes → IsChoice size nodes (record { node = k; victims = is.gone })
+  preempted : (k : ℕ) (is : IsCheapestNode size nodes k) → Each (λ node. IsFalse (fits size node)) nodes →
+      IsChoice size nodes (record { node = k; victims = is.gone })
 
 abbrev pub RoomBeforeVictims : Type 0
-RoomBeforeVictims = (size : Resources) (nodes : List Candidate) (chosen : Choice) → choice size nodes ≡ Some chosen → IsChoice size nodes chosen
+RoomBeforeVictims = (size : Resources) (nodes : List Candidate) (chosen : Choice) → choice size nodes ≡ Some chosen →
+    IsChoice size nodes chosen
 
 -- there is no choice only where no node has room or victims
 abbrev pub NoChoiceOfNone : Type 0
-NoChoiceOfNone = (size : Resources) (nodes : List Candidate) → choice size nodes ≡ None → Each (λ node. IsFalse (fits size node) × (victims size node ≡ None)) nodes
+NoChoiceOfNone = (size : Resources) (nodes : List Candidate) → choice size nodes ≡ None →
+    Each (λ node. IsFalse (fits size node) × (victims size node ≡ None)) nodes

@@ -59,7 +59,8 @@ pub record IsFirstWaiting (t : Tenant) (job : Name) (n : ℕ) : Type 0 where
   pub there : get t.evaluations n ≡ Some row
   pub of_job : row.job ≡ job
   pub pending : IsTrue (is_pending row.status)
-  pub least : (m : ℕ) (other : Evaluation) → get t.evaluations m ≡ Some other → other.job ≡ job → IsTrue (is_pending other.status) → n ≤ m
+  pub least : (m : ℕ) (other : Evaluation) → get t.evaluations m ≡ Some other → other.job ≡ job →
+      IsTrue (is_pending other.status) → n ≤ m
 
 -- first of those of a job that wait is the one that was made first
 abbrev pub FirstWaitingIsLeast : Type 0
@@ -67,4 +68,5 @@ FirstWaitingIsLeast = (t : Tenant) (job : Name) (n : ℕ) → first_waiting job 
 
 -- and there is none only where none is pending
 abbrev pub NoneWaitsOfNone : Type 0
-NoneWaitsOfNone = (t : Tenant) (job : Name) (n : ℕ) (row : Evaluation) → first_waiting job t ≡ None → get t.evaluations n ≡ Some row → row.job ≡ job → IsFalse (is_pending row.status)
+NoneWaitsOfNone = (t : Tenant) (job : Name) (n : ℕ) (row : Evaluation) → first_waiting job t ≡ None →
+    get t.evaluations n ≡ Some row → row.job ≡ job → IsFalse (is_pending row.status)

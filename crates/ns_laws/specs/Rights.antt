@@ -14,7 +14,9 @@ use Rattle.ns_types.specs.declared.step.Step.{Step}
 use Rattle.ns_types.specs.declared.step.Step.TheVariants as Step
 use Rattle.ns_types.specs.State.Lists.{Each}
 use Rattle.ns_types.specs.State.Names.{Name}
-use Rattle.ns_types.specs.Access.Rights.{is_exact, is_match, counting, rules_of, no_grants, granted, rights_of, pool_rights_of, no_rights}
+use Rattle.ns_types.specs.Access.Rights.{
+    is_exact, is_match, counting, rules_of, no_grants, granted, rights_of, pool_rights_of, no_rights
+}
 use Rattle.ns_types.specs.State.Rows.{Acl, State}
 use Rattle.ns_types.specs.Steps.{after, said, is_allowed}
 
@@ -34,7 +36,8 @@ UnknownIsDenied = (s : State) (secret : Name) (step : Step) → get s.acl.tokens
 
 -- with a token of the kind `management` nothing is denied
 abbrev pub ManagerIsAllowed : Type 0
-ManagerIsAllowed = (acl : Acl) (secret : Name) (token : Token) (step : Step) → get acl.tokens secret ≡ Some token → token.kind ≡ TokenKind.Management
+ManagerIsAllowed = (acl : Acl) (secret : Name) (token : Token) (step : Step) → get acl.tokens secret ≡ Some token →
+    token.kind ≡ TokenKind.Management
     → IsBy (Some secret) step → IsTrue (is_allowed step acl)
 
 -- ---- what rules give
@@ -42,7 +45,8 @@ ManagerIsAllowed = (acl : Acl) (secret : Name) (token : Token) (step : Step) →
 -- where a rule that counts denies, nothing is given
 abbrev pub DenyGivesNothing : Type 0
 DenyGivesNothing = (acl : Acl) (kind : RuleKind) (policies : List Name) (target : Name)
-    → IsTrue (list_any (λ rule. rule.grants.deny) (counting target (rules_of acl kind policies))) → granted acl kind policies target ≡ no_grants
+    → IsTrue (list_any (λ rule. rule.grants.deny) (counting target (rules_of acl kind policies))) →
+        granted acl kind policies target ≡ no_grants
 
 -- what is given is what some of the rules give
 pub record IsGivenBySome (grants : Grants) (rules : List Rule) : Type 0 where
@@ -61,17 +65,21 @@ SomeRuleGives = (acl : Acl) (kind : RuleKind) (policies : List Name) (target : N
 
 -- where there is a rule of the exact name, one with a star changes nothing
 abbrev pub ExactBeforeStars : Type 0
-ExactBeforeStars = (target : Name) (before later : List Rule) (rule : Rule) → IsTrue (list_any (is_exact target) (before ++ later)) → IsTrue rule.pattern.is_prefix
+ExactBeforeStars = (target : Name) (before later : List Rule) (rule : Rule) →
+    IsTrue (list_any (is_exact target) (before ++ later)) → IsTrue rule.pattern.is_prefix
     → counting target (before ++ rule ∷ later) ≡ counting target (before ++ later)
 
 -- without one, those count whose star matches, of which none that matches is longer
 abbrev pub LongestStarCounts : Type 0
 LongestStarCounts = (target : Name) (rules : List Rule) → IsFalse (list_any (is_exact target) rules)
-    → Each (λ rule. IsTrue (is_match target rule) × Each (λ other. IsTrue (is_match target other) → length other.pattern.text ≤ length rule.pattern.text) rules) (counting target rules)
+    → Each (λ rule. IsTrue (is_match target rule) ×
+        Each (λ other. IsTrue (is_match target other) → length other.pattern.text ≤ length rule.pattern.text) rules)
+        (counting target rules)
 
 -- a rule that does not match changes nothing
 abbrev pub OthersDoNotCount : Type 0
-OthersDoNotCount = (target : Name) (before later : List Rule) (rule : Rule) → IsFalse (is_exact target rule) → IsFalse (is_match target rule)
+OthersDoNotCount = (target : Name) (before later : List Rule) (rule : Rule) → IsFalse (is_exact target rule) →
+    IsFalse (is_match target rule)
     → counting target (before ++ rule ∷ later) ≡ counting target (before ++ later)
 
 abbrev pub SamePattern : Pattern → Pattern → Type 0
@@ -79,7 +87,8 @@ SamePattern a b = (a.text ≡ b.text) × (a.is_prefix ≡ b.is_prefix)
 
 -- those that count have one pattern
 abbrev pub OnePatternCounts : Type 0
-OnePatternCounts = (target : Name) (rules : List Rule) → Each (λ a. Each (λ b. SamePattern a.pattern b.pattern) (counting target rules)) (counting target rules)
+OnePatternCounts = (target : Name) (rules : List Rule) →
+    Each (λ a. Each (λ b. SamePattern a.pattern b.pattern) (counting target rules)) (counting target rules)
 
 abbrev pub no_pool_rights : PoolRights
 no_pool_rights = record { read = false; write = false }

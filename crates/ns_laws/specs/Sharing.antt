@@ -29,19 +29,26 @@ UnsharedIsConfined = (w : World) (ns : Name) (t : Tenant) → IsTrue (is_unshare
 -- a pool that it may use, no other may use
 abbrev pub UnsharedPoolsAreItsOwn : Type 0
 UnsharedPoolsAreItsOwn = (w : World) (ns other : Name) (t o : Tenant) (pool : Name) → IsTrue (is_unshared w ns)
-    → get w.tenants ns ≡ Some t → get w.tenants other ≡ Some o → other ≢ ns → IsTrue (permits t.namespace pool) → IsFalse (permits o.namespace pool)
+    → get w.tenants ns ≡ Some t → get w.tenants other ≡ Some o → other ≢ ns → IsTrue (permits t.namespace pool) →
+        IsFalse (permits o.namespace pool)
 
 -- and the quota that it names, no other names
 abbrev pub UnsharedQuotaIsItsOwn : Type 0
 UnsharedQuotaIsItsOwn = (w : World) (ns other : Name) (t o : Tenant) (quota : Name) → IsTrue (is_unshared w ns)
-    → get w.tenants ns ≡ Some t → get w.tenants other ≡ Some o → other ≢ ns → t.namespace.quota ≡ Some quota → o.namespace.quota ≢ Some quota
+    → get w.tenants ns ≡ Some t → get w.tenants other ≡ Some o → other ≢ ns → t.namespace.quota ≡ Some quota →
+        o.namespace.quota ≢ Some quota
 
--- nor does it keep anything elsewhere: its open evaluations, the snapshots that workers keep for it, and its allocations
+-- nor does it keep anything elsewhere: its open evaluations, the snapshots that workers keep for it, and its
+-- allocations
 -- that the client has not ended all name pools that it may use
 pub record KeepsToItsPools (t : Tenant) : Type 0 where
-  pub evaluation : (n : ℕ) (e : Evaluation) → get t.evaluations n ≡ Some e → IsTrue (is_open e.status) → IsTrue (permits t.namespace e.pool)
-  pub snapshot : (n : ℕ) (worker : Worker) (kept : Snapshot) → get t.workers n ≡ Some worker → worker.kept ≡ Some kept → IsTrue (permits t.namespace kept.pool)
-  pub allocation : (n : ℕ) (a : Allocation) → get t.allocations n ≡ Some a → IsTrue (is_held a.client) → IsTrue (permits t.namespace a.pool)
+  pub evaluation : (n : ℕ) (e : Evaluation) → get t.evaluations n ≡ Some e → IsTrue (is_open e.status) →
+      IsTrue (permits t.namespace e.pool)
+  pub snapshot : (n : ℕ) (worker : Worker) (kept : Snapshot) → get t.workers n ≡ Some worker → worker.kept ≡ Some kept →
+      IsTrue (permits t.namespace kept.pool)
+  pub allocation : (n : ℕ) (a : Allocation) → get t.allocations n ≡ Some a → IsTrue (is_held a.client) →
+      IsTrue (permits t.namespace a.pool)
 
 abbrev pub UnsharedKeepsToItsPools : Type 0
-UnsharedKeepsToItsPools = (w : World) (ns : Name) (t : Tenant) → IsTrue (is_unshared w ns) → get w.tenants ns ≡ Some t → KeepsToItsPools t
+UnsharedKeepsToItsPools = (w : World) (ns : Name) (t : Tenant) → IsTrue (is_unshared w ns) → get w.tenants ns ≡ Some t →
+    KeepsToItsPools t

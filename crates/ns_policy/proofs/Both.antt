@@ -1,5 +1,8 @@
 -- Both ways between trees and what is read.
-use Rattle.std.proofs.Common.{◌≡◌, ℕ, ◌+◌, ◌≤◌, List, [], ◌∷◌, length, is_some, Bool, true, false, Ok, Err, refl, sym, ap, ◌∙◌, subst, arith, append-nil, nat_lt, nat_le, ◌==◌, ◌&&◌, if◌then◌else◌, true≢false}
+use Rattle.std.proofs.Common.{
+    ◌≡◌, ℕ, ◌+◌, ◌≤◌, List, [], ◌∷◌, length, is_some, Bool, true, false, Ok, Err, refl, sym, ap, ◌∙◌, subst, arith,
+    append-nil, nat_lt, nat_le, ◌==◌, ◌&&◌, if◌then◌else◌, true≢false
+}
 use Rattle.std.proofs.lemmas.Bool.{eqb-true, ltb-false}
 use Rattle.ns_policy.specs.declared.fault.RuleFault.TheVariants.{Syntax}
 use Rattle.ns_types.specs.declared.acl.RuleKind.{RuleKind}
@@ -10,8 +13,14 @@ use Rattle.ns_policy.specs.declared.parser.Place.{Place}
 use Rattle.ns_policy.specs.declared.parser.Place.TheVariants as Place
 use Rattle.ns_policy.specs.declared.parser.State.{State}
 use Rattle.ns_policy.specs.Rules.{Read, ◌>>=◌, with_policy, with_capability, pattern_of}
-use Rattle.ns_policy.specs.Grammar.{role_of, draft_of, unless, enter, leave, named, set_policy, begin_capabilities, add_capability, is_item, max_lists, blocks, start, finish}
-use Rattle.ns_policy.specs.Tree.{Tree, text, flag, digits, list, Trees, none, one, Item, block, attribute, Items, no_items, item, capability_in, capabilities_in, attribute_in, opened, item_in, items_in, items_tokens, read_tokens, run}
+use Rattle.ns_policy.specs.Grammar.{
+    role_of, draft_of, unless, enter, leave, named, set_policy, begin_capabilities, add_capability, is_item, max_lists,
+    blocks, start, finish
+}
+use Rattle.ns_policy.specs.Tree.{
+    Tree, text, flag, digits, list, Trees, none, one, Item, block, attribute, Items, no_items, item, capability_in,
+    capabilities_in, attribute_in, opened, item_in, items_in, items_tokens, read_tokens, run
+}
 use Rattle.ns_policy.specs.Laws.{SpelledTokensAreRead, ReadTokensAreSpelled, SpelledIsRead, ReadIsSpelled}
 use Rattle.ns_policy.specs.Lex.{skip}
 use Rattle.ns_policy.specs.Grammar.{read_on}
@@ -77,7 +86,8 @@ attribute_deep s Role.Other v = refl
 
 opened_deep : (s : State) (role : Role) (ls : List (List ℕ)) → Deep (s.depth + 1) (opened s role ls)
 opened_deep s (Role.Block kind) [] = tt
-opened_deep s (Role.Block kind) (l ∷ []) = post_then (named s kind l) _ _ (named_deep s kind l) (λ a k. subst (λ (d : ℕ). Deep (d + 1) (enter a)) k (enter_deep a))
+opened_deep s (Role.Block kind) (l ∷ []) = post_then (named s kind l) _ _ (named_deep s kind l)
+    (λ a k. subst (λ (d : ℕ). Deep (d + 1) (enter a)) k (enter_deep a))
 opened_deep s (Role.Block kind) (l ∷ m ∷ ls) = tt
 opened_deep s Role.Other ls = enter_deep s
 opened_deep s Role.Policy ls = tt
@@ -85,7 +95,8 @@ opened_deep s Role.Capabilities ls = tt
 
 mutual
   item_deep : (i : Item) (d : ℕ) (s : State) → s.depth ≡ d → Deep d (item_in s i)
-  item_deep (attribute w v) d s h = subst (λ (e : ℕ). Deep e (attribute_in s (role_of s.depth (is_some s.draft) w) v)) h (attribute_deep s (role_of s.depth (is_some s.draft) w) v)
+  item_deep (attribute w v) d s h = subst (λ (e : ℕ). Deep e (attribute_in s (role_of s.depth (is_some s.draft) w) v)) h
+      (attribute_deep s (role_of s.depth (is_some s.draft) w) v)
   item_deep (block w ls is) d s h =
       post_then (opened s (role_of s.depth (is_some s.draft) w) ls) _ _ (opened_deep s (role_of s.depth (is_some s.draft) w) ls)
       (λ a k. post_then (items_in a is) _ _ (items_deep is (s.depth + 1) a k) (λ b m. leave_deep b d (m ∙ ap (λ (e : ℕ). e + 1) h)))
@@ -130,7 +141,8 @@ done a rules h =
 
 pub tokens_are_read : SpelledTokensAreRead
 tokens_are_read is fits =
-    let read : run start (items_tokens is) ≡ items_in start is = ap (run start) (sym (append-nil (items_tokens is))) ∙ items_read is start [] fits ∙ bind_run (items_in start is) in
+    let read : run start (items_tokens is) ≡ items_in start is = ap (run start) (sym (append-nil (items_tokens is))) ∙ items_read is start [] fits ∙
+        bind_run (items_in start is) in
     ap (λ r. r >>= finish) read ∙ all_finished (items_in start is) (items_placed start is refl) (items_deep is 0 start refl)
 
 finish_ok : (r : Read State) (rules : List Rule) → (r >>= finish) ≡ Ok rules → (a : State) × (r ≡ Ok a) × (a.place ≡ Place.Item) × (a.depth ≡ 0)

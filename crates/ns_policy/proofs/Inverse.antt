@@ -1,5 +1,8 @@
 -- What the machine takes is spelled by a tree.
-use Rattle.std.proofs.Common.{◌≡◌, ℕ, zero, suc, ◌+◌, ◌-◌, ◌<◌, ◌≤◌, List, [], ◌∷◌, ◌++◌, map, Bool, true, false, Ok, Err, refl, sym, ap, ◌∙◌, subst, arith, append_assoc, add-one, nat_lt, nat_le, ◌==◌, if◌then◌else◌, ◌⊎◌, inl, inr, codes, ◌||◌, true≢false}
+use Rattle.std.proofs.Common.{
+    ◌≡◌, ℕ, zero, suc, ◌+◌, ◌-◌, ◌<◌, ◌≤◌, List, [], ◌∷◌, ◌++◌, map, Bool, true, false, Ok, Err, refl, sym, ap, ◌∙◌,
+    subst, arith, append_assoc, add-one, nat_lt, nat_le, ◌==◌, if◌then◌else◌, ◌⊎◌, inl, inr, codes, ◌||◌, true≢false
+}
 use Rattle.std.specs.Str.{bytes_eq}
 use Rattle.std.proofs.lemmas.Slice.Eq.{bytes_eq-Decides}
 use Rattle.std.specs.Bool.{Decides}
@@ -11,8 +14,14 @@ use Rattle.ns_policy.specs.declared.parser.Place.TheVariants as Place
 use Rattle.ns_policy.specs.declared.parser.State.{State}
 use Rattle.ns_policy.specs.Lex.{Token, open_block, close_block, begin_list, end_list, comma, equals, word, string, number}
 use Rattle.ns_policy.specs.Rules.{Read, ◌>>=◌, with_policy, with_capability, pattern_of}
-use Rattle.ns_policy.specs.Grammar.{is_flag, draft_of, unless, enter, leave, named, set_policy, begin_capabilities, add_capability, plain, in_list, step, step_at, step_item, step_name, step_label, step_value, step_before, step_after, is_plain, max_lists}
-use Rattle.ns_policy.specs.Tree.{Tree, text, flag, digits, list, Trees, none, one, Item, block, attribute, Items, no_items, item, flag_word, tree_tokens, list_tokens, more_tokens, item_tokens, items_tokens, run}
+use Rattle.ns_policy.specs.Grammar.{
+    is_flag, draft_of, unless, enter, leave, named, set_policy, begin_capabilities, add_capability, plain, in_list,
+    step, step_at, step_item, step_name, step_label, step_value, step_before, step_after, is_plain, max_lists
+}
+use Rattle.ns_policy.specs.Tree.{
+    Tree, text, flag, digits, list, Trees, none, one, Item, block, attribute, Items, no_items, item, flag_word,
+    tree_tokens, list_tokens, more_tokens, item_tokens, items_tokens, run
+}
 use Rattle.ns_policy.proofs.Steps.{Post, post_bind, post_if, post_if_is, post_map}
 
 -- the tokens left where so many blocks are open: items, and after them what closes each
@@ -129,7 +138,8 @@ after_comma : (n d : ℕ) (ts us : List Token) (vs : Trees) (trailing : Bool) �
 after_comma n d ts us none trailing e l = (none, true, us, ap (λ x. comma ∷ x) e, l)
 after_comma n d ts us (one v vs) trailing e l = (one v vs, trailing, us, ap (λ x. comma ∷ x) e, l)
 
-closed : (role : Role) (n d : ℕ) (ts : List Token) → Left (if nat_lt 1 (suc n) then Place.After role (suc n - 1) else Place.Item) d ts → Narrow role n → Lists n d ts
+closed : (role : Role) (n d : ℕ) (ts : List Token) → Left (if nat_lt 1 (suc n) then Place.After role (suc n - 1) else Place.Item) d ts → Narrow role n →
+    Lists n d ts
 closed role zero d ts l narrow = l
 closed role (suc n) d ts l narrow =
     let test : nat_lt 1 (suc (suc n)) ≡ true = lt-ltb _ _ (omega arith) in
@@ -153,7 +163,8 @@ back_name s Role.Other (string l) ts = λ b. inl (label l s.depth ts b)
 back_name s Role.Other open_block ts = post_map (enter s) _ _ (λ a h b. inl (h b)) (enter_back s ts)
 back_name s _ _ ts = tt
 
-back_label : (s : State) (role : Role) (t : Token) (ts : List Token) → s.place ≡ Place.Label role → Post (step_label s role t) (Back (Place.Label role) s.depth t ts)
+back_label : (s : State) (role : Role) (t : Token) (ts : List Token) → s.place ≡ Place.Label role →
+    Post (step_label s role t) (Back (Place.Label role) s.depth t ts)
 unfolding step_label
 back_label s Role.Other (string l) ts here = λ b. label l s.depth ts (subst (λ p. Left p s.depth ts) here b)
 back_label s Role.Other open_block ts here = enter_back s ts
@@ -176,13 +187,16 @@ word_alone w d ts h b = let f = is_a_flag w h in subst (λ x. Valued d (word x �
 word_first : (w : List ℕ) (n d : ℕ) (ts : List Token) → is_flag w ≡ true → Lists (suc n) d ts → Firsts n d (word w ∷ ts)
 word_first w n d ts h l = let f = is_a_flag w h in subst (λ x. Firsts n d (word x ∷ ts)) (sym f.1) (first (flag f.0) n d ts l)
 
-plain_back : (s : State) (role : Role) (p : Place) (X : Type 0) (ts : List Token) → (Left p s.depth ts → X) → Post (plain s role p) (λ a. Left a.place a.depth ts → X)
+plain_back : (s : State) (role : Role) (p : Place) (X : Type 0) (ts : List Token) → (Left p s.depth ts → X) →
+    Post (plain s role p) (λ a. Left a.place a.depth ts → X)
 plain_back s role p X ts h = post_if (is_plain role) _ _ _ h tt
 
 back_value : (s : State) (role : Role) (t : Token) (ts : List Token) → Post (step_value s role t) (Back (Place.Value role) s.depth t ts)
 unfolding step_value set_policy begin_capabilities
-back_value s Role.Policy (string w) ts = post_bind (draft_of s) _ _ (λ d. post_bind (unless d.has_policy d) _ _ (λ e. post_bind (with_policy e.kind w e.grants) _ _ (λ g. λ b. alone (text w) s.depth ts b)))
-back_value s Role.Capabilities begin_list ts = post_bind (draft_of s) _ _ (λ d. post_bind (unless d.has_capabilities d) _ _ (λ e. λ b. list_alone s.depth ts (b refl)))
+back_value s Role.Policy (string w) ts = post_bind (draft_of s) _ _
+    (λ d. post_bind (unless d.has_policy d) _ _ (λ e. post_bind (with_policy e.kind w e.grants) _ _ (λ g. λ b. alone (text w) s.depth ts b)))
+back_value s Role.Capabilities begin_list ts = post_bind (draft_of s) _ _
+    (λ d. post_bind (unless d.has_capabilities d) _ _ (λ e. λ b. list_alone s.depth ts (b refl)))
 back_value s (Role.Block kind) (string w) ts = λ b. alone (text w) s.depth ts b
 back_value s Role.Other (string w) ts = λ b. alone (text w) s.depth ts b
 back_value s Role.Capabilities (string w) ts = tt
@@ -193,13 +207,15 @@ back_value s Role.Policy begin_list ts = tt
 back_value s role (word w) ts = post_if_is (is_flag w) _ _ _ (λ h. plain_back s role Place.Item _ ts (λ b. word_alone w s.depth ts h b)) (λ h. tt)
 back_value s role _ ts = tt
 
-in_list_back : (s : State) (role : Role) (p : Place) (X : Type 0) (ts : List Token) → (Left p s.depth ts → X) → Post (in_list s role p) (λ a. Left a.place a.depth ts → X)
+in_list_back : (s : State) (role : Role) (p : Place) (X : Type 0) (ts : List Token) → (Left p s.depth ts → X) →
+    Post (in_list s role p) (λ a. Left a.place a.depth ts → X)
 in_list_back s Role.Capabilities p X ts h = tt
 in_list_back s (Role.Block kind) p X ts h = h
 in_list_back s Role.Policy p X ts h = h
 in_list_back s Role.Other p X ts h = h
 
-end_back : (role : Role) (n d : ℕ) (ts : List Token) → Left (if nat_lt 1 (suc n) then Place.After role (suc n - 1) else Place.Item) d ts → Narrow role n → Firsts n d (end_list ∷ ts)
+end_back : (role : Role) (n d : ℕ) (ts : List Token) → Left (if nat_lt 1 (suc n) then Place.After role (suc n - 1) else Place.Item) d ts → Narrow role n →
+    Firsts n d (end_list ∷ ts)
 end_back role n d ts l narrow = (none, false, ts, refl, closed role n d ts l narrow)
 
 more_open : (role : Role) (n d : ℕ) (ts : List Token) → Narrow role (suc n) → Left (Place.Before role (suc n + 1)) d ts → Firsts n d (begin_list ∷ ts)
@@ -208,10 +224,12 @@ more_open role n d ts narrow l = first_list n d ts (subst (λ (m : ℕ). Left (P
 a_capability : (w : List ℕ) (n d : ℕ) (ts : List Token) → Lists 1 d ts → n ≡ 0 → Firsts n d (string w ∷ ts)
 a_capability w n d ts l narrow = subst (λ (m : ℕ). Firsts m d (string w ∷ ts)) (sym narrow) (first (text w) 0 d ts l)
 
-back_before : (s : State) (role : Role) (n : ℕ) (t : Token) (ts : List Token) → Post (step_before s role (suc n) t) (Back (Place.Before role (suc n)) s.depth t ts)
+back_before : (s : State) (role : Role) (n : ℕ) (t : Token) (ts : List Token) →
+    Post (step_before s role (suc n) t) (Back (Place.Before role (suc n)) s.depth t ts)
 unfolding step_before add_capability
 back_before s role n end_list ts = λ l narrow. end_back role n s.depth ts l narrow
-back_before s Role.Capabilities n (string w) ts = post_bind (draft_of s) _ _ (λ d. post_bind (with_capability d.kind w d.grants) _ _ (λ g. λ l narrow. a_capability w n s.depth ts (l refl) narrow))
+back_before s Role.Capabilities n (string w) ts =
+    post_bind (draft_of s) _ _ (λ d. post_bind (with_capability d.kind w d.grants) _ _ (λ g. λ l narrow. a_capability w n s.depth ts (l refl) narrow))
 back_before s (Role.Block kind) n (string w) ts = λ l narrow. first (text w) n s.depth ts (l narrow)
 back_before s Role.Policy n (string w) ts = λ l narrow. first (text w) n s.depth ts (l narrow)
 back_before s Role.Other n (string w) ts = λ l narrow. first (text w) n s.depth ts (l narrow)
@@ -220,7 +238,8 @@ back_before s Role.Capabilities n begin_list ts = tt
 back_before s (Role.Block kind) n begin_list ts = post_if (nat_lt (suc n) max_lists) _ _ _ (λ l narrow. more_open (Role.Block kind) n s.depth ts tt l) tt
 back_before s Role.Policy n begin_list ts = post_if (nat_lt (suc n) max_lists) _ _ _ (λ l narrow. more_open Role.Policy n s.depth ts tt l) tt
 back_before s Role.Other n begin_list ts = post_if (nat_lt (suc n) max_lists) _ _ _ (λ l narrow. more_open Role.Other n s.depth ts tt l) tt
-back_before s role n (word w) ts = post_if_is (is_flag w) _ _ _ (λ h. in_list_back s role (Place.After role (suc n)) _ ts (λ l narrow. word_first w n s.depth ts h (l narrow))) (λ h. tt)
+back_before s role n (word w) ts = post_if_is (is_flag w) _ _ _
+    (λ h. in_list_back s role (Place.After role (suc n)) _ ts (λ l narrow. word_first w n s.depth ts h (l narrow))) (λ h. tt)
 back_before s role n _ ts = tt
 
 back_after : (s : State) (role : Role) (n : ℕ) (t : Token) (ts : List Token) → Post (step_after s role (suc n) t) (Back (Place.After role (suc n)) s.depth t ts)
@@ -245,7 +264,8 @@ back s (Place.After role (suc n)) t ts here = back_after s role n t ts
 
 -- ---- runs
 
-goes : (r : Read State) (ts : List Token) (end : State) (X : Type 0) → Post r (λ a. Left a.place a.depth ts → X) → ((a : State) → run a ts ≡ Ok end → Left a.place a.depth ts) → (r >>= λ a. run a ts) ≡ Ok end → X
+goes : (r : Read State) (ts : List Token) (end : State) (X : Type 0) → Post r (λ a. Left a.place a.depth ts → X) →
+    ((a : State) → run a ts ≡ Ok end → Left a.place a.depth ts) → (r >>= λ a. run a ts) ≡ Ok end → X
 goes (Ok a) ts end X post rest h = post (rest a h)
 goes (Err e) ts end X post rest h = cc
 

@@ -18,7 +18,8 @@ use Rattle.ns_policy.proofs.Layouts.{differs}
 begins_item : (w rest : List ℕ) → first_is begins_word w ≡ true → is_json (w ++ rest) ≡ false
 begins_item [] rest first = absurd (true≢false (sym first))
 begins_item (x ∷ w) rest first =
-    rw (differs begins_word x 32 first refl, differs begins_word x 9 first refl, differs begins_word x 13 first refl, differs begins_word x 10 first refl, differs begins_word x 123 first refl) refl
+    rw (differs begins_word x 32 first refl, differs begins_word x 9 first refl, differs begins_word x 13 first refl, differs begins_word x 10 first refl,
+        differs begins_word x 123 first refl) refl
 
 a_word : (is : Items) (t : Token) (ts : List Token) (s rest : List ℕ) → t ∷ ts ≡ items_tokens is → Spells t s → is_json (s ++ rest) ≡ false
 a_word no_items t ts s rest h spells = cc
@@ -54,7 +55,8 @@ of_json s is = rw is refl
 pub of_blocks : (s : List ℕ) → is_json s ≡ false → rules_of s ≡ blocks s
 of_blocks s is = rw is refl
 
-read_ok : (r : Read (List Rule)) (s : List ℕ) → length s ≤ max_lists → Gives same r (blocks s) → IfOk r (λ rules. (is : Items) × Spelling s is × (rules_in is ≡ Ok rules))
+read_ok : (r : Read (List Rule)) (s : List ℕ) → length s ≤ max_lists → Gives same r (blocks s) →
+    IfOk r (λ rules. (is : Items) × Spelling s is × (rules_in is ≡ Ok rules))
 read_ok (Ok rules) s fits h = read_is_spelled s rules fits h
 read_ok (Err e) s fits h = tt
 

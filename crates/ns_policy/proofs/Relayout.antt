@@ -1,10 +1,16 @@
 -- A text whose tokens are read has a layout.
-use Rattle.std.proofs.Common.{◌≡◌, ℕ, zero, suc, ◌+◌, List, [], ◌∷◌, ◌++◌, drop, Bool, true, false, not, ◌&&◌, ◌||◌, ◌==◌, Option, Ok, Err, Some, None, refl, sym, ap, ◌∙◌, subst, arith, append_assoc, true≢false, if◌then◌else◌, codes}
+use Rattle.std.proofs.Common.{
+    ◌≡◌, ℕ, zero, suc, ◌+◌, List, [], ◌∷◌, ◌++◌, drop, Bool, true, false, not, ◌&&◌, ◌||◌, ◌==◌, Option, Ok, Err, Some,
+    None, refl, sym, ap, ◌∙◌, subst, arith, append_assoc, true≢false, if◌then◌else◌, codes
+}
 use Rattle.std.specs.List.{prefix_len, list_all}
 use Rattle.std.proofs.lemmas.List.{take-append-drop}
 use Rattle.std.proofs.lemmas.Bool.{eqb-true}
 use Rattle.ns_policy.specs.declared.parser.State.{State}
-use Rattle.ns_policy.specs.Lex.{Token, word, number, is_blank, is_letter, is_digit, begins_word, is_word_byte, is_string_byte, begins_with, has_template, skip, front, after, string_at, token_at}
+use Rattle.ns_policy.specs.Lex.{
+    Token, word, number, is_blank, is_letter, is_digit, begins_word, is_word_byte, is_string_byte, begins_with,
+    has_template, skip, front, after, string_at, token_at
+}
 use Rattle.ns_policy.specs.Rules.{Read, ◌>>=◌}
 use Rattle.ns_policy.specs.Grammar.{step, next, or_syntax, read_on}
 use Rattle.ns_policy.specs.Layout.{Piece, blank, comment, part, text_of, tokens_of, first_is, in_line, Spells, Apart, Layout}
@@ -39,7 +45,8 @@ front_all : (test : ℕ → Bool) (s : List ℕ) → list_all test (front test s
 front_all test [] = refl
 front_all test (x ∷ xs) = all_step test x xs (test x) refl (front_all test xs)
 
-stop_step : (test : ℕ → Bool) (x : ℕ) (xs : List ℕ) (c : Bool) → test x ≡ c → first_is test (after test xs) ≡ false → first_is test (after test (x ∷ xs)) ≡ false
+stop_step : (test : ℕ → Bool) (x : ℕ) (xs : List ℕ) (c : Bool) → test x ≡ c → first_is test (after test xs) ≡ false →
+    first_is test (after test (x ∷ xs)) ≡ false
 stop_step test x xs true e rest = ap (first_is test) (after_step test x xs e) ∙ rest
 stop_step test x xs false e rest = ap (first_is test) (after_none test x xs e) ∙ e
 
@@ -87,17 +94,20 @@ string_backs x s e =
     (λ c. let p = both (begins_with 34 (after is_string_byte s)) (not (has_template (front is_string_byte s))) c in
     let w = front is_string_byte s in
     let rest = drop 1 (after is_string_byte s) in
-    let tail : s ≡ (w ++ 34 ∷ []) ++ rest = parts is_string_byte s ∙ ap (λ us. w ++ us) (quoted (after is_string_byte s) p.0) ∙ sym (append_assoc w (34 ∷ []) rest) in
+    let tail : s ≡ (w ++ 34 ∷ []) ++ rest = parts is_string_byte s ∙ ap (λ us. w ++ us) (quoted (after is_string_byte s) p.0) ∙
+        sym (append_assoc w (34 ∷ []) rest) in
     (34 ∷ (w ++ 34 ∷ []), first_byte x 34 s e ∙ ap (λ us. 34 ∷ us) tail, (refl, front_all is_string_byte s, not_true (has_template w) p.1), tt))
     (λ c. tt)
 
 word_backs : (x : ℕ) (xs : List ℕ) → begins_word x ≡ true → Backs (x ∷ xs) (Some (word (front is_word_byte (x ∷ xs)), after is_word_byte (x ∷ xs)))
 word_backs x xs e =
-    (front is_word_byte (x ∷ xs), parts is_word_byte (x ∷ xs), (refl, ap (first_is begins_word) (front_step is_word_byte x xs (begins_is_word x e)) ∙ e, front_all is_word_byte (x ∷ xs)), after_stops is_word_byte (x ∷ xs))
+    (front is_word_byte (x ∷ xs), parts is_word_byte (x ∷ xs), (refl, ap (first_is begins_word) (front_step is_word_byte x xs (begins_is_word x e)) ∙
+        e, front_all is_word_byte (x ∷ xs)), after_stops is_word_byte (x ∷ xs))
 
 number_backs : (x : ℕ) (xs : List ℕ) → is_digit x ≡ true → Backs (x ∷ xs) (Some (number, after is_digit (x ∷ xs)))
 number_backs x xs e =
-    (front is_digit (x ∷ xs), parts is_digit (x ∷ xs), (ap (first_is is_digit) (front_step is_digit x xs e) ∙ e, front_all is_digit (x ∷ xs)), after_stops is_digit (x ∷ xs))
+    (front is_digit (x ∷ xs), parts is_digit (x ∷ xs), (ap (first_is is_digit) (front_step is_digit x xs e) ∙ e, front_all is_digit (x ∷ xs)),
+        after_stops is_digit (x ∷ xs))
 
 token_backs : (xs : List ℕ) → Backs xs (token_at xs)
 unfolding token_at
@@ -119,9 +129,11 @@ abbrev Regap : List Piece → List ℕ → Type 0
 Regap ps s = (qs : List Piece) × Layout qs × (s ≡ text_of qs) × (tokens_of qs ≡ tokens_of ps)
 
 abbrev Reline : List Piece → List ℕ → Type 0
-Reline ps s = (line : List ℕ) × (qs : List Piece) × (list_all in_line line ≡ true) × (first_is in_line (text_of qs) ≡ false) × Layout qs × (s ≡ line ++ text_of qs) × (tokens_of qs ≡ tokens_of ps)
+Reline ps s = (line : List ℕ) × (qs : List Piece) × (list_all in_line line ≡ true) × (first_is in_line (text_of qs) ≡ false) × Layout qs ×
+    (s ≡ line ++ text_of qs) × (tokens_of qs ≡ tokens_of ps)
 
-line_step : (x : ℕ) (xs : List ℕ) (ps : List Piece) (c : Bool) → (x == 10) ≡ c → skip (not c) xs ≡ text_of ps → (skip false xs ≡ text_of ps → Regap ps xs) → (skip true xs ≡ text_of ps → Reline ps xs) → Reline ps (x ∷ xs)
+line_step : (x : ℕ) (xs : List ℕ) (ps : List Piece) (c : Bool) → (x == 10) ≡ c → skip (not c) xs ≡ text_of ps → (skip false xs ≡ text_of ps → Regap ps xs) →
+    (skip true xs ≡ text_of ps → Reline ps xs) → Reline ps (x ∷ xs)
 line_step x xs ps true e h gap line =
     let r = gap h in
     let ends : is_blank x ≡ true = ap is_blank (eqb-true x 10 e) in
@@ -139,7 +151,8 @@ no_line (y ∷ ys) us b e f A =
     let one : in_line y ≡ true = ap in_line (eqb-true y 47 b) in
     absurd (true≢false (sym one ∙ ap (first_is in_line) e ∙ f))
 
-slashed_line : (x : ℕ) (xs : List ℕ) (ps : List Piece) → (x == 47) ≡ true → begins_with 47 xs ≡ true → (line : List ℕ) (qs : List Piece) → list_all in_line line ≡ true → first_is in_line (text_of qs) ≡ false → Layout qs → xs ≡ line ++ text_of qs → tokens_of qs ≡ tokens_of ps → Regap ps (x ∷ xs)
+slashed_line : (x : ℕ) (xs : List ℕ) (ps : List Piece) → (x == 47) ≡ true → begins_with 47 xs ≡ true → (line : List ℕ) (qs : List Piece) →
+    list_all in_line line ≡ true → first_is in_line (text_of qs) ≡ false → Layout qs → xs ≡ line ++ text_of qs → tokens_of qs ≡ tokens_of ps → Regap ps (x ∷ xs)
 slashed_line x xs ps e b [] qs all stop laid is same = no_line xs (text_of qs) b is stop _
 slashed_line x xs ps e b (z ∷ line) qs all stop laid is same =
     let p = both (in_line z) (list_all in_line line) all in
@@ -152,7 +165,8 @@ slashed x xs ps e b r = slashed_line x xs ps e b r.0 r.1 r.2 r.3 r.4 r.5 r.6
 spaced : (x : ℕ) (xs : List ℕ) (ps : List Piece) → is_blank x ≡ true → Regap ps xs → Regap ps (x ∷ xs)
 spaced x xs ps b r = (blank x ∷ r.0, (b, r.1), ap (λ us. x ∷ us) r.2, r.3)
 
-gap_step : (x : ℕ) (xs : List ℕ) (ps : List Piece) → Layout ps → (hash slash next space : Bool) → (x == 35) ≡ hash → (x == 47) ≡ slash → begins_with 47 xs ≡ next → is_blank x ≡ space
+gap_step : (x : ℕ) (xs : List ℕ) (ps : List Piece) → Layout ps → (hash slash next space : Bool) → (x == 35) ≡ hash → (x == 47) ≡ slash →
+    begins_with 47 xs ≡ next → is_blank x ≡ space
     → (if hash || (slash && next) then skip true xs else if space then skip false xs else x ∷ xs) ≡ text_of ps
     → (skip false xs ≡ text_of ps → Regap ps xs) → (skip true xs ≡ text_of ps → Reline ps xs) → Regap ps (x ∷ xs)
 gap_step x xs ps laid true slash next space e f g b h gap line = hashed x xs ps e (line h)
@@ -167,7 +181,8 @@ mutual
 
   regap : (s : List ℕ) (ps : List Piece) → Layout ps → skip false s ≡ text_of ps → Regap ps s
   regap [] ps laid h = (ps, laid, h, refl)
-  regap (x ∷ xs) ps laid h = gap_step x xs ps laid (x == 35) (x == 47) (begins_with 47 xs) (is_blank x) refl refl refl refl h (λ k. regap xs ps laid k) (λ k. reline xs ps laid k)
+  regap (x ∷ xs) ps laid h = gap_step x xs ps laid (x == 35) (x == 47) (begins_with 47 xs) (is_blank x) refl refl refl refl h (λ k. regap xs ps laid k)
+      (λ k. reline xs ps laid k)
 
   reline : (s : List ℕ) (ps : List Piece) → Layout ps → skip true s ≡ text_of ps → Reline ps s
   reline [] ps laid h = ([], ps, refl, ap (first_is in_line) (sym h), laid, h, refl)
@@ -178,7 +193,8 @@ mutual
 abbrev pub Laid : List ℕ → Type 0
 Laid s = (ps : List Piece) × Layout ps × (s ≡ text_of ps)
 
-after_token : (xs : List ℕ) (n : ℕ) (s end : State) (t : Token) (us : List ℕ) (r : Read State) (sp : List ℕ) → xs ≡ sp ++ us → Spells t sp → Apart t us → (r >>= λ a. read_on n a (skip false us)) ≡ Ok end
+after_token : (xs : List ℕ) (n : ℕ) (s end : State) (t : Token) (us : List ℕ) (r : Read State) (sp : List ℕ) → xs ≡ sp ++ us → Spells t sp → Apart t us →
+    (r >>= λ a. read_on n a (skip false us)) ≡ Ok end
     → ((vs : List ℕ) (a : State) → read_on n a vs ≡ Ok end → Laid vs) → Laid xs
 after_token xs n s end t us (Err e) sp is spells apart h rest = cc
 after_token xs n s end t us (Ok a) sp is spells apart h rest =
@@ -186,7 +202,8 @@ after_token xs n s end t us (Ok a) sp is spells apart h rest =
     let r = regap us l.0 l.1 l.2 in
     (part t sp ∷ r.0, ((spells, subst (Apart t) r.2 apart), r.1), is ∙ ap (λ vs. sp ++ vs) r.2)
 
-then_laid : (xs : List ℕ) (n : ℕ) (s end : State) (r : Option (Token × List ℕ)) → Backs xs r → (or_syntax r >>= λ t. step s t.0 >>= λ a. read_on n a (skip false t.1)) ≡ Ok end
+then_laid : (xs : List ℕ) (n : ℕ) (s end : State) (r : Option (Token × List ℕ)) → Backs xs r →
+    (or_syntax r >>= λ t. step s t.0 >>= λ a. read_on n a (skip false t.1)) ≡ Ok end
     → ((us : List ℕ) (a : State) → read_on n a us ≡ Ok end → Laid us) → Laid xs
 then_laid xs n s end None b h rest = cc
 then_laid xs n s end (Some p) b h rest = after_token xs n s end p.0 p.1 (step s p.0) b.0 b.1 b.2 b.3 h rest

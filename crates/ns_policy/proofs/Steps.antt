@@ -79,11 +79,15 @@ pub add_placed : (s : State) (w : List ℕ) → Placed (Place.After Role.Capabil
 unfolding add_capability
 add_placed s w = post_bind (draft_of s) _ _ (λ d. post_bind (with_capability d.kind w d.grants) _ _ (λ g. refl))
 
-broken : {A : Type 0} (c : Bool) (x : Pattern) (k : Pattern → State) (f : State → Read A) → ((p : Pattern) → f (k p) ≡ Err Value) → (((if c then Ok x else Err Value) >>= λ p. Ok (k p)) >>= f) ≡ Err Value
+broken : {A : Type 0} (c : Bool) (x : Pattern) (k : Pattern → State) (f : State → Read A) → ((p : Pattern) → f (k p) ≡ Err Value) →
+    (((if c then Ok x else Err Value) >>= λ p. Ok (k p)) >>= f) ≡ Err Value
 broken true x k f h = h x
 broken false x k f h = refl
 
 -- a pattern is only broken by a value
-pub pattern_fault : {A : Type 0} (s : State) (kind : RuleKind) (l : List ℕ) (f : State → Read A) → ((a : State) → f (at a (Place.Label (Role.Block kind))) ≡ Err Value) → (named s kind l >>= f) ≡ Err Value
+pub pattern_fault : {A : Type 0} (s : State) (kind : RuleKind) (l : List ℕ) (f : State → Read A) →
+    ((a : State) → f (at a (Place.Label (Role.Block kind))) ≡ Err Value) → (named s kind l >>= f) ≡ Err Value
 unfolding named pattern_of
-pattern_fault s kind l f h = broken _ _ _ f (λ p. h (record s { draft = Some (record { kind = kind; pattern = p; grants = no_grants; has_policy = false; has_capabilities = false }); place = Place.Label (Role.Block kind) }))
+pattern_fault s kind l f h = broken _ _ _ f (λ p. h
+    (record s { draft = Some (record { kind = kind; pattern = p; grants = no_grants; has_policy = false; has_capabilities = false }); place =
+    Place.Label (Role.Block kind) }))

@@ -12,7 +12,8 @@ SpelledTokensAreRead = (is : Items) → length (items_tokens is) ≤ max_lists �
 
 -- tokens that are read spell items that mean it
 abbrev pub ReadTokensAreSpelled : Type 0
-ReadTokensAreSpelled = (ts : List Token) (rules : List Rule) → length ts ≤ max_lists → read_tokens ts ≡ Ok rules → (is : Items) × (ts ≡ items_tokens is) × (rules_in is ≡ Ok rules)
+ReadTokensAreSpelled = (ts : List Token) (rules : List Rule) → length ts ≤ max_lists → read_tokens ts ≡ Ok rules →
+    (is : Items) × (ts ≡ items_tokens is) × (rules_in is ≡ Ok rules)
 
 -- a text that spells items: their tokens, with blanks and comments between
 abbrev pub Spelling : List ℕ → Items → Type 0
@@ -24,4 +25,5 @@ SpelledIsRead = (s : List ℕ) (is : Items) → length s ≤ max_lists → Spell
 
 -- a text that is read is one of items that mean it
 abbrev pub ReadIsSpelled : Type 0
-ReadIsSpelled = (s : List ℕ) (rules : List Rule) → length s ≤ max_lists → blocks s ≡ Ok rules → (is : Items) × Spelling s is × (rules_in is ≡ Ok rules)
+ReadIsSpelled = (s : List ℕ) (rules : List Rule) → length s ≤ max_lists → blocks s ≡ Ok rules → (is : Items) ×
+    Spelling s is × (rules_in is ≡ Ok rules)

@@ -29,7 +29,8 @@ module _ (m : FinMap name_cmp (Option Resources)) (v : ByName Resources) (view :
   total_at x e = ap (λ v. unwrap_or (get v k) none) (sym view) ∙ ap (λ x. unwrap_or x none) (get-rows names m k ∙ e)
 
   written : (n : FinMap name_cmp (Option Resources)) (x : Resources) → rows n ≡ insert v k x → SetsTotal k x v (rows n)
-  written n x e other = ap (λ r. unwrap_or (get r other) none) e ∙ ap (λ r. unwrap_or r none) (get-insert names v k x other) ∙ set_by (eq_by_cmp name_cmp other k) x (get v other)
+  written n x e other = ap (λ r. unwrap_or (get r other) none) e ∙ ap (λ r. unwrap_or r none) (get-insert names v k x other) ∙
+      set_by (eq_by_cmp name_cmp other k) x (get v other)
 
   -- a total in a slot that was made for it
   pub set_new : (l n : FinMap name_cmp (Option Resources)) (x : Resources) → l ≡ with_slot m k → n ≡ insert l k (Some x) → SetsTotal k x v (rows n)

@@ -11,4 +11,5 @@ total_of totals quota = unwrap_or (get totals quota) none
 
 -- the quota's total is this one afterwards, and every other quota's is as before
 abbrev pub SetsTotal : Name → Resources → ByName Resources → ByName Resources → Type 0
-SetsTotal quota total old new = (other : Name) → total_of new other ≡ (if same_name other quota then total else total_of old other)
+SetsTotal quota total old new = (other : Name) →
+    total_of new other ≡ (if same_name other quota then total else total_of old other)

@@ -7,7 +7,10 @@ use Rattle.ns_types.specs.declared.records.Namespace.{Namespace}
 use Rattle.ns_types.specs.declared.records.Pool.{Pool}
 use Rattle.ns_types.specs.declared.refusal.Refusal.{Refusal}
 use Rattle.ns_types.specs.declared.refusal.Refusal.TheVariants as Refusal
-use Rattle.ns_types.specs.Asking.Admins.{delete_namespace, delete_pool, delete_quota, has_live, has_open, put_namespace, put_pool_record, with_namespace, with_pool}
+use Rattle.ns_types.specs.Asking.Admins.{
+    delete_namespace, delete_pool, delete_quota, has_live, has_open, put_namespace, put_pool_record, with_namespace,
+    with_pool
+}
 use Rattle.ns_types.specs.Settling.Making.{put_tenant}
 use Rattle.ns_types.specs.State.Names.{Name, ByName, name_cmp}
 use Rattle.ns_types.specs.Settling.Outcome.{Outcome, NotEnabled, Refused, Done, found, unless}
@@ -64,7 +67,8 @@ Leaves w NotEnabled = Unit {0}
 Leaves w (Refused refusal) = is_of_step refusal ≡ true
 Leaves w (Done content w') = Rests w w' × KeepsQuotas w w'
 
-leaves_unless : (w : World) (b : Bool) (refusal : Refusal) (rest : Outcome World) → is_of_step refusal ≡ true → (b ≡ false → Leaves w rest) → Leaves w (unless b refusal rest)
+leaves_unless : (w : World) (b : Bool) (refusal : Refusal) (rest : Outcome World) → is_of_step refusal ≡ true → (b ≡ false → Leaves w rest) →
+    Leaves w (unless b refusal rest)
 unfolding unless
 leaves_unless w true refusal rest named h = named
 leaves_unless w false refusal rest named h = h refl
@@ -87,9 +91,11 @@ module _ (w : World) where
 
     put_tenant_rests : Rests w (put_tenant name (with_namespace namespace (get w.tenants name)) w)
     put_tenant_rests = record {
-      tenant = λ ns t' is. ⊎_elim (λ own. subst (λ x. IsTenantOf (get w.tenants ns) x) (sym own.1) (subst (λ n. IsTenantOf (get w.tenants n) (with_namespace namespace (get w.tenants name))) (sym own.0) (is_of (get w.tenants name))))
+      tenant = λ ns t' is. ⊎_elim (λ own. subst (λ x. IsTenantOf (get w.tenants ns) x) (sym own.1)
+          (subst (λ n. IsTenantOf (get w.tenants n) (with_namespace namespace (get w.tenants name))) (sym own.0) (is_of (get w.tenants name))))
           (same_tenant w ns t') (put_cases names one_name w.tenants name (with_namespace namespace (get w.tenants name)) ns t' is);
-      gone = λ ns t is none. not_both (stays names one_name w.tenants name (with_namespace namespace (get w.tenants name)) ns (ap is_some is)) (ap is_some none);
+      gone = λ ns t is none. not_both (stays names one_name w.tenants name (with_namespace namespace (get w.tenants name)) ns (ap is_some is))
+          (ap is_some none);
       pool = same_pool w;
       ready = refl;
       plans = refl;
@@ -98,20 +104,26 @@ module _ (w : World) where
 
     pub put_namespace_leaves : Leaves w (put_namespace name namespace w)
     unfolding put_namespace
-    put_namespace_leaves = leaves_unless w _ _ _ refl (λ _. leaves_unless w _ _ _ refl (λ _. leaves_unless w _ _ _ refl (λ _. leaves_unless w _ _ _ refl (λ _. leaves_unless w _ _ _ refl (λ _. (put_tenant_rests, λ name q is. is))))))
+    put_namespace_leaves = leaves_unless w _ _ _ refl
+        (λ _. leaves_unless w _ _ _ refl (λ _. leaves_unless w _ _ _ refl
+        (λ _. leaves_unless w _ _ _ refl (λ _. leaves_unless w _ _ _ refl (λ _. (put_tenant_rests, λ name q is. is))))))
 
   pub delete_namespace_leaves : (name : Name) → Leaves w (delete_namespace name w)
   unfolding delete_namespace
-  delete_namespace_leaves name = leaves_found w (get w.tenants name) _ (λ t is. leaves_unless w _ _ _ refl (λ _. leaves_unless w _ _ _ refl (λ empty. (rests t is empty, λ name q is. is))))
+  delete_namespace_leaves name = leaves_found w (get w.tenants name) _
+      (λ t is. leaves_unless w _ _ _ refl (λ _. leaves_unless w _ _ _ refl (λ empty. (rests t is empty, λ name q is. is))))
     where
-      rests : (t : Tenant) → get w.tenants name ≡ Some t → (any_row (λ _ job. true) t.jobs || has_open t || has_live t) ≡ false → Rests w (record w { tenants = remove w.tenants name })
+      rests : (t : Tenant) → get w.tenants name ≡ Some t → (any_row (λ _ job. true) t.jobs || has_open t || has_live t) ≡ false →
+          Rests w (record w { tenants = remove w.tenants name })
       rests t is empty = record {
         tenant = λ ns t' at. same_tenant w ns t' (left w.tenants name ns t' at);
         gone = λ ns x at none.
             let same : x ≡ t = same_Some x t (sym at ∙ ap (get w.tenants) (taken w.tenants name ns x at none) ∙ is) in
             subst HasNothingOpen (sym same) (record {
-              closed = λ n e there. none_of_any one_number (λ _ e. is_open e.status) t.evaluations n e (right_none (any_row (λ _ job. true) t.jobs) (has_open t) (left_none _ (has_live t) empty)) there;
-              ended = λ n a there. none_of_any one_number (λ _ a. is_live a) t.allocations n a (right_none (any_row (λ _ job. true) t.jobs || has_open t) (has_live t) empty) there;
+              closed = λ n e there. none_of_any one_number (λ _ e. is_open e.status) t.evaluations n e
+                  (right_none (any_row (λ _ job. true) t.jobs) (has_open t) (left_none _ (has_live t) empty)) there;
+              ended = λ n a there. none_of_any one_number (λ _ a. is_live a) t.allocations n a
+                  (right_none (any_row (λ _ job. true) t.jobs || has_open t) (has_live t) empty) there;
             });
         pool = same_pool w;
         ready = refl;
@@ -122,7 +134,8 @@ module _ (w : World) where
   pub delete_quota_leaves : (name : Name) → Leaves w (delete_quota name w)
   unfolding delete_quota
   delete_quota_leaves name = leaves_found w (get w.quotas name) _ (λ q is. leaves_unless w _ _ _ refl (λ _.
-      (record { tenant = same_tenant w; gone = none_gone w; pool = same_pool w; ready = refl; plans = refl; blocked = refl }, λ other x at. left w.quotas name other x at)))
+      (record { tenant = same_tenant w; gone = none_gone w; pool = same_pool w; ready = refl; plans = refl; blocked = refl }, λ other x at.
+          left w.quotas name other x at)))
 
   module _ (name : Name) (pool : Pool) where
     is_of_pool : (o : Option PoolRows) → IsPoolOf o (with_pool pool o)
@@ -135,7 +148,8 @@ module _ (w : World) where
       record {
         tenant = same_tenant w;
         gone = none_gone w;
-        pool = λ other p' is. ⊎_elim (λ own. subst (λ x. IsPoolOf (get w.pools other) x) (sym own.1) (subst (λ n. IsPoolOf (get w.pools n) (with_pool pool (get w.pools name))) (sym own.0) (is_of_pool (get w.pools name))))
+        pool = λ other p' is. ⊎_elim (λ own. subst (λ x. IsPoolOf (get w.pools other) x) (sym own.1)
+            (subst (λ n. IsPoolOf (get w.pools n) (with_pool pool (get w.pools name))) (sym own.0) (is_of_pool (get w.pools name))))
             (same_pool w other p') (put_cases names one_name w.pools name (with_pool pool (get w.pools name)) other p' is);
         ready = refl;
         plans = refl;
@@ -147,7 +161,8 @@ module _ (w : World) where
   pub delete_pool_leaves : (name : Name) → Leaves w (delete_pool name w)
   unfolding delete_pool
   delete_pool_leaves name = leaves_found w (get w.pools name) _ (λ p is. leaves_unless w _ _ _ refl (λ _. leaves_unless w _ _ _ refl (λ _.
-      (record { tenant = same_tenant w; gone = none_gone w; pool = λ other p' at. same_pool w other p' (left w.pools name other p' at); ready = refl; plans = refl; blocked = refl }, λ name q is. is))))
+      (record { tenant = same_tenant w; gone = none_gone w; pool = λ other p' at. same_pool w other p' (left w.pools name other p' at); ready = refl; plans =
+          refl; blocked = refl }, λ name q is. is))))
 
   pub put_quota_rests : (name : Name) (q : QuotaRows) → Rests w (record w { quotas = insert w.quotas name q })
   put_quota_rests name q = record { tenant = same_tenant w; gone = none_gone w; pool = same_pool w; ready = refl; plans = refl; blocked = refl }

@@ -88,7 +88,8 @@ same_attribute_refl : (a : Attribute) → eq_by_cmp attribute_cmp a a ≡ true
 same_attribute_refl a = (λ i. is_eq (ordering_then (tied_itself names a.key i) (name_cmp a.value a.value))) ∙ same_name_refl a.value
 
 pub same_offer_refl : (o : Offer) → same_offer o o ≡ true
-same_offer_refl o = and_true (and_true (same_name_refl o.class) (pointwise_refl (eq_by_cmp attribute_cmp) same_attribute_refl o.attributes)) (same_resources_refl o.capacity)
+same_offer_refl o = and_true (and_true (same_name_refl o.class) (pointwise_refl (eq_by_cmp attribute_cmp) same_attribute_refl o.attributes))
+    (same_resources_refl o.capacity)
 
 same_limit_refl : (l : Limit) → same_limit l l ≡ true
 same_limit_refl Unlimited = refl

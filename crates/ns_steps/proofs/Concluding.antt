@@ -12,7 +12,10 @@ use Rattle.ns_types.specs.declared.step.AdminCommand.{AdminCommand}
 use Rattle.ns_types.specs.declared.step.AdminCommand.TheVariants as AdminCommand
 use Rattle.ns_types.specs.declared.step.NodeCommand.TheVariants as NodeCommand
 use Rattle.ns_types.specs.declared.step.Step.TheVariants as Step
-use Rattle.ns_types.specs.Asking.Policies.{administer, create_token, delete_policy, delete_token, in_world, may_administer, put_policy, read_policy, with_acl, with_world}
+use Rattle.ns_types.specs.Asking.Policies.{
+    administer, create_token, delete_policy, delete_token, in_world, may_administer, put_policy, read_policy, with_acl,
+    with_world
+}
 use Rattle.ns_types.specs.Asking.Admins.{is_full, put_quota, read_quota, with_quota}
 use Rattle.ns_types.specs.State.Names.{Name}
 use Rattle.ns_types.specs.Asking.Nodes.{read_pool, ask_pool}
@@ -29,7 +32,10 @@ use Rattle.ns_types.proofs.Named.{names, one_name}
 use Rattle.ns_types.proofs.Tables.{any_row-none, map_rows_idle, none_of_any}
 use Rattle.ns_steps.specs.Administered.{IsCalm, plain, relimited, relimited_state}
 use Rattle.ns_steps.specs.Early.{IsEarly}
-use Rattle.ns_steps.proofs.Administering.{KeepsQuotas, Leaves, is_of_step, delete_namespace_leaves, delete_pool_leaves, delete_quota_leaves, nothing_changes, put_namespace_leaves, put_pool_leaves, put_quota_rests}
+use Rattle.ns_steps.proofs.Administering.{
+    KeepsQuotas, Leaves, is_of_step, delete_namespace_leaves, delete_pool_leaves, delete_quota_leaves, nothing_changes,
+    put_namespace_leaves, put_pool_leaves, put_quota_rests
+}
 use Rattle.ns_steps.proofs.Alike.{same_limits_refl}
 use Rattle.ns_steps.proofs.Registering.{all_within}
 use Rattle.ns_steps.proofs.Resting.{Rests, rests_early, rests_settled, settled_quotas}
@@ -92,7 +98,8 @@ calm_leaves secret (AdminCommand.ReadPolicy name) s calm = acl_leaves s (read_po
 calm_leaves secret (AdminCommand.PutPolicy name policy) s calm = acl_leaves s (put_policy name policy s.acl) (named_unless _ _ _ refl tt)
 calm_leaves secret (AdminCommand.DeletePolicy name) s calm = acl_leaves s (delete_policy name s.acl) (named_found (get s.acl.policies name) _ (λ policy. tt))
 calm_leaves secret (AdminCommand.CreateToken new) s calm = acl_leaves s (create_token new s.acl) (named_unless _ _ _ refl (named_unless _ _ _ refl tt))
-calm_leaves secret (AdminCommand.DeleteToken accessor) s calm = acl_leaves s (delete_token accessor s.acl) (named_found _ _ (λ token. named_unless _ _ _ refl tt))
+calm_leaves secret (AdminCommand.DeleteToken accessor) s calm =
+    acl_leaves s (delete_token accessor s.acl) (named_found _ _ (λ token. named_unless _ _ _ refl tt))
 
 -- ---- what a step answers
 
@@ -102,19 +109,22 @@ module _ (s : State) (secret : Option Name) (command : AdminCommand) where
   admin_denied denied = ap (λ b. cond b (concluded (Step.Admin secret command) s (act (Step.Admin secret command) s)) (said (Err Refusal.Denied) s)) denied
 
   module _ (allowed : may_administer s.acl secret command ≡ true) where
-    pub admin_concludes : (o : Outcome State) → administer secret command s ≡ o → after (Step.Admin secret command) s ≡ concluded (Step.Admin secret command) s o
+    pub admin_concludes : (o : Outcome State) → administer secret command s ≡ o →
+        after (Step.Admin secret command) s ≡ concluded (Step.Admin secret command) s o
     unfolding after act
     admin_concludes o is = ap (λ b. cond b (concluded (Step.Admin secret command) s (administer secret command s)) (said (Err Refusal.Denied) s)) allowed
         ∙ ap (concluded (Step.Admin secret command) s) is
 
     -- where the settled world passes no bound
-    pub admin_done : (content : Content) (s' : State) (w : World) → administer secret command s ≡ Done content s' → settle s.world s'.world ≡ w → is_past_bound w ≡ false
+    pub admin_done : (content : Content) (s' : State) (w : World) → administer secret command s ≡ Done content s' → settle s.world s'.world ≡ w →
+        is_past_bound w ≡ false
         → after (Step.Admin secret command) s ≡ said (Ok (record { index = None; content = content })) (record s' { world = w })
     admin_done content s' w is settles within = admin_concludes (Done content s') is
         ∙ ap (λ x. concluded_with (Step.Admin secret command) s content (record s' { world = x })) settles
         ∙ ap (λ b. cond b (said (Err Refusal.Full) s) (said (Ok (record { index = None; content = content })) (record s' { world = w }))) within
 
-    pub admin_over : (content : Content) (s' : State) (w : World) → administer secret command s ≡ Done content s' → settle s.world s'.world ≡ w → is_past_bound w ≡ true
+    pub admin_over : (content : Content) (s' : State) (w : World) → administer secret command s ≡ Done content s' → settle s.world s'.world ≡ w →
+        is_past_bound w ≡ true
         → after (Step.Admin secret command) s ≡ said (Err Refusal.Full) s
     admin_over content s' w is settles over = admin_concludes (Done content s') is
         ∙ ap (λ x. concluded_with (Step.Admin secret command) s content (record s' { world = x })) settles
@@ -130,22 +140,28 @@ quotas_rest w w' keeps name q is = ap (λ o. after_quota_release (option_map_or 
 module _ (s s' : State) (rests : Rests s.world s'.world) (keeps : KeepsQuotas s.world s'.world) (early : IsEarly s.world) where
   calm_settles : settle s.world s'.world ≡ s'.world
   unfolding settled_quotas
-  calm_settles = rests_settled s.world s'.world rests early.blocked ∙ (λ i. record s'.world { quotas = map_rows_idle names one_name _ s'.world.quotas (quotas_rest s.world s'.world keeps) i })
+  calm_settles = rests_settled s.world s'.world rests early.blocked ∙
+      (λ i. record s'.world { quotas = map_rows_idle names one_name _ s'.world.quotas (quotas_rest s.world s'.world keeps) i })
 
   calm_early : IsEarly s'.world
   calm_early = rests_early s.world s'.world rests early
-      (any_row-none names one_name _ s'.world.quotas (λ name q is. none_of_any one_name (λ _ q. nat_lt greatest q.release) s.world.quotas name q (all_within s.world early.within).2 (keeps name q is)))
+      (any_row-none names one_name _ s'.world.quotas
+          (λ name q is. none_of_any one_name (λ _ q. nat_lt greatest q.release) s.world.quotas name q (all_within s.world early.within).2 (keeps name q is)))
 
-module _ (s : State) (secret : Option Name) (command : AdminCommand) (allowed : may_administer s.acl secret command ≡ true) (early : IsEarly s.world) (calm : IsCalm command) where
-  refuses_so : (refusal : Refusal) (s' : State) → administer secret command s ≡ Refused refusal → s' ≡ s → Makes (Step.Admin secret command) s (Err refusal) s' × IsEarly s'.world
-  refuses_so refusal s' is same = (by refusal (subst (LeavesState s) is (calm_leaves secret command s calm)) (admin_concludes s secret command allowed (Refused refusal) is), subst (λ x. IsEarly x.world) (sym same) early)
+module _ (s : State) (secret : Option Name) (command : AdminCommand) (allowed : may_administer s.acl secret command ≡ true) (early : IsEarly s.world)
+    (calm : IsCalm command) where
+  refuses_so : (refusal : Refusal) (s' : State) → administer secret command s ≡ Refused refusal → s' ≡ s → Makes (Step.Admin secret command) s (Err refusal) s'
+      × IsEarly s'.world
+  refuses_so refusal s' is same = (by refusal (subst (LeavesState s) is (calm_leaves secret command s calm))
+      (admin_concludes s secret command allowed (Refused refusal) is), subst (λ x. IsEarly x.world) (sym same) early)
     where
       by : (r : Refusal) → is_of_step r ≡ true → after (Step.Admin secret command) s ≡ said (Err r) s → Makes (Step.Admin secret command) s (Err r) s'
       by Refusal.NotEnabled named e = not_both named refl
       by Refusal.Memory named e = same
       by _ named e = (e, same)
 
-  pub admin_makes : (result : Result Content Refusal) (s' : State) → Changes (administer secret command s) s result s' → Makes (Step.Admin secret command) s (plain result) s' × IsEarly s'.world
+  pub admin_makes : (result : Result Content Refusal) (s' : State) → Changes (administer secret command s) s result s' →
+      Makes (Step.Admin secret command) s (plain result) s' × IsEarly s'.world
   admin_makes (Ok content) s' is =
       let left : Rests s.world s'.world × KeepsQuotas s.world s'.world = subst (LeavesState s) is (calm_leaves secret command s calm) in
       let stays : IsEarly s'.world = calm_early s s' left.0 left.1 early in
@@ -157,7 +173,8 @@ module _ (s : State) (secret : Option Name) (command : AdminCommand) (allowed : 
       by r h = refuses_so r s' h.0 h.1
 
 -- whatever it answers, it leaves all but records alone
-pub admin_rests : (s : State) (secret : Option Name) (command : AdminCommand) → IsCalm command → (result : Result Content Refusal) (s' : State) → Changes (administer secret command s) s result s' → Rests s.world s'.world
+pub admin_rests : (s : State) (secret : Option Name) (command : AdminCommand) → IsCalm command → (result : Result Content Refusal) (s' : State) →
+    Changes (administer secret command s) s result s' → Rests s.world s'.world
 admin_rests s secret command calm (Ok content) s' is =
     let left : Rests s.world s'.world × KeepsQuotas s.world s'.world = subst (LeavesState s) is (calm_leaves secret command s calm) in
     left.0
@@ -177,10 +194,12 @@ module _ (s : State) (name : Name) (quota : Quota) where
   put_rests = put_quota_rests s.world name (with_quota quota (get s.world.quotas name))
 
   released_as : (o : Option QuotaRows) → get s.world.quotas name ≡ o
-      → after_quota_release (option_map_or (λ old. changes_limits old (with_quota quota (get s.world.quotas name))) (get s.world.quotas name) false) (with_quota quota (get s.world.quotas name)) ≡ relimited s.world name quota
+      → after_quota_release (option_map_or (λ old. changes_limits old (with_quota quota (get s.world.quotas name))) (get s.world.quotas name) false)
+          (with_quota quota (get s.world.quotas name)) ≡ relimited s.world name quota
   released_as None is = (λ i. after_quota_release (option_map_or (λ old. changes_limits old (with_quota quota (is i))) (is i) false) (with_quota quota (is i)))
       ∙ sym (λ i. after_quota_release (option_map_or (λ old. changes_limits old (with_quota quota (Some old))) (is i) false) (with_quota quota (is i)))
-  released_as (Some old) is = (λ i. after_quota_release (option_map_or (λ old. changes_limits old (with_quota quota (is i))) (is i) false) (with_quota quota (is i)))
+  released_as (Some old) is = (λ i. after_quota_release (option_map_or (λ old. changes_limits old (with_quota quota (is i))) (is i) false)
+      (with_quota quota (is i)))
       ∙ sym (λ i. after_quota_release (option_map_or (λ old. changes_limits old (with_quota quota (Some old))) (is i) false) (with_quota quota (is i)))
 
   module _ (early : IsEarly s.world) where
@@ -188,7 +207,8 @@ module _ (s : State) (name : Name) (quota : Quota) where
     unfolding settled_quotas
     quota_settles = rests_settled s.world put_world put_rests early.blocked ∙ (λ i. record s.world { quotas = rows i })
       where
-        rows : map_rows (λ k q. after_quota_release (option_map_or (λ old. changes_limits old q) (get s.world.quotas k) false) q) (insert s.world.quotas name (with_quota quota (get s.world.quotas name)))
+        rows : map_rows (λ k q. after_quota_release (option_map_or (λ old. changes_limits old q) (get s.world.quotas k) false) q)
+            (insert s.world.quotas name (with_quota quota (get s.world.quotas name)))
             ≡ insert s.world.quotas name (relimited s.world name quota)
         rows = map_rows-put names one_name _ s.world.quotas name (with_quota quota (get s.world.quotas name)) (quotas_rest s.world s.world (λ k q is. is))
             ∙ ap (insert s.world.quotas name) (released_as (get s.world.quotas name) refl)
@@ -196,7 +216,8 @@ module _ (s : State) (name : Name) (quota : Quota) where
     over_is : is_past_bound (relimited_state s name quota).world ≡ nat_lt greatest (relimited s.world name quota).release
     unfolding is_past_bound
     over_is = let parts = all_within s.world early.within in
-        (λ i. (parts.0 i || parts.1 i) || any_row-put names one_name (λ _ q. nat_lt greatest q.release) s.world.quotas name (relimited s.world name quota) parts.2 i)
+        (λ i. (parts.0 i || parts.1 i) || any_row-put names one_name (λ _ q. nat_lt greatest q.release) s.world.quotas name (relimited s.world name quota)
+            parts.2 i)
 
     module _ (secret : Option Name) (allowed : may_administer s.acl secret (AdminCommand.PutQuota name quota) ≡ true) where
       put_is : (b : Bool) → is_full s.world.quotas name ≡ b
@@ -206,15 +227,18 @@ module _ (s : State) (name : Name) (quota : Quota) where
       put_is false room = ap (λ b. lift (with_world s.acl) (cond b (Refused Refusal.Full) (Done Content.Written put_world))) room
 
       -- the table has no room, or the release number would pass its bound
-      pub quota_full : nat_lt greatest (relimited s.world name quota).release ≡ true → after (Step.Admin secret (AdminCommand.PutQuota name quota)) s ≡ said (Err Refusal.Full) s
+      pub quota_full : nat_lt greatest (relimited s.world name quota).release ≡ true →
+          after (Step.Admin secret (AdminCommand.PutQuota name quota)) s ≡ said (Err Refusal.Full) s
       quota_full over = by (is_full s.world.quotas name) refl
         where
           by : (b : Bool) → is_full s.world.quotas name ≡ b → after (Step.Admin secret (AdminCommand.PutQuota name quota)) s ≡ said (Err Refusal.Full) s
           by true full = admin_concludes s secret (AdminCommand.PutQuota name quota) allowed (Refused Refusal.Full) (put_is true full)
-          by false room = admin_over s secret (AdminCommand.PutQuota name quota) allowed Content.Written (record s { world = put_world }) (relimited_state s name quota).world (put_is false room) quota_settles (over_is ∙ over)
+          by false room = admin_over s secret (AdminCommand.PutQuota name quota) allowed Content.Written (record s { world = put_world })
+              (relimited_state s name quota).world (put_is false room) quota_settles (over_is ∙ over)
 
       -- else what its change says is answered
-      put_cases_of : (b : Bool) → is_full s.world.quotas name ≡ b → put_quota name quota s.world ≡ cond b (Refused Refusal.Full) (Done Content.Written put_world)
+      put_cases_of : (b : Bool) → is_full s.world.quotas name ≡ b →
+          put_quota name quota s.world ≡ cond b (Refused Refusal.Full) (Done Content.Written put_world)
       unfolding put_quota unless
       put_cases_of b is = ap (λ b. cond b (Refused Refusal.Full) (Done Content.Written put_world)) is
 
@@ -231,13 +255,16 @@ module _ (s : State) (name : Name) (quota : Quota) where
           is_done _ = false
 
           by : (b : Bool) → is_full s.world.quotas name ≡ b → Makes (Step.Admin secret (AdminCommand.PutQuota name quota)) s (Err refusal) s'
-          by true full = subst (λ r. Makes (Step.Admin secret (AdminCommand.PutQuota name quota)) s (Err r) s') (ap refusal_of (sym (put_cases_of true full) ∙ e))
+          by true full = subst (λ r. Makes (Step.Admin secret (AdminCommand.PutQuota name quota)) s (Err r) s')
+              (ap refusal_of (sym (put_cases_of true full) ∙ e))
               (admin_concludes s secret (AdminCommand.PutQuota name quota) allowed (Refused Refusal.Full) (put_is true full), same)
           by false room = not_both refl (sym (ap is_done (sym e ∙ put_cases_of false room)))
 
       -- and with other limits it has one more release
-      pub quota_done : nat_lt greatest (relimited s.world name quota).release ≡ false → (content : Content) (w' : World) → put_quota name quota s.world ≡ Done content w'
-          → after (Step.Admin secret (AdminCommand.PutQuota name quota)) s ≡ said (Ok (record { index = None; content = content })) (relimited_state s name quota)
+      pub quota_done : nat_lt greatest (relimited s.world name quota).release ≡ false → (content : Content) (w' : World) →
+          put_quota name quota s.world ≡ Done content w'
+          → after (Step.Admin secret (AdminCommand.PutQuota name quota)) s ≡ said (Ok (record { index = None; content = content }))
+              (relimited_state s name quota)
       quota_done within content w' e = by (is_full s.world.quotas name) refl
         where
           is_refused : Outcome World → Bool
@@ -248,10 +275,14 @@ module _ (s : State) (name : Name) (quota : Quota) where
           content_of (Done content w) = content
           content_of _ = Content.Written
 
-          by : (b : Bool) → is_full s.world.quotas name ≡ b → after (Step.Admin secret (AdminCommand.PutQuota name quota)) s ≡ said (Ok (record { index = None; content = content })) (relimited_state s name quota)
+          by : (b : Bool) → is_full s.world.quotas name ≡ b →
+              after (Step.Admin secret (AdminCommand.PutQuota name quota)) s ≡ said (Ok (record { index = None; content = content }))
+              (relimited_state s name quota)
           by true full = not_both refl (sym (ap is_refused (sym e ∙ put_cases_of true full)))
-          by false room = subst (λ c. after (Step.Admin secret (AdminCommand.PutQuota name quota)) s ≡ said (Ok (record { index = None; content = c })) (relimited_state s name quota)) (ap content_of (sym (put_cases_of false room) ∙ e))
-              (admin_done s secret (AdminCommand.PutQuota name quota) allowed Content.Written (record s { world = put_world }) (relimited_state s name quota).world (put_is false room) quota_settles (over_is ∙ within))
+          by false room = subst (λ c. after (Step.Admin secret (AdminCommand.PutQuota name quota)) s ≡ said (Ok (record { index = None; content = c }))
+              (relimited_state s name quota)) (ap content_of (sym (put_cases_of false room) ∙ e))
+              (admin_done s secret (AdminCommand.PutQuota name quota) allowed Content.Written (record s { world = put_world })
+                  (relimited_state s name quota).world (put_is false room) quota_settles (over_is ∙ within))
 
     pub relimited_rests : Rests s.world (relimited_state s name quota).world
     relimited_rests = put_quota_rests s.world name (relimited s.world name quota)
@@ -260,22 +291,27 @@ module _ (s : State) (name : Name) (quota : Quota) where
     quotas_within q within = any_row-put names one_name (λ _ q. nat_lt greatest q.release) s.world.quotas name q (all_within s.world early.within).2 ∙ within
 
     pub quota_early : nat_lt greatest (relimited s.world name quota).release ≡ false → IsEarly (relimited_state s name quota).world
-    quota_early within = rests_early s.world (relimited_state s name quota).world (put_quota_rests s.world name (relimited s.world name quota)) early (quotas_within (relimited s.world name quota) within)
+    quota_early within = rests_early s.world (relimited_state s name quota).world (put_quota_rests s.world name (relimited s.world name quota)) early
+        (quotas_within (relimited s.world name quota) within)
 
 -- ---- a read of a pool
 
 module _ (s : State) (secret : Option Name) (name : Name) where
   pub pool_denied : (pool_rights_of s.acl secret name).read ≡ false → after (Step.Node name secret NodeCommand.ReadPool) s ≡ said (Err Refusal.Denied) s
   unfolding after
-  pool_denied denied = ap (λ b. cond b (concluded (Step.Node name secret NodeCommand.ReadPool) s (act (Step.Node name secret NodeCommand.ReadPool) s)) (said (Err Refusal.Denied) s)) denied
+  pool_denied denied = ap (λ b. cond b (concluded (Step.Node name secret NodeCommand.ReadPool) s (act (Step.Node name secret NodeCommand.ReadPool) s))
+      (said (Err Refusal.Denied) s)) denied
 
   module _ (allowed : (pool_rights_of s.acl secret name).read ≡ true) where
     pool_found : (o : Option PoolRows) → get s.world.pools name ≡ o
         → after (Step.Node name secret NodeCommand.ReadPool) s
-        ≡ concluded (Step.Node name secret NodeCommand.ReadPool) s (lift (with_world s.acl) (option_map_or (λ p. Done (read_pool name p) s.world) o (Refused Refusal.NotFound)))
+        ≡ concluded (Step.Node name secret NodeCommand.ReadPool) s
+            (lift (with_world s.acl) (option_map_or (λ p. Done (read_pool name p) s.world) o (Refused Refusal.NotFound)))
     unfolding after act ask_pool
-    pool_found o is = ap (λ b. cond b (concluded (Step.Node name secret NodeCommand.ReadPool) s (in_world s (ask_pool name NodeCommand.ReadPool))) (said (Err Refusal.Denied) s)) allowed
-        ∙ ap (λ o. concluded (Step.Node name secret NodeCommand.ReadPool) s (lift (with_world s.acl) (option_map_or (λ p. Done (read_pool name p) s.world) o (Refused Refusal.NotFound)))) is
+    pool_found o is = ap (λ b. cond b (concluded (Step.Node name secret NodeCommand.ReadPool) s (in_world s (ask_pool name NodeCommand.ReadPool)))
+        (said (Err Refusal.Denied) s)) allowed
+        ∙ ap (λ o. concluded (Step.Node name secret NodeCommand.ReadPool) s
+            (lift (with_world s.acl) (option_map_or (λ p. Done (read_pool name p) s.world) o (Refused Refusal.NotFound)))) is
 
     pub pool_not_found : get s.world.pools name ≡ None → after (Step.Node name secret NodeCommand.ReadPool) s ≡ said (Err Refusal.NotFound) s
     pool_not_found none = pool_found None none

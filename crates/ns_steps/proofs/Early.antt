@@ -39,7 +39,8 @@ fresh w ns t early is = record { row = none; entry = entry (has_key w.ready (ns,
 
     entry : (b : Bool) → has_key w.ready (ns, next_number t) ≡ b → b ≡ false
     entry false e = refl
-    entry true e = not_both (ap is_some (early.ready (ns, next_number t) e).is_row) (ap is_some (ap (option_and_then (λ x. get x.evaluations (next_number t))) is ∙ none))
+    entry true e = not_both (ap is_some (early.ready (ns, next_number t) e).is_row)
+        (ap is_some (ap (option_and_then (λ x. get x.evaluations (next_number t))) is ∙ none))
 
     worker : (k : ℕ) (x : Worker) → get t.workers k ≡ Some x → x.evaluation ≢ next_number t
     worker k x at e = not_both (early.worker ns t k x is at) (ap is_some (ap (get t.evaluations) e ∙ none))
@@ -48,14 +49,16 @@ fresh w ns t early is = record { row = none; entry = entry (has_key w.ready (ns,
 
 opening_within : is_past_bound opening_world ≡ false
 unfolding is_past_bound
-opening_within = λ i. (any_row-put names one_name (λ _ t. is_tenant_past_bound t) empty default_name opening_tenant (any_row-empty names one_name (λ _ t. is_tenant_past_bound t)) i
+opening_within = λ i. (any_row-put names one_name (λ _ t. is_tenant_past_bound t) empty default_name opening_tenant
+    (any_row-empty names one_name (λ _ t. is_tenant_past_bound t)) i
     || (any_row-put names one_name (λ _ p. is_pool_past_bound p) empty default_name opening_pool (any_row-empty names one_name (λ _ p. is_pool_past_bound p))
     ∙ any_row-empty names one_name (λ _ (node : Node). nat_lt greatest node.places)) i)
     || any_row-empty names one_name (λ _ (q : QuotaRows). nat_lt greatest q.release) i
 
 -- its one namespace has no rows
 opening_rows : (ns : Name) (t : Tenant) → get opening_world.tenants ns ≡ Some t → t ≡ opening_tenant
-opening_rows ns t is = ⊎_elim (λ own. own.1) (λ before. not_both refl (ap is_some (sym before ∙ get-empty name_cmp ns))) (put_cases names one_name empty default_name opening_tenant ns t is)
+opening_rows ns t is = ⊎_elim (λ own. own.1) (λ before. not_both refl (ap is_some (sym before ∙ get-empty name_cmp ns)))
+    (put_cases names one_name empty default_name opening_tenant ns t is)
 
 pub opening_early : (secret : Name) → IsEarly (opening secret).world
 unfolding opening
@@ -76,12 +79,15 @@ module _ (ns : Name) (r : Registration) (w : World) (t : Tenant) (early : IsEarl
   own_row n there = stays numbers one_number t.evaluations (next_number t) (made_evaluation r t) n there
 
   -- what is pending in the namespace stays so, and so is the new evaluation
-  own_pending : (n : ℕ) (e : Evaluation) → get t.evaluations n ≡ Some e → is_pending e.status ≡ true → (x : Evaluation) × (get (registered_tenant r t).evaluations n ≡ Some x) × (is_pending x.status ≡ true)
+  own_pending : (n : ℕ) (e : Evaluation) → get t.evaluations n ≡ Some e → is_pending e.status ≡ true → (x : Evaluation) ×
+      (get (registered_tenant r t).evaluations n ≡ Some x) × (is_pending x.status ≡ true)
   unfolding registered_tenant
   own_pending n e at pending = by (eq_by_cmp nat_cmp n (next_number t)) refl
     where
-      by : (b : Bool) → eq_by_cmp nat_cmp n (next_number t) ≡ b → (x : Evaluation) × (get (insert t.evaluations (next_number t) (made_evaluation r t)) n ≡ Some x) × (is_pending x.status ≡ true)
-      by true same = (made_evaluation r t, ap (get (insert t.evaluations (next_number t) (made_evaluation r t))) (tied one_number n (next_number t) same) ∙ get_put numbers one_number t.evaluations (next_number t) (made_evaluation r t), refl)
+      by : (b : Bool) → eq_by_cmp nat_cmp n (next_number t) ≡ b → (x : Evaluation) ×
+          (get (insert t.evaluations (next_number t) (made_evaluation r t)) n ≡ Some x) × (is_pending x.status ≡ true)
+      by true same = (made_evaluation r t, ap (get (insert t.evaluations (next_number t) (made_evaluation r t))) (tied one_number n (next_number t) same) ∙
+          get_put numbers one_number t.evaluations (next_number t) (made_evaluation r t), refl)
       by false other = (e, get_other numbers one_number t.evaluations (next_number t) (made_evaluation r t) n other ∙ at, pending)
 
   -- an entry that was ready is ready
@@ -89,17 +95,23 @@ module _ (ns : Name) (r : Registration) (w : World) (t : Tenant) (early : IsEarl
   unfolding registered_world
   row_stays key ready = by (eq_by_cmp name_cmp key.0 ns) refl
     where
-      by : (b : Bool) → eq_by_cmp name_cmp key.0 ns ≡ b → IsReady (record w { tenants = insert w.tenants ns (registered_tenant r t); ready = if is_busy w ns r.id then w.ready else w.ready ++ (ns, next_number t) ∷ [] }) key
+      by : (b : Bool) → eq_by_cmp name_cmp key.0 ns ≡ b →
+          IsReady (record w { tenants = insert w.tenants ns (registered_tenant r t); ready = if is_busy w ns r.id then w.ready else w.ready ++
+          (ns, next_number t) ∷ [] }) key
       by true e =
-          let row = own_pending key.1 ready.row (sym (ap (λ o. option_and_then (λ x. get x.evaluations key.1) o) (ap (get w.tenants) (tied one_name key.0 ns e) ∙ is)) ∙ ready.is_row) ready.pending in
+          let row = own_pending key.1 ready.row (sym
+              (ap (λ o. option_and_then (λ x. get x.evaluations key.1) o) (ap (get w.tenants) (tied one_name key.0 ns e) ∙ is)) ∙ ready.is_row) ready.pending in
           record {
             row = row.0;
-            is_row = ap (λ o. option_and_then (λ x. get x.evaluations key.1) o) (ap (get (insert w.tenants ns (registered_tenant r t))) (tied one_name key.0 ns e) ∙ get_put names one_name w.tenants ns (registered_tenant r t)) ∙ row.1;
+            is_row = ap (λ o. option_and_then (λ x. get x.evaluations key.1) o)
+                (ap (get (insert w.tenants ns (registered_tenant r t))) (tied one_name key.0 ns e) ∙
+                get_put names one_name w.tenants ns (registered_tenant r t)) ∙ row.1;
             pending = row.2;
           }
       by false e = record {
         row = ready.row;
-        is_row = ap (λ o. option_and_then (λ x. get x.evaluations key.1) o) (get_other names one_name w.tenants ns (registered_tenant r t) key.0 e) ∙ ready.is_row;
+        is_row = ap (λ o. option_and_then (λ x. get x.evaluations key.1) o) (get_other names one_name w.tenants ns (registered_tenant r t) key.0 e) ∙
+            ready.is_row;
         pending = ready.pending;
       }
 
@@ -113,7 +125,8 @@ module _ (ns : Name) (r : Registration) (w : World) (t : Tenant) (early : IsEarl
       let parts = and_parts (same_name key.0 ns) (same_number key.1 (next_number t)) same in
       record {
         row = made_evaluation r t;
-        is_row = (λ i. option_and_then (λ x. get x.evaluations (tied one_number key.1 (next_number t) parts.1 i)) (get (insert w.tenants ns (registered_tenant r t)) (tied one_name key.0 ns parts.0 i)))
+        is_row = (λ i. option_and_then (λ x. get x.evaluations (tied one_number key.1 (next_number t) parts.1 i))
+            (get (insert w.tenants ns (registered_tenant r t)) (tied one_name key.0 ns parts.0 i)))
             ∙ ap (λ o. option_and_then (λ x. get x.evaluations (next_number t)) o) (get_put names one_name w.tenants ns (registered_tenant r t))
             ∙ made_row;
         pending = refl;
@@ -121,7 +134,8 @@ module _ (ns : Name) (r : Registration) (w : World) (t : Tenant) (early : IsEarl
 
   own_below : (n : ℕ) (e : Evaluation) → get (registered_tenant r t).evaluations n ≡ Some e → n ≤ (registered_tenant r t).evaluation_number
   unfolding registered_tenant
-  own_below n e at = ⊎_elim (λ own. let same : n ≡ t.evaluation_number + 1 = own.0 in omega arith) (λ before. let under : n ≤ t.evaluation_number = early.below ns t n e is before in omega arith)
+  own_below n e at = ⊎_elim (λ own. let same : n ≡ t.evaluation_number + 1 = own.0 in omega arith) (λ before. let under : n ≤ t.evaluation_number =
+      early.below ns t n e is before in omega arith)
       (put_cases numbers one_number t.evaluations (next_number t) (made_evaluation r t) n e at)
 
   own_worker : (k : ℕ) (x : Worker) → get (registered_tenant r t).workers k ≡ Some x → is_some (get (registered_tenant r t).evaluations x.evaluation) ≡ true
@@ -134,16 +148,21 @@ module _ (ns : Name) (r : Registration) (w : World) (t : Tenant) (early : IsEarl
     where
       by : (b : Bool) → has_key (cond b w.ready (w.ready ++ (ns, next_number t) ∷ [])) key ≡ true → IsReady (registered_world ns r w t) key
       by true h = row_stays key (early.ready key h)
-      by false h = ⊎_elim (λ before. row_stays key (early.ready key before)) (λ own. new_row key (sym (or_none (same_key key (ns, next_number t))) ∙ own)) (any_append (same_key key) w.ready ((ns, next_number t) ∷ []) h)
+      by false h = ⊎_elim (λ before. row_stays key (early.ready key before)) (λ own. new_row key (sym (or_none (same_key key (ns, next_number t))) ∙ own))
+          (any_append (same_key key) w.ready ((ns, next_number t) ∷ []) h)
 
-  below : (ns' : Name) (x : Tenant) (n : ℕ) (e : Evaluation) → get (registered_world ns r w t).tenants ns' ≡ Some x → get x.evaluations n ≡ Some e → n ≤ x.evaluation_number
+  below : (ns' : Name) (x : Tenant) (n : ℕ) (e : Evaluation) → get (registered_world ns r w t).tenants ns' ≡ Some x → get x.evaluations n ≡ Some e →
+      n ≤ x.evaluation_number
   unfolding registered_world
-  below ns' x n e found = ⊎_elim (λ own. subst (λ y. get y.evaluations n ≡ Some e → n ≤ y.evaluation_number) (sym own.1) (own_below n e)) (λ before. early.below ns' x n e before)
+  below ns' x n e found = ⊎_elim (λ own. subst (λ y. get y.evaluations n ≡ Some e → n ≤ y.evaluation_number) (sym own.1) (own_below n e))
+      (λ before. early.below ns' x n e before)
       (put_cases names one_name w.tenants ns (registered_tenant r t) ns' x found)
 
-  worker : (ns' : Name) (x : Tenant) (k : ℕ) (y : Worker) → get (registered_world ns r w t).tenants ns' ≡ Some x → get x.workers k ≡ Some y → is_some (get x.evaluations y.evaluation) ≡ true
+  worker : (ns' : Name) (x : Tenant) (k : ℕ) (y : Worker) → get (registered_world ns r w t).tenants ns' ≡ Some x → get x.workers k ≡ Some y →
+      is_some (get x.evaluations y.evaluation) ≡ true
   unfolding registered_world
-  worker ns' x k y found = ⊎_elim (λ own. subst (λ z. get z.workers k ≡ Some y → is_some (get z.evaluations y.evaluation) ≡ true) (sym own.1) (own_worker k y)) (λ before. early.worker ns' x k y before)
+  worker ns' x k y found = ⊎_elim (λ own. subst (λ z. get z.workers k ≡ Some y → is_some (get z.evaluations y.evaluation) ≡ true) (sym own.1) (own_worker k y))
+      (λ before. early.worker ns' x k y before)
       (put_cases names one_name w.tenants ns (registered_tenant r t) ns' x found)
 
   pub registered_early : (nat_lt greatest (next_index t) || nat_lt greatest (next_number t)) ≡ false → IsEarly (registered_world ns r w t)

@@ -19,7 +19,10 @@ use Rattle.ns_types.specs.State.Lists.{last}
 use Rattle.ns_types.specs.State.Names.{Name, Key, name_cmp, same_key, same_name, same_number}
 use Rattle.ns_types.specs.Working.Queue.{is_busy, is_of_job, queue}
 use Rattle.ns_types.specs.State.Rows.{World, Tenant, evaluation_at}
-use Rattle.ns_types.specs.Settling.Settle.{changes_allocation, changes_evaluation, changes_job, created_at, is_changed, is_touched, job_ids, job_topic, settle, stamp_tenant, stamped, stamped_allocation, stamped_evaluation, topics_of}
+use Rattle.ns_types.specs.Settling.Settle.{
+    changes_allocation, changes_evaluation, changes_job, created_at, is_changed, is_touched, job_ids, job_topic, settle,
+    stamp_tenant, stamped, stamped_allocation, stamped_evaluation, topics_of
+}
 use Rattle.ns_types.specs.Settling.Same.{same_document, same_evaluation, same_job}
 use Rattle.ns_types.specs.Steps.{greatest, is_past_bound, is_pool_past_bound, is_tenant_past_bound}
 use Rattle.ns_types.specs.State.Tables.{any_row, map_rows}
@@ -30,8 +33,14 @@ use Rattle.ns_steps.specs.Early.{IsFresh}
 use Rattle.ns_steps.specs.Laws.{put_world, ReleasesNothing}
 use Rattle.ns_steps.specs.Registered.{is_news, job_of, job_topics, made_evaluation, next_index, next_number, registered_tenant, registered_world}
 use Rattle.ns_steps.proofs.Alike.{same_job_refl}
-use Rattle.ns_steps.proofs.Rows.{any_row-alike, any_row-put, apart, each_fails, filter_no_row, filter_one_key, filter_one_row, get_joined, get_other, get_put, map_rows-put, one_more, or_none, some_row, turned}
-use Rattle.ns_steps.proofs.Settling.{KeepsRoom, classes_none, keeps_elsewhere, kept_allocation, kept_evaluation, kept_job, quota_none, releases_nothing, stamp_one, wakes_none}
+use Rattle.ns_steps.proofs.Rows.{
+    any_row-alike, any_row-put, apart, each_fails, filter_no_row, filter_one_key, filter_one_row, get_joined, get_other,
+    get_put, map_rows-put, one_more, or_none, some_row, turned
+}
+use Rattle.ns_steps.proofs.Settling.{
+    KeepsRoom, classes_none, keeps_elsewhere, kept_allocation, kept_evaluation, kept_job, quota_none, releases_nothing,
+    stamp_one, wakes_none
+}
 
 -- ---- the job
 
@@ -41,20 +50,23 @@ registered_runs index d None = refl
 registered_runs index d (Some old) = by (same_document d old.document) old.stop refl
   where
     by : (same stop : Bool) → old.stop ≡ stop
-        → (cond (same && not stop) old (record { document = d; stop = false; version = old.version + 1; create_index = old.create_index; modify_index = index })).stop ≡ false
+        → (cond (same && not stop) old (record { document = d; stop = false; version = old.version + 1; create_index = old.create_index; modify_index =
+            index })).stop ≡ false
     by false stop e = refl
     by true true e = refl
     by true false e = e
 
 -- the version goes up, so the new row is shown otherwise
-shown_newer : (old : Job) (d : Document) (index : ℕ) → same_job old (record { document = d; stop = false; version = old.version + 1; create_index = old.create_index; modify_index = index }) ≡ false
+shown_newer : (old : Job) (d : Document) (index : ℕ) →
+    same_job old (record { document = d; stop = false; version = old.version + 1; create_index = old.create_index; modify_index = index }) ≡ false
 unfolding same_job
 shown_newer old d index = and_left _ _ (and_left _ _ (and_right _ _ (one_more old.version)))
 
 news_with : (index : ℕ) (d : Document) (old : Option Job) → is_changed same_job old (registered_job index d old) ≡ is_news d old
 news_with index d None = refl
 news_with index d (Some old) = elim (same_document d old.document && not old.stop)
-    as (λ b. not (same_job old (cond b old (record { document = d; stop = false; version = old.version + 1; create_index = old.create_index; modify_index = index }))) ≡ not b) [
+    as (λ b. not (same_job old (cond b old (record { document = d; stop = false; version = old.version + 1; create_index = old.create_index; modify_index =
+        index }))) ≡ not b) [
       | true ↦ ap not (same_job_refl old)
       | false ↦ ap not (shown_newer old d index)
     ]
@@ -82,7 +94,8 @@ module _ (r : Registration) (t : Tenant) where
   changes_own = ap (λ x. option_map_or (is_changed same_job (get t.jobs r.id)) x (contains_key t.jobs r.id)) job_found ∙ news_is_change r t
 
   changes_no_other : (id : Name) → eq_by_cmp name_cmp id r.id ≡ false → changes_job t (with_rows r t) id ≡ false
-  changes_no_other id other = ap (λ x. option_map_or (is_changed same_job (get t.jobs id)) x (contains_key t.jobs id)) (get_other names one_name t.jobs r.id (job_of r t) id other) ∙ kept_job t id
+  changes_no_other id other = ap (λ x. option_map_or (is_changed same_job (get t.jobs id)) x (contains_key t.jobs id))
+      (get_other names one_name t.jobs r.id (job_of r t) id other) ∙ kept_job t id
 
   topic_own : job_topic (with_rows r t) r.id ≡ Topic.JobRegistered r.id
   topic_own = ap (λ x. cond (option_map_or (λ job. job.stop) x true) (Topic.JobDeregistered r.id) (Topic.JobRegistered r.id)) job_found
@@ -91,7 +104,8 @@ module _ (r : Registration) (t : Tenant) where
   jobs_changed : filter (changes_job t (with_rows r t)) (job_ids t (with_rows r t)) ≡ cond (changes_job t (with_rows r t) r.id) (r.id ∷ []) []
   jobs_changed = by (get t.jobs r.id) refl
     where
-      by : (old : Option Job) → get t.jobs r.id ≡ old → filter (changes_job t (with_rows r t)) (job_ids t (with_rows r t)) ≡ cond (changes_job t (with_rows r t) r.id) (r.id ∷ []) []
+      by : (old : Option Job) → get t.jobs r.id ≡ old →
+          filter (changes_job t (with_rows r t)) (job_ids t (with_rows r t)) ≡ cond (changes_job t (with_rows r t) r.id) (r.id ∷ []) []
       by None is = filter_one_key names one_name (changes_job t (with_rows r t)) _ r.id (job_of r t)
           (get_joined names t.jobs (with_rows r t).jobs r.id ∙ (λ i. option_or (is i) (job_found i))) changes_no_other
       by (Some old) is = filter_one_key names one_name (changes_job t (with_rows r t)) _ r.id old
@@ -99,7 +113,8 @@ module _ (r : Registration) (t : Tenant) where
 
   job_topics_made : map (job_topic (with_rows r t)) (filter (changes_job t (with_rows r t)) (job_ids t (with_rows r t))) ≡ job_topics r t
   job_topics_made = ap (map (job_topic (with_rows r t))) (jobs_changed ∙ ap (λ b. cond b (r.id ∷ []) []) changes_own)
-      ∙ elim (is_news (document_of t r) (get t.jobs r.id)) as (λ b. map (job_topic (with_rows r t)) (cond b (r.id ∷ []) []) ≡ cond b (Topic.JobRegistered r.id ∷ []) []) [
+      ∙ elim (is_news (document_of t r) (get t.jobs r.id)) as
+          (λ b. map (job_topic (with_rows r t)) (cond b (r.id ∷ []) []) ≡ cond b (Topic.JobRegistered r.id ∷ []) []) [
         | true ↦ ap (λ topic. topic ∷ []) topic_own
         | false ↦ refl
       ]
@@ -124,19 +139,24 @@ module _ (r : Registration) (t : Tenant) where
 
     evaluation_stamped : stamped_evaluation (next_index t) t (next_number t) (new_evaluation r t) ≡ made_evaluation r t
     evaluation_stamped = ap (λ o. cond (is_changed same_evaluation o (new_evaluation r t))
-        (record (new_evaluation r t) { create_index = created_at (next_index t) o (λ e. e.create_index); modify_index = next_index t }) (new_evaluation r t)) none
+        (record (new_evaluation r t) { create_index = created_at (next_index t) o (λ e. e.create_index); modify_index = next_index t }) (new_evaluation r t))
+            none
 
-    evaluations_stamped : map_rows (stamped_evaluation (next_index t) t) (with_rows r t).evaluations ≡ insert t.evaluations (next_number t) (made_evaluation r t)
+    evaluations_stamped : map_rows (stamped_evaluation (next_index t) t) (with_rows r t).evaluations ≡ insert t.evaluations (next_number t)
+        (made_evaluation r t)
     evaluations_stamped = map_rows-put numbers one_number (stamped_evaluation (next_index t) t) t.evaluations (next_number t) (new_evaluation r t)
-        (λ n e is. ap (λ b. cond b (record e { create_index = created_at (next_index t) (get t.evaluations n) (λ o. o.create_index); modify_index = next_index t }) e) (kept_evaluation t n e is))
+        (λ n e is. ap (λ b. cond b (record e { create_index = created_at (next_index t) (get t.evaluations n) (λ o. o.create_index); modify_index =
+            next_index t }) e) (kept_evaluation t n e is))
         ∙ ap (insert t.evaluations (next_number t)) evaluation_stamped
 
     allocations_stamped : map_rows (stamped_allocation (next_index t) t) t.allocations ≡ t.allocations
     allocations_stamped = map_rows_idle numbers one_number (stamped_allocation (next_index t) t) t.allocations
-        (λ n a is. ap (λ b. cond b (record a { create_index = created_at (next_index t) (get t.allocations n) (λ o. o.create_index); modify_index = next_index t }) a) (kept_allocation t n a is))
+        (λ n a is. ap (λ b. cond b (record a { create_index = created_at (next_index t) (get t.allocations n) (λ o. o.create_index); modify_index =
+            next_index t }) a) (kept_allocation t n a is))
 
     is_touched_by_it : is_touched t (with_rows r t) ≡ true
-    is_touched_by_it = or_left _ _ (or_right _ _ (some_row numbers one_number (changes_evaluation t) (with_rows r t).evaluations (next_number t) (new_evaluation r t)
+    is_touched_by_it = or_left _ _ (or_right _ _ (some_row numbers one_number (changes_evaluation t) (with_rows r t).evaluations (next_number t)
+        (new_evaluation r t)
         (get_put numbers one_number t.evaluations (next_number t) (new_evaluation r t)) changes_new))
 
     tenant_stamped : stamp_tenant (Some t) (with_rows r t) ≡ registered_tenant r t
@@ -160,19 +180,23 @@ module _ (ns : Name) (r : Registration) (w : World) (t : Tenant) where
   tenant_found = get_put names one_name w.tenants ns (with_rows r t)
 
   row_found : evaluation_at with_tenant (ns, next_number t) ≡ Some (new_evaluation r t)
-  row_found = ap (option_and_then (λ x. get x.evaluations (next_number t))) tenant_found ∙ get_put numbers one_number t.evaluations (next_number t) (new_evaluation r t)
+  row_found = ap (option_and_then (λ x. get x.evaluations (next_number t))) tenant_found ∙
+      get_put numbers one_number t.evaluations (next_number t) (new_evaluation r t)
 
   queued : put_world ns r w t ≡ record with_tenant { ready = cond (is_busy with_tenant ns r.id) w.ready (w.ready ++ (ns, next_number t) ∷ []) }
   unfolding queue
-  queued = ap (λ o. option_map_or (λ e. cond (is_busy with_tenant ns e.job) with_tenant (record with_tenant { ready = w.ready ++ (ns, next_number t) ∷ [] })) o with_tenant) row_found
-      ∙ elim (is_busy with_tenant ns r.id) as (λ b. ◌≡◌ {A = World} (cond b with_tenant (record with_tenant { ready = w.ready ++ (ns, next_number t) ∷ [] })) (record with_tenant { ready = cond b w.ready (w.ready ++ (ns, next_number t) ∷ []) })) [
+  queued = ap (λ o. option_map_or (λ e. cond (is_busy with_tenant ns e.job) with_tenant (record with_tenant { ready = w.ready ++ (ns, next_number t) ∷ [] }))
+      o with_tenant) row_found
+      ∙ elim (is_busy with_tenant ns r.id) as (λ b. ◌≡◌ {A = World} (cond b with_tenant (record with_tenant { ready = w.ready ++ (ns, next_number t) ∷ [] }))
+          (record with_tenant { ready = cond b w.ready (w.ready ++ (ns, next_number t) ∷ []) })) [
         | true ↦ refl
         | false ↦ refl
       ]
 
   module _ (is : get w.tenants ns ≡ Some t) where
     keeps : KeepsRoom w (put_world ns r w t)
-    keeps = keeps_elsewhere w (put_world ns r w t) ns t (with_rows r t) (ap (λ x. x.pools) queued) (ap (λ x. x.quotas) queued) (ap (λ x. x.tenants) queued) is refl
+    keeps = keeps_elsewhere w (put_world ns r w t) ns t (with_rows r t) (ap (λ x. x.pools) queued) (ap (λ x. x.quotas) queued) (ap (λ x. x.tenants) queued)
+        is refl
 
     pub put_releases_nothing : ReleasesNothing w (put_world ns r w t)
     put_releases_nothing = record {
@@ -192,7 +216,8 @@ module _ (ns : Name) (r : Registration) (w : World) (t : Tenant) where
             ∙ sym (ap (option_and_then (λ t. get t.evaluations k.1)) (ap (get w.tenants) (sym e) ∙ is))
 
         by : (b : Bool) → same_name ns key.0 ≡ b → (b && same_number (next_number t) key.1) ≡ false
-            → (b && option_map_or (λ e. same_name r.id e.job) (evaluation_at with_tenant key) false) ≡ (b && option_map_or (λ e. same_name r.id e.job) (evaluation_at w key) false)
+            → (b && option_map_or (λ e. same_name r.id e.job) (evaluation_at with_tenant key) false) ≡
+                (b && option_map_or (λ e. same_name r.id e.job) (evaluation_at w key) false)
         by true e differs = ap (λ x. option_map_or (λ e. same_name r.id e.job) x false) (own key (tied one_name ns key.0 e) differs)
         by false e differs = refl
 
@@ -201,7 +226,8 @@ module _ (ns : Name) (r : Registration) (w : World) (t : Tenant) where
       same_busy = λ i. listed i || held i
         where
           listed : list_any (is_of_job with_tenant ns r.id) w.ready ≡ list_any (is_of_job w ns r.id) w.ready
-          listed = any_alike (is_of_job with_tenant ns r.id) (is_of_job w ns r.id) w.ready (each_map same_of_job w.ready (each_fails (same_key (ns, next_number t)) w.ready fresh.entry))
+          listed = any_alike (is_of_job with_tenant ns r.id) (is_of_job w ns r.id) w.ready
+              (each_map same_of_job w.ready (each_fails (same_key (ns, next_number t)) w.ready fresh.entry))
 
           worker : (k : ℕ) (x : Worker) → get t.workers k ≡ Some x → is_of_job with_tenant ns r.id (ns, x.evaluation) ≡ is_of_job w ns r.id (ns, x.evaluation)
           worker k x at = same_of_job (ns, x.evaluation) (and_right _ _ (apart (next_number t) x.evaluation (λ e. fresh.worker k x at (sym e))))
@@ -221,14 +247,16 @@ module _ (ns : Name) (r : Registration) (w : World) (t : Tenant) where
 
 -- ---- the bound of the counters
 
-pub all_within : (w : World) → is_past_bound w ≡ false → (any_row (λ _ t. is_tenant_past_bound t) w.tenants ≡ false) × (any_row (λ _ p. is_pool_past_bound p) w.pools ≡ false) × (any_row (λ _ q. nat_lt greatest q.release) w.quotas ≡ false)
+pub all_within : (w : World) → is_past_bound w ≡ false → (any_row (λ _ t. is_tenant_past_bound t) w.tenants ≡ false) ×
+    (any_row (λ _ p. is_pool_past_bound p) w.pools ≡ false) × (any_row (λ _ q. nat_lt greatest q.release) w.quotas ≡ false)
 unfolding is_past_bound
 all_within w within = by _ _ _ within
   where
     by : (a b c : Bool) → (a || b || c) ≡ false → (a ≡ false) × (b ≡ false) × (c ≡ false)
     by a b c e = (left_none a b (left_none (a || b) c e), right_none a b (left_none (a || b) c e), right_none (a || b) c e)
 
-over_tenant : (r : Registration) (t : Tenant) → is_tenant_past_bound t ≡ false → is_tenant_past_bound (registered_tenant r t) ≡ (nat_lt greatest (next_index t) || nat_lt greatest (next_number t))
+over_tenant : (r : Registration) (t : Tenant) → is_tenant_past_bound t ≡ false →
+    is_tenant_past_bound (registered_tenant r t) ≡ (nat_lt greatest (next_index t) || nat_lt greatest (next_number t))
 unfolding registered_tenant
 over_tenant r t within = ap (λ b. (nat_lt greatest (next_index t) || nat_lt greatest (next_number t)) || b)
     (right_none (nat_lt greatest t.index || nat_lt greatest t.evaluation_number) (nat_lt greatest t.allocation_number) within)

@@ -1,4 +1,5 @@
--- A step that leaves the rows of namespaces and pools alone, or takes out one that has nothing left: it releases at most quotas, wakes nothing and stamps nothing.
+-- A step that leaves the rows of namespaces and pools alone, or takes out one that has nothing left: it releases at most quotas, wakes nothing and stamps
+-- nothing.
 use Rattle.std.specs.Prelude.{◌≡◌, ℕ, ◌+◌, ◌≤◌, Bool, true, false, if◌then◌else◌, ◌||◌, [], Option, Some, None, is_some, nat_lt, filter, map}
 use Rattle.std.proofs.Common.{refl, sym, ap, subst, ◌∙◌}
 use Rattle.std.specs.Option.{option_and_then, option_map_or}
@@ -54,7 +55,8 @@ module _ (w w' : World) (rests : Rests w w') where
   keeps_live : KeepsLive w w'
   keeps_live ns t n a is at live = by (get w'.tenants ns) refl
     where
-      by : (found : Option Tenant) → get w'.tenants ns ≡ found → option_map_or is_live (option_and_then (λ x. get x.allocations n) (get w'.tenants ns)) false ≡ true
+      by : (found : Option Tenant) → get w'.tenants ns ≡ found → option_map_or is_live (option_and_then (λ x. get x.allocations n) (get w'.tenants ns))
+          false ≡ true
       by None none = not_both live ((rests.gone ns t is none).ended n a at)
       by (Some t') there =
           let same : t' ≡ record t { namespace = t'.namespace } = subst (λ o. IsTenantOf o t') is (rests.tenant ns t' there) in
@@ -62,16 +64,19 @@ module _ (w w' : World) (rests : Rests w w') where
 
   -- ---- pools give no room
 
-  gives_none : (name : Name) (p' : PoolRows) (n : Name) (node : Node) → get w'.pools name ≡ Some p' → get p'.nodes n ≡ Some node → gives_room w w' name n node ≡ false
+  gives_none : (name : Name) (p' : PoolRows) (n : Name) (node : Node) → get w'.pools name ≡ Some p' → get p'.nodes n ≡ Some node →
+      gives_room w w' name n node ≡ false
   gives_none name p' n node is at = by (get w.pools name) refl (rests.pool name p' is)
     where
       by : (o : Option PoolRows) → get w.pools name ≡ o → IsPoolOf o p' → gives_room w w' name n node ≡ false
       by None none new = not_both refl (ap is_some (sym at ∙ ap (λ p. get p.nodes n) new ∙ get-empty name_cmp n))
-      by (Some p) there same = node_gives_none w w' keeps_live name n node (ap (option_and_then (λ x. get x.nodes n)) there ∙ sym (ap (λ x. get x.nodes n) same) ∙ at)
+      by (Some p) there same = node_gives_none w w' keeps_live name n node (ap (option_and_then (λ x. get x.nodes n)) there ∙ sym (ap (λ x. get x.nodes n) same)
+          ∙ at)
 
   no_classes : (name : Name) (p' : PoolRows) → get w'.pools name ≡ Some p' → released_classes w w' name p' ≡ []
   unfolding released_classes
-  no_classes name p' is = ap (λ es. map (λ e. class_of e.1) es) (filter_no_row names one_name (gives_room w w' name) p'.nodes (λ n node at. gives_none name p' n node is at))
+  no_classes name p' is = ap (λ es. map (λ e. class_of e.1) es)
+      (filter_no_row names one_name (gives_room w w' name) p'.nodes (λ n node at. gives_none name p' n node is at))
 
   -- ---- a quota is released where its limits change
 
@@ -100,7 +105,8 @@ module _ (w w' : World) (rests : Rests w w') where
 
   -- the quotas with the releases of those whose limits changed
   unfoldable pub settled_quotas : World
-  settled_quotas = record w' { quotas = map_rows (λ name q. after_quota_release (option_map_or (λ old. changes_limits old q) (get w.quotas name) false) q) w'.quotas }
+  settled_quotas = record w' { quotas = map_rows (λ name q. after_quota_release (option_map_or (λ old. changes_limits old q) (get w.quotas name) false) q)
+      w'.quotas }
 
   numbered : number_releases w w' w' ≡ settled_quotas
   unfolding number_releases settled_quotas
@@ -132,18 +138,21 @@ module _ (w w' : World) (rests : Rests w w') where
       where
         by : (o : Option Tenant) → get w.tenants ns ≡ o → IsTenantOf o t' → is_tenant_past_bound t' ≡ false
         by None none new = ap is_tenant_past_bound new
-        by (Some t) there same = ap is_tenant_past_bound same ∙ none_of_any one_name (λ _ t. is_tenant_past_bound t) w.tenants ns t (all_within w early.within).0 there
+        by (Some t) there same = ap is_tenant_past_bound same ∙
+            none_of_any one_name (λ _ t. is_tenant_past_bound t) w.tenants ns t (all_within w early.within).0 there
 
     pool_within : (name : Name) (p' : PoolRows) → get w'.pools name ≡ Some p' → is_pool_past_bound p' ≡ false
     pool_within name p' is = by (get w.pools name) refl (rests.pool name p' is)
       where
         by : (o : Option PoolRows) → get w.pools name ≡ o → IsPoolOf o p' → is_pool_past_bound p' ≡ false
         by None none new = ap is_pool_past_bound new ∙ any_row-empty names one_name (λ _ (node : Node). nat_lt greatest node.places)
-        by (Some p) there same = ap is_pool_past_bound same ∙ none_of_any one_name (λ _ p. is_pool_past_bound p) w.pools name p (all_within w early.within).1 there
+        by (Some p) there same = ap is_pool_past_bound same ∙
+            none_of_any one_name (λ _ p. is_pool_past_bound p) w.pools name p (all_within w early.within).1 there
 
     rests_within : any_row (λ _ q. nat_lt greatest q.release) w'.quotas ≡ false → is_past_bound w' ≡ false
     unfolding is_past_bound
-    rests_within quotas = λ i. (any_row-none names one_name (λ _ t. is_tenant_past_bound t) w'.tenants tenant_within i || any_row-none names one_name (λ _ p. is_pool_past_bound p) w'.pools pool_within i) || quotas i
+    rests_within quotas = λ i. (any_row-none names one_name (λ _ t. is_tenant_past_bound t) w'.tenants tenant_within i
+        || any_row-none names one_name (λ _ p. is_pool_past_bound p) w'.pools pool_within i) || quotas i
 
     below : (ns : Name) (t' : Tenant) (n : ℕ) (e : Evaluation) → get w'.tenants ns ≡ Some t' → get t'.evaluations n ≡ Some e → n ≤ t'.evaluation_number
     below ns t' n e is at = by (get w.tenants ns) refl (rests.tenant ns t' is)
@@ -152,12 +161,14 @@ module _ (w w' : World) (rests : Rests w w') where
         by None none new = not_both refl (ap is_some (sym at ∙ ap (λ x. get x.evaluations n) new ∙ get-empty nat_cmp n))
         by (Some t) there same = subst (λ x. n ≤ x.evaluation_number) (sym same) (early.below ns t n e there (sym (ap (λ x. get x.evaluations n) same) ∙ at))
 
-    worker : (ns : Name) (t' : Tenant) (k : ℕ) (x : Worker) → get w'.tenants ns ≡ Some t' → get t'.workers k ≡ Some x → is_some (get t'.evaluations x.evaluation) ≡ true
+    worker : (ns : Name) (t' : Tenant) (k : ℕ) (x : Worker) → get w'.tenants ns ≡ Some t' → get t'.workers k ≡ Some x →
+        is_some (get t'.evaluations x.evaluation) ≡ true
     worker ns t' k x is at = by (get w.tenants ns) refl (rests.tenant ns t' is)
       where
         by : (o : Option Tenant) → get w.tenants ns ≡ o → IsTenantOf o t' → is_some (get t'.evaluations x.evaluation) ≡ true
         by None none new = not_both refl (ap is_some (sym at ∙ ap (λ y. get y.workers k) new ∙ get-empty nat_cmp k))
-        by (Some t) there same = ap (λ y. is_some (get y.evaluations x.evaluation)) same ∙ early.worker ns t k x there (sym (ap (λ y. get y.workers k) same) ∙ at)
+        by (Some t) there same = ap (λ y. is_some (get y.evaluations x.evaluation)) same ∙
+            early.worker ns t k x there (sym (ap (λ y. get y.workers k) same) ∙ at)
 
     -- what is ready is of a namespace that is still there
     entry : (key : Key) → IsReady w key → IsReady w' key
@@ -168,7 +179,8 @@ module _ (w w' : World) (rests : Rests w w') where
 
         by : (o : Option Tenant) → get w.tenants key.0 ≡ o → (o' : Option Tenant) → get w'.tenants key.0 ≡ o' → IsReady w' key
         by None none o' is = not_both refl (ap is_some (sym (row_of None none)))
-        by (Some t) there None none = not_both (open_if_pending listed.row listed.pending) ((rests.gone key.0 t there none).closed key.1 listed.row (row_of (Some t) there))
+        by (Some t) there None none = not_both (open_if_pending listed.row listed.pending)
+            ((rests.gone key.0 t there none).closed key.1 listed.row (row_of (Some t) there))
         by (Some t) there (Some t') still =
             let same : t' ≡ record t { namespace = t'.namespace } = subst (λ o. IsTenantOf o t') there (rests.tenant key.0 t' still) in
             record {

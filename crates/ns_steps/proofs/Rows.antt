@@ -1,11 +1,17 @@
 -- Tables after one row is put, and the rows of a table that pass.
-use Rattle.std.specs.Prelude.{◌≡◌, Bool, true, false, cond, ◌++◌, ◌||◌, List, [], ◌∷◌, Option, Some, None, filter, is_some, length, map, option_map, unwrap_or, ◌⊎◌}
+use Rattle.std.specs.Prelude.{
+    ◌≡◌, Bool, true, false, cond, ◌++◌, ◌||◌, List, [], ◌∷◌, Option, Some, None, filter, is_some, length, map,
+    option_map, unwrap_or, ◌⊎◌
+}
 use Rattle.std.proofs.Common.{inl, inr, ℕ, ◌+◌, ◌≢◌, Ordering, refl, sym, ap, ◌∙◌, is_eq, arith}
 use Rattle.std.specs.Ordering.{eq_by_cmp}
 use Rattle.std.specs.Cmp.{IsTotalOrder, eq_by_cmp_equiv, tied_itself}
 use Rattle.std.specs.List.{list_any}
 use Rattle.std.specs.Option.{option_or}
-use Rattle.std.specs.FinMap.{FinMap, IsAntisymmetric, empty, entries, entries-insert, get, get-empty, get-entries, get-from_entries, get-insert, from_entries, find, insert, keys, len-empty, len-entries, put, retain_keys, same_map}
+use Rattle.std.specs.FinMap.{
+    FinMap, IsAntisymmetric, empty, entries, entries-insert, get, get-empty, get-entries, get-from_entries, get-insert,
+    from_entries, find, insert, keys, len-empty, len-entries, put, retain_keys, same_map
+}
 use Rattle.ns_types.specs.State.Tables.{map_rows, any_row}
 use Rattle.ns_types.specs.State.Lists.{Each}
 use Rattle.ns_types.specs.State.Names.{same_number}
@@ -29,7 +35,8 @@ pub any_append : {A : Type 0} (f : A → Bool) (xs ys : List A) → list_any f (
 any_append f [] ys e = inr e
 any_append f (x ∷ xs) ys e = by (f x) e (any_append f xs ys)
   where
-    by : (b : Bool) → (b || list_any f (xs ++ ys)) ≡ true → (list_any f (xs ++ ys) ≡ true → (list_any f xs ≡ true) ⊎ (list_any f ys ≡ true)) → ((b || list_any f xs) ≡ true) ⊎ (list_any f ys ≡ true)
+    by : (b : Bool) → (b || list_any f (xs ++ ys)) ≡ true → (list_any f (xs ++ ys) ≡ true → (list_any f xs ≡ true) ⊎ (list_any f ys ≡ true)) →
+        ((b || list_any f xs) ≡ true) ⊎ (list_any f ys ≡ true)
     by true e later = inl refl
     by false e later = later e
 
@@ -39,7 +46,8 @@ each_fails p (x ∷ xs) e = (left_none (p x) _ e, each_fails p xs (right_none (p
 
 filter_keys : {K X : Type 0} (p : K → Bool) (es : List (K × X)) → filter p (map (λ e. e.0) es) ≡ map (λ e. e.0) (filter (λ e. p e.0) es)
 filter_keys p [] = refl
-filter_keys p (e ∷ es) = elim (p e.0) as (λ b. cond b (e.0 ∷ filter p (map (λ e. e.0) es)) (filter p (map (λ e. e.0) es)) ≡ map (λ e. e.0) (cond b (e ∷ filter (λ e. p e.0) es) (filter (λ e. p e.0) es))) [
+filter_keys p (e ∷ es) = elim (p e.0) as (λ b. cond b (e.0 ∷ filter p (map (λ e. e.0) es)) (filter p (map (λ e. e.0) es)) ≡ map (λ e. e.0)
+    (cond b (e ∷ filter (λ e. p e.0) es) (filter (λ e. p e.0) es))) [
   | true ↦ ap (λ ks. e.0 ∷ ks) (filter_keys p es)
   | false ↦ filter_keys p es
 ]
@@ -65,7 +73,8 @@ module _ {K : Type 0} {R : K → K → Ordering} (o : IsTotalOrder R) where
 module _ {K X : Type 0} (R : K → K → Ordering) where
   find_either : (q : K) (es fs : List (K × X)) → find R q (es ++ fs) ≡ option_or (find R q es) (find R q fs)
   find_either q [] fs = refl
-  find_either q (e ∷ es) fs = elim (eq_by_cmp R q e.0) as (λ b. cond b (Some e.1) (find R q (es ++ fs)) ≡ option_or (cond b (Some e.1) (find R q es)) (find R q fs)) [
+  find_either q (e ∷ es) fs = elim (eq_by_cmp R q e.0) as
+      (λ b. cond b (Some e.1) (find R q (es ++ fs)) ≡ option_or (cond b (Some e.1) (find R q es)) (find R q fs)) [
     | true ↦ refl
     | false ↦ find_either q es fs
   ]
@@ -73,7 +82,8 @@ module _ {K X : Type 0} (R : K → K → Ordering) where
 module _ {K X : Type 0} {R : K → K → Ordering} (o : IsTotalOrder R) where
   -- of the rows of two tables those of the first come before
   pub get_joined : (m n : FinMap R X) (q : K) → get (from_entries {R = R} (entries m ++ entries n)) q ≡ option_or (get m q) (get n q)
-  get_joined m n q = get-from_entries o (entries m ++ entries n) q ∙ find_either R q (entries m) (entries n) ∙ (λ i. option_or (sym (get-entries m q) i) (sym (get-entries n q) i))
+  get_joined m n q = get-from_entries o (entries m ++ entries n) q ∙ find_either R q (entries m) (entries n) ∙
+      (λ i. option_or (sym (get-entries m q) i) (sym (get-entries n q) i))
 
 module _ {K X : Type 0} {R : K → K → Ordering} (o : IsTotalOrder R) (same : IsAntisymmetric R) where
   -- ---- one row is put
@@ -101,7 +111,8 @@ module _ {K X : Type 0} {R : K → K → Ordering} (o : IsTotalOrder R) (same : 
       by false t = ap is_some (get_other m k v q t) ∙ there
 
   -- where a change leaves all rows of a table, of one with a new row it changes that row
-  pub map_rows-put : (f : K → X → X) (m : FinMap R X) (k : K) (v : X) → ((q : K) (x : X) → get m q ≡ Some x → f q x ≡ x) → map_rows f (insert m k v) ≡ insert m k (f k v)
+  pub map_rows-put : (f : K → X → X) (m : FinMap R X) (k : K) (v : X) → ((q : K) (x : X) → get m q ≡ Some x → f q x ≡ x) →
+      map_rows f (insert m k v) ≡ insert m k (f k v)
   map_rows-put f m k v idle = same_map o same _ _ (λ q. get-map_rows o same f (insert m k v) q ∙ by q (eq_by_cmp R q k) refl)
     where
       left : (q : K) (x : Option X) → get m q ≡ x → option_map (f q) x ≡ x
@@ -109,7 +120,8 @@ module _ {K X : Type 0} {R : K → K → Ordering} (o : IsTotalOrder R) (same : 
       left q (Some x) is = ap Some (idle q x is)
 
       by : (q : K) (b : Bool) → eq_by_cmp R q k ≡ b → option_map (f q) (get (insert m k v) q) ≡ get (insert m k (f k v)) q
-      by q true t = ap (λ j. option_map (f j) (get (insert m k v) j)) (tied same q k t) ∙ ap (option_map (f k)) (get_put m k v) ∙ sym (get_put m k (f k v)) ∙ ap (get (insert m k (f k v))) (sym (tied same q k t))
+      by q true t = ap (λ j. option_map (f j) (get (insert m k v) j)) (tied same q k t) ∙ ap (option_map (f k)) (get_put m k v) ∙ sym (get_put m k (f k v)) ∙
+          ap (get (insert m k (f k v))) (sym (tied same q k t))
       by q false t = ap (option_map (f q)) (get_other m k v q t) ∙ left q (get m q) refl ∙ sym (get_other m k (f k v) q t)
 
   -- ---- whether some row passes
@@ -163,7 +175,8 @@ module _ {K X : Type 0} {R : K → K → Ordering} (o : IsTotalOrder R) (same : 
       ∙ ap (filter (λ e. f e.0 e.1)) (entries-insert o empty k x ∙ ap (put R k x) entries_empty)
 
   -- the same of its keys
-  pub filter_one_key : (p : K → Bool) (m : FinMap R X) (k : K) (x : X) → get m k ≡ Some x → ((q : K) → eq_by_cmp R q k ≡ false → p q ≡ false) → filter p (keys m) ≡ cond (p k) (k ∷ []) []
+  pub filter_one_key : (p : K → Bool) (m : FinMap R X) (k : K) (x : X) → get m k ≡ Some x → ((q : K) → eq_by_cmp R q k ≡ false → p q ≡ false) →
+      filter p (keys m) ≡ cond (p k) (k ∷ []) []
   filter_one_key p m k x is others = filter_keys p (entries m)
       ∙ ap (map (λ e. e.0)) (filter_one_row (λ q _. p q) m k x is (λ q y _ other. others q other))
       ∙ elim (p k) as (λ b. map (λ (e : K × X). e.0) (cond b ((k, x) ∷ []) []) ≡ cond b (k ∷ []) []) [ true ↦ refl | false ↦ refl ]

@@ -11,11 +11,17 @@ use Rattle.ns_types.specs.declared.job.Job.{Job}
 use Rattle.ns_types.specs.declared.node.Node.{Node}
 use Rattle.ns_types.specs.declared.records.Namespace.{Namespace}
 use Rattle.ns_types.specs.State.Names.{Name, Key, name_cmp, has_key}
-use Rattle.ns_types.specs.Settling.Releases.{ends, is_on, counts_in, changes_limits, gives_room, released_classes, classes_of, releases_quota, is_released_quota, same_offer, wakes, wakes_by, woken}
+use Rattle.ns_types.specs.Settling.Releases.{
+    ends, is_on, counts_in, changes_limits, gives_room, released_classes, classes_of, releases_quota, is_released_quota,
+    same_offer, wakes, wakes_by, woken
+}
 use Rattle.ns_types.specs.State.Resources.{limits_in}
 use Rattle.ns_types.specs.State.Rows.{World, Tenant, PoolRows, QuotaRows, is_live, is_free, allocation_at, evaluation_at, node_at, class_of}
 use Rattle.ns_types.specs.Settling.Same.{same_job, same_evaluation, same_allocation}
-use Rattle.ns_types.specs.Settling.Settle.{after_release, after_quota_release, changes_job, changes_evaluation, changes_allocation, is_changed, is_touched, number_releases, settle, stamp, stamp_tenant, stamped, wake}
+use Rattle.ns_types.specs.Settling.Settle.{
+    after_release, after_quota_release, changes_job, changes_evaluation, changes_allocation, is_changed, is_touched,
+    number_releases, settle, stamp, stamp_tenant, stamped, wake
+}
 use Rattle.ns_types.specs.State.Tables.{map_rows}
 use Rattle.ns_types.proofs.Lists.{each, filter_all, filter_none}
 use Rattle.ns_types.proofs.Named.{names, one_name, numbers, one_number}
@@ -25,7 +31,8 @@ use Rattle.ns_steps.proofs.Rows.{filter_no_row, get_other, get_put, map_rows-put
 
 -- what was live is live
 abbrev pub KeepsLive : World → World → Type 0
-KeepsLive w w' = (ns : Name) (t : Tenant) (n : ℕ) (a : Allocation) → get w.tenants ns ≡ Some t → get t.allocations n ≡ Some a → is_live a ≡ true → option_map_or is_live (allocation_at w' (ns, n)) false ≡ true
+KeepsLive w w' = (ns : Name) (t : Tenant) (n : ℕ) (a : Allocation) → get w.tenants ns ≡ Some t → get t.allocations n ≡ Some a → is_live a ≡ true →
+    option_map_or is_live (allocation_at w' (ns, n)) false ≡ true
 
 -- and pools and quotas are as they were
 pub record KeepsRoom (w w' : World) : Type 0 where
@@ -35,14 +42,17 @@ pub record KeepsRoom (w w' : World) : Type 0 where
 
 pub live_in : (t : Tenant) (n : ℕ) (a : Allocation) (found : Option Tenant) → found ≡ Some t → get t.allocations n ≡ Some a → is_live a ≡ true
     → option_map_or is_live (option_and_then (λ t. get t.allocations n) found) false ≡ true
-live_in t n a found is at live = (λ i. option_map_or is_live (option_and_then (λ t. get t.allocations n) (is i)) false) ∙ ap (λ x. option_map_or is_live x false) at ∙ live
+live_in t n a found is at live = (λ i. option_map_or is_live (option_and_then (λ t. get t.allocations n) (is i)) false) ∙
+    ap (λ x. option_map_or is_live x false) at ∙ live
 
 pub keeps_all : (w : World) → KeepsRoom w w
 keeps_all w = record { pools = refl; quotas = refl; live = λ ns t n a is at live. live_in t n a (get w.tenants ns) is at live }
 
 -- one namespace is changed, and its allocations are not
-pub keeps_elsewhere : (w w' : World) (ns : Name) (t t' : Tenant) → w'.pools ≡ w.pools → w'.quotas ≡ w.quotas → w'.tenants ≡ insert w.tenants ns t' → get w.tenants ns ≡ Some t → t'.allocations ≡ t.allocations → KeepsRoom w w'
-keeps_elsewhere w w' ns t t' pools quotas tenants is allocations = record { pools = pools; quotas = quotas; live = λ q x n a at row live. by q x n a at row live (eq_by_cmp name_cmp q ns) refl }
+pub keeps_elsewhere : (w w' : World) (ns : Name) (t t' : Tenant) → w'.pools ≡ w.pools → w'.quotas ≡ w.quotas → w'.tenants ≡ insert w.tenants ns t' →
+    get w.tenants ns ≡ Some t → t'.allocations ≡ t.allocations → KeepsRoom w w'
+keeps_elsewhere w w' ns t t' pools quotas tenants is allocations =
+    record { pools = pools; quotas = quotas; live = λ q x n a at row live. by q x n a at row live (eq_by_cmp name_cmp q ns) refl }
   where
     by : (q : Name) (x : Tenant) (n : ℕ) (a : Allocation) → get w.tenants q ≡ Some x → get x.allocations n ≡ Some a → is_live a ≡ true
         → (b : Bool) → eq_by_cmp name_cmp q ns ≡ b → option_map_or is_live (allocation_at w' (q, n)) false ≡ true
@@ -60,9 +70,11 @@ never false b h = refl
 module _ (w w' : World) (live : KeepsLive w w') where
   pub ends_none : (passes : Namespace → Allocation → Bool) → ends w w' passes ≡ false
   unfolding ends
-  ends_none passes = any_row-none names one_name _ w.tenants (λ ns t is. any_row-none numbers one_number _ t.allocations (λ n a at. by ns t n a is at (is_live a) refl (passes t.namespace a)))
+  ends_none passes = any_row-none names one_name _ w.tenants
+      (λ ns t is. any_row-none numbers one_number _ t.allocations (λ n a at. by ns t n a is at (is_live a) refl (passes t.namespace a)))
     where
-      by : (ns : Name) (t : Tenant) (n : ℕ) (a : Allocation) → get w.tenants ns ≡ Some t → get t.allocations n ≡ Some a → (l : Bool) → is_live a ≡ l → (p : Bool)
+      by : (ns : Name) (t : Tenant) (n : ℕ) (a : Allocation) → get w.tenants ns ≡ Some t → get t.allocations n ≡ Some a → (l : Bool) → is_live a ≡ l →
+          (p : Bool)
           → (l && p && not (option_map_or is_live (allocation_at w' (ns, n)) false)) ≡ false
       by ns t n a is at false l p = refl
       by ns t n a is at true l false = refl
@@ -76,16 +88,20 @@ module _ (w w' : World) (live : KeepsLive w w') where
 -- ---- where room is kept nothing is released
 
 module _ (w w' : World) (keeps : KeepsRoom w w') where
-  room_none : (name : Name) (pool : PoolRows) (n : Name) (node : Node) → get w.pools name ≡ Some pool → get pool.nodes n ≡ Some node → gives_room w w' name n node ≡ false
+  room_none : (name : Name) (pool : PoolRows) (n : Name) (node : Node) → get w.pools name ≡ Some pool → get pool.nodes n ≡ Some node →
+      gives_room w w' name n node ≡ false
   room_none name pool n node is at = node_gives_none w w' keeps.live name n node (ap (option_and_then (λ p. get p.nodes n)) is ∙ at)
 
   pub classes_none : (name : Name) (pool : PoolRows) → get w'.pools name ≡ Some pool → released_classes w w' name pool ≡ []
   unfolding released_classes
-  classes_none name pool is = ap (map (λ e. class_of e.1)) (filter_no_row names one_name (gives_room w w' name) pool.nodes (λ n node at. room_none name pool n node (ap (λ m. get m name) (sym keeps.pools) ∙ is) at))
+  classes_none name pool is = ap (map (λ e. class_of e.1))
+      (filter_no_row names one_name (gives_room w w' name) pool.nodes
+      (λ n node at. room_none name pool n node (ap (λ m. get m name) (sym keeps.pools) ∙ is) at))
 
   pub quota_none : (name : Name) (quota : QuotaRows) → get w'.quotas name ≡ Some quota → releases_quota w w' name quota ≡ false
   unfolding releases_quota
-  quota_none name quota is = (λ i. option_map_or (λ old. changes_limits old quota) ((ap (λ m. get m name) (sym keeps.quotas) ∙ is) i) false || ends_none w w' keeps.live (counts_in name) i)
+  quota_none name quota is = (λ i. option_map_or (λ old. changes_limits old quota) ((ap (λ m. get m name) (sym keeps.quotas) ∙ is) i) false
+      || ends_none w w' keeps.live (counts_in name) i)
       ∙ ap (λ b. not b || false) (same_limits_refl (limits_in quota.quota.limits))
 
   classes_of_none : (name : Name) → classes_of w w' name ≡ []
@@ -112,7 +128,8 @@ module _ (w w' : World) (keeps : KeepsRoom w w') where
 
   pub wakes_none : woken w w' ≡ []
   unfolding woken
-  wakes_none = filter_none _ w.blocked (each _ (λ key. ap (λ b. has_key w'.blocked key && b) (by key (evaluation_at w key)) ∙ none (has_key w'.blocked key)) w.blocked)
+  wakes_none = filter_none _ w.blocked (each _ (λ key. ap (λ b. has_key w'.blocked key && b) (by key (evaluation_at w key)) ∙ none (has_key w'.blocked key))
+      w.blocked)
     where
       none : (b : Bool) → (b && false) ≡ false
       none true = refl
@@ -132,7 +149,8 @@ module _ (w w' : World) (keeps : KeepsRoom w w') where
 pub wake_none : (w : World) → wake [] w ≡ w
 unfolding wake
 wake_none w = λ i. record w {
-  tenants = map_rows_idle names one_name _ w.tenants (λ ns t is i. record t { evaluations = map_rows_idle numbers one_number (λ n e. e) t.evaluations (λ n e at. refl) i }) i;
+  tenants = map_rows_idle names one_name _ w.tenants
+      (λ ns t is i. record t { evaluations = map_rows_idle numbers one_number (λ n e. e) t.evaluations (λ n e at. refl) i }) i;
   blocked = filter_all (λ _. true) w.blocked (each _ (λ key. refl) w.blocked) i;
 }
 

@@ -28,7 +28,10 @@ use Rattle.ns_types.specs.Steps.{Answer, act, after, concluded, concluded_with, 
 use Rattle.ns_types.proofs.Lists.{not_both}
 use Rattle.ns_types.proofs.Named.{names, one_name}
 use Rattle.ns_steps.specs.Early.{IsFresh}
-use Rattle.ns_steps.specs.Registered.{IsRegistrable, Refuses, has_no_room, is_outdated, job_of, next_index, next_number, registered_reply, registered_state, registered_tenant, registered_world}
+use Rattle.ns_steps.specs.Registered.{
+    IsRegistrable, Refuses, has_no_room, is_outdated, job_of, next_index, next_number, registered_reply,
+    registered_state, registered_tenant, registered_world
+}
 use Rattle.ns_steps.specs.Told.{IsJob, IsRegistered}
 use Rattle.ns_steps.proofs.Registering.{over_registered, settled_registration}
 use Rattle.ns_steps.proofs.Rows.{get_put, same_Some}
@@ -69,16 +72,19 @@ no_path : {A : Type 0} {x : A} → None ≡ Some x → ⊥
 no_path e = not_both refl (sym (ap is_some e))
 
 module _ (step : Step) (s : State) where
-  says_concluded : (P : Content → Type 0) (o : Outcome World) (reply : Reply) (s' : State) → Says P o → concluded step s (lift (with_world s.acl) o) ≡ said (Ok reply) s' → P reply.content
+  says_concluded : (P : Content → Type 0) (o : Outcome World) (reply : Reply) (s' : State) → Says P o →
+      concluded step s (lift (with_world s.acl) o) ≡ said (Ok reply) s' → P reply.content
   says_concluded P NotEnabled reply s' h e = absurd (no_path e)
   says_concluded P (Refused refusal) reply s' h e = not_both refl (ap (λ x. is_ok x.0) (sym (same_Some _ _ e)))
   says_concluded P (Done content w) reply s' h e = by (is_past_bound (settle s.world w)) e
     where
-      by : (b : Bool) → cond b (said (Err Refusal.Full) s) (said (Ok (reply_of step content (settle s.world w))) (record s { world = settle s.world w })) ≡ said (Ok reply) s' → P reply.content
+      by : (b : Bool) → cond b (said (Err Refusal.Full) s) (said (Ok (reply_of step content (settle s.world w))) (record s { world = settle s.world w })) ≡ said
+          (Ok reply) s' → P reply.content
       by true e = not_both refl (ap (λ x. is_ok x.0) (sym (same_Some _ _ e)))
       by false e = subst P (ap (λ x. (told reply x.0).content) (same_Some _ _ e)) h
 
-  leaves_concluded : (o : Outcome World) (answer : Answer) (s' : State) → Leaves s.world o → concluded step s (lift (with_world s.acl) o) ≡ said answer s' → s' ≡ s
+  leaves_concluded : (o : Outcome World) (answer : Answer) (s' : State) → Leaves s.world o → concluded step s (lift (with_world s.acl) o) ≡ said answer s' →
+      s' ≡ s
   leaves_concluded NotEnabled answer s' h e = absurd (no_path e)
   leaves_concluded (Refused refusal) answer s' h e = sym (ap (λ x. x.1) (same_Some _ _ e))
   leaves_concluded (Done content w) answer s' h e = by (is_past_bound (settle s.world w)) e
@@ -86,7 +92,8 @@ module _ (step : Step) (s : State) where
       same : settle s.world w ≡ s.world
       same = ap (settle s.world) h ∙ settle_same s.world
 
-      by : (b : Bool) → cond b (said (Err Refusal.Full) s) (said (Ok (reply_of step content (settle s.world w))) (record s { world = settle s.world w })) ≡ said answer s' → s' ≡ s
+      by : (b : Bool) → cond b (said (Err Refusal.Full) s) (said (Ok (reply_of step content (settle s.world w))) (record s { world = settle s.world w }))
+          ≡ said answer s' → s' ≡ s
       by true e = sym (ap (λ x. x.1) (same_Some _ _ e))
       by false e = sym (ap (λ x. x.1) (same_Some _ _ e)) ∙ (λ i. record s { world = same i })
 
@@ -96,7 +103,8 @@ module _ (s : State) (ns : Name) (secret : Option Name) where
   pub ask_denied : (command : AskCommand) → right_of command (rights_of s.acl secret ns) ≡ false
       → after (Step.Ask ns secret command) s ≡ said (Err Refusal.Denied) s
   unfolding after
-  ask_denied command denied = ap (λ b. cond b (concluded (Step.Ask ns secret command) s (act (Step.Ask ns secret command) s)) (said (Err Refusal.Denied) s)) denied
+  ask_denied command denied = ap (λ b. cond b (concluded (Step.Ask ns secret command) s (act (Step.Ask ns secret command) s)) (said (Err Refusal.Denied) s))
+      denied
 
   allowed_ask : (command : AskCommand) → right_of command (rights_of s.acl secret ns) ≡ true
       → after (Step.Ask ns secret command) s ≡ concluded (Step.Ask ns secret command) s (in_world s (ask ns command))
@@ -108,18 +116,21 @@ module _ (s : State) (ns : Name) (secret : Option Name) where
       ≡ concluded (Step.Ask ns secret command) s (lift (with_world s.acl) (option_map_or (asked_in ns command s.world) o (Refused Refusal.NotFound)))
   unfolding ask
   found_ask command o allowed is = allowed_ask command allowed
-      ∙ ap (λ o. concluded (Step.Ask ns secret command) s (lift (with_world s.acl) (option_map_or (asked_in ns command s.world) o (Refused Refusal.NotFound)))) is
+      ∙ ap (λ o. concluded (Step.Ask ns secret command) s (lift (with_world s.acl) (option_map_or (asked_in ns command s.world) o (Refused Refusal.NotFound))))
+          is
 
   pub ask_nowhere : (command : AskCommand) → right_of command (rights_of s.acl secret ns) ≡ true → get s.world.tenants ns ≡ None
       → after (Step.Ask ns secret command) s ≡ said (Err Refusal.NotFound) s
   ask_nowhere command allowed none = found_ask command None allowed none
 
-  pub refused_ask : (command : AskCommand) (t : Tenant) (refusal : Refusal) → right_of command (rights_of s.acl secret ns) ≡ true → get s.world.tenants ns ≡ Some t
+  pub refused_ask : (command : AskCommand) (t : Tenant) (refusal : Refusal) → right_of command (rights_of s.acl secret ns) ≡ true →
+      get s.world.tenants ns ≡ Some t
       → asked_in ns command s.world t ≡ Refused refusal → after (Step.Ask ns secret command) s ≡ said (Err refusal) s
   refused_ask command t refusal allowed is refused = found_ask command (Some t) allowed is
       ∙ ap (λ o. concluded (Step.Ask ns secret command) s (lift (with_world s.acl) o)) refused
 
-  pub done_ask : (command : AskCommand) (t : Tenant) (content : Content) (w w' : World) → right_of command (rights_of s.acl secret ns) ≡ true → get s.world.tenants ns ≡ Some t
+  pub done_ask : (command : AskCommand) (t : Tenant) (content : Content) (w w' : World) → right_of command (rights_of s.acl secret ns) ≡ true →
+      get s.world.tenants ns ≡ Some t
       → asked_in ns command s.world t ≡ Done content w → settle s.world w ≡ w'
       → after (Step.Ask ns secret command) s ≡ concluded_with (Step.Ask ns secret command) s content (record s { world = w' })
   done_ask command t content w w' allowed is done settles = found_ask command (Some t) allowed is
@@ -152,7 +163,8 @@ module _ (s : State) (ns : Name) (secret : Option Name) where
 
   module _ (r : Registration) (t : Tenant) (can : IsRegistrable s ns secret r t) (fresh : IsFresh s.world ns t) (within : is_past_bound s.world ≡ false) where
     register_settles : after (Step.Ask ns secret (AskCommand.Register r)) s
-        ≡ concluded_with (Step.Ask ns secret (AskCommand.Register r)) s (Content.Registered (next_number t) (next_index t) (job_of r t).modify_index) (registered_state ns r s t)
+        ≡ concluded_with (Step.Ask ns secret (AskCommand.Register r)) s (Content.Registered (next_number t) (next_index t) (job_of r t).modify_index)
+            (registered_state ns r s t)
     register_settles = done_ask (AskCommand.Register r) t _ _ (registered_world ns r s.world t) can.allowed can.tenant
         (passes _ _ _ (ap not can.permitted) ∙ passes _ _ _ (ap not can.pool) ∙ passes _ _ _ can.current ∙ passes _ _ _ can.room)
         (settled_registration ns r s.world t can.tenant fresh)
@@ -161,7 +173,9 @@ module _ (s : State) (ns : Name) (secret : Option Name) where
     pub register_over : (nat_lt greatest (next_index t) || nat_lt greatest (next_number t)) ≡ true
         → after (Step.Ask ns secret (AskCommand.Register r)) s ≡ said (Err Refusal.Full) s
     register_over over = register_settles
-        ∙ ap (λ b. cond b (said (Err Refusal.Full) s) (said (Ok (reply_of (Step.Ask ns secret (AskCommand.Register r)) (Content.Registered (next_number t) (next_index t) (job_of r t).modify_index) (registered_world ns r s.world t))) (registered_state ns r s t)))
+        ∙ ap (λ b. cond b (said (Err Refusal.Full) s)
+            (said (Ok (reply_of (Step.Ask ns secret (AskCommand.Register r)) (Content.Registered (next_number t) (next_index t) (job_of r t).modify_index)
+            (registered_world ns r s.world t))) (registered_state ns r s t)))
         (over_registered ns r s.world t can.tenant within ∙ over)
 
     index_told : option_map (λ t. t.index) (get (registered_world ns r s.world t).tenants ns) ≡ Some (next_index t)
@@ -171,22 +185,28 @@ module _ (s : State) (ns : Name) (secret : Option Name) where
     pub register_done : (nat_lt greatest (next_index t) || nat_lt greatest (next_number t)) ≡ false
         → after (Step.Ask ns secret (AskCommand.Register r)) s ≡ said (Ok (registered_reply r t)) (registered_state ns r s t)
     register_done fits = register_settles
-        ∙ ap (λ b. cond b (said (Err Refusal.Full) s) (said (Ok (reply_of (Step.Ask ns secret (AskCommand.Register r)) (Content.Registered (next_number t) (next_index t) (job_of r t).modify_index) (registered_world ns r s.world t))) (registered_state ns r s t)))
+        ∙ ap (λ b. cond b (said (Err Refusal.Full) s)
+            (said (Ok (reply_of (Step.Ask ns secret (AskCommand.Register r)) (Content.Registered (next_number t) (next_index t) (job_of r t).modify_index)
+            (registered_world ns r s.world t))) (registered_state ns r s t)))
         (over_registered ns r s.world t can.tenant within ∙ fits)
-        ∙ ap (λ index. said (Ok (record { index = index; content = Content.Registered (next_number t) (next_index t) (job_of r t).modify_index })) (registered_state ns r s t)) index_told
+        ∙ ap (λ index. said (Ok (record { index = index; content = Content.Registered (next_number t) (next_index t) (job_of r t).modify_index }))
+            (registered_state ns r s t)) index_told
 
     -- it is made, unless a counter would pass its bound
     pub register_is : after (Step.Ask ns secret (AskCommand.Register r)) s
-        ≡ (if nat_lt greatest (next_index t) || nat_lt greatest (next_number t) then said (Err Refusal.Full) s else said (Ok (registered_reply r t)) (registered_state ns r s t))
+        ≡ (if nat_lt greatest (next_index t) || nat_lt greatest (next_number t) then said (Err Refusal.Full) s
+            else said (Ok (registered_reply r t)) (registered_state ns r s t))
     register_is = by (nat_lt greatest (next_index t) || nat_lt greatest (next_number t)) refl
       where
         by : (b : Bool) → (nat_lt greatest (next_index t) || nat_lt greatest (next_number t)) ≡ b
-            → after (Step.Ask ns secret (AskCommand.Register r)) s ≡ cond b (said (Err Refusal.Full) s) (said (Ok (registered_reply r t)) (registered_state ns r s t))
+            → after (Step.Ask ns secret (AskCommand.Register r)) s ≡ cond b (said (Err Refusal.Full) s)
+                (said (Ok (registered_reply r t)) (registered_state ns r s t))
         by true over = register_over over
         by false fits = register_done fits
 
   -- whatever refuses it
-  pub register_refused : (r : Registration) (refusal : Refusal) → Refuses s ns secret r refusal → after (Step.Ask ns secret (AskCommand.Register r)) s ≡ said (Err refusal) s
+  pub register_refused : (r : Registration) (refusal : Refusal) → Refuses s ns secret r refusal →
+      after (Step.Ask ns secret (AskCommand.Register r)) s ≡ said (Err refusal) s
   register_refused r refusal (Refuses.denied forbidden) = ask_denied (AskCommand.Register r) forbidden
   register_refused r refusal (Refuses.nowhere allowed none) = ask_nowhere (AskCommand.Register r) allowed none
   register_refused r refusal (Refuses.not_permitted t allowed tenant other) = register_not_permitted r t allowed tenant other
@@ -205,12 +225,14 @@ module _ (s : State) (ns : Name) (secret : Option Name) where
         → after (Step.Ask ns secret (AskCommand.ReadJob id)) s ≡ said (Ok (record { index = Some t.index; content = Content.Job (job_shown ns t id job) })) s
     read_done job is within = done_ask (AskCommand.ReadJob id) t _ s.world s.world allowed tenant
         (ap (λ o. option_map_or (λ job. Done (Content.Job (job_shown ns t id job)) s.world) o (Refused Refusal.NotFound)) is) (settle_same s.world)
-        ∙ ap (λ b. cond b (said (Err Refusal.Full) s) (said (Ok (reply_of (Step.Ask ns secret (AskCommand.ReadJob id)) (Content.Job (job_shown ns t id job)) s.world)) s)) within
+        ∙ ap (λ b. cond b (said (Err Refusal.Full) s)
+            (said (Ok (reply_of (Step.Ask ns secret (AskCommand.ReadJob id)) (Content.Job (job_shown ns t id job)) s.world)) s)) within
         ∙ ap (λ o. said (Ok (record { index = option_map (λ t. t.index) o; content = Content.Job (job_shown ns t id job) })) s) tenant
 
   -- ---- every read
 
-  pub ask_reads : (command : AskCommand) (t : Tenant) (content : Content) → right_of command (rights_of s.acl secret ns) ≡ true → get s.world.tenants ns ≡ Some t → is_past_bound s.world ≡ false
+  pub ask_reads : (command : AskCommand) (t : Tenant) (content : Content) → right_of command (rights_of s.acl secret ns) ≡ true →
+      get s.world.tenants ns ≡ Some t → is_past_bound s.world ≡ false
       → asked_in ns command s.world t ≡ Done content s.world
       → after (Step.Ask ns secret command) s ≡ said (Ok (record { index = Some t.index; content = content })) s
   ask_reads command t content allowed tenant within is = done_ask command t content s.world s.world allowed tenant is (settle_same s.world)
@@ -222,24 +244,29 @@ module _ (s : State) (ns : Name) (secret : Option Name) where
   abbrev asked : AskCommand → Outcome World
   asked command = option_map_or (asked_in ns command s.world) (get s.world.tenants ns) (Refused Refusal.NotFound)
 
-  pub says_asked : (P : Content → Type 0) (command : AskCommand) (reply : Reply) (s' : State) → Says P (asked command) → after (Step.Ask ns secret command) s ≡ said (Ok reply) s' → P reply.content
+  pub says_asked : (P : Content → Type 0) (command : AskCommand) (reply : Reply) (s' : State) → Says P (asked command) →
+      after (Step.Ask ns secret command) s ≡ said (Ok reply) s' → P reply.content
   says_asked P command reply s' h e = by (right_of command (rights_of s.acl secret ns)) refl
     where
       by : (b : Bool) → right_of command (rights_of s.acl secret ns) ≡ b → P reply.content
-      by true allowed = says_concluded (Step.Ask ns secret command) s P (asked command) reply s' h (sym (found_ask command (get s.world.tenants ns) allowed refl) ∙ e)
+      by true allowed = says_concluded (Step.Ask ns secret command) s P (asked command) reply s' h
+          (sym (found_ask command (get s.world.tenants ns) allowed refl) ∙ e)
       by false denied = not_both refl (ap (λ x. is_ok x.0) (sym (same_Some _ _ (sym (ask_denied command denied) ∙ e))))
 
-  leaves_asked : (command : AskCommand) (answer : Answer) (s' : State) → Leaves s.world (asked command) → after (Step.Ask ns secret command) s ≡ said answer s' → s' ≡ s
+  leaves_asked : (command : AskCommand) (answer : Answer) (s' : State) → Leaves s.world (asked command) →
+      after (Step.Ask ns secret command) s ≡ said answer s' → s' ≡ s
   leaves_asked command answer s' h e = by (right_of command (rights_of s.acl secret ns)) refl
     where
       by : (b : Bool) → right_of command (rights_of s.acl secret ns) ≡ b → s' ≡ s
-      by true allowed = leaves_concluded (Step.Ask ns secret command) s (asked command) answer s' h (sym (found_ask command (get s.world.tenants ns) allowed refl) ∙ e)
+      by true allowed = leaves_concluded (Step.Ask ns secret command) s (asked command) answer s' h
+          (sym (found_ask command (get s.world.tenants ns) allowed refl) ∙ e)
       by false denied = sym (ap (λ x. x.1) (same_Some _ _ (sym (ask_denied command denied) ∙ e)))
 
   pub read_keeps : (id : Name) (answer : Answer) (s' : State) → after (Step.Ask ns secret (AskCommand.ReadJob id)) s ≡ said answer s' → s' ≡ s
   read_keeps id answer s' e = leaves_asked (AskCommand.ReadJob id) answer s' (by (get s.world.tenants ns)) e
     where
-      job : (t : Tenant) (o : Option Job) → Leaves s.world (option_map_or (λ job. Done (Content.Job (job_shown ns t id job)) s.world) o (Refused Refusal.NotFound))
+      job : (t : Tenant) (o : Option Job) → Leaves s.world
+          (option_map_or (λ job. Done (Content.Job (job_shown ns t id job)) s.world) o (Refused Refusal.NotFound))
       job t None = tt
       job t (Some row) = refl
 
@@ -247,12 +274,14 @@ module _ (s : State) (ns : Name) (secret : Option Name) where
       by None = tt
       by (Some t) = job t (get t.jobs id)
 
-  pub tells_numbers : (r : Registration) (reply : Reply) (s' : State) → after (Step.Ask ns secret (AskCommand.Register r)) s ≡ said (Ok reply) s' → IsRegistered reply.content
+  pub tells_numbers : (r : Registration) (reply : Reply) (s' : State) → after (Step.Ask ns secret (AskCommand.Register r)) s ≡ said (Ok reply) s' →
+      IsRegistered reply.content
   tells_numbers r reply s' e = says_asked IsRegistered (AskCommand.Register r) reply s' (by (get s.world.tenants ns)) e
     where
       by : (o : Option Tenant) → Says IsRegistered (option_map_or (register ns r s.world) o (Refused Refusal.NotFound))
       by None = tt
-      by (Some t) = says_unless IsRegistered _ _ _ (says_unless IsRegistered _ _ _ (says_unless IsRegistered _ _ _ (says_unless IsRegistered _ _ (registered_with ns r s.world t (job_of r t)) tt)))
+      by (Some t) = says_unless IsRegistered _ _ _
+          (says_unless IsRegistered _ _ _ (says_unless IsRegistered _ _ _ (says_unless IsRegistered _ _ (registered_with ns r s.world t (job_of r t)) tt)))
 
   pub tells_job : (id : Name) (reply : Reply) (s' : State) → after (Step.Ask ns secret (AskCommand.ReadJob id)) s ≡ said (Ok reply) s' → IsJob reply.content
   tells_job id reply s' e = says_asked IsJob (AskCommand.ReadJob id) reply s' (by (get s.world.tenants ns)) e

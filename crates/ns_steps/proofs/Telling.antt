@@ -53,12 +53,14 @@ module _ {S : Type 0} (P : Content → Type 0) where
   tells_lift whole (Refused refusal) h = tt
   tells_lift whole (Done content s) h = h
 
-tells_concluded : (P : Content → Type 0) (step : Step) (s : State) (o : Outcome State) (reply : Reply) (s' : State) → Tells P o → concluded step s o ≡ said (Ok reply) s' → P reply.content
+tells_concluded : (P : Content → Type 0) (step : Step) (s : State) (o : Outcome State) (reply : Reply) (s' : State) → Tells P o →
+    concluded step s o ≡ said (Ok reply) s' → P reply.content
 tells_concluded P step s NotEnabled reply s' h e = absurd h
 tells_concluded P step s (Refused refusal) reply s' h e = not_both refl (ap (λ x. is_ok x.0) (sym (same_Some _ _ e)))
 tells_concluded P step s (Done content x) reply s' h e = by (is_past_bound (settle s.world x.world)) e
   where
-    by : (b : Bool) → cond b (said (Err Refusal.Full) s) (said (Ok (reply_of step content (settle s.world x.world))) (record x { world = settle s.world x.world })) ≡ said (Ok reply) s' → P reply.content
+    by : (b : Bool) → cond b (said (Err Refusal.Full) s)
+        (said (Ok (reply_of step content (settle s.world x.world))) (record x { world = settle s.world x.world })) ≡ said (Ok reply) s' → P reply.content
     by true e = not_both refl (ap (λ x. is_ok x.0) (sym (same_Some _ _ e)))
     by false e = subst P (ap (λ x. (told reply x.0).content) (same_Some _ _ e)) h
 
@@ -74,21 +76,27 @@ told_of secret (AdminCommand.DeleteNamespace name) s = tells_lift _ (with_world 
 told_of secret AdminCommand.ListQuotas s = tt
 told_of secret (AdminCommand.ReadQuota name) s = tells_lift _ (with_world s.acl) (read_quota name s.world) (tells_found _ (get s.world.quotas name) _ (λ q. tt))
 told_of secret (AdminCommand.PutQuota name quota) s = tells_lift _ (with_world s.acl) (put_quota name quota s.world) (tells_unless _ _ _ _ tt)
-told_of secret (AdminCommand.DeleteQuota name) s = tells_lift _ (with_world s.acl) (delete_quota name s.world) (tells_found _ (get s.world.quotas name) _ (λ q. tells_unless _ _ _ _ tt))
+told_of secret (AdminCommand.DeleteQuota name) s =
+    tells_lift _ (with_world s.acl) (delete_quota name s.world) (tells_found _ (get s.world.quotas name) _ (λ q. tells_unless _ _ _ _ tt))
 told_of secret AdminCommand.ListPools s = tt
 told_of secret (AdminCommand.PutPool name pool) s = tells_lift _ (with_world s.acl) (put_pool_record name pool s.world) (tells_unless _ _ _ _ tt)
 told_of secret (AdminCommand.DeletePool name) s = tells_lift _ (with_world s.acl) (delete_pool name s.world)
     (tells_found _ (get s.world.pools name) _ (λ p. tells_unless _ _ _ _ (tells_unless _ _ _ _ tt)))
-told_of secret (AdminCommand.ReadPolicy name) s = tells_lift _ (with_acl s.world) (read_policy name s.acl) (tells_found _ (get s.acl.policies name) _ (λ policy. tt))
+told_of secret (AdminCommand.ReadPolicy name) s =
+    tells_lift _ (with_acl s.world) (read_policy name s.acl) (tells_found _ (get s.acl.policies name) _ (λ policy. tt))
 told_of secret (AdminCommand.PutPolicy name policy) s = tells_lift _ (with_acl s.world) (put_policy name policy s.acl) (tells_unless _ _ _ _ tt)
-told_of secret (AdminCommand.DeletePolicy name) s = tells_lift _ (with_acl s.world) (delete_policy name s.acl) (tells_found _ (get s.acl.policies name) _ (λ policy. tt))
+told_of secret (AdminCommand.DeletePolicy name) s =
+    tells_lift _ (with_acl s.world) (delete_policy name s.acl) (tells_found _ (get s.acl.policies name) _ (λ policy. tt))
 told_of secret (AdminCommand.CreateToken new) s = tells_lift _ (with_acl s.world) (create_token new s.acl) (tells_unless _ _ _ _ (tells_unless _ _ _ _ refl))
-told_of secret (AdminCommand.DeleteToken accessor) s = tells_lift _ (with_acl s.world) (delete_token accessor s.acl) (tells_found _ (secret_of s.acl accessor) _ (λ token. tells_unless _ _ _ _ tt))
+told_of secret (AdminCommand.DeleteToken accessor) s =
+    tells_lift _ (with_acl s.world) (delete_token accessor s.acl) (tells_found _ (secret_of s.acl accessor) _ (λ token. tells_unless _ _ _ _ tt))
 
 -- ---- what is asked in a namespace
 
 asked_in_pool : (ns : Name) (command : AskCommand) (w : World) (t : Tenant) → IsServedAsk command → Tells (IsToldAsk command) (asked_in ns command w t)
-asked_in_pool ns (AskCommand.Register r) w t served = tells_unless _ _ _ _ (tells_unless _ _ _ _ (tells_unless _ _ _ _ (tells_unless _ _ _ (registered_with ns r w t (registered_job (t.index + 1) (document_of t r) (get t.jobs r.id))) tt)))
+asked_in_pool ns (AskCommand.Register r) w t served =
+    tells_unless _ _ _ _ (tells_unless _ _ _ _ (tells_unless _ _ _ _
+    (tells_unless _ _ _ (registered_with ns r w t (registered_job (t.index + 1) (document_of t r) (get t.jobs r.id))) tt)))
 asked_in_pool ns (AskCommand.ReadJob id) w t served = tells_found _ (get t.jobs id) _ (λ job. tt)
 asked_in_pool ns (AskCommand.ListJobs prefix) w t served = tt
 asked_in_pool ns AskCommand.ReadNamespace w t served = tt
@@ -109,7 +117,8 @@ told_by : (step : Step) (s : State) → IsServed step → Tells (IsToldBy step) 
 unfolding act ask_pool
 told_by (Step.Ask ns secret command) s served = tells_lift _ (with_world s.acl) (ask ns command s.world) (told_ask ns command s.world served)
 told_by (Step.Admin secret command) s served = told_of secret command s
-told_by (Step.Node pool secret NodeCommand.ReadPool) s served = tells_lift _ (with_world s.acl) (ask_pool pool NodeCommand.ReadPool s.world) (tells_found _ (get s.world.pools pool) _ (λ p. tt))
+told_by (Step.Node pool secret NodeCommand.ReadPool) s served =
+    tells_lift _ (with_world s.acl) (ask_pool pool NodeCommand.ReadPool s.world) (tells_found _ (get s.world.pools pool) _ (λ p. tt))
 told_by _ s served = absurd served
 
 decided_concluded : (P : Content → Type 0) (step : Step) (s : State) (o : Outcome State) → Tells P o → concluded step s o ≡ None → ⊥
@@ -117,7 +126,8 @@ decided_concluded P step s NotEnabled h e = h
 decided_concluded P step s (Refused refusal) h e = not_both refl (ap is_some e)
 decided_concluded P step s (Done content x) h e = by (is_past_bound (settle s.world x.world)) e
   where
-    by : (b : Bool) → cond b (said (Err Refusal.Full) s) (said (Ok (reply_of step content (settle s.world x.world))) (record x { world = settle s.world x.world })) ≡ None → ⊥
+    by : (b : Bool) → cond b (said (Err Refusal.Full) s)
+        (said (Ok (reply_of step content (settle s.world x.world))) (record x { world = settle s.world x.world })) ≡ None → ⊥
     by true e = not_both refl (ap is_some e)
     by false e = not_both refl (ap is_some e)
 
@@ -174,16 +184,19 @@ rests_records : (secret : Option Name) (command : AdminCommand) (s : State) → 
 unfolding administer
 rests_records secret AdminCommand.ListNamespaces s reads = refl
 rests_records secret AdminCommand.ListQuotas s reads = refl
-rests_records secret (AdminCommand.ReadQuota name) s reads = rests_lift (with_world s.acl) s.world (read_quota name s.world) (rests_found s.world (get s.world.quotas name) _ (λ q. refl))
+rests_records secret (AdminCommand.ReadQuota name) s reads =
+    rests_lift (with_world s.acl) s.world (read_quota name s.world) (rests_found s.world (get s.world.quotas name) _ (λ q. refl))
 rests_records secret AdminCommand.ListPools s reads = refl
-rests_records secret (AdminCommand.ReadPolicy name) s reads = rests_lift (with_acl s.world) s.acl (read_policy name s.acl) (rests_found s.acl (get s.acl.policies name) _ (λ policy. refl))
+rests_records secret (AdminCommand.ReadPolicy name) s reads =
+    rests_lift (with_acl s.world) s.acl (read_policy name s.acl) (rests_found s.acl (get s.acl.policies name) _ (λ policy. refl))
 rests_records secret _ s reads = absurd reads
 
 rests_by : (step : Step) (s : State) → IsReading step → Rests s (act step s)
 unfolding act ask_pool
 rests_by (Step.Ask ns secret command) s reads = rests_lift (with_world s.acl) s.world (ask ns command s.world) (rests_ask ns command s.world reads)
 rests_by (Step.Admin secret command) s reads = rests_records secret command s reads
-rests_by (Step.Node pool secret NodeCommand.ReadPool) s reads = rests_lift (with_world s.acl) s.world (ask_pool pool NodeCommand.ReadPool s.world) (rests_found s.world (get s.world.pools pool) _ (λ p. refl))
+rests_by (Step.Node pool secret NodeCommand.ReadPool) s reads = rests_lift (with_world s.acl) s.world (ask_pool pool NodeCommand.ReadPool s.world)
+    (rests_found s.world (get s.world.pools pool) _ (λ p. refl))
 rests_by _ s reads = absurd reads
 
 rests_concluded : (step : Step) (s : State) (o : Outcome State) (answer : Answer) (s' : State) → Rests s o → concluded step s o ≡ said answer s' → s' ≡ s
@@ -194,7 +207,8 @@ rests_concluded step s (Done content x) answer s' h e = by (is_past_bound (settl
     same : record x { world = settle s.world x.world } ≡ s
     same = (λ i. record (h i) { world = settle s.world (h i).world }) ∙ (λ i. record s { world = settle_same s.world i })
 
-    by : (b : Bool) → cond b (said (Err Refusal.Full) s) (said (Ok (reply_of step content (settle s.world x.world))) (record x { world = settle s.world x.world })) ≡ said answer s' → s' ≡ s
+    by : (b : Bool) → cond b (said (Err Refusal.Full) s)
+        (said (Ok (reply_of step content (settle s.world x.world))) (record x { world = settle s.world x.world })) ≡ said answer s' → s' ≡ s
     by true e = sym (ap (λ x. x.1) (same_Some _ _ e))
     by false e = sym (ap (λ x. x.1) (same_Some _ _ e)) ∙ same
 

@@ -1,4 +1,5 @@
--- The world as an administrator's step leaves it, once the step has settled. Only a put of a quota that changes its limits releases.
+-- The world as an administrator's step leaves it, once the step has settled. Only a put of a quota that changes its
+-- limits releases.
 use Rattle.std.specs.Prelude.{◌≡◌, Bool, false, Option, Some, None, Result, Ok, Err}
 use Rattle.std.specs.Option.{option_map_or}
 use Rattle.std.specs.FinMap.{get, insert}
@@ -16,7 +17,8 @@ use Rattle.ns_types.specs.Steps.{Answer}
 
 -- the quota is there, and the put gives it other limits
 abbrev pub is_relimited : World → Name → Quota → Bool
-is_relimited w name quota = option_map_or (λ old. changes_limits old (with_quota quota (Some old))) (get w.quotas name) false
+is_relimited w name quota = option_map_or (λ old. changes_limits old (with_quota quota (Some old))) (get w.quotas name)
+    false
 
 -- the quota's rows after the put: with other limits it has one more release
 abbrev pub relimited : World → Name → Quota → QuotaRows
@@ -24,7 +26,8 @@ relimited w name quota = after_quota_release (is_relimited w name quota) (with_q
 
 -- the state after the put
 abbrev pub relimited_state : State → Name → Quota → State
-relimited_state s name quota = record s { world = record s.world { quotas = insert s.world.quotas name (relimited s.world name quota) } }
+relimited_state s name quota = record s
+    { world = record s.world { quotas = insert s.world.quotas name (relimited s.world name quota) } }
 
 -- all other steps of administrators release nothing
 abbrev pub IsCalm : AdminCommand → Type 0

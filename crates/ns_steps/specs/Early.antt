@@ -18,10 +18,12 @@ pub record IsFresh (w : World) (ns : Name) (t : Tenant) : Type 0 where
 pub record IsEarly (w : World) : Type 0 where
   pub within : is_past_bound w ≡ false
   -- numbers of evaluations are at or under the counter
-  pub below : (ns : Name) (t : Tenant) (n : ℕ) (e : Evaluation) → get w.tenants ns ≡ Some t → get t.evaluations n ≡ Some e → n ≤ t.evaluation_number
+  pub below : (ns : Name) (t : Tenant) (n : ℕ) (e : Evaluation) → get w.tenants ns ≡ Some t →
+      get t.evaluations n ≡ Some e → n ≤ t.evaluation_number
   -- an entry of `ready` names a pending evaluation, and a worker has one that is there
   pub ready : (key : Key) → has_key w.ready key ≡ true → IsReady w key
-  pub worker : (ns : Name) (t : Tenant) (k : ℕ) (worker : Worker) → get w.tenants ns ≡ Some t → get t.workers k ≡ Some worker → is_some (get t.evaluations worker.evaluation) ≡ true
+  pub worker : (ns : Name) (t : Tenant) (k : ℕ) (worker : Worker) → get w.tenants ns ≡ Some t →
+      get t.workers k ≡ Some worker → is_some (get t.evaluations worker.evaluation) ≡ true
   -- these two hold only until workers are served
   pub plans : w.plans ≡ []
   pub blocked : w.blocked ≡ []

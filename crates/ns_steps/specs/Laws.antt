@@ -1,5 +1,7 @@
 -- Laws of a registration and of a read of a job.
-use Rattle.std.specs.Prelude.{◌≡◌, ◌≢◌, ◌||◌, true, false, if◌then◌else◌, [], Some, None, nat_lt, Result, Ok, Err, Option}
+use Rattle.std.specs.Prelude.{
+    ◌≡◌, ◌≢◌, ◌||◌, true, false, if◌then◌else◌, [], Some, None, nat_lt, Result, Ok, Err, Option
+}
 use Rattle.std.specs.FinMap.{get}
 use Rattle.ns_types.specs.declared.job.Registration.{Registration}
 use Rattle.ns_types.specs.declared.refusal.Refusal.{Refusal}
@@ -24,19 +26,24 @@ use Rattle.ns_types.specs.Steps.{Answer, Makes, after, greatest, is_past_bound, 
 use Rattle.ns_steps.specs.Administered.{IsCalm, plain, relimited, relimited_state}
 use Rattle.ns_steps.specs.Early.{IsEarly, IsFresh}
 use Rattle.ns_steps.specs.Served.{IsReading, IsServed, IsToldBy}
-use Rattle.ns_steps.specs.Registered.{IsRegistrable, Refuses, job_of, next_index, next_number, registered_reply, registered_state}
+use Rattle.ns_steps.specs.Registered.{
+    IsRegistrable, Refuses, job_of, next_index, next_number, registered_reply, registered_state
+}
 
 -- the world with the rows of a registration put, before the step settles
 abbrev pub put_world : Name → Registration → World → Tenant → World
-put_world ns r w t = make_in ns (evaluation_of r.id (job_of r t).document Trigger.JobRegister) w (with_job r.id (job_of r t) t)
+put_world ns r w t = make_in ns (evaluation_of r.id (job_of r t).document Trigger.JobRegister) w
+    (with_job r.id (job_of r t) t)
 
 pub record ReleasesNothing (w w' : World) : Type 0 where
   pub classes : (name : Name) (pool : PoolRows) → get w'.pools name ≡ Some pool → released_classes w w' name pool ≡ []
-  pub quotas : (name : Name) (quota : QuotaRows) → get w'.quotas name ≡ Some quota → releases_quota w w' name quota ≡ false
+  pub quotas : (name : Name) (quota : QuotaRows) → get w'.quotas name ≡ Some quota →
+      releases_quota w w' name quota ≡ false
   pub wakes : woken w w' ≡ []
 
 abbrev pub RegistrationReleasesNothing : Type 0
-RegistrationReleasesNothing = (ns : Name) (r : Registration) (w : World) (t : Tenant) → get w.tenants ns ≡ Some t → ReleasesNothing w (put_world ns r w t)
+RegistrationReleasesNothing = (ns : Name) (r : Registration) (w : World) (t : Tenant) → get w.tenants ns ≡ Some t →
+    ReleasesNothing w (put_world ns r w t)
 
 abbrev pub RegistrationRefused : Type 0
 RegistrationRefused = (s : State) (ns : Name) (secret : Option Name) (r : Registration) (refusal : Refusal)
@@ -55,20 +62,24 @@ RegistrationIs = (s : State) (ns : Name) (secret : Option Name) (r : Registratio
 -- a step that releases nothing answers what its change says and leaves what it leaves, and the world stays early
 abbrev pub AdministrationMakes : Type 0
 AdministrationMakes = (s s' : State) (secret : Option Name) (command : AdminCommand) (result : Result Content Refusal)
-    → may_administer s.acl secret command ≡ true → IsEarly s.world → IsCalm command → Changes (administer secret command s) s result s'
+    → may_administer s.acl secret command ≡ true → IsEarly s.world → IsCalm command →
+        Changes (administer secret command s) s result s'
     → Makes (Step.Admin secret command) s (plain result) s' × IsEarly s'.world
 
 -- a quota with other limits has one more release
 abbrev pub QuotaPutIs : Type 0
 QuotaPutIs = (s : State) (secret : Option Name) (name : Name) (quota : Quota) (content : Content) (w : World)
-    → may_administer s.acl secret (AdminCommand.PutQuota name quota) ≡ true → IsEarly s.world → nat_lt greatest (relimited s.world name quota).release ≡ false
-    → put_quota name quota s.world ≡ Done content w → after (Step.Admin secret (AdminCommand.PutQuota name quota)) s ≡ said (Ok (record { index = None; content = content })) (relimited_state s name quota)
+    → may_administer s.acl secret (AdminCommand.PutQuota name quota) ≡ true → IsEarly s.world →
+        nat_lt greatest (relimited s.world name quota).release ≡ false
+    → put_quota name quota s.world ≡ Done content w → after (Step.Admin secret (AdminCommand.PutQuota name quota))
+        s ≡ said (Ok (record { index = None; content = content })) (relimited_state s name quota)
 
 -- ---- every step that is served
 
 -- its reply says what it should, it is never out of turn, and a read changes nothing
 abbrev pub ServedTells : Type 0
-ServedTells = (step : Step) (s s' : State) (reply : Reply) → IsServed step → after step s ≡ said (Ok reply) s' → IsToldBy step reply.content
+ServedTells = (step : Step) (s s' : State) (reply : Reply) → IsServed step → after step s ≡ said (Ok reply) s' →
+    IsToldBy step reply.content
 
 abbrev pub ServedDecides : Type 0
 ServedDecides = (step : Step) (s : State) → IsServed step → after step s ≢ None

@@ -1,5 +1,7 @@
 -- The world as a registration leaves it, once the step has settled, and when a registration is refused.
-use Rattle.std.specs.Prelude.{◌≡◌, ℕ, ◌+◌, Bool, true, false, not, ◌&&◌, if◌then◌else◌, List, [], ◌∷◌, ◌++◌, Option, Some, None, map, nat_le}
+use Rattle.std.specs.Prelude.{
+    ◌≡◌, ℕ, ◌+◌, Bool, true, false, not, ◌&&◌, if◌then◌else◌, List, [], ◌∷◌, ◌++◌, Option, Some, None, map, nat_le
+}
 use Rattle.std.specs.Option.{option_map_or}
 use Rattle.std.specs.FinMap.{get, insert, contains_key, len}
 use Rattle.ns_types.specs.declared.evaluation.Evaluation.{Evaluation}
@@ -45,14 +47,16 @@ is_news document (Some old) = not (same_document document old.document && not ol
 
 -- pending, with the job's type, priority and pool
 abbrev pub made_evaluation : Registration → Tenant → Evaluation
-made_evaluation r t = record (evaluation_of r.id (job_of r t).document Trigger.JobRegister) { create_index = next_index t; modify_index = next_index t }
+made_evaluation r t = record (evaluation_of r.id (job_of r t).document Trigger.JobRegister)
+    { create_index = next_index t; modify_index = next_index t }
 
 -- the job's event where there is news of it, and then the evaluation's
 abbrev pub job_topics : Registration → Tenant → List Topic
 job_topics r t = if is_news (document_of t r) (get t.jobs r.id) then Topic.JobRegistered r.id ∷ [] else []
 
 abbrev pub made_events : Registration → Tenant → List Event
-made_events r t = map (λ topic. record { index = next_index t; topic = topic }) (job_topics r t ++ Topic.EvaluationUpdated (next_number t) ∷ [])
+made_events r t = map (λ topic. record { index = next_index t; topic = topic })
+    (job_topics r t ++ Topic.EvaluationUpdated (next_number t) ∷ [])
 
 -- ---- what it leaves
 
@@ -78,7 +82,8 @@ registered_state ns r s t = record s { world = registered_world ns r s.world t }
 
 -- the numbers of the evaluation, of the step's index, and of the index at which the job was last changed
 abbrev pub registered_reply : Registration → Tenant → Reply
-registered_reply r t = record { index = Some (next_index t); content = Content.Registered (next_number t) (next_index t) (job_of r t).modify_index }
+registered_reply r t = record { index = Some (next_index t); content =
+    Content.Registered (next_number t) (next_index t) (job_of r t).modify_index }
 
 -- ---- when it is refused
 
@@ -99,15 +104,20 @@ pub record IsRegistrable (s : State) (ns : Name) (secret : Option Name) (r : Reg
   pub current : is_outdated r t ≡ false
   pub room : has_no_room r t ≡ false
 
--- why a registration is refused: each reason where none before it holds. A counter that would pass its bound comes after them
+-- why a registration is refused: each reason where none before it holds. A counter that would pass its bound comes
+-- after them
 pub data Refuses (s : State) (ns : Name) (secret : Option Name) (r : Registration) : Refusal → Type 0 where
   denied : (rights_of s.acl secret ns).submit_job ≡ false → Refuses s ns secret r Refusal.Denied
-  nowhere : (rights_of s.acl secret ns).submit_job ≡ true → get s.world.tenants ns ≡ None → Refuses s ns secret r Refusal.NotFound
+  nowhere : (rights_of s.acl secret ns).submit_job ≡ true → get s.world.tenants ns ≡ None →
+      Refuses s ns secret r Refusal.NotFound
   not_permitted : (t : Tenant) → (rights_of s.acl secret ns).submit_job ≡ true → get s.world.tenants ns ≡ Some t
       → permits t.namespace (pool_of t r) ≡ false → Refuses s ns secret r Refusal.PoolNotPermitted
   no_pool : (t : Tenant) → (rights_of s.acl secret ns).submit_job ≡ true → get s.world.tenants ns ≡ Some t
-      → permits t.namespace (pool_of t r) ≡ true → contains_key s.world.pools (pool_of t r) ≡ false → Refuses s ns secret r (Refusal.BadField Member.NodePool)
+      → permits t.namespace (pool_of t r) ≡ true → contains_key s.world.pools (pool_of t r) ≡ false →
+          Refuses s ns secret r (Refusal.BadField Member.NodePool)
   outdated : (t : Tenant) → (rights_of s.acl secret ns).submit_job ≡ true → get s.world.tenants ns ≡ Some t
-      → permits t.namespace (pool_of t r) ≡ true → contains_key s.world.pools (pool_of t r) ≡ true → is_outdated r t ≡ true → Refuses s ns secret r Refusal.Conflict
+      → permits t.namespace (pool_of t r) ≡ true → contains_key s.world.pools (pool_of t r) ≡ true →
+          is_outdated r t ≡ true → Refuses s ns secret r Refusal.Conflict
   no_room : (t : Tenant) → (rights_of s.acl secret ns).submit_job ≡ true → get s.world.tenants ns ≡ Some t
-      → permits t.namespace (pool_of t r) ≡ true → contains_key s.world.pools (pool_of t r) ≡ true → is_outdated r t ≡ false → has_no_room r t ≡ true → Refuses s ns secret r Refusal.Full
+      → permits t.namespace (pool_of t r) ≡ true → contains_key s.world.pools (pool_of t r) ≡ true →
+          is_outdated r t ≡ false → has_no_room r t ≡ true → Refuses s ns secret r Refusal.Full

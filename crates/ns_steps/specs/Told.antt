@@ -35,7 +35,8 @@ IsWritten _ = ⊥
 
 -- the new token, with its secret
 abbrev pub IsTokenOf : NewToken → Content → Type 0
-IsTokenOf new content = content ≡ Content.Token (record { accessor = new.accessor; secret = new.secret; name = new.name; kind = new.kind; policies = new.policies })
+IsTokenOf new content = content ≡ Content.Token
+    (record { accessor = new.accessor; secret = new.secret; name = new.name; kind = new.kind; policies = new.policies })
 
 abbrev pub IsNamespaces : Content → Type 0
 IsNamespaces (Content.Namespaces namespaces) = Unit {0}

@@ -37,7 +37,8 @@ pub record Stored : Type 0 where
   pub room : ℕ
 
 abbrev pub nothing_stored : Stored
-nothing_stored = record { index = 0; evaluation_number = 0; allocation_number = 0; jobs = empty; evaluations = empty; events = []; room = 0 }
+nothing_stored = record { index = 0; evaluation_number = 0; allocation_number = 0; jobs = empty; evaluations =
+    empty; events = []; room = 0 }
 
 abbrev pub same_status : Status → Status → Bool
 same_status Pending Pending = true

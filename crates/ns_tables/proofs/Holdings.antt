@@ -31,7 +31,8 @@ pub either_second : (a b s : Bool) → a ≡ false → (a || b) ≡ s → b ≡ 
 either_second a b s e h = sym (ap (λ a. a || b) e) ∙ h
 
 module _ (passes : Name → Bool) (x : TenantRows) (a b : Bool)
-    (jobs : a ≡ list_any (at_slot (job_in passes)) (entries x.rows.jobs)) (evaluations : b ≡ list_any (at_slot (open_in passes)) (entries x.rows.evaluations)) where
+    (jobs : a ≡ list_any (at_slot (job_in passes)) (entries x.rows.jobs)) (evaluations : b ≡ list_any (at_slot (open_in passes)) (entries x.rows.evaluations))
+        where
   pub looks : (a || b) ≡ looks_to_pool passes (tenant_of x)
   looks = (λ i. jobs i || evaluations i) ∙ or_none _
       ∙ (λ i. sym (any_row-rows (λ _ job. passes job.document.pool) x.rows.jobs) i
@@ -39,14 +40,16 @@ module _ (passes : Name → Bool) (x : TenantRows) (a b : Bool)
       || sym (any_row-empty numbers one_number (λ _ (worker : Worker). option_map_or (λ kept. passes kept.pool) worker.kept false)) i)
 
   pub uses : (a || b) ≡ uses_pool passes (tenant_of x)
-  uses = looks ∙ or_none _ ∙ (λ i. looks_to_pool passes (tenant_of x) || sym (any_row-empty numbers one_number (λ _ (a : Allocation). is_live a && passes a.pool)) i)
+  uses = looks ∙ or_none _ ∙ (λ i. looks_to_pool passes (tenant_of x)
+      || sym (any_row-empty numbers one_number (λ _ (a : Allocation). is_live a && passes a.pool)) i)
 
 module _ (x : TenantRows) where
   pub none_live : has_live (tenant_of x) ≡ false
   none_live = any_row-empty numbers one_number (λ _ a. is_live a)
 
   -- with an open evaluation the quota stays
-  pub forbids_open : (new : Namespace) (b : Bool) → uses_pool (is_withdrawn x.namespace new) (tenant_of x) ≡ false → same_quota x.namespace new ≡ false → b ≡ has_open (tenant_of x) → b ≡ forbids_put new (tenant_of x)
+  pub forbids_open : (new : Namespace) (b : Bool) → uses_pool (is_withdrawn x.namespace new) (tenant_of x) ≡ false → same_quota x.namespace new ≡ false →
+      b ≡ has_open (tenant_of x) → b ≡ forbids_put new (tenant_of x)
   forbids_open new b u q o = o ∙ or_none _ ∙ (λ i. sym u i || not (sym q i) && (has_open (tenant_of x) || sym none_live i))
 
 pub is_some_number : (n : ℕ) → 0 < n → nat_lt 0 n ≡ true

@@ -18,7 +18,8 @@ use Rattle.ns_tables.proofs.Viewing.{table_of-empty, table_of-insert}
 
 pub opening_rows : (description : Name) (pool : Name) (denied : List Name) (s : Stored) → description ≡ [] → pool ≡ default_name → denied ≡ []
     → s ≡ record nothing_stored { room = s.room }
-    → tenant_of (record { namespace = record { description = description; quota = None; default_pool = pool; allowed = None; denied = denied }; rows = s }) ≡ opening_tenant
+    → tenant_of (record { namespace = record { description = description; quota = None; default_pool = pool; allowed = None; denied = denied }; rows = s })
+        ≡ opening_tenant
 opening_rows description pool denied s d p n e = λ i. record {
   namespace = record { description = d i; quota = None; default_pool = p i; allowed = None; denied = n i };
   index = ap (λ s. s.index) e i;
@@ -41,7 +42,8 @@ opening_tables t ready x pool tenants tenant pools description quotas = λ i. re
   pools = (ap (λ m. table_of (λ _ p. with_pool p None) m) pools ∙ table_of-insert names one_name (λ _ p. with_pool p None) empty default_name pool
       ∙ ap (λ m. insert m default_name (with_pool pool None)) (table_of-empty names one_name (λ _ p. with_pool p None))
       ∙ ap (λ d. insert empty default_name (with_pool (record { description = d }) None)) description) i;
-  quotas = (ap (λ m. table_of (λ _ q. quota_of q) (rows m)) quotas ∙ ap (λ m. table_of (λ _ q. quota_of q) m) rows-empty ∙ table_of-empty names one_name (λ _ q. quota_of q)) i;
+  quotas = (ap (λ m. table_of (λ _ q. quota_of q) (rows m)) quotas ∙ ap (λ m. table_of (λ _ q. quota_of q) m) rows-empty ∙
+      table_of-empty names one_name (λ _ q. quota_of q)) i;
   ready = ready;
   plans = [];
   blocked = [];

@@ -22,7 +22,8 @@ module _ {K X Y : Type 0} {R : K → K → Ordering} (f : K → X → Y) where
   len-table_of m = len-entries _ ∙ ap length (entries-table_of f m) ∙ length-map (entries m) _ ∙ sym (len-entries m)
 
   -- a test of the rows that are made is one of the slots that they are made of
-  pub any_row-table_of : (p : K → Y → Bool) (m : FinMap R (Option X)) → any_row p (table_of f (rows m)) ≡ list_any (at_slot (λ e. p e.0 (f e.0 e.1))) (entries m)
+  pub any_row-table_of : (p : K → Y → Bool) (m : FinMap R (Option X)) →
+      any_row p (table_of f (rows m)) ≡ list_any (at_slot (λ e. p e.0 (f e.0 e.1))) (entries m)
   unfolding any_row
   any_row-table_of p m = ap (list_any (λ e. p e.0 e.1)) (entries-table_of f (rows m)) ∙ list_any-map (λ e. p e.0 e.1) (λ e. (e.0, f e.0 e.1)) (entries (rows m))
       ∙ ap (list_any (λ e. p e.0 (f e.0 e.1))) (entries-rows m) ∙ sym (any-at_slot R (λ e. p e.0 (f e.0 e.1)) (entries m))
@@ -72,7 +73,8 @@ map-map g f (x ∷ xs) = ap (λ ys. g (f x) ∷ ys) (map-map g f xs)
 
 filter-map : {X Y : Type 0} (p : Y → Bool) (f : X → Y) (xs : List X) → filter p (map f xs) ≡ map f (filter (λ x. p (f x)) xs)
 filter-map p f [] = refl
-filter-map p f (x ∷ xs) = elim (p (f x)) as (λ b. cond b (f x ∷ filter p (map f xs)) (filter p (map f xs)) ≡ map f (cond b (x ∷ filter (λ x. p (f x)) xs) (filter (λ x. p (f x)) xs))) [
+filter-map p f (x ∷ xs) = elim (p (f x)) as (λ b. cond b (f x ∷ filter p (map f xs)) (filter p (map f xs)) ≡ map f
+    (cond b (x ∷ filter (λ x. p (f x)) xs) (filter (λ x. p (f x)) xs))) [
   | true ↦ ap (λ ys. f x ∷ ys) (filter-map p f xs)
   | false ↦ filter-map p f xs
 ]
@@ -86,5 +88,7 @@ module _ {K X Y S : Type 0} {R : K → K → Ordering} (f : K → X → Y) where
       ∙ map-map show (λ e. (e.0, f e.0 e.1)) _
       ∙ ap (λ es. map (λ e. show (e.0, f e.0 e.1)) (filter (λ e. passes e.0) es)) (entries-rows m)
 
-  pub listed_all : (show : K × Y → S) (m : FinMap R (Option X)) → map show (entries (table_of f (rows m))) ≡ map (λ e. show (e.0, f e.0 e.1)) (row_list (entries m))
-  listed_all show m = ap (map show) (entries-table_of f (rows m)) ∙ map-map show (λ e. (e.0, f e.0 e.1)) _ ∙ ap (map (λ e. show (e.0, f e.0 e.1))) (entries-rows m)
+  pub listed_all : (show : K × Y → S) (m : FinMap R (Option X)) →
+      map show (entries (table_of f (rows m))) ≡ map (λ e. show (e.0, f e.0 e.1)) (row_list (entries m))
+  listed_all show m = ap (map show) (entries-table_of f (rows m)) ∙ map-map show (λ e. (e.0, f e.0 e.1)) _ ∙
+      ap (map (λ e. show (e.0, f e.0 e.1))) (entries-rows m)

@@ -59,7 +59,8 @@ module _ (t : Tables) (ready : List Key) (name : Name) where
   -- ---- namespaces
 
   -- the record of a namespace that is there, over what it has
-  pub tenant_over : (n : FinMap name_cmp (Option TenantRows)) (namespace : Namespace) (x : TenantRows) → row_at t.tenants name ≡ Some x → n ≡ insert t.tenants name (Some (record x { namespace = namespace }))
+  pub tenant_over : (n : FinMap name_cmp (Option TenantRows)) (namespace : Namespace) (x : TenantRows) → row_at t.tenants name ≡ Some x →
+      n ≡ insert t.tenants name (Some (record x { namespace = namespace }))
       → world_of ready (record t { tenants = n }) ≡ put_tenant name (with_namespace namespace (get (world_of ready t).tenants name)) (world_of ready t)
   tenant_over n namespace x at e = λ i. record (world_of ready t) {
     tenants = (shown-written tenant_of t.tenants n name (record x { namespace = namespace }) e
@@ -67,7 +68,8 @@ module _ (t : Tables) (ready : List Key) (name : Name) where
   }
 
   -- the record of a new one
-  pub tenant_new : (m n : FinMap name_cmp (Option TenantRows)) (namespace : Namespace) (s : Stored) → row_at t.tenants name ≡ None → s ≡ record nothing_stored { room = s.room }
+  pub tenant_new : (m n : FinMap name_cmp (Option TenantRows)) (namespace : Namespace) (s : Stored) → row_at t.tenants name ≡ None →
+      s ≡ record nothing_stored { room = s.room }
       → m ≡ with_slot t.tenants name → n ≡ insert m name (Some (record { namespace = namespace; rows = s }))
       → world_of ready (record t { tenants = n }) ≡ put_tenant name (with_namespace namespace (get (world_of ready t).tenants name)) (world_of ready t)
   tenant_new m n namespace s at nothing e f = λ i. record (world_of ready t) {
@@ -75,36 +77,43 @@ module _ (t : Tables) (ready : List Key) (name : Name) where
         ∙ ap (λ y. insert (world_of ready t).tenants name y) (made_anew namespace s nothing ∙ ap (with_namespace namespace) (sym (tenant_at None at)))) i;
   }
 
-  pub tenant_removed : (n : FinMap name_cmp (Option TenantRows)) → n ≡ remove t.tenants name → world_of ready (record t { tenants = n }) ≡ record (world_of ready t) { tenants = remove (world_of ready t).tenants name }
+  pub tenant_removed : (n : FinMap name_cmp (Option TenantRows)) → n ≡ remove t.tenants name →
+      world_of ready (record t { tenants = n }) ≡ record (world_of ready t) { tenants = remove (world_of ready t).tenants name }
   tenant_removed n e = λ i. record (world_of ready t) { tenants = shown-remove tenant_of t.tenants n name e i }
 
   -- ---- pools
 
-  pub pool_put : (m n : FinMap name_cmp (Option Pool)) (pool : Pool) (x : Option Pool) → row_at t.pools name ≡ x → m ≡ with_slot t.pools name → n ≡ insert m name (Some pool)
+  pub pool_put : (m n : FinMap name_cmp (Option Pool)) (pool : Pool) (x : Option Pool) → row_at t.pools name ≡ x → m ≡ with_slot t.pools name →
+      n ≡ insert m name (Some pool)
       → world_of ready (record t { pools = n }) ≡ put_pool name (with_pool pool (get (world_of ready t).pools name)) (world_of ready t)
   pool_put m n pool x at e f = λ i. record (world_of ready t) {
-    pools = (shown-set (λ p. with_pool p None) t.pools m n name pool e f ∙ ap (insert (world_of ready t).pools name) (same x ∙ ap (with_pool pool) (sym (pool_at x at)))) i;
+    pools = (shown-set (λ p. with_pool p None) t.pools m n name pool e f ∙
+        ap (insert (world_of ready t).pools name) (same x ∙ ap (with_pool pool) (sym (pool_at x at)))) i;
   }
     where
       same : (x : Option Pool) → with_pool pool None ≡ with_pool pool (option_map (λ p. with_pool p None) x)
       same None = refl
       same (Some old) = refl
 
-  pub pool_removed : (n : FinMap name_cmp (Option Pool)) → n ≡ remove t.pools name → world_of ready (record t { pools = n }) ≡ record (world_of ready t) { pools = remove (world_of ready t).pools name }
+  pub pool_removed : (n : FinMap name_cmp (Option Pool)) → n ≡ remove t.pools name →
+      world_of ready (record t { pools = n }) ≡ record (world_of ready t) { pools = remove (world_of ready t).pools name }
   pool_removed n e = λ i. record (world_of ready t) { pools = shown-remove (λ p. with_pool p None) t.pools n name e i }
 
   -- to delete a pool that is there, which has no nodes
   pub found_pool : (used : Bool) (done : Outcome World) → contains_key (rows t.pools) name ≡ true
-      → in_pool (world_of ready t) name (λ pool. unless (same_name name default_name) Refusal.InUse (unless (any_row (λ _ node. true) pool.nodes || used) Refusal.InUse done))
+      → in_pool (world_of ready t) name (λ pool. unless (same_name name default_name) Refusal.InUse
+          (unless (any_row (λ _ node. true) pool.nodes || used) Refusal.InUse done))
       ≡ unless (same_name name default_name) Refusal.InUse (unless used Refusal.InUse done)
   found_pool used done there = by (row_at t.pools name) refl
     where
       by : (x : Option Pool) → row_at t.pools name ≡ x
-          → in_pool (world_of ready t) name (λ pool. unless (same_name name default_name) Refusal.InUse (unless (any_row (λ _ node. true) pool.nodes || used) Refusal.InUse done))
+          → in_pool (world_of ready t) name (λ pool. unless (same_name name default_name) Refusal.InUse
+              (unless (any_row (λ _ node. true) pool.nodes || used) Refusal.InUse done))
           ≡ unless (same_name name default_name) Refusal.InUse (unless used Refusal.InUse done)
       by None e = absurd (subst T (sym (sym (ap is_some (get-rows names t.pools name ∙ e)) ∙ there)) tt)
       by (Some x) e = found_some _ _ (with_pool x None) (pool_at (Some x) e)
-          ∙ ap (λ b. unless (same_name name default_name) Refusal.InUse (unless (b || used) Refusal.InUse done)) (any_row-empty names one_name (λ _ (node : Node). true))
+          ∙ ap (λ b. unless (same_name name default_name) Refusal.InUse (unless (b || used) Refusal.InUse done))
+              (any_row-empty names one_name (λ _ (node : Node). true))
 
   pub no_pool : (go : PoolRows → Outcome World) → contains_key (rows t.pools) name ≡ false → in_pool (world_of ready t) name go ≡ Refused Refusal.NotFound
   no_pool go absent = found_absent _ go (pool_there ∙ absent)
@@ -118,11 +127,13 @@ module _ (t : Tables) (ready : List Key) (name : Name) where
     quotas = (shown-set quota_of t.quotas m n name x e f ∙ ap (λ r. insert (world_of ready t).quotas name (record { quota = x.quota; release = r })) g) i;
   }
 
-  pub quota_removed : (n : FinMap name_cmp (Option StoredQuota)) → n ≡ remove t.quotas name → world_of ready (record t { quotas = n }) ≡ record (world_of ready t) { quotas = remove (world_of ready t).quotas name }
+  pub quota_removed : (n : FinMap name_cmp (Option StoredQuota)) → n ≡ remove t.quotas name →
+      world_of ready (record t { quotas = n }) ≡ record (world_of ready t) { quotas = remove (world_of ready t).quotas name }
   quota_removed n e = λ i. record (world_of ready t) { quotas = shown-remove quota_of t.quotas n name e i }
 
   -- a quota that is there is released, and one that is not there changes nothing
-  pub released : (n : FinMap name_cmp (Option StoredQuota)) (x : StoredQuota) → row_at t.quotas name ≡ Some x → n ≡ insert t.quotas name (Some (record x { release = x.release + 1 }))
+  pub released : (n : FinMap name_cmp (Option StoredQuota)) (x : StoredQuota) → row_at t.quotas name ≡ Some x →
+      n ≡ insert t.quotas name (Some (record x { release = x.release + 1 }))
       → world_of ready (record t { quotas = n }) ≡ with_release name (world_of ready t)
   released n x at e = (λ i. record (world_of ready t) { quotas = shown-written quota_of t.quotas n name (record x { release = x.release + 1 }) e i })
       ∙ sym (ap (λ q. option_map_or (λ q. with_quota_written name (after_release q) (world_of ready t)) q (world_of ready t)) (quota_at (Some x) at))

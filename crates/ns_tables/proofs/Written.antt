@@ -23,10 +23,12 @@ module _ {X : Type 0} where
   slot_made m n k e = subst (λ m. IsTrue (has_slot m k)) (sym e) (has_slot-with_slot_here names m k)
 
   -- a table without room for a new row, by what is found at the key
-  pub full_by : (m : FinMap name_cmp (Option X)) (k : Name) (x : Option X) → row_at m k ≡ x → is_full (rows m) k ≡ (not (is_some x) && nat_le 10000 (len (rows m)))
+  pub full_by : (m : FinMap name_cmp (Option X)) (k : Name) (x : Option X) → row_at m k ≡ x →
+      is_full (rows m) k ≡ (not (is_some x) && nat_le 10000 (len (rows m)))
   full_by m k x e = ap (λ x. not (is_some x) && nat_le 10000 (len (rows m))) (get-rows names m k ∙ e)
 
-  pub rows_single : (l m n : FinMap name_cmp (Option X)) (k : Name) (x : X) → l ≡ empty → m ≡ with_slot l k → n ≡ insert m k (Some x) → rows n ≡ insert (empty {R = name_cmp}) k x
+  pub rows_single : (l m n : FinMap name_cmp (Option X)) (k : Name) (x : X) → l ≡ empty → m ≡ with_slot l k → n ≡ insert m k (Some x) →
+      rows n ≡ insert (empty {R = name_cmp}) k x
   rows_single l m n k x e f g = ap (λ n. rows n) (g ∙ ap (λ m. insert m k (Some x)) (f ∙ ap (λ l. with_slot l k) e))
       ∙ rows-set names one_name (with_slot empty k) k x ∙ ap (λ m. insert m k x) (rows-with_slot names one_name empty k ∙ rows-empty)
 
@@ -50,7 +52,8 @@ module _ {X Y : Type 0} (f : X → Y) where
 
   -- a row set in a slot that was made for it
   pub shown-set : (l m n : FinMap name_cmp (Option X)) (k : Name) (x : X) → m ≡ with_slot l k → n ≡ insert m k (Some x) → shown n ≡ insert (shown l) k (f x)
-  shown-set l m n k x e g = shown-insert l n k x (ap (λ n. rows n) (g ∙ ap (λ m. insert m k (Some x)) e) ∙ rows-set names one_name (with_slot l k) k x ∙ ap (λ r. insert r k x) (rows-with_slot names one_name l k))
+  shown-set l m n k x e g = shown-insert l n k x (ap (λ n. rows n) (g ∙ ap (λ m. insert m k (Some x)) e) ∙ rows-set names one_name (with_slot l k) k x ∙
+      ap (λ r. insert r k x) (rows-with_slot names one_name l k))
 
   pub shown-remove : (m n : FinMap name_cmp (Option X)) (k : Name) → n ≡ remove m k → shown n ≡ remove (shown m) k
   shown-remove m n k e = ap shown e ∙ ap (table_of (λ _ x. f x)) (rows-remove names one_name m k) ∙ table_of-remove names one_name (λ _ x. f x) (rows m) k

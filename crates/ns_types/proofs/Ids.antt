@@ -1,5 +1,8 @@
 -- The text of an id stands for its number.
-use Rattle.std.proofs.Common.{◌≡◌, ℕ, zero, suc, ◌+◌, ◌*◌, ◌/◌, ◌%◌, ◌^◌, ◌<◌, List, length, All, Option, Some, None, option_map, refl, sym, ap, ◌∙◌, arith, inl, ◌≢◌, Ok, Err, true≢false}
+use Rattle.std.proofs.Common.{
+    ◌≡◌, ℕ, zero, suc, ◌+◌, ◌*◌, ◌/◌, ◌%◌, ◌^◌, ◌<◌, List, length, All, Option, Some, None, option_map, refl, sym, ap,
+    ◌∙◌, arith, inl, ◌≢◌, Ok, Err, true≢false
+}
 use Rattle.std.specs.Int.{w128, byte_at, bytes_high_first, to_be_bytes, from_be_bytes}
 use Rattle.std.specs.List.{AllByRecursion}
 use Rattle.std.specs.Bool.{then_some}
@@ -36,20 +39,23 @@ length-bytes (suc k) n = ap suc (length-bytes k n)
 pub id_text-number : (kind : IdKind) (n : ℕ) → n < 2 ^ 64 → uuid_number (id_text kind n) ≡ Some (id_number kind n)
 id_text-number kind n h =
     let bytes = to_be_bytes w128 (id_number kind n) in
-    let read : Some bytes ≡ parsed (hyphenated_text lower bytes) = parses_hyphenated lower bytes (inl refl) (length-bytes 16 (id_number kind n)) (bytes-below 16 (id_number kind n)) in
+    let read : Some bytes ≡ parsed (hyphenated_text lower bytes) =
+        parses_hyphenated lower bytes (inl refl) (length-bytes 16 (id_number kind n)) (bytes-below 16 (id_number kind n)) in
     rw (← read) (ap Some (from_be_bytes-to_be_bytes_16 (id_number kind n) (id_number-below kind n h)))
 
 pub kind-back : (kind : IdKind) (n : ℕ) → n < 2 ^ 64 → (id_number kind n / 2 ^ 64 ≡ kind_number kind) × (id_number kind n % 2 ^ 64 ≡ n)
 kind-back Evaluation n h = (omega arith, omega arith)
 kind-back Allocation n h = (omega arith, omega arith)
 
-no_parse : {E : Type 0} (r : Result (List ℕ) E) (t : List ℕ) (o : Option (List ℕ)) → parsed t ≡ o → (IsOk r ↔ ((u : List ℕ) × (parsed t ≡ Some u))) → ((u : List ℕ) → r ≢ Ok u) → uuid_number t ≡ None
+no_parse : {E : Type 0} (r : Result (List ℕ) E) (t : List ℕ) (o : Option (List ℕ)) → parsed t ≡ o → (IsOk r ↔ ((u : List ℕ) × (parsed t ≡ Some u))) →
+    ((u : List ℕ) → r ≢ Ok u) → uuid_number t ≡ None
 no_parse r t None e ok bad = ap (option_map (from_be_bytes w128)) e
 no_parse (Ok x) t (Some u) e ok bad = absurd (bad x refl)
 no_parse (Err x) t (Some u) e ok bad = absurd (true≢false (sym (ok.1 (u, e))))
 
 -- a text that `uuid` refuses has no number
-pub refused : {E : Type 0} (r : Result (List ℕ) E) (t : List ℕ) → (IsOk r ↔ ((u : List ℕ) × (parsed t ≡ Some u))) → ((u : List ℕ) → r ≢ Ok u) → uuid_number t ≡ None
+pub refused : {E : Type 0} (r : Result (List ℕ) E) (t : List ℕ) → (IsOk r ↔ ((u : List ℕ) × (parsed t ≡ Some u))) → ((u : List ℕ) → r ≢ Ok u) →
+    uuid_number t ≡ None
 refused r t ok bad = no_parse r t (parsed t) refl ok bad
 
 -- the answer where the text has a number
@@ -77,5 +83,6 @@ some≢none e = cc
 pub no_id : (t : List ℕ) (kind : IdKind) (n : ℕ) → uuid_number t ≡ None → uuid_number t ≡ Some (id_number kind n) → ⊥
 no_id t kind n none some = some≢none (sym some ∙ none)
 
-pub text_at : (kind : IdKind) (n k : ℕ) (a b text : List ℕ) → k ≡ kind_number kind → a ≡ to_be_bytes w128 (k * 2 ^ 64 + n) → b ≡ a → text ≡ hyphenated_text lower b → text ≡ id_text kind n
+pub text_at : (kind : IdKind) (n k : ℕ) (a b text : List ℕ) → k ≡ kind_number kind → a ≡ to_be_bytes w128 (k * 2 ^ 64 + n) → b ≡ a →
+    text ≡ hyphenated_text lower b → text ≡ id_text kind n
 text_at kind n k a b text is_k is_a is_b is_text = rw (is_text, is_b, is_a, is_k) refl

@@ -26,7 +26,8 @@ right_none false b e = e
 module _ {A : Type 0} where
   pub filter-append : (p : A → Bool) (xs ys : List A) → filter p (xs ++ ys) ≡ filter p xs ++ filter p ys
   filter-append p [] ys = refl
-  filter-append p (x ∷ xs) ys = elim (p x) as (λ b. cond b (x ∷ filter p (xs ++ ys)) (filter p (xs ++ ys)) ≡ cond b (x ∷ filter p xs) (filter p xs) ++ filter p ys) [
+  filter-append p (x ∷ xs) ys = elim (p x) as (λ b. cond b (x ∷ filter p (xs ++ ys)) (filter p (xs ++ ys)) ≡ cond b (x ∷ filter p xs) (filter p xs) ++
+      filter p ys) [
     | true ↦ ap (λ r. x ∷ r) (filter-append p xs ys)
     | false ↦ filter-append p xs ys
   ]
@@ -88,7 +89,8 @@ module _ {A : Type 0} where
   fold_chosen alone f p h [] s = refl
   fold_chosen alone f p h (x ∷ xs) s = fold_chosen alone f p h xs (f s x)
       ∙ ap (λ r. fold f r (filter p xs)) (h s x)
-      ∙ elim (p x) as (λ b. fold f (cond b (f (alone s) x) (alone s)) (filter p xs) ≡ fold f (alone s) (cond b (x ∷ filter p xs) (filter p xs))) [ true ↦ refl | false ↦ refl ]
+      ∙ elim (p x) as (λ b. fold f (cond b (f (alone s) x) (alone s)) (filter p xs) ≡ fold f (alone s) (cond b (x ∷ filter p xs) (filter p xs)))
+          [ true ↦ refl | false ↦ refl ]
 
   -- a filter that only chosen items pass
   pub filter_inside : (p f : A → Bool) (xs : List A) → Each (λ x. p x ≡ false → f x ≡ false) xs → filter f xs ≡ filter f (filter p xs)
@@ -100,7 +102,8 @@ module _ {A : Type 0} where
         | false ↦ λ t. ap (λ b. cond b (x ∷ filter f xs) (filter f xs)) (h.0 t) ∙ rest
       ] refl
 
-  pub flat_map_inside : {B : Type 0} (p : A → Bool) (f : A → List B) (xs : List A) → Each (λ x. p x ≡ false → f x ≡ []) xs → flat_map f xs ≡ flat_map f (filter p xs)
+  pub flat_map_inside : {B : Type 0} (p : A → Bool) (f : A → List B) (xs : List A) → Each (λ x. p x ≡ false → f x ≡ []) xs →
+      flat_map f xs ≡ flat_map f (filter p xs)
   flat_map_inside p f [] h = refl
   flat_map_inside p f (x ∷ xs) h =
       let rest = flat_map_inside p f xs h.1 in
@@ -116,10 +119,12 @@ module _ {A : Type 0} where
     | false ↦ any_part p f xs (right_none (f x) _ e)
   ]
 
-pub filter_flat_map : {A B : Type 0} (p : A → Bool) (q : B → Bool) (f : A → List B) (xs : List A) → Each (λ x. (p x ≡ true → filter q (f x) ≡ f x) × (p x ≡ false → filter q (f x) ≡ [])) xs → filter q (flat_map f xs) ≡ flat_map f (filter p xs)
+pub filter_flat_map : {A B : Type 0} (p : A → Bool) (q : B → Bool) (f : A → List B) (xs : List A) →
+    Each (λ x. (p x ≡ true → filter q (f x) ≡ f x) × (p x ≡ false → filter q (f x) ≡ [])) xs → filter q (flat_map f xs) ≡ flat_map f (filter p xs)
 filter_flat_map p q f [] h = refl
 filter_flat_map p q f (x ∷ xs) h =
-    filter-append q (f x) (flat_map f xs) ∙ (elim (p x) as (λ b. p x ≡ b → filter q (f x) ++ filter q (flat_map f xs) ≡ flat_map f (cond b (x ∷ filter p xs) (filter p xs))) [
+    filter-append q (f x) (flat_map f xs) ∙ (elim (p x) as
+        (λ b. p x ≡ b → filter q (f x) ++ filter q (flat_map f xs) ≡ flat_map f (cond b (x ∷ filter p xs) (filter p xs))) [
       | true ↦ λ t i. h.0.0 t i ++ filter_flat_map p q f xs h.1 i
       | false ↦ λ t. (λ i. h.0.1 t i ++ filter_flat_map p q f xs h.1 i)
     ] refl)

@@ -1,5 +1,8 @@
 -- A byte string has one reading, but for the two freedoms.
-use Rattle.std.proofs.Common.{take-add, ◌≡◌, ℕ, ◌+◌, ◌-◌, ◌<◌, ◌⊎◌, inl, inr, Bool, true, false, List, [], ◌∷◌, ◌++◌, map, length, take, drop, sym, refl, ap, ◌∙◌, subst, append_assoc, arith}
+use Rattle.std.proofs.Common.{
+    take-add, ◌≡◌, ℕ, ◌+◌, ◌-◌, ◌<◌, ◌⊎◌, inl, inr, Bool, true, false, List, [], ◌∷◌, ◌++◌, map, length, take, drop,
+    sym, refl, ap, ◌∙◌, subst, append_assoc, arith
+}
 use Rattle.std.specs.Prelude.{Ok, MatchBool}
 use Rattle.std.proofs.lemmas.Bool.{false≢true}
 use Rattle.std.proofs.lemmas.List.{append-nil, length-append, take_at, drop_at, take-append-le}
@@ -7,7 +10,11 @@ use Rattle.httparse.specs.Grammar.{RequestHead, IsRequestHead, print_request, Re
 use Rattle.httparse.specs.Spans.{RequestOverflows, name_and_value}
 use Rattle.httparse.proofs.GrammarLemmas.{request_unique}
 use Rattle.ns_types.specs.declared.reply.HeadFault.{HeadFault}
-use Rattle.ns_types.specs.Wire.Http.{IsHead, Message, print_message, IsMessage, closes, body_len, RefusesHead, malformed, framing, too_long, too_many, IsPartial, in_head, in_body, Received, Whole, Refused, Takes, End, Clean, Partial, Closed, is_closed, IsRest, IsFaultyAndOver, faulty_long, faulty_many, ReadAlike}
+use Rattle.ns_types.specs.Wire.Http.{
+    IsHead, Message, print_message, IsMessage, closes, body_len, RefusesHead, malformed, framing, too_long, too_many,
+    IsPartial, in_head, in_body, Received, Whole, Refused, Takes, End, Clean, Partial, Closed, is_closed, IsRest,
+    IsFaultyAndOver, faulty_long, faulty_many, ReadAlike
+}
 
 -- a head takes some bytes
 length-print_request : (h : RequestHead) → IsRequestHead h → 0 < length (print_request h)
@@ -41,7 +48,8 @@ stands_early bytes h rest is e none =
     none h _ (is.grammar, front)
 
 -- a head within the limits that states a length is not refused
-not_refused : (bytes : List ℕ) (h : RequestHead) (rest : List ℕ) (len : ℕ) (fault : HeadFault) → IsHead h → bytes ≡ print_request h ++ rest → body_len (map name_and_value h.fields) ≡ Ok len → RefusesHead bytes fault → ⊥
+not_refused : (bytes : List ℕ) (h : RequestHead) (rest : List ℕ) (len : ℕ) (fault : HeadFault) → IsHead h → bytes ≡ print_request h ++ rest →
+    body_len (map name_and_value h.fields) ≡ Ok len → RefusesHead bytes fault → ⊥
 not_refused bytes h rest len fault is e framed (malformed never) = never_now bytes h rest never (is.grammar, e)
 not_refused bytes h rest len fault is e framed (framing k other fault' is' e' framed') =
     let same = request_unique bytes h k rest other (is.grammar, e) (is'.grammar, e') in
@@ -50,7 +58,8 @@ not_refused bytes h rest len fault is e framed (too_long long none may) = stands
 not_refused bytes h rest len fault is e framed (too_many exceeds over) = few_fields bytes h rest is e over
 
 -- two whole requests at the front are one
-whole_unique : (bytes : List ℕ) (m n : Message) (r q : List ℕ) → IsMessage m → IsMessage n → bytes ≡ print_message m ++ r → bytes ≡ print_message n ++ q → (m ≡ n) × (r ≡ q)
+whole_unique : (bytes : List ℕ) (m n : Message) (r q : List ℕ) → IsMessage m → IsMessage n → bytes ≡ print_message m ++ r → bytes ≡ print_message n ++ q →
+    (m ≡ n) × (r ≡ q)
 whole_unique bytes m n r q is is' e e' =
     let same = request_unique bytes m.head n.head (m.body ++ r) (n.body ++ q) (head_reads bytes m r is e) (head_reads bytes n q is' e') in
     let framed = sym is.framed ∙ ap (λ (x : RequestHead). body_len (map name_and_value x.fields)) same.0 ∙ is'.framed in
@@ -60,7 +69,8 @@ whole_unique bytes m n r q is is' e e' =
     (λ i. record { head = same.0 i; body = body i }, rest)
 
 -- a whole request is no rest
-not_rest : (bytes : List ℕ) (m : Message) (rest : List ℕ) (end : End) → IsMessage m → bytes ≡ print_message m ++ rest → is_closed end ≡ false → IsRest end bytes → ⊥
+not_rest : (bytes : List ℕ) (m : Message) (rest : List ℕ) (end : End) → IsMessage m → bytes ≡ print_message m ++ rest → is_closed end ≡ false →
+    IsRest end bytes → ⊥
 not_rest bytes m rest Clean is e f r = nothing_reads bytes m.head (m.body ++ rest) r (head_reads bytes m rest is e)
 not_rest bytes m rest Partial is e f r = not_partial bytes m rest is e r.0
   where
@@ -122,23 +132,31 @@ closed_end Clean f p q = absurd (false≢true p)
 closed_end Partial f p q = absurd (false≢true p)
 
 -- what follows a whole request is read in one way
-after_whole : (b : Bool) (after : List ℕ) (xs ys : List Received) (e f : End) (r q : List ℕ) → MatchBool b ((xs ≡ []) × (is_closed e ≡ true) × (after ≡ r)) (Takes after xs (is_closed e) r) → MatchBool b ((ys ≡ []) × (is_closed f ≡ true) × (after ≡ q)) (Takes after ys (is_closed f) q) → (Takes after xs (is_closed e) r → Takes after ys (is_closed f) q → ReadAlike after xs e ys f) → MatchBool b ((xs ≡ []) × (ys ≡ []) × (e ≡ f)) (ReadAlike after xs e ys f)
+after_whole : (b : Bool) (after : List ℕ) (xs ys : List Received) (e f : End) (r q : List ℕ) →
+    MatchBool b ((xs ≡ []) × (is_closed e ≡ true) × (after ≡ r)) (Takes after xs (is_closed e) r) →
+    MatchBool b ((ys ≡ []) × (is_closed f ≡ true) × (after ≡ q)) (Takes after ys (is_closed f) q) →
+    (Takes after xs (is_closed e) r → Takes after ys (is_closed f) q → ReadAlike after xs e ys f) →
+    MatchBool b ((xs ≡ []) × (ys ≡ []) × (e ≡ f)) (ReadAlike after xs e ys f)
 after_whole true after xs ys e f r q x y agree = (x.0, y.0, closed_end e f x.1 y.1)
 after_whole false after xs ys e f r q x y agree = agree x y
 
-pub one_reading : (xs ys : List Received) (bytes : List ℕ) (e f : End) (r q : List ℕ) → Takes bytes xs (is_closed e) r → IsRest e r → Takes bytes ys (is_closed f) q → IsRest f q → ReadAlike bytes xs e ys f
+pub one_reading : (xs ys : List Received) (bytes : List ℕ) (e f : End) (r q : List ℕ) → Takes bytes xs (is_closed e) r → IsRest e r →
+    Takes bytes ys (is_closed f) q → IsRest f q → ReadAlike bytes xs e ys f
 one_reading [] [] bytes e f r q t i u j = same_end bytes e f t.0 u.0 (subst (IsRest e) (sym t.1) i) (subst (IsRest f) (sym u.1) j)
 one_reading [] (Refused b ∷ ys) bytes e f r q t i u j = (refused_rest bytes b e u.0 t.0 (subst (IsRest e) (sym t.1) i), t.0)
 one_reading [] (Whole n ∷ ys) bytes e f r q t i u j = not_rest bytes n u.1 e u.0 u.2 t.0 (subst (IsRest e) (sym t.1) i)
 one_reading (Refused a ∷ xs) [] bytes e f r q t i u j = (refused_rest bytes a f t.0 u.0 (subst (IsRest f) (sym u.1) j), u.0)
 one_reading (Refused a ∷ xs) (Refused b ∷ ys) bytes e f r q t i u j = refusals_agree bytes a b t.0 u.0
-one_reading (Refused a ∷ xs) (Whole n ∷ ys) bytes e f r q t i u j = not_refused bytes n.head (n.body ++ u.1) _ a u.0.head (head_reads bytes n u.1 u.0 u.2).1 u.0.framed t.0
+one_reading (Refused a ∷ xs) (Whole n ∷ ys) bytes e f r q t i u j =
+    not_refused bytes n.head (n.body ++ u.1) _ a u.0.head (head_reads bytes n u.1 u.0 u.2).1 u.0.framed t.0
 one_reading (Whole m ∷ xs) [] bytes e f r q t i u j = not_rest bytes m t.1 f t.0 t.2 u.0 (subst (IsRest f) (sym u.1) j)
-one_reading (Whole m ∷ xs) (Refused b ∷ ys) bytes e f r q t i u j = not_refused bytes m.head (m.body ++ t.1) _ b t.0.head (head_reads bytes m t.1 t.0 t.2).1 t.0.framed u.0
+one_reading (Whole m ∷ xs) (Refused b ∷ ys) bytes e f r q t i u j =
+    not_refused bytes m.head (m.body ++ t.1) _ b t.0.head (head_reads bytes m t.1 t.0 t.2).1 t.0.framed u.0
 one_reading (Whole m ∷ xs) (Whole n ∷ ys) bytes e f r q t i u j =
     let same = whole_unique bytes m n t.1 u.1 t.0 u.0 t.2 u.2 in
     let there : MatchBool (closes m) ((ys ≡ []) × (is_closed f ≡ true) × (t.1 ≡ q)) (Takes t.1 ys (is_closed f) q) =
-    subst (λ k. MatchBool (closes k) ((ys ≡ []) × (is_closed f ≡ true) × (t.1 ≡ q)) (Takes t.1 ys (is_closed f) q)) (sym same.0) (subst (λ l. MatchBool (closes n) ((ys ≡ []) × (is_closed f ≡ true) × (l ≡ q)) (Takes l ys (is_closed f) q)) (sym same.1) u.3) in
+    subst (λ k. MatchBool (closes k) ((ys ≡ []) × (is_closed f ≡ true) × (t.1 ≡ q)) (Takes t.1 ys (is_closed f) q)) (sym same.0)
+        (subst (λ l. MatchBool (closes n) ((ys ≡ []) × (is_closed f ≡ true) × (l ≡ q)) (Takes l ys (is_closed f) q)) (sym same.1) u.3) in
     (same.0, t.1, t.2, after_whole (closes m) t.1 xs ys e f r q t.3 there (λ x y. one_reading xs ys t.1 e f r q x i y j))
 
 -- a refusal stands whatever follows
@@ -163,4 +181,5 @@ pub Takes-closed-more : (xs : List Received) (bytes rest more : List ℕ) → Ta
 Takes-closed-more [] bytes rest more t = absurd (false≢true (sym t.0))
 Takes-closed-more (Refused a ∷ xs) bytes rest more t = (RefusesHead-more bytes more a t.0, t.1, t.2, ap (λ l. l ++ more) t.3)
 Takes-closed-more (Whole m ∷ xs) bytes rest more t =
-    (t.0, t.1 ++ more, ap (λ l. l ++ more) t.2 ∙ append_assoc (print_message m) t.1 more, MatchBool-map (closes m) (λ x. (x.0, x.1, ap (λ l. l ++ more) x.2)) (λ x. Takes-closed-more xs t.1 rest more x) t.3)
+    (t.0, t.1 ++ more, ap (λ l. l ++ more) t.2 ∙ append_assoc (print_message m) t.1 more, MatchBool-map (closes m) (λ x. (x.0, x.1, ap (λ l. l ++ more) x.2))
+        (λ x. Takes-closed-more xs t.1 rest more x) t.3)

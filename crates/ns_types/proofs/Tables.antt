@@ -1,10 +1,16 @@
 -- What the functions of `specs/Tables.antt` answer, and that they go along with a choice of keys.
-use Rattle.std.specs.Prelude.{◌≡◌, Bool, true, false, cond, not, T, List, [], ◌∷◌, map, Option, Some, None, ◌&&◌, ◌||◌, option_map, is_some, filter, flat_map, unwrap_or}
+use Rattle.std.specs.Prelude.{
+    ◌≡◌, Bool, true, false, cond, not, T, List, [], ◌∷◌, map, Option, Some, None, ◌&&◌, ◌||◌, option_map, is_some,
+    filter, flat_map, unwrap_or
+}
 use Rattle.std.proofs.Common.{ℕ, ◌+◌, sum_by, add-zero, fold, refl, sym, ap, subst, ◌∙◌, Ordering, Less, Equal, Greater, is_eq, is_lt}
 use Rattle.std.specs.List.{list_any}
 use Rattle.std.specs.Ordering.{eq_by_cmp}
 use Rattle.std.specs.Cmp.{IsTotalOrder, tied_itself}
-use Rattle.std.specs.FinMap.{FinMap, IsAntisymmetric, entries, entries_sorted, entries-from_sorted, same_map, get, get-entries, get-insert, get-retain_keys, insert, retain_keys}
+use Rattle.std.specs.FinMap.{
+    FinMap, IsAntisymmetric, entries, entries_sorted, entries-from_sorted, same_map, get, get-entries, get-insert,
+    get-retain_keys, insert, retain_keys
+}
 use Rattle.std.specs.FinMap.Entries.{find, where_key, below_all, is_sorted, same_entries, is_sorted-where_key, find-where_key}
 use Rattle.ns_types.specs.State.Tables.{map_rows, table_of, any_row}
 use Rattle.ns_types.specs.State.Lists.{Each}
@@ -84,25 +90,29 @@ module _ {K X : Type 0} {R : K → K → Ordering} (o : IsTotalOrder R) (same : 
   unfolding changed
   find-changed f q [] = refl
   find-changed f q (e ∷ es) =
-      elim (eq_by_cmp R q e.0) as (λ b. eq_by_cmp R q e.0 ≡ b → cond b (Some (f e.0 e.1)) (find R q (changed f es)) ≡ option_map (f q) (cond b (Some e.1) (find R q es))) [
+      elim (eq_by_cmp R q e.0) as (λ b. eq_by_cmp R q e.0 ≡ b →
+          cond b (Some (f e.0 e.1)) (find R q (changed f es)) ≡ option_map (f q) (cond b (Some e.1) (find R q es))) [
         | true ↦ λ p. ap (λ k. Some (f k e.1)) (sym (tied same q e.0 p))
         | false ↦ λ p. find-changed f q es
       ] refl
 
   pub get-table_of : {Y : Type 0} (f : K → X → Y) (m : FinMap R X) (q : K) → get (table_of f m) q ≡ option_map (f q) (get m q)
   unfolding changed
-  get-table_of f m q = get-entries (table_of f m) q ∙ ap (find R q) (entries-table_of f m) ∙ find-changed f q (entries m) ∙ ap (option_map (f q)) (sym (get-entries m q))
+  get-table_of f m q = get-entries (table_of f m) q ∙ ap (find R q) (entries-table_of f m) ∙ find-changed f q (entries m) ∙
+      ap (option_map (f q)) (sym (get-entries m q))
 
   pub get-map_rows : (f : K → X → X) (m : FinMap R X) (q : K) → get (map_rows f m) q ≡ option_map (f q) (get m q)
   unfolding changed
-  get-map_rows f m q = get-entries (map_rows f m) q ∙ ap (find R q) (entries-map_rows f m) ∙ find-changed f q (entries m) ∙ ap (option_map (f q)) (sym (get-entries m q))
+  get-map_rows f m q = get-entries (map_rows f m) q ∙ ap (find R q) (entries-map_rows f m) ∙ find-changed f q (entries m) ∙
+      ap (option_map (f q)) (sym (get-entries m q))
 
   pub get-retain : (m : FinMap R X) (p : K → Bool) (q : K) → get (retain_keys m p) q ≡ cond (p q) (get m q) None
   get-retain m p q = get-retain_keys m p q (alike same p q)
 
   pub entries-retain : (m : FinMap R X) (p : K → Bool) → entries (retain_keys m p) ≡ where_key R p (entries m)
   entries-retain m p = same_entries R o same _ _ (entries_sorted (retain_keys m p)) (is_sorted-where_key R p (entries m) (entries_sorted m))
-      (λ q. sym (get-entries (retain_keys m p) q) ∙ get-retain m p q ∙ ap (λ x. cond (p q) x None) (get-entries m q) ∙ sym (find-where_key R p q (alike same p q) (entries m)))
+      (λ q. sym (get-entries (retain_keys m p) q) ∙ get-retain m p q ∙ ap (λ x. cond (p q) x None) (get-entries m q) ∙
+          sym (find-where_key R p q (alike same p q) (entries m)))
 
   -- a choice of keys goes through an insertion: the row is chosen with its key, or it was never there
   retain_cases : (p a : Bool) (x y : Option X) → cond p (cond a x y) None ≡ cond a (cond p x None) (cond p y None)
@@ -110,10 +120,12 @@ module _ {K X : Type 0} {R : K → K → Ordering} (o : IsTotalOrder R) (same : 
   retain_cases false true x y = refl
   retain_cases false false x y = refl
 
-  pub retain-insert : (m : FinMap R X) (p : K → Bool) (k : K) (v : X) → retain_keys (insert m k v) p ≡ cond (p k) (insert (retain_keys m p) k v) (retain_keys m p)
+  pub retain-insert : (m : FinMap R X) (p : K → Bool) (k : K) (v : X) →
+      retain_keys (insert m k v) p ≡ cond (p k) (insert (retain_keys m p) k v) (retain_keys m p)
   retain-insert m p k v = same_map o same _ _ (λ q.
       get-retain (insert m k v) p q ∙ ap (λ x. cond (p q) x None) (get-insert o m k v q) ∙ retain_cases (p q) (eq_by_cmp R q k) (Some v) (get m q)
-      ∙ (elim (eq_by_cmp R q k) as (λ b. eq_by_cmp R q k ≡ b → cond b (cond (p q) (Some v) None) (cond (p q) (get m q) None) ≡ get (cond (p k) (insert (retain_keys m p) k v) (retain_keys m p)) q) [
+      ∙ (elim (eq_by_cmp R q k) as (λ b. eq_by_cmp R q k ≡ b →
+          cond b (cond (p q) (Some v) None) (cond (p q) (get m q) None) ≡ get (cond (p k) (insert (retain_keys m p) k v) (retain_keys m p)) q) [
         | true ↦ λ t. ap (λ x. cond (p x) (Some v) None) (tied same q k t) ∙ at_key q t
         | false ↦ λ t. sym (get-retain m p q) ∙ elsewhere q t
       ] refl))
@@ -169,10 +181,12 @@ module _ {K X : Type 0} {R : K → K → Ordering} (o : IsTotalOrder R) (same : 
   pub each_row : (P : K → X → Type 0) (m : FinMap R X) → ((k : K) (x : X) → get m k ≡ Some x → P k x) → Each (λ e. P e.0 e.1) (entries m)
   each_row P m holds = each_entry P (entries m) (entries_sorted m) (λ k x is. holds k x (get-entries m k ∙ is))
 
-  any_chosen : (f g : K → X → Bool) (p : K → Bool) (es : List (K × X)) → Each (λ e. (p e.0 ≡ true → f e.0 e.1 ≡ g e.0 e.1) × (p e.0 ≡ false → f e.0 e.1 ≡ false)) es
+  any_chosen : (f g : K → X → Bool) (p : K → Bool) (es : List (K × X)) →
+      Each (λ e. (p e.0 ≡ true → f e.0 e.1 ≡ g e.0 e.1) × (p e.0 ≡ false → f e.0 e.1 ≡ false)) es
       → list_any (λ e. f e.0 e.1) es ≡ list_any (λ e. g e.0 e.1) (where_key R p es)
   any_chosen f g p [] h = refl
-  any_chosen f g p (e ∷ es) h = elim (p e.0) as (λ b. p e.0 ≡ b → (f e.0 e.1 || list_any (λ e. f e.0 e.1) es) ≡ list_any (λ e. g e.0 e.1) (cond b (e ∷ where_key R p es) (where_key R p es))) [
+  any_chosen f g p (e ∷ es) h = elim (p e.0) as (λ b. p e.0 ≡ b →
+      (f e.0 e.1 || list_any (λ e. f e.0 e.1) es) ≡ list_any (λ e. g e.0 e.1) (cond b (e ∷ where_key R p es) (where_key R p es))) [
     | true ↦ λ t i. h.0.0 t i || any_chosen f g p es h.1 i
     | false ↦ λ t i. (h.0.1 t ∙ refl) i || any_chosen f g p es h.1 i
   ] refl
@@ -192,9 +206,11 @@ module _ {K X : Type 0} {R : K → K → Ordering} (o : IsTotalOrder R) (same : 
   unfolding any_row
   any_row-none f m h = none_passes (λ e. f e.0 e.1) (entries m) (each_row _ m h)
 
-  sum_chosen : (f : K × X → ℕ) (p : K → Bool) (n : ℕ) (es : List (K × X)) → Each (λ e. p e.0 ≡ false → f e ≡ 0) es → fold (λ a e. a + f e) n es ≡ fold (λ a e. a + f e) n (where_key R p es)
+  sum_chosen : (f : K × X → ℕ) (p : K → Bool) (n : ℕ) (es : List (K × X)) → Each (λ e. p e.0 ≡ false → f e ≡ 0) es →
+      fold (λ a e. a + f e) n es ≡ fold (λ a e. a + f e) n (where_key R p es)
   sum_chosen f p n [] h = refl
-  sum_chosen f p n (e ∷ es) h = elim (p e.0) as (λ b. p e.0 ≡ b → fold (λ a e. a + f e) (n + f e) es ≡ fold (λ a e. a + f e) n (cond b (e ∷ where_key R p es) (where_key R p es))) [
+  sum_chosen f p n (e ∷ es) h = elim (p e.0) as (λ b. p e.0 ≡ b →
+      fold (λ a e. a + f e) (n + f e) es ≡ fold (λ a e. a + f e) n (cond b (e ∷ where_key R p es) (where_key R p es))) [
     | true ↦ λ t. sum_chosen f p (n + f e) es h.1
     | false ↦ λ t. ap (λ k. fold (λ a e. a + f e) k es) (ap (λ k. n + k) (h.0 t) ∙ add-zero n) ∙ sum_chosen f p n es h.1
   ] refl
@@ -202,16 +218,19 @@ module _ {K X : Type 0} {R : K → K → Ordering} (o : IsTotalOrder R) (same : 
   -- rows outside the choice that count nothing leave the sum to the chosen ones
   pub sum-retain : (f : K → X → ℕ) (m : FinMap R X) (p : K → Bool) → ((k : K) (x : X) → get m k ≡ Some x → p k ≡ false → f k x ≡ 0)
       → sum_by (λ e. f e.0 e.1) (entries m) ≡ sum_by (λ e. f e.0 e.1) (entries (retain_keys m p))
-  sum-retain f m p h = sum_chosen (λ e. f e.0 e.1) p 0 (entries m) (each_row (λ k x. p k ≡ false → f k x ≡ 0) m h) ∙ ap (sum_by (λ e. f e.0 e.1)) (sym (entries-retain m p))
+  sum-retain f m p h = sum_chosen (λ e. f e.0 e.1) p 0 (entries m) (each_row (λ k x. p k ≡ false → f k x ≡ 0) m h) ∙
+      ap (sum_by (λ e. f e.0 e.1)) (sym (entries-retain m p))
 
   -- the same of the rows of a table
   pub filter-retain : (f : K → X → Bool) (m : FinMap R X) (p : K → Bool) → ((k : K) (x : X) → get m k ≡ Some x → p k ≡ false → f k x ≡ false)
       → filter (λ e. f e.0 e.1) (entries m) ≡ filter (λ e. f e.0 e.1) (entries (retain_keys m p))
-  filter-retain f m p h = filter_inside (λ e. p e.0) (λ e. f e.0 e.1) (entries m) (each_row (λ k x. p k ≡ false → f k x ≡ false) m h) ∙ ap (filter (λ e. f e.0 e.1)) (sym (entries-retain m p))
+  filter-retain f m p h = filter_inside (λ e. p e.0) (λ e. f e.0 e.1) (entries m) (each_row (λ k x. p k ≡ false → f k x ≡ false) m h) ∙
+      ap (filter (λ e. f e.0 e.1)) (sym (entries-retain m p))
 
   pub flat_map-retain : {Y : Type 0} (f : K → X → List Y) (m : FinMap R X) (p : K → Bool) → ((k : K) (x : X) → get m k ≡ Some x → p k ≡ false → f k x ≡ [])
       → flat_map (λ e. f e.0 e.1) (entries m) ≡ flat_map (λ e. f e.0 e.1) (entries (retain_keys m p))
-  flat_map-retain f m p h = flat_map_inside (λ e. p e.0) (λ e. f e.0 e.1) (entries m) (each_row (λ k x. p k ≡ false → f k x ≡ []) m h) ∙ ap (flat_map (λ e. f e.0 e.1)) (sym (entries-retain m p))
+  flat_map-retain f m p h = flat_map_inside (λ e. p e.0) (λ e. f e.0 e.1) (entries m) (each_row (λ k x. p k ≡ false → f k x ≡ []) m h) ∙
+      ap (flat_map (λ e. f e.0 e.1)) (sym (entries-retain m p))
 
   -- what no row does, no chosen row does
   pub any_row-retain-none : (f : K → X → Bool) (m : FinMap R X) (p : K → Bool) → any_row f m ≡ false → any_row f (retain_keys m p) ≡ false
@@ -226,21 +245,28 @@ module _ {K X : Type 0} {R : K → K → Ordering} (o : IsTotalOrder R) (same : 
       by true own is = (is, own)
       by false other is = absurd (not_Some x is)
 
-  split_any : (f : K × X → Bool) (p : K → Bool) (es : List (K × X)) → list_any f es ≡ (list_any f (where_key R p es) || list_any f (where_key R (λ k. not (p k)) es))
+  split_any : (f : K × X → Bool) (p : K → Bool) (es : List (K × X)) →
+      list_any f es ≡ (list_any f (where_key R p es) || list_any f (where_key R (λ k. not (p k)) es))
   split_any f p [] = refl
-  split_any f p (e ∷ es) = ap (λ b. f e || b) (split_any f p es) ∙ elim (p e.0) as (λ b. (f e || (list_any f (where_key R p es) || list_any f (where_key R (λ k. not (p k)) es)))
-      ≡ (list_any f (cond b (e ∷ where_key R p es) (where_key R p es)) || list_any f (cond (not b) (e ∷ where_key R (λ k. not (p k)) es) (where_key R (λ k. not (p k)) es)))) [
+  split_any f p (e ∷ es) = ap (λ b. f e || b) (split_any f p es) ∙
+      elim (p e.0) as (λ b. (f e || (list_any f (where_key R p es) || list_any f (where_key R (λ k. not (p k)) es)))
+      ≡ (list_any f (cond b (e ∷ where_key R p es) (where_key R p es))
+          || list_any f (cond (not b) (e ∷ where_key R (λ k. not (p k)) es) (where_key R (λ k. not (p k)) es)))) [
         | true ↦ or_first (f e) _ _
         | false ↦ or_second (f e) (list_any f (where_key R p es)) _
       ]
 
   -- what no row outside the choice does, some row does where a chosen one does
-  pub any_row-chosen : (f : K → X → Bool) (m : FinMap R X) (p : K → Bool) → any_row f (retain_keys m (λ k. not (p k))) ≡ false → any_row f m ≡ any_row f (retain_keys m p)
+  pub any_row-chosen : (f : K → X → Bool) (m : FinMap R X) (p : K → Bool) → any_row f (retain_keys m (λ k. not (p k))) ≡ false →
+      any_row f m ≡ any_row f (retain_keys m p)
   unfolding any_row
-  any_row-chosen f m p e = split_any (λ e. f e.0 e.1) p (entries m) ∙ (λ i. list_any (λ e. f e.0 e.1) (sym (entries-retain m p) i) || (ap (list_any (λ e. f e.0 e.1)) (sym (entries-retain m (λ k. not (p k)))) ∙ e) i) ∙ or_none _
+  any_row-chosen f m p e = split_any (λ e. f e.0 e.1) p (entries m) ∙
+      (λ i. list_any (λ e. f e.0 e.1) (sym (entries-retain m p) i) || (ap (list_any (λ e. f e.0 e.1)) (sym (entries-retain m (λ k. not (p k)))) ∙ e) i) ∙
+      or_none _
 
   pub insert_same : (m : FinMap R X) (k : K) (v : X) → get m k ≡ Some v → insert m k v ≡ m
-  insert_same m k v is = same_map o same _ _ (λ q. get-insert o m k v q ∙ elim (eq_by_cmp R q k) as (λ b. eq_by_cmp R q k ≡ b → cond b (Some v) (get m q) ≡ get m q) [
+  insert_same m k v is = same_map o same _ _ (λ q. get-insert o m k v q ∙
+      elim (eq_by_cmp R q k) as (λ b. eq_by_cmp R q k ≡ b → cond b (Some v) (get m q) ≡ get m q) [
     | true ↦ λ t. sym is ∙ ap (get m) (sym (tied same q k t))
     | false ↦ λ _. refl
   ] refl)
@@ -249,10 +275,14 @@ module _ {K X : Type 0} {R : K → K → Ordering} (o : IsTotalOrder R) (same : 
 
 module _ {K X Y : Type 0} {R : K → K → Ordering} (o : IsTotalOrder R) (same : IsAntisymmetric R) where
   -- where the rows are made otherwise at one key alone, the table has a new row there
-  pub table_of-at : (f g : K → X → Y) (m : FinMap R X) (k : K) (x : X) → get m k ≡ Some x → ((q : K) (y : X) → eq_by_cmp R q k ≡ false → g q y ≡ f q y) → table_of g m ≡ insert (table_of f m) k (g k x)
-  table_of-at f g m k x is elsewhere = same_map o same _ _ (λ q. get-table_of o same g m q ∙ (elim (eq_by_cmp R q k) as (λ b. eq_by_cmp R q k ≡ b → option_map (g q) (get m q) ≡ cond b (Some (g k x)) (get (table_of f m) q)) [
+  pub table_of-at : (f g : K → X → Y) (m : FinMap R X) (k : K) (x : X) → get m k ≡ Some x → ((q : K) (y : X) → eq_by_cmp R q k ≡ false → g q y ≡ f q y) →
+      table_of g m ≡ insert (table_of f m) k (g k x)
+  table_of-at f g m k x is elsewhere = same_map o same _ _
+      (λ q. get-table_of o same g m q ∙ (elim (eq_by_cmp R q k) as
+      (λ b. eq_by_cmp R q k ≡ b → option_map (g q) (get m q) ≡ cond b (Some (g k x)) (get (table_of f m) q)) [
     | true ↦ λ t. ap (λ j. option_map (g j) (get m j)) (tied same q k t) ∙ ap (option_map (g k)) is
-    | false ↦ λ t. (elim (get m q) as (λ y. option_map (g q) y ≡ option_map (f q) y) [ Some y ↦ ap Some (elsewhere q y t) | None ↦ refl ]) ∙ sym (get-table_of o same f m q)
+    | false ↦ λ t. (elim (get m q) as (λ y. option_map (g q) y ≡ option_map (f q) y) [ Some y ↦ ap Some (elsewhere q y t) | None ↦ refl ]) ∙
+        sym (get-table_of o same f m q)
   ] refl) ∙ sym (get-insert o (table_of f m) k (g k x) q))
 
 -- what no row does, the row at a key does not

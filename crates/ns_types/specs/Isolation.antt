@@ -63,10 +63,12 @@ pool_record w pool = option_map (λ p. p.pool) (get w.pools pool)
 -- the same record, records of its quota and its pools, and rights of each secret there
 pub record SameTables (ns : Name) (s t : State) : Type 0 where
   pub namespace : namespace_at t.world ns ≡ namespace_at s.world ns
-  pub quota : (quota : Name) → has_quota s.world ns quota ≡ true → quota_record t.world quota ≡ quota_record s.world quota
+  pub quota : (quota : Name) → has_quota s.world ns quota ≡ true →
+      quota_record t.world quota ≡ quota_record s.world quota
   pub pool : (pool : Name) → has_pool s.world ns pool ≡ true → pool_record t.world pool ≡ pool_record s.world pool
   pub rights : (secret : Option Name) → rights_of t.acl secret ns ≡ rights_of s.acl secret ns
-  pub pool_rights : (secret : Option Name) (pool : Name) → has_pool s.world ns pool ≡ true → pool_rights_of t.acl secret pool ≡ pool_rights_of s.acl secret pool
+  pub pool_rights : (secret : Option Name) (pool : Name) → has_pool s.world ns pool ≡ true →
+      pool_rights_of t.acl secret pool ≡ pool_rights_of s.acl secret pool
 
 -- besides access lists, t holds exactly what the namespace has in s
 pub record Agree (ns : Name) (s t : State) : Type 0 where
@@ -113,6 +115,7 @@ Keeps ns _ s s' = Unit {0}
 abbrev pub IsIsolated : Name → State → List Step → List Answer → State → Type 0
 IsIsolated ns s [] [] s' = (is_unshared s.world ns ≡ true) × (s' ≡ s)
 IsIsolated ns s (step ∷ steps) (answer ∷ answers) s' =
-    (mid : State) × (is_unshared s.world ns ≡ true) × (after step s ≡ said answer mid) × Keeps ns step s mid × IsIsolated ns mid steps answers s'
+    (mid : State) × (is_unshared s.world ns ≡ true) × (after step s ≡ said answer mid) × Keeps ns step s mid ×
+        IsIsolated ns mid steps answers s'
 IsIsolated ns s [] (answer ∷ answers) s' = ⊥
 IsIsolated ns s (step ∷ steps) [] s' = ⊥

@@ -1,5 +1,7 @@
 -- One step of the server, and a run of them.
-use Rattle.std.specs.Prelude.{◌≡◌, ℕ, ◌-◌, ◌^◌, Bool, true, ◌||◌, if◌then◌else◌, List, [], ◌∷◌, Option, Some, None, nat_lt, option_map}
+use Rattle.std.specs.Prelude.{
+    ◌≡◌, ℕ, ◌-◌, ◌^◌, Bool, true, ◌||◌, if◌then◌else◌, List, [], ◌∷◌, Option, Some, None, nat_lt, option_map
+}
 use Rattle.std.specs.FinMap.{get, insert, empty}
 use Rattle.ns_types.specs.declared.acl.TokenKind.TheVariants as TokenKind
 use Rattle.ns_types.specs.declared.refusal.Refusal.{Refusal}
@@ -50,14 +52,16 @@ abbrev pub greatest : ℕ
 greatest = 2 ^ 64 - 1
 
 abbrev pub is_tenant_past_bound : Tenant → Bool
-is_tenant_past_bound t = nat_lt greatest t.index || nat_lt greatest t.evaluation_number || nat_lt greatest t.allocation_number
+is_tenant_past_bound t = nat_lt greatest t.index || nat_lt greatest t.evaluation_number
+    || nat_lt greatest t.allocation_number
 
 abbrev pub is_pool_past_bound : PoolRows → Bool
 is_pool_past_bound p = nat_lt greatest p.release || any_row (λ _ node. nat_lt greatest node.places) p.nodes
 
 -- some counter has passed its bound
 unfoldable pub is_past_bound : World → Bool
-is_past_bound w = any_row (λ _ t. is_tenant_past_bound t) w.tenants || any_row (λ _ p. is_pool_past_bound p) w.pools || any_row (λ _ q. nat_lt greatest q.release) w.quotas
+is_past_bound w = any_row (λ _ t. is_tenant_past_bound t) w.tenants || any_row (λ _ p. is_pool_past_bound p) w.pools
+    || any_row (λ _ q. nat_lt greatest q.release) w.quotas
 
 -- ---- steps
 
@@ -80,7 +84,8 @@ settled s s' = record s' { world = settle s.world s'.world }
 
 -- a step that would pass a counter's bound is refused
 abbrev pub concluded_with : Step → State → Content → State → Option (Answer × State)
-concluded_with step s content s' = if is_past_bound s'.world then said (Err Refusal.Full) s else said (Ok (reply_of step content s'.world)) s'
+concluded_with step s content s' = if is_past_bound s'.world then said (Err Refusal.Full) s
+    else said (Ok (reply_of step content s'.world)) s'
 
 -- the answer and the state afterwards; a refusal leaves the state as it is
 abbrev pub concluded : Step → State → Outcome State → Option (Answer × State)
@@ -111,7 +116,8 @@ Run s (step ∷ steps) [] s' = ⊥
 -- ---- the opening state
 
 abbrev pub opening_tenant : Tenant
-opening_tenant = new_tenant (record { description = []; quota = None; default_pool = default_name; allowed = None; denied = [] })
+opening_tenant = new_tenant (record { description = []; quota = None; default_pool = default_name; allowed =
+    None; denied = [] })
 
 abbrev pub opening_pool : PoolRows
 opening_pool = with_pool (record { description = [] }) None
@@ -130,7 +136,8 @@ opening_world = record {
 abbrev pub opening_acl : Name → Acl
 opening_acl secret = record {
   policies = empty;
-  tokens = insert empty secret (record { accessor = bootstrap_accessor; name = []; kind = TokenKind.Management; policies = [] });
+  tokens = insert empty secret (record { accessor = bootstrap_accessor; name = []; kind =
+      TokenKind.Management; policies = [] });
 }
 
 unfoldable pub opening : Name → State

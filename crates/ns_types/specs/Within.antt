@@ -10,7 +10,10 @@ use Rattle.ns_types.specs.declared.step.NodeCommand.TheVariants as NodeCommand
 use Rattle.ns_types.specs.declared.step.Step.{Step}
 use Rattle.ns_types.specs.declared.step.Step.TheVariants as Step
 use Rattle.ns_types.specs.Asking.Policies.{token_of}
-use Rattle.ns_types.specs.State.Limits.{is_text, is_pool_name, is_good_registration, is_good_offer, is_good_namespace, is_good_quota, is_good_policy, is_good_token}
+use Rattle.ns_types.specs.State.Limits.{
+    is_text, is_pool_name, is_good_registration, is_good_offer, is_good_namespace, is_good_quota, is_good_policy,
+    is_good_token
+}
 use Rattle.ns_types.specs.State.Name.{is_name}
 use Rattle.ns_types.specs.Validity.{IsInOrder}
 
@@ -20,7 +23,8 @@ is_good_ask (AskCommand.Register r) = is_good_registration r
 is_good_ask _ = true
 
 abbrev pub is_good_admin : AdminCommand → Bool
-is_good_admin (AdminCommand.PutNamespace name namespace) = is_name NameKind.Namespace name && is_good_namespace namespace
+is_good_admin (AdminCommand.PutNamespace name namespace) = is_name NameKind.Namespace name
+    && is_good_namespace namespace
 is_good_admin (AdminCommand.PutQuota name quota) = is_name NameKind.Quota name && is_good_quota quota
 is_good_admin (AdminCommand.PutPool name pool) = is_pool_name name && is_text pool.description
 is_good_admin (AdminCommand.PutPolicy name policy) = is_name NameKind.Policy name && is_good_policy policy
@@ -28,7 +32,8 @@ is_good_admin (AdminCommand.CreateToken new) = is_name NameKind.Secret new.secre
 is_good_admin _ = true
 
 abbrev pub IsGoodTelling : NodeCommand → Type 0
-IsGoodTelling (NodeCommand.PutNode name offer) = IsTrue (is_name NameKind.Node name && is_good_offer offer) × IsInOrder offer
+IsGoodTelling (NodeCommand.PutNode name offer) = IsTrue (is_name NameKind.Node name && is_good_offer offer) ×
+    IsInOrder offer
 IsGoodTelling _ = Unit {0}
 
 abbrev pub IsGoodStep : Step → Type 0

@@ -11,7 +11,10 @@ use Rattle.ns_types.specs.declared.step.AdminCommand.{AdminCommand}
 use Rattle.ns_types.specs.declared.step.AdminCommand.TheVariants as AdminCommand
 use Rattle.ns_types.specs.declared.step.Step.TheVariants as Step
 use Rattle.ns_types.specs.Asking.Policies.{with_world, with_acl, administer}
-use Rattle.ns_types.specs.Asking.Admins.{with_namespace, put_namespace, delete_namespace, with_quota, put_quota, delete_quota, read_quota, with_pool, put_pool_record, delete_pool}
+use Rattle.ns_types.specs.Asking.Admins.{
+    with_namespace, put_namespace, delete_namespace, with_quota, put_quota, delete_quota, read_quota, with_pool,
+    put_pool_record, delete_pool
+}
 use Rattle.ns_types.specs.Isolation.{Part, alone_in, namespace_at, pool_record, quota_record}
 use Rattle.ns_types.specs.State.Names.{Name, ByName}
 use Rattle.ns_types.specs.Settling.Outcome.{Outcome, NotEnabled, Refused, Done, unless, lift}
@@ -32,11 +35,13 @@ use Rattle.ns_audit.proofs.Alone.Sides.{settled_leaves}
 module _ {X Y : Type 0} (m : ByName X) (p : Name → Bool) (name : Name) (kept : X → Y) where
   -- a row whose record is put anew: where the record is the same, nothing is changed
   put_kept : (f : Option X → X) (y : Y) → ((x : X) → kept x ≡ y → f (Some x) ≡ x) → ((o : Option X) → kept (f o) ≡ y)
-      → (p name ≡ true → option_map kept (get (insert m name (f (get m name))) name) ≡ option_map kept (get m name)) → retain_keys (insert m name (f (get m name))) p ≡ retain_keys m p
+      → (p name ≡ true → option_map kept (get (insert m name (f (get m name))) name) ≡ option_map kept (get m name)) →
+          retain_keys (insert m name (f (get m name))) p ≡ retain_keys m p
   put_kept f y same new tables = by (p name) refl
     where
       there : option_map kept (get (insert m name (f (get m name))) name) ≡ Some y
-      there = ap (option_map kept) (get-insert names m name (f (get m name)) name ∙ ap (λ b. cond b (Some (f (get m name))) (get m name)) (same_name_refl name)) ∙ ap Some (new (get m name))
+      there = ap (option_map kept) (get-insert names m name (f (get m name)) name ∙ ap (λ b. cond b (Some (f (get m name))) (get m name)) (same_name_refl name))
+          ∙ ap Some (new (get m name))
 
       row : (o : Option X) → get m name ≡ o → Some y ≡ option_map kept o → get m name ≡ Some (f (get m name))
       row None is e = absurd (no_path (sym e))
@@ -44,9 +49,11 @@ module _ {X Y : Type 0} (m : ByName X) (p : Name → Bool) (name : Name) (kept :
 
       by : (b : Bool) → p name ≡ b → retain_keys (insert m name (f (get m name))) p ≡ retain_keys m p
       by true own = ap (λ m. retain_keys m p) (insert_same names one_name m name (f (get m name)) (row (get m name) refl (sym there ∙ tables own)))
-      by false other = retain-insert names one_name m p name (f (get m name)) ∙ ap (λ b. cond b (insert (retain_keys m p) name (f (get m name))) (retain_keys m p)) other
+      by false other = retain-insert names one_name m p name (f (get m name)) ∙
+          ap (λ b. cond b (insert (retain_keys m p) name (f (get m name))) (retain_keys m p)) other
 
-  removed_kept : (x : X) → get m name ≡ Some x → (p name ≡ true → option_map kept (get (remove m name) name) ≡ option_map kept (get m name)) → retain_keys (remove m name) p ≡ retain_keys m p
+  removed_kept : (x : X) → get m name ≡ Some x → (p name ≡ true → option_map kept (get (remove m name) name) ≡ option_map kept (get m name)) →
+      retain_keys (remove m name) p ≡ retain_keys m p
   removed_kept x is tables = by (p name) refl
     where
       gone : option_map kept (get (remove m name) name) ≡ None
@@ -78,7 +85,8 @@ module _ (part : Part) (w : World) where
   namespace_put : (name : Name) (namespace : Namespace) → Alters part w (put_namespace name namespace w)
   unfolding put_namespace
   namespace_put name namespace = alters_unless _ _ _ (alters_unless _ _ _ (alters_unless _ _ _ (alters_unless _ _ _ (alters_unless _ _ _ (λ kept i.
-      record (alone_in part w) { tenants = put_kept w.tenants part.spaces name (λ t. t.namespace) (with_namespace namespace) namespace (λ t e i. record t { namespace = sym e i }) new (kept.spaces name) i })))))
+      record (alone_in part w) { tenants = put_kept w.tenants part.spaces name (λ t. t.namespace) (with_namespace namespace) namespace
+          (λ t e i. record t { namespace = sym e i }) new (kept.spaces name) i })))))
     where
       new : (o : Option Tenant) → (with_namespace namespace o).namespace ≡ namespace
       new None = refl
@@ -92,7 +100,8 @@ module _ (part : Part) (w : World) where
   quota_put : (name : Name) (quota : Quota) → Alters part w (put_quota name quota w)
   unfolding put_quota
   quota_put name quota = alters_unless _ _ _ (λ kept i.
-      record (alone_in part w) { quotas = put_kept w.quotas part.quotas name (λ q. q.quota) (with_quota quota) quota (λ q e i. record q { quota = sym e i }) (λ o. refl) (kept.quotas name) i })
+      record (alone_in part w) { quotas = put_kept w.quotas part.quotas name (λ q. q.quota) (with_quota quota) quota (λ q e i. record q { quota = sym e i })
+          (λ o. refl) (kept.quotas name) i })
 
   quota_deleted : (name : Name) → Alters part w (delete_quota name w)
   unfolding delete_quota
@@ -102,7 +111,8 @@ module _ (part : Part) (w : World) where
   pool_put : (name : Name) (pool : Pool) → Alters part w (put_pool_record name pool w)
   unfolding put_pool_record
   pool_put name pool = alters_unless _ _ _ (λ kept i.
-      record (alone_in part w) { pools = put_kept w.pools part.pools name (λ p. p.pool) (with_pool pool) pool (λ p e i. record p { pool = sym e i }) new (kept.pools name) i })
+      record (alone_in part w) { pools = put_kept w.pools part.pools name (λ p. p.pool) (with_pool pool) pool (λ p e i. record p { pool = sym e i }) new
+          (kept.pools name) i })
     where
       new : (o : Option PoolRows) → (with_pool pool o).pool ≡ pool
       new None = refl
@@ -150,11 +160,13 @@ module _ (part : Part) (s : State) where
 
 -- ---- the step
 
-module _ (part : Part) (s s' : State) (secret : Option Name) (command : AdminCommand) (answer : Answer) (apart : IsApart part s.world) (keeps : KeepsTables part s s') where
+module _ (part : Part) (s s' : State) (secret : Option Name) (command : AdminCommand) (answer : Answer) (apart : IsApart part s.world)
+    (keeps : KeepsTables part s s') where
   same_state : (x : State) → x ≡ s' → x.world ≡ s.world → alone_in part s'.world ≡ alone_in part s.world
   same_state x e same = ap (λ y. alone_in part y.world) (sym e) ∙ ap (alone_in part) same
 
-  concluded_keeps : (o : Outcome State) → AltersState part s o → concluded (Step.Admin secret command) s o ≡ said answer s' → alone_in part s'.world ≡ alone_in part s.world
+  concluded_keeps : (o : Outcome State) → AltersState part s o → concluded (Step.Admin secret command) s o ≡ said answer s' →
+      alone_in part s'.world ≡ alone_in part s.world
   concluded_keeps NotEnabled alters e = absurd (no_path e)
   concluded_keeps (Refused refusal) alters e = same_state s (ap (λ x. x.1) (same_Some _ _ e)) refl
   concluded_keeps (Done content x) alters e = by (is_past_bound (settle s.world x.world)) e
@@ -162,7 +174,8 @@ module _ (part : Part) (s s' : State) (secret : Option Name) (command : AdminCom
       y : State
       y = record x { world = settle s.world x.world }
 
-      by : (b : Bool) → cond b (said (Err Refusal.Full) s) (said (Ok (reply_of (Step.Admin secret command) content (settle s.world x.world))) y) ≡ said answer s' → alone_in part s'.world ≡ alone_in part s.world
+      by : (b : Bool) → cond b (said (Err Refusal.Full) s) (said (Ok (reply_of (Step.Admin secret command) content (settle s.world x.world))) y)
+          ≡ said answer s' → alone_in part s'.world ≡ alone_in part s.world
       by true e = same_state s (ap (λ x. x.1) (same_Some _ _ e)) refl
       by false e = ap (λ z. alone_in part z.world) (sym same) ∙ settled_leaves part s.world x.world apart (alters (record {
         spaces = λ ns own. sym (namespace_settled s.world x.world ns) ∙ ap (λ z. namespace_at z.world ns) same ∙ keeps.spaces ns own;
@@ -177,6 +190,7 @@ module _ (part : Part) (s s' : State) (secret : Option Name) (command : AdminCom
   unfolding after act
   admin_keeps e = by (is_allowed (Step.Admin secret command) s.acl) e
     where
-      by : (b : Bool) → cond b (concluded (Step.Admin secret command) s (act (Step.Admin secret command) s)) (said (Err Refusal.Denied) s) ≡ said answer s' → alone_in part s'.world ≡ alone_in part s.world
+      by : (b : Bool) → cond b (concluded (Step.Admin secret command) s (act (Step.Admin secret command) s)) (said (Err Refusal.Denied) s) ≡ said answer s' →
+          alone_in part s'.world ≡ alone_in part s.world
       by true e = concluded_keeps (administer secret command s) (administered part s secret command) e
       by false e = same_state s (ap (λ x. x.1) (same_Some _ _ e)) refl

@@ -15,7 +15,12 @@ use Rattle.ns_types.specs.declared.reply.Content.TheVariants as Content
 use Rattle.ns_types.specs.declared.resources.Resources.{Resources}
 use Rattle.ns_types.specs.declared.snapshot.Snapshot.{Snapshot}
 use Rattle.ns_types.specs.declared.worker.Worker.{Worker}
-use Rattle.ns_types.specs.Working.Commit.{still_stands, live_stops, stop_all, node_name, nodes_in, part_of, size_of, victims_of, evict_all, quota_allows, Commit, begun, accepts_at, decide, new_allocation, with_allocation, with_place, counted, place_with, place_one, committed_placements, place_all, Victim, victim_at, evicted_rows, same_victim_job, least_of_job, make_up, Applied, refused_whole, done_with, done, commit, applied_worker, applied, apply_for, apply}
+use Rattle.ns_types.specs.Working.Commit.{
+    still_stands, live_stops, stop_all, node_name, nodes_in, part_of, size_of, victims_of, evict_all, quota_allows,
+    Commit, begun, accepts_at, decide, new_allocation, with_allocation, with_place, counted, place_with, place_one,
+    committed_placements, place_all, Victim, victim_at, evicted_rows, same_victim_job, least_of_job, make_up, Applied,
+    refused_whole, done_with, done, commit, applied_worker, applied, apply_for, apply
+}
 use Rattle.ns_types.specs.Placing.Constraint.{is_feasible}
 use Rattle.ns_types.specs.Isolation.{Part, alone_in}
 use Rattle.ns_types.specs.State.Lists.{Each, first_each}
@@ -30,14 +35,18 @@ use Rattle.ns_types.specs.State.Sums.{quota_use}
 use Rattle.ns_types.specs.Working.Work.{with_worker, without_key, is_submitted}
 use Rattle.ns_audit.specs.Apart.{IsApart, Leaves, Follows}
 use Rattle.ns_audit.proofs.Alone.Asking.{goes_make}
-use Rattle.ns_audit.proofs.Alone.Chosen.{tenant_alone, pool_alone, quota_alone, node_alone, GoesAlone, goes_then, goes_nowhere, goes_with, goes_change, goes_pool, goes_unplanned, its_own, not_its_own}
+use Rattle.ns_audit.proofs.Alone.Chosen.{
+    tenant_alone, pool_alone, quota_alone, node_alone, GoesAlone, goes_then, goes_nowhere, goes_with, goes_change,
+    goes_pool, goes_unplanned, its_own, not_its_own
+}
 use Rattle.ns_audit.proofs.Alone.Evicting.{Standing, stopped_stands, evicted_stands, victims_side, victims_alone, evict_goes, rows_side, rows_alone}
 use Rattle.ns_audit.proofs.Every.{each_first}
 use Rattle.ns_audit.proofs.Alone.Going.{Goes, goes_where}
 use Rattle.ns_audit.proofs.Alone.Summing.{quota_use_alone, node_load_alone}
 use Rattle.ns_audit.proofs.Alone.Working.{served_among, at_work_keeping}
 
-goes_each : {A : Type 0} (part : Part) (b : Bool) (f : World → A → World) (P : A → Type 0) → ((x : A) → P x → GoesAlone part b (λ w. f w x)) → (xs : List A) → Each P xs → GoesAlone part b (λ w. fold f w xs)
+goes_each : {A : Type 0} (part : Part) (b : Bool) (f : World → A → World) (P : A → Type 0) → ((x : A) → P x → GoesAlone part b (λ w. f w x)) → (xs : List A) →
+    Each P xs → GoesAlone part b (λ w. fold f w xs)
 goes_each part b f P h [] each w = goes_nowhere part b w
 goes_each part b f P h (x ∷ xs) each w = goes_then part b (λ w. f w x) (λ w. fold f w xs) (h x each.0) (goes_each part b f P h xs each.1) w
 
@@ -52,19 +61,23 @@ each_at P c d e xs h = subst (λ b. Each (λ x. P x b) xs) e h
 
 module _ (part : Part) (w : World) (s : Standing part w) (kept : Snapshot) (mine : part.pools kept.pool ≡ true) (own : part.spaces kept.namespace ≡ true) where
   quota_alike : (amount : Resources) → quota_allows (alone_in part w) kept.namespace amount ≡ quota_allows w kept.namespace amount
-  quota_alike amount = ap (λ o. option_map_or (allows (alone_in part w)) (option_and_then (λ t. t.namespace.quota) o) true) (tenant_alone part w kept.namespace own) ∙ tenant (get w.tenants kept.namespace) refl
+  quota_alike amount = ap (λ o. option_map_or (allows (alone_in part w)) (option_and_then (λ t. t.namespace.quota) o) true)
+      (tenant_alone part w kept.namespace own) ∙ tenant (get w.tenants kept.namespace) refl
     where
       allows : World → Name → Bool
       allows x q = limits_allow (option_map_or (λ rows. limits_in rows.quota.limits) (get x.quotas q) unlimited) (plus (quota_use x q) amount)
 
       quota : (q : Name) → part.quotas q ≡ true → allows (alone_in part w) q ≡ allows w q
-      quota q its = λ i. limits_allow (option_map_or (λ rows. limits_in rows.quota.limits) (quota_alone part w q its i) unlimited) (plus (quota_use_alone part w s.names q its i) amount)
+      quota q its = λ i. limits_allow (option_map_or (λ rows. limits_in rows.quota.limits) (quota_alone part w q its i) unlimited)
+          (plus (quota_use_alone part w s.names q its i) amount)
 
-      named : (t : Tenant) → get w.tenants kept.namespace ≡ Some t → (q : Option Name) → t.namespace.quota ≡ q → option_map_or (allows (alone_in part w)) q true ≡ option_map_or (allows w) q true
+      named : (t : Tenant) → get w.tenants kept.namespace ≡ Some t → (q : Option Name) → t.namespace.quota ≡ q →
+          option_map_or (allows (alone_in part w)) q true ≡ option_map_or (allows w) q true
       named t is None at = refl
       named t is (Some q) at = quota q (s.names kept.namespace t q is at ∙ own)
 
-      tenant : (o : Option Tenant) → get w.tenants kept.namespace ≡ o → option_map_or (allows (alone_in part w)) (option_and_then (λ t. t.namespace.quota) o) true ≡ option_map_or (allows w) (option_and_then (λ t. t.namespace.quota) o) true
+      tenant : (o : Option Tenant) → get w.tenants kept.namespace ≡ o → option_map_or (allows (alone_in part w)) (option_and_then (λ t. t.namespace.quota) o)
+          true ≡ option_map_or (allows w) (option_and_then (λ t. t.namespace.quota) o) true
       tenant None is = refl
       tenant (Some t) is = named t is t.namespace.quota refl
 
@@ -86,21 +99,28 @@ Decides part w false c c' = alone_in part c.world ≡ alone_in part w
 module _ (part : Part) (kept : Snapshot) (placements : List Placement) where
   decided_stands : (c : Commit) (k : ℕ) → Standing part c.world → Standing part (decide kept placements c k).world
   unfolding decide
-  decided_stands c k s = elim (accepts_at kept (evict_all c.world (victims_of c.world kept (part_of k placements))) (node_name kept k) (part_of k placements) c.placed) as
-      (λ b. Standing part (cond b (record { world = evict_all c.world (victims_of c.world kept (part_of k placements)); placed = plus c.placed (size_of (part_of k placements)); committed = c.committed ++ k ∷ []; dropped = c.dropped }) (record c { dropped = c.dropped ++ k ∷ [] })).world) [
+  decided_stands c k s = elim (accepts_at kept (evict_all c.world (victims_of c.world kept (part_of k placements))) (node_name kept k) (part_of k placements)
+      c.placed) as
+      (λ b. Standing part (cond b (record { world = evict_all c.world (victims_of c.world kept (part_of k placements)); placed =
+          plus c.placed (size_of (part_of k placements)); committed = c.committed ++ k ∷ []; dropped = c.dropped })
+          (record c { dropped = c.dropped ++ k ∷ [] })).world) [
         | true ↦ evicted_stands part (victims_of c.world kept (part_of k placements)) c.world s
         | false ↦ s
       ]
 
   -- the state without the victims of a node's part
-  evicted_goes : (b : Bool) → part.pools kept.pool ≡ b → (w : World) → Standing part w → (ps : List Placement) → alone_in part (evict_all w (victims_of w kept ps)) ≡ cond b (evict_all (alone_in part w) (victims_of (alone_in part w) kept ps)) (alone_in part w)
-  evicted_goes b side w s ps = evict_goes part b (victims_of w kept ps) (each_at (λ e c. part.spaces e.namespace ≡ c) (part.pools kept.pool) b side (victims_of w kept ps) (victims_side part w s.stands kept ps)) w ∙ by b side
+  evicted_goes : (b : Bool) → part.pools kept.pool ≡ b → (w : World) → Standing part w → (ps : List Placement) →
+      alone_in part (evict_all w (victims_of w kept ps)) ≡ cond b (evict_all (alone_in part w) (victims_of (alone_in part w) kept ps)) (alone_in part w)
+  evicted_goes b side w s ps = evict_goes part b (victims_of w kept ps)
+      (each_at (λ e c. part.spaces e.namespace ≡ c) (part.pools kept.pool) b side (victims_of w kept ps) (victims_side part w s.stands kept ps)) w ∙ by b side
     where
-      by : (b : Bool) → part.pools kept.pool ≡ b → cond b (evict_all (alone_in part w) (victims_of w kept ps)) (alone_in part w) ≡ cond b (evict_all (alone_in part w) (victims_of (alone_in part w) kept ps)) (alone_in part w)
+      by : (b : Bool) → part.pools kept.pool ≡ b → cond b (evict_all (alone_in part w) (victims_of w kept ps)) (alone_in part w) ≡ cond b
+          (evict_all (alone_in part w) (victims_of (alone_in part w) kept ps)) (alone_in part w)
       by true mine = ap (evict_all (alone_in part w)) (victims_alone part w s.stands kept mine ps)
       by false other = refl
 
-  decide_own : part.pools kept.pool ≡ true → part.spaces kept.namespace ≡ true → (c : Commit) (k : ℕ) → Standing part c.world → decide kept placements (alone_commit part c) k ≡ alone_commit part (decide kept placements c k)
+  decide_own : part.pools kept.pool ≡ true → part.spaces kept.namespace ≡ true → (c : Commit) (k : ℕ) → Standing part c.world →
+      decide kept placements (alone_commit part c) k ≡ alone_commit part (decide kept placements c k)
   unfolding decide
   decide_own mine own c k s = (λ i. cond (sym accepted i) (doing (sym evicted i)) leaving) ∙ by (accepts_at kept x (node_name kept k) ps c.placed)
     where
@@ -113,8 +133,10 @@ module _ (part : Part) (kept : Snapshot) (placements : List Placement) where
       evicted : alone_in part x ≡ evict_all (alone_in part c.world) (victims_of (alone_in part c.world) kept ps)
       evicted = evicted_goes true mine c.world s ps
 
-      accepted : accepts_at kept x (node_name kept k) ps c.placed ≡ accepts_at kept (evict_all (alone_in part c.world) (victims_of (alone_in part c.world) kept ps)) (node_name kept k) ps c.placed
-      accepted = sym (accepts_alike part x (evicted_stands part (victims_of c.world kept ps) c.world s) kept mine own (node_name kept k) ps c.placed) ∙ ap (λ y. accepts_at kept y (node_name kept k) ps c.placed) evicted
+      accepted : accepts_at kept x (node_name kept k) ps c.placed ≡ accepts_at kept
+          (evict_all (alone_in part c.world) (victims_of (alone_in part c.world) kept ps)) (node_name kept k) ps c.placed
+      accepted = sym (accepts_alike part x (evicted_stands part (victims_of c.world kept ps) c.world s) kept mine own (node_name kept k) ps c.placed) ∙
+          ap (λ y. accepts_at kept y (node_name kept k) ps c.placed) evicted
 
       doing : World → Commit
       doing y = record { world = y; placed = plus c.placed (size_of ps); committed = c.committed ++ k ∷ []; dropped = c.dropped }
@@ -126,19 +148,26 @@ module _ (part : Part) (kept : Snapshot) (placements : List Placement) where
       by true = refl
       by false = refl
 
-  decide_other : part.pools kept.pool ≡ false → (c : Commit) (k : ℕ) → Standing part c.world → alone_in part (decide kept placements c k).world ≡ alone_in part c.world
+  decide_other : part.pools kept.pool ≡ false → (c : Commit) (k : ℕ) → Standing part c.world →
+      alone_in part (decide kept placements c k).world ≡ alone_in part c.world
   unfolding decide
-  decide_other other c k s = elim (accepts_at kept (evict_all c.world (victims_of c.world kept (part_of k placements))) (node_name kept k) (part_of k placements) c.placed) as
-      (λ b. alone_in part (cond b (record { world = evict_all c.world (victims_of c.world kept (part_of k placements)); placed = plus c.placed (size_of (part_of k placements)); committed = c.committed ++ k ∷ []; dropped = c.dropped }) (record c { dropped = c.dropped ++ k ∷ [] })).world ≡ alone_in part c.world) [
+  decide_other other c k s = elim (accepts_at kept (evict_all c.world (victims_of c.world kept (part_of k placements))) (node_name kept k)
+      (part_of k placements) c.placed) as
+      (λ b. alone_in part (cond b (record { world = evict_all c.world (victims_of c.world kept (part_of k placements)); placed =
+          plus c.placed (size_of (part_of k placements)); committed = c.committed ++ k ∷ []; dropped = c.dropped })
+          (record c { dropped = c.dropped ++ k ∷ [] })).world ≡ alone_in part c.world) [
         | true ↦ evicted_goes false other c.world s (part_of k placements)
         | false ↦ refl
       ]
 
-  all_own : part.pools kept.pool ≡ true → part.spaces kept.namespace ≡ true → (ks : List ℕ) (c : Commit) → Standing part c.world → fold (decide kept placements) (alone_commit part c) ks ≡ alone_commit part (fold (decide kept placements) c ks)
+  all_own : part.pools kept.pool ≡ true → part.spaces kept.namespace ≡ true → (ks : List ℕ) (c : Commit) → Standing part c.world →
+      fold (decide kept placements) (alone_commit part c) ks ≡ alone_commit part (fold (decide kept placements) c ks)
   all_own mine own [] c s = refl
-  all_own mine own (k ∷ ks) c s = ap (λ d. fold (decide kept placements) d ks) (decide_own mine own c k s) ∙ all_own mine own ks (decide kept placements c k) (decided_stands c k s)
+  all_own mine own (k ∷ ks) c s = ap (λ d. fold (decide kept placements) d ks) (decide_own mine own c k s) ∙
+      all_own mine own ks (decide kept placements c k) (decided_stands c k s)
 
-  all_other : part.pools kept.pool ≡ false → (ks : List ℕ) (c : Commit) → Standing part c.world → alone_in part (fold (decide kept placements) c ks).world ≡ alone_in part c.world
+  all_other : part.pools kept.pool ≡ false → (ks : List ℕ) (c : Commit) → Standing part c.world →
+      alone_in part (fold (decide kept placements) c ks).world ≡ alone_in part c.world
   all_other other [] c s = refl
   all_other other (k ∷ ks) c s = all_other other ks (decide kept placements c k) (decided_stands c k s) ∙ decide_other other c k s
 
@@ -146,33 +175,44 @@ module _ (part : Part) (kept : Snapshot) (placements : List Placement) where
 
 module _ (part : Part) (b : Bool) (kept : Snapshot) (pool_side : part.pools kept.pool ≡ b) (side : part.spaces kept.namespace ≡ b) where
   goes_counted : (name : Name) (node : Node) → GoesAlone part b (counted kept.pool name node)
-  goes_counted name node = goes_with part b (λ w. get w.pools kept.pool) (λ p w. put_pool kept.pool (with_place name node p) w) (λ w own. sym (pool_alone part w kept.pool (pool_side ∙ own))) (λ p. goes_pool part b kept.pool (with_place name node p) pool_side)
+  goes_counted name node = goes_with part b (λ w. get w.pools kept.pool) (λ p w. put_pool kept.pool (with_place name node p) w)
+      (λ w own. sym (pool_alone part w kept.pool (pool_side ∙ own))) (λ p. goes_pool part b kept.pool (with_place name node p) pool_side)
 
   goes_place_with : (p : Placement) (job : Job) (node : Node) → GoesAlone part b (λ w. place_with kept p w job node)
-  goes_place_with p job node = goes_then part b (change_tenant kept.namespace (with_allocation (new_allocation kept job p node))) (counted kept.pool (node_name kept p.node) node)
+  goes_place_with p job node = goes_then part b (change_tenant kept.namespace (with_allocation (new_allocation kept job p node)))
+      (counted kept.pool (node_name kept p.node) node)
       (goes_change part b kept.namespace side (with_allocation (new_allocation kept job p node))) (goes_counted (node_name kept p.node) node)
 
   goes_place_one : (p : Placement) → GoesAlone part b (λ w. place_one kept w p)
   unfolding place_one
-  goes_place_one p = goes_with part b (λ w. kept.job) (λ job w. option_map_or (place_with kept p w job) (node_at w kept.pool (node_name kept p.node)) w) (λ w own. refl) (λ job.
-      goes_with part b (λ w. node_at w kept.pool (node_name kept p.node)) (λ node w. place_with kept p w job node) (λ w own. sym (node_alone part w kept.pool (node_name kept p.node) (pool_side ∙ own))) (goes_place_with p job))
+  goes_place_one p = goes_with part b (λ w. kept.job) (λ job w. option_map_or (place_with kept p w job) (node_at w kept.pool (node_name kept p.node)) w)
+      (λ w own. refl) (λ job.
+      goes_with part b (λ w. node_at w kept.pool (node_name kept p.node)) (λ node w. place_with kept p w job node)
+          (λ w own. sym (node_alone part w kept.pool (node_name kept p.node) (pool_side ∙ own))) (goes_place_with p job))
 
   goes_place_all : (ps : List Placement) → GoesAlone part b (λ w. place_all kept w ps)
   goes_place_all ps = goes_each part b (place_one kept) (λ p. Unit {0}) (λ p _. goes_place_one p) ps (each_is ps)
 
   goes_make_up : (victims : List Victim) → Each (λ v. part.spaces v.0 ≡ b) victims → GoesAlone part b (make_up victims)
   unfolding make_up
-  goes_make_up victims sides = goes_each part b (λ x v. make v.0 (λ t. evaluation_for t (least_of_job victims v) Trigger.Preemption) x) (λ v. part.spaces v.0 ≡ b)
-      (λ v of_b. goes_make part b v.0 of_b (λ t. evaluation_for t (least_of_job victims v) Trigger.Preemption)) (first_each same_victim_job victims) (each_first (λ v. part.spaces v.0 ≡ b) same_victim_job victims sides)
+  goes_make_up victims sides = goes_each part b (λ x v. make v.0 (λ t. evaluation_for t (least_of_job victims v) Trigger.Preemption) x)
+      (λ v. part.spaces v.0 ≡ b)
+      (λ v of_b. goes_make part b v.0 of_b (λ t. evaluation_for t (least_of_job victims v) Trigger.Preemption)) (first_each same_victim_job victims)
+          (each_first (λ v. part.spaces v.0 ≡ b) same_victim_job victims sides)
 
   -- all that follows what was decided
   goes_after_it : (x : World) → Standing part x → (ps : List Placement) → GoesAlone part b (λ w. make_up (evicted_rows x kept ps) (place_all kept w ps))
-  goes_after_it x s ps = goes_then part b (λ w. place_all kept w ps) (make_up (evicted_rows x kept ps)) (goes_place_all ps) (goes_make_up (evicted_rows x kept ps)
-      (rows_side (λ ns. part.spaces ns ≡ b) x (victims_of x kept ps) (each_at (λ (e : Eviction) c. part.spaces e.namespace ≡ c) (part.pools kept.pool) b pool_side (victims_of x kept ps) (victims_side part x s.stands kept ps))))
+  goes_after_it x s ps = goes_then part b (λ w. place_all kept w ps) (make_up (evicted_rows x kept ps)) (goes_place_all ps)
+      (goes_make_up (evicted_rows x kept ps)
+      (rows_side (λ ns. part.spaces ns ≡ b) x (victims_of x kept ps)
+          (each_at (λ (e : Eviction) c. part.spaces e.namespace ≡ c) (part.pools kept.pool) b pool_side (victims_of x kept ps)
+          (victims_side part x s.stands kept ps))))
 
-rows_alike : (part : Part) (x : World) → Standing part x → (kept : Snapshot) → part.pools kept.pool ≡ true → (ps : List Placement) → evicted_rows (alone_in part x) kept ps ≡ evicted_rows x kept ps
+rows_alike : (part : Part) (x : World) → Standing part x → (kept : Snapshot) → part.pools kept.pool ≡ true → (ps : List Placement) →
+    evicted_rows (alone_in part x) kept ps ≡ evicted_rows x kept ps
 rows_alike part x s kept mine ps = ap (filter_map (victim_at (alone_in part x))) (sym (victims_alone part x s.stands kept mine ps))
-    ∙ rows_alone part x (victims_of x kept ps) (each_at (λ (e : Eviction) c. part.spaces e.namespace ≡ c) (part.pools kept.pool) true mine (victims_of x kept ps) (victims_side part x s.stands kept ps))
+    ∙ rows_alone part x (victims_of x kept ps) (each_at (λ (e : Eviction) c. part.spaces e.namespace ≡ c) (part.pools kept.pool) true mine
+        (victims_of x kept ps) (victims_side part x s.stands kept ps))
 
 -- ---- a whole commit
 
@@ -204,34 +244,42 @@ module _ (part : Part) (w : World) (s : Standing part w) (kept : Snapshot) (p : 
   done_own : part.pools kept.pool ≡ true → part.spaces kept.namespace ≡ true → done kept p (alone_in part w) t ≡ alone_applied part (done kept p w t)
   unfolding stops stopped decided
   done_own mine own = (λ i. done_with kept t stops p.placing.placements (sym (stopped_goes true own) i) (decided (sym (stopped_goes true own) i)))
-      ∙ ap (done_with kept t stops p.placing.placements (alone_in part (stopped w))) (all_own part kept p.placing.placements mine own (nodes_in p.placing.placements) (begun (stopped w)) stopped_standing)
+      ∙ ap (done_with kept t stops p.placing.placements (alone_in part (stopped w)))
+          (all_own part kept p.placing.placements mine own (nodes_in p.placing.placements) (begun (stopped w)) stopped_standing)
       ∙ finishing (decided (stopped w))
     where
-      finishing : (c : Commit) → done_with kept t stops p.placing.placements (alone_in part (stopped w)) (alone_commit part c) ≡ alone_applied part (done_with kept t stops p.placing.placements (stopped w) c)
+      finishing : (c : Commit) → done_with kept t stops p.placing.placements (alone_in part (stopped w)) (alone_commit part c) ≡ alone_applied part
+          (done_with kept t stops p.placing.placements (stopped w) c)
       finishing c =
           let placed = committed_placements c p.placing.placements in
           λ i. record (done_with kept t stops p.placing.placements (stopped w) c) {
             world = (ap (λ rows. make_up rows (place_all kept (alone_in part c.world) placed)) (rows_alike part (stopped w) stopped_standing kept mine placed)
-                ∙ sym (its_own part true (λ x. make_up (evicted_rows (stopped w) kept placed) (place_all kept x placed)) c.world (goes_after_it part true kept mine own (stopped w) stopped_standing placed) refl)) i;
+                ∙ sym (its_own part true (λ x. make_up (evicted_rows (stopped w) kept placed) (place_all kept x placed)) c.world
+                    (goes_after_it part true kept mine own (stopped w) stopped_standing placed) refl)) i;
           }
 
   done_other : part.pools kept.pool ≡ false → part.spaces kept.namespace ≡ false → alone_in part (done kept p w t).world ≡ alone_in part w
   unfolding stops stopped decided
   done_other foreign other =
-      not_its_own part false (λ x. make_up (evicted_rows (stopped w) kept placed) (place_all kept x placed)) (decided (stopped w)).world (goes_after_it part false kept foreign other (stopped w) stopped_standing placed) refl
+      not_its_own part false (λ x. make_up (evicted_rows (stopped w) kept placed) (place_all kept x placed)) (decided (stopped w)).world
+          (goes_after_it part false kept foreign other (stopped w) stopped_standing placed) refl
       ∙ all_other part kept p.placing.placements foreign (nodes_in p.placing.placements) (begun (stopped w)) stopped_standing
       ∙ stopped_goes false other
     where
       placed : List Placement
       placed = committed_placements (decided (stopped w)) p.placing.placements
 
-  commit_goes : (b : Bool) → part.pools kept.pool ≡ b → part.spaces kept.namespace ≡ b → Commits part w b (commit kept p w t) (commit kept p (alone_in part w) t)
+  commit_goes : (b : Bool) → part.pools kept.pool ≡ b → part.spaces kept.namespace ≡ b →
+      Commits part w b (commit kept p w t) (commit kept p (alone_in part w) t)
   unfolding commit
-  commit_goes true mine own = elim (still_stands kept.job (get t.jobs kept.evaluation.job)) as (λ c. cond c (done kept p (alone_in part w) t) (refused_whole kept p (alone_in part w)) ≡ alone_applied part (cond c (done kept p w t) (refused_whole kept p w))) [
+  commit_goes true mine own = elim (still_stands kept.job (get t.jobs kept.evaluation.job)) as
+      (λ c. cond c (done kept p (alone_in part w) t) (refused_whole kept p (alone_in part w)) ≡ alone_applied part
+      (cond c (done kept p w t) (refused_whole kept p w))) [
     | true ↦ done_own mine own
     | false ↦ refl
   ]
-  commit_goes false foreign other = elim (still_stands kept.job (get t.jobs kept.evaluation.job)) as (λ c. alone_in part (cond c (done kept p w t) (refused_whole kept p w)).world ≡ alone_in part w) [
+  commit_goes false foreign other = elim (still_stands kept.job (get t.jobs kept.evaluation.job)) as
+      (λ c. alone_in part (cond c (done kept p w t) (refused_whole kept p w)).world ≡ alone_in part w) [
     | true ↦ done_other foreign other
     | false ↦ refl
   ]
@@ -239,34 +287,47 @@ module _ (part : Part) (w : World) (s : Standing part w) (kept : Snapshot) (p : 
 -- ---- Apply
 
 module _ (part : Part) (b : Bool) (ns : Name) (side : part.spaces ns ≡ b) (w : World) (apart : IsApart part w) where
-  applied_goes : (number : ℕ) (worker : Worker) (e : Evaluation) (a a' : Applied) → Commits part w b a a' → Goes part w b (applied number ns worker e a) (applied number ns worker e a')
+  applied_goes : (number : ℕ) (worker : Worker) (e : Evaluation) (a a' : Applied) → Commits part w b a a' →
+      Goes part w b (applied number ns worker e a) (applied number ns worker e a')
   unfolding Follows Leaves
   applied_goes number worker e a a' = by b side
     where
       after_it : World → World
-      after_it x = record (change_tenant ns (with_worker number (applied_worker a worker e)) x) { plans = without_key (ns, worker.evaluation) (change_tenant ns (with_worker number (applied_worker a worker e)) x).plans }
+      after_it x = record (change_tenant ns (with_worker number (applied_worker a worker e)) x)
+          { plans = without_key (ns, worker.evaluation) (change_tenant ns (with_worker number (applied_worker a worker e)) x).plans }
 
       goes_after : (c : Bool) → part.spaces ns ≡ c → GoesAlone part c after_it
-      goes_after c of_c = goes_then part c (change_tenant ns (with_worker number (applied_worker a worker e))) (λ x. record x { plans = without_key (ns, worker.evaluation) x.plans })
+      goes_after c of_c = goes_then part c (change_tenant ns (with_worker number (applied_worker a worker e)))
+          (λ x. record x { plans = without_key (ns, worker.evaluation) x.plans })
           (goes_change part c ns of_c (with_worker number (applied_worker a worker e))) (goes_unplanned part c ns of_c worker.evaluation)
 
       same_plans : (x : World) → (change_tenant ns (with_worker number (applied_worker a worker e)) x).plans ≡ x.plans
-      same_plans x = elim (get x.tenants ns) as (λ (o : Option Tenant). (option_map_or (λ t. record x { tenants = insert x.tenants ns (with_worker number (applied_worker a worker e) t) }) o x).plans ≡ x.plans) [ Some t ↦ refl | None ↦ refl ]
+      same_plans x = elim (get x.tenants ns) as (λ (o : Option Tenant).
+          (option_map_or (λ t. record x { tenants = insert x.tenants ns (with_worker number (applied_worker a worker e) t) }) o x).plans ≡ x.plans)
+          [ Some t ↦ refl | None ↦ refl ]
 
-      is_after : (x : World) → record (change_tenant ns (with_worker number (applied_worker a worker e)) x) { plans = without_key (ns, worker.evaluation) x.plans } ≡ after_it x
-      is_after x = λ i. record (change_tenant ns (with_worker number (applied_worker a worker e)) x) { plans = without_key (ns, worker.evaluation) (sym (same_plans x) i) }
+      is_after : (x : World) → record (change_tenant ns (with_worker number (applied_worker a worker e)) x)
+          { plans = without_key (ns, worker.evaluation) x.plans } ≡ after_it x
+      is_after x = λ i. record (change_tenant ns (with_worker number (applied_worker a worker e)) x)
+          { plans = without_key (ns, worker.evaluation) (sym (same_plans x) i) }
 
       by : (c : Bool) → part.spaces ns ≡ c → Commits part w c a a' → Goes part w c (applied number ns worker e a) (applied number ns worker e a')
-      by true own same = ap (applied number ns worker e) same ∙ ap (Done (Content.Applied a.made a.dropped)) (is_after (alone_in part a.world) ∙ sym (its_own part true after_it a.world (goes_after true own) refl) ∙ ap (alone_in part) (sym (is_after a.world)))
+      by true own same = ap (applied number ns worker e) same ∙
+          ap (Done (Content.Applied a.made a.dropped)) (is_after (alone_in part a.world) ∙ sym (its_own part true after_it a.world (goes_after true own) refl) ∙
+          ap (alone_in part) (sym (is_after a.world)))
       by false other same = ap (alone_in part) (is_after a.world) ∙ not_its_own part false after_it a.world (goes_after false other) refl ∙ same
 
   pub apply_goes : (number : ℕ) → Goes part w b (apply number ns w) (apply number ns (alone_in part w))
   unfolding apply
-  apply_goes number = at_work_keeping part b ns side number w (apply_for number ns w) (apply_for number ns (alone_in part w)) apart (λ t worker e kept is at row with.
-      goes_where part w b (is_submitted worker.phase && is_served w w.plans (ns, worker.evaluation)) _ _ _ (λ own. served own worker (is_submitted worker.phase)) (λ _.
+  apply_goes number = at_work_keeping part b ns side number w (apply_for number ns w) (apply_for number ns (alone_in part w)) apart
+      (λ t worker e kept is at row with.
+      goes_where part w b (is_submitted worker.phase && is_served w w.plans (ns, worker.evaluation)) _ _ _
+          (λ own. served own worker (is_submitted worker.phase)) (λ _.
       applied_goes number worker e (commit kept (plan kept) w t) (commit kept (plan kept) (alone_in part w) t)
-      (commit_goes part w (record { stands = apart.allocation; names = apart.quota }) kept (plan kept) t b (with.with.pool_with ∙ side) (ap part.spaces with.namespace ∙ side))))
+      (commit_goes part w (record { stands = apart.allocation; names = apart.quota }) kept (plan kept) t b (with.with.pool_with ∙ side)
+          (ap part.spaces with.namespace ∙ side))))
     where
-      served : b ≡ true → (worker : Worker) → (c : Bool) → (c && is_served w w.plans (ns, worker.evaluation)) ≡ true → (c && is_served (alone_in part w) (alone_in part w).plans (ns, worker.evaluation)) ≡ true
+      served : b ≡ true → (worker : Worker) → (c : Bool) → (c && is_served w w.plans (ns, worker.evaluation)) ≡ true →
+          (c && is_served (alone_in part w) (alone_in part w).plans (ns, worker.evaluation)) ≡ true
       served own worker false e = e
       served own worker true e = served_among part w w.plans (ns, worker.evaluation) (side ∙ own) e

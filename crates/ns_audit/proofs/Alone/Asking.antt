@@ -13,7 +13,10 @@ use Rattle.ns_types.specs.declared.refusal.Refusal.TheVariants as Refusal
 use Rattle.ns_types.specs.declared.reply.Content.TheVariants as Content
 use Rattle.ns_types.specs.declared.step.AskCommand.{AskCommand}
 use Rattle.ns_types.specs.declared.step.AskCommand.TheVariants as AskCommand
-use Rattle.ns_types.specs.Asking.Asks.{pool_of, document_of, meets, registered_job, most_jobs, registered_with, register, deregistered, index_told, deregister, stop_allocation, asked_in, ask}
+use Rattle.ns_types.specs.Asking.Asks.{
+    pool_of, document_of, meets, registered_job, most_jobs, registered_with, register, deregistered, index_told,
+    deregister, stop_allocation, asked_in, ask
+}
 use Rattle.ns_types.specs.Isolation.{Part, alone_in}
 use Rattle.ns_types.specs.Settling.Making.{put_tenant, with_job, with_desired, evaluation_of, evaluation_for, with_evaluation, make_in, make}
 use Rattle.ns_types.specs.State.Names.{Name}
@@ -36,14 +39,17 @@ module _ (part : Part) (b : Bool) (ns : Name) (side : part.spaces ns ≡ b) wher
       (goes_put part b ns side (with_evaluation e t)) (goes_queue part b (ns, t.evaluation_number + 1) side)
 
   pub goes_make : (evaluation : Tenant → Evaluation) → GoesAlone part b (make ns evaluation)
-  goes_make evaluation = goes_with part b (λ w. get w.tenants ns) (λ t w. make_in ns (evaluation t) w t) (tenant_seen part b ns side) (λ t. goes_make_in (evaluation t) t)
+  goes_make evaluation = goes_with part b (λ w. get w.tenants ns) (λ t w. make_in ns (evaluation t) w t) (tenant_seen part b ns side)
+      (λ t. goes_make_in (evaluation t) t)
 
   module _ (w : World) (apart : IsApart part w) where
     registration_goes : (r : Registration) (t : Tenant) → get w.tenants ns ≡ Some t → Goes part w b (register ns r w t) (register ns r (alone_in part w) t)
     registration_goes r t is =
         goes_unless part w b (not (permits t.namespace (pool_of t r))) _ Refusal.PoolNotPermitted _ _ (λ _. refl) (λ permitted.
-        goes_unless part w b (not (contains_key w.pools (pool_of t r))) (not (contains_key (alone_in part w).pools (pool_of t r))) (Refusal.BadField Member.NodePool) _ _
-        (λ own. ap (λ o. not (is_some o)) (pool_alone part w (pool_of t r) (apart.pool ns t _ is (on (permits t.namespace (pool_of t r)) permitted) ∙ side ∙ own))) (λ _.
+        goes_unless part w b (not (contains_key w.pools (pool_of t r))) (not (contains_key (alone_in part w).pools (pool_of t r)))
+            (Refusal.BadField Member.NodePool) _ _
+        (λ own. ap (λ o. not (is_some o)) (pool_alone part w (pool_of t r) (apart.pool ns t _ is (on (permits t.namespace (pool_of t r)) permitted) ∙ side ∙
+            own))) (λ _.
         goes_unless part w b (option_map_or (λ index. not (meets (get t.jobs r.id) index)) r.enforced false) _ Refusal.Conflict _ _ (λ _. refl) (λ _.
         goes_unless part w b (not (contains_key t.jobs r.id) && nat_le most_jobs (len t.jobs)) _ Refusal.Full _ _ (λ _. refl) (λ _.
         with_the_job (registered_job (t.index + 1) (document_of t r) (get t.jobs r.id))))))
@@ -68,13 +74,15 @@ module _ (part : Part) (b : Bool) (ns : Name) (side : part.spaces ns ≡ b) wher
 
     usage_goes : (quota : Name) (t : Tenant) → get w.tenants ns ≡ Some t → Goes part w b (quota_usage quota w t) (quota_usage quota (alone_in part w) t)
     usage_goes quota t is = goes_either part w b (names_quota quota t.namespace) _ _ _ _ _ (λ _. refl)
-        (λ named. goes_done part w b _ _ w (alone_in part w) (λ own. ap (Content.Usage quota) (quota_use_alone part w apart.quota quota (mine named own))) (sym (cond_same b (alone_in part w))))
+        (λ named. goes_done part w b _ _ w (alone_in part w) (λ own. ap (Content.Usage quota) (quota_use_alone part w apart.quota quota (mine named own)))
+            (sym (cond_same b (alone_in part w))))
         (λ _. goes_refused part w b Refusal.NotFound)
       where
         mine : names_quota quota t.namespace ≡ true → b ≡ true → part.quotas quota ≡ true
         mine named own = its_quota part w apart.quota ns t quota is named ∙ side ∙ own
 
-    asked_goes : (command : AskCommand) (t : Tenant) → get w.tenants ns ≡ Some t → Goes part w b (asked_in ns command w t) (asked_in ns command (alone_in part w) t)
+    asked_goes : (command : AskCommand) (t : Tenant) → get w.tenants ns ≡ Some t →
+        Goes part w b (asked_in ns command w t) (asked_in ns command (alone_in part w) t)
     asked_goes (AskCommand.ListJobs prefix) t is = goes_read part w b _
     asked_goes (AskCommand.Register r) t is = registration_goes r t is
     asked_goes (AskCommand.ReadJob id) t is = goes_found part w b (get t.jobs id) _ _ _ (λ _. refl) (λ job _. goes_read part w b _)

@@ -27,21 +27,25 @@ module _ (part : Part) (w : World) where
   goes_disabled true o = tt
   goes_disabled false o = tt
 
-  pub goes_done : (b : Bool) (c c' : Content) (x x' : World) → (b ≡ true → c' ≡ c) → alone_in part x ≡ cond b x' (alone_in part w) → Goes part w b (Done c x) (Done c' x')
+  pub goes_done : (b : Bool) (c c' : Content) (x x' : World) → (b ≡ true → c' ≡ c) → alone_in part x ≡ cond b x' (alone_in part w) →
+      Goes part w b (Done c x) (Done c' x')
   unfolding Follows Leaves
   goes_done true c c' x x' alike change = λ i. Done (alike refl i) (sym change i)
   goes_done false c c' x x' alike change = change
 
-  pub goes_by : (b : Bool) (content : Content) (f : World → World) → GoesAlone part b f → Goes part w b (Done content (f w)) (Done content (f (alone_in part w)))
+  pub goes_by : (b : Bool) (content : Content) (f : World → World) → GoesAlone part b f →
+      Goes part w b (Done content (f w)) (Done content (f (alone_in part w)))
   goes_by b content f h = goes_done b content content (f w) (f (alone_in part w)) (λ _. refl) (h w)
 
   -- what is only read
   pub goes_read : (b : Bool) (content : Content) → Goes part w b (Done content w) (Done content (alone_in part w))
   goes_read b content = goes_done b content content w (alone_in part w) (λ _. refl) (sym (cond_same b (alone_in part w)))
 
-  pub goes_unless : (b : Bool) (d d' : Bool) (refusal : Refusal) (o o' : Outcome World) → (b ≡ true → d' ≡ d) → (d ≡ false → Goes part w b o o') → Goes part w b (unless d refusal o) (unless d' refusal o')
+  pub goes_unless : (b : Bool) (d d' : Bool) (refusal : Refusal) (o o' : Outcome World) → (b ≡ true → d' ≡ d) → (d ≡ false → Goes part w b o o') →
+      Goes part w b (unless d refusal o) (unless d' refusal o')
   unfolding Follows Leaves unless
-  goes_unless true d d' refusal o o' alike h = subst (λ c. Follows part (cond d (Refused refusal) o) (cond c (Refused refusal) o')) (sym (alike refl)) (by d refl)
+  goes_unless true d d' refusal o o' alike h = subst (λ c. Follows part (cond d (Refused refusal) o) (cond c (Refused refusal) o')) (sym (alike refl))
+      (by d refl)
     where
       by : (c : Bool) → d ≡ c → Follows part (cond c (Refused refusal) o) (cond c (Refused refusal) o')
       by true _ = refl
@@ -52,7 +56,8 @@ module _ (part : Part) (w : World) where
       by true _ = tt
       by false is = h is
 
-  pub goes_found : {A : Type 0} (b : Bool) (x x' : Option A) (f f' : A → Outcome World) → (b ≡ true → x' ≡ x) → ((a : A) → x ≡ Some a → Goes part w b (f a) (f' a)) → Goes part w b (found x f) (found x' f')
+  pub goes_found : {A : Type 0} (b : Bool) (x x' : Option A) (f f' : A → Outcome World) → (b ≡ true → x' ≡ x) →
+      ((a : A) → x ≡ Some a → Goes part w b (f a) (f' a)) → Goes part w b (found x f) (found x' f')
   unfolding Follows Leaves
   goes_found {A = A} true x x' f f' alike h = subst (λ y. Follows part (found x f) (found y f')) (sym (alike refl)) (by x refl)
     where
@@ -66,9 +71,11 @@ module _ (part : Part) (w : World) where
       by (Some a) is = h a is
 
   -- what is enabled only where something is there
-  pub goes_there : {A : Type 0} (b : Bool) (x x' : Option A) (f f' : A → Outcome World) → (b ≡ true → x' ≡ x) → ((a : A) → x ≡ Some a → Goes part w b (f a) (f' a)) → Goes part w b (option_map_or f x NotEnabled) (option_map_or f' x' NotEnabled)
+  pub goes_there : {A : Type 0} (b : Bool) (x x' : Option A) (f f' : A → Outcome World) → (b ≡ true → x' ≡ x) →
+      ((a : A) → x ≡ Some a → Goes part w b (f a) (f' a)) → Goes part w b (option_map_or f x NotEnabled) (option_map_or f' x' NotEnabled)
   unfolding Follows Leaves
-  goes_there {A = A} true x x' f f' alike h = subst (λ y. Follows part (option_map_or f x NotEnabled) (option_map_or f' y NotEnabled)) (sym (alike refl)) (by x refl)
+  goes_there {A = A} true x x' f f' alike h = subst (λ y. Follows part (option_map_or f x NotEnabled) (option_map_or f' y NotEnabled)) (sym (alike refl))
+      (by x refl)
     where
       by : (y : Option A) → x ≡ y → Follows part (option_map_or f y NotEnabled) (option_map_or f' y NotEnabled)
       by None is = tt
@@ -80,7 +87,8 @@ module _ (part : Part) (w : World) where
       by (Some a) is = h a is
 
   -- what is enabled alone where it is among all
-  pub goes_where : (b : Bool) (d d' : Bool) (o o' : Outcome World) → (b ≡ true → d ≡ true → d' ≡ true) → (d ≡ true → Goes part w b o o') → Goes part w b (cond d o NotEnabled) (cond d' o' NotEnabled)
+  pub goes_where : (b : Bool) (d d' : Bool) (o o' : Outcome World) → (b ≡ true → d ≡ true → d' ≡ true) → (d ≡ true → Goes part w b o o') →
+      Goes part w b (cond d o NotEnabled) (cond d' o' NotEnabled)
   unfolding Follows Leaves
   goes_where true d d' o o' kept h = by d refl
     where
@@ -93,7 +101,8 @@ module _ (part : Part) (w : World) where
       by true is = h is
       by false is = tt
 
-  pub goes_either : (b : Bool) (d d' : Bool) (o o' p p' : Outcome World) → (b ≡ true → d' ≡ d) → (d ≡ true → Goes part w b o o') → (d ≡ false → Goes part w b p p') → Goes part w b (cond d o p) (cond d' o' p')
+  pub goes_either : (b : Bool) (d d' : Bool) (o o' p p' : Outcome World) → (b ≡ true → d' ≡ d) → (d ≡ true → Goes part w b o o') →
+      (d ≡ false → Goes part w b p p') → Goes part w b (cond d o p) (cond d' o' p')
   unfolding Follows Leaves
   goes_either true d d' o o' p p' alike h k = subst (λ c. Follows part (cond d o p) (cond c o' p')) (sym (alike refl)) (by d refl)
     where

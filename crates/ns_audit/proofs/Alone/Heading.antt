@@ -36,23 +36,29 @@ use Rattle.ns_audit.proofs.Alone.Stepping.{own_step_apart, other_step_apart}
 -- ---- what no step but an administrator's changes
 
 module _ (s s' : State) (step : Step) (answer : Answer) (plain : is_admin step ≡ false) where
-  same_there : (x : State) → x ≡ s' → (ns : Name) → namespace_at x.world ns ≡ namespace_at s.world ns → x.acl ≡ s.acl → (namespace_at s'.world ns ≡ namespace_at s.world ns) × (s'.acl ≡ s.acl)
+  same_there : (x : State) → x ≡ s' → (ns : Name) → namespace_at x.world ns ≡ namespace_at s.world ns → x.acl ≡ s.acl →
+      (namespace_at s'.world ns ≡ namespace_at s.world ns) × (s'.acl ≡ s.acl)
   same_there x e ns named acl = (ap (λ y. namespace_at y.world ns) (sym e) ∙ named, ap (λ y. y.acl) (sym e) ∙ acl)
 
-  concluded_keeps : (ns : Name) (o : Outcome World) → Named s.world o → concluded step s (lift (with_world s.acl) o) ≡ said answer s' → (namespace_at s'.world ns ≡ namespace_at s.world ns) × (s'.acl ≡ s.acl)
+  concluded_keeps : (ns : Name) (o : Outcome World) → Named s.world o → concluded step s (lift (with_world s.acl) o) ≡ said answer s' →
+      (namespace_at s'.world ns ≡ namespace_at s.world ns) × (s'.acl ≡ s.acl)
   concluded_keeps ns NotEnabled named e = absurd (no_path e)
   concluded_keeps ns (Refused refusal) named e = same_there s (ap (λ x. x.1) (same_Some _ _ e)) ns refl refl
   concluded_keeps ns (Done content w) named e = by (is_past_bound (settle s.world w)) e
     where
-      by : (b : Bool) → cond b (said (Err Refusal.Full) s) (said (Ok (reply_of step content (settle s.world w))) (record { acl = s.acl; world = settle s.world w })) ≡ said answer s' → (namespace_at s'.world ns ≡ namespace_at s.world ns) × (s'.acl ≡ s.acl)
+      by : (b : Bool) → cond b (said (Err Refusal.Full) s)
+          (said (Ok (reply_of step content (settle s.world w))) (record { acl = s.acl; world = settle s.world w })) ≡ said answer s' →
+          (namespace_at s'.world ns ≡ namespace_at s.world ns) × (s'.acl ≡ s.acl)
       by true e = same_there s (ap (λ x. x.1) (same_Some _ _ e)) ns refl refl
-      by false e = same_there (record { acl = s.acl; world = settle s.world w }) (ap (λ x. x.1) (same_Some _ _ e)) ns (namespace_settled s.world w ns ∙ named ns) refl
+      by false e = same_there (record { acl = s.acl; world = settle s.world w }) (ap (λ x. x.1) (same_Some _ _ e)) ns
+          (namespace_settled s.world w ns ∙ named ns) refl
 
   pub plain_keeps : (ns : Name) → after step s ≡ said answer s' → (namespace_at s'.world ns ≡ namespace_at s.world ns) × (s'.acl ≡ s.acl)
   unfolding after
   plain_keeps ns e = by (is_allowed step s.acl) e
     where
-      by : (b : Bool) → cond b (concluded step s (act step s)) (said (Err Refusal.Denied) s) ≡ said answer s' → (namespace_at s'.world ns ≡ namespace_at s.world ns) × (s'.acl ≡ s.acl)
+      by : (b : Bool) → cond b (concluded step s (act step s)) (said (Err Refusal.Denied) s) ≡ said answer s' →
+          (namespace_at s'.world ns ≡ namespace_at s.world ns) × (s'.acl ≡ s.acl)
       by true e = concluded_keeps ns (change step s.world) (change_named step s.world) (ap (concluded step s) (sym (act_is step s plain)) ∙ e)
       by false e = same_there s (ap (λ x. x.1) (same_Some _ _ e)) ns refl refl
 
@@ -63,14 +69,22 @@ pub record Reaches (ns : Name) (s0 s : State) : Type 0 where
 
 pub reaches : (ns : Name) (s s' : State) (step : Step) (answer : Answer) → Keeps ns step s s' → after step s ≡ said answer s' → Reaches ns s s'
 reaches ns s s' (Step.Admin secret command) answer keeps e = record { namespace = keeps.namespace; rights = keeps.rights }
-reaches ns s s' (Step.Ask asked secret command) answer keeps e = let k = plain_keeps s s' (Step.Ask asked secret command) answer refl ns e in record { namespace = k.0; rights = λ x. ap (λ a. rights_of a x ns) k.1 }
-reaches ns s s' (Step.Node pool secret command) answer keeps e = let k = plain_keeps s s' (Step.Node pool secret command) answer refl ns e in record { namespace = k.0; rights = λ x. ap (λ a. rights_of a x ns) k.1 }
-reaches ns s s' (Step.Dequeue worker label n) answer keeps e = let k = plain_keeps s s' (Step.Dequeue worker label n) answer refl ns e in record { namespace = k.0; rights = λ x. ap (λ a. rights_of a x ns) k.1 }
-reaches ns s s' (Step.Snap worker label) answer keeps e = let k = plain_keeps s s' (Step.Snap worker label) answer refl ns e in record { namespace = k.0; rights = λ x. ap (λ a. rights_of a x ns) k.1 }
-reaches ns s s' (Step.Submit worker label) answer keeps e = let k = plain_keeps s s' (Step.Submit worker label) answer refl ns e in record { namespace = k.0; rights = λ x. ap (λ a. rights_of a x ns) k.1 }
-reaches ns s s' (Step.Apply worker label) answer keeps e = let k = plain_keeps s s' (Step.Apply worker label) answer refl ns e in record { namespace = k.0; rights = λ x. ap (λ a. rights_of a x ns) k.1 }
-reaches ns s s' (Step.Finish worker label) answer keeps e = let k = plain_keeps s s' (Step.Finish worker label) answer refl ns e in record { namespace = k.0; rights = λ x. ap (λ a. rights_of a x ns) k.1 }
-reaches ns s s' (Step.Nack worker label) answer keeps e = let k = plain_keeps s s' (Step.Nack worker label) answer refl ns e in record { namespace = k.0; rights = λ x. ap (λ a. rights_of a x ns) k.1 }
+reaches ns s s' (Step.Ask asked secret command) answer keeps e = let k = plain_keeps s s' (Step.Ask asked secret command) answer refl ns e in
+    record { namespace = k.0; rights = λ x. ap (λ a. rights_of a x ns) k.1 }
+reaches ns s s' (Step.Node pool secret command) answer keeps e = let k = plain_keeps s s' (Step.Node pool secret command) answer refl ns e in
+    record { namespace = k.0; rights = λ x. ap (λ a. rights_of a x ns) k.1 }
+reaches ns s s' (Step.Dequeue worker label n) answer keeps e = let k = plain_keeps s s' (Step.Dequeue worker label n) answer refl ns e in
+    record { namespace = k.0; rights = λ x. ap (λ a. rights_of a x ns) k.1 }
+reaches ns s s' (Step.Snap worker label) answer keeps e = let k = plain_keeps s s' (Step.Snap worker label) answer refl ns e in
+    record { namespace = k.0; rights = λ x. ap (λ a. rights_of a x ns) k.1 }
+reaches ns s s' (Step.Submit worker label) answer keeps e = let k = plain_keeps s s' (Step.Submit worker label) answer refl ns e in
+    record { namespace = k.0; rights = λ x. ap (λ a. rights_of a x ns) k.1 }
+reaches ns s s' (Step.Apply worker label) answer keeps e = let k = plain_keeps s s' (Step.Apply worker label) answer refl ns e in
+    record { namespace = k.0; rights = λ x. ap (λ a. rights_of a x ns) k.1 }
+reaches ns s s' (Step.Finish worker label) answer keeps e = let k = plain_keeps s s' (Step.Finish worker label) answer refl ns e in
+    record { namespace = k.0; rights = λ x. ap (λ a. rights_of a x ns) k.1 }
+reaches ns s s' (Step.Nack worker label) answer keeps e = let k = plain_keeps s s' (Step.Nack worker label) answer refl ns e in
+    record { namespace = k.0; rights = λ x. ap (λ a. rights_of a x ns) k.1 }
 
 -- ---- the choice
 
@@ -95,7 +109,8 @@ unfolding alone
 to_part ns s t agree = record {
   world = agree.world;
   rights = record {
-    spaces = λ secret k own. ap (rights_of t.acl secret) (sym (same_name_is ns k own)) ∙ agree.tables.rights secret ∙ ap (rights_of s.acl secret) (same_name_is ns k own);
+    spaces = λ secret k own. ap (rights_of t.acl secret) (sym (same_name_is ns k own)) ∙ agree.tables.rights secret ∙
+        ap (rights_of s.acl secret) (same_name_is ns k own);
     pools = λ secret pool own. agree.tables.pool_rights secret pool own;
   };
 }
@@ -105,8 +120,10 @@ unfolding alone
 from_part ns s t agree = record {
   world = agree.world;
   tables = record {
-    namespace = ap (λ w. namespace_at w ns) agree.world ∙ ap (option_map (λ (t : Tenant). t.namespace)) (tenant_alone (part_of s.world ns) s.world ns (same_name_refl ns));
-    quota = λ quota own. ap (λ w. quota_record w quota) agree.world ∙ ap (option_map (λ (q : QuotaRows). q.quota)) (quota_alone (part_of s.world ns) s.world quota own);
+    namespace = ap (λ w. namespace_at w ns) agree.world ∙
+        ap (option_map (λ (t : Tenant). t.namespace)) (tenant_alone (part_of s.world ns) s.world ns (same_name_refl ns));
+    quota = λ quota own. ap (λ w. quota_record w quota) agree.world ∙
+        ap (option_map (λ (q : QuotaRows). q.quota)) (quota_alone (part_of s.world ns) s.world quota own);
     pool = λ pool own. ap (λ w. pool_record w pool) agree.world ∙ ap (option_map (λ (p : PoolRows). p.pool)) (pool_alone (part_of s.world ns) s.world pool own);
     rights = λ secret. agree.rights.spaces secret ns (same_name_refl ns);
     pool_rights = λ secret pool own. agree.rights.pools secret pool own;
@@ -125,7 +142,8 @@ asked_in_pool_alike ns w (NodeCommand.SetEligible name eligible) = refl
 asked_in_pool_alike ns w (NodeCommand.Report name report) = refl
 
 module _ (ns : Name) (s0 s : State) (r : Reaches ns s0 s) where
-  own_node : (pool : Name) (command : NodeCommand) → ((part_of s.world ns).pools pool && concerns_part (part_of s.world ns) command) ≡ (has_pool s0.world ns pool && concerns ns command)
+  own_node : (pool : Name) (command : NodeCommand) → ((part_of s.world ns).pools pool && concerns_part (part_of s.world ns) command) ≡
+      (has_pool s0.world ns pool && concerns ns command)
   own_node pool command = λ i. ap (λ p. p.pools pool) (same_part ns s0.world s.world r.namespace) i && asked_in_pool_alike ns s.world command i
 
   -- a step that is its own belongs to it
@@ -143,26 +161,38 @@ module _ (ns : Name) (s0 s : State) (r : Reaches ns s0 s) where
 
 -- who has no right lacks the one that is asked for
 lacks : (command : AskCommand) (r : Rights) → has_any r ≡ false → right_of command r ≡ false
-lacks (AskCommand.ListJobs prefix) r none = left_none r.list_jobs _ (left_none (r.list_jobs || r.read_job) _ (left_none (r.list_jobs || r.read_job || r.submit_job) _ none))
+lacks (AskCommand.ListJobs prefix) r none = left_none r.list_jobs _
+    (left_none (r.list_jobs || r.read_job) _ (left_none (r.list_jobs || r.read_job || r.submit_job) _ none))
 lacks (AskCommand.Register x) r none = right_none (r.list_jobs || r.read_job) _ (left_none (r.list_jobs || r.read_job || r.submit_job) _ none)
-lacks (AskCommand.ReadJob id) r none = right_none r.list_jobs _ (left_none (r.list_jobs || r.read_job) _ (left_none (r.list_jobs || r.read_job || r.submit_job) _ none))
+lacks (AskCommand.ReadJob id) r none = right_none r.list_jobs _
+    (left_none (r.list_jobs || r.read_job) _ (left_none (r.list_jobs || r.read_job || r.submit_job) _ none))
 lacks (AskCommand.Deregister id purge) r none = right_none (r.list_jobs || r.read_job) _ (left_none (r.list_jobs || r.read_job || r.submit_job) _ none)
-lacks (AskCommand.JobAllocations id) r none = right_none r.list_jobs _ (left_none (r.list_jobs || r.read_job) _ (left_none (r.list_jobs || r.read_job || r.submit_job) _ none))
-lacks (AskCommand.JobEvaluations id) r none = right_none r.list_jobs _ (left_none (r.list_jobs || r.read_job) _ (left_none (r.list_jobs || r.read_job || r.submit_job) _ none))
-lacks (AskCommand.ListEvaluations prefix) r none = right_none r.list_jobs _ (left_none (r.list_jobs || r.read_job) _ (left_none (r.list_jobs || r.read_job || r.submit_job) _ none))
-lacks (AskCommand.ReadEvaluation n) r none = right_none r.list_jobs _ (left_none (r.list_jobs || r.read_job) _ (left_none (r.list_jobs || r.read_job || r.submit_job) _ none))
-lacks (AskCommand.ListAllocations prefix) r none = right_none r.list_jobs _ (left_none (r.list_jobs || r.read_job) _ (left_none (r.list_jobs || r.read_job || r.submit_job) _ none))
-lacks (AskCommand.ReadAllocation n) r none = right_none r.list_jobs _ (left_none (r.list_jobs || r.read_job) _ (left_none (r.list_jobs || r.read_job || r.submit_job) _ none))
+lacks (AskCommand.JobAllocations id) r none = right_none r.list_jobs _
+    (left_none (r.list_jobs || r.read_job) _ (left_none (r.list_jobs || r.read_job || r.submit_job) _ none))
+lacks (AskCommand.JobEvaluations id) r none = right_none r.list_jobs _
+    (left_none (r.list_jobs || r.read_job) _ (left_none (r.list_jobs || r.read_job || r.submit_job) _ none))
+lacks (AskCommand.ListEvaluations prefix) r none =
+    right_none r.list_jobs _ (left_none (r.list_jobs || r.read_job) _ (left_none (r.list_jobs || r.read_job || r.submit_job) _ none))
+lacks (AskCommand.ReadEvaluation n) r none = right_none r.list_jobs _
+    (left_none (r.list_jobs || r.read_job) _ (left_none (r.list_jobs || r.read_job || r.submit_job) _ none))
+lacks (AskCommand.ListAllocations prefix) r none =
+    right_none r.list_jobs _ (left_none (r.list_jobs || r.read_job) _ (left_none (r.list_jobs || r.read_job || r.submit_job) _ none))
+lacks (AskCommand.ReadAllocation n) r none = right_none r.list_jobs _
+    (left_none (r.list_jobs || r.read_job) _ (left_none (r.list_jobs || r.read_job || r.submit_job) _ none))
 lacks (AskCommand.StopAllocation n) r none = right_none (r.list_jobs || r.read_job || r.submit_job) _ none
 lacks AskCommand.ReadNamespace r none = none
-lacks (AskCommand.QuotaUsage quota) r none = right_none r.list_jobs _ (left_none (r.list_jobs || r.read_job) _ (left_none (r.list_jobs || r.read_job || r.submit_job) _ none))
-lacks (AskCommand.Events index) r none = right_none r.list_jobs _ (left_none (r.list_jobs || r.read_job) _ (left_none (r.list_jobs || r.read_job || r.submit_job) _ none))
+lacks (AskCommand.QuotaUsage quota) r none = right_none r.list_jobs _
+    (left_none (r.list_jobs || r.read_job) _ (left_none (r.list_jobs || r.read_job || r.submit_job) _ none))
+lacks (AskCommand.Events index) r none = right_none r.list_jobs _
+    (left_none (r.list_jobs || r.read_job) _ (left_none (r.list_jobs || r.read_job || r.submit_job) _ none))
 
 -- what is asked without a right changes nothing
-denied : (s s' : State) (asked : Name) (secret : Option Name) (command : AskCommand) (answer : Answer) → has_any (rights_of s.acl secret asked) ≡ false → after (Step.Ask asked secret command) s ≡ said answer s' → s ≡ s'
+denied : (s s' : State) (asked : Name) (secret : Option Name) (command : AskCommand) (answer : Answer) → has_any (rights_of s.acl secret asked) ≡ false →
+    after (Step.Ask asked secret command) s ≡ said answer s' → s ≡ s'
 unfolding after
 denied s s' asked secret command answer none e =
-    ap (λ x. x.1) (same_Some _ _ (sym (ap (λ b. cond b (concluded (Step.Ask asked secret command) s (act (Step.Ask asked secret command) s)) (said (Err Refusal.Denied) s)) (lacks command (rights_of s.acl secret asked) none)) ∙ e))
+    ap (λ x. x.1) (same_Some _ _ (sym (ap (λ b. cond b (concluded (Step.Ask asked secret command) s (act (Step.Ask asked secret command) s))
+        (said (Err Refusal.Denied) s)) (lacks command (rights_of s.acl secret asked) none)) ∙ e))
 
 -- ---- the tables of the namespace as those of its part
 
@@ -172,7 +202,8 @@ tables_of ns s s' same = record {
   quotas = same.quota;
   pools = same.pool;
   rights = record {
-    spaces = λ secret k own. ap (rights_of s'.acl secret) (sym (same_name_is ns k own)) ∙ same.rights secret ∙ ap (rights_of s.acl secret) (same_name_is ns k own);
+    spaces = λ secret k own. ap (rights_of s'.acl secret) (sym (same_name_is ns k own)) ∙ same.rights secret ∙
+        ap (rights_of s.acl secret) (same_name_is ns k own);
     pools = same.pool_rights;
   };
 }
@@ -205,24 +236,38 @@ module _ (ns : Name) (s0 s t s' : State) (step : Step) (answer : Answer) (fit : 
   other_of_part other keeps e = as_after t (reaches ns s s' step answer keeps e).namespace
       (other_step_apart (part_of s.world ns) s t s' step answer (to_part ns s t agree) fit other (leaves_tables ns s s' step keeps) e)
 
-pub other_of : (ns : Name) (s0 s t s' : State) (step : Step) (answer : Answer) → IsFit (part_of s.world ns) s → Reaches ns s0 s → Agree ns s t → is_own ns s0 step ≡ false → Keeps ns step s s' → after step s ≡ said answer s' → Agree ns s' t
+pub other_of : (ns : Name) (s0 s t s' : State) (step : Step) (answer : Answer) → IsFit (part_of s.world ns) s → Reaches ns s0 s → Agree ns s t →
+    is_own ns s0 step ≡ false → Keeps ns step s s' → after step s ≡ said answer s' → Agree ns s' t
 unfolding is_own
 other_of ns s0 s t s' (Step.Ask asked secret command) answer fit r agree other keeps e = by (same_name ns asked) refl other
   where
     by : (b : Bool) → same_name ns asked ≡ b → (b && has_any (rights_of s0.acl secret ns)) ≡ false → Agree ns s' t
     by false foreign _ = other_of_part ns s0 s t s' (Step.Ask asked secret command) answer fit r agree foreign keeps e
-    by true mine none = subst (λ x. Agree ns x t) (denied s s' asked secret command answer (ap (λ k. has_any (rights_of s.acl secret k)) (sym (same_name_is ns asked mine)) ∙ ap has_any (r.rights secret) ∙ none) e) agree
-other_of ns s0 s t s' (Step.Admin secret command) answer fit r agree other keeps e = other_of_part ns s0 s t s' (Step.Admin secret command) answer fit r agree refl keeps e
-other_of ns s0 s t s' (Step.Node pool secret command) answer fit r agree other keeps e = other_of_part ns s0 s t s' (Step.Node pool secret command) answer fit r agree (own_node ns s0 s r pool command ∙ other) keeps e
-other_of ns s0 s t s' (Step.Dequeue worker label n) answer fit r agree other keeps e = other_of_part ns s0 s t s' (Step.Dequeue worker label n) answer fit r agree other keeps e
-other_of ns s0 s t s' (Step.Snap worker label) answer fit r agree other keeps e = other_of_part ns s0 s t s' (Step.Snap worker label) answer fit r agree other keeps e
-other_of ns s0 s t s' (Step.Submit worker label) answer fit r agree other keeps e = other_of_part ns s0 s t s' (Step.Submit worker label) answer fit r agree other keeps e
-other_of ns s0 s t s' (Step.Apply worker label) answer fit r agree other keeps e = other_of_part ns s0 s t s' (Step.Apply worker label) answer fit r agree other keeps e
-other_of ns s0 s t s' (Step.Finish worker label) answer fit r agree other keeps e = other_of_part ns s0 s t s' (Step.Finish worker label) answer fit r agree other keeps e
-other_of ns s0 s t s' (Step.Nack worker label) answer fit r agree other keeps e = other_of_part ns s0 s t s' (Step.Nack worker label) answer fit r agree other keeps e
+    by true mine none = subst (λ x. Agree ns x t)
+        (denied s s' asked secret command answer (ap (λ k. has_any (rights_of s.acl secret k)) (sym (same_name_is ns asked mine)) ∙ ap has_any (r.rights secret)
+        ∙ none) e) agree
+other_of ns s0 s t s' (Step.Admin secret command) answer fit r agree other keeps e =
+    other_of_part ns s0 s t s' (Step.Admin secret command) answer fit r agree refl keeps e
+other_of ns s0 s t s' (Step.Node pool secret command) answer fit r agree other keeps e =
+    other_of_part ns s0 s t s' (Step.Node pool secret command) answer fit r agree (own_node ns s0 s r pool command ∙ other) keeps e
+other_of ns s0 s t s' (Step.Dequeue worker label n) answer fit r agree other keeps e =
+    other_of_part ns s0 s t s' (Step.Dequeue worker label n) answer fit r agree other keeps e
+other_of ns s0 s t s' (Step.Snap worker label) answer fit r agree other keeps e =
+    other_of_part ns s0 s t s' (Step.Snap worker label) answer fit r agree other keeps e
+other_of ns s0 s t s' (Step.Submit worker label) answer fit r agree other keeps e =
+    other_of_part ns s0 s t s' (Step.Submit worker label) answer fit r agree other keeps e
+other_of ns s0 s t s' (Step.Apply worker label) answer fit r agree other keeps e =
+    other_of_part ns s0 s t s' (Step.Apply worker label) answer fit r agree other keeps e
+other_of ns s0 s t s' (Step.Finish worker label) answer fit r agree other keeps e =
+    other_of_part ns s0 s t s' (Step.Finish worker label) answer fit r agree other keeps e
+other_of ns s0 s t s' (Step.Nack worker label) answer fit r agree other keeps e =
+    other_of_part ns s0 s t s' (Step.Nack worker label) answer fit r agree other keeps e
 
 pub own_step : OwnStep
-own_step ns s0 s t s' step answer steady unshared same agree own e = own_of ns s0 s t s' step answer (fit_of s ns steady.orderly steady.within unshared) (record { namespace = same.namespace; rights = same.rights }) agree own e
+own_step ns s0 s t s' step answer steady unshared same agree own e = own_of ns s0 s t s' step answer (fit_of s ns steady.orderly steady.within unshared)
+    (record { namespace = same.namespace; rights = same.rights }) agree own e
 
 pub other_step : OtherStep
-other_step ns s0 s t s' step answer steady unshared same agree other keeps e = other_of ns s0 s t s' step answer (fit_of s ns steady.orderly steady.within unshared) (record { namespace = same.namespace; rights = same.rights }) agree other keeps e
+other_step ns s0 s t s' step answer steady unshared same agree other keeps e =
+    other_of ns s0 s t s' step answer (fit_of s ns steady.orderly steady.within unshared) (record { namespace = same.namespace; rights = same.rights })
+    agree other keeps e

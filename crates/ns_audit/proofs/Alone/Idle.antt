@@ -23,11 +23,17 @@ use Rattle.ns_types.specs.declared.resources.Limit.TheVariants as Limit
 use Rattle.ns_types.specs.declared.resources.Limits.{Limits}
 use Rattle.ns_types.specs.declared.resources.Resources.{Resources}
 use Rattle.ns_types.specs.State.Names.{Name, Key, attribute_cmp, has_key}
-use Rattle.ns_types.specs.Settling.Releases.{ends, is_on, counts_in, gives_room, released_classes, classes_of, changes_limits, releases_quota, is_released_quota, wakes, wakes_by, woken, same_offer}
+use Rattle.ns_types.specs.Settling.Releases.{
+    ends, is_on, counts_in, gives_room, released_classes, classes_of, changes_limits, releases_quota, is_released_quota,
+    wakes, wakes_by, woken, same_offer
+}
 use Rattle.ns_types.specs.State.Resources.{same_resources, same_limit, same_limits, limits_in}
 use Rattle.ns_types.specs.State.Rows.{World, Tenant, PoolRows, QuotaRows, is_live, is_free, class_of, evaluation_at, allocation_at}
 use Rattle.ns_types.specs.Settling.Same.{same_flag, same_constraint, same_task, same_group, same_document, same_job, same_evaluation, same_allocation}
-use Rattle.ns_types.specs.Settling.Settle.{wake, after_release, after_quota_release, number_releases, is_touched, is_changed, changes_job, changes_evaluation, changes_allocation, stamped, stamp_tenant, stamp, settle}
+use Rattle.ns_types.specs.Settling.Settle.{
+    wake, after_release, after_quota_release, number_releases, is_touched, is_changed, changes_job, changes_evaluation,
+    changes_allocation, stamped, stamp_tenant, stamp, settle
+}
 use Rattle.ns_types.specs.Wire.Words.{kind_text, operand_text, target_text, status_text, trigger_text, desired_text, client_text}
 use Rattle.ns_types.proofs.Lists.{each, filter_none, filter_all}
 use Rattle.ns_types.proofs.Named.{names, one_name, numbers, one_number, same_name_refl, same_number_refl}
@@ -86,39 +92,52 @@ same_document_refl d = and_true (and_true (and_true (and_true (same_name_refl (k
 
 same_job_refl : (j : Job) → same_job j j ≡ true
 unfolding same_job
-same_job_refl j = and_true (and_true (and_true (and_true (same_document_refl j.document) (same_flag_refl j.stop)) (same_number_refl j.version)) (same_number_refl j.create_index)) (same_number_refl j.modify_index)
+same_job_refl j = and_true (and_true (and_true (and_true (same_document_refl j.document) (same_flag_refl j.stop)) (same_number_refl j.version))
+    (same_number_refl j.create_index)) (same_number_refl j.modify_index)
 
 pub same_evaluation_refl : (e : Evaluation) → same_evaluation e e ≡ true
 unfolding same_evaluation
-same_evaluation_refl e = and_true (and_true (and_true (and_true (and_true (and_true (and_true (and_true (and_true (same_name_refl e.job) (same_name_refl (kind_text e.kind))) (same_number_refl e.priority)) (same_name_refl e.pool))
-    (same_name_refl (trigger_text e.trigger))) (same_name_refl (status_text e.status))) (option_refl _ same_number_refl e.previous)) (option_refl _ same_number_refl e.follower)) (option_refl _ same_name_refl e.quota)) (same_flag_refl e.escapes)
+same_evaluation_refl e = and_true (and_true (and_true
+    (and_true (and_true (and_true (and_true (and_true (and_true (same_name_refl e.job) (same_name_refl (kind_text e.kind))) (same_number_refl e.priority))
+    (same_name_refl e.pool))
+    (same_name_refl (trigger_text e.trigger))) (same_name_refl (status_text e.status))) (option_refl _ same_number_refl e.previous))
+        (option_refl _ same_number_refl e.follower)) (option_refl _ same_name_refl e.quota)) (same_flag_refl e.escapes)
 
 same_allocation_refl : (a : Allocation) → same_allocation a a ≡ true
 unfolding same_allocation
-same_allocation_refl a = and_true (and_true (and_true (and_true (and_true (and_true (and_true (and_true (and_true (same_name_refl a.job) (same_name_refl a.group)) (same_number_refl a.evaluation)) (same_name_refl a.pool))
-    (same_name_refl a.node)) (same_resources_refl a.size)) (same_number_refl a.priority)) (same_number_refl a.job_modify_index)) (same_name_refl (desired_text a.desired))) (same_name_refl (client_text a.client))
+same_allocation_refl a = and_true (and_true (and_true
+    (and_true (and_true (and_true (and_true (and_true (and_true (same_name_refl a.job) (same_name_refl a.group)) (same_number_refl a.evaluation))
+    (same_name_refl a.pool))
+    (same_name_refl a.node)) (same_resources_refl a.size)) (same_number_refl a.priority)) (same_number_refl a.job_modify_index))
+        (same_name_refl (desired_text a.desired))) (same_name_refl (client_text a.client))
 
 -- ---- nothing is released
 
 module _ (w : World) where
   ends_idle : (passes : Namespace → Allocation → Bool) → ends w w passes ≡ false
   unfolding ends
-  ends_idle passes = any_row-none names one_name _ w.tenants (λ ns t is. any_row-none numbers one_number _ t.allocations (λ n a at. by ns t n a is at (is_live a) refl (passes t.namespace a)))
+  ends_idle passes = any_row-none names one_name _ w.tenants
+      (λ ns t is. any_row-none numbers one_number _ t.allocations (λ n a at. by ns t n a is at (is_live a) refl (passes t.namespace a)))
     where
-      by : (ns : Name) (t : Tenant) (n : ℕ) (a : Allocation) → get w.tenants ns ≡ Some t → get t.allocations n ≡ Some a → (l : Bool) → is_live a ≡ l → (p : Bool)
+      by : (ns : Name) (t : Tenant) (n : ℕ) (a : Allocation) → get w.tenants ns ≡ Some t → get t.allocations n ≡ Some a → (l : Bool) → is_live a ≡ l →
+          (p : Bool)
           → (l && p && not (option_map_or is_live (allocation_at w (ns, n)) false)) ≡ false
       by ns t n a is at false live p = refl
       by ns t n a is at true live false = refl
       by ns t n a is at true live true = ap (λ o. not (option_map_or is_live o false)) (ap (option_and_then (λ t. get t.allocations n)) is ∙ at) ∙ ap not live
 
-  gives_room_idle : (name : Name) (pool : PoolRows) (n : Name) (node : Node) → get w.pools name ≡ Some pool → get pool.nodes n ≡ Some node → gives_room w w name n node ≡ false
+  gives_room_idle : (name : Name) (pool : PoolRows) (n : Name) (node : Node) → get w.pools name ≡ Some pool → get pool.nodes n ≡ Some node →
+      gives_room w w name n node ≡ false
   gives_room_idle name pool n node is at = never (is_free node) _ (λ free.
-      (λ i. option_map_or (λ old. not (is_free old) || not (same_offer old.offer node.offer)) ((ap (option_and_then (λ p. get p.nodes n)) is ∙ at) i) true || ends_idle (is_on name n) i)
+      (λ i. option_map_or (λ old. not (is_free old) || not (same_offer old.offer node.offer)) ((ap (option_and_then (λ p. get p.nodes n)) is ∙ at) i) true
+          || ends_idle (is_on name n) i)
       ∙ (λ i. (not (free i) || not (same_offer_refl node.offer i)) || false))
 
   released_classes_idle : (name : Name) (pool : PoolRows) → get w.pools name ≡ Some pool → released_classes w w name pool ≡ []
   unfolding released_classes
-  released_classes_idle name pool is = ap (map (λ e. class_of e.1)) (filter_none _ (entries pool.nodes) (each_row names one_name (λ n node. gives_room w w name n node ≡ false) pool.nodes (λ n node at. gives_room_idle name pool n node is at)))
+  released_classes_idle name pool is = ap (map (λ e. class_of e.1))
+      (filter_none _ (entries pool.nodes) (each_row names one_name (λ n node. gives_room w w name n node ≡ false) pool.nodes
+      (λ n node at. gives_room_idle name pool n node is at)))
 
   releases_quota_idle : (name : Name) (quota : QuotaRows) → get w.quotas name ≡ Some quota → releases_quota w w name quota ≡ false
   unfolding releases_quota
@@ -149,7 +168,8 @@ module _ (w : World) where
 
   woken_idle : woken w w ≡ []
   unfolding woken
-  woken_idle = filter_none _ w.blocked (each _ (λ key. ap (λ b. has_key w.blocked key && b) (by key (evaluation_at w key)) ∙ none (has_key w.blocked key)) w.blocked)
+  woken_idle = filter_none _ w.blocked (each _ (λ key. ap (λ b. has_key w.blocked key && b) (by key (evaluation_at w key)) ∙ none (has_key w.blocked key))
+      w.blocked)
     where
       none : (b : Bool) → (b && false) ≡ false
       none true = refl
@@ -162,7 +182,8 @@ module _ (w : World) where
   wake_none : wake [] w ≡ w
   unfolding wake
   wake_none = λ i. record w {
-    tenants = map_rows_idle names one_name _ w.tenants (λ ns t is i. record t { evaluations = map_rows_idle numbers one_number (λ n e. e) t.evaluations (λ n e at. refl) i }) i;
+    tenants = map_rows_idle names one_name _ w.tenants
+        (λ ns t is i. record t { evaluations = map_rows_idle numbers one_number (λ n e. e) t.evaluations (λ n e at. refl) i }) i;
     blocked = filter_all (λ _. true) w.blocked (each _ (λ key. refl) w.blocked) i;
   }
 
@@ -190,8 +211,10 @@ is_touched_idle t = λ i.
 
 stamp_idle : (w : World) → stamp w w ≡ w
 unfolding stamp stamp_tenant
-stamp_idle w = λ i. record w { tenants = map_rows_idle names one_name _ w.tenants (λ ns t is. ap (λ o. stamp_tenant o t) is ∙ ap (λ b. cond b (stamped (t.index + 1) t t) t) (is_touched_idle t)) i }
+stamp_idle w = λ i. record w { tenants = map_rows_idle names one_name _ w.tenants (λ ns t is. ap (λ o. stamp_tenant o t) is ∙
+    ap (λ b. cond b (stamped (t.index + 1) t t) t) (is_touched_idle t)) i }
 
 pub settle_idle : (w : World) → settle w w ≡ w
 unfolding settle
-settle_idle w = ap (λ keys. stamp w (number_releases w w (wake keys w))) (woken_idle w) ∙ ap (λ x. stamp w (number_releases w w x)) (wake_none w) ∙ ap (stamp w) (number_releases_idle w) ∙ stamp_idle w
+settle_idle w = ap (λ keys. stamp w (number_releases w w (wake keys w))) (woken_idle w) ∙ ap (λ x. stamp w (number_releases w w x)) (wake_none w) ∙
+    ap (stamp w) (number_releases_idle w) ∙ stamp_idle w

@@ -30,14 +30,18 @@ module _ (part : Part) (w : World) (apart : IsApart part w) where
   unfolding live_on
   live_on_alone pool node mine = ap (λ xs. map seen_live (by_number (λ a. a.1.1.place) xs))
       (flat_map-retain names one_name (λ ns t. map (λ a. (ns, a)) (filter (λ a. is_live_on pool node a.1) (entries t.allocations))) w.tenants part.spaces
-      (λ k t is other. ap (map (λ a. (k, a))) (filter_none _ (entries t.allocations) (each_row numbers one_number (λ n a. is_live_on pool node a ≡ false) t.allocations (λ n a at. on_none part w apart.allocation pool node k t n a mine is other at)))))
+      (λ k t is other. ap (map (λ a. (k, a))) (filter_none _ (entries t.allocations)
+          (each_row numbers one_number (λ n a. is_live_on pool node a ≡ false) t.allocations
+          (λ n a at. on_none part w apart.allocation pool node k t n a mine is other at)))))
 
   nodes_of_alone : (pool : Name) → part.pools pool ≡ true → nodes_of w pool ≡ nodes_of (alone_in part w) pool
-  nodes_of_alone pool mine = λ i. option_map_or (λ p. map (λ n. record { name = n.0; row = n.1; live = live_on_alone pool n.0 mine i }) (entries p.nodes)) (sym (pool_alone part w pool mine) i) []
+  nodes_of_alone pool mine = λ i. option_map_or (λ p. map (λ n. record { name = n.0; row = n.1; live = live_on_alone pool n.0 mine i }) (entries p.nodes))
+      (sym (pool_alone part w pool mine) i) []
 
   naming_alone : (q : Name) → part.quotas q ≡ true → namespaces_naming w q ≡ namespaces_naming (alone_in part w) q
   unfolding namespaces_naming
-  naming_alone q mine = ap (map (λ t. t.0)) (filter-retain names one_name (λ ns t. names_quota q t.namespace) w.tenants part.spaces (λ k t is other. names_none part w apart.quota q k t mine is other))
+  naming_alone q mine = ap (map (λ t. t.0)) (filter-retain names one_name (λ ns t. names_quota q t.namespace) w.tenants part.spaces
+      (λ k t is other. names_none part w apart.quota q k t mine is other))
 
   quota_seen_alone : (q : Name) → part.quotas q ≡ true → quota_seen w q ≡ quota_seen (alone_in part w) q
   quota_seen_alone q mine = λ i. option_map (λ quota. record {
@@ -48,7 +52,8 @@ module _ (part : Part) (w : World) (apart : IsApart part w) where
     namespaces = naming_alone q mine i;
   }) (sym (quota_alone part w q mine) i)
 
-  snapshot_in_alone : (ns : Name) (t : Tenant) (n : ℕ) (e : Evaluation) (pool : Name) → part.spaces ns ≡ true → get w.tenants ns ≡ Some t → part.pools pool ≡ true
+  snapshot_in_alone : (ns : Name) (t : Tenant) (n : ℕ) (e : Evaluation) (pool : Name) → part.spaces ns ≡ true → get w.tenants ns ≡ Some t →
+      part.pools pool ≡ true
       → snapshot_in w ns t n e pool ≡ snapshot_in (alone_in part w) ns t n e pool
   snapshot_in_alone ns t n e pool own is mine = λ i. record (snapshot_in w ns t n e pool) {
     nodes = nodes_of_alone pool mine i;
@@ -66,7 +71,8 @@ module _ (part : Part) (w : World) (apart : IsApart part w) where
   its_pool ns t number worker e is at row None _ = apart.held ns t number worker e is at row
   its_pool ns t number worker e is at row (Some j) found = apart.job ns t e.job j is found
 
-  pub snapshot_alone : (ns : Name) (t : Tenant) (number : ℕ) (worker : Worker) (e : Evaluation) → part.spaces ns ≡ true → get w.tenants ns ≡ Some t → get t.workers number ≡ Some worker
+  pub snapshot_alone : (ns : Name) (t : Tenant) (number : ℕ) (worker : Worker) (e : Evaluation) → part.spaces ns ≡ true → get w.tenants ns ≡ Some t →
+      get t.workers number ≡ Some worker
       → get t.evaluations worker.evaluation ≡ Some e → snapshot_of w ns t worker.evaluation e ≡ snapshot_of (alone_in part w) ns t worker.evaluation e
   snapshot_alone ns t number worker e own is at row = snapshot_in_alone ns t worker.evaluation e (pool_for e (get t.jobs e.job)) own is
       (its_pool ns t number worker e is at row (get t.jobs e.job) refl ∙ own)
@@ -74,7 +80,8 @@ module _ (part : Part) (w : World) (apart : IsApart part w) where
 -- ---- missed releases
 
 -- the quota that limits a follower is the kept one
-pub limits_by : (e : Evaluation) (worker : Worker) (kept : Snapshot) (q : Name) → (follower_of e worker kept).quota ≡ Some q → option_map (λ q. q.name) kept.quota ≡ Some q
+pub limits_by : (e : Evaluation) (worker : Worker) (kept : Snapshot) (q : Name) → (follower_of e worker kept).quota ≡ Some q →
+    option_map (λ q. q.name) kept.quota ≡ Some q
 limits_by e worker kept q = by (has_failed worker) (plan kept).placing.quota_limited
   where
     by : (a b : Bool) → cond a None (cond b (option_map (λ q. q.name) kept.quota) None) ≡ Some q → option_map (λ q. q.name) kept.quota ≡ Some q
@@ -87,6 +94,9 @@ pub missed_alone : (part : Part) (w : World) (ns : Name) (e : Evaluation) (worke
 unfolding missed
 missed_alone part w ns e worker kept own side = by (follower_of e worker kept).quota refl
   where
-    by : (q : Option Name) → (follower_of e worker kept).quota ≡ q → missed_by (alone_in part w) kept (follower_of e worker kept) q ≡ missed_by w kept (follower_of e worker kept) q
-    by None at = ap (λ p. option_map_or (λ pool. any_row (λ class number. nat_lt kept.release number && can_use (follower_of e worker kept) class) pool.classes) p false) (pool_alone part w kept.pool (side.with.pool_with ∙ own))
-    by (Some q) at = ap (λ x. nat_lt (option_map_or (λ q. q.release) kept.quota 0) (option_map_or (λ q. q.release) x 0)) (quota_alone part w q (side.with.quota_with q (limits_by e worker kept q at) ∙ own))
+    by : (q : Option Name) → (follower_of e worker kept).quota ≡ q → missed_by (alone_in part w) kept (follower_of e worker kept) q ≡ missed_by w kept
+        (follower_of e worker kept) q
+    by None at = ap (λ p. option_map_or (λ pool. any_row (λ class number. nat_lt kept.release number && can_use (follower_of e worker kept) class) pool.classes)
+        p false) (pool_alone part w kept.pool (side.with.pool_with ∙ own))
+    by (Some q) at = ap (λ x. nat_lt (option_map_or (λ q. q.release) kept.quota 0) (option_map_or (λ q. q.release) x 0))
+        (quota_alone part w q (side.with.quota_with q (limits_by e worker kept q at) ∙ own))

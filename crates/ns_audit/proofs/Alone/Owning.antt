@@ -49,7 +49,8 @@ module _ (w : World) (s : IsSound w) where
     job = λ id j at. (r.job id j at).allowed.permitted;
     evaluation = λ n e at open_. allowed_to w t e.pool e.quota ((r.evaluation n e at).allowed open_);
     allocation = λ n a at live. ((r.allocation n a at).placed live).allowed.permitted;
-    snapshot = λ n worker kept at has. let k = (r.worker n worker at).snapshot kept has in record { namespace = k.namespace; allowed = allowed_to w t kept.pool _ k.allowed };
+    snapshot = λ n worker kept at has. let k = (r.worker n worker at).snapshot kept has in
+        record { namespace = k.namespace; allowed = allowed_to w t kept.pool _ k.allowed };
     held = λ n worker at. let k = r.worker n worker at in record { row = k.row; is_row = k.is_row; is_pending = pending_is k.row.status k.pending };
     one_each = r.one_each;
     numbers = λ n e at. (r.evaluation n e at).below;
@@ -60,7 +61,8 @@ module _ (w : World) (s : IsSound w) where
 
   -- an entry's evaluation is a row of a namespace
   module _ {P : Tenant → ℕ → Type 0} (ns : Name) (n : ℕ) where
-    listed_at : (e : Evaluation) → evaluation_at w (ns, n) ≡ Some e → ((t : Tenant) → get w.tenants ns ≡ Some t → get t.evaluations n ≡ Some e → P t n) → IsListed w P ns n
+    listed_at : (e : Evaluation) → evaluation_at w (ns, n) ≡ Some e → ((t : Tenant) → get w.tenants ns ≡ Some t → get t.evaluations n ≡ Some e → P t n) →
+        IsListed w P ns n
     listed_at e at h = by (get w.tenants ns) refl at
       where
         by : (o : Option Tenant) → get w.tenants ns ≡ o → option_and_then (λ t. get t.evaluations n) o ≡ Some e → IsListed w P ns n
@@ -78,7 +80,8 @@ module _ (w : World) (s : IsSound w) where
     where
       by : (o : Option Evaluation) → evaluation_at w (ns, n) ≡ o → is_some (evaluation_at w (ns, n)) ≡ true → IsListed w IsBlockedIn ns n
       by None at some = absurd (subst T (sym some ∙ ap is_some at) tt)
-      by (Some e) at some = listed_at {P = IsBlockedIn} ns n e at (λ t is row. record { row = e; is_row = row; is_blocked = blocked_is e.status (sym ((s.tenant ns t is).blocked_listed n e row) ∙ has) })
+      by (Some e) at some = listed_at {P = IsBlockedIn} ns n e at
+          (λ t is row. record { row = e; is_row = row; is_blocked = blocked_is e.status (sym ((s.tenant ns t is).blocked_listed n e row) ∙ has) })
 
   pub orderly : IsOrderly w
   orderly = record { tenant = tenant_orderly; ready = ready_orderly; blocked = blocked_orderly }
@@ -120,7 +123,9 @@ module _ (w : World) (ns : Name) (t : Tenant) (is : get w.tenants ns ≡ Some t)
         by false e = sym e
 
     foreign : (k : Name) (other : Tenant) → get w.tenants k ≡ Some other → same_name ns k ≡ false → overlaps t.namespace other.namespace ≡ false
-    foreign k other at differs = by (same_name k ns) (turned_name ns k differs) (none_of_any one_name (λ name other. not (same_name name ns) && overlaps t.namespace other.namespace) w.tenants k other (right_none (not (is_confined t.namespace)) _ unshared) at)
+    foreign k other at differs = by (same_name k ns) (turned_name ns k differs)
+        (none_of_any one_name (λ name other. not (same_name name ns) && overlaps t.namespace other.namespace) w.tenants k other
+        (right_none (not (is_confined t.namespace)) _ unshared) at)
       where
         by : (b : Bool) → b ≡ false → (not b && overlaps t.namespace other.namespace) ≡ false → overlaps t.namespace other.namespace ≡ false
         by true e none = not_both refl e
@@ -130,7 +135,8 @@ module _ (w : World) (ns : Name) (t : Tenant) (is : get w.tenants ns ≡ Some t)
     listed : (pool : Name) → permits t.namespace pool ≡ true → list_any (same_name pool) (pools_of t.namespace) ≡ true
     listed pool e = by t.namespace.allowed confined e
       where
-        by : (o : Option (List Name)) → is_some o ≡ true → permits_by o t.namespace pool ≡ true → list_any (same_name pool) (option_map_or (λ allowed. t.namespace.default_pool ∷ allowed) o []) ≡ true
+        by : (o : Option (List Name)) → is_some o ≡ true → permits_by o t.namespace pool ≡ true →
+            list_any (same_name pool) (option_map_or (λ allowed. t.namespace.default_pool ∷ allowed) o []) ≡ true
         by None some e = absurd (subst T (sym some) tt)
         by (Some allowed) some e = e
 
@@ -141,12 +147,14 @@ module _ (w : World) (ns : Name) (t : Tenant) (is : get w.tenants ns ≡ Some t)
         own None e = absurd (no_path e)
         own (Some r) e = ap (same_name q) (same_Some r q e) ∙ same_name_refl q
 
-        none : (r : Option Name) → t.namespace.quota ≡ r → option_map_or (λ quota. names_quota quota x.namespace) r false ≡ false → option_map_or (same_name q) r false ≡ false
+        none : (r : Option Name) → t.namespace.quota ≡ r → option_map_or (λ quota. names_quota quota x.namespace) r false ≡ false →
+            option_map_or (same_name q) r false ≡ false
         none None e lacks = refl
         none (Some r) e lacks = turned_name r q (sym (ap (λ o. option_map_or (same_name r) o false) named) ∙ lacks)
 
         by : (b : Bool) → same_name ns k ≡ b → names_quota q t.namespace ≡ b
-        by true same = own t.namespace.quota (ap (λ (y : Tenant). y.namespace.quota) (same_Some _ _ (sym is ∙ ap (get w.tenants) (same_name_is ns k same) ∙ at)) ∙ named)
+        by true same = own t.namespace.quota (ap (λ (y : Tenant). y.namespace.quota) (same_Some _ _ (sym is ∙ ap (get w.tenants) (same_name_is ns k same) ∙ at))
+            ∙ named)
         by false differs = none t.namespace.quota refl (right_none (list_any (permits x.namespace) (pools_of t.namespace)) _ (foreign k x at differs))
 
     pool_side : (k : Name) (x : Tenant) (p : Name) → get w.tenants k ≡ Some x → permits x.namespace p ≡ true → has_pool w ns p ≡ same_name ns k
@@ -163,20 +171,26 @@ module _ (w : World) (ns : Name) (t : Tenant) (is : get w.tenants ns ≡ Some t)
 -- ---- it is apart
 
 module _ (w : World) (ns : Name) (t : Tenant) (is : get w.tenants ns ≡ Some t) (unshared : shares_with_any w ns t ≡ false) (o : IsOrderly w) where
-  with_its : (k : Name) (x : Tenant) → get w.tenants k ≡ Some x → (pool : Name) (quota : Option Name) → IsAllowedTo x.namespace pool quota → IsWith (part_of w ns) k pool quota
-  with_its k x at pool quota a = record { pool_with = pool_side w ns t is unshared k x pool at a.permitted; quota_with = λ q e. quota_side w ns t is unshared k x q at (a.its_quota q e) }
+  with_its : (k : Name) (x : Tenant) → get w.tenants k ≡ Some x → (pool : Name) (quota : Option Name) → IsAllowedTo x.namespace pool quota →
+      IsWith (part_of w ns) k pool quota
+  with_its k x at pool quota a = record { pool_with = pool_side w ns t is unshared k x pool at a.permitted; quota_with =
+      λ q e. quota_side w ns t is unshared k x q at (a.its_quota q e) }
 
   blocked_with : (key : Key) (e : Evaluation) → has_key w.blocked key ≡ true → evaluation_at w key ≡ Some e → IsWith (part_of w ns) key.0 e.pool e.quota
   blocked_with key e has at = by (get w.tenants key.0) refl at
     where
-      by : (x : Option Tenant) → get w.tenants key.0 ≡ x → option_and_then (λ t. get t.evaluations key.1) x ≡ Some e → IsWith (part_of w ns) key.0 e.pool e.quota
+      by : (x : Option Tenant) → get w.tenants key.0 ≡ x → option_and_then (λ t. get t.evaluations key.1) x ≡ Some e →
+          IsWith (part_of w ns) key.0 e.pool e.quota
       by None x_is at = absurd (no_path at)
       by (Some x) x_is at =
           let b = o.blocked key.0 key.1 has in
           let same : x ≡ b.tenant = same_Some _ _ (sym x_is ∙ b.is_tenant) in
-          with_its key.0 x x_is e.pool e.quota ((o.tenant key.0 x x_is).evaluation key.1 e at (ap (λ e. is_open e.status) (same_Some _ _ (sym at ∙ ap (λ (t : Tenant). get t.evaluations key.1) same ∙ b.entry.is_row)) ∙ ap is_open b.entry.is_blocked))
+          with_its key.0 x x_is e.pool e.quota ((o.tenant key.0 x x_is).evaluation key.1 e at
+              (ap (λ e. is_open e.status) (same_Some _ _ (sym at ∙ ap (λ (t : Tenant). get t.evaluations key.1) same ∙ b.entry.is_row)) ∙
+              ap is_open b.entry.is_blocked))
 
-  each_blocked : (keys : List Key) → ((key : Key) → has_key keys key ≡ true → has_key w.blocked key ≡ true) → Each (λ key. (e : Evaluation) → evaluation_at w key ≡ Some e → IsWith (part_of w ns) key.0 e.pool e.quota) keys
+  each_blocked : (keys : List Key) → ((key : Key) → has_key keys key ≡ true → has_key w.blocked key ≡ true) →
+      Each (λ key. (e : Evaluation) → evaluation_at w key ≡ Some e → IsWith (part_of w ns) key.0 e.pool e.quota) keys
   each_blocked [] h = tt
   each_blocked (k ∷ ks) h = (
     (λ e at. blocked_with k e (h k (ap (λ b. b || has_key ks k) (λ i. same_name_refl k.0 i && same_number_refl k.1 i))) at),
@@ -190,13 +204,17 @@ module _ (w : World) (ns : Name) (t : Tenant) (is : get w.tenants ns ≡ Some t)
     blocked = each_blocked w.blocked (λ key has. has);
     allocation = λ k x n a at row live. pool_side w ns t is unshared k x a.pool at ((o.tenant k x at).allocation n a row live);
     job = λ k x id j at row. pool_side w ns t is unshared k x j.document.pool at ((o.tenant k x at).job id j row);
-    held = λ k x n worker e at has row. pool_side w ns t is unshared k x e.pool at (let p = (o.tenant k x at).held n worker has in ((o.tenant k x at).evaluation worker.evaluation e row (ap (λ e. is_open e.status) (same_Some _ _ (sym row ∙ p.is_row)) ∙ ap is_open p.is_pending)).permitted);
-    kept = λ k x n worker kept at has holds. let y = (o.tenant k x at).snapshot n worker kept has holds in record { namespace = y.namespace; with = with_its k x at kept.pool _ y.allowed };
+    held = λ k x n worker e at has row. pool_side w ns t is unshared k x e.pool at (let p = (o.tenant k x at).held n worker has in
+        ((o.tenant k x at).evaluation worker.evaluation e row (ap (λ e. is_open e.status) (same_Some _ _ (sym row ∙ p.is_row)) ∙
+        ap is_open p.is_pending)).permitted);
+    kept = λ k x n worker kept at has holds. let y = (o.tenant k x at).snapshot n worker kept has holds in
+        record { namespace = y.namespace; with = with_its k x at kept.pool _ y.allowed };
   }
 
   at_home : strays t ≡ false → IsAtHome (part_of w ns) w
   at_home none k x n a at row held own =
-      pools_are w ns t is a.pool ∙ by (permits t.namespace a.pool) (is_held a.client) held (none_of_any one_number (λ _ a. is_held a.client && not (permits t.namespace a.pool)) t.allocations n a (right_none _ _ none)
+      pools_are w ns t is a.pool ∙ by (permits t.namespace a.pool) (is_held a.client) held
+          (none_of_any one_number (λ _ a. is_held a.client && not (permits t.namespace a.pool)) t.allocations n a (right_none _ _ none)
       (ap (λ (y : Tenant). get y.allocations n) (same_Some _ _ (sym is ∙ ap (get w.tenants) (same_name_is ns k own) ∙ at)) ∙ row))
     where
       by : (b h : Bool) → h ≡ true → (h && not b) ≡ false → b ≡ true
@@ -207,6 +225,7 @@ pub fit_of : (s : State) (ns : Name) → IsOrderly s.world → is_past_bound s.w
 unfolding is_unshared shares
 fit_of s ns o within unshared = by (get s.world.tenants ns) refl (off _ (first_of_both _ _ unshared)) (second_of_both (not (shares s.world ns)) _ unshared)
   where
-    by : (x : Option Tenant) → get s.world.tenants ns ≡ x → option_map_or (shares_with_any s.world ns) x true ≡ false → option_map_or (λ t. not (strays t)) x false ≡ true → IsFit (part_of s.world ns) s
+    by : (x : Option Tenant) → get s.world.tenants ns ≡ x → option_map_or (shares_with_any s.world ns) x true ≡ false →
+        option_map_or (λ t. not (strays t)) x false ≡ true → IsFit (part_of s.world ns) s
     by None is shared home = absurd (subst T (sym home) tt)
     by (Some t) is shared home = record { apart = apart s.world ns t is shared o; at_home = at_home s.world ns t is shared o (off _ home); within = within }

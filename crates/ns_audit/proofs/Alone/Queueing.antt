@@ -44,13 +44,16 @@ module _ (priority : Key → ℕ) where
       by later false e = later e
 
   -- none has a greater priority than the one that is served
-  is_greatest : (keys : List Key) (key : Key) → first_of_greatest priority keys ≡ Some key → list_all (λ other. nat_le (priority other) (priority key)) keys ≡ true
+  is_greatest : (keys : List Key) (key : Key) → first_of_greatest priority keys ≡ Some key →
+      list_all (λ other. nat_le (priority other) (priority key)) keys ≡ true
   is_greatest [] key e = refl
   is_greatest (x ∷ xs) key e = by (is_greatest xs key) (list_all (λ other. nat_le (priority other) (priority x)) xs) refl e
     where
-      by : (first_of_greatest priority xs ≡ Some key → list_all (λ other. nat_le (priority other) (priority key)) xs ≡ true) → (b : Bool) → list_all (λ other. nat_le (priority other) (priority x)) xs ≡ b → cond b (Some x) (first_of_greatest priority xs) ≡ Some key
+      by : (first_of_greatest priority xs ≡ Some key → list_all (λ other. nat_le (priority other) (priority key)) xs ≡ true) → (b : Bool) →
+          list_all (λ other. nat_le (priority other) (priority x)) xs ≡ b → cond b (Some x) (first_of_greatest priority xs) ≡ Some key
           → (nat_le (priority x) (priority key) && list_all (λ other. nat_le (priority other) (priority key)) xs) ≡ true
-      by later true h e = subst (λ k. (nat_le (priority x) (priority k) && list_all (λ other. nat_le (priority other) (priority k)) xs) ≡ true) (same_Some x key e) (λ i. nat_le_refl (priority x) i && h i)
+      by later true h e = subst (λ k. (nat_le (priority x) (priority k) && list_all (λ other. nat_le (priority other) (priority k)) xs) ≡ true)
+          (same_Some x key e) (λ i. nat_le_refl (priority x) i && h i)
       by later false h e = λ i. above (nat_le (priority x) (priority key)) refl i && rest i
         where
           rest : list_all (λ other. nat_le (priority other) (priority key)) xs ≡ true
@@ -58,13 +61,17 @@ module _ (priority : Key → ℕ) where
 
           above : (c : Bool) → nat_le (priority x) (priority key) ≡ c → nat_le (priority x) (priority key) ≡ true
           above true is = is
-          above false is = not_both (all_weaker _ _ xs (λ other low. nat_le_trans (priority other) (priority key) (priority x) low (turned (priority x) (priority key) is)) rest) h
+          above false is = not_both (all_weaker _ _ xs
+              (λ other low. nat_le_trans (priority other) (priority key) (priority x) low (turned (priority x) (priority key) is)) rest) h
 
-  served_chosen : (p : Key → Bool) (keys : List Key) (key : Key) → first_of_greatest priority keys ≡ Some key → p key ≡ true → first_of_greatest priority (filter p keys) ≡ Some key
+  served_chosen : (p : Key → Bool) (keys : List Key) (key : Key) → first_of_greatest priority keys ≡ Some key → p key ≡ true →
+      first_of_greatest priority (filter p keys) ≡ Some key
   served_chosen p [] key e own = e
   served_chosen p (x ∷ xs) key e own = by (λ e'. served_chosen p xs key e' own) (list_all (under x) xs) refl e (p x) refl
     where
-      by : (first_of_greatest priority xs ≡ Some key → first_of_greatest priority (filter p xs) ≡ Some key) → (b : Bool) → list_all (under x) xs ≡ b → cond b (Some x) (first_of_greatest priority xs) ≡ Some key → (c : Bool) → p x ≡ c → first_of_greatest priority (cond c (x ∷ filter p xs) (filter p xs)) ≡ Some key
+      by : (first_of_greatest priority xs ≡ Some key → first_of_greatest priority (filter p xs) ≡ Some key) → (b : Bool) → list_all (under x) xs ≡ b →
+          cond b (Some x) (first_of_greatest priority xs) ≡ Some key → (c : Bool) → p x ≡ c →
+          first_of_greatest priority (cond c (x ∷ filter p xs) (filter p xs)) ≡ Some key
       by later true h e true is = ap (λ b. cond b (Some x) (first_of_greatest priority (filter p xs))) (all_at (under x) p xs h) ∙ e
       by later true h e false is = not_both (ap p (same_Some x key e) ∙ own) is
       by later false h e false is = later e
@@ -75,7 +82,9 @@ module _ (priority : Key → ℕ) where
 
           here : (d : Bool) → list_all (under x) (filter p xs) ≡ d → cond d (Some x) (first_of_greatest priority (filter p xs)) ≡ Some key
           here false _ = rest
-          here true low = not_both (all_weaker _ _ xs (λ other le. nat_le_trans (priority other) (priority key) (priority x) le (all_served (under x) (filter p xs) key rest low)) (is_greatest xs key e)) h
+          here true low = not_both (all_weaker _ _ xs
+              (λ other le. nat_le_trans (priority other) (priority key) (priority x) le (all_served (under x) (filter p xs) key rest low))
+              (is_greatest xs key e)) h
 
 -- priorities count where they are asked
 pub served_alike : (f g : Key → ℕ) (keys : List Key) → Each (λ key. f key ≡ g key) keys → first_of_greatest f keys ≡ first_of_greatest g keys
@@ -88,7 +97,9 @@ served_alike f g (x ∷ xs) h = λ i. cond (alike xs h.1 i) (Some x) (served_ali
 
 each_in : (P : Key → Type 0) (p : Key → Bool) (keys : List Key) → ((key : Key) → p key ≡ true → P key) → Each P (filter p keys)
 each_in P p [] h = tt
-each_in P p (x ∷ xs) h = elim (p x) as (λ b. p x ≡ b → Each P (cond b (x ∷ filter p xs) (filter p xs))) [ true ↦ λ is. (h x is, each_in P p xs h) | false ↦ λ _. each_in P p xs h ] refl
+each_in P p (x ∷ xs) h = elim (p x) as (λ b. p x ≡ b → Each P (cond b (x ∷ filter p xs) (filter p xs))) [ true ↦ λ is. (h x is, each_in P p xs h) | false ↦
+    λ _. each_in P p xs h ] refl
 
-pub served_alone : (f g : Key → ℕ) (p : Key → Bool) (keys : List Key) (key : Key) → ((k : Key) → p k ≡ true → f k ≡ g k) → first_of_greatest f keys ≡ Some key → p key ≡ true → first_of_greatest g (filter p keys) ≡ Some key
+pub served_alone : (f g : Key → ℕ) (p : Key → Bool) (keys : List Key) (key : Key) → ((k : Key) → p k ≡ true → f k ≡ g k) → first_of_greatest f keys ≡ Some key →
+    p key ≡ true → first_of_greatest g (filter p keys) ≡ Some key
 served_alone f g p keys key same e own = sym (served_alike f g (filter p keys) (each_in _ p keys same)) ∙ served_chosen f p keys key e own

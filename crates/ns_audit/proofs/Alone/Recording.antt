@@ -10,7 +10,10 @@ use Rattle.ns_types.specs.State.Names.{Name, Key, ByName}
 use Rattle.ns_types.specs.Working.Queue.{queue, is_busy}
 use Rattle.ns_types.specs.Settling.Releases.{released_classes, releases_quota, woken}
 use Rattle.ns_types.specs.State.Rows.{World, Tenant, PoolRows, QuotaRows, evaluation_at}
-use Rattle.ns_types.specs.Settling.Settle.{unblocked_in, wake, after_release, after_quota_release, number_releases, is_touched, stamped, stamp_tenant, stamp, settle}
+use Rattle.ns_types.specs.Settling.Settle.{
+    unblocked_in, wake, after_release, after_quota_release, number_releases, is_touched, stamped, stamp_tenant, stamp,
+    settle
+}
 use Rattle.ns_types.proofs.Named.{names, one_name}
 use Rattle.ns_types.proofs.Tables.{get-map_rows}
 use Rattle.ns_types.specs.State.Tables.{map_rows}
@@ -24,14 +27,16 @@ module _ {A : Type 0} (f : World → A) (same : (w : World) (keys : List Key) �
     where
       by : (e : Option Evaluation) → f (option_map_or (λ e. cond (is_busy w key.0 e.job) w (record w { ready = w.ready ++ key ∷ [] })) e w) ≡ f w
       by None = refl
-      by (Some e) = elim (is_busy w key.0 e.job) as (λ b. f (cond b w (record w { ready = w.ready ++ key ∷ [] })) ≡ f w) [ true ↦ refl | false ↦ same w (w.ready ++ key ∷ []) ]
+      by (Some e) = elim (is_busy w key.0 e.job) as (λ b. f (cond b w (record w { ready = w.ready ++ key ∷ [] })) ≡ f w)
+          [ true ↦ refl | false ↦ same w (w.ready ++ key ∷ []) ]
 
   pub queues_keep : (keys : List Key) (w : World) → f (fold queue w keys) ≡ f w
   queues_keep [] w = refl
   queues_keep (key ∷ keys) w = queues_keep keys (queue w key) ∙ queue_keeps w key
 
 -- rows changed without their record
-pub record_kept : {X Y : Type 0} (f : Name → X → X) (kept : X → Y) → ((k : Name) (x : X) → kept (f k x) ≡ kept x) → (m : ByName X) (q : Name) → option_map kept (get (map_rows f m) q) ≡ option_map kept (get m q)
+pub record_kept : {X Y : Type 0} (f : Name → X → X) (kept : X → Y) → ((k : Name) (x : X) → kept (f k x) ≡ kept x) → (m : ByName X) (q : Name) →
+    option_map kept (get (map_rows f m) q) ≡ option_map kept (get m q)
 record_kept {X = X} f kept same m q = ap (option_map kept) (get-map_rows names one_name f m q) ∙ by (get m q)
   where
     by : (o : Option X) → option_map kept (option_map (f q) o) ≡ option_map kept o
@@ -60,10 +65,12 @@ module _ (w x : World) where
 
   pub pool_settled : (pool : Name) → pool_record (settle w x) pool ≡ pool_record x pool
   unfolding settle stamp number_releases wake
-  pool_settled pool = record_kept (λ name p. after_release (released_classes w x name p) p) (λ (p : PoolRows). p.pool) (λ name p. release_keeps (released_classes w x name p) p) _ pool
+  pool_settled pool = record_kept (λ name p. after_release (released_classes w x name p) p) (λ (p : PoolRows). p.pool)
+      (λ name p. release_keeps (released_classes w x name p) p) _ pool
       ∙ ap (λ m. option_map (λ (p : PoolRows). p.pool) (get m pool)) (queues_keep (λ y. y.pools) (λ y keys. refl) (woken w x) _)
 
   pub quota_settled : (quota : Name) → quota_record (settle w x) quota ≡ quota_record x quota
   unfolding settle stamp number_releases wake
-  quota_settled quota = record_kept (λ name q. after_quota_release (releases_quota w x name q) q) (λ (q : QuotaRows). q.quota) (λ name q. quota_release_keeps (releases_quota w x name q) q) _ quota
+  quota_settled quota = record_kept (λ name q. after_quota_release (releases_quota w x name q) q) (λ (q : QuotaRows). q.quota)
+      (λ name q. quota_release_keeps (releases_quota w x name q) q) _ quota
       ∙ ap (λ m. option_map (λ (q : QuotaRows). q.quota) (get m quota)) (queues_keep (λ y. y.quotas) (λ y keys. refl) (woken w x) _)

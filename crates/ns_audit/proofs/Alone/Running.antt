@@ -44,7 +44,8 @@ module _ (s : State) (steady : IsSteady s) (step : Step) (s' : State) (answer : 
       y : State
       y = record x { world = settle s.world x.world }
 
-      by : (b : Bool) → is_past_bound (settle s.world x.world) ≡ b → cond b (said (Err Refusal.Full) s) (said (Ok (reply_of step content (settle s.world x.world))) y) ≡ said answer s' → IsSteady s'
+      by : (b : Bool) → is_past_bound (settle s.world x.world) ≡ b →
+          cond b (said (Err Refusal.Full) s) (said (Ok (reply_of step content (settle s.world x.world))) y) ≡ said answer s' → IsSteady s'
       by true over e = subst IsSteady (ap (λ x. x.1) (same_Some _ _ e)) steady
       by false within e = subst IsSteady (ap (λ x. x.1) (same_Some _ _ e)) (record { orderly = settle_orderly s.world x.world h; within = within })
 
@@ -68,7 +69,8 @@ unshared_is_apart ns s steady unshared = fit_of s ns steady.orderly steady.withi
 reaches_on : (ns : Name) (s0 s s' : State) → Reaches ns s0 s → Reaches ns s s' → Reaches ns s0 s'
 reaches_on ns s0 s s' a b = record { namespace = b.namespace ∙ a.namespace; rights = λ secret. b.rights secret ∙ a.rights secret }
 
-from_agreeing : (ns : Name) (s0 s t s1 : State) (steps : List Step) (answers : List Answer) → IsSteady s → Reaches ns s0 s → Agree ns s t → IsIsolated ns s steps answers s1
+from_agreeing : (ns : Name) (s0 s t s1 : State) (steps : List Step) (answers : List Answer) → IsSteady s → Reaches ns s0 s → Agree ns s t →
+    IsIsolated ns s steps answers s1
     → (t1 : State) × Run t (struck ns s0 steps) (struck_answers ns s0 steps answers) t1 × Agree ns s1 t1
 from_agreeing ns s0 s t s1 [] [] steady r agree run = (t, refl, subst (λ x. Agree ns x t) (sym run.1) agree)
 from_agreeing ns s0 s t s1 [] (answer ∷ answers) steady r agree run = absurd run
@@ -79,12 +81,14 @@ from_agreeing ns s0 s t s1 (step ∷ steps) (answer ∷ answers) steady r agree 
     let next_steady = after_steady s steady step run.0 answer run.2 in
     let next_reach = reaches_on ns s0 s run.0 r (reaches ns s run.0 step answer run.3 run.2) in
     elim (is_own ns s0 step) as (λ b. is_own ns s0 step ≡ b → (t1 : State)
-    × Run t (cond b (step ∷ struck ns s0 steps) (struck ns s0 steps)) (cond b (answer ∷ struck_answers ns s0 steps answers) (struck_answers ns s0 steps answers)) t1 × Agree ns s1 t1) [
+    × Run t (cond b (step ∷ struck ns s0 steps) (struck ns s0 steps))
+        (cond b (answer ∷ struck_answers ns s0 steps answers) (struck_answers ns s0 steps answers)) t1 × Agree ns s1 t1) [
       | true ↦ λ own.
           let next = own_of ns s0 s t run.0 step answer fit r agree own run.2 in
           let later = from_agreeing ns s0 run.0 next.0 s1 steps answers next_steady next_reach next.2 run.4 in
           (later.0, (next.0, next.1, later.1), later.2)
-      | false ↦ λ other. from_agreeing ns s0 run.0 t s1 steps answers next_steady next_reach (other_of ns s0 s t run.0 step answer fit r agree other run.3 run.2) run.4
+      | false ↦ λ other. from_agreeing ns s0 run.0 t s1 steps answers next_steady next_reach
+          (other_of ns s0 s t run.0 step answer fit r agree other run.3 run.2) run.4
     ] refl
 
 -- the server that holds the namespace alone agrees at first
@@ -93,7 +97,8 @@ unfolding alone
 first_agrees ns s = from_part ns s (alone ns s) (record { world = refl; rights = record { spaces = λ secret k own. refl; pools = λ secret pool own. refl } })
 
 pub struck_steady_run : StruckSteadyRun
-struck_steady_run ns s0 s1 steps answers steady run = from_agreeing ns s0 s0 (alone ns s0) s1 steps answers steady (record { namespace = refl; rights = λ secret. refl }) (first_agrees ns s0) run
+struck_steady_run ns s0 s1 steps answers steady run =
+    from_agreeing ns s0 s0 (alone ns s0) s1 steps answers steady (record { namespace = refl; rights = λ secret. refl }) (first_agrees ns s0) run
 
 pub struck_run : StruckRun
 struck_run ns s0 s1 steps answers valid run = struck_steady_run ns s0 s1 steps answers (valid_is_steady s0 valid) run

@@ -41,7 +41,8 @@ apart_rest part w apart = record {
   allocation = λ ns t n a is at live. ap not (apart.allocation ns t n a is at live);
   job = λ ns t id j is at. ap not (apart.job ns t id j is at);
   held = λ ns t n worker e is at row. ap not (apart.held ns t n worker e is at row);
-  kept = λ ns t n worker kept is at has. record { namespace = (apart.kept ns t n worker kept is at has).namespace; with = rest_with part ns kept.pool _ (apart.kept ns t n worker kept is at has).with };
+  kept = λ ns t n worker kept is at has. record { namespace = (apart.kept ns t n worker kept is at has).namespace; with =
+      rest_with part ns kept.pool _ (apart.kept ns t n worker kept is at has).with };
 }
 
 -- ---- on which side a step is
@@ -83,7 +84,8 @@ change (Step.Apply worker ns) w = apply worker ns w
 change (Step.Finish worker ns) w = finish worker ns w
 change (Step.Nack worker ns) w = nack worker ns w
 
-own_tell : (part : Part) (w : World) (pool : Name) (command : NodeCommand) → (part.pools pool && concerns_part part command) ≡ true → TellsOn part w true pool command
+own_tell : (part : Part) (w : World) (pool : Name) (command : NodeCommand) → (part.pools pool && concerns_part part command) ≡ true →
+    TellsOn part w true pool command
 own_tell part w pool NodeCommand.ReadPool own = first_of_both _ _ own
 own_tell part w pool NodeCommand.ListNodes own = first_of_both _ _ own
 own_tell part w pool (NodeCommand.PutNode name offer) own = first_of_both _ _ own
@@ -107,7 +109,8 @@ both_off : (a : Bool) → (a && true) ≡ false → a ≡ false
 both_off true e = e
 both_off false e = refl
 
-other_tell : (part : Part) (w : World) (pool : Name) (command : NodeCommand) → IsAtHome part w → (part.pools pool && concerns_part part command) ≡ false → TellsOn part w false pool command
+other_tell : (part : Part) (w : World) (pool : Name) (command : NodeCommand) → IsAtHome part w → (part.pools pool && concerns_part part command) ≡ false →
+    TellsOn part w false pool command
 other_tell part w pool NodeCommand.ReadPool home other = both_off _ other
 other_tell part w pool NodeCommand.ListNodes home other = both_off _ other
 other_tell part w pool (NodeCommand.PutNode name offer) home other = both_off _ other
@@ -189,8 +192,10 @@ allowed_alike part (Step.Finish worker ns) a b same own = refl
 allowed_alike part (Step.Nack worker ns) a b same own = refl
 
 -- with the index that the step's namespace has after it
-pub reply_alike : (part : Part) (step : Step) (content : Content) (w : World) → belongs part step ≡ true → reply_of step content (alone_in part w) ≡ reply_of step content w
-reply_alike part (Step.Ask ns secret command) content w own = ap (λ t. record { index = option_map (λ (t : Tenant). t.index) t; content = content }) (tenant_alone part w ns own)
+pub reply_alike : (part : Part) (step : Step) (content : Content) (w : World) → belongs part step ≡ true →
+    reply_of step content (alone_in part w) ≡ reply_of step content w
+reply_alike part (Step.Ask ns secret command) content w own = ap (λ t. record { index = option_map (λ (t : Tenant). t.index) t; content = content })
+    (tenant_alone part w ns own)
 reply_alike part (Step.Admin secret command) content w own = not_both own refl
 reply_alike part (Step.Node pool secret command) content w own = refl
 reply_alike part (Step.Dequeue worker ns n) content w own = refl

@@ -11,7 +11,10 @@ use Rattle.ns_types.specs.declared.step.AdminCommand.TheVariants as AdminCommand
 use Rattle.ns_types.specs.declared.worker.Worker.{Worker}
 use Rattle.ns_types.specs.declared.snapshot.Snapshot.{Snapshot}
 use Rattle.ns_types.specs.Asking.Policies.{with_world, with_acl, administer}
-use Rattle.ns_types.specs.Asking.Admins.{has_open, has_live, looks_to_pool, uses_pool, new_tenant, with_namespace, is_withdrawn, same_quota, forbids_put, put_namespace, delete_namespace, put_quota, delete_quota, read_quota, put_pool_record, delete_pool}
+use Rattle.ns_types.specs.Asking.Admins.{
+    has_open, has_live, looks_to_pool, uses_pool, new_tenant, with_namespace, is_withdrawn, same_quota, forbids_put,
+    put_namespace, delete_namespace, put_quota, delete_quota, read_quota, put_pool_record, delete_pool
+}
 use Rattle.ns_types.specs.Settling.Making.{put_tenant}
 use Rattle.ns_types.specs.State.Names.{Name, name_cmp, same_name, has_key}
 use Rattle.ns_types.specs.Settling.Outcome.{Outcome, NotEnabled, Refused, Done, lift}
@@ -63,24 +66,30 @@ module _ (ns : Name) (ready blocked : ℕ → Bool) (t : Tenant) (s : IsOrderlyT
       by true same = same_name_of q old same
       by false differs = not_both open_ (none_of_any one_number (λ _ e. is_open e.status) t.evaluations n e (none_open differs) at)
 
-  kept_still : (n : ℕ) (worker : Worker) (kept : Snapshot) → get t.workers n ≡ Some worker → worker.kept ≡ Some kept → is_withdrawn t.namespace new kept.pool ≡ false
+  kept_still : (n : ℕ) (worker : Worker) (kept : Snapshot) → get t.workers n ≡ Some worker → worker.kept ≡ Some kept →
+      is_withdrawn t.namespace new kept.pool ≡ false
   kept_still n worker kept at has =
       ap (λ o. option_map_or (λ kept. is_withdrawn t.namespace new kept.pool) o false) (sym has)
-      ∙ none_of_any one_number (λ _ worker. option_map_or (λ kept. is_withdrawn t.namespace new kept.pool) worker.kept false) t.workers n worker (right_none _ _ unlooked) at
+      ∙ none_of_any one_number (λ _ worker. option_map_or (λ kept. is_withdrawn t.namespace new kept.pool) worker.kept false) t.workers n worker
+          (right_none _ _ unlooked) at
 
   evaluation_still : (n : ℕ) (e : Evaluation) → get t.evaluations n ≡ Some e → is_open e.status ≡ true → IsAllowedTo new e.pool e.quota
   evaluation_still n e at open_ =
       let a = s.evaluation n e at open_ in record {
-        permitted = still e.pool a.permitted (ap (λ b. b && is_withdrawn t.namespace new e.pool) (sym open_) ∙ none_of_any one_number (λ _ e. is_open e.status && is_withdrawn t.namespace new e.pool) t.evaluations n e (right_none _ _ (left_none _ _ unlooked)) at);
+        permitted = still e.pool a.permitted (ap (λ b. b && is_withdrawn t.namespace new e.pool) (sym open_) ∙
+            none_of_any one_number (λ _ e. is_open e.status && is_withdrawn t.namespace new e.pool) t.evaluations n e (right_none _ _ (left_none _ _ unlooked))
+            at);
         its_quota = λ q is. quota_still n e at open_ q (a.its_quota q is);
       }
 
   renamed_keeps : KeepsTenant ns ready blocked t (record t { namespace = new })
   renamed_keeps = record {
     sound = record {
-      job = λ id j at. still j.document.pool (s.job id j at) (none_of_any one_name (λ _ job. is_withdrawn t.namespace new job.document.pool) t.jobs id j (left_none _ _ (left_none _ _ unlooked)) at);
+      job = λ id j at. still j.document.pool (s.job id j at)
+          (none_of_any one_name (λ _ job. is_withdrawn t.namespace new job.document.pool) t.jobs id j (left_none _ _ (left_none _ _ unlooked)) at);
       evaluation = evaluation_still;
-      allocation = λ n a at live. still a.pool (s.allocation n a at live) (ap (λ b. b && is_withdrawn t.namespace new a.pool) (sym live) ∙ none_of_any one_number (λ _ a. is_live a && is_withdrawn t.namespace new a.pool) t.allocations n a (right_none _ _ unused) at);
+      allocation = λ n a at live. still a.pool (s.allocation n a at live) (ap (λ b. b && is_withdrawn t.namespace new a.pool) (sym live) ∙
+          none_of_any one_number (λ _ a. is_live a && is_withdrawn t.namespace new a.pool) t.allocations n a (right_none _ _ unused) at);
       snapshot = λ n worker kept at has.
           let k = s.snapshot n worker kept at has in
           let p = s.held n worker at in record {
@@ -123,13 +132,15 @@ added_orderly w ns namespace s none = record {
     by_tenant k x (inr at) = s.tenant k x at
 
     again : (P : Tenant → ℕ → Type 0) (k : Name) (n : ℕ) → IsListed w P k n → IsListed (put_tenant ns (new_tenant namespace) w) P k n
-    again P k n l = record { tenant = l.tenant; entry = l.entry; is_tenant = get-insert names w.tenants ns (new_tenant namespace) k ∙ by (eq_by_cmp name_cmp k ns) refl }
+    again P k n l = record { tenant = l.tenant; entry = l.entry; is_tenant = get-insert names w.tenants ns (new_tenant namespace) k ∙
+        by (eq_by_cmp name_cmp k ns) refl }
       where
         by : (b : Bool) → eq_by_cmp name_cmp k ns ≡ b → cond b (Some (new_tenant namespace)) (get w.tenants k) ≡ Some l.tenant
         by true same = absurd (no_path (sym none ∙ ap (get w.tenants) (sym (same_name_is k ns same)) ∙ l.is_tenant))
         by false _ = l.is_tenant
 
-removed_orderly : (w : World) (ns : Name) (t : Tenant) → IsOrderly w → get w.tenants ns ≡ Some t → has_open t ≡ false → IsOrderly (record w { tenants = remove w.tenants ns })
+removed_orderly : (w : World) (ns : Name) (t : Tenant) → IsOrderly w → get w.tenants ns ≡ Some t → has_open t ≡ false →
+    IsOrderly (record w { tenants = remove w.tenants ns })
 removed_orderly w ns t s is none = record {
   tenant = λ k x at. by_tenant k x (eq_by_cmp name_cmp k ns) (sym (get-remove names w.tenants ns k) ∙ at);
   ready = λ k n has. again IsReadyIn k n (λ x r. open_row x n r.pending.row r.pending.is_row (ap is_open r.pending.is_pending)) (s.ready k n has);
@@ -142,9 +153,11 @@ removed_orderly w ns t s is none = record {
 
     -- no list names an evaluation of a namespace that has no open one
     open_row : (x : Tenant) (n : ℕ) (e : Evaluation) → get x.evaluations n ≡ Some e → is_open e.status ≡ true → t ≡ x → ⊥
-    open_row x n e at open_ same = not_both open_ (none_of_any one_number (λ _ e. is_open e.status) t.evaluations n e none (ap (λ (y : Tenant). get y.evaluations n) same ∙ at))
+    open_row x n e at open_ same = not_both open_
+        (none_of_any one_number (λ _ e. is_open e.status) t.evaluations n e none (ap (λ (y : Tenant). get y.evaluations n) same ∙ at))
 
-    again : (P : Tenant → ℕ → Type 0) (k : Name) (n : ℕ) → ((x : Tenant) → P x n → t ≡ x → ⊥) → IsListed w P k n → IsListed (record w { tenants = remove w.tenants ns }) P k n
+    again : (P : Tenant → ℕ → Type 0) (k : Name) (n : ℕ) → ((x : Tenant) → P x n → t ≡ x → ⊥) → IsListed w P k n →
+        IsListed (record w { tenants = remove w.tenants ns }) P k n
     again P k n never l = record { tenant = l.tenant; entry = l.entry; is_tenant = get-remove names w.tenants ns k ∙ by (eq_by_cmp name_cmp k ns) refl }
       where
         by : (b : Bool) → eq_by_cmp name_cmp k ns ≡ b → cond b None (get w.tenants k) ≡ Some l.tenant
@@ -156,18 +169,23 @@ removed_orderly w ns t s is none = record {
 module _ (w : World) (s : IsOrderly w) where
   namespace_put : (name : Name) (namespace : Namespace) → KeepsOrder (put_namespace name namespace w)
   unfolding put_namespace
-  namespace_put name namespace = leads_unless IsOrderly _ _ _ (λ _. leads_unless IsOrderly _ _ _ (λ _. leads_unless IsOrderly _ _ _ (λ _. leads_unless IsOrderly _ _ _ (λ free. leads_unless IsOrderly _ _ _ (λ _. by (get w.tenants name) refl free)))))
+  namespace_put name namespace = leads_unless IsOrderly _ _ _
+      (λ _. leads_unless IsOrderly _ _ _ (λ _. leads_unless IsOrderly _ _ _
+      (λ _. leads_unless IsOrderly _ _ _ (λ free. leads_unless IsOrderly _ _ _ (λ _. by (get w.tenants name) refl free)))))
     where
-      by : (o : Option Tenant) → get w.tenants name ≡ o → option_map_or (forbids_put namespace) o false ≡ false → IsOrderly (put_tenant name (with_namespace namespace o) w)
+      by : (o : Option Tenant) → get w.tenants name ≡ o → option_map_or (forbids_put namespace) o false ≡ false →
+          IsOrderly (put_tenant name (with_namespace namespace o) w)
       by None is free = added_orderly w name namespace s is
       by (Some t) is free = put_orderly w name t (record t { namespace = namespace }) is s (renamed_keeps name _ _ t (s.tenant name t is) namespace free)
 
   namespace_deleted : (name : Name) → KeepsOrder (delete_namespace name w)
   unfolding delete_namespace
-  namespace_deleted name = leads_found IsOrderly (get w.tenants name) _ (λ t is. leads_unless IsOrderly _ _ _ (λ _. leads_unless IsOrderly _ _ _ (λ idle. removed_orderly w name t s is (right_none _ _ (left_none _ _ idle)))))
+  namespace_deleted name = leads_found IsOrderly (get w.tenants name) _
+      (λ t is. leads_unless IsOrderly _ _ _ (λ _. leads_unless IsOrderly _ _ _ (λ idle. removed_orderly w name t s is (right_none _ _ (left_none _ _ idle)))))
 
   rest_orderly : (x : World) → x.tenants ≡ w.tenants → x.ready ≡ w.ready → x.blocked ≡ w.blocked → IsOrderly x
-  rest_orderly x tenants ready blocked = same_orderly w x tenants (λ key has. ap (λ keys. has_key keys key) (sym ready) ∙ has) (λ key has. ap (λ keys. has_key keys key) (sym blocked) ∙ has) s
+  rest_orderly x tenants ready blocked = same_orderly w x tenants (λ key has. ap (λ keys. has_key keys key) (sym ready) ∙ has)
+      (λ key has. ap (λ keys. has_key keys key) (sym blocked) ∙ has) s
 
 abbrev pub KeepsOrderState : Outcome State → Type 0
 KeepsOrderState = Leads (λ (x : State). IsOrderly x.world)
@@ -190,11 +208,17 @@ module _ (s : State) (o : IsOrderly s.world) where
   administer_orderly secret (AdminCommand.DeleteNamespace name) = of_world _ (namespace_deleted s.world o name)
   administer_orderly secret AdminCommand.ListQuotas = o
   administer_orderly secret (AdminCommand.ReadQuota name) = of_world (read_quota name s.world) (leads_found IsOrderly (get s.world.quotas name) _ (λ q _. o))
-  administer_orderly secret (AdminCommand.PutQuota name quota) = of_world (put_quota name quota s.world) (leads_unless IsOrderly _ _ _ (λ _. rest_orderly s.world o _ refl refl refl))
-  administer_orderly secret (AdminCommand.DeleteQuota name) = of_world (delete_quota name s.world) (leads_found IsOrderly (get s.world.quotas name) _ (λ q _. leads_unless IsOrderly _ _ _ (λ _. rest_orderly s.world o _ refl refl refl)))
+  administer_orderly secret (AdminCommand.PutQuota name quota) =
+      of_world (put_quota name quota s.world) (leads_unless IsOrderly _ _ _ (λ _. rest_orderly s.world o _ refl refl refl))
+  administer_orderly secret (AdminCommand.DeleteQuota name) =
+      of_world (delete_quota name s.world) (leads_found IsOrderly (get s.world.quotas name) _
+      (λ q _. leads_unless IsOrderly _ _ _ (λ _. rest_orderly s.world o _ refl refl refl)))
   administer_orderly secret AdminCommand.ListPools = o
-  administer_orderly secret (AdminCommand.PutPool name pool) = of_world (put_pool_record name pool s.world) (leads_unless IsOrderly _ _ _ (λ _. rest_orderly s.world o _ refl refl refl))
-  administer_orderly secret (AdminCommand.DeletePool name) = of_world (delete_pool name s.world) (leads_found IsOrderly (get s.world.pools name) _ (λ p _. leads_unless IsOrderly _ _ _ (λ _. leads_unless IsOrderly _ _ _ (λ _. rest_orderly s.world o _ refl refl refl))))
+  administer_orderly secret (AdminCommand.PutPool name pool) =
+      of_world (put_pool_record name pool s.world) (leads_unless IsOrderly _ _ _ (λ _. rest_orderly s.world o _ refl refl refl))
+  administer_orderly secret (AdminCommand.DeletePool name) =
+      of_world (delete_pool name s.world) (leads_found IsOrderly (get s.world.pools name) _
+      (λ p _. leads_unless IsOrderly _ _ _ (λ _. leads_unless IsOrderly _ _ _ (λ _. rest_orderly s.world o _ refl refl refl))))
   administer_orderly secret (AdminCommand.ReadPolicy name) = of_acl _
   administer_orderly secret (AdminCommand.PutPolicy name policy) = of_acl _
   administer_orderly secret (AdminCommand.DeletePolicy name) = of_acl _

@@ -19,20 +19,25 @@ use Rattle.ns_types.specs.State.Rows.{World, Tenant, is_open, is_live, evaluatio
 use Rattle.ns_types.specs.Access.Sharing.{permits}
 use Rattle.ns_types.specs.State.Tables.{map_rows, any_row}
 use Rattle.ns_types.proofs.Lists.{not_both, right_none}
-use Rattle.ns_types.proofs.Named.{names, one_name, numbers as numbers_, one_number, same_name_is, same_name_refl, same_number_refl, first_of_both, second_of_both}
+use Rattle.ns_types.proofs.Named.{
+    names, one_name, numbers as numbers_, one_number, same_name_is, same_name_refl, same_number_refl, first_of_both,
+    second_of_both
+}
 use Rattle.ns_types.proofs.Tables.{get-map_rows, tied, none_of_any}
 use Rattle.ns_audit.specs.Orderly.{IsAllowedTo, IsPendingIn, IsOrderlyTenant, IsReadyIn, IsBlockedIn, IsListed, IsOrderly}
 use Rattle.ns_audit.proofs.Alone.Chosen.{no_path, same_Some}
 use Rattle.ns_audit.proofs.Every.{row_of_insert}
 
-pub row_of_map : {K X : Type 0} {R : K → K → Ordering} (o : IsTotalOrder R) (same : IsAntisymmetric R) (f : K → X → X) (m : FinMap R X) (q : K) (x : X) → get (map_rows f m) q ≡ Some x → (y : X) × (get m q ≡ Some y) × (f q y ≡ x)
+pub row_of_map : {K X : Type 0} {R : K → K → Ordering} (o : IsTotalOrder R) (same : IsAntisymmetric R) (f : K → X → X) (m : FinMap R X) (q : K) (x : X) →
+    get (map_rows f m) q ≡ Some x → (y : X) × (get m q ≡ Some y) × (f q y ≡ x)
 row_of_map {X = X} o same f m q x is = by (get m q) refl (sym (get-map_rows o same f m q) ∙ is)
   where
     by : (y : Option X) → get m q ≡ y → option_map (f q) y ≡ Some x → (y : X) × (get m q ≡ Some y) × (f q y ≡ x)
     by None at is = absurd (no_path is)
     by (Some y) at is = (y, at, same_Some _ _ is)
 
-pub at_inserted : {K X : Type 0} {R : K → K → Ordering} (o : IsTotalOrder R) (m : FinMap R X) (k : K) (v : X) → eq_by_cmp R k k ≡ true → get (insert m k v) k ≡ Some v
+pub at_inserted : {K X : Type 0} {R : K → K → Ordering} (o : IsTotalOrder R) (m : FinMap R X) (k : K) (v : X) → eq_by_cmp R k k ≡ true →
+    get (insert m k v) k ≡ Some v
 at_inserted o m k v itself = get-insert o m k v k ∙ ap (λ b. cond b (Some v) (get m k)) itself
 
 pub elsewhere : {X : Type 0} (m : ByNumber X) (k n : ℕ) (v x : X) → n ≢ k → get m n ≡ Some x → get (insert m k v) n ≡ Some x
@@ -71,7 +76,8 @@ module _ (w : World) (ns : Name) (t t' : Tenant) (is : get w.tenants ns ≡ Some
             is_tenant = get-insert names w.tenants ns t' k ∙ ap (λ b. cond b (Some t') (get w.tenants k)) same;
             entry = keeps (sym e) (subst (λ x. P x n) (same_Some _ _ (sym l.is_tenant ∙ ap (get w.tenants) e ∙ is)) l.entry);
           }
-      by false differs = record { tenant = l.tenant; is_tenant = get-insert names w.tenants ns t' k ∙ ap (λ b. cond b (Some t') (get w.tenants k)) differs ∙ l.is_tenant; entry = l.entry }
+      by false differs = record { tenant = l.tenant; is_tenant = get-insert names w.tenants ns t' k ∙ ap (λ b. cond b (Some t') (get w.tenants k)) differs ∙
+          l.is_tenant; entry = l.entry }
 
   pub put_orderly : IsOrderly w → KeepsTenant ns (λ n. has_key w.ready (ns, n)) (λ n. has_key w.blocked (ns, n)) t t' → IsOrderly (put_tenant ns t' w)
   put_orderly s keeps = record {
@@ -89,7 +95,8 @@ module _ (ns : Name) (ready blocked : ℕ → Bool) where
   keeps_same t s = record { sound = s; ready_kept = λ n has r. r; blocked_kept = λ n has b. b }
 
   pub keeps_then : (t u v : Tenant) → KeepsTenant ns ready blocked t u → KeepsTenant ns ready blocked u v → KeepsTenant ns ready blocked t v
-  keeps_then t u v a b = record { sound = b.sound; ready_kept = λ n has r. b.ready_kept n has (a.ready_kept n has r); blocked_kept = λ n has r. b.blocked_kept n has (a.blocked_kept n has r) }
+  keeps_then t u v a b = record { sound = b.sound; ready_kept = λ n has r. b.ready_kept n has (a.ready_kept n has r); blocked_kept =
+      λ n has r. b.blocked_kept n has (a.blocked_kept n has r) }
 
   -- other jobs and allocations
   pub keeps_rows : (t : Tenant) (jobs : ByName Job) (allocations : ByNumber Allocation) (number : ℕ) → IsOrderlyTenant ns t
@@ -111,7 +118,8 @@ module _ (ns : Name) (ready blocked : ℕ → Bool) where
   }
 
   -- a new evaluation
-  pub keeps_with_evaluation : (t : Tenant) (e : Evaluation) → IsOrderlyTenant ns t → IsAllowedTo t.namespace e.pool e.quota → KeepsTenant ns ready blocked t (with_evaluation e t)
+  pub keeps_with_evaluation : (t : Tenant) (e : Evaluation) → IsOrderlyTenant ns t → IsAllowedTo t.namespace e.pool e.quota →
+      KeepsTenant ns ready blocked t (with_evaluation e t)
   keeps_with_evaluation t e s allowed = record {
     sound = record {
       job = s.job;
@@ -138,7 +146,8 @@ module _ (ns : Name) (ready blocked : ℕ → Bool) where
       still : (n : ℕ) → IsPendingIn t n → IsPendingIn (with_evaluation e t) n
       still n p = record { row = p.row; is_row = kept_row n p.row p.is_row; is_pending = p.is_pending }
 
-      by_evaluation : (n : ℕ) (x : Evaluation) → is_open x.status ≡ true → ((n ≡ new) × (e ≡ x)) ⊎ (get t.evaluations n ≡ Some x) → IsAllowedTo t.namespace x.pool x.quota
+      by_evaluation : (n : ℕ) (x : Evaluation) → is_open x.status ≡ true → ((n ≡ new) × (e ≡ x)) ⊎ (get t.evaluations n ≡ Some x) →
+          IsAllowedTo t.namespace x.pool x.quota
       by_evaluation n x open_ (inl is) = subst (λ x. IsAllowedTo t.namespace x.pool x.quota) is.1 allowed
       by_evaluation n x open_ (inr at) = s.evaluation n x at open_
 
@@ -170,7 +179,8 @@ has_key_append [] k key e = inr (one (same_key key k) e)
     one false e = e
 has_key_append (x ∷ xs) k key e = by (has_key_append xs k key) (or_cases (same_key key x) _ e)
   where
-    by : (has_key (xs ++ k ∷ []) key ≡ true → (has_key xs key ≡ true) ⊎ (same_key key k ≡ true)) → (same_key key x ≡ true) ⊎ (has_key (xs ++ k ∷ []) key ≡ true) → (has_key (x ∷ xs) key ≡ true) ⊎ (same_key key k ≡ true)
+    by : (has_key (xs ++ k ∷ []) key ≡ true → (has_key xs key ≡ true) ⊎ (same_key key k ≡ true)) → (same_key key x ≡ true)
+        ⊎ (has_key (xs ++ k ∷ []) key ≡ true) → (has_key (x ∷ xs) key ≡ true) ⊎ (same_key key k ≡ true)
     by later (inl here) = inl (ap (λ b. b || has_key xs key) here)
     by later (inr there) = more_of (later there)
       where
@@ -183,7 +193,8 @@ pub has_key_filter : (p : Key → Bool) (keys : List Key) (key : Key) → has_ke
 has_key_filter p [] key e = absurd (subst T (sym e) tt)
 has_key_filter p (x ∷ xs) key e = by (has_key_filter p xs key) (p x) refl e
   where
-    by : (has_key (filter p xs) key ≡ true → (has_key xs key ≡ true) × (p key ≡ true)) → (b : Bool) → p x ≡ b → has_key (cond b (x ∷ filter p xs) (filter p xs)) key ≡ true → (has_key (x ∷ xs) key ≡ true) × (p key ≡ true)
+    by : (has_key (filter p xs) key ≡ true → (has_key xs key ≡ true) × (p key ≡ true)) → (b : Bool) → p x ≡ b →
+        has_key (cond b (x ∷ filter p xs) (filter p xs)) key ≡ true → (has_key (x ∷ xs) key ≡ true) × (p key ≡ true)
     by later false fails e = let r = later e in (or_true (same_key key x) (has_key xs key) r.0, r.1)
     by later true passes e = here (or_cases (same_key key x) _ e)
       where
@@ -194,48 +205,60 @@ has_key_filter p (x ∷ xs) key e = by (has_key_filter p xs key) (p x) refl e
 -- an entry is put into `ready`, or into `blocked`
 module _ (w : World) (s : IsOrderly w) (ns : Name) (n : ℕ) where
   pub ready_orderly : IsListed w IsReadyIn ns n → IsOrderly (record w { ready = w.ready ++ (ns, n) ∷ [] })
-  ready_orderly l = record { tenant = s.tenant; blocked = λ k m has. again IsBlockedIn k m (s.blocked k m has); ready = λ k m has. again IsReadyIn k m (by k m (has_key_append w.ready (ns, n) (k, m) has)) }
+  ready_orderly l = record { tenant = s.tenant; blocked = λ k m has. again IsBlockedIn k m (s.blocked k m has); ready =
+      λ k m has. again IsReadyIn k m (by k m (has_key_append w.ready (ns, n) (k, m) has)) }
     where
       again : (P : Tenant → ℕ → Type 0) (k : Name) (m : ℕ) → IsListed w P k m → IsListed (record w { ready = w.ready ++ (ns, n) ∷ [] }) P k m
       again P k m l = record { tenant = l.tenant; is_tenant = l.is_tenant; entry = l.entry }
 
       by : (k : Name) (m : ℕ) → (has_key w.ready (k, m) ≡ true) ⊎ (same_key (k, m) (ns, n) ≡ true) → IsListed w IsReadyIn k m
       by k m (inl has) = s.ready k m has
-      by k m (inr last) = subst (λ k. IsListed w IsReadyIn k m) (sym (same_key_is (k, m) (ns, n) last).0) (subst (λ m. IsListed w IsReadyIn ns m) (sym (same_key_is (k, m) (ns, n) last).1) l)
+      by k m (inr last) = subst (λ k. IsListed w IsReadyIn k m) (sym (same_key_is (k, m) (ns, n) last).0)
+          (subst (λ m. IsListed w IsReadyIn ns m) (sym (same_key_is (k, m) (ns, n) last).1) l)
 
   pub blocked_orderly : IsListed w IsBlockedIn ns n → IsOrderly (record w { blocked = w.blocked ++ (ns, n) ∷ [] })
-  blocked_orderly l = record { tenant = s.tenant; ready = λ k m has. again IsReadyIn k m (s.ready k m has); blocked = λ k m has. again IsBlockedIn k m (by k m (has_key_append w.blocked (ns, n) (k, m) has)) }
+  blocked_orderly l = record { tenant = s.tenant; ready = λ k m has. again IsReadyIn k m (s.ready k m has); blocked =
+      λ k m has. again IsBlockedIn k m (by k m (has_key_append w.blocked (ns, n) (k, m) has)) }
     where
       again : (P : Tenant → ℕ → Type 0) (k : Name) (m : ℕ) → IsListed w P k m → IsListed (record w { blocked = w.blocked ++ (ns, n) ∷ [] }) P k m
       again P k m l = record { tenant = l.tenant; is_tenant = l.is_tenant; entry = l.entry }
 
       by : (k : Name) (m : ℕ) → (has_key w.blocked (k, m) ≡ true) ⊎ (same_key (k, m) (ns, n) ≡ true) → IsListed w IsBlockedIn k m
       by k m (inl has) = s.blocked k m has
-      by k m (inr last) = subst (λ k. IsListed w IsBlockedIn k m) (sym (same_key_is (k, m) (ns, n) last).0) (subst (λ m. IsListed w IsBlockedIn ns m) (sym (same_key_is (k, m) (ns, n) last).1) l)
+      by k m (inr last) = subst (λ k. IsListed w IsBlockedIn k m) (sym (same_key_is (k, m) (ns, n) last).0)
+          (subst (λ m. IsListed w IsBlockedIn ns m) (sym (same_key_is (k, m) (ns, n) last).1) l)
 
 -- where none of the job is ready or with a worker, no worker has one of its evaluations
-pub free_of : (w : World) (ns job : Name) (n : ℕ) (t : Tenant) (e : Evaluation) → is_busy w ns job ≡ false → get w.tenants ns ≡ Some t → get t.evaluations n ≡ Some e → same_name job e.job ≡ true
+pub free_of : (w : World) (ns job : Name) (n : ℕ) (t : Tenant) (e : Evaluation) → is_busy w ns job ≡ false → get w.tenants ns ≡ Some t →
+    get t.evaluations n ≡ Some e → same_name job e.job ≡ true
     → (m : ℕ) (worker : Worker) → get t.workers m ≡ Some worker → worker.evaluation ≢ n
 free_of w ns job n t e idle is at of_it m worker has same = not_both
-    (λ i. same_name_refl ns i && (ap (λ n. option_map_or (λ x. same_name job x.job) (evaluation_at w (ns, n)) false) same ∙ ap (λ o. option_map_or (λ x. same_name job x.job) o false) (ap (option_and_then (λ t. get t.evaluations n)) is ∙ at) ∙ of_it) i)
+    (λ i. same_name_refl ns i && (ap (λ n. option_map_or (λ x. same_name job x.job) (evaluation_at w (ns, n)) false) same ∙
+        ap (λ o. option_map_or (λ x. same_name job x.job) o false) (ap (option_and_then (λ t. get t.evaluations n)) is ∙ at) ∙ of_it) i)
     (none_of_any one_number (λ _ worker. is_of_job w ns job (ns, worker.evaluation)) t.workers m worker
-    (ap (λ o. option_map_or (λ t. any_row (λ _ worker. is_of_job w ns job (ns, worker.evaluation)) t.workers) o false) (sym is) ∙ right_none (list_any (is_of_job w ns job) w.ready) _ idle) has)
+    (ap (λ o. option_map_or (λ t. any_row (λ _ worker. is_of_job w ns job (ns, worker.evaluation)) t.workers) o false) (sym is) ∙
+        right_none (list_any (is_of_job w ns job) w.ready) _ idle) has)
 
 pub queue_orderly : (w : World) (ns : Name) (n : ℕ) (t : Tenant) → IsOrderly w → get w.tenants ns ≡ Some t → IsPendingIn t n → IsOrderly (queue w (ns, n))
 unfolding queue
-queue_orderly w ns n t s is p = subst (λ o. IsOrderly (option_map_or (λ e. cond (is_busy w ns e.job) w (record w { ready = w.ready ++ (ns, n) ∷ [] })) o w)) (sym (ap (option_and_then (λ t. get t.evaluations n)) is ∙ p.is_row)) (by (is_busy w ns p.row.job) refl)
+queue_orderly w ns n t s is p = subst (λ o. IsOrderly (option_map_or (λ e. cond (is_busy w ns e.job) w (record w { ready = w.ready ++ (ns, n) ∷ [] })) o w))
+    (sym (ap (option_and_then (λ t. get t.evaluations n)) is ∙ p.is_row)) (by (is_busy w ns p.row.job) refl)
   where
     by : (b : Bool) → is_busy w ns p.row.job ≡ b → IsOrderly (cond b w (record w { ready = w.ready ++ (ns, n) ∷ [] }))
     by true _ = s
-    by false idle = ready_orderly w s ns n (record { tenant = t; is_tenant = is; entry = record { pending = p; free = free_of w ns p.row.job n t p.row idle is p.is_row (same_name_refl p.row.job) } })
+    by false idle = ready_orderly w s ns n (record
+        { tenant = t; is_tenant = is; entry = record { pending = p; free = free_of w ns p.row.job n t p.row idle is p.is_row (same_name_refl p.row.job) } })
 
 -- ---- new evaluations
 
 -- of a namespace that goes from t to t', with a new pending one of t'
 pub make_in_orderly : (w : World) (ns : Name) (e : Evaluation) (t t' : Tenant) → IsOrderly w → get w.tenants ns ≡ Some t
-    → KeepsTenant ns (λ n. has_key w.ready (ns, n)) (λ n. has_key w.blocked (ns, n)) t t' → e.status ≡ Status.Pending → IsAllowedTo t'.namespace e.pool e.quota → IsOrderly (make_in ns e w t')
+    → KeepsTenant ns (λ n. has_key w.ready (ns, n)) (λ n. has_key w.blocked (ns, n)) t t' → e.status ≡ Status.Pending →
+        IsAllowedTo t'.namespace e.pool e.quota → IsOrderly (make_in ns e w t')
 make_in_orderly w ns e t t' s is keeps pending allowed =
     queue_orderly (put_tenant ns (with_evaluation e t') w) ns (t'.evaluation_number + 1) (with_evaluation e t')
-    (put_orderly w ns t (with_evaluation e t') is s (keeps_then ns _ _ t t' (with_evaluation e t') keeps (keeps_with_evaluation ns _ _ t' e keeps.sound allowed)))
+    (put_orderly w ns t (with_evaluation e t') is s
+        (keeps_then ns _ _ t t' (with_evaluation e t') keeps (keeps_with_evaluation ns _ _ t' e keeps.sound allowed)))
     (at_inserted names w.tenants ns (with_evaluation e t') (same_name_refl ns))
-    (record { row = e; is_row = at_inserted numbers_ t'.evaluations (t'.evaluation_number + 1) e (same_number_refl (t'.evaluation_number + 1)); is_pending = pending })
+    (record { row = e; is_row = at_inserted numbers_ t'.evaluations (t'.evaluation_number + 1) e (same_number_refl (t'.evaluation_number + 1)); is_pending =
+        pending })

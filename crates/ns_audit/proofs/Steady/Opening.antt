@@ -6,7 +6,10 @@ use Rattle.ns_types.specs.declared.node.Node.{Node}
 use Rattle.ns_types.specs.declared.step.Step.{Step}
 use Rattle.ns_types.specs.State.Names.{Name, name_cmp, default_name}
 use Rattle.ns_types.specs.State.Rows.{State, QuotaRows}
-use Rattle.ns_types.specs.Steps.{Answer, greatest, is_tenant_past_bound, is_pool_past_bound, is_past_bound, opening_tenant, opening_pool, opening_world, opening, Run}
+use Rattle.ns_types.specs.Steps.{
+    Answer, greatest, is_tenant_past_bound, is_pool_past_bound, is_past_bound, opening_tenant, opening_pool,
+    opening_world, opening, Run
+}
 use Rattle.ns_types.specs.State.Tables.{any_row}
 use Rattle.ns_types.proofs.Named.{names, one_name}
 use Rattle.ns_types.proofs.Tables.{any_row-none}
@@ -36,14 +39,19 @@ opening_orderly = record {
 }
 
 no_tenant_over : any_row (λ _ t. is_tenant_past_bound t) opening_world.tenants ≡ false
-no_tenant_over = any_row-none names one_name (λ _ t. is_tenant_past_bound t) opening_world.tenants (λ ns t is. ap is_tenant_past_bound (sym (only_row default_name opening_tenant ns t is)) ∙ (λ i. none_below greatest i || none_below greatest i || none_below greatest i))
+no_tenant_over = any_row-none names one_name (λ _ t. is_tenant_past_bound t) opening_world.tenants
+    (λ ns t is. ap is_tenant_past_bound (sym (only_row default_name opening_tenant ns t is)) ∙
+    (λ i. none_below greatest i || none_below greatest i || none_below greatest i))
 
 no_pool_over : any_row (λ _ p. is_pool_past_bound p) opening_world.pools ≡ false
-no_pool_over = any_row-none names one_name (λ _ p. is_pool_past_bound p) opening_world.pools (λ name p is. ap is_pool_past_bound (sym (only_row default_name opening_pool name p is))
-    ∙ (λ i. none_below greatest i || any_row-none names one_name (λ _ (node : Node). nat_lt greatest node.places) empty (λ k node at. absurd (no_path (sym (get-empty name_cmp k) ∙ at))) i))
+no_pool_over = any_row-none names one_name (λ _ p. is_pool_past_bound p) opening_world.pools
+    (λ name p is. ap is_pool_past_bound (sym (only_row default_name opening_pool name p is))
+    ∙ (λ i. none_below greatest i || any_row-none names one_name (λ _ (node : Node). nat_lt greatest node.places) empty
+        (λ k node at. absurd (no_path (sym (get-empty name_cmp k) ∙ at))) i))
 
 no_quota_over : any_row (λ _ (q : QuotaRows). nat_lt greatest q.release) opening_world.quotas ≡ false
-no_quota_over = any_row-none names one_name (λ _ (q : QuotaRows). nat_lt greatest q.release) empty (λ k q at. absurd (no_path (sym (get-empty name_cmp k) ∙ at)))
+no_quota_over = any_row-none names one_name (λ _ (q : QuotaRows). nat_lt greatest q.release) empty
+    (λ k q at. absurd (no_path (sym (get-empty name_cmp k) ∙ at)))
 
 opening_steady : (secret : Name) → IsSteady (opening secret)
 unfolding opening is_past_bound

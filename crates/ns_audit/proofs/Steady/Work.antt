@@ -34,19 +34,25 @@ pub pending_not_blocked : {A : Type 0} (s : Status) → s ≡ Status.Pending →
 pending_not_blocked s p b = not_both (ap is_pending p) (ap is_pending b)
 
 pub at_work_orderly : (w : World) (number : ℕ) (ns : Name) (act : Tenant → Worker → Evaluation → Outcome World)
-    → ((t : Tenant) (worker : Worker) (e : Evaluation) → get w.tenants ns ≡ Some t → get t.workers number ≡ Some worker → get t.evaluations worker.evaluation ≡ Some e → KeepsOrder (act t worker e)) → KeepsOrder (at_work number ns w act)
-at_work_orderly w number ns act h = leads_there IsOrderly (get w.tenants ns) _ (λ t is. leads_there IsOrderly (get t.workers number) _ (λ worker at. leads_there IsOrderly (get t.evaluations worker.evaluation) (act t worker) (λ e row. h t worker e is at row)))
+    → ((t : Tenant) (worker : Worker) (e : Evaluation) → get w.tenants ns ≡ Some t → get t.workers number ≡ Some worker →
+        get t.evaluations worker.evaluation ≡ Some e → KeepsOrder (act t worker e)) → KeepsOrder (at_work number ns w act)
+at_work_orderly w number ns act h = leads_there IsOrderly (get w.tenants ns) _
+    (λ t is. leads_there IsOrderly (get t.workers number) _
+    (λ worker at. leads_there IsOrderly (get t.evaluations worker.evaluation) (act t worker) (λ e row. h t worker e is at row)))
 
 pub keeping_orderly : (w : World) (number : ℕ) (ns : Name) (act : Tenant → Worker → Evaluation → Snapshot → Outcome World)
-    → ((t : Tenant) (worker : Worker) (e : Evaluation) (kept : Snapshot) → get w.tenants ns ≡ Some t → get t.workers number ≡ Some worker → get t.evaluations worker.evaluation ≡ Some e → worker.kept ≡ Some kept → KeepsOrder (act t worker e kept))
+    → ((t : Tenant) (worker : Worker) (e : Evaluation) (kept : Snapshot) → get w.tenants ns ≡ Some t → get t.workers number ≡ Some worker →
+        get t.evaluations worker.evaluation ≡ Some e → worker.kept ≡ Some kept → KeepsOrder (act t worker e kept))
     → KeepsOrder (at_work number ns w (λ t worker e. option_map_or (act t worker e) worker.kept NotEnabled))
-keeping_orderly w number ns act h = at_work_orderly w number ns (λ t worker e. option_map_or (act t worker e) worker.kept NotEnabled) (λ t worker e is at row. leads_there IsOrderly worker.kept (act t worker e) (λ kept has. h t worker e kept is at row has))
+keeping_orderly w number ns act h = at_work_orderly w number ns (λ t worker e. option_map_or (act t worker e) worker.kept NotEnabled)
+    (λ t worker e is at row. leads_there IsOrderly worker.kept (act t worker e) (λ kept has. h t worker e kept is at row has))
 
 -- ---- workers come, change and go
 
 module _ (ns : Name) (ready blocked : ℕ → Bool) (t : Tenant) (s : IsOrderlyTenant ns t) where
   -- a new worker takes what is ready, which is then listed no more
-  pub keeps_taken : (number n : ℕ) (new : Worker) → new.evaluation ≡ n → new.kept ≡ None → IsReadyIn t n → ((m : ℕ) → ready m ≡ true → n ≢ m) → KeepsTenant ns ready blocked t (with_worker number new t)
+  pub keeps_taken : (number n : ℕ) (new : Worker) → new.evaluation ≡ n → new.kept ≡ None → IsReadyIn t n → ((m : ℕ) → ready m ≡ true → n ≢ m) →
+      KeepsTenant ns ready blocked t (with_worker number new t)
   keeps_taken number n new same none mine unlisted = record {
     sound = record {
       job = s.job;
@@ -67,7 +73,8 @@ module _ (ns : Name) (ready blocked : ℕ → Bool) (t : Tenant) (s : IsOrderlyT
       still : (m : ℕ) → IsPendingIn t m → IsPendingIn (with_worker number new t) m
       still m p = record { row = p.row; is_row = p.is_row; is_pending = p.is_pending }
 
-      kept : (m : ℕ) (x : Worker) (k : Snapshot) → ((m ≡ number) × (new ≡ x)) ⊎ (get t.workers m ≡ Some x) → x.kept ≡ Some k → IsKeptBy ns (with_worker number new t) k
+      kept : (m : ℕ) (x : Worker) (k : Snapshot) → ((m ≡ number) × (new ≡ x)) ⊎ (get t.workers m ≡ Some x) → x.kept ≡ Some k →
+          IsKeptBy ns (with_worker number new t) k
       kept m x k (inl a) e = absurd (no_path (sym none ∙ ap (λ y. y.kept) a.1 ∙ e))
       kept m x k (inr a) e = let y = s.snapshot m x k a e in record { namespace = y.namespace; allowed = y.allowed }
 
@@ -75,7 +82,8 @@ module _ (ns : Name) (ready blocked : ℕ → Bool) (t : Tenant) (s : IsOrderlyT
       held m x (inl a) = subst (IsPendingIn (with_worker number new t)) (sym same ∙ ap (λ y. y.evaluation) a.1) (still n mine.pending)
       held m x (inr a) = still x.evaluation (s.held m x a)
 
-      one : (l m : ℕ) (v x : Worker) → ((l ≡ number) × (new ≡ v)) ⊎ (get t.workers l ≡ Some v) → ((m ≡ number) × (new ≡ x)) ⊎ (get t.workers m ≡ Some x) → v.evaluation ≡ x.evaluation → l ≡ m
+      one : (l m : ℕ) (v x : Worker) → ((l ≡ number) × (new ≡ v)) ⊎ (get t.workers l ≡ Some v) → ((m ≡ number) × (new ≡ x)) ⊎ (get t.workers m ≡ Some x) →
+          v.evaluation ≡ x.evaluation → l ≡ m
       one l m v x (inl a) (inl b) e = a.0 ∙ sym b.0
       one l m v x (inl a) (inr b) e = absurd (mine.free m x b (sym e ∙ sym (ap (λ y. y.evaluation) a.1) ∙ same))
       one l m v x (inr a) (inl b) e = absurd (mine.free l v a (e ∙ sym (ap (λ y. y.evaluation) b.1) ∙ same))
@@ -86,7 +94,8 @@ module _ (ns : Name) (ready blocked : ℕ → Bool) (t : Tenant) (s : IsOrderlyT
       free m has r l x (inr a) e = r.free l x a e
 
   -- a worker's row becomes another of the same evaluation
-  pub keeps_worker : (number : ℕ) (worker new : Worker) → get t.workers number ≡ Some worker → worker.evaluation ≡ new.evaluation → ((k : Snapshot) → new.kept ≡ Some k → IsKeptBy ns t k) → KeepsTenant ns ready blocked t (with_worker number new t)
+  pub keeps_worker : (number : ℕ) (worker new : Worker) → get t.workers number ≡ Some worker → worker.evaluation ≡ new.evaluation →
+      ((k : Snapshot) → new.kept ≡ Some k → IsKeptBy ns t k) → KeepsTenant ns ready blocked t (with_worker number new t)
   keeps_worker number worker new has same allowed = record {
     sound = record {
       job = s.job;
@@ -108,7 +117,8 @@ module _ (ns : Name) (ready blocked : ℕ → Bool) (t : Tenant) (s : IsOrderlyT
       still m p = record { row = p.row; is_row = p.is_row; is_pending = p.is_pending }
 
       -- the worker as it was, with that evaluation
-      was : (n : ℕ) (x : Worker) → ((n ≡ number) × (new ≡ x)) ⊎ (get t.workers n ≡ Some x) → (y : Worker) × (get t.workers n ≡ Some y) × (y.evaluation ≡ x.evaluation)
+      was : (n : ℕ) (x : Worker) → ((n ≡ number) × (new ≡ x)) ⊎ (get t.workers n ≡ Some x) → (y : Worker) × (get t.workers n ≡ Some y) ×
+          (y.evaluation ≡ x.evaluation)
       was n x (inl a) = (worker, ap (get t.workers) a.0 ∙ has, same ∙ ap (λ y. y.evaluation) a.1)
       was n x (inr a) = (x, a, refl)
 
@@ -123,7 +133,8 @@ module _ (ns : Name) (ready blocked : ℕ → Bool) (t : Tenant) (s : IsOrderlyT
       evaluation = s.evaluation;
       allocation = s.allocation;
       numbers = s.numbers;
-      snapshot = λ m x k at has. let y = s.snapshot m x k (removed_row t.workers number m x at).0 has in record { namespace = y.namespace; allowed = y.allowed };
+      snapshot = λ m x k at has. let y = s.snapshot m x k (removed_row t.workers number m x at).0 has in
+          record { namespace = y.namespace; allowed = y.allowed };
       held = λ m x at. still x.evaluation (s.held m x (removed_row t.workers number m x at).0);
       one_each = λ l m v x a b e. s.one_each l m v x (removed_row t.workers number l v a).0 (removed_row t.workers number m x b).0 e;
     };
@@ -136,11 +147,13 @@ module _ (ns : Name) (ready blocked : ℕ → Bool) (t : Tenant) (s : IsOrderlyT
 
   -- ---- an evaluation in the place of another
 
-  module _ (n : ℕ) (e new : Evaluation) (at : get t.evaluations n ≡ Some e) (allowed : is_open new.status ≡ true → IsAllowedTo t.namespace new.pool new.quota) where
+  module _ (n : ℕ) (e new : Evaluation) (at : get t.evaluations n ≡ Some e) (allowed : is_open new.status ≡ true → IsAllowedTo t.namespace new.pool new.quota)
+      where
     came_new : (k : ℕ) (x : Evaluation) → get (insert t.evaluations n new) k ≡ Some x → ((k ≡ n) × (new ≡ x)) ⊎ (get t.evaluations k ≡ Some x)
     came_new k x is = row_of_insert numbers_ one_number t.evaluations n new k x is
 
-    new_sound : ((m : ℕ) (x : Worker) → get t.workers m ≡ Some x → IsPendingIn (record t { evaluations = insert t.evaluations n new }) x.evaluation) → IsOrderlyTenant ns (record t { evaluations = insert t.evaluations n new })
+    new_sound : ((m : ℕ) (x : Worker) → get t.workers m ≡ Some x → IsPendingIn (record t { evaluations = insert t.evaluations n new }) x.evaluation) →
+        IsOrderlyTenant ns (record t { evaluations = insert t.evaluations n new })
     new_sound holds = record {
       job = s.job;
       allocation = s.allocation;
@@ -151,7 +164,8 @@ module _ (ns : Name) (ready blocked : ℕ → Bool) (t : Tenant) (s : IsOrderlyT
       numbers = λ k x is. bound k x (came_new k x is);
     }
       where
-        evaluation : (k : ℕ) (x : Evaluation) → ((k ≡ n) × (new ≡ x)) ⊎ (get t.evaluations k ≡ Some x) → is_open x.status ≡ true → IsAllowedTo t.namespace x.pool x.quota
+        evaluation : (k : ℕ) (x : Evaluation) → ((k ≡ n) × (new ≡ x)) ⊎ (get t.evaluations k ≡ Some x) → is_open x.status ≡ true →
+            IsAllowedTo t.namespace x.pool x.quota
         evaluation k x (inl a) = subst (λ x. is_open x.status ≡ true → IsAllowedTo t.namespace x.pool x.quota) a.1 allowed
         evaluation k x (inr a) = s.evaluation k x a
 
@@ -176,7 +190,8 @@ module _ (ns : Name) (ready blocked : ℕ → Bool) (t : Tenant) (s : IsOrderlyT
               is_row = ap (get (insert t.evaluations n new)) k ∙ at_inserted numbers_ t.evaluations n new (same_number_refl n);
               is_pending = same ∙ ap (λ e. e.status) (same_Some _ _ (sym at ∙ ap (get t.evaluations) (sym k) ∙ p.is_row)) ∙ p.is_pending;
             }
-            by false is = record { row = p.row; is_pending = p.is_pending; is_row = elsewhere t.evaluations n m new p.row (λ k. not_both (ap (λ j. eq_by_cmp nat_cmp j n) k ∙ same_number_refl n) is) p.is_row }
+            by false is = record { row = p.row; is_pending = p.is_pending; is_row =
+                elsewhere t.evaluations n m new p.row (λ k. not_both (ap (λ j. eq_by_cmp nat_cmp j n) k ∙ same_number_refl n) is) p.is_row }
 
         by_blocked : (m : ℕ) → IsBlockedIn t m → (b : Bool) → eq_by_cmp nat_cmp m n ≡ b → IsBlockedIn (record t { evaluations = insert t.evaluations n new }) m
         by_blocked m p true is = let k = tied one_number m n is in record {
@@ -184,10 +199,12 @@ module _ (ns : Name) (ready blocked : ℕ → Bool) (t : Tenant) (s : IsOrderlyT
           is_row = ap (get (insert t.evaluations n new)) k ∙ at_inserted numbers_ t.evaluations n new (same_number_refl n);
           is_blocked = same ∙ ap (λ e. e.status) (same_Some _ _ (sym at ∙ ap (get t.evaluations) (sym k) ∙ p.is_row)) ∙ p.is_blocked;
         }
-        by_blocked m p false is = record { row = p.row; is_blocked = p.is_blocked; is_row = elsewhere t.evaluations n m new p.row (λ k. not_both (ap (λ j. eq_by_cmp nat_cmp j n) k ∙ same_number_refl n) is) p.is_row }
+        by_blocked m p false is = record { row = p.row; is_blocked = p.is_blocked; is_row =
+            elsewhere t.evaluations n m new p.row (λ k. not_both (ap (λ j. eq_by_cmp nat_cmp j n) k ∙ same_number_refl n) is) p.is_row }
 
     -- one that no worker has and no list names
-    pub keeps_other : ((m : ℕ) (x : Worker) → get t.workers m ≡ Some x → x.evaluation ≢ n) → ((m : ℕ) → ready m ≡ true → m ≢ n) → ((m : ℕ) → blocked m ≡ true → m ≢ n) → KeepsTenant ns ready blocked t (record t { evaluations = insert t.evaluations n new })
+    pub keeps_other : ((m : ℕ) (x : Worker) → get t.workers m ≡ Some x → x.evaluation ≢ n) → ((m : ℕ) → ready m ≡ true → m ≢ n) →
+        ((m : ℕ) → blocked m ≡ true → m ≢ n) → KeepsTenant ns ready blocked t (record t { evaluations = insert t.evaluations n new })
     keeps_other free unready unblocked = record {
       sound = new_sound (λ m x is. still x.evaluation (free m x is) (s.held m x is));
       ready_kept = λ m has r. record { pending = still m (unready m has) r.pending; free = r.free };

@@ -11,7 +11,10 @@ use Rattle.ns_types.specs.declared.records.Pool.{Pool}
 use Rattle.ns_types.specs.declared.step.AdminCommand.{AdminCommand}
 use Rattle.ns_types.specs.declared.step.AdminCommand.TheVariants as AdminCommand
 use Rattle.ns_types.specs.Asking.Policies.{with_world, with_acl, administer}
-use Rattle.ns_types.specs.Asking.Admins.{looks_to_pool, uses_pool, new_tenant, with_namespace, is_withdrawn, forbids_put, put_namespace, delete_namespace, put_quota, delete_quota, read_quota, with_pool, put_pool_record, delete_pool}
+use Rattle.ns_types.specs.Asking.Admins.{
+    looks_to_pool, uses_pool, new_tenant, with_namespace, is_withdrawn, forbids_put, put_namespace, delete_namespace,
+    put_quota, delete_quota, read_quota, with_pool, put_pool_record, delete_pool
+}
 use Rattle.ns_types.specs.Settling.Making.{put_tenant}
 use Rattle.ns_types.specs.State.Names.{Name, name_cmp, same_name}
 use Rattle.ns_types.specs.Settling.Outcome.{Outcome, NotEnabled, Refused, Done, lift}
@@ -66,7 +69,8 @@ module _ (w : World) (s : IsAllocated w) (name : Name) (namespace : Namespace) w
           is_row = there;
           same = refl;
           live = λ live. live;
-          permitted = λ live allowed. ap (λ (t : Tenant). permits t.namespace b.pool) (sym is) ∙ permitted_still o.namespace namespace b.pool allowed (used n b there live);
+          permitted = λ live allowed. ap (λ (t : Tenant). permits t.namespace b.pool) (sym is) ∙
+              permitted_still o.namespace namespace b.pool allowed (used n b there live);
           index = le_same o.index t.index (ap (λ (t : Tenant). t.index) is);
           evaluations = le_same o.evaluation_number t.evaluation_number (ap (λ (t : Tenant). t.evaluation_number) is);
           number = le_same o.allocation_number t.allocation_number (ap (λ (t : Tenant). t.allocation_number) is);
@@ -76,7 +80,9 @@ module _ (w : World) (s : IsAllocated w) (name : Name) (namespace : Namespace) w
       where
         used : (n : ℕ) (b : Allocation) → get o.allocations n ≡ Some b → is_live b ≡ true → is_withdrawn o.namespace namespace b.pool ≡ false
         used n b there live = ap (λ l. l && is_withdrawn o.namespace namespace b.pool) (sym live)
-            ∙ none_of_any one_number (λ _ (a : Allocation). is_live a && is_withdrawn o.namespace namespace a.pool) o.allocations n b (right_none (looks_to_pool (is_withdrawn o.namespace namespace) o) _ (left_none (uses_pool (is_withdrawn o.namespace namespace) o) _ free)) there
+            ∙ none_of_any one_number (λ _ (a : Allocation). is_live a && is_withdrawn o.namespace namespace a.pool) o.allocations n b
+                (right_none (looks_to_pool (is_withdrawn o.namespace namespace) o) _ (left_none (uses_pool (is_withdrawn o.namespace namespace) o) _ free))
+                there
 
     renamed_from : IsFrom w (put renamed)
     renamed_from ns t n b is at = by (row_of_insert names one_name w.tenants name renamed ns t is)
@@ -96,19 +102,25 @@ module _ (w : World) (s : IsAllocated w) (name : Name) (namespace : Namespace) w
       by (inl e) = ap (λ (t : Tenant). t.index) (sym e.1) ∙ of_row (get w.tenants name) (ap (get w.tenants) (sym e.0) ∙ was)
       by (inr old) = ap (λ (t : Tenant). t.index) (same_Some t o (sym old ∙ was))
 
-  put_world : (o : Option Tenant) → get w.tenants name ≡ o → option_map_or (forbids_put namespace) o false ≡ false → IsAllocated (put (with_namespace namespace o))
-  put_world None was free = allocated_from w (put (new_tenant namespace)) s new_from (nodes_stay w (put (new_tenant namespace)) (λ pool n. refl)) (nodes_hold w (put (new_tenant namespace)) s (λ pool n. refl))
-  put_world (Some o) was free = allocated_from w (put (renamed o was free)) s (renamed_from o was free) (nodes_stay w (put (renamed o was free)) (λ pool n. refl)) (nodes_hold w (put (renamed o was free)) s (λ pool n. refl))
+  put_world : (o : Option Tenant) → get w.tenants name ≡ o → option_map_or (forbids_put namespace) o false ≡ false →
+      IsAllocated (put (with_namespace namespace o))
+  put_world None was free = allocated_from w (put (new_tenant namespace)) s new_from (nodes_stay w (put (new_tenant namespace)) (λ pool n. refl))
+      (nodes_hold w (put (new_tenant namespace)) s (λ pool n. refl))
+  put_world (Some o) was free = allocated_from w (put (renamed o was free)) s (renamed_from o was free)
+      (nodes_stay w (put (renamed o was free)) (λ pool n. refl)) (nodes_hold w (put (renamed o was free)) s (λ pool n. refl))
 
   namespace_put : Leads (Allocates w) (put_namespace name namespace w)
   unfolding put_namespace
-  namespace_put = leads_unless (Allocates w) _ _ _ (λ _. leads_unless (Allocates w) _ _ _ (λ _. leads_unless (Allocates w) _ _ _ (λ _. leads_unless (Allocates w) _ _ _ (λ free. leads_unless (Allocates w) _ _ _ (λ _.
+  namespace_put = leads_unless (Allocates w) _ _ _
+      (λ _. leads_unless (Allocates w) _ _ _ (λ _. leads_unless (Allocates w) _ _ _
+      (λ _. leads_unless (Allocates w) _ _ _ (λ free. leads_unless (Allocates w) _ _ _ (λ _.
       record { allocated = put_world (get w.tenants name) refl free; index = put_index })))))
 
 module _ (w : World) (name : Name) where
   namespace_deleted : Leads (Continues w) (delete_namespace name w)
   unfolding delete_namespace
-  namespace_deleted = leads_found (Continues w) (get w.tenants name) _ (λ t is. leads_unless (Continues w) _ _ _ (λ _. leads_unless (Continues w) _ _ _ (λ _. gone)))
+  namespace_deleted = leads_found (Continues w) (get w.tenants name) _
+      (λ t is. leads_unless (Continues w) _ _ _ (λ _. leads_unless (Continues w) _ _ _ (λ _. gone)))
     where
       gone : Continues w (record w { tenants = remove w.tenants name })
       gone = record { nodes = λ pool n. refl; goes = λ k t at. by k t (same_name k name) (sym (get-remove names w.tenants name k) ∙ at) }
@@ -121,7 +133,9 @@ module _ (w : World) (name : Name) where
 
   pool_put : (pool : Pool) → Leads (Continues w) (put_pool_record name pool w)
   unfolding put_pool_record
-  pool_put pool = leads_unless (Continues w) _ _ _ (λ _. record { goes = (continues_same w w refl refl).goes; nodes = λ q n. node_in_put w name (with_pool pool (get w.pools name)) q n ∙ by q n (same_name q name) refl })
+  pool_put pool = leads_unless (Continues w) _ _ _
+      (λ _. record { goes = (continues_same w w refl refl).goes; nodes = λ q n. node_in_put w name (with_pool pool (get w.pools name)) q n ∙
+      by q n (same_name q name) refl })
     where
       of_row : (o : Option PoolRows) (n : Name) → get (with_pool pool o).nodes n ≡ option_and_then (λ (p : PoolRows). get p.nodes n) o
       of_row None n = get-empty name_cmp n
@@ -134,15 +148,19 @@ module _ (w : World) (name : Name) where
   pool_deleted : Leads (Continues w) (delete_pool name w)
   unfolding delete_pool
   pool_deleted = leads_found (Continues w) (get w.pools name) _ (λ p is. leads_unless (Continues w) _ _ _ (λ _. leads_unless (Continues w) _ _ _ (λ free.
-      record { goes = (continues_same w w refl refl).goes; nodes = λ q n. ap (option_and_then (λ (p : PoolRows). get p.nodes n)) (get-remove names w.pools name q) ∙ by p is (left_none (any_row (λ _ node. true) p.nodes) _ free) q n (same_name q name) refl })))
+      record { goes = (continues_same w w refl refl).goes; nodes =
+          λ q n. ap (option_and_then (λ (p : PoolRows). get p.nodes n)) (get-remove names w.pools name q) ∙
+          by p is (left_none (any_row (λ _ node. true) p.nodes) _ free) q n (same_name q name) refl })))
     where
       none : (p : PoolRows) → any_row (λ _ node. true) p.nodes ≡ false → (n : Name) (o : Option Node) → get p.nodes n ≡ o → None ≡ o
       none p free n None at = refl
       none p free n (Some node) at = not_both refl (none_of_any one_name (λ _ node. true) p.nodes n node free at)
 
-      by : (p : PoolRows) → get w.pools name ≡ Some p → any_row (λ _ node. true) p.nodes ≡ false → (q n : Name) (b : Bool) → same_name q name ≡ b → option_and_then (λ (p : PoolRows). get p.nodes n) (cond b None (get w.pools q)) ≡ node_at w q n
+      by : (p : PoolRows) → get w.pools name ≡ Some p → any_row (λ _ node. true) p.nodes ≡ false → (q n : Name) (b : Bool) → same_name q name ≡ b →
+          option_and_then (λ (p : PoolRows). get p.nodes n) (cond b None (get w.pools q)) ≡ node_at w q n
       by p is free q n false _ = refl
-      by p is free q n true e = none p free n (get p.nodes n) refl ∙ sym (ap (option_and_then (λ (p : PoolRows). get p.nodes n)) (ap (get w.pools) (same_name_is q name e) ∙ is))
+      by p is free q n true e = none p free n (get p.nodes n) refl ∙
+          sym (ap (option_and_then (λ (p : PoolRows). get p.nodes n)) (ap (get w.pools) (same_name_is q name e) ∙ is))
 
 -- ---- commands
 
@@ -171,9 +189,13 @@ module _ (s : State) (o : IsAllocated s.world) where
   administer_allocates secret (AdminCommand.PutNamespace name namespace) = of_world _ (namespace_put s.world o name namespace)
   administer_allocates secret (AdminCommand.DeleteNamespace name) = of_continuing _ (namespace_deleted s.world name)
   administer_allocates secret AdminCommand.ListQuotas = allocates_still s.world o
-  administer_allocates secret (AdminCommand.ReadQuota name) = of_continuing (read_quota name s.world) (leads_found (Continues s.world) (get s.world.quotas name) _ (λ q _. continues_same s.world s.world refl refl))
-  administer_allocates secret (AdminCommand.PutQuota name quota) = of_continuing (put_quota name quota s.world) (leads_unless (Continues s.world) _ _ _ (λ _. continues_same s.world _ refl refl))
-  administer_allocates secret (AdminCommand.DeleteQuota name) = of_continuing (delete_quota name s.world) (leads_found (Continues s.world) (get s.world.quotas name) _ (λ q _. leads_unless (Continues s.world) _ _ _ (λ _. continues_same s.world _ refl refl)))
+  administer_allocates secret (AdminCommand.ReadQuota name) =
+      of_continuing (read_quota name s.world) (leads_found (Continues s.world) (get s.world.quotas name) _ (λ q _. continues_same s.world s.world refl refl))
+  administer_allocates secret (AdminCommand.PutQuota name quota) =
+      of_continuing (put_quota name quota s.world) (leads_unless (Continues s.world) _ _ _ (λ _. continues_same s.world _ refl refl))
+  administer_allocates secret (AdminCommand.DeleteQuota name) =
+      of_continuing (delete_quota name s.world) (leads_found (Continues s.world) (get s.world.quotas name) _
+      (λ q _. leads_unless (Continues s.world) _ _ _ (λ _. continues_same s.world _ refl refl)))
   administer_allocates secret AdminCommand.ListPools = allocates_still s.world o
   administer_allocates secret (AdminCommand.PutPool name pool) = of_continuing _ (pool_put s.world name pool)
   administer_allocates secret (AdminCommand.DeletePool name) = of_continuing _ (pool_deleted s.world name)

@@ -11,7 +11,11 @@ use Rattle.ns_types.specs.declared.node.Node.{Node}
 use Rattle.ns_types.specs.declared.plan.Placement.{Placement}
 use Rattle.ns_types.specs.declared.snapshot.Snapshot.{Snapshot}
 use Rattle.ns_types.specs.declared.worker.Worker.{Worker}
-use Rattle.ns_types.specs.Working.Commit.{still_stands, has_ended, same_version, live_stops, stop_all, node_name, nodes_in, Commit, begun, decide, committed_placements, place_all, evicted_rows, Victim, same_victim_job, least_of_job, make_up, Applied, refused_whole, done, commit, applied_worker, applied, apply_for, apply}
+use Rattle.ns_types.specs.Working.Commit.{
+    still_stands, has_ended, same_version, live_stops, stop_all, node_name, nodes_in, Commit, begun, decide,
+    committed_placements, place_all, evicted_rows, Victim, same_victim_job, least_of_job, make_up, Applied,
+    refused_whole, done, commit, applied_worker, applied, apply_for, apply
+}
 use Rattle.ns_types.specs.Isolation.{namespace_at}
 use Rattle.ns_types.specs.State.Limits.{is_pool_name}
 use Rattle.ns_types.specs.State.Lists.{Each, first_each}
@@ -32,7 +36,10 @@ use Rattle.ns_audit.proofs.Every.{each_of, each_left}
 use Rattle.ns_audit.proofs.Alone.Naming.{named_change, named_decided, stops_same}
 use Rattle.ns_audit.proofs.Outcomes.{Leads, leads_if}
 use Rattle.ns_audit.proofs.ValidAllocations.Sound.{itself, node_row}
-use Rattle.ns_audit.proofs.ValidAllocations.Going.{Onward, onward_same, onward_then, Lasts, lasts_still, lasts_then, Goes, goes_still, goes_then, goes_quiet, goes_lasts, same_index, Allocates}
+use Rattle.ns_audit.proofs.ValidAllocations.Going.{
+    Onward, onward_same, onward_then, Lasts, lasts_still, lasts_then, Goes, goes_still, goes_then, goes_quiet,
+    goes_lasts, same_index, Allocates
+}
 use Rattle.ns_audit.proofs.ValidAllocations.Nodes.{continues_each, continues_make, continues_change}
 use Rattle.ns_audit.proofs.ValidAllocations.Placing.{Suits, suits_last, IsPlaceable, IsReserved, all_reserved, none_placed, all_placed_last}
 use Rattle.ns_audit.proofs.ValidAllocations.Plan.{IsPartOf, plan_parts, good_priority}
@@ -52,14 +59,18 @@ node_named : (w : World) → IsSound w → (pool name : Name) (node : Node) → 
 node_named w v pool name node at = let r = node_row w pool name node at in ((v.pool pool r.0 r.1).node name node r.2).named
 
 -- an unstopped job is still as it was planned for
-as_planned : (j : Job) (present : Option Job) → j.stop ≡ false → still_stands (Some j) present ≡ true → (i : Job) × (present ≡ Some i) × (j.modify_index ≡ i.modify_index)
-as_planned j present running stands = by present refl (ap (λ b. cond b (has_ended present) (not (has_ended present) && same_version (Some j) present)) (sym running) ∙ stands)
+as_planned : (j : Job) (present : Option Job) → j.stop ≡ false → still_stands (Some j) present ≡ true → (i : Job) × (present ≡ Some i) ×
+    (j.modify_index ≡ i.modify_index)
+as_planned j present running stands = by present refl
+    (ap (λ b. cond b (has_ended present) (not (has_ended present) && same_version (Some j) present)) (sym running) ∙ stands)
   where
-    by : (o : Option Job) → present ≡ o → (not (has_ended o) && same_version (Some j) o) ≡ true → (i : Job) × (present ≡ Some i) × (j.modify_index ≡ i.modify_index)
+    by : (o : Option Job) → present ≡ o → (not (has_ended o) && same_version (Some j) o) ≡ true → (i : Job) × (present ≡ Some i) ×
+        (j.modify_index ≡ i.modify_index)
     by None is e = absurd (subst T (sym e) tt)
     by (Some i) is e = (i, is, tied one_number j.modify_index i.modify_index (second_of_both (not i.stop) _ e))
 
-module _ (w : World) (v : IsSound w) (ns : Name) (t : Tenant) (is : get w.tenants ns ≡ Some t) (worker : Worker) (kept : Snapshot) (k : IsSoundSnapshot w ns t worker kept) where
+module _ (w : World) (v : IsSound w) (ns : Name) (t : Tenant) (is : get w.tenants ns ≡ Some t) (worker : Worker) (kept : Snapshot)
+    (k : IsSoundSnapshot w ns t worker kept) where
   pool_named : IsTrue (is_pool_name kept.pool)
   pool_named = by (get w.pools kept.pool) refl k.allowed.exists
     where
@@ -86,14 +97,17 @@ module _ (w : World) (v : IsSound w) (ns : Name) (t : Tenant) (is : get w.tenant
 
 stops_go : (stops : List ℕ) (t : Tenant) → Goes t (fold (λ x n. with_desired n DesiredStatus.Stop x) t stops)
 stops_go [] t = goes_still t
-stops_go (n ∷ stops) t = goes_then t (with_desired n DesiredStatus.Stop t) (fold (λ x n. with_desired n DesiredStatus.Stop x) (with_desired n DesiredStatus.Stop t) stops) (goes_desired n DesiredStatus.Stop refl t) (stops_go stops (with_desired n DesiredStatus.Stop t))
+stops_go (n ∷ stops) t = goes_then t (with_desired n DesiredStatus.Stop t)
+    (fold (λ x n. with_desired n DesiredStatus.Stop x) (with_desired n DesiredStatus.Stop t) stops) (goes_desired n DesiredStatus.Stop refl t)
+    (stops_go stops (with_desired n DesiredStatus.Stop t))
 
 stopped_continues : (ns : Name) (stops : List ℕ) (w : World) → Continues w (stop_all ns stops w)
 stopped_continues ns stops w = continues_change w ns (λ t. fold (λ x n. with_desired n DesiredStatus.Stop x) t stops) (λ t _. stops_go stops t)
 
 made_up_continues : (victims : List Victim) (w : World) → Continues w (make_up victims w)
 unfolding make_up
-made_up_continues victims w = continues_each (λ x v. make v.0 (λ t. evaluation_for t (least_of_job victims v) Trigger.Preemption) x) (λ x v. continues_make v.0 _ x) (first_each same_victim_job victims) w
+made_up_continues victims w = continues_each (λ x v. make v.0 (λ t. evaluation_for t (least_of_job victims v) Trigger.Preemption) x)
+    (λ x v. continues_make v.0 _ x) (first_each same_victim_job victims) w
 
 -- ---- the whole
 
@@ -103,9 +117,11 @@ pub record Commits (w x : World) : Type 0 where
   pub lasts : Onward Lasts w x
 
 commits_on : (w x y : World) → Commits w x → Continues x y → Commits w y
-commits_on w x y c on = record { allocated = (continues_allocates x y c.allocated on).allocated; lasts = onward_then Lasts lasts_still lasts_then w x y c.lasts (goes_lasts x y on.goes) }
+commits_on w x y c on = record { allocated = (continues_allocates x y c.allocated on).allocated; lasts =
+    onward_then Lasts lasts_still lasts_then w x y c.lasts (goes_lasts x y on.goes) }
 
-module _ (w : World) (v : IsSound w) (ns : Name) (t : Tenant) (is : get w.tenants ns ≡ Some t) (worker : Worker) (kept : Snapshot) (k : IsSoundSnapshot w ns t worker kept) where
+module _ (w : World) (v : IsSound w) (ns : Name) (t : Tenant) (is : get w.tenants ns ≡ Some t) (worker : Worker) (kept : Snapshot)
+    (k : IsSoundSnapshot w ns t worker kept) where
   abbrev ps : List Placement
   ps = (plan kept).placing.placements
 
@@ -128,7 +144,8 @@ module _ (w : World) (v : IsSound w) (ns : Name) (t : Tenant) (is : get w.tenant
   stopped_named name node at = node_named w v kept.pool name node (sym (stopped_on.nodes kept.pool name) ∙ at)
 
   is_decided : Decided kept ps stopped decided
-  is_decided = all_decided kept ps stopped stopped_allocated k.nodes_once stopped_named (nodes_in ps) (begun stopped) (begun_decided kept ps stopped stopped_allocated k.nodes_once stopped_named)
+  is_decided = all_decided kept ps stopped stopped_allocated k.nodes_once stopped_named (nodes_in ps) (begun stopped)
+      (begun_decided kept ps stopped stopped_allocated k.nodes_once stopped_named)
 
   abbrev placed : List Placement
   placed = committed_placements decided ps
@@ -144,12 +161,14 @@ module _ (w : World) (v : IsSound w) (ns : Name) (t : Tenant) (is : get w.tenant
   its_tenant = by (get decided.world.tenants kept.namespace) refl
     where
       named : namespace_at decided.world kept.namespace ≡ Some t.namespace
-      named = named_decided kept ps (nodes_in ps) (begun stopped) kept.namespace ∙ named_change kept.namespace (λ t. fold (λ x n. with_desired n DesiredStatus.Stop x) t stops) (stops_same stops) w kept.namespace
+      named = named_decided kept ps (nodes_in ps) (begun stopped) kept.namespace ∙
+          named_change kept.namespace (λ t. fold (λ x n. with_desired n DesiredStatus.Stop x) t stops) (stops_same stops) w kept.namespace
           ∙ ap (option_map (λ (t : Tenant). t.namespace)) (ap (get w.tenants) k.namespace ∙ is)
 
       by : (o : Option Tenant) → get decided.world.tenants kept.namespace ≡ o → (u : Tenant) × (get decided.world.tenants kept.namespace ≡ Some u) × Lasts t u
       by None none = absurd (no_path (sym (ap (option_map (λ (t : Tenant). t.namespace)) none) ∙ named))
-      by (Some u) there = let g = decided_on kept.namespace u there in (u, there, subst (λ t. Lasts t u) (same_Some g.0 t (sym g.1 ∙ ap (get w.tenants) k.namespace ∙ is)) g.2.lasts)
+      by (Some u) there = let g = decided_on kept.namespace u there in
+          (u, there, subst (λ t. Lasts t u) (same_Some g.0 t (sym g.1 ∙ ap (get w.tenants) k.namespace ∙ is)) g.2.lasts)
 
   module _ (stands : still_stands kept.job (get t.jobs kept.evaluation.job) ≡ true) where
     placeable : (j : Job) → kept.job ≡ Some j → Each (IsPlaceable kept j stopped) placed
@@ -176,24 +195,29 @@ module _ (w : World) (v : IsSound w) (ns : Name) (t : Tenant) (is : get w.tenant
         by (Some j) has = (all_reserved kept j has stopped placed decided.world (placeable j has) (reserved j has)).allocated
 
     done_commits : Commits w (done kept (plan kept) w t).world
-    done_commits = commits_on w (place_all kept decided.world placed) (make_up (evicted_rows stopped kept placed) (place_all kept decided.world placed)) (record {
+    done_commits = commits_on w (place_all kept decided.world placed) (make_up (evicted_rows stopped kept placed) (place_all kept decided.world placed))
+        (record {
       allocated = placed_allocated;
-      lasts = onward_then Lasts lasts_still lasts_then w decided.world (place_all kept decided.world placed) (goes_lasts w decided.world decided_on) (all_placed_last kept placed decided.world);
+      lasts = onward_then Lasts lasts_still lasts_then w decided.world (place_all kept decided.world placed) (goes_lasts w decided.world decided_on)
+          (all_placed_last kept placed decided.world);
     }) (made_up_continues (evicted_rows stopped kept placed) (place_all kept decided.world placed))
 
   commit_commits : Commits w (commit kept (plan kept) w t).world
   unfolding commit
   commit_commits = by (still_stands kept.job (get t.jobs kept.evaluation.job)) refl
     where
-      by : (b : Bool) → still_stands kept.job (get t.jobs kept.evaluation.job) ≡ b → Commits w (cond b (done kept (plan kept) w t) (refused_whole kept (plan kept) w)).world
+      by : (b : Bool) → still_stands kept.job (get t.jobs kept.evaluation.job) ≡ b →
+          Commits w (cond b (done kept (plan kept) w t) (refused_whole kept (plan kept) w)).world
       by true stands = done_commits stands
       by false _ = record { allocated = sound_allocated w v; lasts = onward_same Lasts lasts_still w w refl }
 
 pub apply_allocates : (w : World) → IsSound w → (ns : Name) (number : ℕ) → Leads (Allocates w) (apply number ns w)
 unfolding apply
 apply_allocates w v ns number = leads_keeping (Allocates w) number ns w (apply_for number ns w) (λ t worker e kept is has at keeps.
-    leads_if (Allocates w) (is_submitted worker.phase && is_served w w.plans (ns, worker.evaluation)) (applied number ns worker e (commit kept (plan kept) w t)) NotEnabled
-    (λ _. by worker e (commit kept (plan kept) w t) (commit_commits w v ns t is worker kept (((v.tenant ns t is).worker number worker has).snapshot kept keeps))) (λ _. tt))
+    leads_if (Allocates w) (is_submitted worker.phase && is_served w w.plans (ns, worker.evaluation)) (applied number ns worker e (commit kept (plan kept) w t))
+        NotEnabled
+    (λ _. by worker e (commit kept (plan kept) w t)
+        (commit_commits w v ns t is worker kept (((v.tenant ns t is).worker number worker has).snapshot kept keeps))) (λ _. tt))
   where
     by : (worker : Worker) (e : Evaluation) (a : Applied) → Commits w a.world → Leads (Allocates w) (applied number ns worker e a)
     by worker e a c = let d = commits_on w a.world x c on in record { allocated = d.allocated; index = same_index w x d.lasts }
@@ -202,7 +226,8 @@ apply_allocates w v ns number = leads_keeping (Allocates w) number ns w (apply_f
         x = record (change_tenant ns (with_worker number (applied_worker a worker e)) a.world) { plans = without_key (ns, worker.evaluation) a.world.plans }
 
         changed : Continues a.world (change_tenant ns (with_worker number (applied_worker a worker e)) a.world)
-        changed = continues_change a.world ns (with_worker number (applied_worker a worker e)) (λ t _. goes_quiet t (with_worker number (applied_worker a worker e) t) (lasts_rows t) refl refl)
+        changed = continues_change a.world ns (with_worker number (applied_worker a worker e))
+            (λ t _. goes_quiet t (with_worker number (applied_worker a worker e) t) (lasts_rows t) refl refl)
           where
             lasts_rows : (t : Tenant) → Lasts t (with_worker number (applied_worker a worker e) t)
             lasts_rows t = record { namespace = refl; index = refl; evaluations = itself t.evaluation_number }

@@ -10,7 +10,10 @@ use Rattle.ns_types.specs.Settling.Making.{put_tenant, change_tenant, with_evalu
 use Rattle.ns_types.specs.State.Names.{Name, Key, ByNumber}
 use Rattle.ns_types.specs.Settling.Releases.{released_classes, woken}
 use Rattle.ns_types.specs.State.Rows.{World, Tenant, PoolRows, is_live, node_at}
-use Rattle.ns_types.specs.Settling.Settle.{unblocked_in, wake, after_release, number_releases, is_touched, changes_allocation, created_at, stamped_allocation, stamped, stamp_tenant, stamp, settle}
+use Rattle.ns_types.specs.Settling.Settle.{
+    unblocked_in, wake, after_release, number_releases, is_touched, changes_allocation, created_at, stamped_allocation,
+    stamped, stamp_tenant, stamp, settle
+}
 use Rattle.ns_types.specs.Access.Sharing.{permits}
 use Rattle.ns_types.specs.State.Tables.{map_rows}
 use Rattle.ns_types.proofs.Named.{names, one_name, numbers as numbers_, one_number}
@@ -46,15 +49,18 @@ module _ (P : Tenant → Tenant → Type 0) (still : (t : Tenant) → P t t) whe
       by None is = onward_same w w refl
       by (Some t) is = onward_put w ns t (f t) is (p t is)
 
-  pub onward_map : (w : World) (f : Name → Tenant → Tenant) → ((ns : Name) (t : Tenant) → P t (f ns t)) → Onward P w (record w { tenants = map_rows f w.tenants })
+  pub onward_map : (w : World) (f : Name → Tenant → Tenant) → ((ns : Name) (t : Tenant) → P t (f ns t)) →
+      Onward P w (record w { tenants = map_rows f w.tenants })
   onward_map w f p ns t' is = let y = row_of_map names one_name f w.tenants ns t' is in (y.0, y.1, subst (P y.0) y.2 (p ns y.0))
 
   -- a new evaluation, which is ready or waits
-  pub onward_make_in : (w : World) (ns : Name) (e : Evaluation) (t t' : Tenant) → get w.tenants ns ≡ Some t → P t (with_evaluation e t') → Onward P w (make_in ns e w t')
+  pub onward_make_in : (w : World) (ns : Name) (e : Evaluation) (t t' : Tenant) → get w.tenants ns ≡ Some t → P t (with_evaluation e t') →
+      Onward P w (make_in ns e w t')
   onward_make_in w ns e t t' is p k u at = onward_put w ns t (with_evaluation e t') is p k u
       (sym (ap (λ m. get m k) (queue_keeps (λ x. x.tenants) (λ x keys. refl) (put_tenant ns (with_evaluation e t') w) (ns, t'.evaluation_number + 1))) ∙ at)
 
-  pub onward_make : (w : World) (ns : Name) (evaluation : Tenant → Evaluation) → ((e : Evaluation) (t : Tenant) → P t (with_evaluation e t)) → Onward P w (make ns evaluation w)
+  pub onward_make : (w : World) (ns : Name) (evaluation : Tenant → Evaluation) → ((e : Evaluation) (t : Tenant) → P t (with_evaluation e t)) →
+      Onward P w (make ns evaluation w)
   onward_make w ns evaluation p = by (get w.tenants ns) refl
     where
       by : (o : Option Tenant) → get w.tenants ns ≡ o → Onward P w (option_map_or (λ t. make_in ns (evaluation t) w t) o w)
@@ -120,13 +126,16 @@ goes_then t u v a b = record {
   row = λ n x at.
       let r = b.row n x at in
       let q = a.row n r.row r.is_row in
-      record { row = q.row; is_row = q.is_row; live = λ live. q.live (r.live live); same = r.same ∙ (λ i. record (q.same i) { desired = x.desired; client = x.client }) };
+      record { row = q.row; is_row = q.is_row; live = λ live. q.live (r.live live); same = r.same ∙
+          (λ i. record (q.same i) { desired = x.desired; client = x.client }) };
 }
 
 -- another allocation in the place of one
-pub goes_row : (t : Tenant) (n : ℕ) (a b : Allocation) → get t.allocations n ≡ Some a → b ≡ record a { desired = b.desired; client = b.client } → (is_live b ≡ true → is_live a ≡ true)
+pub goes_row : (t : Tenant) (n : ℕ) (a b : Allocation) → get t.allocations n ≡ Some a → b ≡ record a { desired = b.desired; client = b.client } →
+    (is_live b ≡ true → is_live a ≡ true)
     → Goes t (record t { allocations = insert t.allocations n b })
-goes_row t n a b is same live = record { lasts = record { namespace = refl; index = refl; evaluations = itself t.evaluation_number }; number = itself t.allocation_number; row = λ m x at. by m x (row_of_insert numbers_ one_number t.allocations n b m x at) }
+goes_row t n a b is same live = record { lasts = record { namespace = refl; index = refl; evaluations = itself t.evaluation_number }; number =
+    itself t.allocation_number; row = λ m x at. by m x (row_of_insert numbers_ one_number t.allocations n b m x at) }
   where
     by : (m : ℕ) (x : Allocation) → ((m ≡ n) × (b ≡ x)) ⊎ (get t.allocations m ≡ Some x) → GoesRow t.allocations m x
     by m x (inl e) = subst (GoesRow t.allocations m) e.1 (record { row = a; is_row = ap (get t.allocations) e.0 ∙ is; same = same; live = live })
@@ -144,7 +153,8 @@ goes_from w x s goes ns t n b is at =
       is_tenant = g.1;
       row = r.row;
       is_row = r.is_row;
-      same = r.same ∙ (λ i. record r.row { desired = b.desired; client = b.client; create_index = sym (ap (λ (a : Allocation). a.create_index) r.same) i; modify_index = sym (ap (λ (a : Allocation). a.modify_index) r.same) i });
+      same = r.same ∙ (λ i. record r.row { desired = b.desired; client = b.client; create_index =
+          sym (ap (λ (a : Allocation). a.create_index) r.same) i; modify_index = sym (ap (λ (a : Allocation). a.modify_index) r.same) i });
       live = r.live;
       permitted = λ live allowed. subst (λ n. permits n r.row.pool ≡ true) (sym g.2.lasts.namespace) allowed;
       index = to_index;
@@ -184,7 +194,8 @@ allocates_still w s = record { allocated = s; index = λ ns o t was is. ap (λ (
 
 wakes_on : (keys : List Key) (w : World) → Onward Goes w (wake keys w)
 unfolding wake
-wakes_on keys w ns t is = onward_map Goes goes_still w (unblocked_in keys) (λ k u. goes_quiet u (unblocked_in keys k u) (record { namespace = refl; index = refl; evaluations = itself u.evaluation_number }) refl refl) ns t
+wakes_on keys w ns t is = onward_map Goes goes_still w (unblocked_in keys)
+    (λ k u. goes_quiet u (unblocked_in keys k u) (record { namespace = refl; index = refl; evaluations = itself u.evaluation_number }) refl refl) ns t
     (sym (ap (λ m. get m ns) (queues_keep (λ y. y.tenants) (λ y ks. refl) keys _)) ∙ is)
 
 wakes_nodes : (keys : List Key) (w : World) (pool name : Name) → node_at (wake keys w) pool name ≡ node_at w pool name
@@ -197,9 +208,11 @@ release_nodes (class ∷ classes) p = refl
 
 releases_nodes : (w w' x : World) (pool name : Name) → node_at (number_releases w w' x) pool name ≡ node_at x pool name
 unfolding number_releases
-releases_nodes w w' x pool name = ap (option_and_then (λ (p : PoolRows). get p.nodes name)) (get-map_rows names one_name (λ k p. after_release (released_classes w w' k p) p) x.pools pool) ∙ by (get x.pools pool)
+releases_nodes w w' x pool name = ap (option_and_then (λ (p : PoolRows). get p.nodes name))
+    (get-map_rows names one_name (λ k p. after_release (released_classes w w' k p) p) x.pools pool) ∙ by (get x.pools pool)
   where
-    by : (o : Option PoolRows) → option_and_then (λ (p : PoolRows). get p.nodes name) (option_map (λ p. after_release (released_classes w w' pool p) p) o) ≡ option_and_then (λ (p : PoolRows). get p.nodes name) o
+    by : (o : Option PoolRows) → option_and_then (λ (p : PoolRows). get p.nodes name) (option_map (λ p. after_release (released_classes w w' pool p) p) o)
+        ≡ option_and_then (λ (p : PoolRows). get p.nodes name) o
     by None = refl
     by (Some p) = ap (λ m. get m name) (release_nodes (released_classes w w' pool p) p)
 
@@ -208,7 +221,8 @@ unfolding number_releases
 releases_on w w' x = onward_same Goes goes_still x (number_releases w w' x) refl
 
 -- an allocation comes from itself
-pub comes_same : (x : World) → IsAllocated x → (ns : Name) (t : Tenant) (n : ℕ) (b : Allocation) → get x.tenants ns ≡ Some t → get t.allocations n ≡ Some b → ComesFrom x ns t n b
+pub comes_same : (x : World) → IsAllocated x → (ns : Name) (t : Tenant) (n : ℕ) (b : Allocation) → get x.tenants ns ≡ Some t → get t.allocations n ≡ Some b →
+    ComesFrom x ns t n b
 comes_same x s ns t n b is at = record {
   tenant = t;
   is_tenant = is;
@@ -237,7 +251,9 @@ module _ (w x : World) (old : IsAllocated w) (s : IsAllocated x) (same : SameInd
         by (Some a) at = more a.create_index o.index (old.allocation ns o n a was at).created
 
     row_from : (n : ℕ) (a : Allocation) → get t.allocations n ≡ Some a → (b : Bool)
-        → ComesFrom x ns (stamped (o.index + 1) o t) n (cond b (record a { create_index = created_at (o.index + 1) (get o.allocations n) (λ (a : Allocation). a.create_index); modify_index = o.index + 1 }) a)
+        → ComesFrom x ns (stamped (o.index + 1) o t) n
+            (cond b (record a { create_index = created_at (o.index + 1) (get o.allocations n) (λ (a : Allocation). a.create_index); modify_index =
+            o.index + 1 }) a)
     row_from n a at true = record {
       tenant = t;
       is_tenant = is;
@@ -272,10 +288,12 @@ module _ (w x : World) (old : IsAllocated w) (s : IsAllocated x) (same : SameInd
         let y = row_of_map numbers_ one_number (stamped_allocation (o.index + 1) o) t.allocations n b at in
         subst (ComesFrom x ns (stamped (o.index + 1) o t) n) y.2 (row_from n y.0 y.1 (changes_allocation o n y.0))
 
-  tenant_from : (ns : Name) (t : Tenant) → get x.tenants ns ≡ Some t → (o : Option Tenant) → get w.tenants ns ≡ o → (n : ℕ) (b : Allocation) → get (stamp_tenant o t).allocations n ≡ Some b → ComesFrom x ns (stamp_tenant o t) n b
+  tenant_from : (ns : Name) (t : Tenant) → get x.tenants ns ≡ Some t → (o : Option Tenant) → get w.tenants ns ≡ o → (n : ℕ) (b : Allocation) →
+      get (stamp_tenant o t).allocations n ≡ Some b → ComesFrom x ns (stamp_tenant o t) n b
   unfolding stamp_tenant
   tenant_from ns t is None was n b at = comes_same x s ns t n b is at
-  tenant_from ns t is (Some o) was n b at = (elim (is_touched o t) as (λ c. get (cond c (stamped (o.index + 1) o t) t).allocations n ≡ Some b → ComesFrom x ns (cond c (stamped (o.index + 1) o t) t) n b) [
+  tenant_from ns t is (Some o) was n b at = (elim (is_touched o t) as (λ c. get (cond c (stamped (o.index + 1) o t) t).allocations n ≡ Some b →
+      ComesFrom x ns (cond c (stamped (o.index + 1) o t) t) n b) [
     | true ↦ stamped_from ns t o is was n b
     | false ↦ comes_same x s ns t n b is
   ]) at

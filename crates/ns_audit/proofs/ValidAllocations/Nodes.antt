@@ -17,7 +17,10 @@ use Rattle.ns_types.specs.declared.step.Report.{Report}
 use Rattle.ns_types.specs.Settling.Making.{put_tenant, put_pool, with_node, change_tenant, with_client, evaluation_for, make_in, make}
 use Rattle.ns_types.specs.declared.evaluation.Evaluation.{Evaluation}
 use Rattle.ns_types.specs.State.Names.{Name, same_name}
-use Rattle.ns_types.specs.Asking.Nodes.{most_nodes, with_offer, put_node, losses, lost, lose, go_down, may_become, same_client, calls_for_one, reported, is_on, report_of, report, asked_in_pool, ask_pool}
+use Rattle.ns_types.specs.Asking.Nodes.{
+    most_nodes, with_offer, put_node, losses, lost, lose, go_down, may_become, same_client, calls_for_one, reported,
+    is_on, report_of, report, asked_in_pool, ask_pool
+}
 use Rattle.ns_types.specs.Settling.Outcome.{Done, unless}
 use Rattle.ns_types.specs.State.Resources.{is_within}
 use Rattle.ns_types.specs.State.Rows.{World, Tenant, PoolRows, is_ready, is_run, is_held, is_live, is_live_on, allocation_at, node_at}
@@ -32,13 +35,17 @@ use Rattle.ns_audit.proofs.Steady.Keeping.{row_of_map}
 use Rattle.ns_audit.proofs.Steady.Nodes.{held_before}
 use Rattle.ns_audit.proofs.Outcomes.{Leads, leads_of, leads_unless, leads_found, leads_if}
 use Rattle.ns_audit.proofs.ValidAllocations.Sound.{itself, le_same, allocation_row, LivesOn, StillThere, NodesStay, NodesHold, allocated_from}
-use Rattle.ns_audit.proofs.ValidAllocations.Going.{onward_same, onward_change, onward_map, onward_then, GoesRow, Goes, goes_still, goes_then, goes_row, goes_from, goes_lasts, same_index, Allocates, allocates_still}
+use Rattle.ns_audit.proofs.ValidAllocations.Going.{
+    onward_same, onward_change, onward_map, onward_then, GoesRow, Goes, goes_still, goes_then, goes_row, goes_from,
+    goes_lasts, same_index, Allocates, allocates_still
+}
 use Rattle.ns_audit.proofs.ValidAllocations.Work.{Continues, continues_allocates, continues_same, continues_make_in}
 
 -- ---- what goes on goes on again
 
 pub continues_then : (w x y : World) → Continues w x → Continues x y → Continues w y
-continues_then w x y a b = record { goes = onward_then Goes goes_still goes_then w x y a.goes b.goes; nodes = λ pool name. b.nodes pool name ∙ a.nodes pool name }
+continues_then w x y a b = record { goes = onward_then Goes goes_still goes_then w x y a.goes b.goes; nodes = λ pool name. b.nodes pool name ∙
+    a.nodes pool name }
 
 pub continues_make : (ns : Name) (evaluation : Tenant → Evaluation) (w : World) → Continues w (make ns evaluation w)
 continues_make ns evaluation w = by (get w.tenants ns) refl
@@ -47,19 +54,23 @@ continues_make ns evaluation w = by (get w.tenants ns) refl
     by None is = continues_same w w refl refl
     by (Some t) is = continues_make_in w ns (evaluation t) t t is (goes_still t)
 
-pub continues_each : {A : Type 0} (f : World → A → World) → ((w : World) (a : A) → Continues w (f w a)) → (list : List A) (w : World) → Continues w (fold f w list)
+pub continues_each : {A : Type 0} (f : World → A → World) → ((w : World) (a : A) → Continues w (f w a)) → (list : List A) (w : World) →
+    Continues w (fold f w list)
 continues_each f h [] w = continues_same w w refl refl
 continues_each f h (a ∷ list) w = continues_then w (f w a) (fold f (f w a) list) (h w a) (continues_each f h list (f w a))
 
-pub continues_change : (w : World) (ns : Name) (f : Tenant → Tenant) → ((t : Tenant) → get w.tenants ns ≡ Some t → Goes t (f t)) → Continues w (change_tenant ns f w)
-continues_change w ns f goes = record { goes = onward_change Goes goes_still w ns f goes; nodes = λ pool name. ap (λ m. option_and_then (λ (p : PoolRows). get p.nodes name) (get m pool)) same }
+pub continues_change : (w : World) (ns : Name) (f : Tenant → Tenant) → ((t : Tenant) → get w.tenants ns ≡ Some t → Goes t (f t)) →
+    Continues w (change_tenant ns f w)
+continues_change w ns f goes = record { goes = onward_change Goes goes_still w ns f goes; nodes =
+    λ pool name. ap (λ m. option_and_then (λ (p : PoolRows). get p.nodes name) (get m pool)) same }
   where
     same : (change_tenant ns f w).pools ≡ w.pools
     same = elim (get w.tenants ns) as (λ (o : Option Tenant). (option_map_or (λ t. put_tenant ns (f t) w) o w).pools ≡ w.pools) [ Some t ↦ refl | None ↦ refl ]
 
 -- ---- another row of a pool
 
-pub node_in_put : (w : World) (pool : Name) (p : PoolRows) (q name : Name) → node_at (put_pool pool p w) q name ≡ cond (same_name q pool) (get p.nodes name) (node_at w q name)
+pub node_in_put : (w : World) (pool : Name) (p : PoolRows) (q name : Name) →
+    node_at (put_pool pool p w) q name ≡ cond (same_name q pool) (get p.nodes name) (node_at w q name)
 node_in_put w pool p q name = ap (option_and_then (λ (p : PoolRows). get p.nodes name)) (get-insert names w.pools pool p q) ∙ by (same_name q pool)
   where
     by : (b : Bool) → option_and_then (λ (p : PoolRows). get p.nodes name) (cond b (Some p) (get w.pools q)) ≡ cond b (get p.nodes name) (node_at w q name)
@@ -87,13 +98,16 @@ module _ (w : World) (s : IsAllocated w) (pool : Name) (p : PoolRows) (is : get 
 
   module _ (new : Node) where
     -- what is there afterwards
-    pub put_here : (q n : Name) (b : Bool) → same_name q pool ≡ b → (c : Bool) → same_name n name ≡ c → node_at (put_pool pool (with_node name new p) w) q n ≡ cond (b && c) (Some new) (node_at w q n)
-    put_here q n true e c f = node_in_put w pool (with_node name new p) q n ∙ ap (λ b. cond b (get (insert p.nodes name new) n) (node_at w q n)) e ∙ get-insert names p.nodes name new n
+    pub put_here : (q n : Name) (b : Bool) → same_name q pool ≡ b → (c : Bool) → same_name n name ≡ c →
+        node_at (put_pool pool (with_node name new p) w) q n ≡ cond (b && c) (Some new) (node_at w q n)
+    put_here q n true e c f = node_in_put w pool (with_node name new p) q n ∙ ap (λ b. cond b (get (insert p.nodes name new) n) (node_at w q n)) e ∙
+        get-insert names p.nodes name new n
         ∙ (λ i. cond (f i) (Some new) (sym (here q n e) i))
     put_here q n false e c f = node_in_put w pool (with_node name new p) q n ∙ ap (λ b. cond b (get (insert p.nodes name new) n) (node_at w q n)) e
 
     pub still_at : (q n : Name) (old : Node) → node_at w q n ≡ Some old → is_ready old.status ≡ true
-        → (same_name q pool ≡ true → same_name n name ≡ true → (is_ready new.status ≡ true) × (old.places ≤ new.places)) → StillThere (put_pool pool (with_node name new p) w) q n old
+        → (same_name q pool ≡ true → same_name n name ≡ true → (is_ready new.status ≡ true) × (old.places ≤ new.places)) →
+            StillThere (put_pool pool (with_node name new p) w) q n old
     still_at q n old at old_ready k = by (same_name q pool) refl (same_name n name) refl
       where
         by : (b : Bool) → same_name q pool ≡ b → (c : Bool) → same_name n name ≡ c → StillThere (put_pool pool (with_node name new p) w) q n old
@@ -102,7 +116,8 @@ module _ (w : World) (s : IsAllocated w) (pool : Name) (p : PoolRows) (is : get 
         by false e c f = record { row = old; is_row = put_here q n false e c f ∙ at; ready = old_ready; places = itself old.places }
 
   -- which is ready where something is live on it, and has room for what is there
-  module _ (new : Node) (ready : LivesOn w pool name → (old : Node) → get p.nodes name ≡ Some old → is_ready old.status ≡ true → (is_ready new.status ≡ true) × (old.places ≤ new.places))
+  module _ (new : Node) (ready : LivesOn w pool name → (old : Node) → get p.nodes name ≡ Some old → is_ready old.status ≡ true → (is_ready new.status ≡ true) ×
+      (old.places ≤ new.places))
       (room : IsTrue (is_within (node_load w pool name) new.offer.capacity)) where
     abbrev x : World
     x = put_pool pool (with_node name new p) w
@@ -116,7 +131,8 @@ module _ (w : World) (s : IsAllocated w) (pool : Name) (p : PoolRows) (is : get 
     holds q n node at = by (same_name q pool) refl (same_name n name) refl
       where
         by : (b : Bool) → same_name q pool ≡ b → (c : Bool) → same_name n name ≡ c → IsTrue (is_within (node_load w q n) node.offer.capacity)
-        by true e true f = (λ i. is_within (node_load w (same_name_is q pool e i) (same_name_is n name f i)) (sym (same_Some new node (sym (put_here new q n true e true f) ∙ at)) i).offer.capacity) ∙ room
+        by true e true f = (λ i. is_within (node_load w (same_name_is q pool e i) (same_name_is n name f i))
+            (sym (same_Some new node (sym (put_here new q n true e true f) ∙ at)) i).offer.capacity) ∙ room
         by true e false f = s.within q n node (sym (put_here new q n true e false f) ∙ at)
         by false e c f = s.within q n node (sym (put_here new q n false e c f) ∙ at)
 
@@ -127,31 +143,41 @@ module _ (w : World) (s : IsAllocated w) (pool : Name) (p : PoolRows) (is : get 
     node_allocates = record { allocated = node_allocated; index = same_index w x (goes_lasts w x (onward_same Goes goes_still w x refl)) }
 
   put_allocates : (offer : Offer) → Leads (Allocates w) (put_node pool name offer w p)
-  put_allocates offer = leads_unless (Allocates w) _ Refusal.InUse _ (λ room. leads_unless (Allocates w) (not (contains_key p.nodes name) && nat_le most_nodes (len p.nodes)) Refusal.Full _ (λ _.
+  put_allocates offer = leads_unless (Allocates w) _ Refusal.InUse _
+      (λ room. leads_unless (Allocates w) (not (contains_key p.nodes name) && nat_le most_nodes (len p.nodes)) Refusal.Full _ (λ _.
       by (get p.nodes name) refl (on _ room)))
     where
-      by : (o : Option Node) → get p.nodes name ≡ o → IsTrue (is_within (node_load w pool name) offer.capacity) → Allocates w (put_pool pool (with_node name (with_offer offer o) p) w)
+      by : (o : Option Node) → get p.nodes name ≡ o → IsTrue (is_within (node_load w pool name) offer.capacity) →
+          Allocates w (put_pool pool (with_node name (with_offer offer o) p) w)
       by None was room = node_allocates (with_offer offer None) (λ _ old at _. absurd (no_path (sym was ∙ at))) room
-      by (Some node) was room = node_allocates (record node { offer = offer }) (λ _ old at ready. let e = same_Some old node (sym at ∙ was) in (ap (λ (n : Node). is_ready n.status) (sym e) ∙ ready, le_same old.places node.places (ap (λ (n : Node). n.places) e))) room
+      by (Some node) was room = node_allocates (record node { offer = offer }) (λ _ old at ready. let e = same_Some old node (sym at ∙ was) in
+          (ap (λ (n : Node). is_ready n.status) (sym e) ∙ ready, le_same old.places node.places (ap (λ (n : Node). n.places) e))) room
 
   -- ---- a node that is down goes
 
-  gone_allocates : (node : Node) → get p.nodes name ≡ Some node → is_ready node.status ≡ false → Allocates w (put_pool pool (record p { nodes = remove p.nodes name }) w)
-  gone_allocates node there down = record { allocated = allocated_from w y s (goes_from w y s (onward_same Goes goes_still w y refl)) stays_without holds_without; index = same_index w y (goes_lasts w y (onward_same Goes goes_still w y refl)) }
+  gone_allocates : (node : Node) → get p.nodes name ≡ Some node → is_ready node.status ≡ false →
+      Allocates w (put_pool pool (record p { nodes = remove p.nodes name }) w)
+  gone_allocates node there down = record { allocated =
+      allocated_from w y s (goes_from w y s (onward_same Goes goes_still w y refl)) stays_without holds_without; index =
+      same_index w y (goes_lasts w y (onward_same Goes goes_still w y refl)) }
     where
       y : World
       y = put_pool pool (record p { nodes = remove p.nodes name }) w
 
       at_other : (q n : Name) (b : Bool) → same_name q pool ≡ b → (c : Bool) → same_name n name ≡ c → (b && c) ≡ false → node_at y q n ≡ node_at w q n
-      at_other q n false e c f _ = node_in_put w pool (record p { nodes = remove p.nodes name }) q n ∙ ap (λ b. cond b (get (remove p.nodes name) n) (node_at w q n)) e
-      at_other q n true e false f _ = node_in_put w pool (record p { nodes = remove p.nodes name }) q n ∙ ap (λ b. cond b (get (remove p.nodes name) n) (node_at w q n)) e ∙ get-remove names p.nodes name n ∙ ap (λ b. cond b None (get p.nodes n)) f ∙ sym (here q n e)
+      at_other q n false e c f _ = node_in_put w pool (record p { nodes = remove p.nodes name }) q n ∙
+          ap (λ b. cond b (get (remove p.nodes name) n) (node_at w q n)) e
+      at_other q n true e false f _ = node_in_put w pool (record p { nodes = remove p.nodes name }) q n ∙
+          ap (λ b. cond b (get (remove p.nodes name) n) (node_at w q n)) e ∙ get-remove names p.nodes name n ∙ ap (λ b. cond b None (get p.nodes n)) f ∙
+          sym (here q n e)
       at_other q n true e true f both = absurd (subst T both tt)
 
       stays_without : NodesStay w y
       stays_without q n old lives at ready = by (same_name q pool) refl (same_name n name) refl
         where
           by : (b : Bool) → same_name q pool ≡ b → (c : Bool) → same_name n name ≡ c → StillThere y q n old
-          by true e true f = not_both ready (ap (λ (n : Node). is_ready n.status) (same_Some old node (sym at ∙ here q n e ∙ ap (get p.nodes) (same_name_is n name f) ∙ there)) ∙ down)
+          by true e true f = not_both ready (ap (λ (n : Node). is_ready n.status)
+              (same_Some old node (sym at ∙ here q n e ∙ ap (get p.nodes) (same_name_is n name f) ∙ there)) ∙ down)
           by true e false f = record { row = old; is_row = at_other q n true e false f refl ∙ at; ready = ready; places = itself old.places }
           by false e c f = record { row = old; is_row = at_other q n false e c f refl ∙ at; ready = ready; places = itself old.places }
 
@@ -159,7 +185,9 @@ module _ (w : World) (s : IsAllocated w) (pool : Name) (p : PoolRows) (is : get 
       holds_without q n x at = by (same_name q pool) refl (same_name n name) refl
         where
           by : (b : Bool) → same_name q pool ≡ b → (c : Bool) → same_name n name ≡ c → IsTrue (is_within (node_load w q n) x.offer.capacity)
-          by true e true f = absurd (no_path (sym (node_in_put w pool (record p { nodes = remove p.nodes name }) q n ∙ ap (λ b. cond b (get (remove p.nodes name) n) (node_at w q n)) e ∙ get-remove names p.nodes name n ∙ ap (λ b. cond b None (get p.nodes n)) f) ∙ at))
+          by true e true f = absurd (no_path (sym (node_in_put w pool (record p { nodes = remove p.nodes name }) q n ∙
+              ap (λ b. cond b (get (remove p.nodes name) n) (node_at w q n)) e ∙ get-remove names p.nodes name n ∙ ap (λ b. cond b None (get p.nodes n)) f) ∙
+              at))
           by true e false f = s.within q n x (sym (at_other q n true e false f refl) ∙ at)
           by false e c f = s.within q n x (sym (at_other q n false e c f refl) ∙ at)
 
@@ -180,24 +208,32 @@ module _ (pool name : Name) where
   lose_goes t = record {
     lasts = record { namespace = refl; index = refl; evaluations = itself t.evaluation_number };
     number = itself t.allocation_number;
-    row = λ n b at. let y = row_of_map numbers_ one_number (λ _ a. lost pool name a) t.allocations n b at in subst (GoesRow t.allocations n) y.2 (lost_row t n y.0 y.1);
+    row = λ n b at. let y = row_of_map numbers_ one_number (λ _ a. lost pool name a) t.allocations n b at in
+        subst (GoesRow t.allocations n) y.2 (lost_row t n y.0 y.1);
   }
 
   lose_continues : (w : World) → Continues w (lose pool name w)
-  lose_continues w = record { goes = onward_map Goes goes_still w (λ _ t. record t { allocations = map_rows (λ _ a. lost pool name a) t.allocations }) (λ ns t. lose_goes t); nodes = λ q n. refl }
+  lose_continues w = record { goes = onward_map Goes goes_still w (λ _ t. record t { allocations = map_rows (λ _ a. lost pool name a) t.allocations })
+      (λ ns t. lose_goes t); nodes = λ q n. refl }
 
   -- nothing is live there any more
   none_lives : (w : World) → LivesOn (lose pool name w) pool name → ⊥
   none_lives w l =
-      let y = row_of_map names one_name (λ _ t. record t { allocations = map_rows (λ _ a. lost pool name a) t.allocations }) w.tenants l.namespace l.tenant l.is_tenant in
-      let z = row_of_map numbers_ one_number (λ _ a. lost pool name a) y.0.allocations l.number l.row (ap (λ (t : Tenant). get t.allocations l.number) y.2 ∙ l.is_row) in
-      by z.0 (is_live_on pool name z.0) refl (ap is_live z.2 ∙ l.live) (ap (λ (a : Allocation). a.pool) z.2 ∙ l.in_pool) (ap (λ (a : Allocation). a.node) z.2 ∙ l.on_node)
+      let y = row_of_map names one_name (λ _ t. record t { allocations = map_rows (λ _ a. lost pool name a) t.allocations })
+          w.tenants l.namespace l.tenant l.is_tenant in
+      let z = row_of_map numbers_ one_number (λ _ a. lost pool name a) y.0.allocations l.number l.row (ap (λ (t : Tenant). get t.allocations l.number) y.2 ∙
+          l.is_row) in
+      by z.0 (is_live_on pool name z.0) refl (ap is_live z.2 ∙ l.live) (ap (λ (a : Allocation). a.pool) z.2 ∙ l.in_pool)
+          (ap (λ (a : Allocation). a.node) z.2 ∙ l.on_node)
     where
-      by : (a : Allocation) (b : Bool) → is_live_on pool name a ≡ b → is_live (cond b (record a { client = ClientStatus.Lost }) a) ≡ true → (cond b (record a { client = ClientStatus.Lost }) a).pool ≡ pool → (cond b (record a { client = ClientStatus.Lost }) a).node ≡ name → ⊥
+      by : (a : Allocation) (b : Bool) → is_live_on pool name a ≡ b → is_live (cond b (record a { client = ClientStatus.Lost }) a) ≡ true →
+          (cond b (record a { client = ClientStatus.Lost }) a).pool ≡ pool → (cond b (record a { client = ClientStatus.Lost }) a).node ≡ name → ⊥
       by a true on live q n = not_both live (dead a)
-      by a false off live q n = not_both (λ i. live i && ((ap (same_name pool) q ∙ same_name_refl pool) i && (ap (same_name name) n ∙ same_name_refl name) i)) off
+      by a false off live q n = not_both (λ i. live i && ((ap (same_name pool) q ∙ same_name_refl pool) i && (ap (same_name name) n ∙ same_name_refl name) i))
+          off
 
-  down_allocates : (w : World) → IsAllocated w → (p : PoolRows) → get w.pools pool ≡ Some p → (node new : Node) → get p.nodes name ≡ Some node → new.offer ≡ node.offer → Allocates w (go_down pool name (put_pool pool (with_node name new p) w))
+  down_allocates : (w : World) → IsAllocated w → (p : PoolRows) → get w.pools pool ≡ Some p → (node new : Node) → get p.nodes name ≡ Some node →
+      new.offer ≡ node.offer → Allocates w (go_down pool name (put_pool pool (with_node name new p) w))
   unfolding go_down
   down_allocates w s p is node new there same = record {
     allocated = (continues_allocates y z s_y later).allocated;
@@ -218,35 +254,44 @@ module _ (pool name : Name) where
 
       s_y : IsAllocated y
       s_y = node_allocated x s_x pool p is name new (λ lives old at ready. absurd (none_lives w lives))
-          (subst (λ (o : Offer). IsTrue (is_within (node_load x pool name) o.capacity)) (sym same) (s_x.within pool name node (ap (option_and_then (λ (p : PoolRows). get p.nodes name)) is ∙ there)))
+          (subst (λ (o : Offer). IsTrue (is_within (node_load x pool name) o.capacity)) (sym same)
+              (s_x.within pool name node (ap (option_and_then (λ (p : PoolRows). get p.nodes name)) is ∙ there)))
 
       later : Continues y z
-      later = continues_each (λ x loss. make loss.0 (λ t. evaluation_for t loss.1 Trigger.NodeUpdate) x) (λ x loss. continues_make loss.0 _ x) (losses pool name (put_pool pool (with_node name new p) w)) y
+      later = continues_each (λ x loss. make loss.0 (λ t. evaluation_for t loss.1 Trigger.NodeUpdate) x) (λ x loss. continues_make loss.0 _ x)
+          (losses pool name (put_pool pool (with_node name new p) w)) y
 
 -- ---- reports
 
 module _ (w : World) (r : Report) where
-  reported_goes : (t : Tenant) (a : Allocation) → get w.tenants r.namespace ≡ Some t → get t.allocations r.number ≡ Some a → is_held a.client ≡ true → Continues w (reported r a w)
+  reported_goes : (t : Tenant) (a : Allocation) → get w.tenants r.namespace ≡ Some t → get t.allocations r.number ≡ Some a → is_held a.client ≡ true →
+      Continues w (reported r a w)
   reported_goes t a is at held = by (option_map_or (λ t. calls_for_one t a r.client) (get w.tenants r.namespace) false)
     where
       x : World
       x = change_tenant r.namespace (with_client r.number r.client) w
 
       row : (u : Tenant) → get u.allocations r.number ≡ Some a → Goes u (with_client r.number r.client u)
-      row u there = subst (λ o. Goes u (option_map_or (λ a. record u { allocations = insert u.allocations r.number (record a { client = r.client }) }) o u)) (sym there)
+      row u there = subst (λ o. Goes u (option_map_or (λ a. record u { allocations = insert u.allocations r.number (record a { client = r.client }) }) o u))
+          (sym there)
           (goes_row u r.number a (record a { client = r.client }) there refl (λ live i. first_of_both (is_run a.desired) _ live i && held i))
 
       changed : Continues w x
-      changed = continues_change w r.namespace (with_client r.number r.client) (λ u was. row u (ap (λ (t : Tenant). get t.allocations r.number) (same_Some u t (sym was ∙ is)) ∙ at))
+      changed = continues_change w r.namespace (with_client r.number r.client)
+          (λ u was. row u (ap (λ (t : Tenant). get t.allocations r.number) (same_Some u t (sym was ∙ is)) ∙ at))
 
       by : (b : Bool) → Continues w (cond b (make r.namespace (λ t. evaluation_for t a Trigger.AllocFailure) x) x)
-      by true = continues_then w x (make r.namespace (λ t. evaluation_for t a Trigger.AllocFailure) x) changed (continues_make r.namespace (λ t. evaluation_for t a Trigger.AllocFailure) x)
+      by true = continues_then w x (make r.namespace (λ t. evaluation_for t a Trigger.AllocFailure) x) changed
+          (continues_make r.namespace (λ t. evaluation_for t a Trigger.AllocFailure) x)
       by false = changed
 
   report_goes : (pool name : Name) (p : PoolRows) → Leads (Continues w) (report pool name r w p)
-  report_goes pool name p = leads_found (Continues w) (get p.nodes name) _ (λ node _. leads_found (Continues w) (allocation_at w (r.namespace, r.number)) (λ x. unless (not (is_on pool name x)) Refusal.NotFound (report_of r w x)) (λ a at.
+  report_goes pool name p = leads_found (Continues w) (get p.nodes name) _
+      (λ node _. leads_found (Continues w) (allocation_at w (r.namespace, r.number)) (λ x. unless (not (is_on pool name x)) Refusal.NotFound (report_of r w x))
+      (λ a at.
       leads_unless (Continues w) (not (is_on pool name a)) Refusal.NotFound (report_of r w a) (λ _.
-      leads_if (Continues w) (same_client a.client r.client) (Done Content.Written w) (unless (not (may_become a.client r.client)) Refusal.Conflict (Done Content.Written (reported r a w))) (λ _. continues_same w w refl refl) (λ _.
+      leads_if (Continues w) (same_client a.client r.client) (Done Content.Written w)
+          (unless (not (may_become a.client r.client)) Refusal.Conflict (Done Content.Written (reported r a w))) (λ _. continues_same w w refl refl) (λ _.
       leads_unless (Continues w) (not (may_become a.client r.client)) Refusal.Conflict (Done Content.Written (reported r a w)) (λ becomes.
       let row = allocation_row w (r.namespace, r.number) a at in reported_goes row.0 a row.1 row.2 (held_before a.client r.client (on _ becomes)))))))
 
@@ -257,20 +302,29 @@ module _ (w : World) (s : IsAllocated w) (pool : Name) (p : PoolRows) (is : get 
   row_within name node there = s.within pool name node (ap (option_and_then (λ (p : PoolRows). get p.nodes name)) is ∙ there)
 
   status_allocates : (name : Name) (status : NodeStatus) (node : Node) → get p.nodes name ≡ Some node → (b : Bool) → is_ready status ≡ b
-      → Allocates w (cond b (put_pool pool (with_node name (record node { status = status }) p) w) (go_down pool name (put_pool pool (with_node name (record node { status = status }) p) w)))
-  status_allocates name status node there true up = node_allocates w s pool p is name (record node { status = status }) (λ _ old at ready. (up, le_same old.places node.places (ap (λ (n : Node). n.places) (same_Some old node (sym at ∙ there))))) (row_within name node there)
+      → Allocates w (cond b (put_pool pool (with_node name (record node { status = status }) p) w)
+          (go_down pool name (put_pool pool (with_node name (record node { status = status }) p) w)))
+  status_allocates name status node there true up =
+      node_allocates w s pool p is name (record node { status = status })
+      (λ _ old at ready. (up, le_same old.places node.places (ap (λ (n : Node). n.places) (same_Some old node (sym at ∙ there))))) (row_within name node there)
   status_allocates name status node there false down = down_allocates pool name w s p is node (record node { status = status }) there refl
 
   asked_in_pool_allocates : (command : NodeCommand) → Leads (Allocates w) (asked_in_pool pool command w p)
   asked_in_pool_allocates NodeCommand.ReadPool = allocates_still w s
   asked_in_pool_allocates NodeCommand.ListNodes = allocates_still w s
   asked_in_pool_allocates (NodeCommand.PutNode name offer) = put_allocates w s pool p is name offer
-  asked_in_pool_allocates (NodeCommand.DeleteNode name) = leads_found (Allocates w) (get p.nodes name) _ (λ node there. leads_unless (Allocates w) (is_ready node.status) Refusal.InUse _ (λ down. gone_allocates w s pool p is name node there down))
-  asked_in_pool_allocates (NodeCommand.SetStatus name status) = leads_found (Allocates w) (get p.nodes name) _ (λ node there. status_allocates name status node there (is_ready status) refl)
+  asked_in_pool_allocates (NodeCommand.DeleteNode name) =
+      leads_found (Allocates w) (get p.nodes name) _
+      (λ node there. leads_unless (Allocates w) (is_ready node.status) Refusal.InUse _ (λ down. gone_allocates w s pool p is name node there down))
+  asked_in_pool_allocates (NodeCommand.SetStatus name status) =
+      leads_found (Allocates w) (get p.nodes name) _ (λ node there. status_allocates name status node there (is_ready status) refl)
   asked_in_pool_allocates (NodeCommand.SetEligible name eligible) = leads_found (Allocates w) (get p.nodes name) _ (λ node there.
-      node_allocates w s pool p is name (record node { eligible = eligible }) (λ _ old at ready. let e = same_Some old node (sym at ∙ there) in (ap (λ (n : Node). is_ready n.status) (sym e) ∙ ready, le_same old.places node.places (ap (λ (n : Node). n.places) e))) (row_within name node there))
-  asked_in_pool_allocates (NodeCommand.Report name r) = leads_of (Continues w) (Allocates w) (λ x c. continues_allocates w x s c) (report pool name r w p) (report_goes w r pool name p)
+      node_allocates w s pool p is name (record node { eligible = eligible }) (λ _ old at ready. let e = same_Some old node (sym at ∙ there) in
+          (ap (λ (n : Node). is_ready n.status) (sym e) ∙ ready, le_same old.places node.places (ap (λ (n : Node). n.places) e))) (row_within name node there))
+  asked_in_pool_allocates (NodeCommand.Report name r) = leads_of (Continues w) (Allocates w) (λ x c. continues_allocates w x s c) (report pool name r w p)
+      (report_goes w r pool name p)
 
 pub ask_pool_allocates : (w : World) → IsAllocated w → (pool : Name) (command : NodeCommand) → Leads (Allocates w) (ask_pool pool command w)
 unfolding ask_pool
-ask_pool_allocates w s pool command = leads_found (Allocates w) (get w.pools pool) (asked_in_pool pool command w) (λ p is. asked_in_pool_allocates w s pool p is command)
+ask_pool_allocates w s pool command = leads_found (Allocates w) (get w.pools pool) (asked_in_pool pool command w)
+    (λ p is. asked_in_pool_allocates w s pool p is command)

@@ -1,5 +1,8 @@
 -- What a plan places is of groups of its job, and takes what they ask for.
-use Rattle.std.specs.Prelude.{◌≡◌, ℕ, ◌+◌, ◌≤◌, zero, suc, Bool, true, false, cond, List, [], ◌∷◌, Option, Some, None, ◌&&◌, IsTrue, length, nat_le, replicate, slice_get, sum_by}
+use Rattle.std.specs.Prelude.{
+    ◌≡◌, ℕ, ◌+◌, ◌≤◌, zero, suc, Bool, true, false, cond, List, [], ◌∷◌, Option, Some, None, ◌&&◌, IsTrue, length,
+    nat_le, replicate, slice_get, sum_by
+}
 use Rattle.std.proofs.Common.{refl, sym, ap, subst, arith}
 use Rattle.std.specs.List.{list_all}
 use Rattle.std.specs.Option.{option_map, option_map_or}
@@ -40,8 +43,11 @@ module _ (j : Job) (q : QuotaSeen) where
   places_parts [] w h = tt
   places_parts (d ∷ ds) w h = by (places_parts ds) (limits_allow q.limits (plus w.used d.size)) (choice d.size w.candidates)
     where
-      by : ((w : Site) → Each (λ d. IsPartOf j d.group d.size) ds → Each (λ p. IsPartOf j p.group p.size) (place q ds w).placements) → (b : Bool) (o : Option Choice)
-          → Each (λ p. IsPartOf j p.group p.size) (cond b (option_map_or (λ (s : Placement × Site). then_rest s.0 (place q ds s.1)) (option_map (λ ch. (placement_of d ch, after q d.size ch w)) o) (without_one (place q ds w))) ended_by_quota).placements
+      by : ((w : Site) → Each (λ d. IsPartOf j d.group d.size) ds → Each (λ p. IsPartOf j p.group p.size) (place q ds w).placements) →
+          (b : Bool) (o : Option Choice)
+          → Each (λ p. IsPartOf j p.group p.size)
+              (cond b (option_map_or (λ (s : Placement × Site). then_rest s.0 (place q ds s.1)) (option_map (λ ch. (placement_of d ch, after q d.size ch w)) o)
+              (without_one (place q ds w))) ended_by_quota).placements
       by rest false o = tt
       by rest true None = rest w h.1
       by rest true (Some ch) = (h.0, rest (after q d.size ch w) h.1)
@@ -52,7 +58,8 @@ each_again : {A : Type 0} (P : A → Type 0) (n : ℕ) (x : A) → P x → Each 
 each_again P zero x h = tt
 each_again P (suc n) x h = (h, each_again P n x h)
 
-summed : (f : Task → ℕ) (ts : List Task) → 1 ≤ length ts → ((t : Task) → IsTrue (is_good_task t) → 1 ≤ f t) → IsTrue (list_all is_good_task ts) → 1 ≤ sum_by f ts
+summed : (f : Task → ℕ) (ts : List Task) → 1 ≤ length ts → ((t : Task) → IsTrue (is_good_task t) → 1 ≤ f t) → IsTrue (list_all is_good_task ts) →
+    1 ≤ sum_by f ts
 summed f [] some least good = absurd (never some)
   where
     never : 1 ≤ 0 → ⊥
@@ -66,13 +73,19 @@ module _ (j : Job) (own : List OwnAllocation) (running : j.stop ≡ false) where
   group_part : (i : ℕ) (g : Group) → slice_get j.document.groups i ≡ Some g → IsTrue (is_good_group g) → IsPartOf j i (group_size g)
   group_part i g at good = record {
     running = running;
-    named = subst (λ o. IsTrue (is_name NameKind.Group (option_map_or (λ (g : Group). g.name) o []))) (sym at) (first_of_both (is_name NameKind.Group g.name) _ counted);
-    cpu = summed (λ t. t.resources.cpu) g.tasks some (λ t h. le_by 1 t.resources.cpu (first_of_both (nat_le 1 t.resources.cpu) _ (first_of_both (is_between 1 2147483647 t.resources.cpu) _ (second_of_both (is_name NameKind.Task t.name) _ h)))) all_good;
-    memory = summed (λ t. t.resources.memory) g.tasks some (λ t h. le_by 1 t.resources.memory (first_of_both (nat_le 1 t.resources.memory) _ (second_of_both (is_between 1 2147483647 t.resources.cpu) _ (second_of_both (is_name NameKind.Task t.name) _ h)))) all_good;
+    named = subst (λ o. IsTrue (is_name NameKind.Group (option_map_or (λ (g : Group). g.name) o []))) (sym at)
+        (first_of_both (is_name NameKind.Group g.name) _ counted);
+    cpu = summed (λ t. t.resources.cpu) g.tasks some
+        (λ t h. le_by 1 t.resources.cpu (first_of_both (nat_le 1 t.resources.cpu) _
+        (first_of_both (is_between 1 2147483647 t.resources.cpu) _ (second_of_both (is_name NameKind.Task t.name) _ h)))) all_good;
+    memory = summed (λ t. t.resources.memory) g.tasks some
+        (λ t h. le_by 1 t.resources.memory (first_of_both (nat_le 1 t.resources.memory) _
+        (second_of_both (is_between 1 2147483647 t.resources.cpu) _ (second_of_both (is_name NameKind.Task t.name) _ h)))) all_good;
   }
     where
       with_tasks : (is_name NameKind.Group g.name && nat_le g.count 1000 && is_between 1 16 (length g.tasks) && list_all is_good_task g.tasks) ≡ true
-      with_tasks = first_of_both (is_name NameKind.Group g.name && nat_le g.count 1000 && is_between 1 16 (length g.tasks) && list_all is_good_task g.tasks) _ good
+      with_tasks = first_of_both (is_name NameKind.Group g.name && nat_le g.count 1000 && is_between 1 16 (length g.tasks) && list_all is_good_task g.tasks)
+          _ good
 
       bounded : (is_name NameKind.Group g.name && nat_le g.count 1000 && is_between 1 16 (length g.tasks)) ≡ true
       bounded = first_of_both (is_name NameKind.Group g.name && nat_le g.count 1000 && is_between 1 16 (length g.tasks)) _ with_tasks
@@ -84,12 +97,16 @@ module _ (j : Job) (own : List OwnAllocation) (running : j.stop ≡ false) where
       all_good = second_of_both (is_name NameKind.Group g.name && nat_le g.count 1000 && is_between 1 16 (length g.tasks)) _ with_tasks
 
       some : 1 ≤ length g.tasks
-      some = le_by 1 (length g.tasks) (first_of_both (nat_le 1 (length g.tasks)) _ (second_of_both (is_name NameKind.Group g.name && nat_le g.count 1000) _ bounded))
+      some = le_by 1 (length g.tasks) (first_of_both (nat_le 1 (length g.tasks)) _
+          (second_of_both (is_name NameKind.Group g.name && nat_le g.count 1000) _ bounded))
 
-  demands_parts : (gs : List Group) (i : ℕ) → ((m k : ℕ) → k ≡ i + m → slice_get gs m ≡ slice_get j.document.groups k) → IsTrue (list_all is_good_group gs) → Each (λ d. IsPartOf j d.group d.size) (demands_from i j own gs)
+  demands_parts : (gs : List Group) (i : ℕ) → ((m k : ℕ) → k ≡ i + m → slice_get gs m ≡ slice_get j.document.groups k) → IsTrue (list_all is_good_group gs) →
+      Each (λ d. IsPartOf j d.group d.size) (demands_from i j own gs)
   demands_parts [] i h good = tt
-  demands_parts (g ∷ gs) i h good = each_append (λ d. IsPartOf j d.group d.size) (replicate (missing j own g) (record { group = i; size = group_size g })) (demands_from (i + 1) j own gs)
-      (each_again (λ d. IsPartOf j d.group d.size) (missing j own g) (record { group = i; size = group_size g }) (group_part i g (sym (h 0 i (omega arith))) (first_of_both (is_good_group g) _ good)))
+  demands_parts (g ∷ gs) i h good = each_append (λ d. IsPartOf j d.group d.size) (replicate (missing j own g) (record { group = i; size = group_size g }))
+      (demands_from (i + 1) j own gs)
+      (each_again (λ d. IsPartOf j d.group d.size) (missing j own g) (record { group = i; size = group_size g })
+          (group_part i g (sym (h 0 i (omega arith))) (first_of_both (is_good_group g) _ good)))
       (demands_parts gs (i + 1) (λ m k e. h (suc m) k (next m k e)) (second_of_both (is_good_group g) _ good))
     where
       next : (m k : ℕ) → k ≡ i + 1 + m → k ≡ i + suc m
@@ -117,7 +134,8 @@ module _ (j : Job) (good : IsTrue (is_good_document j.document)) where
   good_groups = second_of_both some_groups _ with_groups
 
   pub good_priority : IsTrue (is_between 1 100 j.document.priority)
-  good_priority = first_of_both (is_between 1 100 j.document.priority) _ (first_of_both named_pool _ (first_of_both few _ (first_of_both constrained _ (first_of_both some_groups _ with_groups))))
+  good_priority = first_of_both (is_between 1 100 j.document.priority) _
+      (first_of_both named_pool _ (first_of_both few _ (first_of_both constrained _ (first_of_both some_groups _ with_groups))))
 
   all_parts : (own : List OwnAllocation) → Each (λ d. IsPartOf j d.group d.size) (demands (Some j) own)
   all_parts own = by j.stop refl
@@ -130,7 +148,9 @@ module _ (j : Job) (good : IsTrue (is_good_document j.document)) where
           from_zero m k e = omega arith
 
 -- the placements of a snapshot's plan
-pub plan_parts : (kept : Snapshot) (j : Job) → kept.job ≡ Some j → IsTrue (is_good_document j.document) → Each (λ p. IsPartOf j p.group p.size) (plan kept).placing.placements
+pub plan_parts : (kept : Snapshot) (j : Job) → kept.job ≡ Some j → IsTrue (is_good_document j.document) →
+    Each (λ p. IsPartOf j p.group p.size) (plan kept).placing.placements
 unfolding plan
-plan_parts kept j is good = subst (λ o. Each (λ (p : Placement). IsPartOf j p.group p.size) (placing_of kept o (stopping kept.job kept.own)).placements) (sym is)
+plan_parts kept j is good = subst (λ o. Each (λ (p : Placement). IsPartOf j p.group p.size) (placing_of kept o (stopping kept.job kept.own)).placements)
+    (sym is)
     (places_parts j (quota_of kept) (demands (Some j) kept.own) (opening kept j (stopping kept.job kept.own)) (all_parts j good kept.own))

@@ -1,5 +1,8 @@
 -- The nodes that do their part of a plan have room for all that it places there.
-use Rattle.std.specs.Prelude.{◌≡◌, ℕ, ◌+◌, ◌≤◌, Bool, true, false, cond, T, List, [], ◌∷◌, ◌++◌, Option, Some, None, ◌&&◌, ◌||◌, IsTrue, filter, fold, slice_get, sum_by}
+use Rattle.std.specs.Prelude.{
+    ◌≡◌, ℕ, ◌+◌, ◌≤◌, Bool, true, false, cond, T, List, [], ◌∷◌, ◌++◌, Option, Some, None, ◌&&◌, ◌||◌, IsTrue, filter,
+    fold, slice_get, sum_by
+}
 use Rattle.std.proofs.Common.{◌⊎◌, inl, inr, refl, sym, ap, subst, ◌∙◌, arith}
 use Rattle.std.proofs.lemmas.List.Sums.{sum_by-cons}
 use Rattle.std.specs.Option.{option_map_or}
@@ -11,7 +14,10 @@ use Rattle.ns_types.specs.declared.plan.Placement.{Placement}
 use Rattle.ns_types.specs.declared.resources.Resources.{Resources}
 use Rattle.ns_types.specs.declared.snapshot.PoolNode.{PoolNode}
 use Rattle.ns_types.specs.declared.snapshot.Snapshot.{Snapshot}
-use Rattle.ns_types.specs.Working.Commit.{node_name, part_of, size_of, victims_of, evict, evict_all, Commit, begun, accepts, accepts_at, decide, committed_placements}
+use Rattle.ns_types.specs.Working.Commit.{
+    node_name, part_of, size_of, victims_of, evict, evict_all, Commit, begun, accepts, accepts_at, decide,
+    committed_placements
+}
 use Rattle.ns_types.specs.Placing.Constraint.{is_feasible}
 use Rattle.ns_types.specs.State.Lists.{Each}
 use Rattle.ns_types.specs.Settling.Making.{with_desired}
@@ -39,7 +45,8 @@ abbrev pub IsBelow : Resources → Resources → Type 0
 IsBelow a b = (a.cpu ≤ b.cpu) × (a.memory ≤ b.memory)
 
 pub plus_within : (a b c d most : Resources) → IsBelow a b → IsBelow c d → IsTrue (is_within (plus b d) most) → IsTrue (is_within (plus a c) most)
-plus_within a b c d most h k = within_less (plus a c) (plus b d) most (both_le a.cpu b.cpu c.cpu d.cpu h.0 k.0) (both_le a.memory b.memory c.memory d.memory h.1 k.1)
+plus_within a b c d most h k = within_less (plus a c) (plus b d) most (both_le a.cpu b.cpu c.cpu d.cpu h.0 k.0)
+    (both_le a.memory b.memory c.memory d.memory h.1 k.1)
 
 -- ---- sums over parts of a list
 
@@ -48,10 +55,12 @@ none_more n = omega arith
 
 module _ {A : Type 0} (f : A → ℕ) where
   pub sum_part : (a : A → Bool) (x : A) (xs : List A) → sum_by f (filter a (x ∷ xs)) ≡ cond (a x) (f x) 0 + sum_by f (filter a xs)
-  sum_part a x xs = elim (a x) as (λ u. sum_by f (cond u (x ∷ filter a xs) (filter a xs)) ≡ cond u (f x) 0 + sum_by f (filter a xs)) [ true ↦ sum_by-cons f x (filter a xs) | false ↦ none_more _ ]
+  sum_part a x xs = elim (a x) as (λ u. sum_by f (cond u (x ∷ filter a xs) (filter a xs)) ≡ cond u (f x) 0 + sum_by f (filter a xs))
+      [ true ↦ sum_by-cons f x (filter a xs) | false ↦ none_more _ ]
 
   sum_parts : (a b : A → Bool) (x : A) (xs : List A) → sum_by f (filter a (filter b (x ∷ xs))) ≡ cond (b x && a x) (f x) 0 + sum_by f (filter a (filter b xs))
-  sum_parts a b x xs = elim (b x) as (λ v. sum_by f (filter a (cond v (x ∷ filter b xs) (filter b xs))) ≡ cond (v && a x) (f x) 0 + sum_by f (filter a (filter b xs))) [
+  sum_parts a b x xs = elim (b x) as (λ v. sum_by f (filter a (cond v (x ∷ filter b xs) (filter b xs))) ≡ cond (v && a x) (f x) 0 + sum_by f
+      (filter a (filter b xs))) [
     | true ↦ sum_part a x (filter b xs)
     | false ↦ none_more _
   ]
@@ -61,14 +70,18 @@ module _ {A : Type 0} (f : A → ℕ) where
   one_le true v n h = subst (λ v. n ≤ cond v n 0) (sym (h refl)) (omega arith)
 
   -- what passes on the left passes on the right
-  pub parts_among : (a b c d : A → Bool) → ((x : A) → b x ≡ true → a x ≡ true → (d x && c x) ≡ true) → (xs : List A) → sum_by f (filter a (filter b xs)) ≤ sum_by f (filter c (filter d xs))
+  pub parts_among : (a b c d : A → Bool) → ((x : A) → b x ≡ true → a x ≡ true → (d x && c x) ≡ true) → (xs : List A) →
+      sum_by f (filter a (filter b xs)) ≤ sum_by f (filter c (filter d xs))
   parts_among a b c d h [] = omega arith
-  parts_among a b c d h (x ∷ xs) = subst (λ m. m ≤ sum_by f (filter c (filter d (x ∷ xs)))) (sym (sum_parts a b x xs)) (subst (λ m. cond (b x && a x) (f x) 0 + sum_by f (filter a (filter b xs)) ≤ m) (sym (sum_parts c d x xs))
+  parts_among a b c d h (x ∷ xs) = subst (λ m. m ≤ sum_by f (filter c (filter d (x ∷ xs)))) (sym (sum_parts a b x xs))
+      (subst (λ m. cond (b x && a x) (f x) 0 + sum_by f (filter a (filter b xs)) ≤ m) (sym (sum_parts c d x xs))
       (both_le _ _ _ _ (one_le (b x && a x) (d x && c x) (f x) (λ e. h x (first_of_both (b x) _ e) (second_of_both (b x) _ e))) (parts_among a b c d h xs)))
 
-  pub parts_of : (a b g : A → Bool) → ((x : A) → b x ≡ true → a x ≡ true → g x ≡ true) → (xs : List A) → sum_by f (filter a (filter b xs)) ≤ sum_by f (filter g xs)
+  pub parts_of : (a b g : A → Bool) → ((x : A) → b x ≡ true → a x ≡ true → g x ≡ true) → (xs : List A) →
+      sum_by f (filter a (filter b xs)) ≤ sum_by f (filter g xs)
   parts_of a b g h [] = omega arith
-  parts_of a b g h (x ∷ xs) = subst (λ m. m ≤ sum_by f (filter g (x ∷ xs))) (sym (sum_parts a b x xs)) (subst (λ m. cond (b x && a x) (f x) 0 + sum_by f (filter a (filter b xs)) ≤ m) (sym (sum_part g x xs))
+  parts_of a b g h (x ∷ xs) = subst (λ m. m ≤ sum_by f (filter g (x ∷ xs))) (sym (sum_parts a b x xs))
+      (subst (λ m. cond (b x && a x) (f x) 0 + sum_by f (filter a (filter b xs)) ≤ m) (sym (sum_part g x xs))
       (both_le _ _ _ _ (one_le (b x && a x) (g x) (f x) (λ e. h x (first_of_both (b x) _ e) (second_of_both (b x) _ e))) (parts_of a b g h xs)))
 
   pub no_parts : (a : A → Bool) (xs : List A) → sum_by f (filter a (filter (λ _. false) xs)) ≤ 0
@@ -85,7 +98,8 @@ has_number_append [] k n e = inr (one (same_number n k) refl e)
     one false is e = absurd (subst T (sym e) tt)
 has_number_append (x ∷ ks) k n e = by (has_number_append ks k n) (or_cases (same_number n x) _ e)
   where
-    by : (has_number (ks ++ k ∷ []) n ≡ true → (has_number ks n ≡ true) ⊎ (n ≡ k)) → (same_number n x ≡ true) ⊎ (has_number (ks ++ k ∷ []) n ≡ true) → (has_number (x ∷ ks) n ≡ true) ⊎ (n ≡ k)
+    by : (has_number (ks ++ k ∷ []) n ≡ true → (has_number ks n ≡ true) ⊎ (n ≡ k)) → (same_number n x ≡ true) ⊎ (has_number (ks ++ k ∷ []) n ≡ true) →
+        (has_number (x ∷ ks) n ≡ true) ⊎ (n ≡ k)
     by later (inl here) = inl (ap (λ b. b || has_number ks n) here)
     by later (inr there) = of_rest (later there)
       where
@@ -123,7 +137,8 @@ pub record Decided (kept : Snapshot) (ps : List Placement) (w : World) (c : Comm
   pub standing : Each (Stands kept w) c.committed
 
 pub evicted_goes : (vs : List Eviction) (w : World) → Continues w (evict_all w vs)
-evicted_goes vs w = continues_each evict (λ x v. continues_change x v.namespace (with_desired v.number DesiredStatus.Evict) (λ t _. goes_desired v.number DesiredStatus.Evict refl t)) vs w
+evicted_goes vs w = continues_each evict (λ x v. continues_change x v.namespace (with_desired v.number DesiredStatus.Evict)
+    (λ t _. goes_desired v.number DesiredStatus.Evict refl t)) vs w
 
 module _ (kept : Snapshot) (ps : List Placement) (w : World) (s : IsAllocated w)
     (once : (i j : ℕ) (m n : PoolNode) → slice_get kept.nodes i ≡ Some m → slice_get kept.nodes j ≡ Some n → m.name ≡ n.name → i ≡ j)
@@ -131,8 +146,10 @@ module _ (kept : Snapshot) (ps : List Placement) (w : World) (s : IsAllocated w)
   pub begun_decided : Decided kept ps w (begun w)
   begun_decided = record {
     goes = continues_same w w refl refl;
-    room = λ pool name node at. within_less (plus (node_load w pool name) (size_of (filter (goes_to kept pool name) (filter (λ _. false) ps)))) (node_load w pool name) node.offer.capacity
-        (none_to _ _ (no_parts (λ (p : Placement). p.size.cpu) (goes_to kept pool name) ps)) (none_to _ _ (no_parts (λ (p : Placement). p.size.memory) (goes_to kept pool name) ps)) (s.within pool name node at);
+    room = λ pool name node at. within_less (plus (node_load w pool name) (size_of (filter (goes_to kept pool name) (filter (λ _. false) ps))))
+        (node_load w pool name) node.offer.capacity
+        (none_to _ _ (no_parts (λ (p : Placement). p.size.cpu) (goes_to kept pool name) ps))
+            (none_to _ _ (no_parts (λ (p : Placement). p.size.memory) (goes_to kept pool name) ps)) (s.within pool name node at);
     standing = tt;
   }
     where
@@ -141,14 +158,16 @@ module _ (kept : Snapshot) (ps : List Placement) (w : World) (s : IsAllocated w)
 
   -- two places of the snapshot with one name are one
   one_node : (k n : ℕ) → Stands kept w k → Stands kept w n → node_name kept k ≡ node_name kept n → k ≡ n
-  one_node k n a b e = once k n a.seen b.seen a.is_seen b.is_seen (sym (ap (λ o. option_map_or (λ (x : PoolNode). x.name) o []) a.is_seen) ∙ e ∙ ap (λ o. option_map_or (λ (x : PoolNode). x.name) o []) b.is_seen)
+  one_node k n a b e = once k n a.seen b.seen a.is_seen b.is_seen (sym (ap (λ o. option_map_or (λ (x : PoolNode). x.name) o []) a.is_seen) ∙ e ∙
+      ap (λ o. option_map_or (λ (x : PoolNode). x.name) o []) b.is_seen)
 
   stands_there : (k : ℕ) (row : Node) → node_at w kept.pool (node_name kept k) ≡ Some row → is_ready row.status ≡ true → Stands kept w k
   stands_there k row at ready = by (slice_get kept.nodes k) refl
     where
       by : (o : Option PoolNode) → slice_get kept.nodes k ≡ o → Stands kept w k
       by (Some seen) is = record { seen = seen; is_seen = is; row = row; is_row = at; ready = ready }
-      by None is = absurd (subst T (sym (ap (λ o. is_name NameKind.Node (option_map_or (λ (x : PoolNode). x.name) o [])) (sym is) ∙ named (node_name kept k) row at)) tt)
+      by None is = absurd (subst T (sym (ap (λ o. is_name NameKind.Node (option_map_or (λ (x : PoolNode). x.name) o [])) (sym is) ∙
+          named (node_name kept k) row at)) tt)
 
   module _ (c : Commit) (k : ℕ) (d : Decided kept ps w c) where
     abbrev left : World
@@ -162,59 +181,80 @@ module _ (kept : Snapshot) (ps : List Placement) (w : World) (s : IsAllocated w)
 
     less : (pool name : Name) → IsBelow (node_load left pool name) (node_load c.world pool name)
     less pool name =
-        let from = goes_from c.world left (continues_allocates w c.world s d.goes).allocated (evicted_goes (victims_of c.world kept (part_of k ps)) c.world).goes in
+        let from = goes_from c.world left (continues_allocates w c.world s d.goes).allocated
+            (evicted_goes (victims_of c.world kept (part_of k ps)) c.world).goes in
         (sum_from c.world left from pool name (λ r. r.cpu), sum_from c.world left from pool name (λ r. r.memory))
 
-    module _ (row : Node) (at : node_at w kept.pool (node_name kept k) ≡ Some row) (accepted : accepts kept left (node_name kept k) (part_of k ps) c.placed row ≡ true) where
-      with_room : (is_feasible (constraints_of kept.job) (node_name kept k) row && is_within (plus (node_load left kept.pool (node_name kept k)) (size_of (part_of k ps))) row.offer.capacity) ≡ true
-      with_room = first_of_both (is_feasible (constraints_of kept.job) (node_name kept k) row && is_within (plus (node_load left kept.pool (node_name kept k)) (size_of (part_of k ps))) row.offer.capacity) _ accepted
+    module _ (row : Node) (at : node_at w kept.pool (node_name kept k) ≡ Some row)
+        (accepted : accepts kept left (node_name kept k) (part_of k ps) c.placed row ≡ true) where
+      with_room : (is_feasible (constraints_of kept.job) (node_name kept k) row
+          && is_within (plus (node_load left kept.pool (node_name kept k)) (size_of (part_of k ps))) row.offer.capacity) ≡ true
+      with_room = first_of_both (is_feasible (constraints_of kept.job) (node_name kept k) row
+          && is_within (plus (node_load left kept.pool (node_name kept k)) (size_of (part_of k ps))) row.offer.capacity) _ accepted
 
       its_room : is_within (plus (node_load left kept.pool (node_name kept k)) (size_of (part_of k ps))) row.offer.capacity ≡ true
       its_room = second_of_both (is_feasible (constraints_of kept.job) (node_name kept k) row) _ with_room
 
       stands : Stands kept w k
-      stands = stands_there k row at (first_of_both (is_ready row.status) _ (first_of_both (is_free row) _ (first_of_both (is_feasible (constraints_of kept.job) (node_name kept k) row) _ with_room)))
+      stands = stands_there k row at (first_of_both (is_ready row.status) _
+          (first_of_both (is_free row) _ (first_of_both (is_feasible (constraints_of kept.job) (node_name kept k) row) _ with_room)))
 
-      its_part : (pool name : Name) → same_name name (node_name kept k) ≡ true → (p : Placement) → has_number (c.committed ++ k ∷ []) p.node ≡ true → goes_to kept pool name p ≡ true → same_number p.node k ≡ true
+      its_part : (pool name : Name) → same_name name (node_name kept k) ≡ true → (p : Placement) → has_number (c.committed ++ k ∷ []) p.node ≡ true →
+          goes_to kept pool name p ≡ true → same_number p.node k ≡ true
       its_part pool name same p in_ on = by (has_number_append c.committed k p.node in_)
         where
           by : (has_number c.committed p.node ≡ true) ⊎ (p.node ≡ k) → same_number p.node k ≡ true
           by (inr last) = ap (λ n. same_number n k) last ∙ same_number_refl k
           by (inl before) = ap (λ n. same_number n k) (one_node p.node k (each_has (Stands kept w) c.committed d.standing p.node before) stands
-              (sym (same_name_is name (node_name kept p.node) (second_of_both (same_name pool kept.pool) _ on)) ∙ same_name_is name (node_name kept k) same)) ∙ same_number_refl k
+              (sym (same_name_is name (node_name kept p.node) (second_of_both (same_name pool kept.pool) _ on)) ∙ same_name_is name (node_name kept k) same)) ∙
+                  same_number_refl k
 
-      other_part : (pool name : Name) → (same_name pool kept.pool && same_name name (node_name kept k)) ≡ false → (p : Placement) → has_number (c.committed ++ k ∷ []) p.node ≡ true → goes_to kept pool name p ≡ true → (has_number c.committed p.node && goes_to kept pool name p) ≡ true
+      other_part : (pool name : Name) → (same_name pool kept.pool && same_name name (node_name kept k)) ≡ false → (p : Placement) →
+          has_number (c.committed ++ k ∷ []) p.node ≡ true → goes_to kept pool name p ≡ true →
+          (has_number c.committed p.node && goes_to kept pool name p) ≡ true
       other_part pool name differs p in_ on = by (has_number_append c.committed k p.node in_)
         where
           by : (has_number c.committed p.node ≡ true) ⊎ (p.node ≡ k) → (has_number c.committed p.node && goes_to kept pool name p) ≡ true
           by (inl before) = λ i. before i && on i
           by (inr last) = not_both on (ap (λ n. same_name pool kept.pool && same_name name (node_name kept n)) last ∙ differs)
 
-      room_with_it : (pool name : Name) (node : Node) → node_at w pool name ≡ Some node → IsTrue (is_within (plus (node_load left pool name) (size_of (filter (goes_to kept pool name) (committed_placements with_it ps)))) node.offer.capacity)
+      room_with_it : (pool name : Name) (node : Node) → node_at w pool name ≡ Some node →
+          IsTrue (is_within (plus (node_load left pool name) (size_of (filter (goes_to kept pool name) (committed_placements with_it ps)))) node.offer.capacity)
       room_with_it pool name node there = by (same_name pool kept.pool && same_name name (node_name kept k)) refl
         where
-          in_part : same_name name (node_name kept k) ≡ true → IsBelow (size_of (filter (goes_to kept pool name) (committed_placements with_it ps))) (size_of (part_of k ps))
+          in_part : same_name name (node_name kept k) ≡ true → IsBelow (size_of (filter (goes_to kept pool name) (committed_placements with_it ps)))
+              (size_of (part_of k ps))
           in_part same = (
-            parts_of (λ (p : Placement). p.size.cpu) (goes_to kept pool name) (λ p. has_number (c.committed ++ k ∷ []) p.node) (λ p. same_number p.node k) (its_part pool name same) ps,
-            parts_of (λ (p : Placement). p.size.memory) (goes_to kept pool name) (λ p. has_number (c.committed ++ k ∷ []) p.node) (λ p. same_number p.node k) (its_part pool name same) ps,
+            parts_of (λ (p : Placement). p.size.cpu) (goes_to kept pool name) (λ p. has_number (c.committed ++ k ∷ []) p.node) (λ p. same_number p.node k)
+                (its_part pool name same) ps,
+            parts_of (λ (p : Placement). p.size.memory) (goes_to kept pool name) (λ p. has_number (c.committed ++ k ∷ []) p.node) (λ p. same_number p.node k)
+                (its_part pool name same) ps,
           )
 
-          before : (same_name pool kept.pool && same_name name (node_name kept k)) ≡ false → IsBelow (size_of (filter (goes_to kept pool name) (committed_placements with_it ps))) (size_of (filter (goes_to kept pool name) (committed_placements c ps)))
+          before : (same_name pool kept.pool && same_name name (node_name kept k)) ≡ false →
+              IsBelow (size_of (filter (goes_to kept pool name) (committed_placements with_it ps)))
+              (size_of (filter (goes_to kept pool name) (committed_placements c ps)))
           before differs = (
-            parts_among (λ (p : Placement). p.size.cpu) (goes_to kept pool name) (λ p. has_number (c.committed ++ k ∷ []) p.node) (goes_to kept pool name) (λ p. has_number c.committed p.node) (other_part pool name differs) ps,
-            parts_among (λ (p : Placement). p.size.memory) (goes_to kept pool name) (λ p. has_number (c.committed ++ k ∷ []) p.node) (goes_to kept pool name) (λ p. has_number c.committed p.node) (other_part pool name differs) ps,
+            parts_among (λ (p : Placement). p.size.cpu) (goes_to kept pool name) (λ p. has_number (c.committed ++ k ∷ []) p.node) (goes_to kept pool name)
+                (λ p. has_number c.committed p.node) (other_part pool name differs) ps,
+            parts_among (λ (p : Placement). p.size.memory) (goes_to kept pool name) (λ p. has_number (c.committed ++ k ∷ []) p.node) (goes_to kept pool name)
+                (λ p. has_number c.committed p.node) (other_part pool name differs) ps,
           )
 
           itself : (a : Resources) → IsBelow a a
           itself a = (omega arith, omega arith)
 
-          by : (b : Bool) → (same_name pool kept.pool && same_name name (node_name kept k)) ≡ b → IsTrue (is_within (plus (node_load left pool name) (size_of (filter (goes_to kept pool name) (committed_placements with_it ps)))) node.offer.capacity)
-          by false differs = plus_within (node_load left pool name) (node_load c.world pool name) _ _ node.offer.capacity (less pool name) (before differs) (d.room pool name node there)
+          by : (b : Bool) → (same_name pool kept.pool && same_name name (node_name kept k)) ≡ b →
+              IsTrue (is_within (plus (node_load left pool name) (size_of (filter (goes_to kept pool name) (committed_placements with_it ps))))
+              node.offer.capacity)
+          by false differs = plus_within (node_load left pool name) (node_load c.world pool name) _ _ node.offer.capacity (less pool name) (before differs)
+              (d.room pool name node there)
           by true same =
               let its_pool = same_name_is pool kept.pool (first_of_both _ _ same) in
               let its_name = same_name_is name (node_name kept k) (second_of_both (same_name pool kept.pool) _ same) in
               let is_row = same_row row node (sym at ∙ (λ i. node_at w (sym its_pool i) (sym its_name i)) ∙ there) in
-              plus_within (node_load left pool name) (node_load left pool name) _ (size_of (part_of k ps)) node.offer.capacity (itself (node_load left pool name)) (in_part (second_of_both (same_name pool kept.pool) _ same))
+              plus_within (node_load left pool name) (node_load left pool name) _ (size_of (part_of k ps)) node.offer.capacity
+                  (itself (node_load left pool name)) (in_part (second_of_both (same_name pool kept.pool) _ same))
               ((λ i. is_within (plus (node_load left (its_pool i) (its_name i)) (size_of (part_of k ps))) (sym is_row i).offer.capacity) ∙ its_room)
             where
               same_row : (a b : Node) → Some a ≡ Some b → a ≡ b
@@ -227,11 +267,13 @@ module _ (kept : Snapshot) (ps : List Placement) (w : World) (s : IsAllocated w)
     unfolding decide
     decided_one = by (accepts_at kept left (node_name kept k) (part_of k ps) c.placed) refl
       where
-        by : (b : Bool) → accepts_at kept left (node_name kept k) (part_of k ps) c.placed ≡ b → Decided kept ps w (cond b with_it (record c { dropped = c.dropped ++ k ∷ [] }))
+        by : (b : Bool) → accepts_at kept left (node_name kept k) (part_of k ps) c.placed ≡ b →
+            Decided kept ps w (cond b with_it (record c { dropped = c.dropped ++ k ∷ [] }))
         by false _ = record { goes = d.goes; room = d.room; standing = d.standing }
         by true accepted = row (node_at left kept.pool (node_name kept k)) refl accepted
           where
-            row : (o : Option Node) → node_at left kept.pool (node_name kept k) ≡ o → option_map_or (accepts kept left (node_name kept k) (part_of k ps) c.placed) o false ≡ true → Decided kept ps w with_it
+            row : (o : Option Node) → node_at left kept.pool (node_name kept k) ≡ o →
+                option_map_or (accepts kept left (node_name kept k) (part_of k ps) c.placed) o false ≡ true → Decided kept ps w with_it
             row None at e = absurd (subst T (sym e) tt)
             row (Some node) at e = accepted_decided node (sym (left_goes.nodes kept.pool (node_name kept k)) ∙ at) e
 

@@ -47,20 +47,25 @@ within_less a b c cpu memory h = both_true _ _
 
 -- ---- rows
 
-pub allocation_row : (w : World) (key : Key) (a : Allocation) → allocation_at w key ≡ Some a → (t : Tenant) × (get w.tenants key.0 ≡ Some t) × (get t.allocations key.1 ≡ Some a)
+pub allocation_row : (w : World) (key : Key) (a : Allocation) → allocation_at w key ≡ Some a → (t : Tenant) × (get w.tenants key.0 ≡ Some t) ×
+    (get t.allocations key.1 ≡ Some a)
 allocation_row w key a at = by (get w.tenants key.0) refl at
   where
-    by : (o : Option Tenant) → get w.tenants key.0 ≡ o → option_and_then (λ t. get t.allocations key.1) o ≡ Some a → (t : Tenant) × (get w.tenants key.0 ≡ Some t) × (get t.allocations key.1 ≡ Some a)
+    by : (o : Option Tenant) → get w.tenants key.0 ≡ o → option_and_then (λ t. get t.allocations key.1) o ≡ Some a → (t : Tenant) ×
+        (get w.tenants key.0 ≡ Some t) × (get t.allocations key.1 ≡ Some a)
     by None is at = absurd (no_path at)
     by (Some t) is at = (t, is, at)
 
-pub row_allocation : (w : World) (ns : Name) (n : ℕ) (t : Tenant) (a : Allocation) → get w.tenants ns ≡ Some t → get t.allocations n ≡ Some a → allocation_at w (ns, n) ≡ Some a
+pub row_allocation : (w : World) (ns : Name) (n : ℕ) (t : Tenant) (a : Allocation) → get w.tenants ns ≡ Some t → get t.allocations n ≡ Some a →
+    allocation_at w (ns, n) ≡ Some a
 row_allocation w ns n t a is at = ap (option_and_then (λ t. get t.allocations n)) is ∙ at
 
-pub node_row : (w : World) (pool name : Name) (node : Node) → node_at w pool name ≡ Some node → (p : PoolRows) × (get w.pools pool ≡ Some p) × (get p.nodes name ≡ Some node)
+pub node_row : (w : World) (pool name : Name) (node : Node) → node_at w pool name ≡ Some node → (p : PoolRows) × (get w.pools pool ≡ Some p) ×
+    (get p.nodes name ≡ Some node)
 node_row w pool name node at = by (get w.pools pool) refl at
   where
-    by : (o : Option PoolRows) → get w.pools pool ≡ o → option_and_then (λ p. get p.nodes name) o ≡ Some node → (p : PoolRows) × (get w.pools pool ≡ Some p) × (get p.nodes name ≡ Some node)
+    by : (o : Option PoolRows) → get w.pools pool ≡ o → option_and_then (λ p. get p.nodes name) o ≡ Some node → (p : PoolRows) × (get w.pools pool ≡ Some p) ×
+        (get p.nodes name ≡ Some node)
     by None is at = absurd (no_path at)
     by (Some p) is at = (p, is, at)
 
@@ -118,35 +123,44 @@ NodesHold w x = (pool name : Name) (node : Node) → node_at x pool name ≡ Som
 -- ---- what nodes carry
 
 module _ (w x : World) (from : IsFrom w x) (pool name : Name) (amount : Resources → ℕ) where
-  row_below : (b row : Allocation) → b ≡ record row { desired = b.desired; client = b.client; create_index = b.create_index; modify_index = b.modify_index } → (is_live b ≡ true → is_live row ≡ true)
+  row_below : (b row : Allocation) → b ≡ record row { desired = b.desired; client = b.client; create_index = b.create_index; modify_index = b.modify_index } →
+      (is_live b ≡ true → is_live row ≡ true)
       → cond (is_live_on pool name b) (amount b.size) 0 ≤ cond (is_live_on pool name row) (amount row.size) 0
   row_below b row same live = by (is_live_on pool name b) refl
     where
       on : is_live_on pool name b ≡ true → is_live_on pool name row ≡ true
-      on e = both_true (is_live row) _ (live (first_of_both (is_live b) _ e)) ((λ i. same_name pool (sym same i).pool && same_name name (sym same i).node) ∙ second_of_both (is_live b) _ e)
+      on e = both_true (is_live row) _ (live (first_of_both (is_live b) _ e)) ((λ i. same_name pool (sym same i).pool && same_name name (sym same i).node) ∙
+          second_of_both (is_live b) _ e)
 
       by : (c : Bool) → is_live_on pool name b ≡ c → cond c (amount b.size) 0 ≤ cond (is_live_on pool name row) (amount row.size) 0
       by false _ = zero_le _
       by true e = subst (λ c. amount b.size ≤ cond c (amount row.size) 0) (sym (on e)) (le_same _ _ (ap (λ (a : Allocation). amount a.size) same))
 
-  tenant_below : (ns : Name) (t : Tenant) → get x.tenants ns ≡ Some t → tenant_sum (is_live_on pool name) amount t ≤ option_map_or (tenant_sum (is_live_on pool name) amount) (get w.tenants ns) 0
+  tenant_below : (ns : Name) (t : Tenant) → get x.tenants ns ≡ Some t →
+      tenant_sum (is_live_on pool name) amount t ≤ option_map_or (tenant_sum (is_live_on pool name) amount) (get w.tenants ns) 0
   tenant_below ns t is = by (get w.tenants ns) refl
     where
-      by : (o : Option Tenant) → get w.tenants ns ≡ o → tenant_sum (is_live_on pool name) amount t ≤ option_map_or (tenant_sum (is_live_on pool name) amount) o 0
-      by None none = sum_none numbers_ one_number (λ n (a : Allocation). cond (is_live_on pool name a) (amount a.size) 0) t.allocations (λ n b at. no_path (sym none ∙ (from ns t n b is at).is_tenant))
-      by (Some u) was = sum_below numbers_ one_number (λ n (a : Allocation). cond (is_live_on pool name a) (amount a.size) 0) (λ n (a : Allocation). cond (is_live_on pool name a) (amount a.size) 0) t.allocations u.allocations (λ n b at.
+      by : (o : Option Tenant) → get w.tenants ns ≡ o → tenant_sum (is_live_on pool name) amount t ≤ option_map_or (tenant_sum (is_live_on pool name) amount)
+          o 0
+      by None none = sum_none numbers_ one_number (λ n (a : Allocation). cond (is_live_on pool name a) (amount a.size) 0) t.allocations
+          (λ n b at. no_path (sym none ∙ (from ns t n b is at).is_tenant))
+      by (Some u) was = sum_below numbers_ one_number (λ n (a : Allocation). cond (is_live_on pool name a) (amount a.size) 0)
+          (λ n (a : Allocation). cond (is_live_on pool name a) (amount a.size) 0) t.allocations u.allocations (λ n b at.
           let c = from ns t n b is at in
-          subst (λ (o : Option Allocation). cond (is_live_on pool name b) (amount b.size) 0 ≤ option_map_or (λ a. cond (is_live_on pool name a) (amount a.size) 0) o 0)
+          subst (λ (o : Option Allocation). cond (is_live_on pool name b) (amount b.size) 0 ≤ option_map_or
+              (λ a. cond (is_live_on pool name a) (amount a.size) 0) o 0)
           (sym (ap (λ (t : Tenant). get t.allocations n) (same_Some _ _ (sym was ∙ c.is_tenant)) ∙ c.is_row)) (row_below b c.row c.same c.live))
 
   pub sum_from : node_sum x pool name amount ≤ node_sum w pool name amount
   unfolding node_sum
-  sum_from = sum_below names one_name (λ ns t. tenant_sum (is_live_on pool name) amount t) (λ ns t. tenant_sum (is_live_on pool name) amount t) x.tenants w.tenants tenant_below
+  sum_from = sum_below names one_name (λ ns t. tenant_sum (is_live_on pool name) amount t) (λ ns t. tenant_sum (is_live_on pool name) amount t)
+      x.tenants w.tenants tenant_below
 
 -- ---- the whole
 
 -- an allocation that comes from a sound one is sound
-module _ (w x : World) (s : IsAllocated w) (stay : NodesStay w x) (ns : Name) (t : Tenant) (n : ℕ) (b : Allocation) (is : get x.tenants ns ≡ Some t) (at : get t.allocations n ≡ Some b) (c : ComesFrom w ns t n b) where
+module _ (w x : World) (s : IsAllocated w) (stay : NodesStay w x) (ns : Name) (t : Tenant) (n : ℕ) (b : Allocation) (is : get x.tenants ns ≡ Some t)
+    (at : get t.allocations n ≡ Some b) (c : ComesFrom w ns t n b) where
   old : IsSoundAllocation w c.tenant n c.row
   old = s.allocation ns c.tenant n c.row c.is_tenant c.is_row
 
@@ -154,7 +168,8 @@ module _ (w x : World) (s : IsAllocated w) (stay : NodesStay w x) (ns : Name) (t
   placed_from live =
       let p = old.placed (c.live live) in
       let q = stay c.row.pool c.row.node p.row
-      (record { namespace = ns; tenant = t; number = n; row = b; is_tenant = is; is_row = at; live = live; in_pool = ap (λ (a : Allocation). a.pool) c.same; on_node = ap (λ (a : Allocation). a.node) c.same }) p.there p.ready in
+      (record { namespace = ns; tenant = t; number = n; row = b; is_tenant = is; is_row = at; live = live; in_pool =
+          ap (λ (a : Allocation). a.pool) c.same; on_node = ap (λ (a : Allocation). a.node) c.same }) p.there p.ready in
       let there = (λ i. node_at x (c.same i).pool (c.same i).node) ∙ q.is_row in record {
         allowed = record {
           exists = node_pool x b.pool b.node q.row there;
@@ -170,22 +185,27 @@ module _ (w x : World) (s : IsAllocated w) (stay : NodesStay w x) (ns : Name) (t
   pub sound_from : IsSoundAllocation x t n b
   sound_from = record {
     below = le_then n c.tenant.allocation_number t.allocation_number old.below c.number;
-    named = subst (λ (a : Allocation). IsTrue (is_name NameKind.Job a.job && is_name NameKind.Group a.group && is_pool_name a.pool && is_name NameKind.Node a.node)) (sym c.same) old.named;
+    named = subst (λ (a : Allocation). IsTrue (is_name NameKind.Job a.job && is_name NameKind.Group a.group && is_pool_name a.pool
+        && is_name NameKind.Node a.node)) (sym c.same) old.named;
     sized = subst (λ (a : Allocation). IsTrue (nat_le 1 a.size.cpu && nat_le 1 a.size.memory)) (sym c.same) old.sized;
     priority = subst (λ (a : Allocation). IsTrue (is_between 1 100 a.priority)) (sym c.same) old.priority;
-    made_by = le_then b.evaluation c.tenant.evaluation_number t.evaluation_number (subst (λ (a : Allocation). a.evaluation ≤ c.tenant.evaluation_number) (sym c.same) old.made_by) c.evaluations;
-    made_for = le_then b.job_modify_index c.tenant.index t.index (subst (λ (a : Allocation). a.job_modify_index ≤ c.tenant.index) (sym c.same) old.made_for) c.index;
+    made_by = le_then b.evaluation c.tenant.evaluation_number t.evaluation_number
+        (subst (λ (a : Allocation). a.evaluation ≤ c.tenant.evaluation_number) (sym c.same) old.made_by) c.evaluations;
+    made_for = le_then b.job_modify_index c.tenant.index t.index (subst (λ (a : Allocation). a.job_modify_index ≤ c.tenant.index) (sym c.same) old.made_for)
+        c.index;
     created = c.created;
     modified = c.modified;
     placed = placed_from;
   }
 
 module _ (w x : World) (s : IsAllocated w) (from : IsFrom w x) where
-  live_from : (key : Key) (b : Allocation) → IsLiveAt x key b → (a : Allocation) × IsLiveAt w key a × (a.pool ≡ b.pool) × (a.node ≡ b.node) × (a.place ≡ b.place)
+  live_from : (key : Key) (b : Allocation) → IsLiveAt x key b → (a : Allocation) × IsLiveAt w key a × (a.pool ≡ b.pool) × (a.node ≡ b.node) ×
+      (a.place ≡ b.place)
   live_from key b l =
       let r = allocation_row x key b l.0 in
       let c = from key.0 r.0 key.1 b r.1 r.2 in
-      (c.row, (row_allocation w key.0 key.1 c.tenant c.row c.is_tenant c.is_row, c.live l.1), sym (ap (λ (a : Allocation). a.pool) c.same), sym (ap (λ (a : Allocation). a.node) c.same), sym (ap (λ (a : Allocation). a.place) c.same))
+      (c.row, (row_allocation w key.0 key.1 c.tenant c.row c.is_tenant c.is_row, c.live l.1), sym (ap (λ (a : Allocation). a.pool) c.same), sym
+          (ap (λ (a : Allocation). a.node) c.same), sym (ap (λ (a : Allocation). a.place) c.same))
 
   pub allocated_from : NodesStay w x → NodesHold w x → IsAllocated x
   allocated_from stay hold = record {
@@ -201,7 +221,8 @@ module _ (w x : World) (s : IsAllocated w) (from : IsFrom w x) where
 -- ---- the same nodes
 
 pub nodes_stay : (w x : World) → ((pool name : Name) → node_at x pool name ≡ node_at w pool name) → NodesStay w x
-nodes_stay w x same pool name old lives at ready = record { row = old; is_row = same pool name ∙ at; ready = ready; places = le_same old.places old.places refl }
+nodes_stay w x same pool name old lives at ready =
+    record { row = old; is_row = same pool name ∙ at; ready = ready; places = le_same old.places old.places refl }
 
 pub nodes_hold : (w x : World) → IsAllocated w → ((pool name : Name) → node_at x pool name ≡ node_at w pool name) → NodesHold w x
 nodes_hold w x s same pool name node at = s.within pool name node (sym (same pool name) ∙ at)

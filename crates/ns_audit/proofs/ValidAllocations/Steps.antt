@@ -50,7 +50,8 @@ module _ (s : State) (valid : IsValid s) where
         y : State
         y = record x { world = settle s.world x.world }
 
-        by : (b : Bool) → cond b (said (Err Refusal.Full) s) (said (Ok (reply_of step content (settle s.world x.world))) y) ≡ said answer s' → IsAllocated s'.world
+        by : (b : Bool) → cond b (said (Err Refusal.Full) s) (said (Ok (reply_of step content (settle s.world x.world))) y) ≡ said answer s' →
+            IsAllocated s'.world
         by true e = subst (λ (x : State). IsAllocated x.world) (ap (λ x. x.1) (same_Some _ _ e)) sound
         by false e = subst (λ (x : State). IsAllocated x.world) (ap (λ x. x.1) (same_Some _ _ e)) (settle_allocated s.world x.world sound h)
 
@@ -68,7 +69,8 @@ allocations_step s s' step answer valid good e = after_allocated s valid step s'
 -- ---- the opening state
 
 no_allocation : (ns : Name) (t : Tenant) (n : ℕ) (a : Allocation) → get opening_world.tenants ns ≡ Some t → get t.allocations n ≡ Some a → ⊥
-no_allocation ns t n a is at = no_path (sym (get-empty nat_cmp n) ∙ ap (λ (t : Tenant). get t.allocations n) (only_row default_name opening_tenant ns t is) ∙ at)
+no_allocation ns t n a is at = no_path (sym (get-empty nat_cmp n) ∙ ap (λ (t : Tenant). get t.allocations n) (only_row default_name opening_tenant ns t is) ∙
+    at)
 
 no_node : (pool name : Name) (node : Node) → node_at opening_world pool name ≡ Some node → ⊥
 no_node pool name node at =

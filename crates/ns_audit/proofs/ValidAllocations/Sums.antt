@@ -80,11 +80,15 @@ module _ {K : Type 0} {R : K → K → Ordering} (o : IsTotalOrder R) (same : Is
     apart k (e ∷ es) = by (apart k es) (eq_by_cmp R k e.0) refl (eq_by_cmp R e.0 k) refl
       where
         by : at k es + sum (where_key R (elsewhere k) es) ≤ sum es → (b : Bool) → eq_by_cmp R k e.0 ≡ b → (c : Bool) → eq_by_cmp R e.0 k ≡ c
-            → option_map_or (g k) (cond b (Some e.1) (find R k es)) 0 + sum (cond (not c) (e ∷ where_key R (elsewhere k) es) (where_key R (elsewhere k) es)) ≤ sum (e ∷ es)
-        by rest true t true u = le_sum (λ e. g e.0 e.1) e es _ (both_le _ _ _ _ (subst (λ q. g k e.1 ≤ g q e.1) (tied same k e.0 t) (omega arith)) (part_le (elsewhere k) es))
+            → option_map_or (g k) (cond b (Some e.1) (find R k es)) 0 + sum (cond (not c) (e ∷ where_key R (elsewhere k) es) (where_key R (elsewhere k) es))
+                ≤ sum (e ∷ es)
+        by rest true t true u = le_sum (λ e. g e.0 e.1) e es _
+            (both_le _ _ _ _ (subst (λ q. g k e.1 ≤ g q e.1) (tied same k e.0 t) (omega arith)) (part_le (elsewhere k) es))
         by rest true t false u = not_both t (other e.0 k u)
         by rest false t true u = not_both u (other k e.0 t)
-        by rest false t false u = le_sum (λ e. g e.0 e.1) e es _ (subst (λ m. at k es + m ≤ g e.0 e.1 + sum es) (sym (sum_by-cons (λ e. g e.0 e.1) e (where_key R (elsewhere k) es))) (past (at k es) _ _ (g e.0 e.1) rest))
+        by rest false t false u = le_sum (λ e. g e.0 e.1) e es _
+            (subst (λ m. at k es + m ≤ g e.0 e.1 + sum es) (sym (sum_by-cons (λ e. g e.0 e.1) e (where_key R (elsewhere k) es)))
+            (past (at k es) _ _ (g e.0 e.1) rest))
 
     found_elsewhere : (k q : K) (es : List (K × Y)) → eq_by_cmp R q k ≡ false → find R q (where_key R (elsewhere k) es) ≡ find R q es
     found_elsewhere k q es e = find-where_key R (elsewhere k) q (λ x t. ap (elsewhere k) (sym (same q x t))) es ∙ ap (λ b. cond (not b) (find R q es) None) e
@@ -92,10 +96,12 @@ module _ {K : Type 0} {R : K → K → Ordering} (o : IsTotalOrder R) (same : Is
   module _ {X Y : Type 0} (f : K → X → ℕ) (g : K → Y → ℕ) where
     list_below : (es : List (K × X)) → T (is_sorted R es) → (fs : List (K × Y)) → Each (λ e. f e.0 e.1 ≤ at g e.0 fs) es → sum f es ≤ sum g fs
     list_below [] sorted fs h = zero_le _
-    list_below (e ∷ es) sorted fs h = sum_le (λ e. f e.0 e.1) e es _ (through (f e.0 e.1) (at g e.0 fs) (sum g fs) (sum f es) (sum g (where_key R (elsewhere e.0) fs)) h.0
+    list_below (e ∷ es) sorted fs h = sum_le (λ e. f e.0 e.1) e es _
+        (through (f e.0 e.1) (at g e.0 fs) (sum g fs) (sum f es) (sum g (where_key R (elsewhere e.0) fs)) h.0
         (list_below es (second _ _ sorted) (where_key R (elsewhere e.0) fs) (still es (first _ _ sorted) h.1)) (apart g e.0 fs))
       where
-        still : (xs : List (K × X)) → T (below_all R e.0 xs) → Each (λ x. f x.0 x.1 ≤ at g x.0 fs) xs → Each (λ x. f x.0 x.1 ≤ at g x.0 (where_key R (elsewhere e.0) fs)) xs
+        still : (xs : List (K × X)) → T (below_all R e.0 xs) → Each (λ x. f x.0 x.1 ≤ at g x.0 fs) xs →
+            Each (λ x. f x.0 x.1 ≤ at g x.0 (where_key R (elsewhere e.0) fs)) xs
         still [] _ k = tt
         still (x ∷ xs) b k = (
           subst (λ y. f x.0 x.1 ≤ option_map_or (g x.0) y 0) (sym (found_elsewhere g e.0 x.0 fs (other e.0 x.0 (unlike (R e.0 x.0) (first _ _ b))))) k.0,
@@ -105,7 +111,8 @@ module _ {K : Type 0} {R : K → K → Ordering} (o : IsTotalOrder R) (same : Is
     -- where each row counts no more than the row at its key in the other table, neither does the whole
     pub sum_below : (m : FinMap R X) (n : FinMap R Y) → ((k : K) (x : X) → get m k ≡ Some x → f k x ≤ option_map_or (g k) (get n k) 0)
         → sum_by (λ e. f e.0 e.1) (entries m) ≤ sum_by (λ e. g e.0 e.1) (entries n)
-    sum_below m n h = list_below (entries m) (entries_sorted m) (entries n) (each_row o same (λ k x. f k x ≤ at g k (entries n)) m (λ k x is. subst (λ y. f k x ≤ option_map_or (g k) y 0) (get-entries n k) (h k x is)))
+    sum_below m n h = list_below (entries m) (entries_sorted m) (entries n)
+        (each_row o same (λ k x. f k x ≤ at g k (entries n)) m (λ k x is. subst (λ y. f k x ≤ option_map_or (g k) y 0) (get-entries n k) (h k x is)))
 
   module _ {X : Type 0} (f : K → X → ℕ) where
     -- without rows there is nothing
@@ -113,11 +120,14 @@ module _ {K : Type 0} {R : K → K → Ordering} (o : IsTotalOrder R) (same : Is
     sum_none m none = list_below f f (entries m) (entries_sorted m) [] (each_row o same (λ k x. f k x ≤ 0) m (λ k x is. absurd (none k x is)))
 
     -- with a row put in, and the one that was there counted again, no more than with that row added
-    pub sum_put : (m : FinMap R X) (k : K) (v : X) → sum_by (λ e. f e.0 e.1) (entries (insert m k v)) + option_map_or (f k) (get m k) 0 ≤ sum_by (λ e. f e.0 e.1) (entries m) + f k v
+    pub sum_put : (m : FinMap R X) (k : K) (v : X) → sum_by (λ e. f e.0 e.1) (entries (insert m k v)) + option_map_or (f k) (get m k) 0 ≤ sum_by
+        (λ e. f e.0 e.1) (entries m) + f k v
     sum_put m k v = put_together _ (f k v) (sum f (where_key R (elsewhere k) (entries m))) (option_map_or (f k) (get m k) 0) _
         (subst (λ s. sum f (entries (insert m k v)) ≤ s) (sum_by-cons (λ e. f e.0 e.1) (k, v) (where_key R (elsewhere k) (entries m)))
-        (list_below f f (entries (insert m k v)) (entries_sorted (insert m k v)) ((k, v) ∷ where_key R (elsewhere k) (entries m)) (each_row o same _ (insert m k v) (λ q x is. held q x (sym (there q) ∙ is)))))
-        (subst (λ y. option_map_or (f k) y 0 + sum f (where_key R (elsewhere k) (entries m)) ≤ sum f (entries m)) (sym (get-entries m k)) (apart f k (entries m)))
+        (list_below f f (entries (insert m k v)) (entries_sorted (insert m k v)) ((k, v) ∷ where_key R (elsewhere k) (entries m))
+            (each_row o same _ (insert m k v) (λ q x is. held q x (sym (there q) ∙ is)))))
+        (subst (λ y. option_map_or (f k) y 0 + sum f (where_key R (elsewhere k) (entries m)) ≤ sum f (entries m)) (sym (get-entries m k))
+            (apart f k (entries m)))
       where
         there : (q : K) → get (insert m k v) q ≡ find R q ((k, v) ∷ where_key R (elsewhere k) (entries m))
         there q = get-insert o m k v q ∙ by (eq_by_cmp R q k) refl
@@ -126,5 +136,6 @@ module _ {K : Type 0} {R : K → K → Ordering} (o : IsTotalOrder R) (same : Is
             by true t = refl
             by false t = get-entries m q ∙ sym (found_elsewhere f k q (entries m) t)
 
-        held : (q : K) (x : X) → find R q ((k, v) ∷ where_key R (elsewhere k) (entries m)) ≡ Some x → f q x ≤ at f q ((k, v) ∷ where_key R (elsewhere k) (entries m))
+        held : (q : K) (x : X) → find R q ((k, v) ∷ where_key R (elsewhere k) (entries m)) ≡ Some x →
+            f q x ≤ at f q ((k, v) ∷ where_key R (elsewhere k) (entries m))
         held q x is = subst (λ y. f q x ≤ option_map_or (f q) y 0) (sym is) (omega arith)

@@ -26,7 +26,12 @@ use Rattle.ns_types.specs.Working.Queue.{is_busy, first_waiting, promote, is_ser
 use Rattle.ns_types.specs.Settling.Releases.{missed}
 use Rattle.ns_types.specs.State.Rows.{World, Tenant, PoolRows, is_live, is_run, is_held, node_at}
 use Rattle.ns_types.specs.State.Sums.{names_quota, quota_use}
-use Rattle.ns_types.specs.Working.Work.{with_worker, without_worker, without_key, at_work, workers_end, is_idle, new_worker, taken, dequeue_in, dequeue, may_snap, with_snapshot, snap_for, snap, may_submit, submitted, submit_for, submit, may_finish, end_of, needs_follower, follower_of, blocked_of, without_blocked, cancel_blocked, ended, tied_to, with_follower, followed, finished, finish_for, finish, is_submitted, most_nacks, with_nack, given_back, given_up, nack_for, nack}
+use Rattle.ns_types.specs.Working.Work.{
+    with_worker, without_worker, without_key, at_work, workers_end, is_idle, new_worker, taken, dequeue_in, dequeue,
+    may_snap, with_snapshot, snap_for, snap, may_submit, submitted, submit_for, submit, may_finish, end_of,
+    needs_follower, follower_of, blocked_of, without_blocked, cancel_blocked, ended, tied_to, with_follower, followed,
+    finished, finish_for, finish, is_submitted, most_nacks, with_nack, given_back, given_up, nack_for, nack
+}
 use Rattle.ns_types.specs.Working.Snapshot.{snapshot_of}
 use Rattle.ns_types.specs.declared.worker.Phase.TheVariants as Phase
 use Rattle.ns_types.proofs.Lists.{not_both}
@@ -35,7 +40,10 @@ use Rattle.ns_audit.proofs.Steady.Keeping.{more}
 use Rattle.ns_audit.proofs.Outcomes.{Leads, leads_unless, leads_found, leads_there, leads_if}
 use Rattle.ns_audit.proofs.Alone.Recording.{queue_keeps}
 use Rattle.ns_audit.proofs.ValidAllocations.Sound.{itself, le_same}
-use Rattle.ns_audit.proofs.ValidAllocations.Going.{Onward, onward_same, onward_put, onward_make_in, Goes, goes_quiet, goes_still, goes_then, goes_evaluation, goes_row, Allocates, allocates_on}
+use Rattle.ns_audit.proofs.ValidAllocations.Going.{
+    Onward, onward_same, onward_put, onward_make_in, Goes, goes_quiet, goes_still, goes_then, goes_evaluation, goes_row,
+    Allocates, allocates_on
+}
 
 -- the allocations go on, and the nodes are the same
 pub record Continues (w x : World) : Type 0 where
@@ -46,9 +54,11 @@ pub continues_allocates : (w x : World) → IsAllocated w → Continues w x → 
 continues_allocates w x s c = allocates_on w x s c.goes c.nodes
 
 pub continues_same : (w x : World) → x.tenants ≡ w.tenants → x.pools ≡ w.pools → Continues w x
-continues_same w x tenants pools = record { goes = onward_same Goes goes_still w x tenants; nodes = λ pool name. ap (λ m. option_and_then (λ (p : PoolRows). get p.nodes name) (get m pool)) pools }
+continues_same w x tenants pools = record { goes = onward_same Goes goes_still w x tenants; nodes =
+    λ pool name. ap (λ m. option_and_then (λ (p : PoolRows). get p.nodes name) (get m pool)) pools }
 
-pub continues_put : (w x : World) (ns : Name) (t t' : Tenant) → get w.tenants ns ≡ Some t → Goes t t' → x.tenants ≡ (put_tenant ns t' w).tenants → x.pools ≡ w.pools → Continues w x
+pub continues_put : (w x : World) (ns : Name) (t t' : Tenant) → get w.tenants ns ≡ Some t → Goes t t' → x.tenants ≡ (put_tenant ns t' w).tenants →
+    x.pools ≡ w.pools → Continues w x
 continues_put w x ns t t' is goes tenants pools = record {
   goes = λ k u at. onward_put Goes goes_still w ns t t' is goes k u (sym (ap (λ m. get m k) tenants) ∙ at);
   nodes = (continues_same (put_tenant ns t' w) x tenants pools).nodes;
@@ -57,7 +67,8 @@ continues_put w x ns t t' is goes tenants pools = record {
 pub continues_make_in : (w : World) (ns : Name) (e : Evaluation) (t t' : Tenant) → get w.tenants ns ≡ Some t → Goes t t' → Continues w (make_in ns e w t')
 continues_make_in w ns e t t' is goes = record {
   goes = onward_make_in Goes goes_still w ns e t t' is (goes_then t t' (with_evaluation e t') goes (goes_evaluation e t'));
-  nodes = λ pool name. ap (λ m. option_and_then (λ (p : PoolRows). get p.nodes name) (get m pool)) (queue_keeps (λ x. x.pools) (λ x keys. refl) (put_tenant ns (with_evaluation e t') w) (ns, t'.evaluation_number + 1));
+  nodes = λ pool name. ap (λ m. option_and_then (λ (p : PoolRows). get p.nodes name) (get m pool))
+      (queue_keeps (λ x. x.pools) (λ x keys. refl) (put_tenant ns (with_evaluation e t') w) (ns, t'.evaluation_number + 1));
 }
 
 -- ---- changes of a namespace
@@ -65,7 +76,9 @@ continues_make_in w ns e t t' is goes = record {
 -- other jobs, evaluations and workers
 pub goes_rows : (t : Tenant) (jobs : ByName Job) (evaluations : ByNumber Evaluation) (number : ℕ) (workers : ByNumber Worker) → t.evaluation_number ≤ number
     → Goes t (record t { jobs = jobs; evaluations = evaluations; evaluation_number = number; workers = workers })
-goes_rows t jobs evaluations number workers le = goes_quiet t (record t { jobs = jobs; evaluations = evaluations; evaluation_number = number; workers = workers }) (record { namespace = refl; index = refl; evaluations = le }) refl refl
+goes_rows t jobs evaluations number workers le = goes_quiet t
+    (record t { jobs = jobs; evaluations = evaluations; evaluation_number = number; workers = workers })
+    (record { namespace = refl; index = refl; evaluations = le }) refl refl
 
 goes_job : (jobs : ByName Job) (t : Tenant) → Goes t (record t { jobs = jobs })
 goes_job jobs t = goes_rows t jobs t.evaluations t.evaluation_number t.workers (itself t.evaluation_number)
@@ -79,18 +92,21 @@ goes_evaluations evaluations t = goes_rows t t.jobs evaluations t.evaluation_num
 pub goes_desired : (n : ℕ) (d : DesiredStatus) → is_run d ≡ false → (t : Tenant) → Goes t (with_desired n d t)
 goes_desired n d ends t = by (get t.allocations n) refl
   where
-    by : (o : Option Allocation) → get t.allocations n ≡ o → Goes t (option_map_or (λ a. record t { allocations = insert t.allocations n (record a { desired = d }) }) o t)
+    by : (o : Option Allocation) → get t.allocations n ≡ o →
+        Goes t (option_map_or (λ a. record t { allocations = insert t.allocations n (record a { desired = d }) }) o t)
     by None is = goes_still t
     by (Some a) is = goes_row t n a (record a { desired = d }) is refl (λ live. not_both live (ap (λ r. r && is_held a.client) ends))
 
 goes_status : (n : ℕ) (status : Status) (t : Tenant) → Goes t (with_status n status t)
-goes_status n status t = elim (get t.evaluations n) as (λ (o : Option Evaluation). Goes t (option_map_or (λ e. record t { evaluations = insert t.evaluations n (record e { status = status }) }) o t)) [
+goes_status n status t = elim (get t.evaluations n) as
+    (λ (o : Option Evaluation). Goes t (option_map_or (λ e. record t { evaluations = insert t.evaluations n (record e { status = status }) }) o t)) [
   | Some e ↦ goes_evaluations (insert t.evaluations n (record e { status = status })) t
   | None ↦ goes_still t
 ]
 
 goes_canceled : (job : Name) (t : Tenant) → Goes t (cancel_blocked job t)
-goes_canceled job t = elim (blocked_of t job) as (λ (o : Option ℕ). Goes t (option_map_or (λ n. with_status n Status.Canceled t) o t)) [ Some n ↦ goes_status n Status.Canceled t | None ↦ goes_still t ]
+goes_canceled job t = elim (blocked_of t job) as (λ (o : Option ℕ). Goes t (option_map_or (λ n. with_status n Status.Canceled t) o t))
+    [ Some n ↦ goes_status n Status.Canceled t | None ↦ goes_still t ]
 
 goes_ended : (number : ℕ) (worker : Worker) (e : Evaluation) (status : Status) (t : Tenant) → Goes t (ended number worker e status t)
 goes_ended number worker e status t =
@@ -100,13 +116,16 @@ goes_ended number worker e status t =
     (goes_canceled e.job x)
 
 goes_tied : (n follower : ℕ) (t : Tenant) → Goes t (tied_to n follower t)
-goes_tied n follower t = elim (get t.evaluations n) as (λ (o : Option Evaluation). Goes t (option_map_or (λ e. record t { evaluations = insert t.evaluations n (record e { follower = Some follower }) }) o t)) [
+goes_tied n follower t = elim (get t.evaluations n) as
+    (λ (o : Option Evaluation). Goes t (option_map_or (λ e. record t { evaluations = insert t.evaluations n (record e { follower = Some follower }) }) o t)) [
   | Some e ↦ goes_evaluations (insert t.evaluations n (record e { follower = Some follower })) t
   | None ↦ goes_still t
 ]
 
 tied_number : (n follower : ℕ) (t : Tenant) → (tied_to n follower t).evaluation_number ≡ t.evaluation_number
-tied_number n follower t = elim (get t.evaluations n) as (λ (o : Option Evaluation). (option_map_or (λ e. record t { evaluations = insert t.evaluations n (record e { follower = Some follower }) }) o t).evaluation_number ≡ t.evaluation_number) [ Some e ↦ refl | None ↦ refl ]
+tied_number n follower t = elim (get t.evaluations n) as
+    (λ (o : Option Evaluation). (option_map_or (λ e. record t { evaluations = insert t.evaluations n (record e { follower = Some follower }) })
+    o t).evaluation_number ≡ t.evaluation_number) [ Some e ↦ refl | None ↦ refl ]
 
 goes_follower : (n : ℕ) (follower : Evaluation) (t : Tenant) → Goes t (with_follower n follower t)
 goes_follower n follower t =
@@ -122,7 +141,8 @@ module _ (w : World) (ns : Name) (t : Tenant) (is : get w.tenants ns ≡ Some t)
   still = continues_same w w refl refl
 
   registration_goes : (r : Registration) → Leads (Continues w) (register ns r w t)
-  registration_goes r = leads_unless (Continues w) _ Refusal.PoolNotPermitted _ (λ _. leads_unless (Continues w) _ _ _ (λ _. leads_unless (Continues w) _ _ _ (λ _. leads_unless (Continues w) _ _ _ (λ _.
+  registration_goes r = leads_unless (Continues w) _ Refusal.PoolNotPermitted _
+      (λ _. leads_unless (Continues w) _ _ _ (λ _. leads_unless (Continues w) _ _ _ (λ _. leads_unless (Continues w) _ _ _ (λ _.
       by (registered_job (t.index + 1) (document_of t r) (get t.jobs r.id))))))
     where
       by : (job : Job) → Continues w (make_in ns (evaluation_of r.id job.document Trigger.JobRegister) w (with_job r.id job t))
@@ -144,10 +164,12 @@ module _ (w : World) (ns : Name) (t : Tenant) (is : get w.tenants ns ≡ Some t)
   asked_goes (AskCommand.ReadEvaluation n) = leads_found (Continues w) (get t.evaluations n) _ (λ e _. still)
   asked_goes (AskCommand.ListAllocations prefix) = still
   asked_goes (AskCommand.ReadAllocation n) = leads_found (Continues w) (get t.allocations n) _ (λ a _. still)
-  asked_goes (AskCommand.StopAllocation n) = leads_found (Continues w) (get t.allocations n) _ (λ a _. leads_unless (Continues w) (not (is_live a)) Refusal.Conflict _ (λ _.
+  asked_goes (AskCommand.StopAllocation n) = leads_found (Continues w) (get t.allocations n) _
+      (λ a _. leads_unless (Continues w) (not (is_live a)) Refusal.Conflict _ (λ _.
       continues_make_in w ns (evaluation_for t a Trigger.AllocStop) t (with_desired n DesiredStatus.Stop t) is (goes_desired n DesiredStatus.Stop refl t)))
   asked_goes AskCommand.ReadNamespace = still
-  asked_goes (AskCommand.QuotaUsage quota) = leads_if (Continues w) (names_quota quota t.namespace) (Done (Content.Usage quota (quota_use w quota)) w) (Refused Refusal.NotFound) (λ _. still) (λ _. tt)
+  asked_goes (AskCommand.QuotaUsage quota) = leads_if (Continues w) (names_quota quota t.namespace) (Done (Content.Usage quota (quota_use w quota)) w)
+      (Refused Refusal.NotFound) (λ _. still) (λ _. tt)
   asked_goes (AskCommand.Events index) = still
 
 pub ask_goes : (w : World) (ns : Name) (command : AskCommand) → Leads (Continues w) (ask ns command w)
@@ -158,22 +180,29 @@ ask_goes w ns command = leads_found (Continues w) (get w.tenants ns) (asked_in n
 
 module _ (P : World → Type 0) (number : ℕ) (ns : Name) (w : World) where
   pub leads_at_work : (act : Tenant → Worker → Evaluation → Outcome World)
-      → ((t : Tenant) (worker : Worker) (e : Evaluation) → get w.tenants ns ≡ Some t → get t.workers number ≡ Some worker → get t.evaluations worker.evaluation ≡ Some e → Leads P (act t worker e))
+      → ((t : Tenant) (worker : Worker) (e : Evaluation) → get w.tenants ns ≡ Some t → get t.workers number ≡ Some worker →
+          get t.evaluations worker.evaluation ≡ Some e → Leads P (act t worker e))
       → Leads P (at_work number ns w act)
-  leads_at_work act h = leads_there P (get w.tenants ns) _ (λ t is. leads_there P (get t.workers number) _ (λ worker has. leads_there P (get t.evaluations worker.evaluation) (act t worker) (λ e at. h t worker e is has at)))
+  leads_at_work act h = leads_there P (get w.tenants ns) _
+      (λ t is. leads_there P (get t.workers number) _
+      (λ worker has. leads_there P (get t.evaluations worker.evaluation) (act t worker) (λ e at. h t worker e is has at)))
 
   -- with the snapshot that it keeps
   pub leads_keeping : (act : Tenant → Worker → Evaluation → Snapshot → Outcome World)
-      → ((t : Tenant) (worker : Worker) (e : Evaluation) (kept : Snapshot) → get w.tenants ns ≡ Some t → get t.workers number ≡ Some worker → get t.evaluations worker.evaluation ≡ Some e → worker.kept ≡ Some kept → Leads P (act t worker e kept))
+      → ((t : Tenant) (worker : Worker) (e : Evaluation) (kept : Snapshot) → get w.tenants ns ≡ Some t → get t.workers number ≡ Some worker →
+          get t.evaluations worker.evaluation ≡ Some e → worker.kept ≡ Some kept → Leads P (act t worker e kept))
       → Leads P (at_work number ns w (λ t worker e. option_map_or (act t worker e) worker.kept NotEnabled))
-  leads_keeping act h = leads_at_work (λ t worker e. option_map_or (act t worker e) worker.kept NotEnabled) (λ t worker e is has at. leads_there P worker.kept (act t worker e) (λ kept keeps. h t worker e kept is has at keeps))
+  leads_keeping act h = leads_at_work (λ t worker e. option_map_or (act t worker e) worker.kept NotEnabled)
+      (λ t worker e is has at. leads_there P worker.kept (act t worker e) (λ kept keeps. h t worker e kept is has at keeps))
 
 module _ (w : World) (number : ℕ) where
   pub dequeue_goes : (key : Key) → Leads (Continues w) (dequeue number key w)
   unfolding dequeue
-  dequeue_goes key = leads_if (Continues w) (nat_lt number workers_end && is_idle w number && is_served w w.ready key) (option_map_or (dequeue_in number key w) (get w.tenants key.0) NotEnabled) NotEnabled (λ _.
+  dequeue_goes key = leads_if (Continues w) (nat_lt number workers_end && is_idle w number && is_served w w.ready key)
+      (option_map_or (dequeue_in number key w) (get w.tenants key.0) NotEnabled) NotEnabled (λ _.
       leads_there (Continues w) (get w.tenants key.0) (dequeue_in number key w) (λ t is. leads_there (Continues w) (get t.evaluations key.1) _ (λ e _.
-      continues_put w (taken number key w t e) key.0 t (with_worker number (new_worker key.1 e) t) is (goes_workers (insert t.workers number (new_worker key.1 e)) t) refl refl))) (λ _. tt)
+      continues_put w (taken number key w t e) key.0 t (with_worker number (new_worker key.1 e) t) is
+          (goes_workers (insert t.workers number (new_worker key.1 e)) t) refl refl))) (λ _. tt)
 
   module _ (ns : Name) where
     pub snap_goes : Leads (Continues w) (snap number ns w)
@@ -181,39 +210,50 @@ module _ (w : World) (number : ℕ) where
     snap_goes = leads_at_work (Continues w) number ns w (snap_for number ns w) (λ t worker e is _ _.
         by t is worker (may_snap worker.tries worker.phase) (with_snapshot (snapshot_of w ns t worker.evaluation e) worker))
       where
-        by : (t : Tenant) → get w.tenants ns ≡ Some t → (worker : Worker) (b : Bool) (new : Worker) → Leads (Continues w) (cond b (Done (Content.Snapped worker.evaluation) (put_tenant ns (with_worker number new t) w)) NotEnabled)
-        by t is worker true new = continues_put w (put_tenant ns (with_worker number new t) w) ns t (with_worker number new t) is (goes_workers (insert t.workers number new) t) refl refl
+        by : (t : Tenant) → get w.tenants ns ≡ Some t → (worker : Worker) (b : Bool) (new : Worker) →
+            Leads (Continues w) (cond b (Done (Content.Snapped worker.evaluation) (put_tenant ns (with_worker number new t) w)) NotEnabled)
+        by t is worker true new = continues_put w (put_tenant ns (with_worker number new t) w) ns t (with_worker number new t) is
+            (goes_workers (insert t.workers number new) t) refl refl
         by t is worker false new = tt
 
     pub submit_goes : Leads (Continues w) (submit number ns w)
     unfolding submit
     submit_goes = leads_keeping (Continues w) number ns w (λ t worker e. submit_for number ns w t worker) (λ t worker e kept is _ _ _.
         leads_if (Continues w) (may_submit worker kept) (Done (Content.Queued worker.evaluation) (submitted number ns w t worker)) NotEnabled (λ _.
-        continues_put w (submitted number ns w t worker) ns t (with_worker number (record worker { phase = Phase.Submitted }) t) is (goes_workers (insert t.workers number (record worker { phase = Phase.Submitted })) t) refl refl) (λ _. tt))
+        continues_put w (submitted number ns w t worker) ns t (with_worker number (record worker { phase = Phase.Submitted }) t) is
+            (goes_workers (insert t.workers number (record worker { phase = Phase.Submitted })) t) refl refl) (λ _. tt))
 
     -- the next one of the job is ready
     promote_goes : (job : Name) (x : World) → Continues w x → Continues w (promote ns job x)
     unfolding promote
-    promote_goes job x c = elim (is_busy x ns job) as (λ b. Continues w (cond b x (option_map_or (λ t. option_map_or (λ n. record x { ready = x.ready ++ (ns, n) ∷ [] }) (first_waiting job t) x) (get x.tenants ns) x))) [ true ↦ c | false ↦ tenant (get x.tenants ns) ]
+    promote_goes job x c = elim (is_busy x ns job) as
+        (λ b. Continues w (cond b x (option_map_or (λ t. option_map_or (λ n. record x { ready = x.ready ++ (ns, n) ∷ [] }) (first_waiting job t) x)
+        (get x.tenants ns) x))) [ true ↦ c | false ↦ tenant (get x.tenants ns) ]
       where
         waiting : (o : Option ℕ) → Continues w (option_map_or (λ n. record x { ready = x.ready ++ (ns, n) ∷ [] }) o x)
         waiting None = c
         waiting (Some n) = record { goes = c.goes; nodes = c.nodes }
 
-        tenant : (o : Option Tenant) → Continues w (option_map_or (λ t. option_map_or (λ n. record x { ready = x.ready ++ (ns, n) ∷ [] }) (first_waiting job t) x) o x)
+        tenant : (o : Option Tenant) → Continues w
+            (option_map_or (λ t. option_map_or (λ n. record x { ready = x.ready ++ (ns, n) ∷ [] }) (first_waiting job t) x) o x)
         tenant None = c
         tenant (Some t) = waiting (first_waiting job t)
 
     module _ (t : Tenant) (is : get w.tenants ns ≡ Some t) (worker : Worker) (e : Evaluation) where
       tenants_before : (without_blocked ns e.job t w).tenants ≡ w.tenants
-      tenants_before = elim (blocked_of t e.job) as (λ (o : Option ℕ). (option_map_or (λ n. record w { blocked = without_key (ns, n) w.blocked }) o w).tenants ≡ w.tenants) [ Some n ↦ refl | None ↦ refl ]
+      tenants_before = elim (blocked_of t e.job) as
+          (λ (o : Option ℕ). (option_map_or (λ n. record w { blocked = without_key (ns, n) w.blocked }) o w).tenants ≡ w.tenants)
+          [ Some n ↦ refl | None ↦ refl ]
 
       pools_before : (without_blocked ns e.job t w).pools ≡ w.pools
-      pools_before = elim (blocked_of t e.job) as (λ (o : Option ℕ). (option_map_or (λ n. record w { blocked = without_key (ns, n) w.blocked }) o w).pools ≡ w.pools) [ Some n ↦ refl | None ↦ refl ]
+      pools_before = elim (blocked_of t e.job) as
+          (λ (o : Option ℕ). (option_map_or (λ n. record w { blocked = without_key (ns, n) w.blocked }) o w).pools ≡ w.pools) [ Some n ↦ refl | None ↦ refl ]
 
-      followed_goes : (t' : Tenant) → Goes t t' → (follower : Evaluation) (b : Bool) → Continues w (followed ns worker follower t' b (without_blocked ns e.job t w))
+      followed_goes : (t' : Tenant) → Goes t t' → (follower : Evaluation) (b : Bool) →
+          Continues w (followed ns worker follower t' b (without_blocked ns e.job t w))
       followed_goes t' goes follower true = continues_put w _ ns t (with_follower worker.evaluation (record follower { status = Status.Pending }) t') is
-          (goes_then t t' (with_follower worker.evaluation (record follower { status = Status.Pending }) t') goes (goes_follower worker.evaluation (record follower { status = Status.Pending }) t'))
+          (goes_then t t' (with_follower worker.evaluation (record follower { status = Status.Pending }) t') goes
+              (goes_follower worker.evaluation (record follower { status = Status.Pending }) t'))
           (ap (λ m. insert m ns (with_follower worker.evaluation (record follower { status = Status.Pending }) t')) tenants_before) pools_before
       followed_goes t' goes follower false = continues_put w _ ns t (with_follower worker.evaluation follower t') is
           (goes_then t t' (with_follower worker.evaluation follower t') goes (goes_follower worker.evaluation follower t'))
@@ -225,7 +265,8 @@ module _ (w : World) (number : ℕ) where
           let goes = goes_ended number worker e (end_of worker) t in
           let x = without_blocked ns e.job t w in
           leads_if (Continues w) (needs_follower worker kept)
-          (Done (Content.Finished (end_of worker) (Some (t.evaluation_number + 1))) (promote ns e.job (followed ns worker (follower_of e worker kept) t' (missed w kept (follower_of e worker kept)) x)))
+          (Done (Content.Finished (end_of worker) (Some (t.evaluation_number + 1)))
+              (promote ns e.job (followed ns worker (follower_of e worker kept) t' (missed w kept (follower_of e worker kept)) x)))
           (Done (Content.Finished (end_of worker) None) (promote ns e.job (put_tenant ns t' x)))
           (λ _. promote_goes e.job _ (followed_goes t' goes (follower_of e worker kept) (missed w kept (follower_of e worker kept))))
           (λ _. promote_goes e.job _ (continues_put w (put_tenant ns t' x) ns t t' is goes (ap (λ m. insert m ns t') tenants_before) pools_before))
@@ -234,16 +275,19 @@ module _ (w : World) (number : ℕ) where
       nacked = with_nack worker.evaluation e t
 
       nacked_goes : Goes t (without_worker number (with_nack worker.evaluation e t))
-      nacked_goes = goes_rows t t.jobs (insert t.evaluations worker.evaluation (record e { nacks = e.nacks + 1 })) t.evaluation_number (remove t.workers number) (itself t.evaluation_number)
+      nacked_goes = goes_rows t t.jobs (insert t.evaluations worker.evaluation (record e { nacks = e.nacks + 1 })) t.evaluation_number (remove t.workers number)
+          (itself t.evaluation_number)
 
       nack_for_goes : Leads (Continues w) (nack_for number ns w t worker e)
       nack_for_goes =
           let t' = with_nack worker.evaluation e t in
           let u = without_worker number t' in
           let v = with_status worker.evaluation Status.Failed u in
-          leads_if (Continues w) (is_submitted worker.phase) NotEnabled (cond (nat_le most_nacks (e.nacks + 1)) (given_up number ns w t' worker e) (given_back number ns w t' worker)) (λ _. tt) (λ _.
+          leads_if (Continues w) (is_submitted worker.phase) NotEnabled
+              (cond (nat_le most_nacks (e.nacks + 1)) (given_up number ns w t' worker e) (given_back number ns w t' worker)) (λ _. tt) (λ _.
           leads_if (Continues w) (nat_le most_nacks (e.nacks + 1)) (given_up number ns w t' worker e) (given_back number ns w t' worker)
-          (λ _. promote_goes e.job (put_tenant ns v w) (continues_put w (put_tenant ns v w) ns t v is (goes_then t u v nacked_goes (goes_status worker.evaluation Status.Failed u)) refl refl))
+          (λ _. promote_goes e.job (put_tenant ns v w)
+              (continues_put w (put_tenant ns v w) ns t v is (goes_then t u v nacked_goes (goes_status worker.evaluation Status.Failed u)) refl refl))
           (λ _. continues_put w _ ns t u is nacked_goes refl refl))
 
     pub finish_goes : Leads (Continues w) (finish number ns w)

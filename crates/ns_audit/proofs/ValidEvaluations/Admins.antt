@@ -10,7 +10,10 @@ use Rattle.ns_types.specs.declared.records.Namespace.{Namespace}
 use Rattle.ns_types.specs.declared.step.AdminCommand.{AdminCommand}
 use Rattle.ns_types.specs.declared.step.AdminCommand.TheVariants as AdminCommand
 use Rattle.ns_types.specs.Asking.Policies.{with_world, with_acl, administer}
-use Rattle.ns_types.specs.Asking.Admins.{looks_to_pool, names_pool, new_tenant, with_namespace, put_namespace, delete_namespace, put_quota, delete_quota, read_quota, put_pool_record, delete_pool}
+use Rattle.ns_types.specs.Asking.Admins.{
+    looks_to_pool, names_pool, new_tenant, with_namespace, put_namespace, delete_namespace, put_quota, delete_quota,
+    read_quota, put_pool_record, delete_pool
+}
 use Rattle.ns_types.specs.State.Names.{Name, name_cmp, same_name, same_key, has_key}
 use Rattle.ns_types.specs.Settling.Outcome.{Outcome, NotEnabled, Refused, Done, lift}
 use Rattle.ns_types.specs.State.Rows.{State, World, Acl, Tenant, is_open}
@@ -44,7 +47,8 @@ new_tenant_filed pools listed namespace = (
 -- where nothing looks to a pool, jobs and open evaluations have others
 module _ (pool : Name) (t : Tenant) (unlooked : looks_to_pool (same_name pool) t ≡ false) where
   evaluation_elsewhere : (n : ℕ) (e : Evaluation) → get t.evaluations n ≡ Some e → is_open e.status ≡ true → same_name pool e.pool ≡ false
-  evaluation_elsewhere n e at open_ = ap (λ b. b && same_name pool e.pool) (sym open_) ∙ none_of_any one_number (λ _ e. is_open e.status && same_name pool e.pool) t.evaluations n e (right_none _ _ (left_none _ _ unlooked)) at
+  evaluation_elsewhere n e at open_ = ap (λ b. b && same_name pool e.pool) (sym open_) ∙
+      none_of_any one_number (λ _ e. is_open e.status && same_name pool e.pool) t.evaluations n e (right_none _ _ (left_none _ _ unlooked)) at
 
   job_elsewhere : (id : Name) (j : Job) → get t.jobs id ≡ Some j → same_name pool j.document.pool ≡ false
   job_elsewhere id j at = none_of_any one_name (λ _ job. same_name pool job.document.pool) t.jobs id j (left_none _ _ (left_none _ _ unlooked)) at
@@ -60,12 +64,15 @@ module _ (w : World) (s : IsSound w) where
 
   namespace_put : (name : Name) (namespace : Namespace) → Keeps (put_namespace name namespace w)
   unfolding put_namespace
-  namespace_put name namespace = leads_unless _ _ _ _ (λ _. leads_unless _ _ _ _ (λ _. leads_unless _ _ _ _ (λ _. leads_unless _ _ _ _ (λ _. leads_unless _ _ _ _ (λ _.
+  namespace_put name namespace = leads_unless _ _ _ _
+      (λ _. leads_unless _ _ _ _ (λ _. leads_unless _ _ _ _ (λ _. leads_unless _ _ _ _ (λ _. leads_unless _ _ _ _ (λ _.
       (pools_in w, put_filed (pools_in w) (index_in w) name (with_namespace namespace (get w.tenants name)) w filed (by (get w.tenants name) refl)))))))
     where
-      by : (o : Option Tenant) → get w.tenants name ≡ o → IsFiledTenant (pools_in w) (option_map_or (λ t. t.index) o 0) (λ n. has_key w.blocked (name, n)) (with_namespace namespace o)
+      by : (o : Option Tenant) → get w.tenants name ≡ o → IsFiledTenant (pools_in w) (option_map_or (λ t. t.index) o 0) (λ n. has_key w.blocked (name, n))
+          (with_namespace namespace o)
       by None is = new_tenant_filed (pools_in w) (λ n. has_key w.blocked (name, n)) namespace
-      by (Some t) is = subst (λ i. IsFiledTenant (pools_in w) i (λ n. has_key w.blocked (name, n)) t) (ap (λ o. option_map_or (λ (t : Tenant). t.index) o 0) is) (filed.tenant name t is)
+      by (Some t) is = subst (λ i. IsFiledTenant (pools_in w) i (λ n. has_key w.blocked (name, n)) t) (ap (λ o. option_map_or (λ (t : Tenant). t.index) o 0) is)
+          (filed.tenant name t is)
 
   namespace_deleted : (name : Name) → Keeps (delete_namespace name w)
   unfolding delete_namespace
@@ -77,7 +84,9 @@ module _ (w : World) (s : IsSound w) where
   pool_deleted : (name : Name) → Keeps (delete_pool name w)
   unfolding delete_pool
   pool_deleted name = leads_found _ (get w.pools name) _ (λ p _. leads_unless _ _ _ _ (λ _. leads_unless _ _ _ _ (λ free.
-      (left, record { known = λ k has. has; once = filed.once; tenant = λ ns t is. still ns t is (none_of_any one_name (λ _ t. names_pool name t.namespace || looks_to_pool (same_name name) t) w.tenants ns t (right_none _ _ free) is) }))))
+      (left, record { known = λ k has. has; once = filed.once; tenant =
+          λ ns t is. still ns t is (none_of_any one_name (λ _ t. names_pool name t.namespace || looks_to_pool (same_name name) t) w.tenants ns t
+          (right_none _ _ free) is) }))))
     where
       left : Name → Bool
       left k = contains_key (remove w.pools name) k
@@ -85,7 +94,8 @@ module _ (w : World) (s : IsSound w) where
       stays : (k : Name) → contains_key w.pools k ≡ true → same_name name k ≡ false → left k ≡ true
       stays k has other = ap is_some (get-remove names w.pools name k) ∙ ap (λ b. is_some (cond b None (get w.pools k))) (turned_name name k other) ∙ has
 
-      still : (ns : Name) (t : Tenant) → get w.tenants ns ≡ Some t → (names_pool name t.namespace || looks_to_pool (same_name name) t) ≡ false → IsFiledTenant left (index_in w ns) (λ n. has_key w.blocked (ns, n)) t
+      still : (ns : Name) (t : Tenant) → get w.tenants ns ≡ Some t → (names_pool name t.namespace || looks_to_pool (same_name name) t) ≡ false →
+          IsFiledTenant left (index_in w ns) (λ n. has_key w.blocked (ns, n)) t
       still ns t is none = (record { row = row; in_list = r.0.in_list; one = r.0.one }, job, r.2)
         where
           r : IsFiledTenant (pools_in w) (index_in w ns) (λ n. has_key w.blocked (ns, n)) t
@@ -149,7 +159,8 @@ module _ (s : State) (sound : IsSound s.world) where
     record {
       known = λ name has. ap (λ m. contains_key m name) pools ∙ has;
       once = subst (Pairs (λ a b. same_key a b ≡ false)) (sym blocked) present.once;
-      tenant = λ ns t is. subst (λ keys. IsFiledTenant (pools_in s.world) (index_in s.world ns) (λ n. has_key keys (ns, n)) t) (sym blocked) (present.tenant ns t (sym (ap (λ m. get m ns) tenants) ∙ is));
+      tenant = λ ns t is. subst (λ keys. IsFiledTenant (pools_in s.world) (index_in s.world ns) (λ n. has_key keys (ns, n)) t) (sym blocked)
+          (present.tenant ns t (sym (ap (λ m. get m ns) tenants) ∙ is));
     },
   )
 
@@ -160,10 +171,14 @@ module _ (s : State) (sound : IsSound s.world) where
   administer_filed secret (AdminCommand.DeleteNamespace name) = of_world _ (namespace_deleted s.world sound name)
   administer_filed secret AdminCommand.ListQuotas = same
   administer_filed secret (AdminCommand.ReadQuota name) = of_world (read_quota name s.world) (leads_found _ (get s.world.quotas name) _ (λ q _. same))
-  administer_filed secret (AdminCommand.PutQuota name quota) = of_world (put_quota name quota s.world) (leads_unless _ _ _ _ (λ _. quotas_filed _ refl refl refl))
-  administer_filed secret (AdminCommand.DeleteQuota name) = of_world (delete_quota name s.world) (leads_found _ (get s.world.quotas name) _ (λ q _. leads_unless _ _ _ _ (λ _. quotas_filed _ refl refl refl)))
+  administer_filed secret (AdminCommand.PutQuota name quota) =
+      of_world (put_quota name quota s.world) (leads_unless _ _ _ _ (λ _. quotas_filed _ refl refl refl))
+  administer_filed secret (AdminCommand.DeleteQuota name) =
+      of_world (delete_quota name s.world) (leads_found _ (get s.world.quotas name) _ (λ q _. leads_unless _ _ _ _ (λ _. quotas_filed _ refl refl refl)))
   administer_filed secret AdminCommand.ListPools = same
-  administer_filed secret (AdminCommand.PutPool name pool) = of_world (put_pool_record name pool s.world) (leads_unless _ _ _ _ (λ _. (pools_in s.world, put_pool_filed (pools_in s.world) (index_in s.world) name _ s.world present)))
+  administer_filed secret (AdminCommand.PutPool name pool) =
+      of_world (put_pool_record name pool s.world)
+      (leads_unless _ _ _ _ (λ _. (pools_in s.world, put_pool_filed (pools_in s.world) (index_in s.world) name _ s.world present)))
   administer_filed secret (AdminCommand.DeletePool name) = of_world _ (pool_deleted s.world sound name)
   administer_filed secret (AdminCommand.ReadPolicy name) = of_acl _
   administer_filed secret (AdminCommand.PutPolicy name policy) = of_acl _

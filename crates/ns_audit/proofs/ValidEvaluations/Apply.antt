@@ -15,7 +15,12 @@ use Rattle.ns_types.specs.declared.plan.Placement.{Placement}
 use Rattle.ns_types.specs.declared.plan.Plan.{Plan}
 use Rattle.ns_types.specs.declared.snapshot.Snapshot.{Snapshot}
 use Rattle.ns_types.specs.declared.worker.Worker.{Worker}
-use Rattle.ns_types.specs.Working.Commit.{still_stands, live_stops, stop_all, node_name, nodes_in, part_of, size_of, counts, victims_in, victims_of, evict, evict_all, Commit, begun, accepts_at, decide, new_allocation, with_allocation, with_place, place_with, place_one, committed_placements, place_all, Victim, victim_at, evicted_rows, same_victim_job, least_of_job, make_up, Applied, refused_whole, done_with, done, commit, applied_worker, applied, apply_for, apply}
+use Rattle.ns_types.specs.Working.Commit.{
+    still_stands, live_stops, stop_all, node_name, nodes_in, part_of, size_of, counts, victims_in, victims_of, evict,
+    evict_all, Commit, begun, accepts_at, decide, new_allocation, with_allocation, with_place, place_with, place_one,
+    committed_placements, place_all, Victim, victim_at, evicted_rows, same_victim_job, least_of_job, make_up, Applied,
+    refused_whole, done_with, done, commit, applied_worker, applied, apply_for, apply
+}
 use Rattle.ns_types.specs.State.Lists.{Each, first_each}
 use Rattle.ns_types.specs.Settling.Making.{put_pool, change_tenant, with_desired, least}
 use Rattle.ns_types.specs.State.Names.{Name, has_key, same_number}
@@ -40,12 +45,15 @@ use Rattle.ns_audit.proofs.ValidEvaluations.Work.{holds_keeping}
 module _ (pools : Name → Bool) (index : Name → ℕ) where
   -- ---- stops and victims
 
-  stops_filed : (i : ℕ) (listed : ℕ → Bool) (stops : List ℕ) (t : Tenant) → IsFiledTenant pools i listed t → IsFiledTenant pools i listed (fold (λ x n. with_desired n DesiredStatus.Stop x) t stops)
+  stops_filed : (i : ℕ) (listed : ℕ → Bool) (stops : List ℕ) (t : Tenant) → IsFiledTenant pools i listed t →
+      IsFiledTenant pools i listed (fold (λ x n. with_desired n DesiredStatus.Stop x) t stops)
   stops_filed i listed [] t s = s
-  stops_filed i listed (n ∷ stops) t s = stops_filed i listed stops (with_desired n DesiredStatus.Stop t) (desired_filed pools i listed t s n DesiredStatus.Stop)
+  stops_filed i listed (n ∷ stops) t s = stops_filed i listed stops (with_desired n DesiredStatus.Stop t)
+      (desired_filed pools i listed t s n DesiredStatus.Stop)
 
   stopped_filed : (ns : Name) (stops : List ℕ) (w : World) → IsFiled pools index w → IsFiled pools index (stop_all ns stops w)
-  stopped_filed ns stops w s = change_filed pools index ns (λ t. fold (λ x n. with_desired n DesiredStatus.Stop x) t stops) w s (stops_filed (index ns) (λ n. has_key w.blocked (ns, n)) stops)
+  stopped_filed ns stops w s = change_filed pools index ns (λ t. fold (λ x n. with_desired n DesiredStatus.Stop x) t stops) w s
+      (stops_filed (index ns) (λ n. has_key w.blocked (ns, n)) stops)
 
   evicted_filed : (vs : List Eviction) (w : World) → IsFiled pools index w → IsFiled pools index (evict_all w vs)
   evicted_filed [] w s = s
@@ -55,12 +63,15 @@ module _ (pools : Name → Bool) (index : Name → ℕ) where
   decide_filed : (kept : Snapshot) (ps : List Placement) (c : Commit) (k : ℕ) → IsFiled pools index c.world → IsFiled pools index (decide kept ps c k).world
   unfolding decide
   decide_filed kept ps c k s = elim (accepts_at kept (evict_all c.world (victims_of c.world kept (part_of k ps))) (node_name kept k) (part_of k ps) c.placed) as
-      (λ b. IsFiled pools index (cond b (record { world = evict_all c.world (victims_of c.world kept (part_of k ps)); placed = plus c.placed (size_of (part_of k ps)); committed = c.committed ++ k ∷ []; dropped = c.dropped }) (record c { dropped = c.dropped ++ k ∷ [] })).world) [
+      (λ b. IsFiled pools index (cond b (record { world = evict_all c.world (victims_of c.world kept (part_of k ps)); placed =
+          plus c.placed (size_of (part_of k ps)); committed = c.committed ++ k ∷ []; dropped = c.dropped }) (record c { dropped = c.dropped ++ k ∷ [] })).world)
+          [
         | true ↦ evicted_filed (victims_of c.world kept (part_of k ps)) c.world s
         | false ↦ s
       ]
 
-  decided_filed : (kept : Snapshot) (ps : List Placement) (ks : List ℕ) (c : Commit) → IsFiled pools index c.world → IsFiled pools index (fold (decide kept ps) c ks).world
+  decided_filed : (kept : Snapshot) (ps : List Placement) (ks : List ℕ) (c : Commit) → IsFiled pools index c.world →
+      IsFiled pools index (fold (decide kept ps) c ks).world
   decided_filed kept ps [] c s = s
   decided_filed kept ps (k ∷ ks) c s = decided_filed kept ps ks (decide kept ps c k) (decide_filed kept ps c k s)
 
@@ -70,16 +81,19 @@ module _ (pools : Name → Bool) (index : Name → ℕ) where
   unfolding place_one
   placed_filed kept p w s = job kept.job
     where
-      counted_filed : (node : Node) (x : World) → IsFiled pools index x → (o : Option PoolRows) → IsFiled pools index (option_map_or (λ p'. put_pool kept.pool (with_place (node_name kept p.node) node p') x) o x)
+      counted_filed : (node : Node) (x : World) → IsFiled pools index x → (o : Option PoolRows) →
+          IsFiled pools index (option_map_or (λ p'. put_pool kept.pool (with_place (node_name kept p.node) node p') x) o x)
       counted_filed node x f None = f
       counted_filed node x f (Some p') = put_pool_filed pools index kept.pool (with_place (node_name kept p.node) node p') x f
 
       node : (j : Job) (o : Option Node) → IsFiled pools index (option_map_or (place_with kept p w j) o w)
       node j None = s
-      node j (Some n) = counted_filed n (change_tenant kept.namespace (with_allocation (new_allocation kept j p n)) w) (change_filed pools index kept.namespace (with_allocation (new_allocation kept j p n)) w s (λ t f. f))
+      node j (Some n) = counted_filed n (change_tenant kept.namespace (with_allocation (new_allocation kept j p n)) w)
+          (change_filed pools index kept.namespace (with_allocation (new_allocation kept j p n)) w s (λ t f. f))
           (get (change_tenant kept.namespace (with_allocation (new_allocation kept j p n)) w).pools kept.pool)
 
-      job : (o : Option Job) → IsFiled pools index (option_map_or (λ job. option_map_or (place_with kept p w job) (node_at w kept.pool (node_name kept p.node)) w) o w)
+      job : (o : Option Job) → IsFiled pools index
+          (option_map_or (λ job. option_map_or (place_with kept p w job) (node_at w kept.pool (node_name kept p.node)) w) o w)
       job None = s
       job (Some j) = node j (node_at w kept.pool (node_name kept p.node))
 
@@ -99,11 +113,13 @@ module _ (pools : Name → Bool) (index : Name → ℕ) where
   stop_causes : (n : ℕ) (t : Tenant) → CausesIn t → CausesIn (with_desired n DesiredStatus.Stop t)
   stop_causes n t h = by (get t.allocations n)
     where
-      row : (a : Allocation) (m : ℕ) (x : Allocation) → ((m ≡ n) × (record a { desired = DesiredStatus.Stop } ≡ x)) ⊎ (get t.allocations m ≡ Some x) → is_live x ≡ true → IsCause pools x
+      row : (a : Allocation) (m : ℕ) (x : Allocation) → ((m ≡ n) × (record a { desired = DesiredStatus.Stop } ≡ x)) ⊎ (get t.allocations m ≡ Some x) →
+          is_live x ≡ true → IsCause pools x
       row a m x (inl e) live = not_both (ap is_live e.1 ∙ live) refl
       row a m x (inr at) live = h m x at live
 
-      by : (o : Option Allocation) → CausesIn (option_map_or (λ a. record t { allocations = insert t.allocations n (record a { desired = DesiredStatus.Stop }) }) o t)
+      by : (o : Option Allocation) → CausesIn (option_map_or
+          (λ a. record t { allocations = insert t.allocations n (record a { desired = DesiredStatus.Stop }) }) o t)
       by None = h
       by (Some a) = λ m x at. row a m x (row_of_insert numbers_ one_number t.allocations n (record a { desired = DesiredStatus.Stop }) m x at)
 
@@ -114,11 +130,13 @@ module _ (pools : Name → Bool) (index : Name → ℕ) where
   stopped_causes : (ns : Name) (stops : List ℕ) (w : World) → Causes w → Causes (stop_all ns stops w)
   stopped_causes ns stops w h = by (get w.tenants ns) refl
     where
-      row : (t : Tenant) → get w.tenants ns ≡ Some t → (k : Name) (x : Tenant) → ((k ≡ ns) × (fold (λ x n. with_desired n DesiredStatus.Stop x) t stops ≡ x)) ⊎ (get w.tenants k ≡ Some x) → CausesIn x
+      row : (t : Tenant) → get w.tenants ns ≡ Some t → (k : Name) (x : Tenant) → ((k ≡ ns) × (fold (λ x n. with_desired n DesiredStatus.Stop x) t stops ≡ x))
+          ⊎ (get w.tenants k ≡ Some x) → CausesIn x
       row t is k x (inl e) = subst CausesIn e.1 (stops_causes stops t (h ns t is))
       row t is k x (inr at) = h k x at
 
-      by : (o : Option Tenant) → get w.tenants ns ≡ o → Causes (option_map_or (λ t. record w { tenants = insert w.tenants ns (fold (λ x n. with_desired n DesiredStatus.Stop x) t stops) }) o w)
+      by : (o : Option Tenant) → get w.tenants ns ≡ o →
+          Causes (option_map_or (λ t. record w { tenants = insert w.tenants ns (fold (λ x n. with_desired n DesiredStatus.Stop x) t stops) }) o w)
       by None is = h
       by (Some t) is = λ k x at. row t is k x (row_of_insert names one_name w.tenants ns (fold (λ x n. with_desired n DesiredStatus.Stop x) t stops) k x at)
 
@@ -132,7 +150,8 @@ module _ (pools : Name → Bool) (index : Name → ℕ) where
     stands node e c a at = by (get x.tenants e.namespace) refl at
       where
         on : is_live_on kept.pool node a ≡ true
-        on = first_of_both (is_live_on kept.pool node a) _ (sym (ap (λ o. option_map_or (λ a. is_live_on kept.pool node a && same_number a.priority e.priority) o false) at) ∙ c)
+        on = first_of_both (is_live_on kept.pool node a) _
+            (sym (ap (λ o. option_map_or (λ a. is_live_on kept.pool node a && same_number a.priority e.priority) o false) at) ∙ c)
 
         by : (o : Option Tenant) → get x.tenants e.namespace ≡ o → option_and_then (λ t. get t.allocations e.number) o ≡ Some a → IsCause pools a
         by None is at = absurd (no_path at)
@@ -145,7 +164,8 @@ module _ (pools : Name → Bool) (index : Name → ℕ) where
     rows_fit [] h = tt
     rows_fit (e ∷ vs) h = by (rows_fit vs h.1) (allocation_at x (e.namespace, e.number)) refl
       where
-        by : Each Fits (filter_map (victim_at x) vs) → (o : Option Allocation) → allocation_at x (e.namespace, e.number) ≡ o → Each Fits (cons_option {X = Victim} (option_map (λ a. (e.namespace, (e.number, a))) o) (filter_map (victim_at x) vs))
+        by : Each Fits (filter_map (victim_at x) vs) → (o : Option Allocation) → allocation_at x (e.namespace, e.number) ≡ o →
+            Each Fits (cons_option {X = Victim} (option_map (λ a. (e.namespace, (e.number, a))) o) (filter_map (victim_at x) vs))
         by rest None at = rest
         by rest (Some a) at = (h.0 a at, rest)
 
@@ -160,7 +180,8 @@ module _ (pools : Name → Bool) (index : Name → ℕ) where
       where
         of_job : Each (λ (e : ℕ × Allocation). IsCause pools e.1) (map (λ (x : Victim). x.1) (filter (same_victim_job v) victims))
         of_job = each_mapped (λ (e : ℕ × Allocation). IsCause pools e.1) (λ (x : Victim). x.1) (filter (same_victim_job v) victims)
-            (each_of (λ (y : Victim). IsCause pools y.1.1 × (same_victim_job v y ≡ true)) (λ (y : Victim). IsCause pools y.1.1) (λ y h. h.0) (filter (same_victim_job v) victims)
+            (each_of (λ (y : Victim). IsCause pools y.1.1 × (same_victim_job v y ≡ true)) (λ (y : Victim). IsCause pools y.1.1) (λ y h. h.0)
+                (filter (same_victim_job v) victims)
             (each_left (λ (y : Victim). IsCause pools y.1.1) (same_victim_job v) victims fit))
 
         by : (o : Option Allocation) → least (map (λ x. x.1) (filter (same_victim_job v) victims)) ≡ o → IsCause pools (option_map_or (λ a. a) o v.1.1)
@@ -170,31 +191,44 @@ module _ (pools : Name → Bool) (index : Name → ℕ) where
     made_up_filed : (w : World) → IsFiled pools index w → IsFiled pools index (make_up victims w)
     unfolding make_up
     made_up_filed w s = makes_filed pools index (λ (v : Victim). v.0) (least_of_job victims) Trigger.Preemption (first_each same_victim_job victims) w s
-        (each_of (λ (v : Victim). IsCause pools v.1.1) (λ (v : Victim). IsCause pools (least_of_job victims v)) least_fits (first_each same_victim_job victims) (each_first (λ (v : Victim). IsCause pools v.1.1) same_victim_job victims fit))
+        (each_of (λ (v : Victim). IsCause pools v.1.1) (λ (v : Victim). IsCause pools (least_of_job victims v)) least_fits (first_each same_victim_job victims)
+            (each_first (λ (v : Victim). IsCause pools v.1.1) same_victim_job victims fit))
 
   -- ---- the whole
 
   commit_filed : (kept : Snapshot) (p : Plan) (w : World) (t : Tenant) → IsFiled pools index w → Causes w → IsFiled pools index (commit kept p w t).world
   unfolding commit
-  commit_filed kept p w t s causes = elim (still_stands kept.job (get t.jobs kept.evaluation.job)) as (λ b. IsFiled pools index (cond b (done kept p w t) (refused_whole kept p w)).world) [
-    | true ↦ whole (stop_all kept.namespace (live_stops t p.stops) w) (stopped_filed kept.namespace (live_stops t p.stops) w s) (stopped_causes kept.namespace (live_stops t p.stops) w causes)
+  commit_filed kept p w t s causes = elim (still_stands kept.job (get t.jobs kept.evaluation.job)) as
+      (λ b. IsFiled pools index (cond b (done kept p w t) (refused_whole kept p w)).world) [
+    | true ↦ whole (stop_all kept.namespace (live_stops t p.stops) w) (stopped_filed kept.namespace (live_stops t p.stops) w s)
+        (stopped_causes kept.namespace (live_stops t p.stops) w causes)
     | false ↦ s
   ]
     where
-      whole : (x : World) → IsFiled pools index x → Causes x → IsFiled pools index (done_with kept t (live_stops t p.stops) p.placing.placements x (fold (decide kept p.placing.placements) (begun x) (nodes_in p.placing.placements))).world
-      whole x f of_x = with_it (fold (decide kept p.placing.placements) (begun x) (nodes_in p.placing.placements)) (decided_filed kept p.placing.placements (nodes_in p.placing.placements) (begun x) f)
+      whole : (x : World) → IsFiled pools index x → Causes x →
+          IsFiled pools index (done_with kept t (live_stops t p.stops) p.placing.placements x
+          (fold (decide kept p.placing.placements) (begun x) (nodes_in p.placing.placements))).world
+      whole x f of_x = with_it (fold (decide kept p.placing.placements) (begun x) (nodes_in p.placing.placements))
+          (decided_filed kept p.placing.placements (nodes_in p.placing.placements) (begun x) f)
         where
-          with_it : (c : Commit) → IsFiled pools index c.world → IsFiled pools index (make_up (evicted_rows x kept (committed_placements c p.placing.placements)) (place_all kept c.world (committed_placements c p.placing.placements)))
+          with_it : (c : Commit) → IsFiled pools index c.world →
+              IsFiled pools index (make_up (evicted_rows x kept (committed_placements c p.placing.placements))
+              (place_all kept c.world (committed_placements c p.placing.placements)))
           with_it c c_filed =
               let placed = committed_placements c p.placing.placements in
-              made_up_filed (evicted_rows x kept placed) (victims_fit x of_x kept placed) (place_all kept c.world placed) (all_placed_filed kept placed c.world c_filed)
+              made_up_filed (evicted_rows x kept placed) (victims_fit x of_x kept placed) (place_all kept c.world placed)
+                  (all_placed_filed kept placed c.world c_filed)
 
 pub apply_filed : (w : World) → IsSound w → (number : ℕ) (ns : Name) → Leads (IsFiled (pools_in w) (index_in w)) (apply number ns w)
 unfolding apply
 apply_filed w s number ns = holds_keeping _ w number ns (apply_for number ns w) (λ t worker e kept is has at keeps.
     leads_if _ (is_submitted worker.phase && is_served w w.plans (ns, worker.evaluation)) (applied number ns worker e (commit kept (plan kept) w t)) NotEnabled
-    (λ _. by worker e (commit kept (plan kept) w t) (commit_filed (pools_in w) (index_in w) kept (plan kept) w t (sound_filed w s) (λ k x k_is n a a_at live. cause_of w s k x k_is n a a_at live))) (λ _. tt))
+    (λ _. by worker e (commit kept (plan kept) w t)
+        (commit_filed (pools_in w) (index_in w) kept (plan kept) w t (sound_filed w s) (λ k x k_is n a a_at live. cause_of w s k x k_is n a a_at live)))
+        (λ _. tt))
   where
-    by : (worker : Worker) (e : Evaluation) (a : Applied) → IsFiled (pools_in w) (index_in w) a.world → Leads (IsFiled (pools_in w) (index_in w)) (applied number ns worker e a)
-    by worker e a f = lists_filed (pools_in w) (index_in w) (change_tenant ns (with_worker number (applied_worker a worker e)) a.world) (change_tenant ns (with_worker number (applied_worker a worker e)) a.world).ready (without_key (ns, worker.evaluation) a.world.plans)
+    by : (worker : Worker) (e : Evaluation) (a : Applied) → IsFiled (pools_in w) (index_in w) a.world →
+        Leads (IsFiled (pools_in w) (index_in w)) (applied number ns worker e a)
+    by worker e a f = lists_filed (pools_in w) (index_in w) (change_tenant ns (with_worker number (applied_worker a worker e)) a.world)
+        (change_tenant ns (with_worker number (applied_worker a worker e)) a.world).ready (without_key (ns, worker.evaluation) a.world.plans)
         (change_filed (pools_in w) (index_in w) ns (with_worker number (applied_worker a worker e)) a.world f (λ t t_filed. t_filed))

@@ -14,7 +14,10 @@ use Rattle.ns_types.specs.declared.refusal.Refusal.TheVariants as Refusal
 use Rattle.ns_types.specs.declared.reply.Content.TheVariants as Content
 use Rattle.ns_types.specs.declared.step.AskCommand.{AskCommand}
 use Rattle.ns_types.specs.declared.step.AskCommand.TheVariants as AskCommand
-use Rattle.ns_types.specs.Asking.Asks.{pool_of, document_of, registered_job, registered_with, register, stopped_job, deregistered, deregister_job, deregister, stop_allocation, asked_in, ask}
+use Rattle.ns_types.specs.Asking.Asks.{
+    pool_of, document_of, registered_job, registered_with, register, stopped_job, deregistered, deregister_job,
+    deregister, stop_allocation, asked_in, ask
+}
 use Rattle.ns_types.specs.State.Limits.{is_between, is_pool_name, is_good_registration}
 use Rattle.ns_types.specs.Settling.Making.{with_job, with_desired, evaluation_of, evaluation_for, make_in}
 use Rattle.ns_types.specs.State.Name.{is_name}
@@ -36,7 +39,8 @@ use Rattle.ns_audit.proofs.ValidRecords.Asks.{default_named}
 -- ---- rows
 
 -- a live allocation may be the cause of an evaluation
-pub cause_of : (w : World) → IsSound w → (ns : Name) (t : Tenant) → get w.tenants ns ≡ Some t → (n : ℕ) (a : Allocation) → get t.allocations n ≡ Some a → is_live a ≡ true → IsCause (pools_in w) a
+pub cause_of : (w : World) → IsSound w → (ns : Name) (t : Tenant) → get w.tenants ns ≡ Some t → (n : ℕ) (a : Allocation) → get t.allocations n ≡ Some a →
+    is_live a ≡ true → IsCause (pools_in w) a
 cause_of w s ns t is n a at live =
     let r = (s.tenant ns t is).allocation n a at in
     record {
@@ -46,8 +50,11 @@ cause_of w s ns t is n a at live =
       exists = (r.placed live).allowed.exists;
     }
 
-pub desired_filed : (pools : Name → Bool) (index : ℕ) (listed : ℕ → Bool) (t : Tenant) → IsFiledTenant pools index listed t → (n : ℕ) (d : DesiredStatus) → IsFiledTenant pools index listed (with_desired n d t)
-desired_filed pools index listed t s n d = elim (get t.allocations n) as (λ (o : Option Allocation). IsFiledTenant pools index listed (option_map_or (λ a. record t { allocations = insert t.allocations n (record a { desired = d }) }) o t)) [ None ↦ s | Some a ↦ s ]
+pub desired_filed : (pools : Name → Bool) (index : ℕ) (listed : ℕ → Bool) (t : Tenant) → IsFiledTenant pools index listed t → (n : ℕ) (d : DesiredStatus) →
+    IsFiledTenant pools index listed (with_desired n d t)
+desired_filed pools index listed t s n d = elim (get t.allocations n) as
+    (λ (o : Option Allocation). IsFiledTenant pools index listed
+    (option_map_or (λ a. record t { allocations = insert t.allocations n (record a { desired = d }) }) o t)) [ None ↦ s | Some a ↦ s ]
 
 -- ---- what is asked
 
@@ -87,20 +94,27 @@ module _ (w : World) (s : IsSound w) (ns : Name) (t : Tenant) (is : get w.tenant
       id_named = first_of_both _ _ (first_of_both _ _ few)
 
       pool_named : (o : Option Name) → r.pool ≡ o → is_pool_name (pool_of t r) ≡ true
-      pool_named None at = ap is_pool_name (ap (λ (o : Option Name). option_map_or (λ p. p) o t.namespace.default_pool) at) ∙ default_named t.namespace its.namespace.good
+      pool_named None at = ap is_pool_name (ap (λ (o : Option Name). option_map_or (λ p. p) o t.namespace.default_pool) at) ∙
+          default_named t.namespace its.namespace.good
       pool_named (Some p) at = ap is_pool_name (ap (λ (o : Option Name). option_map_or (λ p. p) o t.namespace.default_pool) at)
           ∙ ap (λ o. option_map_or is_pool_name o true) (sym at) ∙ second_of_both (is_name NameKind.Job r.id && is_between 1 100 r.priority) _ few
 
-      job_filed : contains_key w.pools (pool_of t r) ≡ true → (o : Option Job) → get t.jobs r.id ≡ o → IsFiledJob (pools_in w) (registered_job (t.index + 1) (document_of t r) o)
-      job_filed there None at = record { pool = pool_named r.pool refl; priority = second_of_both (is_name NameKind.Job r.id) _ (first_of_both _ _ few); exists = there }
-      job_filed there (Some j) at = elim (same_document (document_of t r) j.document && not j.stop) as (λ b. IsFiledJob (pools_in w) (cond b j (record { document = document_of t r; stop = false; version = j.version + 1; create_index = j.create_index; modify_index = t.index + 1 }))) [
+      job_filed : contains_key w.pools (pool_of t r) ≡ true → (o : Option Job) → get t.jobs r.id ≡ o →
+          IsFiledJob (pools_in w) (registered_job (t.index + 1) (document_of t r) o)
+      job_filed there None at = record { pool = pool_named r.pool refl; priority =
+          second_of_both (is_name NameKind.Job r.id) _ (first_of_both _ _ few); exists = there }
+      job_filed there (Some j) at = elim (same_document (document_of t r) j.document && not j.stop) as
+          (λ b. IsFiledJob (pools_in w) (cond b j
+          (record { document = document_of t r; stop = false; version = j.version + 1; create_index = j.create_index; modify_index = t.index + 1 }))) [
         | true ↦ its_filed.1 r.id j at
         | false ↦ record { pool = pool_named r.pool refl; priority = second_of_both (is_name NameKind.Job r.id) _ (first_of_both _ _ few); exists = there }
       ]
 
       by : (job : Job) → IsFiledJob (pools_in w) job → Keeps (registered_with ns r w t job)
-      by job f = make_in_filed (pools_in w) (index_in w) ns (evaluation_of r.id job.document Trigger.JobRegister) w (with_job r.id job t) filed (with_job_filed r.id job f)
-          (new_filed (pools_in w) t.evaluation_number (index_in w ns) r.id job.document.kind job.document.priority job.document.pool Trigger.JobRegister id_named f.priority f.pool f.exists) refl
+      by job f = make_in_filed (pools_in w) (index_in w) ns (evaluation_of r.id job.document Trigger.JobRegister) w (with_job r.id job t) filed
+          (with_job_filed r.id job f)
+          (new_filed (pools_in w) t.evaluation_number (index_in w ns) r.id job.document.kind job.document.priority job.document.pool Trigger.JobRegister
+              id_named f.priority f.pool f.exists) refl
 
   -- ---- deregistration
 
@@ -109,12 +123,17 @@ module _ (w : World) (s : IsSound w) (ns : Name) (t : Tenant) (is : get w.tenant
     where
       by : (job : Job) → get t.jobs id ≡ Some job → (purge : Bool) → Keeps (deregister_job ns id purge w t job)
       by job at true = let f = its_filed.1 id job at in
-          make_in_filed (pools_in w) (index_in w) ns (evaluation_of id job.document Trigger.JobDeregister) w (deregistered true id job t) filed (its_filed.0, (λ k x x_at. its_filed.1 k x (row_of_remove t.jobs id k x x_at)), its_filed.2)
-          (new_filed (pools_in w) t.evaluation_number (index_in w ns) id job.document.kind job.document.priority job.document.pool Trigger.JobDeregister (its.job id job at).named f.priority f.pool f.exists) refl
+          make_in_filed (pools_in w) (index_in w) ns (evaluation_of id job.document Trigger.JobDeregister) w (deregistered true id job t) filed
+              (its_filed.0, (λ k x x_at. its_filed.1 k x (row_of_remove t.jobs id k x x_at)), its_filed.2)
+          (new_filed (pools_in w) t.evaluation_number (index_in w ns) id job.document.kind job.document.priority job.document.pool Trigger.JobDeregister
+              (its.job id job at).named f.priority f.pool f.exists) refl
       by job at false = let f = its_filed.1 id job at in
           make_in_filed (pools_in w) (index_in w) ns (evaluation_of id job.document Trigger.JobDeregister) w (deregistered false id job t) filed
-          (with_job_filed id (stopped_job (t.index + 1) job) (elim job.stop as (λ b. IsFiledJob (pools_in w) (cond b job (record job { stop = true; modify_index = t.index + 1 }))) [ true ↦ f | false ↦ record { pool = f.pool; priority = f.priority; exists = f.exists } ]))
-          (new_filed (pools_in w) t.evaluation_number (index_in w ns) id job.document.kind job.document.priority job.document.pool Trigger.JobDeregister (its.job id job at).named f.priority f.pool f.exists) refl
+          (with_job_filed id (stopped_job (t.index + 1) job)
+              (elim job.stop as (λ b. IsFiledJob (pools_in w) (cond b job (record job { stop = true; modify_index = t.index + 1 })))
+              [ true ↦ f | false ↦ record { pool = f.pool; priority = f.priority; exists = f.exists } ]))
+          (new_filed (pools_in w) t.evaluation_number (index_in w ns) id job.document.kind job.document.priority job.document.pool Trigger.JobDeregister
+              (its.job id job at).named f.priority f.pool f.exists) refl
 
   -- ---- stopping an allocation
 
@@ -123,8 +142,10 @@ module _ (w : World) (s : IsSound w) (ns : Name) (t : Tenant) (is : get w.tenant
       let cause = cause_of w s ns t is n a at (on (is_live a) live) in
       subst (λ x. IsFiled (pools_in w) (index_in w) (make_in ns (evaluation_for t a Trigger.AllocStop) w x))
       (sym (ap (λ o. option_map_or (λ a. record t { allocations = insert t.allocations n (record a { desired = DesiredStatus.Stop }) }) o t) at))
-      (make_in_filed (pools_in w) (index_in w) ns (evaluation_for t a Trigger.AllocStop) w (record t { allocations = insert t.allocations n (record a { desired = DesiredStatus.Stop }) }) filed its_filed
-      (filed_for (pools_in w) (index_in w ns) listed t its_filed a Trigger.AllocStop cause) (unblocked_for (pools_in w) (index_in w ns) listed t its_filed a Trigger.AllocStop))))
+      (make_in_filed (pools_in w) (index_in w) ns (evaluation_for t a Trigger.AllocStop) w
+          (record t { allocations = insert t.allocations n (record a { desired = DesiredStatus.Stop }) }) filed its_filed
+      (filed_for (pools_in w) (index_in w ns) listed t its_filed a Trigger.AllocStop cause)
+          (unblocked_for (pools_in w) (index_in w ns) listed t its_filed a Trigger.AllocStop))))
 
   -- ---- all that is asked
 
@@ -141,9 +162,11 @@ module _ (w : World) (s : IsSound w) (ns : Name) (t : Tenant) (is : get w.tenant
   asked_filed (AskCommand.ReadAllocation n) good = leads_found _ (get t.allocations n) _ (λ a _. filed)
   asked_filed (AskCommand.StopAllocation n) good = stop_filed n
   asked_filed AskCommand.ReadNamespace good = filed
-  asked_filed (AskCommand.QuotaUsage quota) good = leads_if _ (names_quota quota t.namespace) (Done (Content.Usage quota (quota_use w quota)) w) (Refused Refusal.NotFound) (λ _. filed) (λ _. tt)
+  asked_filed (AskCommand.QuotaUsage quota) good = leads_if _ (names_quota quota t.namespace) (Done (Content.Usage quota (quota_use w quota)) w)
+      (Refused Refusal.NotFound) (λ _. filed) (λ _. tt)
   asked_filed (AskCommand.Events index) good = filed
 
-pub ask_filed : (w : World) → IsSound w → (ns : Name) (command : AskCommand) → is_good_ask command ≡ true → Leads (IsFiled (pools_in w) (index_in w)) (ask ns command w)
+pub ask_filed : (w : World) → IsSound w → (ns : Name) (command : AskCommand) → is_good_ask command ≡ true →
+    Leads (IsFiled (pools_in w) (index_in w)) (ask ns command w)
 unfolding ask
 ask_filed w s ns command good = leads_found _ (get w.tenants ns) (asked_in ns command w) (λ t is. asked_filed w s ns t is command good)

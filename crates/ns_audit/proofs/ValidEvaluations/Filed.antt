@@ -41,7 +41,8 @@ pub record IsFiledEvaluation (pools : Name → Bool) (last index : ℕ) (e : Eva
   pub created : e.create_index ≤ index
   pub modified : e.modify_index ≤ index
 
-pub grown_evaluation : (pools : Name → Bool) (last index : ℕ) (e : Evaluation) → IsFiledEvaluation pools last index e → IsFiledEvaluation pools (last + 1) index e
+pub grown_evaluation : (pools : Name → Bool) (last index : ℕ) (e : Evaluation) → IsFiledEvaluation pools last index e →
+    IsFiledEvaluation pools (last + 1) index e
 grown_evaluation pools last index e f = record {
   named = f.named;
   priority = f.priority;
@@ -60,23 +61,28 @@ grown_evaluation pools last index e f = record {
 pub record IsFiledRows (pools : Name → Bool) (last index : ℕ) (listed : ℕ → Bool) (rows : ByNumber Evaluation) : Type 0 where
   pub row : (n : ℕ) (e : Evaluation) → get rows n ≡ Some e → IsFiledEvaluation pools last index e
   pub in_list : (n : ℕ) (e : Evaluation) → get rows n ≡ Some e → is_blocked e.status ≡ true → listed n ≡ true
-  pub one : (m n : ℕ) (d e : Evaluation) → get rows m ≡ Some d → get rows n ≡ Some e → is_blocked d.status ≡ true → is_blocked e.status ≡ true → d.job ≡ e.job → m ≡ n
+  pub one : (m n : ℕ) (d e : Evaluation) → get rows m ≡ Some d → get rows n ≡ Some e → is_blocked d.status ≡ true → is_blocked e.status ≡ true → d.job ≡ e.job →
+      m ≡ n
 
 -- a blocked one is listed, and no other of its job is blocked
 pub record IsOnlyOne (listed : ℕ → Bool) (rows : ByNumber Evaluation) (n : ℕ) (e : Evaluation) : Type 0 where
   pub in_list : listed n ≡ true
   pub one : (m : ℕ) (d : Evaluation) → get rows m ≡ Some d → is_blocked d.status ≡ true → d.job ≡ e.job → m ≡ n
 
-pub grown_rows : (pools : Name → Bool) (last index : ℕ) (listed : ℕ → Bool) (rows : ByNumber Evaluation) → IsFiledRows pools last index listed rows → IsFiledRows pools (last + 1) index listed rows
+pub grown_rows : (pools : Name → Bool) (last index : ℕ) (listed : ℕ → Bool) (rows : ByNumber Evaluation) → IsFiledRows pools last index listed rows →
+    IsFiledRows pools (last + 1) index listed rows
 grown_rows pools last index listed rows s = record { row = λ n e at. grown_evaluation pools last index e (s.row n e at); in_list = s.in_list; one = s.one }
 
 pub relisted_rows : (pools : Name → Bool) (last index : ℕ) (listed listed' : ℕ → Bool) (rows : ByNumber Evaluation) → IsFiledRows pools last index listed rows
-    → ((n : ℕ) (e : Evaluation) → get rows n ≡ Some e → is_blocked e.status ≡ true → listed n ≡ true → listed' n ≡ true) → IsFiledRows pools last index listed' rows
-relisted_rows pools last index listed listed' rows s h = record { row = s.row; in_list = λ n e at blocked. h n e at blocked (s.in_list n e at blocked); one = s.one }
+    → ((n : ℕ) (e : Evaluation) → get rows n ≡ Some e → is_blocked e.status ≡ true → listed n ≡ true → listed' n ≡ true) →
+        IsFiledRows pools last index listed' rows
+relisted_rows pools last index listed listed' rows s h =
+    record { row = s.row; in_list = λ n e at blocked. h n e at blocked (s.in_list n e at blocked); one = s.one }
 
 -- a row is put
 pub put_rows : (pools : Name → Bool) (last index : ℕ) (listed : ℕ → Bool) (rows : ByNumber Evaluation) → IsFiledRows pools last index listed rows
-    → (n : ℕ) (new : Evaluation) → IsFiledEvaluation pools last index new → (is_blocked new.status ≡ true → IsOnlyOne listed rows n new) → IsFiledRows pools last index listed (insert rows n new)
+    → (n : ℕ) (new : Evaluation) → IsFiledEvaluation pools last index new → (is_blocked new.status ≡ true → IsOnlyOne listed rows n new) →
+        IsFiledRows pools last index listed (insert rows n new)
 put_rows pools last index listed rows s n new f only = record {
   row = λ k e at. by_row k e (came k e at);
   in_list = λ k e at. by_list k e (came k e at);
@@ -97,30 +103,36 @@ put_rows pools last index listed rows s n new f only = record {
     by_one : (j k : ℕ) (d e : Evaluation) → ((j ≡ n) × (new ≡ d)) ⊎ (get rows j ≡ Some d) → ((k ≡ n) × (new ≡ e)) ⊎ (get rows k ≡ Some e)
         → is_blocked d.status ≡ true → is_blocked e.status ≡ true → d.job ≡ e.job → j ≡ k
     by_one j k d e (inl a) (inl b) p q same = a.0 ∙ sym b.0
-    by_one j k d e (inl a) (inr b) p q same = a.0 ∙ sym ((only (ap (λ (x : Evaluation). is_blocked x.status) a.1 ∙ p)).one k e b q (sym same ∙ sym (ap (λ (x : Evaluation). x.job) a.1)))
-    by_one j k d e (inr a) (inl b) p q same = (only (ap (λ (x : Evaluation). is_blocked x.status) b.1 ∙ q)).one j d a p (same ∙ sym (ap (λ (x : Evaluation). x.job) b.1)) ∙ sym b.0
+    by_one j k d e (inl a) (inr b) p q same = a.0 ∙
+        sym ((only (ap (λ (x : Evaluation). is_blocked x.status) a.1 ∙ p)).one k e b q (sym same ∙ sym (ap (λ (x : Evaluation). x.job) a.1)))
+    by_one j k d e (inr a) (inl b) p q same = (only (ap (λ (x : Evaluation). is_blocked x.status) b.1 ∙ q)).one j d a p
+        (same ∙ sym (ap (λ (x : Evaluation). x.job) b.1)) ∙ sym b.0
     by_one j k d e (inr a) (inr b) p q same = s.one j k d e a b p q same
 
 -- in the place of one with its job and its status
 pub replaced_rows : (pools : Name → Bool) (last index : ℕ) (listed : ℕ → Bool) (rows : ByNumber Evaluation) → IsFiledRows pools last index listed rows
-    → (n : ℕ) (old new : Evaluation) → get rows n ≡ Some old → new.status ≡ old.status → new.job ≡ old.job → IsFiledEvaluation pools last index new → IsFiledRows pools last index listed (insert rows n new)
+    → (n : ℕ) (old new : Evaluation) → get rows n ≡ Some old → new.status ≡ old.status → new.job ≡ old.job → IsFiledEvaluation pools last index new →
+        IsFiledRows pools last index listed (insert rows n new)
 replaced_rows pools last index listed rows s n old new at status job f = put_rows pools last index listed rows s n new f (λ blocked.
     let was = ap is_blocked (sym status) ∙ blocked in
     record { in_list = s.in_list n old at was; one = λ m d d_at d_blocked same. s.one m n d old d_at at d_blocked was (same ∙ job) })
 
 -- each row is changed
-pub mapped_rows : (pools : Name → Bool) (last index index' : ℕ) (listed listed' : ℕ → Bool) (rows : ByNumber Evaluation) (f : ℕ → Evaluation → Evaluation) → IsFiledRows pools last index listed rows
+pub mapped_rows : (pools : Name → Bool) (last index index' : ℕ) (listed listed' : ℕ → Bool) (rows : ByNumber Evaluation) (f : ℕ → Evaluation → Evaluation) →
+    IsFiledRows pools last index listed rows
     → ((n : ℕ) (e : Evaluation) → get rows n ≡ Some e → IsFiledEvaluation pools last index' (f n e))
     → ((n : ℕ) (e : Evaluation) → get rows n ≡ Some e → (f n e).job ≡ e.job)
     → ((n : ℕ) (e : Evaluation) → get rows n ≡ Some e → is_blocked (f n e).status ≡ true → (is_blocked e.status ≡ true) × (listed n ≡ true → listed' n ≡ true))
     → IsFiledRows pools last index' listed' (map_rows f rows)
 mapped_rows pools last index index' listed listed' rows f s row job status = record {
   row = λ n e at. let y = was n e at in subst (IsFiledEvaluation pools last index') y.2 (row n y.0 y.1);
-  in_list = λ n e at blocked. let y = was n e at in let z = status n y.0 y.1 (ap (λ (x : Evaluation). is_blocked x.status) y.2 ∙ blocked) in z.1 (s.in_list n y.0 y.1 z.0);
+  in_list = λ n e at blocked. let y = was n e at in let z = status n y.0 y.1 (ap (λ (x : Evaluation). is_blocked x.status) y.2 ∙ blocked) in
+      z.1 (s.in_list n y.0 y.1 z.0);
   one = λ m n d e a b p q same.
       let y = was m d a in
       let z = was n e b in
-      s.one m n y.0 z.0 y.1 z.1 (status m y.0 y.1 (ap (λ (x : Evaluation). is_blocked x.status) y.2 ∙ p)).0 (status n z.0 z.1 (ap (λ (x : Evaluation). is_blocked x.status) z.2 ∙ q)).0
+      s.one m n y.0 z.0 y.1 z.1 (status m y.0 y.1 (ap (λ (x : Evaluation). is_blocked x.status) y.2 ∙ p)).0
+          (status n z.0 z.1 (ap (λ (x : Evaluation). is_blocked x.status) z.2 ∙ q)).0
       (sym (job m y.0 y.1) ∙ ap (λ (x : Evaluation). x.job) y.2 ∙ same ∙ sym (ap (λ (x : Evaluation). x.job) z.2) ∙ job n z.0 z.1);
 }
   where
@@ -158,19 +170,24 @@ module _ (pools : Name → Bool) (index : Name → ℕ) where
   pub beside : (ns : Name) (w : World) → IsFiled pools index w → IsFiledBeside pools index ns w
   beside ns w s = record { known = s.known; tenant = λ k t _ is. s.tenant k t is; once = s.once }
 
-  pub put_beside : (ns : Name) (t' : Tenant) (w : World) → IsFiledBeside pools index ns w → IsFiledTenant pools (index ns) (λ n. has_key w.blocked (ns, n)) t' → IsFiled pools index (put_tenant ns t' w)
-  put_beside ns t' w s filed = record { known = s.known; tenant = λ k x at. by k x (eq_by_cmp name_cmp k ns) refl (sym (get-insert names w.tenants ns t' k) ∙ at); once = s.once }
+  pub put_beside : (ns : Name) (t' : Tenant) (w : World) → IsFiledBeside pools index ns w → IsFiledTenant pools (index ns) (λ n. has_key w.blocked (ns, n)) t' →
+      IsFiled pools index (put_tenant ns t' w)
+  put_beside ns t' w s filed = record { known = s.known; tenant =
+      λ k x at. by k x (eq_by_cmp name_cmp k ns) refl (sym (get-insert names w.tenants ns t' k) ∙ at); once = s.once }
     where
-      by : (k : Name) (x : Tenant) (b : Bool) → eq_by_cmp name_cmp k ns ≡ b → cond b (Some t') (get w.tenants k) ≡ Some x → IsFiledTenant pools (index k) (λ n. has_key w.blocked (k, n)) x
+      by : (k : Name) (x : Tenant) (b : Bool) → eq_by_cmp name_cmp k ns ≡ b → cond b (Some t') (get w.tenants k) ≡ Some x →
+          IsFiledTenant pools (index k) (λ n. has_key w.blocked (k, n)) x
       by k x true same at = subst (λ k. IsFiledTenant pools (index k) (λ n. has_key w.blocked (k, n)) x) (sym (same_name_is k ns same))
           (subst (IsFiledTenant pools (index ns) (λ n. has_key w.blocked (ns, n))) (same_Some t' x at) filed)
       by k x false other at = s.tenant k x (λ e. not_both (ap (λ j. same_name j ns) e ∙ same_name_refl ns) other) at
 
-  pub put_filed : (ns : Name) (t' : Tenant) (w : World) → IsFiled pools index w → IsFiledTenant pools (index ns) (λ n. has_key w.blocked (ns, n)) t' → IsFiled pools index (put_tenant ns t' w)
+  pub put_filed : (ns : Name) (t' : Tenant) (w : World) → IsFiled pools index w → IsFiledTenant pools (index ns) (λ n. has_key w.blocked (ns, n)) t' →
+      IsFiled pools index (put_tenant ns t' w)
   put_filed ns t' w s filed = put_beside ns t' w (beside ns w s) filed
 
   pub change_filed : (ns : Name) (f : Tenant → Tenant) (w : World) → IsFiled pools index w
-      → ((t : Tenant) → IsFiledTenant pools (index ns) (λ n. has_key w.blocked (ns, n)) t → IsFiledTenant pools (index ns) (λ n. has_key w.blocked (ns, n)) (f t)) → IsFiled pools index (change_tenant ns f w)
+      → ((t : Tenant) → IsFiledTenant pools (index ns) (λ n. has_key w.blocked (ns, n)) t →
+          IsFiledTenant pools (index ns) (λ n. has_key w.blocked (ns, n)) (f t)) → IsFiled pools index (change_tenant ns f w)
   change_filed ns f w s keeps = by (get w.tenants ns) refl
     where
       by : (o : Option Tenant) → get w.tenants ns ≡ o → IsFiled pools index (option_map_or (λ t. put_tenant ns (f t) w) o w)
@@ -178,11 +195,13 @@ module _ (pools : Name → Bool) (index : Name → ℕ) where
       by (Some t) is = put_filed ns (f t) w s (keeps t (s.tenant ns t is))
 
   pub map_filed : (f : Name → Tenant → Tenant) (w : World) → IsFiled pools index w
-      → ((ns : Name) (t : Tenant) → get w.tenants ns ≡ Some t → IsFiledTenant pools (index ns) (λ n. has_key w.blocked (ns, n)) (f ns t)) → IsFiled pools index (record w { tenants = map_rows f w.tenants })
+      → ((ns : Name) (t : Tenant) → get w.tenants ns ≡ Some t → IsFiledTenant pools (index ns) (λ n. has_key w.blocked (ns, n)) (f ns t)) →
+          IsFiled pools index (record w { tenants = map_rows f w.tenants })
   map_filed f w s keeps = record {
     known = s.known;
     once = s.once;
-    tenant = λ ns t is. let y = row_of_map names one_name f w.tenants ns t is in subst (IsFiledTenant pools (index ns) (λ n. has_key w.blocked (ns, n))) y.2 (keeps ns y.0 y.1);
+    tenant = λ ns t is. let y = row_of_map names one_name f w.tenants ns t is in
+        subst (IsFiledTenant pools (index ns) (λ n. has_key w.blocked (ns, n))) y.2 (keeps ns y.0 y.1);
   }
 
   -- ---- what no evaluation speaks of
@@ -191,7 +210,8 @@ module _ (pools : Name → Bool) (index : Name → ℕ) where
   lists_filed w ready plans s = record { known = s.known; tenant = s.tenant; once = s.once }
 
   pub put_pool_filed : (pool : Name) (p : PoolRows) (w : World) → IsFiled pools index w → IsFiled pools index (put_pool pool p w)
-  put_pool_filed pool p w s = record { tenant = s.tenant; once = s.once; known = λ name passes. ap is_some (get-insert names w.pools pool p name) ∙ by name (eq_by_cmp name_cmp name pool) (s.known name passes) }
+  put_pool_filed pool p w s = record { tenant = s.tenant; once = s.once; known = λ name passes. ap is_some (get-insert names w.pools pool p name) ∙
+      by name (eq_by_cmp name_cmp name pool) (s.known name passes) }
     where
       by : (name : Name) (b : Bool) → contains_key w.pools name ≡ true → is_some (cond b (Some p) (get w.pools name)) ≡ true
       by name true has = refl
@@ -203,7 +223,8 @@ module _ (pools : Name → Bool) (index : Name → ℕ) where
     where
       by : (e : Option Evaluation) → IsFiled pools index (option_map_or (λ e. cond (is_busy w key.0 e.job) w (record w { ready = w.ready ++ key ∷ [] })) e w)
       by None = s
-      by (Some e) = elim (is_busy w key.0 e.job) as (λ b. IsFiled pools index (cond b w (record w { ready = w.ready ++ key ∷ [] }))) [ true ↦ s | false ↦ lists_filed w (w.ready ++ key ∷ []) w.plans s ]
+      by (Some e) = elim (is_busy w key.0 e.job) as (λ b. IsFiled pools index (cond b w (record w { ready = w.ready ++ key ∷ [] })))
+          [ true ↦ s | false ↦ lists_filed w (w.ready ++ key ∷ []) w.plans s ]
 
 -- ---- new evaluations
 
@@ -216,7 +237,8 @@ at_least_zero n = omega arith
 pub zero_below : 0 < most_nacks
 zero_below = omega arith
 
-pub new_filed : (pools : Name → Bool) (last index : ℕ) (job : Name) (kind : JobKind) (priority : ℕ) (pool : Name) (trigger : Trigger) → is_name NameKind.Job job ≡ true → is_between 1 100 priority ≡ true → is_pool_name pool ≡ true → pools pool ≡ true
+pub new_filed : (pools : Name → Bool) (last index : ℕ) (job : Name) (kind : JobKind) (priority : ℕ) (pool : Name) (trigger : Trigger) →
+    is_name NameKind.Job job ≡ true → is_between 1 100 priority ≡ true → is_pool_name pool ≡ true → pools pool ≡ true
     → IsFiledEvaluation pools last index (new_evaluation job kind priority pool trigger)
 new_filed pools last index job kind priority pool trigger named between pool_named there = record {
   named = λ i. named i && pool_named i;
@@ -238,9 +260,11 @@ pub record IsCause (pools : Name → Bool) (a : Allocation) : Type 0 where
   pub exists : pools a.pool ≡ true
 
 module _ (pools : Name → Bool) (index : ℕ) (listed : ℕ → Bool) (t : Tenant) (s : IsFiledTenant pools index listed t) where
-  pub with_evaluation_filed : (e : Evaluation) → IsFiledEvaluation pools t.evaluation_number index e → is_blocked e.status ≡ false → IsFiledTenant pools index listed (with_evaluation e t)
+  pub with_evaluation_filed : (e : Evaluation) → IsFiledEvaluation pools t.evaluation_number index e → is_blocked e.status ≡ false →
+      IsFiledTenant pools index listed (with_evaluation e t)
   with_evaluation_filed e f unblocked = (
-    put_rows pools (t.evaluation_number + 1) index listed t.evaluations (grown_rows pools t.evaluation_number index listed t.evaluations s.0) (t.evaluation_number + 1) e (grown_evaluation pools t.evaluation_number index e f)
+    put_rows pools (t.evaluation_number + 1) index listed t.evaluations (grown_rows pools t.evaluation_number index listed t.evaluations s.0)
+        (t.evaluation_number + 1) e (grown_evaluation pools t.evaluation_number index e f)
         (λ blocked. not_both blocked unblocked),
     s.1,
     s.2,
@@ -248,30 +272,41 @@ module _ (pools : Name → Bool) (index : ℕ) (listed : ℕ → Bool) (t : Tena
 
   module _ (a : Allocation) (trigger : Trigger) where
     pub unblocked_for : is_blocked (evaluation_for t a trigger).status ≡ false
-    unblocked_for = elim (get t.jobs a.job) as (λ (o : Option Job). is_blocked (option_map_or (λ (job : Job). evaluation_of a.job job.document trigger) o (new_evaluation a.job JobKind.Service a.priority a.pool trigger)).status ≡ false) [ None ↦ refl | Some j ↦ refl ]
+    unblocked_for = elim (get t.jobs a.job) as (λ (o : Option Job). is_blocked
+        (option_map_or (λ (job : Job). evaluation_of a.job job.document trigger) o (new_evaluation a.job JobKind.Service a.priority a.pool trigger)).status
+        ≡ false) [ None ↦ refl | Some j ↦ refl ]
 
     pub filed_for : IsCause pools a → IsFiledEvaluation pools t.evaluation_number index (evaluation_for t a trigger)
     filed_for cause = by (get t.jobs a.job) refl
       where
-        by : (o : Option Job) → get t.jobs a.job ≡ o → IsFiledEvaluation pools t.evaluation_number index (option_map_or (λ (job : Job). evaluation_of a.job job.document trigger) o (new_evaluation a.job JobKind.Service a.priority a.pool trigger))
-        by None at = new_filed pools t.evaluation_number index a.job JobKind.Service a.priority a.pool trigger cause.named cause.priority cause.pool cause.exists
-        by (Some j) at = let f = s.1 a.job j at in new_filed pools t.evaluation_number index a.job j.document.kind j.document.priority j.document.pool trigger cause.named f.priority f.pool f.exists
+        by : (o : Option Job) → get t.jobs a.job ≡ o →
+            IsFiledEvaluation pools t.evaluation_number index
+            (option_map_or (λ (job : Job). evaluation_of a.job job.document trigger) o (new_evaluation a.job JobKind.Service a.priority a.pool trigger))
+        by None at = new_filed pools t.evaluation_number index a.job JobKind.Service a.priority a.pool trigger cause.named cause.priority cause.pool
+            cause.exists
+        by (Some j) at = let f = s.1 a.job j at in
+            new_filed pools t.evaluation_number index a.job j.document.kind j.document.priority j.document.pool trigger cause.named f.priority f.pool f.exists
 
 module _ (pools : Name → Bool) (index : Name → ℕ) where
-  pub make_in_filed : (ns : Name) (e : Evaluation) (w : World) (t : Tenant) → IsFiled pools index w → IsFiledTenant pools (index ns) (λ n. has_key w.blocked (ns, n)) t
+  pub make_in_filed : (ns : Name) (e : Evaluation) (w : World) (t : Tenant) → IsFiled pools index w →
+      IsFiledTenant pools (index ns) (λ n. has_key w.blocked (ns, n)) t
       → IsFiledEvaluation pools t.evaluation_number (index ns) e → is_blocked e.status ≡ false → IsFiled pools index (make_in ns e w t)
   make_in_filed ns e w t s filed f unblocked = queue_filed pools index (put_tenant ns (with_evaluation e t) w) (ns, t.evaluation_number + 1)
       (put_filed pools index ns (with_evaluation e t) w s (with_evaluation_filed pools (index ns) (λ n. has_key w.blocked (ns, n)) t filed e f unblocked))
 
-  pub make_filed : (ns : Name) (a : Allocation) (trigger : Trigger) (w : World) → IsFiled pools index w → IsCause pools a → IsFiled pools index (make ns (λ t. evaluation_for t a trigger) w)
+  pub make_filed : (ns : Name) (a : Allocation) (trigger : Trigger) (w : World) → IsFiled pools index w → IsCause pools a →
+      IsFiled pools index (make ns (λ t. evaluation_for t a trigger) w)
   make_filed ns a trigger w s cause = by (get w.tenants ns) refl
     where
       by : (o : Option Tenant) → get w.tenants ns ≡ o → IsFiled pools index (option_map_or (λ t. make_in ns (evaluation_for t a trigger) w t) o w)
       by None is = s
       by (Some t) is = let r = s.tenant ns t is in make_in_filed ns (evaluation_for t a trigger) w t s r
-          (filed_for pools (index ns) (λ n. has_key w.blocked (ns, n)) t r a trigger cause) (unblocked_for pools (index ns) (λ n. has_key w.blocked (ns, n)) t r a trigger)
+          (filed_for pools (index ns) (λ n. has_key w.blocked (ns, n)) t r a trigger cause)
+              (unblocked_for pools (index ns) (λ n. has_key w.blocked (ns, n)) t r a trigger)
 
-  pub makes_filed : {A : Type 0} (ns_of : A → Name) (row_of : A → Allocation) (trigger : Trigger) (xs : List A) (w : World) → IsFiled pools index w → Each (λ x. IsCause pools (row_of x)) xs
+  pub makes_filed : {A : Type 0} (ns_of : A → Name) (row_of : A → Allocation) (trigger : Trigger) (xs : List A) (w : World) → IsFiled pools index w →
+      Each (λ x. IsCause pools (row_of x)) xs
       → IsFiled pools index (fold (λ y x. make (ns_of x) (λ t. evaluation_for t (row_of x) trigger) y) w xs)
   makes_filed ns_of row_of trigger [] w s each = s
-  makes_filed ns_of row_of trigger (x ∷ xs) w s each = makes_filed ns_of row_of trigger xs (make (ns_of x) (λ t. evaluation_for t (row_of x) trigger) w) (make_filed (ns_of x) (row_of x) trigger w s each.0) each.1
+  makes_filed ns_of row_of trigger (x ∷ xs) w s each = makes_filed ns_of row_of trigger xs (make (ns_of x) (λ t. evaluation_for t (row_of x) trigger) w)
+      (make_filed (ns_of x) (row_of x) trigger w s each.0) each.1

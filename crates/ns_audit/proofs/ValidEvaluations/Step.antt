@@ -62,7 +62,8 @@ module _ (s : State) (valid : IsValid s) (step : Step) (s' : State) (answer : An
       y : State
       y = record x { world = settle s.world x.world }
 
-      by : (b : Bool) → cond b (said (Err Refusal.Full) s) (said (Ok (reply_of step content (settle s.world x.world))) y) ≡ said answer s' → IsSoundInEvaluations s'.world
+      by : (b : Bool) → cond b (said (Err Refusal.Full) s) (said (Ok (reply_of step content (settle s.world x.world))) y) ≡ said answer s' →
+          IsSoundInEvaluations s'.world
       by true e = subst (λ (x : State). IsSoundInEvaluations x.world) (ap (λ x. x.1) (same_Some _ _ e)) unchanged
       by false e = subst (λ (x : State). IsSoundInEvaluations x.world) (ap (λ x. x.1) (same_Some _ _ e))
           (filed_sound f.0 (settle s.world x.world) (settle_filed f.0 s.world x.world valid.world h f.1) (settle_orderly s.world x.world h))
@@ -84,7 +85,8 @@ opening_filed : IsFiled (λ _. false) (index_in opening_world) opening_world
 opening_filed = record {
   known = λ name never. not_both never refl;
   once = tt;
-  tenant = λ ns t is. subst (λ i. IsFiledTenant (λ _. false) i (λ n. has_key opening_world.blocked (ns, n)) t) (sym (ap (λ o. option_map_or (λ (t : Tenant). t.index) o 0) is))
+  tenant = λ ns t is. subst (λ i. IsFiledTenant (λ _. false) i (λ n. has_key opening_world.blocked (ns, n)) t)
+      (sym (ap (λ o. option_map_or (λ (t : Tenant). t.index) o 0) is))
       (subst (λ (t : Tenant). IsFiledTenant (λ _. false) t.index (λ n. has_key opening_world.blocked (ns, n)) t) (only_row default_name opening_tenant ns t is)
       (new_tenant_filed (λ _. false) (λ n. has_key opening_world.blocked (ns, n)) opening_tenant.namespace));
 }

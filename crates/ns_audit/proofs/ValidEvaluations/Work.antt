@@ -17,7 +17,11 @@ use Rattle.ns_types.specs.Working.Queue.{is_busy, first_waiting, promote, is_ser
 use Rattle.ns_types.specs.State.Rows.{World, Tenant, is_open}
 use Rattle.ns_types.specs.Working.Snapshot.{snapshot_of}
 use Rattle.ns_types.specs.Validity.{IsSound}
-use Rattle.ns_types.specs.Working.Work.{with_worker, without_worker, without_key, at_work, workers_end, is_idle, new_worker, dequeue_in, dequeue, may_snap, with_snapshot, snap_for, snap, may_submit, submitted, submit_for, submit, is_submitted, most_nacks, with_nack, given_back, given_up, nack_for, nack}
+use Rattle.ns_types.specs.Working.Work.{
+    with_worker, without_worker, without_key, at_work, workers_end, is_idle, new_worker, dequeue_in, dequeue, may_snap,
+    with_snapshot, snap_for, snap, may_submit, submitted, submit_for, submit, is_submitted, most_nacks, with_nack,
+    given_back, given_up, nack_for, nack
+}
 use Rattle.ns_types.proofs.Lists.{not_both}
 use Rattle.ns_types.proofs.Named.{numbers as numbers_, one_number, same_number_refl}
 use Rattle.ns_audit.proofs.Alone.Chosen.{same_Some}
@@ -31,16 +35,22 @@ use Rattle.ns_audit.proofs.ValidEvaluations.Settle.{index_in, pools_in, sound_fi
 
 module _ (P : World → Type 0) (w : World) (number : ℕ) (ns : Name) where
   pub holds_at_work : (act : Tenant → Worker → Evaluation → Outcome World)
-      → ((t : Tenant) (worker : Worker) (e : Evaluation) → get w.tenants ns ≡ Some t → get t.workers number ≡ Some worker → get t.evaluations worker.evaluation ≡ Some e → Leads P (act t worker e)) → Leads P (at_work number ns w act)
-  holds_at_work act h = leads_there P (get w.tenants ns) _ (λ t is. leads_there P (get t.workers number) _ (λ worker at. leads_there P (get t.evaluations worker.evaluation) (act t worker) (λ e row. h t worker e is at row)))
+      → ((t : Tenant) (worker : Worker) (e : Evaluation) → get w.tenants ns ≡ Some t → get t.workers number ≡ Some worker →
+          get t.evaluations worker.evaluation ≡ Some e → Leads P (act t worker e)) → Leads P (at_work number ns w act)
+  holds_at_work act h = leads_there P (get w.tenants ns) _
+      (λ t is. leads_there P (get t.workers number) _
+      (λ worker at. leads_there P (get t.evaluations worker.evaluation) (act t worker) (λ e row. h t worker e is at row)))
 
   pub holds_keeping : (act : Tenant → Worker → Evaluation → Snapshot → Outcome World)
-      → ((t : Tenant) (worker : Worker) (e : Evaluation) (kept : Snapshot) → get w.tenants ns ≡ Some t → get t.workers number ≡ Some worker → get t.evaluations worker.evaluation ≡ Some e → worker.kept ≡ Some kept → Leads P (act t worker e kept))
+      → ((t : Tenant) (worker : Worker) (e : Evaluation) (kept : Snapshot) → get w.tenants ns ≡ Some t → get t.workers number ≡ Some worker →
+          get t.evaluations worker.evaluation ≡ Some e → worker.kept ≡ Some kept → Leads P (act t worker e kept))
       → Leads P (at_work number ns w (λ t worker e. option_map_or (act t worker e) worker.kept NotEnabled))
-  holds_keeping act h = holds_at_work (λ t worker e. option_map_or (act t worker e) worker.kept NotEnabled) (λ t worker e is at row. leads_there P worker.kept (act t worker e) (λ kept has. h t worker e kept is at row has))
+  holds_keeping act h = holds_at_work (λ t worker e. option_map_or (act t worker e) worker.kept NotEnabled)
+      (λ t worker e is at row. leads_there P worker.kept (act t worker e) (λ kept has. h t worker e kept is at row has))
 
 -- a worker's evaluation is pending
-pub held_pending : (w : World) → IsSound w → (ns : Name) (t : Tenant) → get w.tenants ns ≡ Some t → (number : ℕ) (worker : Worker) → get t.workers number ≡ Some worker → (e : Evaluation) → get t.evaluations worker.evaluation ≡ Some e → e.status ≡ Status.Pending
+pub held_pending : (w : World) → IsSound w → (ns : Name) (t : Tenant) → get w.tenants ns ≡ Some t → (number : ℕ) (worker : Worker) →
+    get t.workers number ≡ Some worker → (e : Evaluation) → get t.evaluations worker.evaluation ≡ Some e → e.status ≡ Status.Pending
 held_pending w s ns t is number worker has e at =
     let r = (s.tenant ns t is).worker number worker has in
     ap (λ (e : Evaluation). e.status) (same_Some _ _ (sym at ∙ r.is_row)) ∙ pending_is r.row.status r.pending
@@ -54,11 +64,13 @@ promote_filed pools index ns job w s = by (is_busy w ns job)
     first None = s
     first (Some n) = lists_filed pools index w (w.ready ++ (ns, n) ∷ []) w.plans s
 
-    in_tenant : (o : Option Tenant) → IsFiled pools index (option_map_or (λ t. option_map_or (λ n. record w { ready = w.ready ++ (ns, n) ∷ [] }) (first_waiting job t) w) o w)
+    in_tenant : (o : Option Tenant) → IsFiled pools index
+        (option_map_or (λ t. option_map_or (λ n. record w { ready = w.ready ++ (ns, n) ∷ [] }) (first_waiting job t) w) o w)
     in_tenant None = s
     in_tenant (Some t) = first (first_waiting job t)
 
-    by : (b : Bool) → IsFiled pools index (cond b w (option_map_or (λ t. option_map_or (λ n. record w { ready = w.ready ++ (ns, n) ∷ [] }) (first_waiting job t) w) (get w.tenants ns) w))
+    by : (b : Bool) → IsFiled pools index (cond b w
+        (option_map_or (λ t. option_map_or (λ n. record w { ready = w.ready ++ (ns, n) ∷ [] }) (first_waiting job t) w) (get w.tenants ns) w))
     by true = s
     by false = in_tenant (get w.tenants ns)
 
@@ -72,32 +84,39 @@ module _ (w : World) (s : IsSound w) where
   filed = sound_filed w s
 
   -- another worker
-  with_worker_filed : (ns : Name) (t : Tenant) → get w.tenants ns ≡ Some t → (number : ℕ) (worker : Worker) → IsFiled (pools_in w) (index_in w) (put_tenant ns (with_worker number worker t) w)
+  with_worker_filed : (ns : Name) (t : Tenant) → get w.tenants ns ≡ Some t → (number : ℕ) (worker : Worker) →
+      IsFiled (pools_in w) (index_in w) (put_tenant ns (with_worker number worker t) w)
   with_worker_filed ns t is number worker = put_filed (pools_in w) (index_in w) ns (with_worker number worker t) w filed (filed.tenant ns t is)
 
   pub dequeue_filed : (number : ℕ) (key : Key) → Keeps (dequeue number key w)
   unfolding dequeue
-  dequeue_filed number key = leads_if _ (nat_lt number workers_end && is_idle w number && is_served w w.ready key) (option_map_or (dequeue_in number key w) (get w.tenants key.0) NotEnabled) NotEnabled (λ _.
+  dequeue_filed number key = leads_if _ (nat_lt number workers_end && is_idle w number && is_served w w.ready key)
+      (option_map_or (dequeue_in number key w) (get w.tenants key.0) NotEnabled) NotEnabled (λ _.
       leads_there _ (get w.tenants key.0) (dequeue_in number key w) (λ t is. leads_there _ (get t.evaluations key.1) _ (λ e _.
-      lists_filed (pools_in w) (index_in w) (put_tenant key.0 (with_worker number (new_worker key.1 e) t) w) (without_key key w.ready) w.plans (with_worker_filed key.0 t is number (new_worker key.1 e))))) (λ _. tt)
+      lists_filed (pools_in w) (index_in w) (put_tenant key.0 (with_worker number (new_worker key.1 e) t) w) (without_key key w.ready) w.plans
+          (with_worker_filed key.0 t is number (new_worker key.1 e))))) (λ _. tt)
 
   pub snap_filed : (number : ℕ) (ns : Name) → Keeps (snap number ns w)
   unfolding snap
   snap_filed number ns = holds_at_work _ w number ns (snap_for number ns w) (λ t worker e is _ _.
-      leads_if _ (may_snap worker.tries worker.phase) (Done (Content.Snapped worker.evaluation) (put_tenant ns (with_worker number (with_snapshot (snapshot_of w ns t worker.evaluation e) worker) t) w)) NotEnabled
+      leads_if _ (may_snap worker.tries worker.phase)
+          (Done (Content.Snapped worker.evaluation) (put_tenant ns (with_worker number (with_snapshot (snapshot_of w ns t worker.evaluation e) worker) t) w))
+          NotEnabled
       (λ _. with_worker_filed ns t is number (with_snapshot (snapshot_of w ns t worker.evaluation e) worker)) (λ _. tt))
 
   pub submit_filed : (number : ℕ) (ns : Name) → Keeps (submit number ns w)
   unfolding submit
   submit_filed number ns = holds_keeping _ w number ns (λ t worker e. submit_for number ns w t worker) (λ t worker e kept is _ _ _.
       leads_if _ (may_submit worker kept) (Done (Content.Queued worker.evaluation) (submitted number ns w t worker)) NotEnabled
-      (λ _. lists_filed (pools_in w) (index_in w) (put_tenant ns (with_worker number (record worker { phase = Phase.Submitted }) t) w) w.ready (w.plans ++ (ns, worker.evaluation) ∷ []) (with_worker_filed ns t is number (record worker { phase = Phase.Submitted }))) (λ _. tt))
+      (λ _. lists_filed (pools_in w) (index_in w) (put_tenant ns (with_worker number (record worker { phase = Phase.Submitted }) t) w) w.ready
+          (w.plans ++ (ns, worker.evaluation) ∷ []) (with_worker_filed ns t is number (record worker { phase = Phase.Submitted }))) (λ _. tt))
 
 -- ---- Nack
 
 -- the second of two rows put at one number stays
 insert_twice : {X : Type 0} (m : ByNumber X) (k : ℕ) (v x : X) → insert (insert m k v) k x ≡ insert m k x
-insert_twice {X = X} m k v x = same_map numbers_ one_number _ _ (λ q. get-insert numbers_ (insert m k v) k x q ∙ ap (λ o. cond (eq_by_cmp nat_cmp q k) (Some x) o) (get-insert numbers_ m k v q) ∙ by (eq_by_cmp nat_cmp q k) (get m q) ∙ sym (get-insert numbers_ m k x q))
+insert_twice {X = X} m k v x = same_map numbers_ one_number _ _ (λ q. get-insert numbers_ (insert m k v) k x q ∙
+    ap (λ o. cond (eq_by_cmp nat_cmp q k) (Some x) o) (get-insert numbers_ m k v q) ∙ by (eq_by_cmp nat_cmp q k) (get m q) ∙ sym (get-insert numbers_ m k x q))
   where
     by : (b : Bool) (o : Option X) → cond b (Some x) (cond b (Some v) o) ≡ cond b (Some x) o
     by true o = refl
@@ -112,7 +131,8 @@ no_more n lt = omega arith
 below : (n : ℕ) → n < most_nacks → n ≤ most_nacks
 below n lt = omega arith
 
-module _ (w : World) (s : IsSound w) (ns : Name) (number : ℕ) (t : Tenant) (worker : Worker) (e : Evaluation) (is : get w.tenants ns ≡ Some t) (has : get t.workers number ≡ Some worker) (at : get t.evaluations worker.evaluation ≡ Some e) where
+module _ (w : World) (s : IsSound w) (ns : Name) (number : ℕ) (t : Tenant) (worker : Worker) (e : Evaluation) (is : get w.tenants ns ≡ Some t)
+    (has : get t.workers number ≡ Some worker) (at : get t.evaluations worker.evaluation ≡ Some e) where
   abbrev listed : ℕ → Bool
   listed n = has_key w.blocked (ns, n)
 
@@ -128,8 +148,10 @@ module _ (w : World) (s : IsSound w) (ns : Name) (number : ℕ) (t : Tenant) (wo
   abbrev nacked : Evaluation
   nacked = record e { nacks = e.nacks + 1 }
 
-  back_filed : nat_le most_nacks (e.nacks + 1) ≡ false → Leads (IsFiled (pools_in w) (index_in w)) (given_back number ns w (with_nack worker.evaluation e t) worker)
-  back_filed more = lists_filed (pools_in w) (index_in w) (put_tenant ns (without_worker number (with_nack worker.evaluation e t)) w) (w.ready ++ (ns, worker.evaluation) ∷ []) w.plans
+  back_filed : nat_le most_nacks (e.nacks + 1) ≡ false →
+      Leads (IsFiled (pools_in w) (index_in w)) (given_back number ns w (with_nack worker.evaluation e t) worker)
+  back_filed more = lists_filed (pools_in w) (index_in w) (put_tenant ns (without_worker number (with_nack worker.evaluation e t)) w)
+      (w.ready ++ (ns, worker.evaluation) ∷ []) w.plans
       (put_filed (pools_in w) (index_in w) ns (without_worker number (with_nack worker.evaluation e t)) w (sound_filed w s) (
         replaced_rows (pools_in w) t.evaluation_number (index_in w ns) listed t.evaluations its.0 worker.evaluation e nacked at refl refl (record {
           named = row.named;
@@ -146,8 +168,10 @@ module _ (w : World) (s : IsSound w) (ns : Name) (number : ℕ) (t : Tenant) (wo
         its.2,
       ))
 
-  failed_rows : IsFiledRows (pools_in w) t.evaluation_number (index_in w ns) listed (insert t.evaluations worker.evaluation (record e { nacks = e.nacks + 1; status = Status.Failed }))
-  failed_rows = put_rows (pools_in w) t.evaluation_number (index_in w ns) listed t.evaluations its.0 worker.evaluation (record e { nacks = e.nacks + 1; status = Status.Failed }) (record {
+  failed_rows : IsFiledRows (pools_in w) t.evaluation_number (index_in w ns) listed
+      (insert t.evaluations worker.evaluation (record e { nacks = e.nacks + 1; status = Status.Failed }))
+  failed_rows = put_rows (pools_in w) t.evaluation_number (index_in w ns) listed t.evaluations its.0 worker.evaluation
+      (record e { nacks = e.nacks + 1; status = Status.Failed }) (record {
     named = row.named;
     priority = row.priority;
     exists = λ open_. not_both open_ refl;
@@ -160,18 +184,24 @@ module _ (w : World) (s : IsSound w) (ns : Name) (number : ℕ) (t : Tenant) (wo
   }) (λ blocked. not_both blocked refl)
 
   up_filed : Leads (IsFiled (pools_in w) (index_in w)) (given_up number ns w (with_nack worker.evaluation e t) worker e)
-  up_filed = promote_filed (pools_in w) (index_in w) ns e.job (put_tenant ns (with_status worker.evaluation Status.Failed (without_worker number (with_nack worker.evaluation e t))) w)
+  up_filed = promote_filed (pools_in w) (index_in w) ns e.job
+      (put_tenant ns (with_status worker.evaluation Status.Failed (without_worker number (with_nack worker.evaluation e t))) w)
       (put_filed (pools_in w) (index_in w) ns _ w (sound_filed w s) (subst (IsFiledTenant (pools_in w) (index_in w ns) listed) (sym is_failed)
-      (subst (IsFiledRows (pools_in w) t.evaluation_number (index_in w ns) listed) (sym (insert_twice t.evaluations worker.evaluation nacked (record nacked { status = Status.Failed }))) failed_rows, its.1, its.2)))
+      (subst (IsFiledRows (pools_in w) t.evaluation_number (index_in w ns) listed)
+          (sym (insert_twice t.evaluations worker.evaluation nacked (record nacked { status = Status.Failed }))) failed_rows, its.1, its.2)))
     where
       is_failed : with_status worker.evaluation Status.Failed (without_worker number (with_nack worker.evaluation e t))
-          ≡ record (without_worker number (with_nack worker.evaluation e t)) { evaluations = insert (insert t.evaluations worker.evaluation nacked) worker.evaluation (record nacked { status = Status.Failed }) }
-      is_failed = ap (λ o. option_map_or (λ e. record (without_worker number (with_nack worker.evaluation e t)) { evaluations = insert (insert t.evaluations worker.evaluation nacked) worker.evaluation (record e { status = Status.Failed }) }) o (without_worker number (with_nack worker.evaluation e t)))
+          ≡ record (without_worker number (with_nack worker.evaluation e t))
+              { evaluations = insert (insert t.evaluations worker.evaluation nacked) worker.evaluation (record nacked { status = Status.Failed }) }
+      is_failed = ap (λ o. option_map_or (λ e. record (without_worker number (with_nack worker.evaluation e t))
+          { evaluations = insert (insert t.evaluations worker.evaluation nacked) worker.evaluation (record e { status = Status.Failed }) }) o
+          (without_worker number (with_nack worker.evaluation e t)))
           (at_inserted numbers_ t.evaluations worker.evaluation nacked (same_number_refl worker.evaluation))
 
 pub nack_filed : (w : World) → IsSound w → (number : ℕ) (ns : Name) → Leads (IsFiled (pools_in w) (index_in w)) (nack number ns w)
 unfolding nack
 nack_filed w s number ns = holds_at_work _ w number ns (nack_for number ns w) (λ t worker e is has at.
     leads_if _ (is_submitted worker.phase) NotEnabled _ (λ _. tt) (λ _.
-    leads_if _ (nat_le most_nacks (e.nacks + 1)) (given_up number ns w (with_nack worker.evaluation e t) worker e) (given_back number ns w (with_nack worker.evaluation e t) worker)
+    leads_if _ (nat_le most_nacks (e.nacks + 1)) (given_up number ns w (with_nack worker.evaluation e t) worker e)
+        (given_back number ns w (with_nack worker.evaluation e t) worker)
     (λ _. up_filed w s ns number t worker e is has at) (λ more. back_filed w s ns number t worker e is has at more)))

@@ -38,7 +38,9 @@ module _ {X : Type 0} where
   none_yet q x is = absurd (no_path (sym (get-empty name_cmp q) ∙ is))
 
   one_few : (k : Name) (v : X) → len (insert (empty {R = name_cmp}) k v) ≤ most_rows
-  one_few k v = len_room empty k v most_rows (none_few X) (ap (λ b. not b && nat_le most_rows (len (empty {X = X} {R = name_cmp}))) (ap is_some (get-empty name_cmp k)) ∙ ap (nat_le most_rows) (len-empty name_cmp X))
+  one_few k v = len_room empty k v most_rows (none_few X)
+      (ap (λ b. not b && nat_le most_rows (len (empty {X = X} {R = name_cmp}))) (ap is_some (get-empty name_cmp k)) ∙
+      ap (nat_le most_rows) (len-empty name_cmp X))
 
   -- what holds of the one row holds of each
   of_one : (P : Name → X → Type 0) (k : Name) (v : X) → P k v → (q : Name) (x : X) → get (insert (empty {R = name_cmp}) k v) q ≡ Some x → P q x
@@ -79,7 +81,8 @@ opening_recorded = record {
   few_tenants = one_few default_name opening_tenant;
   few_pools = one_few default_name opening_pool;
   few_quotas = none_few QuotaRows;
-  tenant = of_one (λ ns (t : Tenant). IsGoodKept (contains_key opening_world.pools) (contains_key opening_world.quotas) ns t.index (kept_of t)) default_name opening_tenant
+  tenant = of_one (λ ns (t : Tenant). IsGoodKept (contains_key opening_world.pools) (contains_key opening_world.quotas) ns t.index (kept_of t))
+      default_name opening_tenant
       (new_tenant_good (contains_key opening_world.pools) (contains_key opening_world.quotas) default_name opening_tenant.namespace refl
       (record { good = refl; default = has_default; allowed = λ listed none. absurd (no_path none); quota = λ q none. absurd (no_path none) }));
   pool = of_one IsGoodPool default_name opening_pool (new_pool_good default_name opening_pool.pool refl refl);
@@ -88,4 +91,5 @@ opening_recorded = record {
 
 pub records_opening : RecordsOpening
 unfolding opening
-records_opening secret named = has_records (opening secret) (record { acl = acl_sound secret named; world = opening_recorded }) (reached_is_steady secret (opening secret) [] [] refl)
+records_opening secret named = has_records (opening secret) (record { acl = acl_sound secret named; world = opening_recorded })
+    (reached_is_steady secret (opening secret) [] [] refl)

@@ -89,7 +89,8 @@ pub record IsNear (w x : World) : Type 0 where
   pub few_tenants : len x.tenants ≤ most_rows
   pub few_pools : len x.pools ≤ most_rows
   pub few_quotas : len x.quotas ≤ most_rows
-  pub tenant : (ns : Name) (t : Tenant) → get x.tenants ns ≡ Some t → IsNearKept (contains_key x.pools) (contains_key x.quotas) (get w.tenants ns) ns (kept_of t)
+  pub tenant : (ns : Name) (t : Tenant) → get x.tenants ns ≡ Some t →
+      IsNearKept (contains_key x.pools) (contains_key x.quotas) (get w.tenants ns) ns (kept_of t)
   pub pool : (name : Name) (p : PoolRows) → get x.pools name ≡ Some p → IsGoodPool name p
   pub quota : (name : Name) (q : QuotaRows) → get x.quotas name ≡ Some q → IsSoundQuota name q
 
@@ -107,7 +108,9 @@ module _ (w y x : World) (near : IsNear w y) where
   -- nothing of it is changed
   pub near_same : SameIn kept_of y x → x.pools ≡ y.pools → x.quotas ≡ y.quotas → IsNear w x
   near_same same pools quotas = record {
-    few_tenants = subst (λ n. n ≤ most_rows) (sym (same_len by_name one_name x.tenants y.tenants (λ k. sym (some_mapped kept_of (get x.tenants k)) ∙ ap is_some (same k) ∙ some_mapped kept_of (get y.tenants k)))) near.few_tenants;
+    few_tenants = subst (λ n. n ≤ most_rows) (sym
+        (same_len by_name one_name x.tenants y.tenants (λ k. sym (some_mapped kept_of (get x.tenants k)) ∙ ap is_some (same k) ∙
+        some_mapped kept_of (get y.tenants k)))) near.few_tenants;
     few_pools = subst (λ m. len m ≤ most_rows) (sym pools) near.few_pools;
     few_quotas = subst (λ m. len m ≤ most_rows) (sym quotas) near.few_quotas;
     tenant = λ ns t is.
@@ -120,7 +123,8 @@ module _ (w y x : World) (near : IsNear w y) where
   }
 
 module _ (w y : World) (near : IsNear w y) where
-  pub near_put : (ns : Name) (t t' : Tenant) → get y.tenants ns ≡ Some t → IsNearKept (contains_key y.pools) (contains_key y.quotas) (get w.tenants ns) ns (kept_of t') → IsNear w (put_tenant ns t' y)
+  pub near_put : (ns : Name) (t t' : Tenant) → get y.tenants ns ≡ Some t →
+      IsNearKept (contains_key y.pools) (contains_key y.quotas) (get w.tenants ns) ns (kept_of t') → IsNear w (put_tenant ns t' y)
   near_put ns t t' is good = record {
     few_tenants = subst (λ n. n ≤ most_rows) (sym (len_put y.tenants ns t' t is)) near.few_tenants;
     few_pools = near.few_pools;
@@ -130,7 +134,8 @@ module _ (w y : World) (near : IsNear w y) where
     quota = near.quota;
   }
     where
-      by : (k : Name) (x : Tenant) → ((k ≡ ns) × (t' ≡ x)) ⊎ (get y.tenants k ≡ Some x) → IsNearKept (contains_key y.pools) (contains_key y.quotas) (get w.tenants k) k (kept_of x)
+      by : (k : Name) (x : Tenant) → ((k ≡ ns) × (t' ≡ x)) ⊎ (get y.tenants k ≡ Some x) →
+          IsNearKept (contains_key y.pools) (contains_key y.quotas) (get w.tenants k) k (kept_of x)
       by k x (inl e) = subst (λ x. IsNearKept (contains_key y.pools) (contains_key y.quotas) (get w.tenants k) k (kept_of x)) e.1
           (subst (λ k. IsNearKept (contains_key y.pools) (contains_key y.quotas) (get w.tenants k) k (kept_of t')) (sym e.0) good)
       by k x (inr at) = near.tenant k x at
@@ -140,7 +145,8 @@ module _ (w y : World) (near : IsNear w y) where
     few_tenants = near.few_tenants;
     few_pools = subst (λ n. n ≤ most_rows) (sym (len_put y.pools name p' p is)) near.few_pools;
     few_quotas = near.few_quotas;
-    tenant = λ ns t at. subst (λ pools. IsNearKept pools (contains_key y.quotas) (get w.tenants ns) ns (kept_of t)) (λ i k. sym (keys_put y.pools name p' p is k) i) (near.tenant ns t at);
+    tenant = λ ns t at. subst (λ pools. IsNearKept pools (contains_key y.quotas) (get w.tenants ns) ns (kept_of t))
+        (λ i k. sym (keys_put y.pools name p' p is k) i) (near.tenant ns t at);
     pool = λ k x at. by k x (row_of_insert by_name one_name y.pools name p' k x at);
     quota = near.quota;
   }
@@ -170,6 +176,8 @@ near_first w s = record {
   quota = s.quota;
 }
   where
-    higher : (ns : Name) (t : Tenant) → get w.tenants ns ≡ Some t → (id : Name) (j : Job) → IsGoodJob (contains_key w.pools) t.index id j → IsGoodJob (contains_key w.pools) (bound_of (get w.tenants ns) t.index) id j
+    higher : (ns : Name) (t : Tenant) → get w.tenants ns ≡ Some t → (id : Name) (j : Job) → IsGoodJob (contains_key w.pools) t.index id j →
+        IsGoodJob (contains_key w.pools) (bound_of (get w.tenants ns) t.index) id j
     higher ns t is id j g = subst (λ o. IsGoodJob (contains_key w.pools) (bound_of o t.index) id j) (sym is)
-        (record { named = g.named; good = g.good; exists = g.exists; created = more _ _ g.created; modified = more _ _ g.modified; versions = more _ _ g.versions })
+        (record { named = g.named; good = g.good; exists = g.exists; created = more _ _ g.created; modified = more _ _ g.modified; versions =
+            more _ _ g.versions })

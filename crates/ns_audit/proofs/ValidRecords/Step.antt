@@ -41,7 +41,8 @@ valid_recorded w s = record {
     named = x.named;
     namespace = record { good = x.namespace.good; default = x.namespace.default; allowed = x.namespace.allowed; quota = x.namespace.quota };
     few_jobs = x.few_jobs;
-    job = λ id j at. let y = x.job id j at in record { named = y.named; good = y.good; exists = y.allowed.exists; created = y.created; modified = y.modified; versions = y.versions };
+    job = λ id j at. let y = x.job id j at in record { named = y.named; good = y.good; exists = y.allowed.exists; created = y.created; modified =
+        y.modified; versions = y.versions };
     few_events = x.few_events;
     events_below = x.events_below;
   };
@@ -78,14 +79,18 @@ module _ (s : State) (acl : IsSoundAcl s.acl) (world : IsRecorded s.world) where
   administer_near : (secret : Option Name) (command : AdminCommand) → is_good_admin command ≡ true → Leads (IsNearState s) (administer secret command s)
   unfolding administer
   administer_near secret AdminCommand.ListNamespaces good = here
-  administer_near secret (AdminCommand.PutNamespace name namespace) good = of_world _ (namespace_put s.world world name namespace (first_of_both _ _ good) (second_of_both _ _ good))
+  administer_near secret (AdminCommand.PutNamespace name namespace) good =
+      of_world _ (namespace_put s.world world name namespace (first_of_both _ _ good) (second_of_both _ _ good))
   administer_near secret (AdminCommand.DeleteNamespace name) good = of_world _ (namespace_deleted s.world world name)
   administer_near secret AdminCommand.ListQuotas good = here
-  administer_near secret (AdminCommand.ReadQuota name) good = of_world (read_quota name s.world) (leads_found (IsNear s.world) (get s.world.quotas name) _ (λ q _. here.world))
-  administer_near secret (AdminCommand.PutQuota name quota) good = of_world _ (quota_put s.world world name quota (first_of_both _ _ good) (second_of_both _ _ good))
+  administer_near secret (AdminCommand.ReadQuota name) good =
+      of_world (read_quota name s.world) (leads_found (IsNear s.world) (get s.world.quotas name) _ (λ q _. here.world))
+  administer_near secret (AdminCommand.PutQuota name quota) good =
+      of_world _ (quota_put s.world world name quota (first_of_both _ _ good) (second_of_both _ _ good))
   administer_near secret (AdminCommand.DeleteQuota name) good = of_world _ (quota_deleted s.world world name)
   administer_near secret AdminCommand.ListPools good = here
-  administer_near secret (AdminCommand.PutPool name pool) good = of_world _ (pool_put s.world world name pool (first_of_both _ _ good) (second_of_both _ _ good))
+  administer_near secret (AdminCommand.PutPool name pool) good =
+      of_world _ (pool_put s.world world name pool (first_of_both _ _ good) (second_of_both _ _ good))
   administer_near secret (AdminCommand.DeletePool name) good = of_world _ (pool_deleted s.world world name)
   administer_near secret (AdminCommand.ReadPolicy name) good = of_acl _ (policy_read s.acl acl name)
   administer_near secret (AdminCommand.PutPolicy name policy) good = of_acl _ (policy_put s.acl acl name policy good)
@@ -161,5 +166,6 @@ has_records s kept steady = record {
 }
 
 pub records_step : RecordsStep
-records_step s s' step answer valid good e = has_records s' (after_recorded s (record { acl = valid.acl; world = valid_recorded s.world valid.world }) step s' answer good e)
+records_step s s' step answer valid good e = has_records s'
+    (after_recorded s (record { acl = valid.acl; world = valid_recorded s.world valid.world }) step s' answer good e)
     (steady_step s s' step answer (valid_is_steady s valid) e)

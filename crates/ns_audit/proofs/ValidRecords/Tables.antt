@@ -1,12 +1,18 @@
 -- Tables: their sizes, their keys as rows come and go, and what holds of all their values.
-use Rattle.std.specs.Prelude.{◌≡◌, ℕ, ◌+◌, ◌-◌, ◌≤◌, Bool, true, false, cond, not, T, List, [], ◌∷◌, map, Option, Some, None, ◌&&◌, is_some, length, nat_le, option_map}
+use Rattle.std.specs.Prelude.{
+    ◌≡◌, ℕ, ◌+◌, ◌-◌, ◌≤◌, Bool, true, false, cond, not, T, List, [], ◌∷◌, map, Option, Some, None, ◌&&◌, is_some,
+    length, nat_le, option_map
+}
 use Rattle.std.proofs.Common.{refl, sym, ap, subst, ◌∙◌, arith}
 use Rattle.std.proofs.lemmas.List.{length-map}
 use Rattle.std.specs.Cmp.{IsTotalOrder, then_total, on_total}
 use Rattle.std.specs.Cmp.Lexicographic.{slice_cmp, lists_total}
 use Rattle.std.specs.declared.cmp.Ordering.{Ordering}
 use Rattle.std.specs.declared.cmp.Ordering.TheVariants.{Less, Equal, Greater}
-use Rattle.std.specs.FinMap.{FinMap, IsAntisymmetric, slice_cmp-IsAntisymmetric, get, get-entries, get-insert, get-remove, entries, contains_key, values, len, len-entries, len-insert, len-remove, insert, remove, same_map}
+use Rattle.std.specs.FinMap.{
+    FinMap, IsAntisymmetric, slice_cmp-IsAntisymmetric, get, get-entries, get-insert, get-remove, entries, contains_key,
+    values, len, len-entries, len-insert, len-remove, insert, remove, same_map
+}
 use Rattle.std.specs.List.{list_all}
 use Rattle.std.specs.Ordering.{eq_by_cmp, is_eq, ordering_then}
 use Rattle.ns_types.specs.declared.node.Attribute.{Attribute}
@@ -83,7 +89,8 @@ module _ {X : Type 0} (m : ByName X) (k : Name) (v x : X) (is : get m k ≡ Some
 
 module _ {X : Type 0} (m : ByName X) (k : Name) where
   pub still_there : (v : X) (q : Name) → contains_key m q ≡ true → contains_key (insert m k v) q ≡ true
-  still_there v q has = ap is_some (get-insert names m k v q) ∙ elim (eq_by_cmp name_cmp q k) as (λ b. is_some (cond b (Some v) (get m q)) ≡ true) [ true ↦ refl | false ↦ has ]
+  still_there v q has = ap is_some (get-insert names m k v q) ∙ elim (eq_by_cmp name_cmp q k) as (λ b. is_some (cond b (Some v) (get m q)) ≡ true)
+      [ true ↦ refl | false ↦ has ]
 
   pub there_but : (q : Name) → same_name k q ≡ false → contains_key m q ≡ true → contains_key (remove m k) q ≡ true
   there_but q differs has = ap is_some (get-remove names m k q) ∙ by (eq_by_cmp name_cmp q k) refl
@@ -100,7 +107,8 @@ len_removed m k = subst (λ n. n ≤ len m) (sym (len-remove names m k)) (by (co
     by false n = omega arith
 
 -- a table that has room, or the row already, is within its bound with one row more
-pub len_room : {X : Type 0} (m : ByName X) (k : Name) (v : X) (most : ℕ) → len m ≤ most → (not (contains_key m k) && nat_le most (len m)) ≡ false → len (insert m k v) ≤ most
+pub len_room : {X : Type 0} (m : ByName X) (k : Name) (v : X) (most : ℕ) → len m ≤ most → (not (contains_key m k) && nat_le most (len m)) ≡ false →
+    len (insert m k v) ≤ most
 len_room m k v most le room = subst (λ n. n ≤ most) (sym (len-insert names m k v)) (by (contains_key m k) room)
   where
     below : (a b : ℕ) → nat_le a b ≡ false → b + 1 ≤ a
@@ -119,10 +127,13 @@ both_equal Equal s e = (refl, e)
 both_equal Greater s e = absurd (subst (λ r. T (is_eq r)) (sym e) tt)
 
 one_attribute : IsAntisymmetric attribute_cmp
-one_attribute a b e = let t = both_equal (name_cmp a.key b.key) (name_cmp a.value b.value) e in λ i. record { key = one_name a.key b.key t.0 i; value = one_name a.value b.value t.1 i }
+one_attribute a b e = let t = both_equal (name_cmp a.key b.key) (name_cmp a.value b.value) e in
+    λ i. record { key = one_name a.key b.key t.0 i; value = one_name a.value b.value t.1 i }
 
 pub by_class : IsTotalOrder class_cmp
-by_class = then_total (on_total (λ (c : Class). c.name) names) (on_total (λ (c : Class). c.attributes) (lists_total (then_total (on_total (λ (a : Attribute). a.key) names) (on_total (λ (a : Attribute). a.value) names))))
+by_class = then_total (on_total (λ (c : Class). c.name) names)
+    (on_total (λ (c : Class). c.attributes) (lists_total
+    (then_total (on_total (λ (a : Attribute). a.key) names) (on_total (λ (a : Attribute). a.value) names))))
 
 pub one_class : IsAntisymmetric class_cmp
 one_class a b e =

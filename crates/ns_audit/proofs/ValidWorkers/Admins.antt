@@ -13,7 +13,10 @@ use Rattle.ns_types.specs.declared.step.AdminCommand.{AdminCommand}
 use Rattle.ns_types.specs.declared.step.AdminCommand.TheVariants as AdminCommand
 use Rattle.ns_types.specs.declared.worker.Worker.{Worker}
 use Rattle.ns_types.specs.Asking.Policies.{with_world, with_acl, administer}
-use Rattle.ns_types.specs.Asking.Admins.{has_open, new_tenant, with_namespace, put_namespace, delete_namespace, with_quota, put_quota, delete_quota, read_quota, with_pool, put_pool_record, names_pool, looks_to_pool, is_pool_in_use, delete_pool}
+use Rattle.ns_types.specs.Asking.Admins.{
+    has_open, new_tenant, with_namespace, put_namespace, delete_namespace, with_quota, put_quota, delete_quota,
+    read_quota, with_pool, put_pool_record, names_pool, looks_to_pool, is_pool_in_use, delete_pool
+}
 use Rattle.ns_types.specs.Settling.Making.{put_tenant}
 use Rattle.ns_types.specs.State.Names.{Name, name_cmp, same_name}
 use Rattle.ns_types.specs.Settling.Outcome.{Outcome, NotEnabled, Refused, Done, lift}
@@ -44,7 +47,8 @@ pub record IsWell (w x : World) : Type 0 where
 abbrev pub KeepsStaff : World → Outcome World → Type 0
 KeepsStaff w = Leads (IsWell w)
 
-unlooked : (passes : Name → Bool) (t : Tenant) → looks_to_pool passes t ≡ false → any_row (λ _ worker. option_map_or (λ kept. passes kept.pool) worker.kept false) t.workers ≡ false
+unlooked : (passes : Name → Bool) (t : Tenant) → looks_to_pool passes t ≡ false →
+    any_row (λ _ worker. option_map_or (λ kept. passes kept.pool) worker.kept false) t.workers ≡ false
 unlooked passes t e = right_none _ _ e
 
 module _ (w : World) (s : IsSound w) (q : IsQueued w) where
@@ -58,7 +62,8 @@ module _ (w : World) (s : IsSound w) (q : IsQueued w) where
 
   -- other pools and quotas, but for those that kept snapshots name
   looked_well : (x : World) → x.tenants ≡ w.tenants → x.ready ≡ w.ready → x.plans ≡ w.plans
-      → ((k : Name) (t : Tenant) (n : ℕ) (worker : Worker) (kept : Snapshot) → get w.tenants k ≡ Some t → get t.workers n ≡ Some worker → worker.kept ≡ Some kept → LooksStill w x kept) → IsWell w x
+      → ((k : Name) (t : Tenant) (n : ℕ) (worker : Worker) (kept : Snapshot) → get w.tenants k ≡ Some t → get t.workers n ≡ Some worker →
+          worker.kept ≡ Some kept → LooksStill w x kept) → IsWell w x
   looked_well x tenants ready plans looks = stays_well x (record {
     came = λ k u n worker is has. record { tenant = u; is_tenant = ap (λ m. get m k) (sym tenants) ∙ is; is_worker = has; row = refl };
     goes = λ k t n worker is has. (t, ap (λ m. get m k) tenants ∙ is, has);
@@ -82,7 +87,8 @@ module _ (w : World) (s : IsSound w) (q : IsQueued w) where
       x : World
       x = put_tenant ns new w
 
-      came : (k : Name) (u : Tenant) (n : ℕ) (worker : Worker) → ((k ≡ ns) × (new ≡ u)) ⊎ (get w.tenants k ≡ Some u) → get u.workers n ≡ Some worker → CameFrom w k u n worker
+      came : (k : Name) (u : Tenant) (n : ℕ) (worker : Worker) → ((k ≡ ns) × (new ≡ u)) ⊎ (get w.tenants k ≡ Some u) → get u.workers n ≡ Some worker →
+          CameFrom w k u n worker
       came k u n worker (inl e) has = absurd (no_path (sym (get-empty nat_cmp n) ∙ ap (λ (t : Tenant). get t.workers n) e.1 ∙ has))
       came k u n worker (inr at) has = record { tenant = u; is_tenant = at; is_worker = has; row = refl }
 
@@ -122,16 +128,20 @@ module _ (w : World) (s : IsSound w) (q : IsQueued w) where
       was k u at = left k u (eq_by_cmp name_cmp k ns) (sym (get-remove names w.tenants ns k) ∙ at)
 
       -- a worker's evaluation is open
-      there : (k : Name) (u : Tenant) (n : ℕ) (worker : Worker) → get w.tenants k ≡ Some u → get u.workers n ≡ Some worker → (b : Bool) → same_name k ns ≡ b → cond (same_name k ns) None (get w.tenants k) ≡ Some u
+      there : (k : Name) (u : Tenant) (n : ℕ) (worker : Worker) → get w.tenants k ≡ Some u → get u.workers n ≡ Some worker → (b : Bool) → same_name k ns ≡ b →
+          cond (same_name k ns) None (get w.tenants k) ≡ Some u
       there k u n worker at has true same =
           let p = ((orderly w s).tenant k u at).held n worker has in
           let one = same_Some _ _ (sym is ∙ ap (get w.tenants) (sym (same_name_is k ns same)) ∙ at) in
-          not_both (ap is_open p.is_pending) (none_of_any one_number (λ _ e. is_open e.status) t.evaluations worker.evaluation p.row none (ap (λ (t : Tenant). get t.evaluations worker.evaluation) one ∙ p.is_row))
+          not_both (ap is_open p.is_pending) (none_of_any one_number (λ _ e. is_open e.status) t.evaluations worker.evaluation p.row none
+              (ap (λ (t : Tenant). get t.evaluations worker.evaluation) one ∙ p.is_row))
       there k u n worker at has false differs = ap (λ b. cond b None (get w.tenants k)) differs ∙ at
 
   namespace_put : (name : Name) (namespace : Namespace) → KeepsStaff w (put_namespace name namespace w)
   unfolding put_namespace
-  namespace_put name namespace = leads_unless (IsWell w) _ _ _ (λ _. leads_unless (IsWell w) _ _ _ (λ _. leads_unless (IsWell w) _ _ _ (λ _. leads_unless (IsWell w) _ _ _ (λ _. leads_unless (IsWell w) _ _ _ (λ _. by (get w.tenants name) refl)))))
+  namespace_put name namespace = leads_unless (IsWell w) _ _ _
+      (λ _. leads_unless (IsWell w) _ _ _ (λ _. leads_unless (IsWell w) _ _ _
+      (λ _. leads_unless (IsWell w) _ _ _ (λ _. leads_unless (IsWell w) _ _ _ (λ _. by (get w.tenants name) refl)))))
     where
       by : (o : Option Tenant) → get w.tenants name ≡ o → IsWell w (put_tenant name (with_namespace namespace o) w)
       by None is = added_well name namespace is
@@ -141,7 +151,8 @@ module _ (w : World) (s : IsSound w) (q : IsQueued w) where
 
   namespace_deleted : (name : Name) → KeepsStaff w (delete_namespace name w)
   unfolding delete_namespace
-  namespace_deleted name = leads_found (IsWell w) (get w.tenants name) _ (λ t is. leads_unless (IsWell w) _ _ _ (λ _. leads_unless (IsWell w) _ _ _ (λ idle. removed_well name t is (right_none _ _ (left_none _ _ idle)))))
+  namespace_deleted name = leads_found (IsWell w) (get w.tenants name) _
+      (λ t is. leads_unless (IsWell w) _ _ _ (λ _. leads_unless (IsWell w) _ _ _ (λ idle. removed_well name t is (right_none _ _ (left_none _ _ idle)))))
 
   -- ---- quotas
 
@@ -162,8 +173,10 @@ module _ (w : World) (s : IsSound w) (q : IsQueued w) where
       known None r e same = absurd (subst T (sym e) tt)
       known (Some p) r e same = (p, refl, subst (λ (r : QuotaRows). p.release ≤ r.release) same (le_refl p.release))
 
-      by : (k : Name) (t : Tenant) (n : ℕ) (worker : Worker) (kept : Snapshot) → get w.tenants k ≡ Some t → get t.workers n ≡ Some worker → worker.kept ≡ Some kept
-          → (q : QuotaSeen) → kept.quota ≡ Some q → (r : QuotaRows) → ((q.name ≡ name) × (new ≡ r)) ⊎ (get w.quotas q.name ≡ Some r) → (p : QuotaRows) × (get w.quotas q.name ≡ Some p) × (p.release ≤ r.release)
+      by : (k : Name) (t : Tenant) (n : ℕ) (worker : Worker) (kept : Snapshot) → get w.tenants k ≡ Some t → get t.workers n ≡ Some worker →
+          worker.kept ≡ Some kept
+          → (q : QuotaSeen) → kept.quota ≡ Some q → (r : QuotaRows) → ((q.name ≡ name) × (new ≡ r)) ⊎ (get w.quotas q.name ≡ Some r) → (p : QuotaRows) ×
+              (get w.quotas q.name ≡ Some p) × (p.release ≤ r.release)
       by k t n worker kept is has keeps q its r (inr at) = (r, at, le_refl r.release)
       by k t n worker kept is has keeps q its r (inl e) =
           let sound = s.tenant k t is in
@@ -174,7 +187,9 @@ module _ (w : World) (s : IsSound w) (q : IsQueued w) where
 
   quota_deleted : (name : Name) → KeepsStaff w (delete_quota name w)
   unfolding delete_quota
-  quota_deleted name = leads_found (IsWell w) (get w.quotas name) _ (λ o _. leads_unless (IsWell w) _ _ _ (λ _. looked_well (record w { quotas = remove w.quotas name }) refl refl refl (λ k t n worker kept is has keeps. record {
+  quota_deleted name = leads_found (IsWell w) (get w.quotas name) _
+      (λ o _. leads_unless (IsWell w) _ _ _ (λ _. looked_well (record w { quotas = remove w.quotas name }) refl refl refl
+      (λ k t n worker kept is has keeps. record {
     pool = λ p p_is. (p, p_is, le_refl p.release);
     quota = λ q its r r_is. (r, by q.name r (eq_by_cmp name_cmp q.name name) (sym (get-remove names w.quotas name q.name) ∙ r_is), le_refl r.release);
   })))
@@ -199,16 +214,20 @@ module _ (w : World) (s : IsSound w) (q : IsQueued w) where
   unfolding delete_pool
   pool_deleted name = leads_found (IsWell w) (get w.pools name) _ (λ o _. leads_unless (IsWell w) _ _ _ (λ _. leads_unless (IsWell w) _ _ _ (λ unused.
       looked_well (record w { pools = remove w.pools name }) refl refl refl (λ k t n worker kept is has keeps. record {
-        pool = λ p p_is. (p, get-remove names w.pools name kept.pool ∙ ap (λ b. cond b None (get w.pools kept.pool)) (other k t n worker kept is has keeps (right_none _ _ unused)) ∙ p_is, le_refl p.release);
+        pool = λ p p_is. (p, get-remove names w.pools name kept.pool ∙
+            ap (λ b. cond b None (get w.pools kept.pool)) (other k t n worker kept is has keeps (right_none _ _ unused)) ∙ p_is, le_refl p.release);
         quota = λ q its r r_is. (r, r_is, le_refl r.release);
       }))))
     where
       -- no kept snapshot names it
-      other : (k : Name) (t : Tenant) (n : ℕ) (worker : Worker) (kept : Snapshot) → get w.tenants k ≡ Some t → get t.workers n ≡ Some worker → worker.kept ≡ Some kept → is_pool_in_use name w ≡ false → same_name kept.pool name ≡ false
+      other : (k : Name) (t : Tenant) (n : ℕ) (worker : Worker) (kept : Snapshot) → get w.tenants k ≡ Some t → get t.workers n ≡ Some worker →
+          worker.kept ≡ Some kept → is_pool_in_use name w ≡ false → same_name kept.pool name ≡ false
       other k t n worker kept is has keeps unused =
-          let none = right_none (names_pool name t.namespace) _ (none_of_any one_name (λ _ t. names_pool name t.namespace || looks_to_pool (same_name name) t) w.tenants k t unused is) in
+          let none = right_none (names_pool name t.namespace) _
+              (none_of_any one_name (λ _ t. names_pool name t.namespace || looks_to_pool (same_name name) t) w.tenants k t unused is) in
           turned_name name kept.pool (ap (λ o. option_map_or (λ kept. same_name name kept.pool) o false) (sym keeps)
-          ∙ none_of_any one_number (λ _ worker. option_map_or (λ kept. same_name name kept.pool) worker.kept false) t.workers n worker (unlooked (same_name name) t none) has)
+          ∙ none_of_any one_number (λ _ worker. option_map_or (λ kept. same_name name kept.pool) worker.kept false) t.workers n worker
+              (unlooked (same_name name) t none) has)
 
 -- ---- all that administrators ask
 
@@ -235,7 +254,8 @@ module _ (s : State) (o : IsSound s.world) (q : IsQueued s.world) where
   administer_well secret (AdminCommand.PutNamespace name namespace) = of_world _ (namespace_put s.world o q name namespace)
   administer_well secret (AdminCommand.DeleteNamespace name) = of_world _ (namespace_deleted s.world o q name)
   administer_well secret AdminCommand.ListQuotas = same
-  administer_well secret (AdminCommand.ReadQuota name) = of_world (read_quota name s.world) (leads_found (IsWell s.world) (get s.world.quotas name) _ (λ q _. same))
+  administer_well secret (AdminCommand.ReadQuota name) =
+      of_world (read_quota name s.world) (leads_found (IsWell s.world) (get s.world.quotas name) _ (λ q _. same))
   administer_well secret (AdminCommand.PutQuota name quota) = of_world _ (quota_put s.world o q name quota)
   administer_well secret (AdminCommand.DeleteQuota name) = of_world _ (quota_deleted s.world o q name)
   administer_well secret AdminCommand.ListPools = same

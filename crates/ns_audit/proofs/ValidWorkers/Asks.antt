@@ -22,11 +22,18 @@ use Rattle.ns_types.specs.declared.step.NodeCommand.{NodeCommand}
 use Rattle.ns_types.specs.declared.step.NodeCommand.TheVariants as NodeCommand
 use Rattle.ns_types.specs.declared.step.Report.{Report}
 use Rattle.ns_types.specs.Asking.Asks.{deregistered, asked_in, ask}
-use Rattle.ns_types.specs.Working.Commit.{still_stands, live_stops, stop_all, node_name, nodes_in, part_of, size_of, victims_of, evict, evict_all, Commit, begun, accepts_at, decide, new_allocation, with_allocation, with_place, place_with, place_one, committed_placements, place_all, Victim, evicted_rows, same_victim_job, least_of_job, make_up, refused_whole, done, commit}
+use Rattle.ns_types.specs.Working.Commit.{
+    still_stands, live_stops, stop_all, node_name, nodes_in, part_of, size_of, victims_of, evict, evict_all, Commit,
+    begun, accepts_at, decide, new_allocation, with_allocation, with_place, place_with, place_one, committed_placements,
+    place_all, Victim, evicted_rows, same_victim_job, least_of_job, make_up, refused_whole, done, commit
+}
 use Rattle.ns_types.specs.State.Lists.{first_each}
 use Rattle.ns_types.specs.Settling.Making.{change_tenant, put_pool, with_node, with_desired, with_client, evaluation_for, make}
 use Rattle.ns_types.specs.State.Names.{Name}
-use Rattle.ns_types.specs.Asking.Nodes.{losses, lost, lose, go_down, may_become, same_client, calls_for_one, reported, is_on, report_of, asked_in_pool, ask_pool}
+use Rattle.ns_types.specs.Asking.Nodes.{
+    losses, lost, lose, go_down, may_become, same_client, calls_for_one, reported, is_on, report_of, asked_in_pool,
+    ask_pool
+}
 use Rattle.ns_types.specs.Settling.Outcome.{Refused, Done, unless}
 use Rattle.ns_types.specs.State.Resources.{plus}
 use Rattle.ns_types.specs.State.Rows.{World, Tenant, PoolRows, is_ready, allocation_at, node_at}
@@ -34,7 +41,10 @@ use Rattle.ns_types.specs.State.Sums.{names_quota, quota_use}
 use Rattle.ns_types.specs.State.Tables.{map_rows}
 use Rattle.ns_audit.proofs.Alone.Chosen.{same_Some}
 use Rattle.ns_audit.proofs.Outcomes.{leads_unless, leads_found, leads_if}
-use Rattle.ns_audit.proofs.ValidWorkers.Quiet.{Grows, grows_none, grows_then, Quiet, quiet_same, quiet_then, quiet_each, quiet_change, quiet_map, quiet_make_in, quiet_make, quiet_pool, Quietly}
+use Rattle.ns_audit.proofs.ValidWorkers.Quiet.{
+    Grows, grows_none, grows_then, Quiet, quiet_same, quiet_then, quiet_each, quiet_change, quiet_map, quiet_make_in,
+    quiet_make, quiet_pool, Quietly
+}
 
 -- ---- one namespace
 
@@ -54,7 +64,8 @@ grows_client n c t = by (get t.allocations n)
 
 grows_stops : (stops : List ℕ) (t : Tenant) → Grows t (fold (λ x n. with_desired n DesiredStatus.Stop x) t stops)
 grows_stops [] t = grows_none t t refl refl refl
-grows_stops (n ∷ stops) t = grows_then t (with_desired n DesiredStatus.Stop t) _ (grows_desired n DesiredStatus.Stop t) (grows_stops stops (with_desired n DesiredStatus.Stop t))
+grows_stops (n ∷ stops) t = grows_then t (with_desired n DesiredStatus.Stop t) _ (grows_desired n DesiredStatus.Stop t)
+    (grows_stops stops (with_desired n DesiredStatus.Stop t))
 
 grows_deregistered : (purge : Bool) (id : Name) (job : Job) (t : Tenant) → Grows t (deregistered purge id job t)
 grows_deregistered true id job t = grows_none t _ refl refl refl
@@ -64,18 +75,24 @@ grows_deregistered false id job t = grows_none t _ refl refl refl
 
 asked_quiet : (w : World) (ns : Name) (command : AskCommand) (t : Tenant) → get w.tenants ns ≡ Some t → Quietly w (asked_in ns command w t)
 asked_quiet w ns (AskCommand.ListJobs prefix) t is = quiet_same w
-asked_quiet w ns (AskCommand.Register r) t is = leads_unless (Quiet w) _ _ _ (λ _. leads_unless (Quiet w) _ _ _ (λ _. leads_unless (Quiet w) _ _ _ (λ _. leads_unless (Quiet w) _ _ _ (λ _. quiet_make_in ns _ t _ w is (grows_none t _ refl refl refl)))))
+asked_quiet w ns (AskCommand.Register r) t is = leads_unless (Quiet w) _ _ _
+    (λ _. leads_unless (Quiet w) _ _ _ (λ _. leads_unless (Quiet w) _ _ _
+    (λ _. leads_unless (Quiet w) _ _ _ (λ _. quiet_make_in ns _ t _ w is (grows_none t _ refl refl refl)))))
 asked_quiet w ns (AskCommand.ReadJob id) t is = leads_found (Quiet w) (get t.jobs id) _ (λ job _. quiet_same w)
-asked_quiet w ns (AskCommand.Deregister id purge) t is = leads_found (Quiet w) (get t.jobs id) _ (λ job _. quiet_make_in ns _ t (deregistered purge id job t) w is (grows_deregistered purge id job t))
+asked_quiet w ns (AskCommand.Deregister id purge) t is =
+    leads_found (Quiet w) (get t.jobs id) _ (λ job _. quiet_make_in ns _ t (deregistered purge id job t) w is (grows_deregistered purge id job t))
 asked_quiet w ns (AskCommand.JobAllocations id) t is = quiet_same w
 asked_quiet w ns (AskCommand.JobEvaluations id) t is = quiet_same w
 asked_quiet w ns (AskCommand.ListEvaluations prefix) t is = quiet_same w
 asked_quiet w ns (AskCommand.ReadEvaluation n) t is = leads_found (Quiet w) (get t.evaluations n) _ (λ e _. quiet_same w)
 asked_quiet w ns (AskCommand.ListAllocations prefix) t is = quiet_same w
 asked_quiet w ns (AskCommand.ReadAllocation n) t is = leads_found (Quiet w) (get t.allocations n) _ (λ a _. quiet_same w)
-asked_quiet w ns (AskCommand.StopAllocation n) t is = leads_found (Quiet w) (get t.allocations n) _ (λ a _. leads_unless (Quiet w) _ _ _ (λ _. quiet_make_in ns _ t (with_desired n DesiredStatus.Stop t) w is (grows_desired n DesiredStatus.Stop t)))
+asked_quiet w ns (AskCommand.StopAllocation n) t is =
+    leads_found (Quiet w) (get t.allocations n) _
+    (λ a _. leads_unless (Quiet w) _ _ _ (λ _. quiet_make_in ns _ t (with_desired n DesiredStatus.Stop t) w is (grows_desired n DesiredStatus.Stop t)))
 asked_quiet w ns AskCommand.ReadNamespace t is = quiet_same w
-asked_quiet w ns (AskCommand.QuotaUsage quota) t is = leads_if (Quiet w) (names_quota quota t.namespace) (Done (Content.Usage quota (quota_use w quota)) w) (Refused Refusal.NotFound) (λ _. quiet_same w) (λ _. tt)
+asked_quiet w ns (AskCommand.QuotaUsage quota) t is = leads_if (Quiet w) (names_quota quota t.namespace) (Done (Content.Usage quota (quota_use w quota)) w)
+    (Refused Refusal.NotFound) (λ _. quiet_same w) (λ _. tt)
 asked_quiet w ns (AskCommand.Events index) t is = quiet_same w
 
 pub ask_quiet : (w : World) (ns : Name) (command : AskCommand) → Quietly w (ask ns command w)
@@ -88,7 +105,8 @@ down_quiet : (pool node : Name) (w : World) → Quiet w (go_down pool node w)
 unfolding go_down
 down_quiet pool node w = quiet_then w (lose pool node w) _
     (quiet_map (λ _ t. record t { allocations = map_rows (λ _ a. lost pool node a) t.allocations }) (λ ns t. grows_none t _ refl refl refl) w)
-    (quiet_each (λ x (loss : Name × Allocation). make loss.0 (λ t. evaluation_for t loss.1 Trigger.NodeUpdate) x) (λ x loss. quiet_make loss.0 _ x) (losses pool node w) (lose pool node w))
+    (quiet_each (λ x (loss : Name × Allocation). make loss.0 (λ t. evaluation_for t loss.1 Trigger.NodeUpdate) x) (λ x loss. quiet_make loss.0 _ x)
+        (losses pool node w) (lose pool node w))
 
 reported_quiet : (r : Report) (a : Allocation) (w : World) → Quiet w (reported r a w)
 reported_quiet r a w = by (option_map_or (λ t. calls_for_one t a r.client) (get w.tenants r.namespace) false)
@@ -109,18 +127,25 @@ as_many w pool p q n is same q_is = let e = ap (λ (p : PoolRows). p.release) (s
 asked_in_pool_quiet : (w : World) (pool : Name) (command : NodeCommand) (p : PoolRows) → get w.pools pool ≡ Some p → Quietly w (asked_in_pool pool command w p)
 asked_in_pool_quiet w pool NodeCommand.ReadPool p is = quiet_same w
 asked_in_pool_quiet w pool NodeCommand.ListNodes p is = quiet_same w
-asked_in_pool_quiet w pool (NodeCommand.PutNode name offer) p is = leads_unless (Quiet w) _ _ _ (λ _. leads_unless (Quiet w) _ _ _ (λ _. quiet_pool pool _ w (λ q q_is. as_many w pool p q p.release is refl q_is)))
-asked_in_pool_quiet w pool (NodeCommand.DeleteNode name) p is = leads_found (Quiet w) (get p.nodes name) _ (λ node _. leads_unless (Quiet w) _ _ _ (λ _. quiet_pool pool _ w (λ q q_is. as_many w pool p q p.release is refl q_is)))
-asked_in_pool_quiet w pool (NodeCommand.SetStatus name status) p is = leads_found (Quiet w) (get p.nodes name) _ (λ node _. by (with_node name (record node { status = status }) p) refl (is_ready status))
+asked_in_pool_quiet w pool (NodeCommand.PutNode name offer) p is =
+    leads_unless (Quiet w) _ _ _ (λ _. leads_unless (Quiet w) _ _ _ (λ _. quiet_pool pool _ w (λ q q_is. as_many w pool p q p.release is refl q_is)))
+asked_in_pool_quiet w pool (NodeCommand.DeleteNode name) p is =
+    leads_found (Quiet w) (get p.nodes name) _ (λ node _. leads_unless (Quiet w) _ _ _
+    (λ _. quiet_pool pool _ w (λ q q_is. as_many w pool p q p.release is refl q_is)))
+asked_in_pool_quiet w pool (NodeCommand.SetStatus name status) p is =
+    leads_found (Quiet w) (get p.nodes name) _ (λ node _. by (with_node name (record node { status = status }) p) refl (is_ready status))
   where
     by : (p' : PoolRows) → p'.release ≡ p.release → (b : Bool) → Quiet w (cond b (put_pool pool p' w) (go_down pool name (put_pool pool p' w)))
     by p' same true = quiet_pool pool p' w (λ q q_is. as_many w pool p q p'.release is same q_is)
-    by p' same false = quiet_then w (put_pool pool p' w) _ (quiet_pool pool p' w (λ q q_is. as_many w pool p q p'.release is same q_is)) (down_quiet pool name (put_pool pool p' w))
-asked_in_pool_quiet w pool (NodeCommand.SetEligible name eligible) p is = leads_found (Quiet w) (get p.nodes name) _ (λ node _. quiet_pool pool _ w (λ q q_is. as_many w pool p q p.release is refl q_is))
+    by p' same false = quiet_then w (put_pool pool p' w) _ (quiet_pool pool p' w (λ q q_is. as_many w pool p q p'.release is same q_is))
+        (down_quiet pool name (put_pool pool p' w))
+asked_in_pool_quiet w pool (NodeCommand.SetEligible name eligible) p is =
+    leads_found (Quiet w) (get p.nodes name) _ (λ node _. quiet_pool pool _ w (λ q q_is. as_many w pool p q p.release is refl q_is))
 asked_in_pool_quiet w pool (NodeCommand.Report name r) p is = leads_found (Quiet w) (get p.nodes name) _ (λ node _.
     leads_found (Quiet w) (allocation_at w (r.namespace, r.number)) (λ x. unless (not (is_on pool name x)) Refusal.NotFound (report_of r w x)) (λ a _.
     leads_unless (Quiet w) (not (is_on pool name a)) Refusal.NotFound (report_of r w a) (λ _.
-    leads_if (Quiet w) (same_client a.client r.client) (Done Content.Written w) (unless (not (may_become a.client r.client)) Refusal.Conflict (Done Content.Written (reported r a w))) (λ _. quiet_same w)
+    leads_if (Quiet w) (same_client a.client r.client) (Done Content.Written w)
+        (unless (not (may_become a.client r.client)) Refusal.Conflict (Done Content.Written (reported r a w))) (λ _. quiet_same w)
     (λ _. leads_unless (Quiet w) (not (may_become a.client r.client)) Refusal.Conflict (Done Content.Written (reported r a w)) (λ _. reported_quiet r a w)))))
 
 pub ask_pool_quiet : (w : World) (pool : Name) (command : NodeCommand) → Quietly w (ask_pool pool command w)
@@ -130,13 +155,15 @@ ask_pool_quiet w pool command = leads_found (Quiet w) (get w.pools pool) (asked_
 -- ---- what a plan does
 
 evicted_quiet : (vs : List Eviction) (w : World) → Quiet w (evict_all w vs)
-evicted_quiet vs w = quiet_each evict (λ x v. quiet_change v.namespace (with_desired v.number DesiredStatus.Evict) (grows_desired v.number DesiredStatus.Evict) x) vs w
+evicted_quiet vs w = quiet_each evict (λ x v. quiet_change v.namespace (with_desired v.number DesiredStatus.Evict) (grows_desired v.number DesiredStatus.Evict)
+    x) vs w
 
 decided_one : (kept : Snapshot) (ps : List Placement) (c : Commit) (n : ℕ) → Quiet c.world (decide kept ps c n).world
 unfolding decide
 decided_one kept ps c n = by (accepts_at kept (evict_all c.world (victims_of c.world kept (part_of n ps))) (node_name kept n) (part_of n ps) c.placed)
   where
-    by : (b : Bool) → Quiet c.world (cond b (record { world = evict_all c.world (victims_of c.world kept (part_of n ps)); placed = plus c.placed (size_of (part_of n ps)); committed = c.committed ++ n ∷ []; dropped = c.dropped }) (record c { dropped = c.dropped ++ n ∷ [] })).world
+    by : (b : Bool) → Quiet c.world (cond b (record { world = evict_all c.world (victims_of c.world kept (part_of n ps)); placed =
+        plus c.placed (size_of (part_of n ps)); committed = c.committed ++ n ∷ []; dropped = c.dropped }) (record c { dropped = c.dropped ++ n ∷ [] })).world
     by true = evicted_quiet (victims_of c.world kept (part_of n ps)) c.world
     by false = quiet_same c.world
 
@@ -160,7 +187,8 @@ placed_quiet kept p w = job kept.job
     node j None = quiet_same w
     node j (Some n) =
         let x = change_tenant kept.namespace (with_allocation (new_allocation kept j p n)) w in
-        quiet_then w x _ (quiet_change kept.namespace (with_allocation (new_allocation kept j p n)) (λ t. grows_none t _ refl refl refl) w) (counted_quiet kept.pool (node_name kept p.node) n x)
+        quiet_then w x _ (quiet_change kept.namespace (with_allocation (new_allocation kept j p n)) (λ t. grows_none t _ refl refl refl) w)
+            (counted_quiet kept.pool (node_name kept p.node) n x)
 
     job : (o : Option Job) → Quiet w (option_map_or (λ job. option_map_or (place_with kept p w job) (node_at w kept.pool (node_name kept p.node)) w) o w)
     job None = quiet_same w
@@ -168,7 +196,8 @@ placed_quiet kept p w = job kept.job
 
 made_up_quiet : (victims : List Victim) (w : World) → Quiet w (make_up victims w)
 unfolding make_up
-made_up_quiet victims w = quiet_each (λ x v. make v.0 (λ t. evaluation_for t (least_of_job victims v) Trigger.Preemption) x) (λ x v. quiet_make v.0 _ x) (first_each same_victim_job victims) w
+made_up_quiet victims w = quiet_each (λ x v. make v.0 (λ t. evaluation_for t (least_of_job victims v) Trigger.Preemption) x) (λ x v. quiet_make v.0 _ x)
+    (first_each same_victim_job victims) w
 
 pub commit_quiet : (kept : Snapshot) (p : Plan) (w : World) (t : Tenant) → Quiet w (commit kept p w t).world
 unfolding commit

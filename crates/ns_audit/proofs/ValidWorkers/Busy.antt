@@ -50,7 +50,8 @@ abbrev pub KeepsJobs : Tenant → Tenant → Type 0
 KeepsJobs t u = (n : ℕ) (e : Evaluation) → get t.evaluations n ≡ Some e → (d : Evaluation) × (get u.evaluations n ≡ Some d) × (d.job ≡ e.job)
 
 -- no more is busy than before
-pub queued_in : (ready less : List Key) (ns : Name) (t u : Tenant) → IsQueuedIn ready ns t → IsNumbered u → ((n : ℕ) → IsBusyIn less ns u.workers n → IsBusyIn ready ns t.workers n) → KeepsJobs t u → IsQueuedIn less ns u
+pub queued_in : (ready less : List Key) (ns : Name) (t u : Tenant) → IsQueuedIn ready ns t → IsNumbered u →
+    ((n : ℕ) → IsBusyIn less ns u.workers n → IsBusyIn ready ns t.workers n) → KeepsJobs t u → IsQueuedIn less ns u
 queued_in ready less ns t u q numbered busy rows = record {
   numbered = numbered;
   there = λ n b. let e = q.there n (busy n b) in let d = rows n e.0 e.1 in (d.0, d.1);
@@ -59,12 +60,14 @@ queued_in ready less ns t u q numbered busy rows = record {
       let b = q.there n (busy n bn) in
       let x = rows m a.0 a.1 in
       let y = rows n b.0 b.1 in
-      q.one_busy m n a.0 b.0 (busy m bm) (busy n bn) a.1 b.1 (sym x.2 ∙ ap (λ (e : Evaluation). e.job) (same_Some _ _ (sym x.1 ∙ dm)) ∙ same ∙ ap (λ (e : Evaluation). e.job) (same_Some _ _ (sym en ∙ y.1)) ∙ y.2);
+      q.one_busy m n a.0 b.0 (busy m bm) (busy n bn) a.1 b.1 (sym x.2 ∙ ap (λ (e : Evaluation). e.job) (same_Some _ _ (sym x.1 ∙ dm)) ∙ same ∙
+          ap (λ (e : Evaluation). e.job) (same_Some _ _ (sym en ∙ y.1)) ∙ y.2);
 }
 
 -- ---- workers
 
-pub worker_of_insert : (workers : ByNumber Worker) (number : ℕ) (new : Worker) (n : ℕ) → HasWorker (insert workers number new) n → (new.evaluation ≡ n) ⊎ HasWorker workers n
+pub worker_of_insert : (workers : ByNumber Worker) (number : ℕ) (new : Worker) (n : ℕ) → HasWorker (insert workers number new) n → (new.evaluation ≡ n)
+    ⊎ HasWorker workers n
 worker_of_insert workers number new n h = by (row_of_insert numbers_ one_number workers number new h.number h.worker h.is_worker)
   where
     by : ((h.number ≡ number) × (new ≡ h.worker)) ⊎ (get workers h.number ≡ Some h.worker) → (new.evaluation ≡ n) ⊎ HasWorker workers n
@@ -72,7 +75,8 @@ worker_of_insert workers number new n h = by (row_of_insert numbers_ one_number 
     by (inr at) = inr (record { number = h.number; worker = h.worker; is_worker = at; same = h.same })
 
 pub worker_of_remove : (workers : ByNumber Worker) (number : ℕ) (n : ℕ) → HasWorker (remove workers number) n → HasWorker workers n
-worker_of_remove workers number n h = record { number = h.number; worker = h.worker; is_worker = (removed_row workers number h.number h.worker h.is_worker).0; same = h.same }
+worker_of_remove workers number n h = record { number = h.number; worker = h.worker; is_worker =
+    (removed_row workers number h.number h.worker h.is_worker).0; same = h.same }
 
 -- ---- the lists
 
@@ -85,10 +89,12 @@ any_at f (x ∷ xs) key has none = by (λ later. any_at f xs key later (right_no
     by rest (inr later) = rest later
 
 -- an entry more, of a job of which none is busy
-module _ (w : World) (q : IsQueued w) (ns : Name) (n : ℕ) (t : Tenant) (e : Evaluation) (is : get w.tenants ns ≡ Some t) (at : get t.evaluations n ≡ Some e) (idle : is_busy w ns e.job ≡ false) where
+module _ (w : World) (q : IsQueued w) (ns : Name) (n : ℕ) (t : Tenant) (e : Evaluation) (is : get w.tenants ns ≡ Some t) (at : get t.evaluations n ≡ Some e)
+    (idle : is_busy w ns e.job ≡ false) where
   not_busy : (m : ℕ) (d : Evaluation) → get t.evaluations m ≡ Some d → d.job ≡ e.job → IsBusyIn w.ready ns t.workers m → ⊥
   not_busy m d d_at same (inl has) = not_both
-      (λ i. same_name_refl ns i && (ap (λ o. option_map_or (λ (x : Evaluation). same_name e.job x.job) o false) (ap (option_and_then (λ (t : Tenant). get t.evaluations m)) is ∙ d_at) ∙ ap (same_name e.job) same ∙ same_name_refl e.job) i)
+      (λ i. same_name_refl ns i && (ap (λ o. option_map_or (λ (x : Evaluation). same_name e.job x.job) o false)
+          (ap (option_and_then (λ (t : Tenant). get t.evaluations m)) is ∙ d_at) ∙ ap (same_name e.job) same ∙ same_name_refl e.job) i)
       (any_at (is_of_job w ns e.job) w.ready (ns, m) has (left_none _ _ idle))
   not_busy m d d_at same (inr h) = free_of w ns e.job m t d idle is d_at (ap (same_name e.job) same ∙ same_name_refl e.job) h.number h.worker h.is_worker h.same
 
@@ -104,7 +110,8 @@ module _ (w : World) (q : IsQueued w) (ns : Name) (n : ℕ) (t : Tenant) (e : Ev
       by (inr new) = inr (same_key_is (k, m) (ns, n) new)
 
   -- the new one and an old one are not of one job
-  apart : (k : Name) (u : Tenant) → get w.tenants k ≡ Some u → k ≡ ns → (m l : ℕ) (d c : Evaluation) → m ≡ n → IsBusyIn w.ready k u.workers l → get u.evaluations m ≡ Some d → get u.evaluations l ≡ Some c → c.job ≡ d.job → ⊥
+  apart : (k : Name) (u : Tenant) → get w.tenants k ≡ Some u → k ≡ ns → (m l : ℕ) (d c : Evaluation) → m ≡ n → IsBusyIn w.ready k u.workers l →
+      get u.evaluations m ≡ Some d → get u.evaluations l ≡ Some c → c.job ≡ d.job → ⊥
   apart k u u_is same m l d c new old d_at c_at job =
       let x = its k u u_is same in
       not_busy l c (ap (λ (t : Tenant). get t.evaluations l) (sym x) ∙ c_at)
@@ -125,7 +132,8 @@ module _ (w : World) (q : IsQueued w) (ns : Name) (n : ℕ) (t : Tenant) (e : Ev
       row m (inl old) = r.there m old
       row m (inr new) = (e, (λ i. get (its k u u_is new.0 i).evaluations (new.1 i)) ∙ at)
 
-      one : (m l : ℕ) (d c : Evaluation) → IsBusyIn w.ready k u.workers m ⊎ ((k ≡ ns) × (m ≡ n)) → IsBusyIn w.ready k u.workers l ⊎ ((k ≡ ns) × (l ≡ n)) → get u.evaluations m ≡ Some d → get u.evaluations l ≡ Some c → d.job ≡ c.job → m ≡ l
+      one : (m l : ℕ) (d c : Evaluation) → IsBusyIn w.ready k u.workers m ⊎ ((k ≡ ns) × (m ≡ n)) → IsBusyIn w.ready k u.workers l ⊎ ((k ≡ ns) × (l ≡ n)) →
+          get u.evaluations m ≡ Some d → get u.evaluations l ≡ Some c → d.job ≡ c.job → m ≡ l
       one m l d c (inl a) (inl b) d_at c_at job = r.one_busy m l d c a b d_at c_at job
       one m l d c (inr a) (inr b) d_at c_at job = a.1 ∙ sym b.1
       one m l d c (inr a) (inl b) d_at c_at job = absurd (apart k u u_is a.0 m l d c a.1 b d_at c_at (sym job))
@@ -142,15 +150,19 @@ pub queue_queued : (w : World) (key : Key) → IsQueued w → IsQueued (queue w 
 unfolding queue
 queue_queued w key q = in_tenant (get w.tenants key.0) refl
   where
-    busy : (t : Tenant) → get w.tenants key.0 ≡ Some t → (e : Evaluation) → get t.evaluations key.1 ≡ Some e → (b : Bool) → is_busy w key.0 e.job ≡ b → IsQueued (cond b w (record w { ready = w.ready ++ key ∷ [] }))
+    busy : (t : Tenant) → get w.tenants key.0 ≡ Some t → (e : Evaluation) → get t.evaluations key.1 ≡ Some e → (b : Bool) → is_busy w key.0 e.job ≡ b →
+        IsQueued (cond b w (record w { ready = w.ready ++ key ∷ [] }))
     busy t is e at true _ = q
     busy t is e at false idle = entry_queued w q key.0 key.1 t e is at idle
 
-    row : (t : Tenant) → get w.tenants key.0 ≡ Some t → (o : Option Evaluation) → get t.evaluations key.1 ≡ o → IsQueued (option_map_or (λ e. cond (is_busy w key.0 e.job) w (record w { ready = w.ready ++ key ∷ [] })) o w)
+    row : (t : Tenant) → get w.tenants key.0 ≡ Some t → (o : Option Evaluation) → get t.evaluations key.1 ≡ o →
+        IsQueued (option_map_or (λ e. cond (is_busy w key.0 e.job) w (record w { ready = w.ready ++ key ∷ [] })) o w)
     row t is None at = q
     row t is (Some e) at = busy t is e at (is_busy w key.0 e.job) refl
 
-    in_tenant : (o : Option Tenant) → get w.tenants key.0 ≡ o → IsQueued (option_map_or (λ e. cond (is_busy w key.0 e.job) w (record w { ready = w.ready ++ key ∷ [] })) (option_and_then (λ t. get t.evaluations key.1) o) w)
+    in_tenant : (o : Option Tenant) → get w.tenants key.0 ≡ o →
+        IsQueued (option_map_or (λ e. cond (is_busy w key.0 e.job) w (record w { ready = w.ready ++ key ∷ [] }))
+        (option_and_then (λ t. get t.evaluations key.1) o) w)
     in_tenant None is = q
     in_tenant (Some t) is = row t is (get t.evaluations key.1) refl
 
@@ -165,26 +177,31 @@ waiting_of t job n is = by (find f (entries t.evaluations)) refl is
     f : (ℕ × Evaluation) → Bool
     f e = same_name job e.1.job && is_pending e.1.status
 
-    by : (x : Option (ℕ × Evaluation)) → find f (entries t.evaluations) ≡ x → option_map (λ e. e.0) x ≡ Some n → (e : Evaluation) × (get t.evaluations n ≡ Some e) × (job ≡ e.job)
+    by : (x : Option (ℕ × Evaluation)) → find f (entries t.evaluations) ≡ x → option_map (λ e. e.0) x ≡ Some n → (e : Evaluation) ×
+        (get t.evaluations n ≡ Some e) × (job ≡ e.job)
     by None found is = absurd (no_path is)
     by (Some x) found is =
-        let y = find_each (λ e. get t.evaluations e.0 ≡ Some e.1) f (entries t.evaluations) x (each_row numbers_ one_number (λ k e. get t.evaluations k ≡ Some e) t.evaluations (λ k e at. at)) found in
+        let y = find_each (λ e. get t.evaluations e.0 ≡ Some e.1) f (entries t.evaluations) x
+            (each_row numbers_ one_number (λ k e. get t.evaluations k ≡ Some e) t.evaluations (λ k e at. at)) found in
         (x.1, ap (get t.evaluations) (sym (same_Some _ _ is)) ∙ y.0, same_name_is job x.1.job (first_of_both _ _ y.1))
 
 pub promote_queued : (ns job : Name) (w : World) → IsQueued w → IsQueued (promote ns job w)
 unfolding promote
 promote_queued ns job w q = by (is_busy w ns job) refl
   where
-    first : is_busy w ns job ≡ false → (t : Tenant) → get w.tenants ns ≡ Some t → (o : Option ℕ) → first_waiting job t ≡ o → IsQueued (option_map_or (λ n. record w { ready = w.ready ++ (ns, n) ∷ [] }) o w)
+    first : is_busy w ns job ≡ false → (t : Tenant) → get w.tenants ns ≡ Some t → (o : Option ℕ) → first_waiting job t ≡ o →
+        IsQueued (option_map_or (λ n. record w { ready = w.ready ++ (ns, n) ∷ [] }) o w)
     first idle t is None waits = q
     first idle t is (Some n) waits =
         let x = waiting_of t job n waits in
         entry_queued w q ns n t x.0 is x.1 (ap (is_busy w ns) (sym x.2) ∙ idle)
 
-    in_tenant : is_busy w ns job ≡ false → (o : Option Tenant) → get w.tenants ns ≡ o → IsQueued (option_map_or (λ t. option_map_or (λ n. record w { ready = w.ready ++ (ns, n) ∷ [] }) (first_waiting job t) w) o w)
+    in_tenant : is_busy w ns job ≡ false → (o : Option Tenant) → get w.tenants ns ≡ o →
+        IsQueued (option_map_or (λ t. option_map_or (λ n. record w { ready = w.ready ++ (ns, n) ∷ [] }) (first_waiting job t) w) o w)
     in_tenant idle None is = q
     in_tenant idle (Some t) is = first idle t is (first_waiting job t) refl
 
-    by : (b : Bool) → is_busy w ns job ≡ b → IsQueued (cond b w (option_map_or (λ t. option_map_or (λ n. record w { ready = w.ready ++ (ns, n) ∷ [] }) (first_waiting job t) w) (get w.tenants ns) w))
+    by : (b : Bool) → is_busy w ns job ≡ b → IsQueued
+        (cond b w (option_map_or (λ t. option_map_or (λ n. record w { ready = w.ready ++ (ns, n) ∷ [] }) (first_waiting job t) w) (get w.tenants ns) w))
     by true _ = q
     by false idle = in_tenant idle (get w.tenants ns) refl

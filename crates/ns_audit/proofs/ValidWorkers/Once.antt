@@ -29,8 +29,10 @@ module _ {A : Type 0} where
   all_pass p [] h = (refl, refl)
   all_pass p (x ∷ xs) h = by (p x) refl (all_pass p xs) (filter_shorter p xs) h
     where
-      by : (b : Bool) → p x ≡ b → (length xs ≤ length (filter p xs) → (filter p xs ≡ xs) × (list_any (λ x. not (p x)) xs ≡ false)) → length (filter p xs) ≤ length xs
-          → length (x ∷ xs) ≤ length (cond b (x ∷ filter p xs) (filter p xs)) → (cond b (x ∷ filter p xs) (filter p xs) ≡ x ∷ xs) × ((not (p x) || list_any (λ x. not (p x)) xs) ≡ false)
+      by : (b : Bool) → p x ≡ b → (length xs ≤ length (filter p xs) → (filter p xs ≡ xs) × (list_any (λ x. not (p x)) xs ≡ false)) →
+          length (filter p xs) ≤ length xs
+          → length (x ∷ xs) ≤ length (cond b (x ∷ filter p xs) (filter p xs)) → (cond b (x ∷ filter p xs) (filter p xs) ≡ x ∷ xs) ×
+              ((not (p x) || list_any (λ x. not (p x)) xs) ≡ false)
       by true t later few h = let r = later (omega arith) in (ap (λ ys. x ∷ ys) r.0, λ i. not (t i) || r.1 i)
       by false t later few h = absurd (omega arith)
 
@@ -67,7 +69,8 @@ module _ {A : Type 0} where
   each_first_once same [] e = refl
   each_first_once same (x ∷ xs) e =
       let rest = each_first_once same xs (second_of_both (not (list_any (same x) xs)) _ e) in
-      ap (λ ys. x ∷ ys) (ap (filter (λ y. not (same x y))) rest ∙ pass_all (λ y. not (same x y)) xs (double_not (same x) xs ∙ off (list_any (same x) xs) (first_of_both _ _ e)))
+      ap (λ ys. x ∷ ys) (ap (filter (λ y. not (same x y))) rest ∙
+          pass_all (λ y. not (same x y)) xs (double_not (same x) xs ∙ off (list_any (same x) xs) (first_of_both _ _ e)))
 
   pub once_distinct : (same : A → A → Bool) (xs : List A) → is_once same xs ≡ true → is_distinct same xs ≡ true
   once_distinct same xs e = eq-eqb (length (first_each same xs)) (length xs) (ap length (each_first_once same xs e))
@@ -84,15 +87,18 @@ other_way a b e = by (same_key b a) refl
 -- a key that is not there yet
 pub once_append : (keys : List Key) (key : Key) → is_once same_key keys ≡ true → has_key keys key ≡ false → is_once same_key (keys ++ key ∷ []) ≡ true
 once_append [] key e none = refl
-once_append (x ∷ xs) key e none = λ i. not (fresh i) && once_append xs key (second_of_both (not (list_any (same_key x) xs)) _ e) (right_none (same_key key x) _ none) i
+once_append (x ∷ xs) key e none = λ i. not (fresh i)
+    && once_append xs key (second_of_both (not (list_any (same_key x) xs)) _ e) (right_none (same_key key x) _ none) i
   where
     fresh : list_any (same_key x) (xs ++ key ∷ []) ≡ false
-    fresh = list_any-append (same_key x) xs (key ∷ []) ∙ (λ i. off (list_any (same_key x) xs) (first_of_both _ _ e) i || (other_way key x (left_none (same_key key x) _ none) i || false))
+    fresh = list_any-append (same_key x) xs (key ∷ []) ∙
+        (λ i. off (list_any (same_key x) xs) (first_of_both _ _ e) i || (other_way key x (left_none (same_key key x) _ none) i || false))
 
 pub once_filter : {A : Type 0} (same : A → A → Bool) (p : A → Bool) (xs : List A) → is_once same xs ≡ true → is_once same (filter p xs) ≡ true
 once_filter same p [] e = refl
 once_filter same p (x ∷ xs) e = elim (p x) as (λ b. is_once same (cond b (x ∷ filter p xs) (filter p xs)) ≡ true) [
-  | true ↦ λ i. on _ (any_part p (same x) xs (off (list_any (same x) xs) (first_of_both _ _ e))) i && once_filter same p xs (second_of_both (not (list_any (same x) xs)) _ e) i
+  | true ↦ λ i. on _ (any_part p (same x) xs (off (list_any (same x) xs) (first_of_both _ _ e))) i
+      && once_filter same p xs (second_of_both (not (list_any (same x) xs)) _ e) i
   | false ↦ once_filter same p xs (second_of_both (not (list_any (same x) xs)) _ e)
 ]
 
@@ -106,7 +112,8 @@ has_key_still p (x ∷ xs) key e passes = by (p x) refl (or_cases (same_key key 
     use_ true t here = ap (λ c. c || has_key (filter p xs) key) here
     use_ false t here = let k = same_key_is key x here in not_both (ap p (λ i. (sym k.0 i, sym k.1 i)) ∙ passes) t
 
-    by : (b : Bool) → p x ≡ b → (same_key key x ≡ true) ⊎ (has_key xs key ≡ true) → (has_key xs key ≡ true → has_key (filter p xs) key ≡ true) → has_key (cond b (x ∷ filter p xs) (filter p xs)) key ≡ true
+    by : (b : Bool) → p x ≡ b → (same_key key x ≡ true) ⊎ (has_key xs key ≡ true) → (has_key xs key ≡ true → has_key (filter p xs) key ≡ true) →
+        has_key (cond b (x ∷ filter p xs) (filter p xs)) key ≡ true
     by b t (inl here) later = use_ b t here
     by true t (inr there) later = or_true (same_key key x) _ (later there)
     by false t (inr there) later = later there
@@ -133,6 +140,8 @@ without_other [] k key differs = refl
 without_other (x ∷ xs) k key differs = by (same_key k x) refl (without_other xs k key differs)
   where
     by : (b : Bool) → same_key k x ≡ b → has_key (filter (λ other. not (same_key k other)) xs) key ≡ has_key xs key
-        → has_key (cond (not b) (x ∷ filter (λ other. not (same_key k other)) xs) (filter (λ other. not (same_key k other)) xs)) key ≡ (same_key key x || has_key xs key)
-    by true t rest = let p = same_key_is k x t in rest ∙ (λ i. (sym (subst (λ (y : Key). same_key key y ≡ false) (λ i. (p.0 i, p.1 i)) differs)) i || has_key xs key)
+        → has_key (cond (not b) (x ∷ filter (λ other. not (same_key k other)) xs) (filter (λ other. not (same_key k other)) xs)) key ≡
+            (same_key key x || has_key xs key)
+    by true t rest = let p = same_key_is k x t in rest ∙
+        (λ i. (sym (subst (λ (y : Key). same_key key y ≡ false) (λ i. (p.0 i, p.1 i)) differs)) i || has_key xs key)
     by false t rest = λ i. same_key key x || rest i

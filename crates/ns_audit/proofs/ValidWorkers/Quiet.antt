@@ -55,7 +55,8 @@ grows_with_evaluation e t = record {
     by numbered n x (inr at) = more n t.evaluation_number (numbered n x at)
 
 queued_grows : (ready : List Key) (ns : Name) (t u : Tenant) → Grows t u → IsQueuedIn ready ns t → IsQueuedIn ready ns u
-queued_grows ready ns t u g q = queued_in ready ready ns t u q (g.numbered q.numbered) (λ n b. subst (λ workers. IsBusyIn ready ns workers n) g.workers b) (λ n e at. (e, g.rows q.numbered n e at, refl))
+queued_grows ready ns t u g q = queued_in ready ready ns t u q (g.numbered q.numbered) (λ n b. subst (λ workers. IsBusyIn ready ns workers n) g.workers b)
+    (λ n e at. (e, g.rows q.numbered n e at, refl))
 
 -- ---- worlds
 
@@ -108,7 +109,8 @@ quiet_put ns t u w is g = record {
     at_k : (k : Name) (b : Bool) → same_name k ns ≡ b → get (insert w.tenants ns u) k ≡ cond b (Some u) (get w.tenants k)
     at_k k b e = get-insert names w.tenants ns u k ∙ ap (λ b. cond b (Some u) (get w.tenants k)) e
 
-    to : (k : Name) (s : Tenant) → get w.tenants k ≡ Some s → (b : Bool) → same_name k ns ≡ b → (v : Tenant) × (get (insert w.tenants ns u) k ≡ Some v) × Grows s v
+    to : (k : Name) (s : Tenant) → get w.tenants k ≡ Some s → (b : Bool) → same_name k ns ≡ b → (v : Tenant) × (get (insert w.tenants ns u) k ≡ Some v) ×
+        Grows s v
     to k s s_is true e = (u, at_k k true e, subst (λ s. Grows s u) (same_Some _ _ (sym is ∙ ap (get w.tenants) (sym (same_name_is k ns e)) ∙ s_is)) g)
     to k s s_is false e = (s, at_k k false e ∙ s_is, same_grows s)
 
@@ -117,7 +119,8 @@ quiet_put ns t u w is g = record {
     from k v (inr at) = (v, at, same_grows v)
 
     queued : IsQueued w → (k : Name) (v : Tenant) → ((k ≡ ns) × (u ≡ v)) ⊎ (get w.tenants k ≡ Some v) → IsQueuedIn w.ready k v
-    queued q k v (inl e) = subst (λ v. IsQueuedIn w.ready k v) e.1 (subst (λ k. IsQueuedIn w.ready k u) (sym e.0) (queued_grows w.ready ns t u g (q.tenant ns t is)))
+    queued q k v (inl e) = subst (λ v. IsQueuedIn w.ready k v) e.1
+        (subst (λ k. IsQueuedIn w.ready k u) (sym e.0) (queued_grows w.ready ns t u g (q.tenant ns t is)))
     queued q k v (inr at) = q.tenant k v at
 
 pub quiet_change : (ns : Name) (f : Tenant → Tenant) → ((t : Tenant) → Grows t (f t)) → (w : World) → Quiet w (change_tenant ns f w)
@@ -128,7 +131,8 @@ quiet_change ns f g w = by (get w.tenants ns) refl
     by (Some t) is = quiet_put ns t (f t) w is (g t)
 
 -- every namespace grows
-pub quiet_map : (f : Name → Tenant → Tenant) → ((ns : Name) (t : Tenant) → Grows t (f ns t)) → (w : World) → Quiet w (record w { tenants = map_rows f w.tenants })
+pub quiet_map : (f : Name → Tenant → Tenant) → ((ns : Name) (t : Tenant) → Grows t (f ns t)) → (w : World) →
+    Quiet w (record w { tenants = map_rows f w.tenants })
 quiet_map f g w = record {
   goes = λ k t is. (f k t, get-map_rows names one_name f w.tenants k ∙ ap (option_map (f k)) is, g k t);
   came = λ k u is. let y = row_of_map names one_name f w.tenants k u is in (y.0, y.1, subst (λ u. Grows y.0 u) y.2 (g k y.0));
@@ -136,7 +140,8 @@ quiet_map f g w = record {
   pools = λ name p is. (p, is, le_refl p.release);
   quotas = refl;
   queued = λ q. record {
-    tenant = λ k u is. let y = row_of_map names one_name f w.tenants k u is in subst (λ u. IsQueuedIn w.ready k u) y.2 (queued_grows w.ready k y.0 (f k y.0) (g k y.0) (q.tenant k y.0 y.1));
+    tenant = λ k u is. let y = row_of_map names one_name f w.tenants k u is in
+        subst (λ u. IsQueuedIn w.ready k u) y.2 (queued_grows w.ready k y.0 (f k y.0) (g k y.0) (q.tenant k y.0 y.1));
     once = q.once;
   };
 }
@@ -155,13 +160,17 @@ quiet_queue w key = by (evaluation_at w key) refl
       queued = h;
     }
 
-    busy : (e : Evaluation) → evaluation_at w key ≡ Some e → (b : Bool) → is_busy w key.0 e.job ≡ b → (IsQueued w → IsQueued (cond b w (record w { ready = w.ready ++ key ∷ [] }))) → Quiet w (cond b w (record w { ready = w.ready ++ key ∷ [] }))
+    busy : (e : Evaluation) → evaluation_at w key ≡ Some e → (b : Bool) → is_busy w key.0 e.job ≡ b →
+        (IsQueued w → IsQueued (cond b w (record w { ready = w.ready ++ key ∷ [] }))) → Quiet w (cond b w (record w { ready = w.ready ++ key ∷ [] }))
     busy e is true _ h = quiet_same w
     busy e is false _ h = longer h
 
-    by : (o : Option Evaluation) → evaluation_at w key ≡ o → Quiet w (option_map_or (λ e. cond (is_busy w key.0 e.job) w (record w { ready = w.ready ++ key ∷ [] })) o w)
+    by : (o : Option Evaluation) → evaluation_at w key ≡ o →
+        Quiet w (option_map_or (λ e. cond (is_busy w key.0 e.job) w (record w { ready = w.ready ++ key ∷ [] })) o w)
     by None is = quiet_same w
-    by (Some e) is = busy e is (is_busy w key.0 e.job) refl (λ q. subst (λ o. IsQueued (option_map_or (λ e. cond (is_busy w key.0 e.job) w (record w { ready = w.ready ++ key ∷ [] })) o w)) is (queue_queued w key q))
+    by (Some e) is = busy e is (is_busy w key.0 e.job) refl
+        (λ q. subst (λ o. IsQueued (option_map_or (λ e. cond (is_busy w key.0 e.job) w (record w { ready = w.ready ++ key ∷ [] })) o w)) is
+        (queue_queued w key q))
 
 pub quiet_make_in : (ns : Name) (e : Evaluation) (t u : Tenant) (w : World) → get w.tenants ns ≡ Some t → Grows t u → Quiet w (make_in ns e w u)
 quiet_make_in ns e t u w is g = quiet_then w (put_tenant ns (with_evaluation e u) w) (make_in ns e w u)
@@ -186,8 +195,10 @@ quiet_pool pool p w h = record {
   queued = λ q. record { tenant = q.tenant; once = q.once };
 }
   where
-    by : (name : Name) (q : PoolRows) → get w.pools name ≡ Some q → (b : Bool) → same_name name pool ≡ b → (r : PoolRows) × (get (insert w.pools pool p) name ≡ Some r) × (q.release ≤ r.release)
-    by name q is true e = (p, get-insert names w.pools pool p name ∙ ap (λ b. cond b (Some p) (get w.pools name)) e, h q (ap (get w.pools) (sym (same_name_is name pool e)) ∙ is))
+    by : (name : Name) (q : PoolRows) → get w.pools name ≡ Some q → (b : Bool) → same_name name pool ≡ b → (r : PoolRows) ×
+        (get (insert w.pools pool p) name ≡ Some r) × (q.release ≤ r.release)
+    by name q is true e = (p, get-insert names w.pools pool p name ∙
+        ap (λ b. cond b (Some p) (get w.pools name)) e, h q (ap (get w.pools) (sym (same_name_is name pool e)) ∙ is))
     by name q is false e = (q, get-insert names w.pools pool p name ∙ ap (λ b. cond b (Some p) (get w.pools name)) e ∙ is, le_refl q.release)
 
 -- ---- what follows
@@ -206,7 +217,8 @@ module _ (w x : World) (h : Quiet w x) where
         };
     goes = λ k t n worker is has. let u = h.goes k t is in (u.0, u.1, ap (λ m. get m n) u.2.workers ∙ has);
     plans = h.plans;
-    looks = λ k t n worker kept is has keeps. record { pool = h.pools kept.pool; quota = λ q _ r r_is. (r, ap (λ m. get m q.name) (sym h.quotas) ∙ r_is, le_refl r.release) };
+    looks = λ k t n worker kept is has keeps. record
+        { pool = h.pools kept.pool; quota = λ q _ r r_is. (r, ap (λ m. get m q.name) (sym h.quotas) ∙ r_is, le_refl r.release) };
   }
 
 pub held_at_first : (w : World) → IsOrderly w → IsHeldFrom w w

@@ -10,7 +10,10 @@ use Rattle.ns_types.specs.Working.Queue.{queue}
 use Rattle.ns_types.specs.Settling.Releases.{released_classes, releases_quota, woken}
 use Rattle.ns_types.specs.State.Rows.{World, Tenant, PoolRows, QuotaRows}
 use Rattle.ns_types.specs.Settling.Same.{same_evaluation}
-use Rattle.ns_types.specs.Settling.Settle.{pending, unblocked_in, wake, after_release, after_quota_release, number_releases, is_touched, is_changed, changes_evaluation, created_at, stamped_evaluation, stamped, stamp_tenant, stamp, settle}
+use Rattle.ns_types.specs.Settling.Settle.{
+    pending, unblocked_in, wake, after_release, after_quota_release, number_releases, is_touched, is_changed,
+    changes_evaluation, created_at, stamped_evaluation, stamped, stamp_tenant, stamp, settle
+}
 use Rattle.ns_types.specs.State.Tables.{map_rows}
 use Rattle.ns_types.proofs.Named.{names, one_name, numbers as numbers_, one_number}
 use Rattle.ns_types.proofs.Tables.{get-map_rows}
@@ -62,7 +65,8 @@ held_then w x y h s k v n worker is has =
     }
 
 -- other lists, pools and quotas
-stays_tables : (w x : World) → x.tenants ≡ w.tenants → x.plans ≡ w.plans → ((name : Name) → PoolStill w x name) → ((name : Name) → QuotaStill w x name) → Stays w x
+stays_tables : (w x : World) → x.tenants ≡ w.tenants → x.plans ≡ w.plans → ((name : Name) → PoolStill w x name) → ((name : Name) → QuotaStill w x name) →
+    Stays w x
 stays_tables w x tenants plans pools quotas = record {
   came = λ k u n worker is has. record { tenant = u; is_tenant = ap (λ m. get m k) (sym tenants) ∙ is; is_worker = has; row = refl };
   goes = λ k t n worker is has. (t, ap (λ m. get m k) tenants ∙ is, has);
@@ -73,7 +77,8 @@ stays_tables w x tenants plans pools quotas = record {
 -- other rows, but for evaluations that workers have
 stays_map : (w x : World) (f : Name → Tenant → Tenant) → x.tenants ≡ map_rows f w.tenants → x.plans ≡ w.plans → x.pools ≡ w.pools → x.quotas ≡ w.quotas
     → ((k : Name) (t : Tenant) → (f k t).workers ≡ t.workers)
-    → ((k : Name) (t : Tenant) (n : ℕ) (worker : Worker) → get w.tenants k ≡ Some t → get t.workers n ≡ Some worker → get (f k t).evaluations worker.evaluation ≡ get t.evaluations worker.evaluation) → Stays w x
+    → ((k : Name) (t : Tenant) (n : ℕ) (worker : Worker) → get w.tenants k ≡ Some t → get t.workers n ≡ Some worker →
+        get (f k t).evaluations worker.evaluation ≡ get t.evaluations worker.evaluation) → Stays w x
 stays_map w x f tenants plans pools quotas workers rows = record {
   came = λ k u n worker is has.
       let y = row_of_map names one_name f w.tenants k u (ap (λ m. get m k) (sym tenants) ∙ is) in
@@ -83,7 +88,8 @@ stays_map w x f tenants plans pools quotas workers rows = record {
         is_worker = at;
         row = ap (λ (u : Tenant). get u.evaluations worker.evaluation) (sym y.2) ∙ rows k y.0 n worker y.1 at;
       };
-  goes = λ k t n worker is has. (f k t, ap (λ m. get m k) tenants ∙ get-map_rows names one_name f w.tenants k ∙ ap (option_map (f k)) is, ap (λ m. get m n) (workers k t) ∙ has);
+  goes = λ k t n worker is has. (f k t, ap (λ m. get m k) tenants ∙ get-map_rows names one_name f w.tenants k ∙
+      ap (option_map (f k)) is, ap (λ m. get m n) (workers k t) ∙ has);
   plans = plans;
   looks = λ k t n worker kept is has keeps. looks_same w x pools quotas kept;
 }
@@ -95,10 +101,12 @@ pub record Alike (t u : Tenant) : Type 0 where
   pub numbered : IsNumbered t → IsNumbered u
   pub jobs : KeepsJobs t u
 
-alike_rows : (t u : Tenant) (f : ℕ → Evaluation → Evaluation) → u.workers ≡ t.workers → u.evaluation_number ≡ t.evaluation_number → u.evaluations ≡ map_rows f t.evaluations → ((n : ℕ) (e : Evaluation) → (f n e).job ≡ e.job) → Alike t u
+alike_rows : (t u : Tenant) (f : ℕ → Evaluation → Evaluation) → u.workers ≡ t.workers → u.evaluation_number ≡ t.evaluation_number →
+    u.evaluations ≡ map_rows f t.evaluations → ((n : ℕ) (e : Evaluation) → (f n e).job ≡ e.job) → Alike t u
 alike_rows t u f workers number rows jobs = record {
   workers = workers;
-  numbered = λ numbered n e at. let y = row_of_map numbers_ one_number f t.evaluations n e (ap (λ m. get m n) (sym rows) ∙ at) in subst (λ m. n ≤ m) (sym number) (numbered n y.0 y.1);
+  numbered = λ numbered n e at. let y = row_of_map numbers_ one_number f t.evaluations n e (ap (λ m. get m n) (sym rows) ∙ at) in
+      subst (λ m. n ≤ m) (sym number) (numbered n y.0 y.1);
   jobs = λ n e at. (f n e, ap (λ m. get m n) rows ∙ get-map_rows numbers_ one_number f t.evaluations n ∙ ap (option_map (f n)) at, jobs n e);
 }
 
@@ -106,12 +114,15 @@ alike_same : (t : Tenant) → Alike t t
 alike_same t = record { workers = refl; numbered = λ n. n; jobs = λ n e at. (e, at, refl) }
 
 queued_alike : (ready : List Key) (ns : Name) (t u : Tenant) → Alike t u → IsQueuedIn ready ns t → IsQueuedIn ready ns u
-queued_alike ready ns t u a q = queued_in ready ready ns t u q (a.numbered q.numbered) (λ n b. subst (λ workers. IsBusyIn ready ns workers n) a.workers b) a.jobs
+queued_alike ready ns t u a q = queued_in ready ready ns t u q (a.numbered q.numbered) (λ n b. subst (λ workers. IsBusyIn ready ns workers n) a.workers b)
+    a.jobs
 
-queued_map : (w x : World) (f : Name → Tenant → Tenant) → x.tenants ≡ map_rows f w.tenants → x.ready ≡ w.ready → ((k : Name) (t : Tenant) → Alike t (f k t)) → IsQueued w → IsQueued x
+queued_map : (w x : World) (f : Name → Tenant → Tenant) → x.tenants ≡ map_rows f w.tenants → x.ready ≡ w.ready → ((k : Name) (t : Tenant) → Alike t (f k t)) →
+    IsQueued w → IsQueued x
 queued_map w x f tenants ready alike q = record {
   tenant = λ k u is. let y = row_of_map names one_name f w.tenants k u (ap (λ m. get m k) (sym tenants) ∙ is) in
-      subst (λ keys. IsQueuedIn keys k u) (sym ready) (subst (λ u. IsQueuedIn w.ready k u) y.2 (queued_alike w.ready k y.0 (f k y.0) (alike k y.0) (q.tenant k y.0 y.1)));
+      subst (λ keys. IsQueuedIn keys k u) (sym ready)
+          (subst (λ u. IsQueuedIn w.ready k u) y.2 (queued_alike w.ready k y.0 (f k y.0) (alike k y.0) (q.tenant k y.0 y.1)));
   once = ap (is_once same_key) ready ∙ q.once;
 }
 
@@ -167,7 +178,9 @@ module _ (w x : World) where
   stamped_alike None t = alike_same t
   stamped_alike (Some o) t = elim (is_touched o t) as (λ b. Alike t (cond b (stamped (o.index + 1) o t) t)) [
     | true ↦ alike_rows t (stamped (o.index + 1) o t) (stamped_evaluation (o.index + 1) o) refl refl refl (λ n e.
-        elim (changes_evaluation o n e) as (λ b. (cond b (record e { create_index = created_at (o.index + 1) (get o.evaluations n) (λ o. o.create_index); modify_index = o.index + 1 }) e).job ≡ e.job) [ true ↦ refl | false ↦ refl ])
+        elim (changes_evaluation o n e) as (λ b. (cond b
+            (record e { create_index = created_at (o.index + 1) (get o.evaluations n) (λ o. o.create_index); modify_index = o.index + 1 }) e).job ≡ e.job)
+            [ true ↦ refl | false ↦ refl ])
     | false ↦ alike_same t
   ]
 
@@ -188,7 +201,8 @@ module _ (w x : World) where
       get-map_rows numbers_ one_number (λ n e. cond (has_key keys (k, n)) (pending e) e) t.evaluations worker.evaluation ∙ ap (option_map _) d.is_row
       ∙ ap (λ b. Some (cond b (pending d.row) d.row)) (left_alone k t n worker is has (has_key keys (k, worker.evaluation)) refl) ∙ sym d.is_row)
     where
-      left_alone : (k : Name) (t : Tenant) (n : ℕ) (worker : Worker) → get x.tenants k ≡ Some t → get t.workers n ≡ Some worker → (b : Bool) → has_key keys (k, worker.evaluation) ≡ b → b ≡ false
+      left_alone : (k : Name) (t : Tenant) (n : ℕ) (worker : Worker) → get x.tenants k ≡ Some t → get t.workers n ≡ Some worker → (b : Bool) →
+          has_key keys (k, worker.evaluation) ≡ b → b ≡ false
       left_alone k t n worker is has true woke =
           let d = h k t n worker is has in
           let b = at_tenant w IsBlockedIn k worker.evaluation d.tenant d.is_tenant (o.blocked k worker.evaluation (woken_before (k, worker.evaluation) woke)) in
@@ -196,10 +210,12 @@ module _ (w x : World) where
       left_alone k t n worker is has false _ = refl
 
   numbered_stays : Stays opened numbered
-  numbered_stays = stays_tables opened numbered (queues_keep (λ y. y.tenants) (λ y keys. refl) keys opened) (queues_keep (λ y. y.plans) (λ y keys. refl) keys opened)
+  numbered_stays = stays_tables opened numbered (queues_keep (λ y. y.tenants) (λ y keys. refl) keys opened)
+      (queues_keep (λ y. y.plans) (λ y keys. refl) keys opened)
       (λ name p is. (
         after_release (released_classes w x name p) p,
-        get-map_rows names one_name _ waked.pools name ∙ ap (option_map _) (ap (λ m. get m name) (queues_keep (λ y. y.pools) (λ y keys. refl) keys opened) ∙ is),
+        get-map_rows names one_name _ waked.pools name ∙
+            ap (option_map _) (ap (λ m. get m name) (queues_keep (λ y. y.pools) (λ y keys. refl) keys opened) ∙ is),
         release_grows (released_classes w x name p) p,
       ))
       (λ name r is.
@@ -211,18 +227,22 @@ module _ (w x : World) where
 
   -- an evaluation that is as before is not stamped
   stamp_leaves : (index : ℕ) (old : Tenant) (n : ℕ) (e : Evaluation) → get old.evaluations n ≡ Some e → stamped_evaluation index old n e ≡ e
-  stamp_leaves index old n e at = ap (λ b. cond b (record e { create_index = created_at index (get old.evaluations n) (λ o. o.create_index); modify_index = index }) e)
+  stamp_leaves index old n e at = ap (λ b. cond b
+      (record e { create_index = created_at index (get old.evaluations n) (λ o. o.create_index); modify_index = index }) e)
       (ap (λ o. is_changed same_evaluation o e) at ∙ ap not (same_evaluation_refl e))
 
   closed_stays : IsHeldFrom w numbered → Stays numbered closed
   unfolding stamp_tenant
-  closed_stays h = stays_map numbered closed (λ ns t. stamp_tenant (get w.tenants ns) t) refl refl refl refl (λ k t. (stamped_alike (get w.tenants k) t).workers)
+  closed_stays h = stays_map numbered closed (λ ns t. stamp_tenant (get w.tenants ns) t) refl refl refl refl
+      (λ k t. (stamped_alike (get w.tenants k) t).workers)
       (λ k t n worker is has. let d = h k t n worker is has in
       ap (λ o. get (stamp_tenant o t).evaluations worker.evaluation) d.is_tenant ∙ row d.tenant t worker.evaluation d.row d.was_row d.is_row)
     where
-      row : (o t : Tenant) (n : ℕ) (e : Evaluation) → get o.evaluations n ≡ Some e → get t.evaluations n ≡ Some e → get (stamp_tenant (Some o) t).evaluations n ≡ get t.evaluations n
+      row : (o t : Tenant) (n : ℕ) (e : Evaluation) → get o.evaluations n ≡ Some e → get t.evaluations n ≡ Some e →
+          get (stamp_tenant (Some o) t).evaluations n ≡ get t.evaluations n
       row o t n e was at = elim (is_touched o t) as (λ b. get (cond b (stamped (o.index + 1) o t) t).evaluations n ≡ get t.evaluations n) [
-        | true ↦ get-map_rows numbers_ one_number (stamped_evaluation (o.index + 1) o) t.evaluations n ∙ ap (option_map (stamped_evaluation (o.index + 1) o n)) at ∙ ap Some (stamp_leaves (o.index + 1) o n e was) ∙ sym at
+        | true ↦ get-map_rows numbers_ one_number (stamped_evaluation (o.index + 1) o) t.evaluations n ∙
+            ap (option_map (stamped_evaluation (o.index + 1) o n)) at ∙ ap Some (stamp_leaves (o.index + 1) o n e was) ∙ sym at
         | false ↦ refl
       ]
 

@@ -40,8 +40,10 @@ pub record IsAbleWorker (w : World) (ns : Name) (t : Tenant) (number : ℕ) (wor
 
 pub record IsStaffed (w : World) : Type 0 where
   pub worker : (ns : Name) (t : Tenant) (n : ℕ) (worker : Worker) → get w.tenants ns ≡ Some t → get t.workers n ≡ Some worker → IsAbleWorker w ns t n worker
-  pub one_each : (ns : Name) (t : Tenant) (m n : ℕ) (v x : Worker) → get w.tenants ns ≡ Some t → get t.workers m ≡ Some v → get t.workers n ≡ Some x → v.evaluation ≡ x.evaluation → m ≡ n
-  pub one_row : (a b : Name) (s t : Tenant) (n : ℕ) (v x : Worker) → get w.tenants a ≡ Some s → get w.tenants b ≡ Some t → get s.workers n ≡ Some v → get t.workers n ≡ Some x → a ≡ b
+  pub one_each : (ns : Name) (t : Tenant) (m n : ℕ) (v x : Worker) → get w.tenants ns ≡ Some t → get t.workers m ≡ Some v → get t.workers n ≡ Some x →
+      v.evaluation ≡ x.evaluation → m ≡ n
+  pub one_row : (a b : Name) (s t : Tenant) (n : ℕ) (v x : Worker) → get w.tenants a ≡ Some s → get w.tenants b ≡ Some t → get s.workers n ≡ Some v →
+      get t.workers n ≡ Some x → a ≡ b
   pub planned : (key : Key) → has_key w.plans key ≡ true → IsPlanned w key
   pub plans_once : is_once same_key w.plans ≡ true
 
@@ -98,7 +100,8 @@ looks_same w x pools quotas kept = record {
 }
 
 -- a worker whose evaluation is the same
-pub snapshot_still : (w x : World) (t u : Tenant) (worker : Worker) (kept : Snapshot) → IsAbleSnapshot w t worker kept → get u.evaluations worker.evaluation ≡ get t.evaluations worker.evaluation → LooksStill w x kept → IsAbleSnapshot x u worker kept
+pub snapshot_still : (w x : World) (t u : Tenant) (worker : Worker) (kept : Snapshot) → IsAbleSnapshot w t worker kept →
+    get u.evaluations worker.evaluation ≡ get t.evaluations worker.evaluation → LooksStill w x kept → IsAbleSnapshot x u worker kept
 snapshot_still w x t u worker kept y row looks = record {
   number = y.number;
   row = row ∙ y.row;
@@ -113,14 +116,17 @@ snapshot_still w x t u worker kept y row looks = record {
     by None is e = absurd (subst T (sym e ∙ ap is_some is) tt)
     by (Some p) is e = ap is_some (looks.pool p is).1
 
-    by_pool : (o : Option PoolRows) → get w.pools kept.pool ≡ o → is_some (get w.pools kept.pool) ≡ true → (q : PoolRows) → get x.pools kept.pool ≡ Some q → kept.release ≤ q.release
+    by_pool : (o : Option PoolRows) → get w.pools kept.pool ≡ o → is_some (get w.pools kept.pool) ≡ true → (q : PoolRows) → get x.pools kept.pool ≡ Some q →
+        kept.release ≤ q.release
     by_pool None is e q q_is = absurd (subst T (sym e ∙ ap is_some is) tt)
     by_pool (Some p) is e q q_is =
         let r = looks.pool p is in
         le_trans (y.seen p is) (subst (λ (q : PoolRows). p.release ≤ q.release) (same_Some _ _ (sym r.1 ∙ q_is)) r.2)
 
-pub worker_still : (w x : World) (ns : Name) (t u : Tenant) (n : ℕ) (worker : Worker) → IsAbleWorker w ns t n worker → get u.evaluations worker.evaluation ≡ get t.evaluations worker.evaluation
-    → has_key x.plans (ns, worker.evaluation) ≡ has_key w.plans (ns, worker.evaluation) → ((kept : Snapshot) → worker.kept ≡ Some kept → LooksStill w x kept) → IsAbleWorker x ns u n worker
+pub worker_still : (w x : World) (ns : Name) (t u : Tenant) (n : ℕ) (worker : Worker) → IsAbleWorker w ns t n worker →
+    get u.evaluations worker.evaluation ≡ get t.evaluations worker.evaluation
+    → has_key x.plans (ns, worker.evaluation) ≡ has_key w.plans (ns, worker.evaluation) → ((kept : Snapshot) → worker.kept ≡ Some kept → LooksStill w x kept) →
+        IsAbleWorker x ns u n worker
 worker_still w x ns t u n worker k row plans looks = record {
   below = k.below;
   snapshot = λ kept has. snapshot_still w x t u worker kept (k.snapshot kept has) row (looks kept has);
@@ -140,19 +146,23 @@ pub record CameFrom (w : World) (k : Name) (u : Tenant) (n : ℕ) (worker : Work
 
 pub record Stays (w x : World) : Type 0 where
   pub came : (k : Name) (u : Tenant) (n : ℕ) (worker : Worker) → get x.tenants k ≡ Some u → get u.workers n ≡ Some worker → CameFrom w k u n worker
-  pub goes : (k : Name) (t : Tenant) (n : ℕ) (worker : Worker) → get w.tenants k ≡ Some t → get t.workers n ≡ Some worker → (u : Tenant) × (get x.tenants k ≡ Some u) × (get u.workers n ≡ Some worker)
+  pub goes : (k : Name) (t : Tenant) (n : ℕ) (worker : Worker) → get w.tenants k ≡ Some t → get t.workers n ≡ Some worker → (u : Tenant) ×
+      (get x.tenants k ≡ Some u) × (get u.workers n ≡ Some worker)
   pub plans : x.plans ≡ w.plans
-  pub looks : (k : Name) (t : Tenant) (n : ℕ) (worker : Worker) (kept : Snapshot) → get w.tenants k ≡ Some t → get t.workers n ≡ Some worker → worker.kept ≡ Some kept → LooksStill w x kept
+  pub looks : (k : Name) (t : Tenant) (n : ℕ) (worker : Worker) (kept : Snapshot) → get w.tenants k ≡ Some t → get t.workers n ≡ Some worker →
+      worker.kept ≡ Some kept → LooksStill w x kept
 
 pub staffed_stays : (w x : World) → Stays w x → IsStaffed w → IsStaffed x
 staffed_stays w x h s = record {
   worker = λ k u n worker is has. let c = h.came k u n worker is has in
-      worker_still w x k c.tenant u n worker (s.worker k c.tenant n worker c.is_tenant c.is_worker) c.row (ap (λ keys. has_key keys (k, worker.evaluation)) h.plans)
+      worker_still w x k c.tenant u n worker (s.worker k c.tenant n worker c.is_tenant c.is_worker) c.row
+          (ap (λ keys. has_key keys (k, worker.evaluation)) h.plans)
       (λ kept keeps. h.looks k c.tenant n worker kept c.is_tenant c.is_worker keeps);
   one_each = λ k u m n v y is a b same.
       let c = h.came k u m v is a in
       let d = h.came k u n y is b in
-      s.one_each k c.tenant m n v y c.is_tenant c.is_worker (ap (λ (t : Tenant). get t.workers n) (same_Some _ _ (sym c.is_tenant ∙ d.is_tenant)) ∙ d.is_worker) same;
+      s.one_each k c.tenant m n v y c.is_tenant c.is_worker (ap (λ (t : Tenant). get t.workers n) (same_Some _ _ (sym c.is_tenant ∙ d.is_tenant)) ∙ d.is_worker)
+          same;
   one_row = λ a b u t n v y a_is b_is a_has b_has.
       let c = h.came a u n v a_is a_has in
       let d = h.came b t n y b_is b_has in

@@ -52,7 +52,8 @@ sound_queued w s = record { tenant = queued; once = distinct_once same_key w.rea
 -- ---- what is owed after a step
 
 module _ (w : World) (o : IsOrderly w) (s : IsStaffed w) (q : IsQueued w) where
-  sound_snapshot : (ns : Name) (t : Tenant) (n : ℕ) (worker : Worker) → get w.tenants ns ≡ Some t → get t.workers n ≡ Some worker → (kept : Snapshot) → worker.kept ≡ Some kept → IsSoundSnapshot w ns t worker kept
+  sound_snapshot : (ns : Name) (t : Tenant) (n : ℕ) (worker : Worker) → get w.tenants ns ≡ Some t → get t.workers n ≡ Some worker → (kept : Snapshot) →
+      worker.kept ≡ Some kept → IsSoundSnapshot w ns t worker kept
   sound_snapshot ns t n worker is has kept keeps =
       let k = (o.tenant ns t is).snapshot n worker kept has keeps in
       let y = (s.worker ns t n worker is has).snapshot kept keeps in record {
@@ -94,7 +95,8 @@ module _ (w : World) (o : IsOrderly w) (s : IsStaffed w) (q : IsQueued w) where
   manned ns t is = record {
     worker = λ n worker has. sound_worker ns t n worker is has;
     one_each = λ m n v x a b same. s.one_each ns t m n v x is a b same;
-    one_busy = once_distinct same_found (jobs_at t (busy_with w ns t)) (list_of_one w ns t (q.tenant ns t is).one_busy (λ m n v x a b same. s.one_each ns t m n v x is a b same) (free ns t is) q.once);
+    one_busy = once_distinct same_found (jobs_at t (busy_with w ns t))
+        (list_of_one w ns t (q.tenant ns t is).one_busy (λ m n v x a b same. s.one_each ns t m n v x is a b same) (free ns t is) q.once);
   }
 
   row_of : {X : Type 0} (x : Option X) → is_some x ≡ true → (y : X) × (x ≡ Some y)
@@ -104,7 +106,8 @@ module _ (w : World) (o : IsOrderly w) (s : IsStaffed w) (q : IsQueued w) where
   all_sound : HasSoundWorkers w
   all_sound = record {
     tenant = manned;
-    one_row = λ a b t u n a_is b_is a_has b_has. let v = row_of (get t.workers n) a_has in let x = row_of (get u.workers n) b_has in s.one_row a b t u n v.0 x.0 a_is b_is v.1 x.1;
+    one_row = λ a b t u n a_is b_is a_has b_has. let v = row_of (get t.workers n) a_has in let x = row_of (get u.workers n) b_has in
+        s.one_row a b t u n v.0 x.0 a_is b_is v.1 x.1;
     ready = λ key has. let l = o.ready key.0 key.1 has in record {
       row = l.entry.pending.row;
       is_row = ap (option_and_then (λ (t : Tenant). get t.evaluations key.1)) l.is_tenant ∙ l.entry.pending.is_row;

@@ -1,5 +1,8 @@
 -- A worker takes, looks, submits, and applies its plan: workers stay sound.
-use Rattle.std.specs.Prelude.{◌≡◌, ◌≢◌, ℕ, zero, suc, ◌-◌, ◌≤◌, ◌<◌, Bool, true, false, cond, not, T, List, [], ◌∷◌, ◌++◌, Option, Some, None, IsTrue, ◌&&◌, is_some, nat_eq, nat_lt, option_map}
+use Rattle.std.specs.Prelude.{
+    ◌≡◌, ◌≢◌, ℕ, zero, suc, ◌-◌, ◌≤◌, ◌<◌, Bool, true, false, cond, not, T, List, [], ◌∷◌, ◌++◌, Option, Some, None,
+    IsTrue, ◌&&◌, is_some, nat_eq, nat_lt, option_map
+}
 use Rattle.std.proofs.Common.{◌⊎◌, inl, inr, refl, sym, ap, subst, ◌∙◌, arith}
 use Rattle.std.proofs.lemmas.Bool.{ltb-true}
 use Rattle.std.specs.FinMap.{get, contains_key}
@@ -25,7 +28,10 @@ use Rattle.ns_types.specs.State.Rows.{World, Tenant, PoolRows, QuotaRows, is_ope
 use Rattle.ns_types.specs.Working.Snapshot.{namespaces_naming, quota_seen, pool_for, snapshot_of}
 use Rattle.ns_types.specs.State.Sums.{quota_use}
 use Rattle.ns_types.specs.Validity.{IsSound, IsSoundTenant, keeps, least_tries, is_fit}
-use Rattle.ns_types.specs.Working.Work.{with_worker, without_key, workers_end, is_idle, tries_for, new_worker, taken, dequeue_in, dequeue, may_snap, with_snapshot, snap_for, snap, is_snapped, may_submit, submitted, submit_for, submit, is_submitted}
+use Rattle.ns_types.specs.Working.Work.{
+    with_worker, without_key, workers_end, is_idle, tries_for, new_worker, taken, dequeue_in, dequeue, may_snap,
+    with_snapshot, snap_for, snap, is_snapped, may_submit, submitted, submit_for, submit, is_submitted
+}
 use Rattle.ns_types.proofs.Lists.{not_both}
 use Rattle.ns_types.proofs.Named.{names, one_name, numbers as numbers_, one_number, same_name_refl, same_number_refl, first_of_both, second_of_both}
 use Rattle.ns_types.proofs.Tables.{none_of_any}
@@ -43,7 +49,10 @@ use Rattle.ns_audit.proofs.ValidWorkers.Busy.{HasWorker, IsBusyIn, IsQueuedIn, I
 use Rattle.ns_audit.proofs.ValidWorkers.Change.{row_apart, IsMine, reworked, was_here, free_here, working_staff, keeping_staff}
 use Rattle.ns_audit.proofs.ValidWorkers.Once.{is_once, once_append, once_filter, has_key_last, has_key_other, without_it, without_other}
 use Rattle.ns_audit.proofs.ValidWorkers.Quiet.{Grows, Quiet, quiet_stays, held_at_first, stays_held}
-use Rattle.ns_audit.proofs.ValidWorkers.Staff.{IsAbleSnapshot, IsAbleWorker, IsStaffed, Stays, IsHeldAt, IsHeldFrom, sound_staffed, looks_same, staffed_stays, snapshot_still}
+use Rattle.ns_audit.proofs.ValidWorkers.Staff.{
+    IsAbleSnapshot, IsAbleWorker, IsStaffed, Stays, IsHeldAt, IsHeldFrom, sound_staffed, looks_same, staffed_stays,
+    snapshot_still
+}
 use Rattle.std.proofs.Math.Nat.{le_refl}
 
 -- ---- a worker's row becomes another of the same evaluation
@@ -80,7 +89,8 @@ module _ (w b : World) (s : IsStaffed b) (q : IsQueued b) (h : IsHeldFrom w b) (
       by k y (inl e) = subst (λ y. IsQueuedIn b.ready k y) e.1 (subst (λ k. IsQueuedIn b.ready k tenant_after) (sym e.0)
           (queued_in b.ready b.ready ns t tenant_after (q.tenant ns t is) (q.tenant ns t is).numbered busy (λ n e at. (e, at, refl))))
 
-  able_new : IsAbleNew b t new → has_key plans (ns, worker.evaluation) ≡ is_submitted new.phase → (m : ℕ) → m ≡ number → IsAbleWorker world_after ns tenant_after m new
+  able_new : IsAbleNew b t new → has_key plans (ns, worker.evaluation) ≡ is_submitted new.phase → (m : ℕ) → m ≡ number →
+      IsAbleWorker world_after ns tenant_after m new
   able_new a mine m m_is = record {
     below = subst (λ m. m < workers_end) (sym m_is) (s.worker ns t number worker is has).below;
     snapshot = λ kept k_is. snapshot_still b world_after t tenant_after new kept (a.snapshot kept k_is) refl (looks_same b world_after refl refl kept);
@@ -102,7 +112,8 @@ module _ (w b : World) (s : IsStaffed b) (q : IsQueued b) (h : IsHeldFrom w b) (
   }
 
   updated : IsAbleNew b t new → has_key plans (ns, worker.evaluation) ≡ is_submitted new.phase
-      → ((key : Key) → same_key key (ns, worker.evaluation) ≡ false → has_key plans key ≡ has_key b.plans key) → is_once same_key plans ≡ true → IsWell w world_after
+      → ((key : Key) → same_key key (ns, worker.evaluation) ≡ false → has_key plans key ≡ has_key b.plans key) → is_once same_key plans ≡ true →
+          IsWell w world_after
   updated a mine others once = reworked w b world_after ns number worker.evaluation t tenant_after s h (record {
     is_tenant = is;
     put = refl;
@@ -125,9 +136,11 @@ module _ (w b : World) (s : IsStaffed b) (q : IsQueued b) (h : IsHeldFrom w b) (
     };
   }) queued_after
     where
-      back : (m : ℕ) (v : Worker) → ((m ≡ number) × (new ≡ v)) ⊎ ((get t.workers m ≡ Some v) × (m ≢ number)) → IsMine w world_after ns number worker.evaluation tenant_after m v ⊎ ((get t.workers m ≡ Some v) × (m ≢ number))
+      back : (m : ℕ) (v : Worker) → ((m ≡ number) × (new ≡ v)) ⊎ ((get t.workers m ≡ Some v) × (m ≢ number)) →
+          IsMine w world_after ns number worker.evaluation tenant_after m v ⊎ ((get t.workers m ≡ Some v) × (m ≢ number))
       back m v (inr other) = inr other
-      back m v (inl e) = inl (subst (λ v. IsMine w world_after ns number worker.evaluation tenant_after m v) e.1 (record { its_number = e.0; its_evaluation = sym same; able = able_new a mine m e.0; held = held_new }))
+      back m v (inl e) = inl (subst (λ v. IsMine w world_after ns number worker.evaluation tenant_after m v) e.1
+          (record { its_number = e.0; its_evaluation = sym same; able = able_new a mine m e.0; held = held_new }))
 
 -- ---- tests of phases and tries
 
@@ -176,7 +189,8 @@ some_tries JobKind.Batch = omega arith
 
 -- ---- Dequeue
 
-module _ (w : World) (s : IsSound w) (q : IsQueued w) (ns : Name) (number n : ℕ) (t : Tenant) (e : Evaluation) (is : get w.tenants ns ≡ Some t) (at : get t.evaluations n ≡ Some e)
+module _ (w : World) (s : IsSound w) (q : IsQueued w) (ns : Name) (number n : ℕ) (t : Tenant) (e : Evaluation) (is : get w.tenants ns ≡ Some t)
+    (at : get t.evaluations n ≡ Some e)
     (few : nat_lt number workers_end ≡ true) (idle : is_idle w number ≡ true) (listed : has_key w.ready (ns, n) ≡ true) where
   abbrev tenant_taken : Tenant
   tenant_taken = with_worker number (new_worker n e) t
@@ -232,8 +246,10 @@ module _ (w : World) (s : IsSound w) (q : IsQueued w) (ns : Name) (number n : �
       other k u m (inr it) = inr it
 
       by : (k : Name) (u : Tenant) → ((k ≡ ns) × (tenant_taken ≡ u)) ⊎ (get w.tenants k ≡ Some u) → IsQueuedIn (without_key (ns, n) w.ready) k u
-      by k u (inr k_is) = queued_in w.ready (without_key (ns, n) w.ready) k u u (q.tenant k u k_is) (q.tenant k u k_is).numbered (other k u) (λ m d d_at. (d, d_at, refl))
-      by k u (inl same) = subst (λ u. IsQueuedIn (without_key (ns, n) w.ready) k u) same.1 (subst (λ k. IsQueuedIn (without_key (ns, n) w.ready) k tenant_taken) (sym same.0)
+      by k u (inr k_is) = queued_in w.ready (without_key (ns, n) w.ready) k u u (q.tenant k u k_is) (q.tenant k u k_is).numbered (other k u)
+          (λ m d d_at. (d, d_at, refl))
+      by k u (inl same) = subst (λ u. IsQueuedIn (without_key (ns, n) w.ready) k u) same.1
+          (subst (λ k. IsQueuedIn (without_key (ns, n) w.ready) k tenant_taken) (sym same.0)
           (queued_in w.ready (without_key (ns, n) w.ready) ns t tenant_taken (q.tenant ns t is) (q.tenant ns t is).numbered busy (λ m d d_at. (d, d_at, refl))))
 
   taken_well : IsWell w world_taken
@@ -252,19 +268,22 @@ module _ (w : World) (s : IsSound w) (q : IsQueued w) (ns : Name) (number n : �
     planned = λ has. absurd (not_both has no_plan);
   }) queued_taken
     where
-      back : (m : ℕ) (v : Worker) → ((m ≡ number) × (new_worker n e ≡ v)) ⊎ ((get t.workers m ≡ Some v) × (m ≢ number)) → IsMine w world_taken ns number n tenant_taken m v ⊎ ((get t.workers m ≡ Some v) × (m ≢ number))
+      back : (m : ℕ) (v : Worker) → ((m ≡ number) × (new_worker n e ≡ v)) ⊎ ((get t.workers m ≡ Some v) × (m ≢ number)) →
+          IsMine w world_taken ns number n tenant_taken m v ⊎ ((get t.workers m ≡ Some v) × (m ≢ number))
       back m v (inr other) = inr other
       back m v (inl same) = inl (subst (λ v. IsMine w world_taken ns number n tenant_taken m v) same.1 (record {
         its_number = same.0;
         its_evaluation = refl;
         able = able_taken m same.0;
-        held = record { tenant = t; is_tenant = is; row = ready.pending.row; was_row = ready.pending.is_row; is_row = ready.pending.is_row; is_pending = ready.pending.is_pending };
+        held = record { tenant = t; is_tenant = is; row = ready.pending.row; was_row = ready.pending.is_row; is_row = ready.pending.is_row; is_pending =
+            ready.pending.is_pending };
       }))
 
 module _ (w : World) (s : IsSound w) (q : IsQueued w) (ns : Name) (number : ℕ) where
   pub dequeue_well : (n : ℕ) → KeepsStaff w (dequeue number (ns, n) w)
   unfolding dequeue
-  dequeue_well n = leads_if (IsWell w) (nat_lt number workers_end && is_idle w number && is_served w w.ready (ns, n)) (option_map_or (dequeue_in number (ns, n) w) (get w.tenants ns) NotEnabled) NotEnabled (λ h.
+  dequeue_well n = leads_if (IsWell w) (nat_lt number workers_end && is_idle w number && is_served w w.ready (ns, n))
+      (option_map_or (dequeue_in number (ns, n) w) (get w.tenants ns) NotEnabled) NotEnabled (λ h.
       let both = first_of_both (nat_lt number workers_end && is_idle w number) _ h in
       leads_there (IsWell w) (get w.tenants ns) (dequeue_in number (ns, n) w) (λ t is. leads_there (IsWell w) (get t.evaluations n) _ (λ e row.
       taken_well w s q ns number n t e is row (first_of_both (nat_lt number workers_end) _ both) (second_of_both (nat_lt number workers_end) _ both)
@@ -272,7 +291,8 @@ module _ (w : World) (s : IsSound w) (q : IsQueued w) (ns : Name) (number : ℕ)
 
 -- ---- Snap
 
-module _ (w : World) (s : IsSound w) (ns : Name) (number : ℕ) (t : Tenant) (worker : Worker) (e : Evaluation) (is : get w.tenants ns ≡ Some t) (has : get t.workers number ≡ Some worker) (at : get t.evaluations worker.evaluation ≡ Some e) where
+module _ (w : World) (s : IsSound w) (ns : Name) (number : ℕ) (t : Tenant) (worker : Worker) (e : Evaluation) (is : get w.tenants ns ≡ Some t)
+    (has : get t.workers number ≡ Some worker) (at : get t.evaluations worker.evaluation ≡ Some e) where
   abbrev its : IsSoundTenant w ns t
   its = s.tenant ns t is
 
@@ -281,7 +301,8 @@ module _ (w : World) (s : IsSound w) (ns : Name) (number : ℕ) (t : Tenant) (wo
 
   -- the evaluation is open
   opened : is_open e.status ≡ true
-  opened = let p = ((orderly w s).tenant ns t is).held number worker has in ap (λ (e : Evaluation). is_open e.status) (same_Some _ _ (sym at ∙ p.is_row)) ∙ ap is_open p.is_pending
+  opened = let p = ((orderly w s).tenant ns t is).held number worker has in ap (λ (e : Evaluation). is_open e.status) (same_Some _ _ (sym at ∙ p.is_row)) ∙
+      ap is_open p.is_pending
 
   exists : contains_key w.pools seen.pool ≡ true
   exists = by (get t.jobs e.job) refl
@@ -293,11 +314,14 @@ module _ (w : World) (s : IsSound w) (ns : Name) (number : ℕ) (t : Tenant) (wo
   seen_by : (p : PoolRows) → get w.pools seen.pool ≡ Some p → seen.release ≤ p.release
   seen_by p is = subst (λ o. option_map_or (λ (p : PoolRows). p.release) o 0 ≤ p.release) (sym is) (le_refl p.release)
 
-  quota_seen_by : (o : Option Name) (q : QuotaSeen) (rows : QuotaRows) → option_and_then (quota_seen w) o ≡ Some q → get w.quotas q.name ≡ Some rows → q.release ≤ rows.release
+  quota_seen_by : (o : Option Name) (q : QuotaSeen) (rows : QuotaRows) → option_and_then (quota_seen w) o ≡ Some q → get w.quotas q.name ≡ Some rows →
+      q.release ≤ rows.release
   quota_seen_by None q rows named is = absurd (no_path named)
   quota_seen_by (Some name) q rows named is = here (get w.quotas name) refl named
     where
-      here : (o : Option QuotaRows) → get w.quotas name ≡ o → option_map (λ q. record { name = name; limits = limits_in q.quota.limits; used = quota_use w name; release = q.release; namespaces = namespaces_naming w name }) o ≡ Some q → q.release ≤ rows.release
+      here : (o : Option QuotaRows) → get w.quotas name ≡ o →
+          option_map (λ q. record { name = name; limits = limits_in q.quota.limits; used = quota_use w name; release = q.release; namespaces =
+          namespaces_naming w name }) o ≡ Some q → q.release ≤ rows.release
       here None _ named = absurd (no_path named)
       here (Some r) r_is named =
           let same = same_Some _ _ named in
@@ -317,8 +341,10 @@ module _ (w : World) (s : IsSound w) (ns : Name) (number : ℕ) (t : Tenant) (wo
 
 module _ (w : World) (s : IsSound w) where
   -- the snapshot that a worker has
-  able_kept : (ns : Name) (number : ℕ) (t : Tenant) (worker new : Worker) → get w.tenants ns ≡ Some t → get t.workers number ≡ Some worker → worker.evaluation ≡ new.evaluation → worker.kept ≡ new.kept → (kept : Snapshot) → new.kept ≡ Some kept → IsAbleSnapshot w t new kept
-  able_kept ns number t worker new is has same keeps kept k_is = let y = ((sound_staffed w s).worker ns t number worker is has).snapshot kept (keeps ∙ k_is) in record {
+  able_kept : (ns : Name) (number : ℕ) (t : Tenant) (worker new : Worker) → get w.tenants ns ≡ Some t → get t.workers number ≡ Some worker →
+      worker.evaluation ≡ new.evaluation → worker.kept ≡ new.kept → (kept : Snapshot) → new.kept ≡ Some kept → IsAbleSnapshot w t new kept
+  able_kept ns number t worker new is has same keeps kept k_is = let y = ((sound_staffed w s).worker ns t number worker is has).snapshot kept (keeps ∙ k_is) in
+      record {
     number = y.number ∙ same;
     row = ap (get t.evaluations) (sym same) ∙ y.row;
     exists = y.exists;
@@ -334,7 +360,8 @@ module _ (w : World) (s : IsSound w) (q : IsQueued w) (ns : Name) (number : ℕ)
   snap_well = working_staff w number ns (snap_for number ns w) (λ t worker e is has at.
       let kept = snapshot_of w ns t worker.evaluation e in
       let old = (sound_staffed w s).worker ns t number worker is has in
-      leads_if (IsWell w) (may_snap worker.tries worker.phase) (Done (Content.Snapped worker.evaluation) (put_tenant ns (with_worker number (with_snapshot kept worker) t) w)) NotEnabled
+      leads_if (IsWell w) (may_snap worker.tries worker.phase)
+          (Done (Content.Snapped worker.evaluation) (put_tenant ns (with_worker number (with_snapshot kept worker) t) w)) NotEnabled
       (λ may. updated w w (sound_staffed w s) q (held_at_first w (orderly w s)) ns number t worker (with_snapshot kept worker) is has refl w.plans (record {
         snapshot = able_seen w s ns number t worker e is has at;
         keeps_one = refl;
@@ -352,7 +379,8 @@ module _ (w : World) (s : IsSound w) (q : IsQueued w) (ns : Name) (number : ℕ)
       leads_if (IsWell w) (may_submit worker kept) (Done (Content.Queued worker.evaluation) (submitted number ns w t worker)) NotEnabled
       (λ may.
       let snapped = first_of_both (is_snapped worker.phase) _ may in
-      updated w w (sound_staffed w s) q (held_at_first w (orderly w s)) ns number t worker (record worker { phase = Phase.Submitted }) is has refl (w.plans ++ (ns, worker.evaluation) ∷ []) (record {
+      updated w w (sound_staffed w s) q (held_at_first w (orderly w s)) ns number t worker (record worker { phase = Phase.Submitted }) is has refl
+          (w.plans ++ (ns, worker.evaluation) ∷ []) (record {
         snapshot = able_kept w s ns number t worker (record worker { phase = Phase.Submitted }) is has refl refl;
         keeps_one = ap is_some k_is;
         fit = ap (is_fit Phase.Submitted) k_is ∙ second_of_both (is_snapped worker.phase) _ may;
@@ -389,10 +417,13 @@ applied_most a worker e few = by a.has_dropped a.has_committed
     by false false = few
 
 module _ (w : World) (s : IsSound w) (q : IsQueued w) (ns : Name) (number : ℕ) (t : Tenant) (worker : Worker) (e : Evaluation) (kept : Snapshot)
-    (is : get w.tenants ns ≡ Some t) (has : get t.workers number ≡ Some worker) (at : get t.evaluations worker.evaluation ≡ Some e) (k_is : worker.kept ≡ Some kept) (submitted : is_submitted worker.phase ≡ true) where
+    (is : get w.tenants ns ≡ Some t) (has : get t.workers number ≡ Some worker) (at : get t.evaluations worker.evaluation ≡ Some e)
+        (k_is : worker.kept ≡ Some kept) (submitted : is_submitted worker.phase ≡ true) where
   applied_well : (a : Applied) → Quiet w a.world → KeepsStaff w (applied number ns worker e a)
-  applied_well a quiet = subst (λ o. IsWell w (record (option_map_or (λ x. put_tenant ns (with_worker number new x) a.world) o a.world) { plans = without_key (ns, worker.evaluation) a.world.plans })) (sym there.1)
-      (updated w a.world staffed (quiet.queued q) (stays_held w a.world stays (orderly w s)) ns number there.0 worker new there.1 its_row refl (without_key (ns, worker.evaluation) a.world.plans) (record {
+  applied_well a quiet = subst (λ o. IsWell w (record (option_map_or (λ x. put_tenant ns (with_worker number new x) a.world) o a.world)
+      { plans = without_key (ns, worker.evaluation) a.world.plans })) (sym there.1)
+      (updated w a.world staffed (quiet.queued q) (stays_held w a.world stays (orderly w s)) ns number there.0 worker new there.1 its_row refl
+          (without_key (ns, worker.evaluation) a.world.plans) (record {
         snapshot = λ k has_k. let y = able.snapshot k has_k in record {
           number = y.number;
           row = y.row;
@@ -405,8 +436,10 @@ module _ (w : World) (s : IsSound w) (q : IsQueued w) (ns : Name) (number : ℕ)
         keeps_one = ap is_some k_is ∙ sym (applied_keeps a);
         fit = applied_fit a worker.kept;
         least = applied_least a worker e (submitted_least worker.phase worker.tries submitted able.least);
-        most = λ d d_at. subst (λ (d : Evaluation). tries_after a worker e ≤ tries_for d.kind) (same_Some _ _ (sym row ∙ d_at)) (applied_most a worker e (able.most e row));
-      }) (without_it a.world.plans (ns, worker.evaluation) ∙ sym (applied_not_submitted a)) (λ key differs. without_other a.world.plans (ns, worker.evaluation) key differs)
+        most = λ d d_at. subst (λ (d : Evaluation). tries_after a worker e ≤ tries_for d.kind) (same_Some _ _ (sym row ∙ d_at))
+            (applied_most a worker e (able.most e row));
+      }) (without_it a.world.plans (ns, worker.evaluation) ∙ sym (applied_not_submitted a))
+          (λ key differs. without_other a.world.plans (ns, worker.evaluation) key differs)
       (once_filter same_key (λ other. not (same_key (ns, worker.evaluation) other)) a.world.plans staffed.plans_once))
     where
       new : Worker
@@ -433,5 +466,7 @@ module _ (w : World) (s : IsSound w) (q : IsQueued w) (ns : Name) (number : ℕ)
 pub apply_well : (w : World) (s : IsSound w) (q : IsQueued w) (ns : Name) (number : ℕ) → KeepsStaff w (apply number ns w)
 unfolding apply
 apply_well w s q ns number = keeping_staff w number ns (apply_for number ns w) (λ t worker e kept is has at k_is.
-    leads_if (IsWell w) (is_submitted worker.phase && is_served w w.plans (ns, worker.evaluation)) (applied number ns worker e (commit kept (plan kept) w t)) NotEnabled
-    (λ may. applied_well w s q ns number t worker e kept is has at k_is (first_of_both (is_submitted worker.phase) _ may) (commit kept (plan kept) w t) (commit_quiet kept (plan kept) w t)) (λ _. tt))
+    leads_if (IsWell w) (is_submitted worker.phase && is_served w w.plans (ns, worker.evaluation)) (applied number ns worker e (commit kept (plan kept) w t))
+        NotEnabled
+    (λ may. applied_well w s q ns number t worker e kept is has at k_is (first_of_both (is_submitted worker.phase) _ may) (commit kept (plan kept) w t)
+        (commit_quiet kept (plan kept) w t)) (λ _. tt))

@@ -1,6 +1,9 @@
 -- Who may do what: the rules of a secret's policies, merged by pattern.
 -- Nomad's page on the ACL policy specification.
-use Rattle.std.specs.Prelude.{ℕ, max, Bool, true, false, not, ◌&&◌, ◌||◌, if◌then◌else◌, List, [], ◌∷◌, Option, Some, None, filter, flat_map, fold, length, codes}
+use Rattle.std.specs.Prelude.{
+    ℕ, max, Bool, true, false, not, ◌&&◌, ◌||◌, if◌then◌else◌, List, [], ◌∷◌, Option, Some, None, filter, flat_map,
+    fold, length, codes
+}
 use Rattle.std.specs.Option.{option_map_or}
 use Rattle.std.specs.FinMap.{get}
 use Rattle.ns_types.specs.declared.acl.Grants.{Grants}
@@ -29,7 +32,8 @@ bearer_with TokenKind.Management policies = Manager
 -- without a secret it is the policy `anonymous`
 abbrev pub bearer : Acl → Option Name → Bearer
 bearer acl None = Holder (codes "anonymous" ∷ [])
-bearer acl (Some secret) = option_map_or (λ token. bearer_with token.kind token.policies) (get acl.tokens secret) Unknown
+bearer acl (Some secret) = option_map_or (λ token. bearer_with token.kind token.policies) (get acl.tokens secret)
+    Unknown
 
 -- ---- what rules give
 
@@ -39,7 +43,8 @@ is_of_kind RuleKind.Pool rule = elim rule.kind [ RuleKind.Namespace ↦ false | 
 
 -- the rules of the policies that exist
 abbrev pub rules_of : Acl → RuleKind → List Name → List Rule
-rules_of acl kind policies = filter (is_of_kind kind) (flat_map (λ name. option_map_or (λ policy. policy.rules) (get acl.policies name) []) policies)
+rules_of acl kind policies = filter (is_of_kind kind)
+    (flat_map (λ name. option_map_or (λ policy. policy.rules) (get acl.policies name) []) policies)
 
 abbrev pub is_exact : Name → Rule → Bool
 is_exact target rule = not rule.pattern.is_prefix && same_name rule.pattern.text target
@@ -63,7 +68,8 @@ counting target rules =
     if is_empty exact then longest_match target rules else exact
 
 abbrev pub no_grants : Grants
-no_grants = record { list_jobs = false; read_job = false; submit_job = false; alloc_lifecycle = false; read_pool = false; write_pool = false; deny = false }
+no_grants = record { list_jobs = false; read_job = false; submit_job = false; alloc_lifecycle = false; read_pool =
+    false; write_pool = false; deny = false }
 
 abbrev pub both : Grants → Grants → Grants
 both a b = record {
@@ -89,7 +95,8 @@ granted acl kind policies target = unless_denied (merged (counting target (rules
 -- ---- rights
 
 abbrev pub rights_in : Grants → Rights
-rights_in g = record { list_jobs = g.list_jobs; read_job = g.read_job; submit_job = g.submit_job; alloc_lifecycle = g.alloc_lifecycle }
+rights_in g = record { list_jobs = g.list_jobs; read_job = g.read_job; submit_job = g.submit_job; alloc_lifecycle =
+    g.alloc_lifecycle }
 
 abbrev pub no_rights : Rights
 no_rights = record { list_jobs = false; read_job = false; submit_job = false; alloc_lifecycle = false }

@@ -82,7 +82,8 @@ abbrev pub lacks_pool : World → Name → Bool
 lacks_pool w pool = not (contains_key w.pools pool)
 
 abbrev pub lacks_allowed : World → Namespace → Bool
-lacks_allowed w namespace = option_map_or (λ allowed. not (list_all (contains_key w.pools) allowed)) namespace.allowed false
+lacks_allowed w namespace = option_map_or (λ allowed. not (list_all (contains_key w.pools) allowed))
+    namespace.allowed false
 
 unfoldable pub put_namespace : Name → Namespace → World → Outcome World
 put_namespace name namespace w =
@@ -133,7 +134,8 @@ put_pool_record name pool w =
     Done Content.Written (put_pool name (with_pool pool (get w.pools name)) w))
 
 abbrev pub names_pool : Name → Namespace → Bool
-names_pool pool namespace = same_name pool namespace.default_pool || option_map_or (λ allowed. has_name allowed pool) namespace.allowed false
+names_pool pool namespace = same_name pool namespace.default_pool
+    || option_map_or (λ allowed. has_name allowed pool) namespace.allowed false
 
 -- a job, an open evaluation or a kept snapshot of any namespace names it, or a namespace does
 abbrev pub is_pool_in_use : Name → World → Bool
@@ -148,7 +150,9 @@ delete_pool name w = in_pool w name (λ pool.
 -- ---- lists of those that a secret may see
 
 abbrev pub list_namespaces : (Name → Bool) → World → Content
-list_namespaces shows w = Content.Namespaces (map (λ t. record { name = t.0; row = t.1.namespace }) (filter (λ t. shows t.0) (entries w.tenants)))
+list_namespaces shows w = Content.Namespaces
+    (map (λ t. record { name = t.0; row = t.1.namespace }) (filter (λ t. shows t.0) (entries w.tenants)))
 
 abbrev pub list_pools : (Name → Bool) → World → Content
-list_pools shows w = Content.Pools (map (λ p. record { name = p.0; row = p.1.pool }) (filter (λ p. shows p.0) (entries w.pools)))
+list_pools shows w = Content.Pools (map (λ p. record { name = p.0; row = p.1.pool })
+    (filter (λ p. shows p.0) (entries w.pools)))

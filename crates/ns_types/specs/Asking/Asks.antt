@@ -1,6 +1,8 @@
 -- What is asked in one namespace.
 -- Nomad's page on the jobs HTTP API.
-use Rattle.std.specs.Prelude.{ℕ, ◌+◌, Bool, true, false, not, ◌&&◌, if◌then◌else◌, Option, Some, None, nat_eq, nat_le, unwrap_or}
+use Rattle.std.specs.Prelude.{
+    ℕ, ◌+◌, Bool, true, false, not, ◌&&◌, if◌then◌else◌, Option, Some, None, nat_eq, nat_le, unwrap_or
+}
 use Rattle.std.specs.Option.{option_map_or}
 use Rattle.std.specs.FinMap.{get, remove, contains_key, len}
 use Rattle.ns_types.specs.declared.acl.Rights.{Rights}
@@ -17,7 +19,10 @@ use Rattle.ns_types.specs.declared.step.AskCommand.TheVariants as AskCommand
 use Rattle.ns_types.specs.Settling.Making.{with_job, with_desired, evaluation_of, evaluation_for, make_in}
 use Rattle.ns_types.specs.State.Names.{Name, same_number}
 use Rattle.ns_types.specs.Settling.Outcome.{Outcome, Done, unless, found, in_tenant}
-use Rattle.ns_types.specs.Asking.Reads.{list_jobs, read_job, job_allocations, job_evaluations, list_evaluations, read_evaluation, list_allocations, read_allocation, read_namespace, quota_usage, events_from}
+use Rattle.ns_types.specs.Asking.Reads.{
+    list_jobs, read_job, job_allocations, job_evaluations, list_evaluations, read_evaluation, list_allocations,
+    read_allocation, read_namespace, quota_usage, events_from
+}
 use Rattle.ns_types.specs.Access.Rights.{has_any}
 use Rattle.ns_types.specs.State.Rows.{World, Tenant, is_live}
 use Rattle.ns_types.specs.Settling.Same.{same_document}
@@ -30,7 +35,8 @@ abbrev pub pool_of : Tenant → Registration → Name
 pool_of t r = unwrap_or r.pool t.namespace.default_pool
 
 abbrev pub document_of : Tenant → Registration → Document
-document_of t r = record { kind = r.kind; priority = r.priority; pool = pool_of t r; constraints = r.constraints; groups = r.groups }
+document_of t r = record { kind = r.kind; priority = r.priority; pool = pool_of t r; constraints =
+    r.constraints; groups = r.groups }
 
 -- the stored job has the demanded index; zero demands that there is none, stopped or not
 abbrev pub meets : Option Job → ℕ → Bool
@@ -43,7 +49,8 @@ registered_job index document None =
     record { document = document; stop = false; version = 0; create_index = index; modify_index = index }
 registered_job index document (Some job) =
     if same_document document job.document && not job.stop then job
-    else record { document = document; stop = false; version = job.version + 1; create_index = job.create_index; modify_index = index }
+    else record { document = document; stop = false; version = job.version + 1; create_index =
+        job.create_index; modify_index = index }
 
 abbrev pub most_jobs : ℕ
 most_jobs = 1000

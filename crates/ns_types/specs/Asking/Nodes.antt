@@ -1,6 +1,8 @@
 -- What is told of the nodes of one pool.
 -- Nomad's page on the nodes HTTP API.
-use Rattle.std.specs.Prelude.{ℕ, Bool, true, false, not, ◌&&◌, if◌then◌else◌, List, Option, Some, None, filter, map, flat_map, fold, nat_le}
+use Rattle.std.specs.Prelude.{
+    ℕ, Bool, true, false, not, ◌&&◌, if◌then◌else◌, List, Option, Some, None, filter, map, flat_map, fold, nat_le
+}
 use Rattle.std.specs.Option.{option_map_or}
 use Rattle.std.specs.FinMap.{get, remove, contains_key, len, entries, values, from_entries}
 use Rattle.ns_types.specs.declared.acl.PoolRights.{PoolRights}
@@ -34,7 +36,8 @@ abbrev pub read_pool : Name → PoolRows → Content
 read_pool name pool = Content.Pool (record { name = name; row = pool.pool })
 
 abbrev pub list_nodes : Name → World → PoolRows → Content
-list_nodes name w pool = Content.Nodes (map (λ n. record { pool = name; name = n.0; row = n.1; used = node_load w name n.0 }) (entries pool.nodes))
+list_nodes name w pool = Content.Nodes
+    (map (λ n. record { pool = name; name = n.0; row = n.1; used = node_load w name n.0 }) (entries pool.nodes))
 
 -- ---- registration
 
@@ -62,7 +65,8 @@ delete_node pool name w p = found (get p.nodes name) (λ node.
 
 -- of each job that has live allocations on the node the one with the least number, by job id
 abbrev pub losing_jobs : Name → Name → Tenant → List Allocation
-losing_jobs pool node t = values (from_entries {R = name_cmp} (map (λ a. (a.1.job, a.1)) (filter (λ a. is_live_on pool node a.1) (entries t.allocations))))
+losing_jobs pool node t = values (from_entries {R = name_cmp}
+    (map (λ a. (a.1.job, a.1)) (filter (λ a. is_live_on pool node a.1) (entries t.allocations))))
 
 -- by namespace, then job id
 abbrev pub losses : Name → Name → World → List (Name × Allocation)
@@ -73,11 +77,13 @@ abbrev pub lost : Name → Name → Allocation → Allocation
 lost pool node a = if is_live_on pool node a then record a { client = ClientStatus.Lost } else a
 
 abbrev pub lose : Name → Name → World → World
-lose pool node w = record w { tenants = map_rows (λ _ t. record t { allocations = map_rows (λ _ a. lost pool node a) t.allocations }) w.tenants }
+lose pool node w = record w { tenants =
+    map_rows (λ _ t. record t { allocations = map_rows (λ _ a. lost pool node a) t.allocations }) w.tenants }
 
 -- and each job that had one gets an evaluation
 unfoldable pub go_down : Name → Name → World → World
-go_down pool node w = fold (λ x loss. make loss.0 (λ t. evaluation_for t loss.1 Trigger.NodeUpdate) x) (lose pool node w) (losses pool node w)
+go_down pool node w = fold (λ x loss. make loss.0 (λ t. evaluation_for t loss.1 Trigger.NodeUpdate) x)
+    (lose pool node w) (losses pool node w)
 
 abbrev pub set_status : Name → Name → NodeStatus → World → PoolRows → Outcome World
 set_status pool name status w p = found (get p.nodes name) (λ node.

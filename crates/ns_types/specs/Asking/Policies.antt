@@ -9,7 +9,10 @@ use Rattle.ns_types.specs.declared.reply.Content.TheVariants as Content
 use Rattle.ns_types.specs.declared.step.AdminCommand.{AdminCommand}
 use Rattle.ns_types.specs.declared.step.AdminCommand.TheVariants as AdminCommand
 use Rattle.ns_types.specs.declared.step.NewToken.{NewToken}
-use Rattle.ns_types.specs.Asking.Admins.{is_full, most_rows, put_namespace, delete_namespace, list_namespaces, list_quotas, read_quota, put_quota, delete_quota, list_pools, put_pool_record, delete_pool}
+use Rattle.ns_types.specs.Asking.Admins.{
+    is_full, most_rows, put_namespace, delete_namespace, list_namespaces, list_quotas, read_quota, put_quota,
+    delete_quota, list_pools, put_pool_record, delete_pool
+}
 use Rattle.ns_types.specs.State.Names.{Name, same_name}
 use Rattle.ns_types.specs.Settling.Outcome.{Outcome, Done, unless, found, lift}
 use Rattle.ns_types.specs.Access.Rights.{rights_of, pool_rights_of, has_any, is_known, is_manager}
@@ -19,7 +22,8 @@ use Rattle.ns_types.specs.State.Tables.{any_row}
 -- ---- policies
 
 abbrev pub read_policy : Name → Acl → Outcome Acl
-read_policy name acl = found (get acl.policies name) (λ policy. Done (Content.Policy (record { name = name; row = policy })) acl)
+read_policy name acl = found (get acl.policies name)
+    (λ policy. Done (Content.Policy (record { name = name; row = policy })) acl)
 
 abbrev pub put_policy : Name → Policy → Acl → Outcome Acl
 put_policy name policy acl =
@@ -27,7 +31,8 @@ put_policy name policy acl =
     Done Content.Written (record acl { policies = insert acl.policies name policy }))
 
 abbrev pub delete_policy : Name → Acl → Outcome Acl
-delete_policy name acl = found (get acl.policies name) (λ policy. Done Content.Written (record acl { policies = remove acl.policies name }))
+delete_policy name acl = found (get acl.policies name)
+    (λ policy. Done Content.Written (record acl { policies = remove acl.policies name }))
 
 -- ---- tokens
 
@@ -46,7 +51,8 @@ abbrev pub create_token : NewToken → Acl → Outcome Acl
 create_token new acl =
     unless (contains_key acl.tokens new.secret || has_accessor acl new.accessor) Refusal.Conflict (
     unless (nat_le most_rows (len acl.tokens)) Refusal.Full (
-    Done (Content.Token (record { accessor = new.accessor; secret = new.secret; name = new.name; kind = new.kind; policies = new.policies }))
+    Done (Content.Token (record { accessor = new.accessor; secret = new.secret; name = new.name; kind =
+        new.kind; policies = new.policies }))
     (record acl { tokens = insert acl.tokens new.secret (token_of new) })))
 
 abbrev pub secret_of : Acl → Name → Option Name
@@ -72,14 +78,16 @@ abbrev pub in_acl : State → (Acl → Outcome Acl) → Outcome State
 in_acl s change = lift (with_acl s.world) (change s.acl)
 
 unfoldable pub administer : Option Name → AdminCommand → State → Outcome State
-administer secret AdminCommand.ListNamespaces s = Done (list_namespaces (λ ns. has_any (rights_of s.acl secret ns)) s.world) s
+administer secret AdminCommand.ListNamespaces s =
+    Done (list_namespaces (λ ns. has_any (rights_of s.acl secret ns)) s.world) s
 administer secret (AdminCommand.PutNamespace name namespace) s = in_world s (put_namespace name namespace)
 administer secret (AdminCommand.DeleteNamespace name) s = in_world s (delete_namespace name)
 administer secret AdminCommand.ListQuotas s = Done (list_quotas s.world) s
 administer secret (AdminCommand.ReadQuota name) s = in_world s (read_quota name)
 administer secret (AdminCommand.PutQuota name quota) s = in_world s (put_quota name quota)
 administer secret (AdminCommand.DeleteQuota name) s = in_world s (delete_quota name)
-administer secret AdminCommand.ListPools s = Done (list_pools (λ pool. (pool_rights_of s.acl secret pool).read) s.world) s
+administer secret AdminCommand.ListPools s = Done (list_pools (λ pool. (pool_rights_of s.acl secret pool).read) s.world)
+    s
 administer secret (AdminCommand.PutPool name pool) s = in_world s (put_pool_record name pool)
 administer secret (AdminCommand.DeletePool name) s = in_world s (delete_pool name)
 administer secret (AdminCommand.ReadPolicy name) s = in_acl s (read_policy name)

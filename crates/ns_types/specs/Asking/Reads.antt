@@ -32,7 +32,8 @@ abbrev pub job_shown : Name → Tenant → Name → Job → JobShown
 job_shown ns t id job = record { namespace = ns; id = id; row = job; status = job_status t id job }
 
 abbrev pub list_jobs : Name → Name → Tenant → Content
-list_jobs ns prefix t = Content.Jobs (map (λ e. job_shown ns t e.0 e.1) (filter (λ e. begins_with prefix e.0) (entries t.jobs)))
+list_jobs ns prefix t = Content.Jobs (map (λ e. job_shown ns t e.0 e.1)
+    (filter (λ e. begins_with prefix e.0) (entries t.jobs)))
 
 abbrev pub read_job : Name → Name → World → Tenant → Outcome World
 read_job ns id w t = found (get t.jobs id) (λ job. Done (Content.Job (job_shown ns t id job)) w)
@@ -40,7 +41,8 @@ read_job ns id w t = found (get t.jobs id) (λ job. Done (Content.Job (job_shown
 -- ---- evaluations
 
 abbrev pub evaluations_where : Name → Tenant → (EvaluationShown → Bool) → Content
-evaluations_where ns t passes = Content.Evaluations (filter passes (map (λ e. record { namespace = ns; number = e.0; row = e.1 }) (entries t.evaluations)))
+evaluations_where ns t passes = Content.Evaluations
+    (filter passes (map (λ e. record { namespace = ns; number = e.0; row = e.1 }) (entries t.evaluations)))
 
 abbrev pub list_evaluations : Name → Name → Tenant → Content
 list_evaluations ns prefix t = evaluations_where ns t (λ e. begins_with prefix (id_text IdKind.Evaluation e.number))
@@ -49,12 +51,14 @@ abbrev pub job_evaluations : Name → Name → Tenant → Content
 job_evaluations ns job t = evaluations_where ns t (λ e. same_name job e.row.job)
 
 abbrev pub read_evaluation : Name → ℕ → World → Tenant → Outcome World
-read_evaluation ns n w t = found (get t.evaluations n) (λ e. Done (Content.Evaluation (record { namespace = ns; number = n; row = e })) w)
+read_evaluation ns n w t = found (get t.evaluations n)
+    (λ e. Done (Content.Evaluation (record { namespace = ns; number = n; row = e })) w)
 
 -- ---- allocations
 
 abbrev pub allocations_where : Name → Tenant → (AllocationShown → Bool) → Content
-allocations_where ns t passes = Content.Allocations (filter passes (map (λ a. record { namespace = ns; number = a.0; row = a.1 }) (entries t.allocations)))
+allocations_where ns t passes = Content.Allocations
+    (filter passes (map (λ a. record { namespace = ns; number = a.0; row = a.1 }) (entries t.allocations)))
 
 abbrev pub list_allocations : Name → Name → Tenant → Content
 list_allocations ns prefix t = allocations_where ns t (λ a. begins_with prefix (id_text IdKind.Allocation a.number))
@@ -63,7 +67,8 @@ abbrev pub job_allocations : Name → Name → Tenant → Content
 job_allocations ns job t = allocations_where ns t (λ a. same_name job a.row.job)
 
 abbrev pub read_allocation : Name → ℕ → World → Tenant → Outcome World
-read_allocation ns n w t = found (get t.allocations n) (λ a. Done (Content.Allocation (record { namespace = ns; number = n; row = a })) w)
+read_allocation ns n w t = found (get t.allocations n)
+    (λ a. Done (Content.Allocation (record { namespace = ns; number = n; row = a })) w)
 
 -- ---- the namespace, its quota, its events
 

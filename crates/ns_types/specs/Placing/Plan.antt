@@ -63,7 +63,8 @@ placing_of s None stops = all_placed
 placing_of s (Some j) stops = place (quota_of s) (demands (Some j) s.own) (opening s j stops)
 
 unfoldable pub plan : Snapshot → Plan
-plan s = let stops = stopping s.job s.own in record { stops = map (λ a. a.number) stops; placing = placing_of s s.job stops }
+plan s = let stops = stopping s.job s.own in
+    record { stops = map (λ a. a.number) stops; placing = placing_of s s.job stops }
 
 -- it neither stops nor places
 abbrev pub does_nothing : Plan → Bool
@@ -86,4 +87,6 @@ any_escapes s = list_any escapes (constraints_of s.job)
 -- the infeasible classes of the snapshot's nodes, in their order, each once
 abbrev pub infeasible_classes : Snapshot → List Class
 infeasible_classes s =
-    keys (from_entries {R = class_cmp} (map (λ p. (class_of p.row, p.name)) (filter (λ p. is_class_infeasible (constraints_of s.job) p.name p.row) s.nodes)))
+    keys (from_entries {R = class_cmp}
+        (map (λ p. (class_of p.row, p.name))
+        (filter (λ p. is_class_infeasible (constraints_of s.job) p.name p.row) s.nodes)))

@@ -1,6 +1,9 @@
 -- Which allocations of the evaluation's job stop, and which are missing.
 -- Nomad's page "Scheduling in Nomad", of what a scheduler reconciles.
-use Rattle.std.specs.Prelude.{ℕ, ◌+◌, ◌-◌, ◌==◌, Bool, true, false, not, ◌&&◌, List, [], ◌∷◌, ◌++◌, Option, Some, None, if◌then◌else◌, count_by, drop, filter, length, replicate}
+use Rattle.std.specs.Prelude.{
+    ℕ, ◌+◌, ◌-◌, ◌==◌, Bool, true, false, not, ◌&&◌, List, [], ◌∷◌, ◌++◌, Option, Some, None, if◌then◌else◌, count_by,
+    drop, filter, length, replicate
+}
 use Rattle.std.specs.List.{flat_map}
 use Rattle.std.specs.Str.{bytes_eq}
 use Rattle.ns_types.specs.declared.job.Group.{Group}
@@ -59,7 +62,8 @@ group_size g = total (λ t. t.resources) g.tasks
 
 abbrev pub demands_from : ℕ → Job → List OwnAllocation → List Group → List Demand
 demands_from i j own [] = []
-demands_from i j own (g ∷ gs) = replicate (missing j own g) (record { group = i; size = group_size g }) ++ demands_from (i + 1) j own gs
+demands_from i j own (g ∷ gs) = replicate (missing j own g) (record { group = i; size = group_size g }) ++
+    demands_from (i + 1) j own gs
 
 -- the missing allocations, in the order of groups
 abbrev pub demands : Option Job → List OwnAllocation → List Demand

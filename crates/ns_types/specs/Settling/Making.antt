@@ -38,13 +38,16 @@ abbrev pub with_job : Name → Job → Tenant → Tenant
 with_job id job t = record t { jobs = insert t.jobs id job }
 
 abbrev pub with_status : ℕ → Status → Tenant → Tenant
-with_status n status t = option_map_or (λ e. record t { evaluations = insert t.evaluations n (record e { status = status }) }) (get t.evaluations n) t
+with_status n status t = option_map_or
+    (λ e. record t { evaluations = insert t.evaluations n (record e { status = status }) }) (get t.evaluations n) t
 
 abbrev pub with_desired : ℕ → DesiredStatus → Tenant → Tenant
-with_desired n desired t = option_map_or (λ a. record t { allocations = insert t.allocations n (record a { desired = desired }) }) (get t.allocations n) t
+with_desired n desired t = option_map_or
+    (λ a. record t { allocations = insert t.allocations n (record a { desired = desired }) }) (get t.allocations n) t
 
 abbrev pub with_client : ℕ → ClientStatus → Tenant → Tenant
-with_client n client t = option_map_or (λ a. record t { allocations = insert t.allocations n (record a { client = client }) }) (get t.allocations n) t
+with_client n client t = option_map_or
+    (λ a. record t { allocations = insert t.allocations n (record a { client = client }) }) (get t.allocations n) t
 
 -- ---- new evaluations
 
@@ -79,7 +82,8 @@ evaluation_for t ended trigger =
 
 -- the evaluation gets the namespace's next number
 abbrev pub with_evaluation : Evaluation → Tenant → Tenant
-with_evaluation e t = record t { evaluation_number = t.evaluation_number + 1; evaluations = insert t.evaluations (t.evaluation_number + 1) e }
+with_evaluation e t = record t { evaluation_number = t.evaluation_number + 1; evaluations =
+    insert t.evaluations (t.evaluation_number + 1) e }
 
 -- and is ready, or waits for another of its job
 abbrev pub make_in : Name → Evaluation → World → Tenant → World

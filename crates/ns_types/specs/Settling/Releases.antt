@@ -15,17 +15,21 @@ use Rattle.ns_types.specs.declared.records.Namespace.{Namespace}
 use Rattle.ns_types.specs.declared.snapshot.Snapshot.{Snapshot}
 use Rattle.ns_types.specs.State.Names.{Name, Key, same_name, has_key, has_class, attribute_cmp}
 use Rattle.ns_types.specs.State.Resources.{same_resources, same_limits, limits_in}
-use Rattle.ns_types.specs.State.Rows.{World, PoolRows, QuotaRows, is_live, is_free, class_of, allocation_at, node_at, evaluation_at}
+use Rattle.ns_types.specs.State.Rows.{
+    World, PoolRows, QuotaRows, is_live, is_free, class_of, allocation_at, node_at, evaluation_at
+}
 use Rattle.ns_types.specs.State.Sums.{names_quota}
 use Rattle.ns_types.specs.State.Tables.{any_row}
 
 -- equal class, attributes and capacity
 abbrev pub same_offer : Offer → Offer → Bool
-same_offer a b = same_name a.class b.class && pointwise (eq_by_cmp attribute_cmp) a.attributes b.attributes && same_resources a.capacity b.capacity
+same_offer a b = same_name a.class b.class && pointwise (eq_by_cmp attribute_cmp) a.attributes b.attributes
+    && same_resources a.capacity b.capacity
 
 -- some allocation that passes was live before the step and is not live after it
 unfoldable pub ends : World → World → (Namespace → Allocation → Bool) → Bool
-ends w w' passes = any_row (λ ns t. any_row (λ n a. is_live a && passes t.namespace a && not (option_map_or is_live (allocation_at w' (ns, n)) false)) t.allocations) w.tenants
+ends w w' passes = any_row (λ ns t. any_row (λ n a. is_live a && passes t.namespace a
+    && not (option_map_or is_live (allocation_at w' (ns, n)) false)) t.allocations) w.tenants
 
 abbrev pub is_on : Name → Name → Namespace → Allocation → Bool
 is_on pool node _ a = same_name pool a.pool && same_name node a.node
@@ -41,7 +45,8 @@ gives_room w w' pool name node = is_free node
 
 -- the released classes of a pool; a pool without one is not released
 unfoldable pub released_classes : World → World → Name → PoolRows → List Class
-released_classes w w' name pool = map (λ e. class_of e.1) (filter (λ e. gives_room w w' name e.0 e.1) (entries pool.nodes))
+released_classes w w' name pool = map (λ e. class_of e.1)
+    (filter (λ e. gives_room w w' name e.0 e.1) (entries pool.nodes))
 
 abbrev pub classes_of : World → World → Name → List Class
 classes_of w w' pool = option_map_or (released_classes w w' pool) (get w'.pools pool) []
@@ -51,7 +56,8 @@ changes_limits old new = not (same_limits (limits_in old.quota.limits) (limits_i
 
 -- the quota's limits change, or a live allocation of a namespace that names it ends
 unfoldable pub releases_quota : World → World → Name → QuotaRows → Bool
-releases_quota w w' name quota = option_map_or (λ old. changes_limits old quota) (get w.quotas name) false || ends w w' (counts_in name)
+releases_quota w w' name quota = option_map_or (λ old. changes_limits old quota) (get w.quotas name) false
+    || ends w w' (counts_in name)
 
 abbrev pub is_released_quota : World → World → Name → Bool
 is_released_quota w w' name = option_map_or (releases_quota w w' name) (get w'.quotas name) false
@@ -78,8 +84,11 @@ woken w w' = filter (λ key. has_key w'.blocked key && option_map_or (wakes w w'
 
 -- by the quota that limits the follower: a release after the snapshot would have woken it
 abbrev pub missed_by : World → Snapshot → Evaluation → Option Name → Bool
-missed_by w kept e (Some quota) = nat_lt (option_map_or (λ q. q.release) kept.quota 0) (option_map_or (λ q. q.release) (get w.quotas quota) 0)
-missed_by w kept e None = option_map_or (λ pool. any_row (λ class number. nat_lt kept.release number && can_use e class) pool.classes) (get w.pools e.pool) false
+missed_by w kept e (Some quota) = nat_lt (option_map_or (λ q. q.release) kept.quota 0)
+    (option_map_or (λ q. q.release) (get w.quotas quota) 0)
+missed_by w kept e None = option_map_or
+    (λ pool. any_row (λ class number. nat_lt kept.release number && can_use e class) pool.classes) (get w.pools e.pool)
+    false
 
 unfoldable pub missed : World → Snapshot → Evaluation → Bool
 missed w kept e = missed_by w kept e e.quota

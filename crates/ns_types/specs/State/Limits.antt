@@ -60,13 +60,16 @@ is_good_group g = is_name NameKind.Group g.name && nat_le g.count 1000 && is_bet
 abbrev pub is_good_document : Document → Bool
 is_good_document d = is_between 1 100 d.priority && is_pool_name d.pool
     && nat_le (length d.constraints) 16 && list_all is_good_constraint d.constraints
-    && is_between 1 16 (length d.groups) && list_all is_good_group d.groups && is_distinct same_name (map (λ g. g.name) d.groups)
+    && is_between 1 16 (length d.groups) && list_all is_good_group d.groups
+        && is_distinct same_name (map (λ g. g.name) d.groups)
 
 -- a pool need not be named
 abbrev pub is_good_registration : Registration → Bool
-is_good_registration r = is_name NameKind.Job r.id && is_between 1 100 r.priority && option_map_or is_pool_name r.pool true
+is_good_registration r = is_name NameKind.Job r.id && is_between 1 100 r.priority
+    && option_map_or is_pool_name r.pool true
     && nat_le (length r.constraints) 16 && list_all is_good_constraint r.constraints
-    && is_between 1 16 (length r.groups) && list_all is_good_group r.groups && is_distinct same_name (map (λ g. g.name) r.groups)
+    && is_between 1 16 (length r.groups) && list_all is_good_group r.groups
+        && is_distinct same_name (map (λ g. g.name) r.groups)
 
 -- ---- nodes
 
@@ -81,7 +84,8 @@ is_pool_list pools = nat_le (length pools) 1000 && list_all is_pool_name pools &
 
 -- not both lists, and what is denied is not the default
 abbrev pub is_good_namespace : Namespace → Bool
-is_good_namespace n = is_text n.description && option_map_or (is_name NameKind.Quota) n.quota true && is_pool_name n.default_pool
+is_good_namespace n = is_text n.description && option_map_or (is_name NameKind.Quota) n.quota true
+    && is_pool_name n.default_pool
     && option_map_or is_pool_list n.allowed true && is_pool_list n.denied
     && (is_none n.allowed || is_empty n.denied) && not (has_name n.denied n.default_pool)
 
@@ -99,4 +103,5 @@ abbrev pub is_good_policy : Policy → Bool
 is_good_policy p = is_text p.description && nat_le (length p.text) 65536
 
 abbrev pub is_good_token : Token → Bool
-is_good_token t = is_text t.name && nat_le (length t.policies) 64 && list_all (is_name NameKind.Policy) t.policies && is_distinct same_name t.policies
+is_good_token t = is_text t.name && nat_le (length t.policies) 64 && list_all (is_name NameKind.Policy) t.policies
+    && is_distinct same_name t.policies

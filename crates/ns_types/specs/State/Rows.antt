@@ -125,7 +125,8 @@ is_unique key = begins_with (codes "unique.") key
 
 -- the class of a node, with all attributes that are not unique
 abbrev pub class_of : Node → Class
-class_of node = record { name = node.offer.class; attributes = filter (λ a. not (is_unique a.key)) node.offer.attributes }
+class_of node = record { name = node.offer.class; attributes =
+    filter (λ a. not (is_unique a.key)) node.offer.attributes }
 
 -- ---- look-ups
 

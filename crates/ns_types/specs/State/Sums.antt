@@ -18,7 +18,8 @@ tenant_sum counts amount t = sum_by (λ e. cond (counts e.1) (amount e.1.size) 0
 
 -- over the live allocations of all namespaces that name the quota
 unfoldable pub quota_sum : World → Name → (Resources → ℕ) → ℕ
-quota_sum w quota amount = sum_by (λ e. cond (names_quota quota e.1.namespace) (tenant_sum is_live amount e.1) 0) (entries w.tenants)
+quota_sum w quota amount = sum_by (λ e. cond (names_quota quota e.1.namespace) (tenant_sum is_live amount e.1) 0)
+    (entries w.tenants)
 
 abbrev pub quota_use : World → Name → Resources
 quota_use w quota = record { cpu = quota_sum w quota (λ r. r.cpu); memory = quota_sum w quota (λ r. r.memory) }
@@ -28,4 +29,5 @@ unfoldable pub node_sum : World → Name → Name → (Resources → ℕ) → �
 node_sum w pool node amount = sum_by (λ e. tenant_sum (is_live_on pool node) amount e.1) (entries w.tenants)
 
 abbrev pub node_load : World → Name → Name → Resources
-node_load w pool node = record { cpu = node_sum w pool node (λ r. r.cpu); memory = node_sum w pool node (λ r. r.memory) }
+node_load w pool node = record { cpu = node_sum w pool node (λ r. r.cpu); memory =
+    node_sum w pool node (λ r. r.memory) }

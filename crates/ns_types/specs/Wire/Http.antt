@@ -1,10 +1,15 @@
 -- Requests of HTTP/1.1 (RFC 9112) over whole byte strings: no buffer and no reads.
-use Rattle.std.specs.Prelude.{◌≡◌, ℕ, ◌<◌, ◌≤◌, ◌⊎◌, Bool, true, false, ◌&&◌, ◌||◌, List, [], ◌∷◌, ◌++◌, map, length, take, Option, Some, None, Result, Ok, Err, if◌then◌else◌, nat_lt, nat_le, ◌==◌, codes, bytes_eq, MatchBool, ⊤}
+use Rattle.std.specs.Prelude.{
+    ◌≡◌, ℕ, ◌<◌, ◌≤◌, ◌⊎◌, Bool, true, false, ◌&&◌, ◌||◌, List, [], ◌∷◌, ◌++◌, map, length, take, Option, Some, None,
+    Result, Ok, Err, if◌then◌else◌, nat_lt, nat_le, ◌==◌, codes, bytes_eq, MatchBool, ⊤
+}
 use Rattle.std.specs.List.{list_all, list_any, slice_split}
 use Rattle.std.specs.Char.{is_ascii_digit, to_ascii_lowercase}
 use Rattle.std.specs.Str.Parse.{digits_value}
 use Rattle.httparse.specs.Ascii.{comma}
-use Rattle.httparse.specs.Grammar.{trim_ows, RequestHead, print_request, IsRequestHead, HasNoRequest, NeverHasRequest, MayBecomeRequest}
+use Rattle.httparse.specs.Grammar.{
+    trim_ows, RequestHead, print_request, IsRequestHead, HasNoRequest, NeverHasRequest, MayBecomeRequest
+}
 use Rattle.httparse.specs.Spans.{name_and_value, RequestExceeds, RequestOverflows}
 use Rattle.ns_types.specs.declared.reply.HeadFault.{HeadFault}
 use Rattle.ns_types.specs.declared.reply.HeadFault.TheVariants.{BadHead, NeedLength, TooLarge}
@@ -62,11 +67,13 @@ body_len headers =
 
 -- the value lists `close`, in any case
 unfoldable pub lists_close : List ℕ → Bool
-lists_close value = list_any (λ piece. eq_ignore_case (trim_ows piece) (codes "close")) (slice_split (λ b. b == comma) value)
+lists_close value = list_any (λ piece. eq_ignore_case (trim_ows piece) (codes "close"))
+    (slice_split (λ b. b == comma) value)
 
 -- HTTP/1.0, or a `Connection` header that lists `close`
 unfoldable pub asks_close : ℕ → List Header → Bool
-asks_close minor headers = (minor == 0) || list_any (λ h. eq_ignore_case h.0 (codes "connection") && lists_close h.1) headers
+asks_close minor headers = (minor == 0) || list_any (λ h. eq_ignore_case h.0 (codes "connection") && lists_close h.1)
+    headers
 
 -- the first `X-Nomad-Token`
 unfoldable pub token_of : List Header → Option (List ℕ)
@@ -110,14 +117,17 @@ pub record IsMessage (m : Message) : Type 0 where
 -- Why the bytes begin with a head that is refused, whatever follows them.
 pub data RefusesHead (bytes : List ℕ) : HeadFault → Type 0 where
   malformed : NeverHasRequest bytes → RefusesHead bytes BadHead
-  framing : (h : RequestHead) (rest : List ℕ) (fault : HeadFault) → IsHead h → bytes ≡ print_request h ++ rest → body_len (map name_and_value h.fields) ≡ Err fault → RefusesHead bytes fault
-  too_long : max_head_len ≤ length bytes → HasNoRequest (take max_head_len bytes) → MayBecomeRequest (take max_head_len bytes) → RefusesHead bytes TooLarge
+  framing : (h : RequestHead) (rest : List ℕ) (fault : HeadFault) → IsHead h → bytes ≡ print_request h ++ rest →
+      body_len (map name_and_value h.fields) ≡ Err fault → RefusesHead bytes fault
+  too_long : max_head_len ≤ length bytes → HasNoRequest (take max_head_len bytes) →
+      MayBecomeRequest (take max_head_len bytes) → RefusesHead bytes TooLarge
   too_many : RequestExceeds max_headers bytes → RequestOverflows max_headers bytes → RefusesHead bytes TooLarge
 
 -- less than a whole request, which more bytes may complete
 pub data IsPartial (bytes : List ℕ) : Type 0 where
   in_head : HasNoRequest bytes → MayBecomeRequest bytes → IsPartial bytes
-  in_body : (h : RequestHead) (body : List ℕ) (len : ℕ) → IsHead h → bytes ≡ print_request h ++ body → body_len (map name_and_value h.fields) ≡ Ok len → length body < len → IsPartial bytes
+  in_body : (h : RequestHead) (body : List ℕ) (len : ℕ) → IsHead h → bytes ≡ print_request h ++ body →
+      body_len (map name_and_value h.fields) ≡ Ok len → length body < len → IsPartial bytes
 
 -- a request as it was received: whole, or refused by its head
 pub data Received : Type 0 where
@@ -129,7 +139,8 @@ abbrev pub is_last : Received → Bool
 is_last (Whole m) = closes m
 is_last (Refused fault) = true
 
--- The bytes begin with these requests, and then the rest. Where the connection is closed, the last one closes it, and no other does.
+-- The bytes begin with these requests, and then the rest. Where the connection is closed, the last one closes it, and
+-- no other does.
 abbrev pub Takes : List ℕ → List Received → Bool → List ℕ → Type 0
 Takes bytes [] closed rest = (closed ≡ false) × (bytes ≡ rest)
 Takes bytes (Refused fault ∷ received) closed rest =
@@ -159,10 +170,12 @@ Requests bytes received end = (rest : List ℕ) × Takes bytes received (is_clos
 
 -- the head is both faulty and over a limit
 pub data IsFaultyAndOver (bytes : List ℕ) : Type 0 where
-  faulty_long : NeverHasRequest bytes → HasNoRequest (take max_head_len bytes) → max_head_len ≤ length bytes → IsFaultyAndOver bytes
+  faulty_long : NeverHasRequest bytes → HasNoRequest (take max_head_len bytes) → max_head_len ≤ length bytes →
+      IsFaultyAndOver bytes
   faulty_many : NeverHasRequest bytes → RequestExceeds max_headers bytes → IsFaultyAndOver bytes
 
--- Two readings of the same bytes agree, but for two freedoms: a head that is both faulty and over a limit may be refused as
+-- Two readings of the same bytes agree, but for two freedoms: a head that is both faulty and over a limit may be
+-- refused as
 -- either, and a head without its end, where the bytes end, may be refused or not.
 abbrev pub ReadAlike : List ℕ → List Received → End → List Received → End → Type 0
 ReadAlike bytes [] e [] f = e ≡ f

@@ -1,6 +1,9 @@
 -- Responses as bytes, and a conversation of requests and responses.
 -- RFC 9112, section 4, and RFC 9110, section 15.
-use Rattle.std.specs.Prelude.{◌≡◌, ℕ, Bool, true, false, List, [], ◌∷◌, ◌++◌, length, Option, Some, None, if◌then◌else◌, ◌==◌, codes, decimal, string_bytes}
+use Rattle.std.specs.Prelude.{
+    ◌≡◌, ℕ, Bool, true, false, List, [], ◌∷◌, ◌++◌, length, Option, Some, None, if◌then◌else◌, ◌==◌, codes, decimal,
+    string_bytes
+}
 use Rattle.ns_types.specs.declared.reply.HeadFault.{HeadFault}
 use Rattle.ns_types.specs.declared.reply.HeadFault.TheVariants.{BadHead, NeedLength, TooLarge}
 use Rattle.ns_types.specs.declared.refusal.Refusal.{Refusal}

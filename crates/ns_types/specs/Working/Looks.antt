@@ -39,6 +39,9 @@ worker_at w number ns = option_and_then (λ t. get t.workers number) (get w.tena
 -- why a plan is refused: the worker is not at that, the snapshot is another than the kept one, or the plan does nothing
 pub data RefusesPlan (w : World) (number : ℕ) (ns : Name) (p : Planned) : Refusal → Type 0 where
   idle : worker_at w number ns ≡ None → RefusesPlan w number ns p Refusal.NotEnabled
-  out_of_turn : (worker : Worker) → worker_at w number ns ≡ Some worker → is_snapped worker.phase ≡ false → RefusesPlan w number ns p Refusal.NotEnabled
-  foreign : (worker : Worker) → worker_at w number ns ≡ Some worker → is_snapped worker.phase ≡ true → worker.kept ≢ Some p.snapshot → RefusesPlan w number ns p Refusal.Foreign
-  empty : (worker : Worker) → worker_at w number ns ≡ Some worker → is_snapped worker.phase ≡ true → worker.kept ≡ Some p.snapshot → does_nothing p.plan_of ≡ true → RefusesPlan w number ns p Refusal.NotEnabled
+  out_of_turn : (worker : Worker) → worker_at w number ns ≡ Some worker → is_snapped worker.phase ≡ false →
+      RefusesPlan w number ns p Refusal.NotEnabled
+  foreign : (worker : Worker) → worker_at w number ns ≡ Some worker → is_snapped worker.phase ≡ true →
+      worker.kept ≢ Some p.snapshot → RefusesPlan w number ns p Refusal.Foreign
+  empty : (worker : Worker) → worker_at w number ns ≡ Some worker → is_snapped worker.phase ≡ true →
+      worker.kept ≡ Some p.snapshot → does_nothing p.plan_of ≡ true → RefusesPlan w number ns p Refusal.NotEnabled

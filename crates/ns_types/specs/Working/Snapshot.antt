@@ -1,6 +1,8 @@
 -- What a worker looks at: one evaluation's part of the state.
 -- Nomad's page "Scheduling in Nomad".
-use Rattle.std.specs.Prelude.{ℕ, Bool, false, ◌&&◌, ◌||◌, List, [], Option, Some, None, filter, map, flat_map, option_map}
+use Rattle.std.specs.Prelude.{
+    ℕ, Bool, false, ◌&&◌, ◌||◌, List, [], Option, Some, None, filter, map, flat_map, option_map
+}
 use Rattle.std.specs.Option.{option_map_or, option_and_then}
 use Rattle.std.specs.FinMap.{get, entries}
 use Rattle.ns_types.specs.declared.allocation.Allocation.{Allocation}
@@ -25,11 +27,13 @@ is_done_for (Some job) a = is_batch job.document.kind && same_number a.job_modif
 
 -- the job's live and done allocations, by number
 abbrev pub own_allocations : Tenant → Name → Option Job → List OwnAllocation
-own_allocations t id job = map (λ a. record { number = a.0; row = a.1 }) (filter (λ a. same_name id a.1.job && (is_live a.1 || is_done_for job a.1)) (entries t.allocations))
+own_allocations t id job = map (λ a. record { number = a.0; row = a.1 })
+    (filter (λ a. same_name id a.1.job && (is_live a.1 || is_done_for job a.1)) (entries t.allocations))
 
 -- the live allocations on a node, of all namespaces
 abbrev pub allocations_on : World → Name → Name → List (Name × (ℕ × Allocation))
-allocations_on w pool node = flat_map (λ t. map (λ a. (t.0, a)) (filter (λ a. is_live_on pool node a.1) (entries t.1.allocations))) (entries w.tenants)
+allocations_on w pool node = flat_map
+    (λ t. map (λ a. (t.0, a)) (filter (λ a. is_live_on pool node a.1) (entries t.1.allocations))) (entries w.tenants)
 
 abbrev pub seen_live : Name × (ℕ × Allocation) → LiveAllocation
 seen_live a = record { namespace = a.0; number = a.1.0; priority = a.1.1.priority; size = a.1.1.size }
@@ -40,13 +44,15 @@ live_on w pool node = map seen_live (by_number (λ a. a.1.1.place) (allocations_
 
 -- the nodes of a pool, by name
 abbrev pub nodes_of : World → Name → List PoolNode
-nodes_of w pool = option_map_or (λ p. map (λ n. record { name = n.0; row = n.1; live = live_on w pool n.0 }) (entries p.nodes)) (get w.pools pool) []
+nodes_of w pool = option_map_or (λ p. map (λ n. record { name = n.0; row = n.1; live = live_on w pool n.0 })
+    (entries p.nodes)) (get w.pools pool) []
 
 unfoldable pub namespaces_naming : World → Name → List Name
 namespaces_naming w quota = map (λ t. t.0) (filter (λ t. names_quota quota t.1.namespace) (entries w.tenants))
 
 abbrev pub quota_seen : World → Name → Option QuotaSeen
-quota_seen w name = option_map (λ q. record { name = name; limits = limits_in q.quota.limits; used = quota_use w name; release = q.release; namespaces = namespaces_naming w name }) (get w.quotas name)
+quota_seen w name = option_map (λ q. record { name = name; limits = limits_in q.quota.limits; used =
+    quota_use w name; release = q.release; namespaces = namespaces_naming w name }) (get w.quotas name)
 
 -- the job's pool, or its evaluation's where the job is gone
 abbrev pub pool_for : Evaluation → Option Job → Name

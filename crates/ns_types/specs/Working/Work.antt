@@ -1,6 +1,9 @@
 -- A worker's steps, but for Apply: it takes an evaluation, looks, hands in its plan, and finishes or gives up.
 -- Nomad's page "Scheduling in Nomad", of workers.
-use Rattle.std.specs.Prelude.{ℕ, ◌+◌, Bool, true, false, not, ◌&&◌, ◌||◌, if◌then◌else◌, List, [], ◌∷◌, ◌++◌, Option, Some, None, nat_eq, nat_lt, nat_le, filter, option_map, find}
+use Rattle.std.specs.Prelude.{
+    ℕ, ◌+◌, Bool, true, false, not, ◌&&◌, ◌||◌, if◌then◌else◌, List, [], ◌∷◌, ◌++◌, Option, Some, None, nat_eq, nat_lt,
+    nat_le, filter, option_map, find
+}
 use Rattle.std.specs.Option.{option_map_or}
 use Rattle.std.specs.FinMap.{get, insert, remove, contains_key, entries}
 use Rattle.ns_types.specs.declared.evaluation.Evaluation.{Evaluation}
@@ -38,7 +41,9 @@ without_key key keys = filter (λ other. not (same_key key other)) keys
 -- what a worker that is busy for the namespace does with its evaluation
 abbrev pub at_work : ℕ → Name → World → (Tenant → Worker → Evaluation → Outcome World) → Outcome World
 at_work number ns w act =
-    option_map_or (λ t. option_map_or (λ worker. option_map_or (act t worker) (get t.evaluations worker.evaluation) NotEnabled) (get t.workers number) NotEnabled) (get w.tenants ns) NotEnabled
+    option_map_or (λ t. option_map_or
+        (λ worker. option_map_or (act t worker) (get t.evaluations worker.evaluation) NotEnabled) (get t.workers number)
+        NotEnabled) (get w.tenants ns) NotEnabled
 
 -- ---- Dequeue
 
@@ -56,10 +61,12 @@ abbrev pub new_worker : ℕ → Evaluation → Worker
 new_worker n e = record { evaluation = n; phase = Phase.Took; tries = tries_for e.kind; kept = None }
 
 abbrev pub taken : ℕ → Key → World → Tenant → Evaluation → World
-taken number key w t e = record (put_tenant key.0 (with_worker number (new_worker key.1 e) t) w) { ready = without_key key w.ready }
+taken number key w t e = record (put_tenant key.0 (with_worker number (new_worker key.1 e) t) w)
+    { ready = without_key key w.ready }
 
 abbrev pub dequeue_in : ℕ → Key → World → Tenant → Outcome World
-dequeue_in number key w t = option_map_or (λ e. Done (Content.Took key.1) (taken number key w t e)) (get t.evaluations key.1) NotEnabled
+dequeue_in number key w t = option_map_or (λ e. Done (Content.Took key.1) (taken number key w t e))
+    (get t.evaluations key.1) NotEnabled
 
 unfoldable pub dequeue : ℕ → Key → World → Outcome World
 dequeue number key w =
@@ -83,7 +90,8 @@ with_snapshot kept worker = record worker { phase = Phase.Snapped; kept = Some k
 abbrev pub snap_for : ℕ → Name → World → Tenant → Worker → Evaluation → Outcome World
 snap_for number ns w t worker e =
     if may_snap worker.tries worker.phase
-    then Done (Content.Snapped worker.evaluation) (put_tenant ns (with_worker number (with_snapshot (snapshot_of w ns t worker.evaluation e) worker) t) w)
+    then Done (Content.Snapped worker.evaluation)
+        (put_tenant ns (with_worker number (with_snapshot (snapshot_of w ns t worker.evaluation e) worker) t) w)
     else NotEnabled
 
 unfoldable pub snap : ℕ → Name → World → Outcome World
@@ -100,14 +108,18 @@ abbrev pub may_submit : Worker → Snapshot → Bool
 may_submit worker kept = is_snapped worker.phase && not (does_nothing (plan kept))
 
 abbrev pub submitted : ℕ → Name → World → Tenant → Worker → World
-submitted number ns w t worker = record (put_tenant ns (with_worker number (record worker { phase = Phase.Submitted }) t) w) { plans = w.plans ++ (ns, worker.evaluation) ∷ [] }
+submitted number ns w t worker = record
+    (put_tenant ns (with_worker number (record worker { phase = Phase.Submitted }) t) w)
+    { plans = w.plans ++ (ns, worker.evaluation) ∷ [] }
 
 abbrev pub submit_for : ℕ → Name → World → Tenant → Worker → Snapshot → Outcome World
 submit_for number ns w t worker kept =
-    if may_submit worker kept then Done (Content.Queued worker.evaluation) (submitted number ns w t worker) else NotEnabled
+    if may_submit worker kept then Done (Content.Queued worker.evaluation) (submitted number ns w t worker)
+        else NotEnabled
 
 unfoldable pub submit : ℕ → Name → World → Outcome World
-submit number ns w = at_work number ns w (λ t worker e. option_map_or (submit_for number ns w t worker) worker.kept NotEnabled)
+submit number ns w = at_work number ns w
+    (λ t worker e. option_map_or (submit_for number ns w t worker) worker.kept NotEnabled)
 
 -- ---- Finish
 
@@ -157,10 +169,12 @@ follower_of e worker kept = record {
 
 -- the number of the job's blocked evaluation
 abbrev pub blocked_of : Tenant → Name → Option ℕ
-blocked_of t job = option_map (λ e. e.0) (find (λ e. same_name job e.1.job && is_blocked e.1.status) (entries t.evaluations))
+blocked_of t job = option_map (λ e. e.0)
+    (find (λ e. same_name job e.1.job && is_blocked e.1.status) (entries t.evaluations))
 
 abbrev pub without_blocked : Name → Name → Tenant → World → World
-without_blocked ns job t w = option_map_or (λ n. record w { blocked = without_key (ns, n) w.blocked }) (blocked_of t job) w
+without_blocked ns job t w = option_map_or (λ n. record w { blocked = without_key (ns, n) w.blocked })
+    (blocked_of t job) w
 
 abbrev pub cancel_blocked : Name → Tenant → Tenant
 cancel_blocked job t = option_map_or (λ n. with_status n Status.Canceled t) (blocked_of t job) t
@@ -170,19 +184,23 @@ abbrev pub ended : ℕ → Worker → Evaluation → Status → Tenant → Tenan
 ended number worker e status t = cancel_blocked e.job (with_status worker.evaluation status (without_worker number t))
 
 abbrev pub tied_to : ℕ → ℕ → Tenant → Tenant
-tied_to n follower t = option_map_or (λ e. record t { evaluations = insert t.evaluations n (record e { follower = Some follower }) }) (get t.evaluations n) t
+tied_to n follower t = option_map_or (λ e. record t
+    { evaluations = insert t.evaluations n (record e { follower = Some follower }) }) (get t.evaluations n) t
 
 -- the follower is the namespace's next evaluation
 abbrev pub with_follower : ℕ → Evaluation → Tenant → Tenant
 with_follower n follower t =
     let number = t.evaluation_number + 1 in
-    record (tied_to n number t) { evaluation_number = number; evaluations = insert (tied_to n number t).evaluations number follower }
+    record (tied_to n number t) { evaluation_number = number; evaluations =
+        insert (tied_to n number t).evaluations number follower }
 
 -- a follower that missed a release is pending and waits; else it is blocked
 abbrev pub followed : Name → Worker → Evaluation → Tenant → Bool → World → World
-followed ns worker follower t true w = put_tenant ns (with_follower worker.evaluation (record follower { status = Status.Pending }) t) w
+followed ns worker follower t true w =
+    put_tenant ns (with_follower worker.evaluation (record follower { status = Status.Pending }) t) w
 followed ns worker follower t false w =
-    record (put_tenant ns (with_follower worker.evaluation follower t) w) { blocked = w.blocked ++ (ns, t.evaluation_number + 1) ∷ [] }
+    record (put_tenant ns (with_follower worker.evaluation follower t) w)
+        { blocked = w.blocked ++ (ns, t.evaluation_number + 1) ∷ [] }
 
 abbrev pub finished : ℕ → Name → World → Tenant → Worker → Evaluation → Snapshot → Outcome World
 finished number ns w t worker e kept =
@@ -195,10 +213,12 @@ finished number ns w t worker e kept =
     else Done (Content.Finished (end_of worker) None) (promote ns e.job (put_tenant ns t' w'))
 
 abbrev pub finish_for : ℕ → Name → World → Tenant → Worker → Evaluation → Snapshot → Outcome World
-finish_for number ns w t worker e kept = if may_finish worker kept then finished number ns w t worker e kept else NotEnabled
+finish_for number ns w t worker e kept = if may_finish worker kept then finished number ns w t worker e kept
+    else NotEnabled
 
 unfoldable pub finish : ℕ → Name → World → Outcome World
-finish number ns w = at_work number ns w (λ t worker e. option_map_or (finish_for number ns w t worker e) worker.kept NotEnabled)
+finish number ns w = at_work number ns w
+    (λ t worker e. option_map_or (finish_for number ns w t worker e) worker.kept NotEnabled)
 
 -- ---- Nack
 
@@ -215,12 +235,14 @@ with_nack n e t = record t { evaluations = insert t.evaluations n (record e { na
 -- it is ready again, behind the others
 abbrev pub given_back : ℕ → Name → World → Tenant → Worker → Outcome World
 given_back number ns w t worker =
-    Done (Content.Nacked Status.Pending) (record (put_tenant ns (without_worker number t) w) { ready = w.ready ++ (ns, worker.evaluation) ∷ [] })
+    Done (Content.Nacked Status.Pending)
+        (record (put_tenant ns (without_worker number t) w) { ready = w.ready ++ (ns, worker.evaluation) ∷ [] })
 
 -- it ends, without a follower, and the next one of its job is ready
 abbrev pub given_up : ℕ → Name → World → Tenant → Worker → Evaluation → Outcome World
 given_up number ns w t worker e =
-    Done (Content.Nacked Status.Failed) (promote ns e.job (put_tenant ns (with_status worker.evaluation Status.Failed (without_worker number t)) w))
+    Done (Content.Nacked Status.Failed)
+        (promote ns e.job (put_tenant ns (with_status worker.evaluation Status.Failed (without_worker number t)) w))
 
 abbrev pub nack_for : ℕ → Name → World → Tenant → Worker → Evaluation → Outcome World
 nack_for number ns w t worker e =

@@ -33,4 +33,5 @@ loop-low-preserved g c =
 pub returns : goal.returns
 returns g c =
     let at : c.loop-low.low ≡ c.loop-low.high = omega arith in
-    belongs g.K.Ord.cmp g.met.K.Ord.total c.args.key.now c.args.slots.now c.loop-low.low c.requires (omega arith) c.loop-low.invariant.passed (λ j d le lt. c.loop-low.invariant.ahead j d (omega arith) lt)
+    belongs g.K.Ord.cmp g.met.K.Ord.total c.args.key.now c.args.slots.now c.loop-low.low c.requires (omega arith) c.loop-low.invariant.passed
+        (λ j d le lt. c.loop-low.invariant.ahead j d (omega arith) lt)

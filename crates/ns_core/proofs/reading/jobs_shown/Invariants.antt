@@ -6,7 +6,8 @@ use Rattle.ns_core.specs.Viewed.{shown_in}
 use Rattle.ns_core.proofs.reading.jobs_shown.Given as goal
 
 abbrev pub invariant-loop-id : goal.invariant-loop-id
-invariant-loop-id l = l.shown ++ map (shown_in l.fn.namespace) (filter (λ e. begins_with l.fn.prefix e.0) (row_list l.rest)) ≡ map (shown_in l.fn.namespace) (filter (λ e. begins_with l.fn.prefix e.0) (row_list l.fn.slots))
+invariant-loop-id l = l.shown ++ map (shown_in l.fn.namespace) (filter (λ e. begins_with l.fn.prefix e.0) (row_list l.rest)) ≡ map (shown_in l.fn.namespace)
+    (filter (λ e. begins_with l.fn.prefix e.0) (row_list l.fn.slots))
 
 abbrev pub decreases-loop-id : goal.decreases-loop-id
 decreases-loop-id l = length l.rest

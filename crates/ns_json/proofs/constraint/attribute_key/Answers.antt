@@ -5,4 +5,5 @@ use Rattle.ns_json.proofs.constraint.attribute_key.Goals as goal
 
 pub returns : goal.returns
 unfolding attribute_key
-returns c = rw (has_prefix (codes "${attr.") c.args.text.now c.in_ok-strip_prefix.field-0.now c.in_ok-strip_prefix.ensures.cases) (suffix_is (codes "}") _ c.strip_suffix.result c.strip_suffix.ensures.cases)
+returns c = rw (has_prefix (codes "${attr.") c.args.text.now c.in_ok-strip_prefix.field-0.now c.in_ok-strip_prefix.ensures.cases)
+    (suffix_is (codes "}") _ c.strip_suffix.result c.strip_suffix.ensures.cases)

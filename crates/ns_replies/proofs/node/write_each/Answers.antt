@@ -5,4 +5,6 @@ use Rattle.ns_types.specs.declared.node.Attribute.{Attribute}
 use Rattle.ns_replies.proofs.node.write_each.Goals as goal
 
 pub loop-attribute-preserved : goal.loop-attribute-preserved
-loop-attribute-preserved c = follows_item (λ (a : Attribute). token.key a.key ∷ token.string a.value ∷ []) _ _ _ c.args.attributes.now c.loop-attribute.attribute-index c.attribute-item.result c.loop-attribute-test.true c.attribute-item.is c.loop-attribute.invariant c.in_ok-write_attribute.ensures
+loop-attribute-preserved c = follows_item (λ (a : Attribute). token.key a.key ∷ token.string a.value ∷ [])
+    _ _ _ c.args.attributes.now c.loop-attribute.attribute-index c.attribute-item.result c.loop-attribute-test.true c.attribute-item.is
+    c.loop-attribute.invariant c.in_ok-write_attribute.ensures

@@ -9,7 +9,8 @@ loop-name-preserved-in_ok-push g c passes shows =
     (c.in-Some.ensures.cases.0 ∙ (λ i. (c.in-Some.name-is i, c.in-Some-row.is i) ∷ c.in-Some.others.now))
     (c.loop-name.invariant passes shows)
     c.push.new.self
-    (c.in_ok-push.ensures.ok ∙ (λ i. c.loop-name.shown ++ record { name = (c.in_ok-clone.ensures.cases ∙ c.in-Some.name-is) i; row = c.in_ok-clone-2.ensures.cases i } ∷ []))
+    (c.in_ok-push.ensures.ok ∙ (λ i. c.loop-name.shown ++
+        record { name = (c.in_ok-clone.ensures.cases ∙ c.in-Some.name-is) i; row = c.in_ok-clone-2.ensures.cases i } ∷ []))
     (sym (shows c.in-Some.name c.shows.result (record { shown = _; shows = c.in-Some.name-is; says = record { met = c.shows.ensures } })) ∙ c.if-shows.true)
 
 pub loop-name-preserved-else-shows : goal.loop-name-preserved-else-shows

@@ -16,7 +16,9 @@ pub returns-in-Ok-ended-clause-served : goal.returns-in-Ok-ended-clause-served
 returns-in-Ok-ended-clause-served g c = λ _. let h = c.in-Ok-ended.ensures.ok in (h.0, c.serve-ended.new.api.taker, from _ _ _ c.in-Ok.ensures h.1, h.2)
 
 pub returns-in-Err-Read-clause-read_fault : goal.returns-in-Err-Read-clause-read_fault
-returns-in-Err-Read-clause-read_fault g c = λ _. let h = c.in-Err-Read.ensures-1.read (search rules) in (h.0, c.serve-ended.new.api.taker, from _ _ _ c.in-Ok.ensures h.1, h.2)
+returns-in-Err-Read-clause-read_fault g c = λ _. let h = c.in-Err-Read.ensures-1.read (search rules) in
+    (h.0, c.serve-ended.new.api.taker, from _ _ _ c.in-Ok.ensures h.1, h.2)
 
 pub returns-in-Err-Write-clause-write_fault : goal.returns-in-Err-Write-clause-write_fault
-returns-in-Err-Write-clause-write_fault g c = λ _. let h = c.in-Err-Write.ensures-1.write (search rules) in (c.serve-ended.new.api.taker, from_in_part _ _ _ c.in-Ok.ensures h.0, h.1)
+returns-in-Err-Write-clause-write_fault g c = λ _. let h = c.in-Err-Write.ensures-1.write (search rules) in
+    (c.serve-ended.new.api.taker, from_in_part _ _ _ c.in-Ok.ensures h.0, h.1)

@@ -11,7 +11,8 @@ pub invariant_of-self : goal.invariant_of-self
 invariant_of-self g c = subst (λ es. T (is_sorted name_cmp es)) (sym c.take.ensures.slots) (sorted-emptied names c.args.key.now _ c.self.invariant)
 
 pub returns-clause-row : goal.returns-clause-row
-returns-clause-row g c = c.take.ensures.row ∙ ap flat (sym (table.get-from_sorted name_cmp _ c.args.key.now c.self.invariant)) ∙ ap (λ m. row_at m c.args.key.now) c.self.view_is
+returns-clause-row g c = c.take.ensures.row ∙ ap flat (sym (table.get-from_sorted name_cmp _ c.args.key.now c.self.invariant)) ∙
+    ap (λ m. row_at m c.args.key.now) c.self.view_is
 
 pub returns-clause-slots : goal.returns-clause-slots
 returns-clause-slots g c =

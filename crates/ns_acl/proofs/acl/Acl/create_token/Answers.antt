@@ -19,7 +19,8 @@ returns-then-has_no_room c = (
 )
 
 pub returns : goal.returns
-returns c = token_created c.args.self.now c.args.new.now (Content.Token c.in_ok-shown.shown) (token_of c.args.new.now) (record { policies = rows c.self.inside.policies; tokens = rows c.add_token.new.tokens })
+returns c = token_created c.args.self.now c.args.new.now (Content.Token c.in_ok-shown.shown) (token_of c.args.new.now)
+    (record { policies = rows c.self.inside.policies; tokens = rows c.add_token.new.tokens })
     (sym c.is_taken.ensures ∙ c.if-is_taken.false)
     (ap (λ acl. nat_le most_rows (len acl.tokens)) (sym c.self.view_is) ∙ sym c.has_no_room.ensures ∙ c.if-has_no_room.false)
     (ap Content.Token c.in_ok-shown.ensures)

@@ -23,7 +23,8 @@ returns-then-is_bootstrap c = (
 )
 
 pub returns : goal.returns
-returns c = token_deleted c.args.self.now c.args.accessor.now c.in-Some.secret.now c.in_ok-secret.secret (record { policies = rows c.self.inside.policies; tokens = rows c.remove.new.self })
+returns c = token_deleted c.args.self.now c.args.accessor.now c.in-Some.secret.now c.in_ok-secret.secret
+    (record { policies = rows c.self.inside.policies; tokens = rows c.remove.new.self })
     (sym c.secret_of.ensures ∙ ap option_copied c.in-Some.is)
     (sym c.is_bootstrap.ensures ∙ c.if-is_bootstrap.false)
     c.in_ok-secret.ensures.cases

@@ -5,4 +5,5 @@ pub shown-response-requires : goal.shown-response-requires
 shown-response-requires g c = shows c.args.step.now _ _ c.take-answer.result c.requires.served c.requires.reads c.take-answer.ensures
 
 pub returns : goal.returns
-returns g c = answers_read c.args.step.now (g.T.Takes.state c.args.self.now.taker) (g.T.Takes.state c.take-answer.new.self) c.take-answer.result _ c.requires.served c.requires.reads c.take-answer.ensures c.shown-response.ensures
+returns g c = answers_read c.args.step.now (g.T.Takes.state c.args.self.now.taker) (g.T.Takes.state c.take-answer.new.self)
+    c.take-answer.result _ c.requires.served c.requires.reads c.take-answer.ensures c.shown-response.ensures

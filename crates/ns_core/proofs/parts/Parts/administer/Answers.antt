@@ -7,36 +7,47 @@ use Rattle.ns_core.proofs.parts.Parts.administer.Goals as goal
 
 pub returns-in-DeleteNamespace : goal.returns-in-DeleteNamespace
 unfolding administer
-returns-in-DeleteNamespace c = rw c.in-DeleteNamespace.is (changes_lift (with_world c.args.self.now.acl) _ _ (world_of (record c.args.self.now { tables = c.delete_namespace.new.self })) c.delete_namespace.result (c.delete_namespace.ensures c.args.self.now.ready.items))
+returns-in-DeleteNamespace c = rw c.in-DeleteNamespace.is
+    (changes_lift (with_world c.args.self.now.acl) _ _ (world_of (record c.args.self.now { tables = c.delete_namespace.new.self })) c.delete_namespace.result
+    (c.delete_namespace.ensures c.args.self.now.ready.items))
 
 pub returns-in_ok-list_quotas-in-ListQuotas : goal.returns-in_ok-list_quotas-in-ListQuotas
 unfolding administer
-returns-in_ok-list_quotas-in-ListQuotas c = rw c.in-ListQuotas.is (ap (λ content. Done content (state_of c.args.self.now)) (sym (c.in_ok-list_quotas-in-ListQuotas.ensures c.args.self.now.ready.items)))
+returns-in_ok-list_quotas-in-ListQuotas c = rw c.in-ListQuotas.is
+    (ap (λ content. Done content (state_of c.args.self.now)) (sym (c.in_ok-list_quotas-in-ListQuotas.ensures c.args.self.now.ready.items)))
 
 pub returns-in-ReadQuota : goal.returns-in-ReadQuota
 unfolding administer
-returns-in-ReadQuota c = rw c.in-ReadQuota.is (changes_lift (with_world c.args.self.now.acl) _ _ (world_of c.args.self.now) c.read_quota.result (c.read_quota.ensures c.args.self.now.ready.items))
+returns-in-ReadQuota c = rw c.in-ReadQuota.is (changes_lift (with_world c.args.self.now.acl) _ _ (world_of c.args.self.now) c.read_quota.result
+    (c.read_quota.ensures c.args.self.now.ready.items))
 
 pub returns-in-DeleteQuota : goal.returns-in-DeleteQuota
 unfolding administer
-returns-in-DeleteQuota c = rw c.in-DeleteQuota.is (changes_lift (with_world c.args.self.now.acl) _ _ (world_of (record c.args.self.now { tables = c.delete_quota.new.self })) c.delete_quota.result (c.delete_quota.ensures c.args.self.now.ready.items))
+returns-in-DeleteQuota c = rw c.in-DeleteQuota.is
+    (changes_lift (with_world c.args.self.now.acl) _ _ (world_of (record c.args.self.now { tables = c.delete_quota.new.self })) c.delete_quota.result
+    (c.delete_quota.ensures c.args.self.now.ready.items))
 
 pub returns-in-DeletePool : goal.returns-in-DeletePool
 unfolding administer
-returns-in-DeletePool c = rw c.in-DeletePool.is (changes_lift (with_world c.args.self.now.acl) _ _ (world_of (record c.args.self.now { tables = c.delete_pool.new.self })) c.delete_pool.result (c.delete_pool.ensures c.args.self.now.ready.items))
+returns-in-DeletePool c = rw c.in-DeletePool.is (changes_lift (with_world c.args.self.now.acl) _ _
+    (world_of (record c.args.self.now { tables = c.delete_pool.new.self })) c.delete_pool.result (c.delete_pool.ensures c.args.self.now.ready.items))
 
 pub returns-in-ReadPolicy : goal.returns-in-ReadPolicy
 unfolding administer
-returns-in-ReadPolicy c = rw c.in-ReadPolicy.is (changes_lift (with_acl (world_of c.args.self.now)) _ _ c.args.self.now.acl c.read_policy.result c.read_policy.ensures)
+returns-in-ReadPolicy c = rw c.in-ReadPolicy.is (changes_lift (with_acl (world_of c.args.self.now))
+    _ _ c.args.self.now.acl c.read_policy.result c.read_policy.ensures)
 
 pub returns-in-DeletePolicy : goal.returns-in-DeletePolicy
 unfolding administer
-returns-in-DeletePolicy c = rw c.in-DeletePolicy.is (changes_lift (with_acl (world_of c.args.self.now)) _ _ c.delete_policy.new.self c.delete_policy.result c.delete_policy.ensures)
+returns-in-DeletePolicy c = rw c.in-DeletePolicy.is
+    (changes_lift (with_acl (world_of c.args.self.now)) _ _ c.delete_policy.new.self c.delete_policy.result c.delete_policy.ensures)
 
 pub returns-in-CreateToken : goal.returns-in-CreateToken
 unfolding administer
-returns-in-CreateToken c = rw c.in-CreateToken.is (changes_lift (with_acl (world_of c.args.self.now)) _ _ c.create_token.new.self c.create_token.result c.create_token.ensures)
+returns-in-CreateToken c = rw c.in-CreateToken.is
+    (changes_lift (with_acl (world_of c.args.self.now)) _ _ c.create_token.new.self c.create_token.result c.create_token.ensures)
 
 pub returns-in-DeleteToken : goal.returns-in-DeleteToken
 unfolding administer
-returns-in-DeleteToken c = rw c.in-DeleteToken.is (changes_lift (with_acl (world_of c.args.self.now)) _ _ c.delete_token.new.self c.delete_token.result c.delete_token.ensures)
+returns-in-DeleteToken c = rw c.in-DeleteToken.is
+    (changes_lift (with_acl (world_of c.args.self.now)) _ _ c.delete_token.new.self c.delete_token.result c.delete_token.ensures)

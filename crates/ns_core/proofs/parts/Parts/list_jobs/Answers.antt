@@ -16,11 +16,16 @@ may : (a b : Rights) → a ≡ b → (v : Bool) → not a.list_jobs ≡ not v �
 may a b e v is = ap (λ r. r.list_jobs) (sym e) ∙ sym (not-not a.list_jobs) ∙ ap not is ∙ not-not v
 
 pub returns-then-not-rights : goal.returns-then-not-rights
-returns-then-not-rights c = (ask_denied (state_of c.args.self.now) c.args.namespace.now (option_copied c.args.secret) (AskCommand.ListJobs c.args.prefix.now) (may _ _ c.rights.ensures false c.if-not-rights.true), refl)
+returns-then-not-rights c = (ask_denied (state_of c.args.self.now) c.args.namespace.now (option_copied c.args.secret) (AskCommand.ListJobs c.args.prefix.now)
+    (may _ _ c.rights.ensures false c.if-not-rights.true), refl)
 
 pub returns-in_default : goal.returns-in_default
-returns-in_default c = (ask_nowhere (state_of c.args.self.now) c.args.namespace.now (option_copied c.args.secret) (AskCommand.ListJobs c.args.prefix.now) (may _ _ c.rights.ensures true c.if-not-rights.false) (nowhere c.args.self.now c.args.namespace.now (sym c.get.ensures ∙ ap option_copied c.in_default.is)), refl)
+returns-in_default c = (ask_nowhere (state_of c.args.self.now) c.args.namespace.now (option_copied c.args.secret) (AskCommand.ListJobs c.args.prefix.now)
+    (may _ _ c.rights.ensures true c.if-not-rights.false) (nowhere c.args.self.now c.args.namespace.now (sym c.get.ensures ∙ ap option_copied c.in_default.is)),
+    refl)
 
 pub returns : goal.returns
-returns c = reads c.args.self.now c.args.namespace.now (option_copied c.args.secret) c.in-Some.tenant.now (sym c.get.ensures ∙ ap option_copied c.in-Some.is) (AskCommand.ListJobs c.args.prefix.now) (Content.Jobs c.in_ok-jobs.jobs) (may _ _ c.rights.ensures true c.if-not-rights.false) c.requires
-    (jobs_listed c.args.self.now c.args.namespace.now (option_copied c.args.secret) c.in-Some.tenant.now (sym c.get.ensures ∙ ap option_copied c.in-Some.is) c.args.prefix.now c.job_slots.result.now c.in_ok-jobs.jobs c.job_slots.ensures c.in_ok-jobs.ensures) _ c.index.ensures
+returns c = reads c.args.self.now c.args.namespace.now (option_copied c.args.secret) c.in-Some.tenant.now (sym c.get.ensures ∙ ap option_copied c.in-Some.is)
+    (AskCommand.ListJobs c.args.prefix.now) (Content.Jobs c.in_ok-jobs.jobs) (may _ _ c.rights.ensures true c.if-not-rights.false) c.requires
+    (jobs_listed c.args.self.now c.args.namespace.now (option_copied c.args.secret) c.in-Some.tenant.now (sym c.get.ensures ∙ ap option_copied c.in-Some.is)
+        c.args.prefix.now c.job_slots.result.now c.in_ok-jobs.jobs c.job_slots.ensures c.in_ok-jobs.ensures) _ c.index.ensures

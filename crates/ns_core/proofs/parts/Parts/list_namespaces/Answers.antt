@@ -8,4 +8,7 @@ use Rattle.ns_core.proofs.parts.Parts.list_namespaces.Goals as goal
 
 pub returns : goal.returns
 unfolding administer
-returns c = ap (λ content. Done content (state_of c.args.self.now)) (sym (c.in_ok-list_namespaces.ensures (λ ns. has_any (rights_of c.args.self.now.acl (option_copied c.args.secret) ns)) (λ name b returned. returned.says.met ∙ ap (λ ns. has_any (rights_of c.args.self.now.acl (option_copied c.args.secret) ns)) returned.shows) c.args.self.now.ready.items))
+returns c = ap (λ content. Done content (state_of c.args.self.now))
+    (sym (c.in_ok-list_namespaces.ensures (λ ns. has_any (rights_of c.args.self.now.acl (option_copied c.args.secret) ns))
+    (λ name b returned. returned.says.met ∙ ap (λ ns. has_any (rights_of c.args.self.now.acl (option_copied c.args.secret) ns)) returned.shows)
+    c.args.self.now.ready.items))

@@ -11,19 +11,24 @@ pub set-requires : goal.set-requires
 set-requires c = slot_kept _ _ _ c.in-Some.tenant (sym c.take.ensures.row ∙ c.in-Some.is) c.take.ensures.slots
 
 pub returns-in_err-key-clause-refused : goal.returns-in_err-key-clause-refused
-returns-in_err-key-clause-refused c = always _ (kept_state c.args.self.now (record c.args.self.now { tables = record c.args.self.now.tables { tenants = c.set.new.self }; ready = c.reserve.new.self })
-    (put_same c.args.self.now c.args.namespace.now c.in-Some.tenant c.register-registered.new.tenant (sym c.take.ensures.row ∙ c.in-Some.is) c.take.new.self c.set.new.self c.take.ensures.slots c.set.ensures c.in_err-key.ensures.refused)
+returns-in_err-key-clause-refused c = always _ (kept_state c.args.self.now
+    (record c.args.self.now { tables = record c.args.self.now.tables { tenants = c.set.new.self }; ready = c.reserve.new.self })
+    (put_same c.args.self.now c.args.namespace.now c.in-Some.tenant c.register-registered.new.tenant (sym c.take.ensures.row ∙ c.in-Some.is)
+        c.take.new.self c.set.new.self c.take.ensures.slots c.set.ensures c.in_err-key.ensures.refused)
     c.in_ok-reserve.ensures.items refl refl refl)
 
 pub returns-then-not-waits-clause-done : goal.returns-then-not-waits-clause-done
-returns-then-not-waits-clause-done c = puts_rows c.args.self.now _ c.args.namespace.now c.args.id.now c.args.made c.args.waits c.in-Some.tenant c.register-registered.new.tenant c.take.new.self
+returns-then-not-waits-clause-done c = puts_rows c.args.self.now _ c.args.namespace.now c.args.id.now c.args.made c.args.waits c.in-Some.tenant
+    c.register-registered.new.tenant c.take.new.self
     (sym c.take.ensures.row ∙ c.in-Some.is) c.take.ensures.slots c.set.ensures c.in_ok-key.ensures.done
     (c.push_reserved.ensures.items ∙ (λ i. c.in_ok-reserve.ensures.items i ++ c.in_ok-key.ensures.key i ∷ [])
     ∙ ap (λ b. if b then c.args.self.now.ready.items else c.args.self.now.ready.items ++ c.args.made.key ∷ []) (sym c.if-not-waits.true))
     refl refl refl
 
 pub returns-else-not-waits-clause-done : goal.returns-else-not-waits-clause-done
-returns-else-not-waits-clause-done c = puts_rows c.args.self.now _ c.args.namespace.now c.args.id.now c.args.made c.args.waits c.in-Some.tenant c.register-registered.new.tenant c.take.new.self
+returns-else-not-waits-clause-done c = puts_rows c.args.self.now _ c.args.namespace.now c.args.id.now c.args.made c.args.waits c.in-Some.tenant
+    c.register-registered.new.tenant c.take.new.self
     (sym c.take.ensures.row ∙ c.in-Some.is) c.take.ensures.slots c.set.ensures c.in_ok-key.ensures.done
-    (c.in_ok-reserve.ensures.items ∙ ap (λ b. if b then c.args.self.now.ready.items else c.args.self.now.ready.items ++ c.args.made.key ∷ []) (sym c.if-not-waits.false))
+    (c.in_ok-reserve.ensures.items ∙ ap (λ b. if b then c.args.self.now.ready.items else c.args.self.now.ready.items ++ c.args.made.key ∷ [])
+        (sym c.if-not-waits.false))
     refl refl refl

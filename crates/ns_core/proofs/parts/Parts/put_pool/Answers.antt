@@ -9,5 +9,7 @@ use Rattle.ns_core.proofs.parts.Parts.put_pool.Goals as goal
 
 pub returns : goal.returns
 unfolding administer
-returns c secret = changes_lift (with_world c.args.self.now.acl) _ (world_of c.args.self.now) (world_of (record c.args.self.now { tables = c.put_pool.new.self })) c.put_pool.result
-    (subst (λ x. Changes (put_pool_record c.args.name.now x (world_of c.args.self.now)) (world_of c.args.self.now) c.put_pool.result (world_of (record c.args.self.now { tables = c.put_pool.new.self }))) c.in_ok-copy.ensures.cases (c.put_pool.ensures c.args.self.now.ready.items))
+returns c secret = changes_lift (with_world c.args.self.now.acl) _ (world_of c.args.self.now)
+    (world_of (record c.args.self.now { tables = c.put_pool.new.self })) c.put_pool.result
+    (subst (λ x. Changes (put_pool_record c.args.name.now x (world_of c.args.self.now)) (world_of c.args.self.now) c.put_pool.result
+        (world_of (record c.args.self.now { tables = c.put_pool.new.self }))) c.in_ok-copy.ensures.cases (c.put_pool.ensures c.args.self.now.ready.items))

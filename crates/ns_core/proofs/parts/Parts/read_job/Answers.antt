@@ -15,18 +15,26 @@ may : (a b : Rights) → a ≡ b → (v : Bool) → a.read_job ≡ v → b.read_
 may a b e v is = ap (λ r. r.read_job) (sym e) ∙ is
 
 pub returns-then-not-rights : goal.returns-then-not-rights
-returns-then-not-rights c = (ask_denied (state_of c.args.self.now) c.args.namespace.now (option_copied c.args.secret) (AskCommand.ReadJob c.args.id.now) (may _ _ c.rights.ensures false c.if-not-rights.true), refl)
+returns-then-not-rights c = (ask_denied (state_of c.args.self.now) c.args.namespace.now (option_copied c.args.secret) (AskCommand.ReadJob c.args.id.now)
+    (may _ _ c.rights.ensures false c.if-not-rights.true), refl)
 
 pub returns-in_default : goal.returns-in_default
-returns-in_default c = (ask_nowhere (state_of c.args.self.now) c.args.namespace.now (option_copied c.args.secret) (AskCommand.ReadJob c.args.id.now) (may _ _ c.rights.ensures true c.if-not-rights.false) (nowhere c.args.self.now c.args.namespace.now (sym c.get.ensures ∙ ap option_copied c.in_default.is)), refl)
+returns-in_default c = (ask_nowhere (state_of c.args.self.now) c.args.namespace.now (option_copied c.args.secret) (AskCommand.ReadJob c.args.id.now)
+    (may _ _ c.rights.ensures true c.if-not-rights.false) (nowhere c.args.self.now c.args.namespace.now (sym c.get.ensures ∙ ap option_copied c.in_default.is)),
+    refl)
 
 pub returns-in_default-job : goal.returns-in_default-job
 returns-in_default-job c = (
-  read_no_job (state_of c.args.self.now) c.args.namespace.now (option_copied c.args.secret) c.args.id.now (tenant_of c.in-Some.tenant.now) (may _ _ c.rights.ensures true c.if-not-rights.false)
-      (tenant_at c.args.self.now c.args.namespace.now c.in-Some.tenant.now (sym c.get.ensures ∙ ap option_copied c.in-Some.is)) (sym c.job.ensures ∙ ap option_copied c.in_default-job.is),
+  read_no_job (state_of c.args.self.now) c.args.namespace.now (option_copied c.args.secret) c.args.id.now (tenant_of c.in-Some.tenant.now)
+      (may _ _ c.rights.ensures true c.if-not-rights.false)
+      (tenant_at c.args.self.now c.args.namespace.now c.in-Some.tenant.now (sym c.get.ensures ∙ ap option_copied c.in-Some.is))
+          (sym c.job.ensures ∙ ap option_copied c.in_default-job.is),
   refl,
 )
 
 pub returns : goal.returns
-returns c = reads c.args.self.now c.args.namespace.now (option_copied c.args.secret) c.in-Some.tenant.now (sym c.get.ensures ∙ ap option_copied c.in-Some.is) (AskCommand.ReadJob c.args.id.now) (Content.Job c.in_ok-job_shown.field-0) (may _ _ c.rights.ensures true c.if-not-rights.false) c.requires
-    (job_told c.args.self.now c.args.namespace.now (option_copied c.args.secret) c.in-Some.tenant.now (sym c.get.ensures ∙ ap option_copied c.in-Some.is) c.args.id.now c.in-Some-job.job.now c.in_ok-job_shown.field-0 (sym c.job.ensures ∙ ap option_copied c.in-Some-job.is) c.in_ok-job_shown.ensures) _ c.index.ensures
+returns c = reads c.args.self.now c.args.namespace.now (option_copied c.args.secret) c.in-Some.tenant.now (sym c.get.ensures ∙ ap option_copied c.in-Some.is)
+    (AskCommand.ReadJob c.args.id.now) (Content.Job c.in_ok-job_shown.field-0) (may _ _ c.rights.ensures true c.if-not-rights.false) c.requires
+    (job_told c.args.self.now c.args.namespace.now (option_copied c.args.secret) c.in-Some.tenant.now (sym c.get.ensures ∙ ap option_copied c.in-Some.is)
+        c.args.id.now c.in-Some-job.job.now c.in_ok-job_shown.field-0 (sym c.job.ensures ∙ ap option_copied c.in-Some-job.is) c.in_ok-job_shown.ensures)
+        _ c.index.ensures

@@ -12,4 +12,5 @@ returns-clause-slot c = subst (λ m. IsTrue (has_slot m c.args.id.now)) (sym c.i
 
 pub returns-clause-kept : goal.returns-clause-kept
 returns-clause-kept c q h =
-    subst (λ m. IsTrue (has_slot m q)) (sym (c.in_ok-reserve.ensures.ok ∙ ap (λ s. with_slot s.jobs c.args.id.now) c.self.view_is)) (has_slot-with_slot names _ _ q h)
+    subst (λ m. IsTrue (has_slot m q)) (sym (c.in_ok-reserve.ensures.ok ∙ ap (λ s. with_slot s.jobs c.args.id.now) c.self.view_is))
+        (has_slot-with_slot names _ _ q h)

@@ -13,4 +13,5 @@ returns-in_default c ready = (found_none _ _ (quota_at c.args.self.now ready c.a
 
 pub returns : goal.returns
 returns c ready = found_some _ _ _ (quota_at c.args.self.now ready c.args.name.now (Some c.in-Some.row.now) (sym c.get.ensures ∙ ap option_copied c.in-Some.is))
-    ∙ (λ i. Done (Content.Quota (record { name = sym c.in_ok-clone.ensures.cases i; row = sym c.in_ok-clone-2.ensures.cases i })) (world_of ready c.args.self.now))
+    ∙ (λ i. Done (Content.Quota (record { name = sym c.in_ok-clone.ensures.cases i; row = sym c.in_ok-clone-2.ensures.cases i }))
+        (world_of ready c.args.self.now))

@@ -4,7 +4,8 @@ use Rattle.ns_tables.proofs.World.{released, unreleased}
 use Rattle.ns_tables.proofs.tables.Tables.release_quota.Goals as goal
 
 pub returns-in-Some : goal.returns-in-Some
-returns-in-Some c ready = released c.args.self.now ready c.args.name.now _ c.in-Some.row.now (sym c.get_mut.ensures.value ∙ ap option_copied_mut c.in-Some.is) refl
+returns-in-Some c ready = released c.args.self.now ready c.args.name.now _ c.in-Some.row.now (sym c.get_mut.ensures.value ∙ ap option_copied_mut c.in-Some.is)
+    refl
 
 pub returns-in_default : goal.returns-in_default
 returns-in_default c ready = unreleased c.args.self.now ready c.args.name.now (sym c.get_mut.ensures.value ∙ ap option_copied_mut c.in_default.is)
