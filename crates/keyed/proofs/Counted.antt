@@ -1,6 +1,7 @@
 -- How many slots have a row, after a slot is written or taken out.
-use Rattle.std.specs.Prelude.{◌≡◌, ℕ, ◌+◌, ◌≤◌, true, false, cond, not, T, List, [], ◌∷◌, length, is_some, Option, Some, None, refl}
-use Rattle.std.proofs.Common.{ap, sym, ◌∙◌, subst, arith, get_or, set}
+use Rattle.std.specs.Prelude.{◌≡◌, ℕ, ◌+◌, ◌≤◌, true, false, cond, not, T, List, [], ◌∷◌, ◌++◌, ◌<◌, length, is_some, Option, Some, None, refl}
+use Rattle.std.proofs.Math.Seq.{take-suc}
+use Rattle.std.proofs.Common.{add-one, take, ap, sym, ◌∙◌, subst, arith, get_or, set}
 use Rattle.std.specs.List.{insert, remove}
 use Rattle.std.specs.declared.cmp.Ordering.{Ordering}
 use Rattle.std.specs.declared.cmp.Ordering.TheVariants.{Less, Equal, Greater}
@@ -9,7 +10,8 @@ use Rattle.std.specs.Cmp.{IsTotalOrder}
 use Rattle.std.specs.FinMap.Entries.{find, put, by_order, is_sorted}
 use Rattle.keyed.specs.Table.{flat, with_row, row_list}
 use Rattle.keyed.specs.Slots.{without, Stands, Belongs}
-use Rattle.keyed.proofs.Ordered.{second, not_there, not_left}
+use Rattle.ns_types.proofs.Tests.{second}
+use Rattle.keyed.proofs.Ordered.{not_there, not_left}
 
 abbrev pub size : {V : Type 0} → Option V → ℕ
 size None = 0
@@ -31,7 +33,7 @@ module _ {K V : Type 0} (R : K → K → Ordering) (o : IsTotalOrder R) where
   counted-put k x [] s = let one = counted k x [] in omega arith
   counted-put k x (e ∷ es) s =
       elim (R k e.0) as (λ r. R k e.0 ≡ r → length (row_list (by_order r ((k, x) ∷ e ∷ es) ((e.0, x) ∷ es) (e ∷ put R k x es))) + size
-          (flat (cond (is_eq r) (Some e.1) (find R k es))) ≡ length (row_list (e ∷ es)) + size x) [
+      (flat (cond (is_eq r) (Some e.1) (find R k es))) ≡ length (row_list (e ∷ es)) + size x) [
         | Less ↦ λ t.
             let none : size (flat (find R k es)) ≡ 0 = ap (λ y. size (flat y)) (not_there R o k e es s t).0 in
             let one = counted k x (row_list (e ∷ es)) in
@@ -52,7 +54,7 @@ module _ {K V : Type 0} (R : K → K → Ordering) (o : IsTotalOrder R) where
   counted-without k [] s = omega arith
   counted-without k (e ∷ es) s =
       elim (R k e.0) as (λ r. R k e.0 ≡ r → length (row_list (cond (not (is_eq r)) (e ∷ without R k es) (without R k es))) + size
-          (flat (cond (is_eq r) (Some e.1) (find R k es))) ≡ length (row_list (e ∷ es))) [
+      (flat (cond (is_eq r) (Some e.1) (find R k es))) ≡ length (row_list (e ∷ es))) [
         | Less ↦ λ t.
             let rest : length (row_list (without R k es)) + size (flat (find R k es)) ≡ length (row_list es) = counted-without k es (second _ _ s) in
             let new = counted e.0 e.1 (row_list (without R k es)) in
@@ -121,3 +123,16 @@ module _ {K V : Type 0} (R : K → K → Ordering) (o : IsTotalOrder R) (k : K) 
       let same : length (row_list (insert es i (k, None))) ≡ length (row_list (put R k None es)) = ap (λ fs. length (row_list fs)) (p.put_is None) in
       let held : size (flat (find R k es)) ≡ 0 = ap (λ x. size (flat x)) p.find_is in
       omega arith
+
+-- ---- a count from the left
+
+counted-end : {K V : Type 0} (es : List (K × Option V)) (e : K × Option V) → length (row_list (es ++ e ∷ [])) ≡ length (row_list es) + size e.1
+counted-end [] (k, None) = refl
+counted-end [] (k, Some v) = refl
+counted-end ((k, None) ∷ es) e = counted-end es e
+counted-end ((k, Some v) ∷ es) e = let rest = counted-end es e in omega arith
+
+pub counted-more : {K V : Type 0} (es : List (K × Option V)) (i : ℕ) (e : K × Option V) → i < length es → e ≡ get_or es i e →
+    length (row_list (take (i + 1) es)) ≡ length (row_list (take i es)) + size e.1
+counted-more es i e lt is = ap (λ n. length (row_list (take n es))) (add-one i) ∙ ap (λ l. length (row_list l)) (take-suc es i e lt) ∙
+    counted-end (take i es) (get_or es i e) ∙ ap (λ x. length (row_list (take i es)) + size x.1) (sym is)

@@ -1,4 +1,7 @@
+pub mod Applying
 pub mod Counted
+pub mod Mapped
 pub mod Ordered
+pub mod Over
 pub mod Places
 pub mod Tables

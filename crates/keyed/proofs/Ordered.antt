@@ -1,30 +1,15 @@
 -- Lists of entries whose keys strictly rise: what stands above a key, and what passes a test.
-use Rattle.std.specs.Prelude.{◌≡◌, Bool, true, false, cond, not, ◌&&◌, T, List, [], ◌∷◌, Some, None, refl}
+use Rattle.std.specs.Prelude.{◌≡◌, Bool, true, false, cond, not, T, List, [], ◌∷◌, Some, None, refl}
 use Rattle.std.proofs.Common.{ap, sym, ◌∙◌, subst}
 use Rattle.std.specs.declared.cmp.Ordering.{Ordering}
-use Rattle.std.specs.declared.cmp.Ordering.TheVariants.{Less, Equal, Greater}
+use Rattle.std.specs.declared.cmp.Ordering.TheVariants.{Less, Equal}
 use Rattle.std.specs.Ordering.{is_lt, is_eq}
 use Rattle.std.specs.Cmp.{IsTotalOrder}
 use Rattle.std.specs.List.{filter}
 use Rattle.std.specs.FinMap.Entries.{find, is_sorted, below_all}
+use Rattle.ns_types.proofs.Tables.{less_by}
+use Rattle.ns_types.proofs.Tests.{first, second, both}
 use Rattle.keyed.specs.Slots.{without}
-
-pub first : (a b : Bool) → T (a && b) → T a
-first true b p = tt
-first false b p = p
-
-pub second : (a b : Bool) → T (a && b) → T b
-second true b p = p
-second false b p = absurd p
-
-pub both : (a b : Bool) → T a → T b → T (a && b)
-both true b p q = q
-both false b p q = p
-
-pub less : (o : Ordering) → T (is_lt o) → o ≡ Less
-less Less p = refl
-less Equal p = absurd p
-less Greater p = absurd p
 
 module _ {K X : Type 0} (R : K → K → Ordering) where
   pub below-filter : (p : K × X → Bool) (k : K) (es : List (K × X)) → T (below_all R k es) → T (below_all R k (filter p es))
@@ -37,8 +22,11 @@ module _ {K X : Type 0} (R : K → K → Ordering) where
   is_sorted-filter p [] h = tt
   is_sorted-filter p (e ∷ es) h =
       let rest = is_sorted-filter p es (second _ _ h) in
-      elim (p e) as (λ b. T (is_sorted R (cond b (e ∷ filter p es) (filter p es)))) [ true ↦ both _ _ (below-filter p e.0 es (first _ _ h)) rest | false ↦
-          rest ]
+      elim (p e) as (λ b. T (is_sorted R (cond b (e ∷ filter p es) (filter p es)))) [
+        | true ↦ both _ _ (below-filter p e.0 es (first _ _ h)) rest
+        | false ↦
+            rest
+      ]
 
   -- the entry is kept, if its key does not tie
   pub kept : (k : K) (e : K × X) (es : List (K × X)) (r : Ordering) → R k e.0 ≡ r → is_eq r ≡ false → without R k (e ∷ es) ≡ e ∷ without R k es
@@ -49,14 +37,14 @@ module _ {K X : Type 0} (R : K → K → Ordering) where
     pub absent : (k : K) (es : List (K × X)) → T (below_all R k es) → (find R k es ≡ None) × (without R k es ≡ es)
     absent k [] h = (refl, refl)
     absent k (e ∷ es) h =
-        let t = less _ (first _ _ h) in
+        let t = less_by _ (first _ _ h) in
         let rest = absent k es (second _ _ h) in
         (ap (λ r. cond (is_eq r) (Some e.1) (find R k es)) t ∙ rest.0, kept k e es Less t refl ∙ ap (λ fs. e ∷ fs) rest.1)
 
     pub below_less : (x y : K) (es : List (K × X)) → R x y ≡ Less → T (below_all R y es) → T (below_all R x es)
     below_less x y [] p h = tt
     below_less x y (e ∷ es) p h =
-        let here : T (is_lt (R x e.0)) = subst (λ r. T (is_lt r)) (sym (o.trans x y e.0 p (less _ (first _ _ h)))) tt in
+        let here : T (is_lt (R x e.0)) = subst (λ r. T (is_lt r)) (sym (o.trans x y e.0 p (less_by _ (first _ _ h)))) tt in
         both _ _ here (below_less x y es p (second _ _ h))
 
     pub below_tied : (x y : K) (es : List (K × X)) → R x y ≡ Equal → T (below_all R y es) → T (below_all R x es)

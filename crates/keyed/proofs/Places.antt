@@ -9,7 +9,9 @@ use Rattle.std.specs.Ordering.{eq_by_cmp, is_eq, ordering_reverse}
 use Rattle.std.specs.Cmp.{IsTotalOrder}
 use Rattle.std.specs.FinMap.Entries.{find, put, by_order, is_sorted, below_all, is_sorted-put}
 use Rattle.keyed.specs.Slots.{Stands, Belongs, without}
-use Rattle.keyed.proofs.Ordered.{first, second, less, kept, is_sorted-filter, not_there, not_left}
+use Rattle.ns_types.proofs.Tables.{less_by}
+use Rattle.ns_types.proofs.Tests.{first, second}
+use Rattle.keyed.proofs.Ordered.{kept, is_sorted-filter, not_there, not_left}
 
 module _ {K : Type 0} (R : K → K → Ordering) (o : IsTotalOrder R) where
   turned : (x y : K) → R x y ≡ Less → R y x ≡ Greater
@@ -29,7 +31,7 @@ module _ {K X : Type 0} (R : K → K → Ordering) where
 
   below_at : (x : K) (es : List (K × X)) (i : ℕ) (d : K × X) → T (below_all R x es) → i < length es → R x (get_or es i d).0 ≡ Less
   below_at x [] i d h l = absurd (omega arith)
-  below_at x (e ∷ es) zero d h l = less _ (first _ _ h)
+  below_at x (e ∷ es) zero d h l = less_by _ (first _ _ h)
   below_at x (e ∷ es) (suc i) d h l = below_at x es i d (second _ _ h) (omega arith)
 
   rises : (es : List (K × X)) (i j : ℕ) (c d : K × X) → T (is_sorted R es) → i < j → j < length es → R (get_or es i c).0 (get_or es j d).0 ≡ Less
@@ -114,7 +116,7 @@ module _ {K X : Type 0} (R : K → K → Ordering) where
     belongs k (e ∷ es) (suc i) s l p a =
         let before : R k e.0 ≡ Greater = p 0 e (omega arith) (omega arith) in
         let rest = belongs k es i (second _ _ s) (omega arith) (λ j d m n. p (suc j) d (omega arith) (omega arith))
-            (λ j d m n. a (suc j) d (omega arith) (omega arith)) in
+        (λ j d m n. a (suc j) d (omega arith) (omega arith)) in
         record {
           within = omega (arith, rest.within);
           find_is = find_here k e es Greater before ∙ rest.find_is;

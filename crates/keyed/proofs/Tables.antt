@@ -6,15 +6,13 @@ use Rattle.std.specs.declared.cmp.Ordering.TheVariants.{Less, Equal, Greater}
 use Rattle.std.specs.Ordering.{eq_by_cmp, is_eq}
 use Rattle.std.specs.Cmp.{IsTotalOrder, tied_itself, alike_right, eq_by_cmp_equiv}
 use Rattle.std.specs.List.{filter, list_any}
-use Rattle.std.specs.FinMap.{
-    IsAntisymmetric, FinMap, entries, get, insert, from_sorted, empty, empty_of_len, len, len-entries, entries_sorted,
-    entries-from_sorted, entries-insert, get-entries, get-insert, get-from_sorted, get-remove, remove, same_map,
-    same_entries_map
-}
+use Rattle.std.specs.FinMap.{IsAntisymmetric, FinMap, entries, get, insert, from_sorted, empty, empty_of_len, len, len-entries, entries_sorted}
+use Rattle.std.specs.FinMap.{entries-from_sorted, entries-insert, get-entries, get-insert, get-from_sorted, get-remove, remove, same_map, same_entries_map}
 use Rattle.std.specs.FinMap.Entries.{find, put, is_sorted, below_all, is_sorted-put, find-where_key}
 use Rattle.keyed.specs.Table.{flat, with_row, row_list, at_slot, rows, with_slot, emptied, without_vacant, has_slot, row_at}
 use Rattle.keyed.specs.Slots.{without}
-use Rattle.keyed.proofs.Ordered.{first, second, both, absent, below_tied, below-filter, is_sorted-filter}
+use Rattle.ns_types.proofs.Tests.{first, second, both}
+use Rattle.keyed.proofs.Ordered.{absent, below_tied, below-filter, is_sorted-filter}
 
 -- ---- the rows of slots
 module _ {K V : Type 0} (R : K → K → Ordering) where
@@ -57,7 +55,7 @@ module _ {K V : Type 0} (R : K → K → Ordering) where
   map-at_slot p f ((k, None) ∷ es) = map-at_slot p f es
   map-at_slot p f ((k, Some v) ∷ es) =
       elim (p (k, v)) as (λ b. map (λ e. f e.0) (cond b ((k, Some v) ∷ filter (at_slot p) es) (filter (at_slot p) es)) ≡ map (λ e. f e.0)
-          (cond b ((k, v) ∷ filter p (row_list es)) (filter p (row_list es)))) [
+      (cond b ((k, v) ∷ filter p (row_list es)) (filter p (row_list es)))) [
         | true ↦ ap (λ ys. f k ∷ ys) (map-at_slot p f es)
         | false ↦ map-at_slot p f es
       ]
@@ -79,7 +77,7 @@ module _ {K V : Type 0} (R : K → K → Ordering) where
   find-filled o k (e ∷ es) s =
       let rest = find-filled o k es (second _ _ s) in
       elim (R k e.0) as (λ r. R k e.0 ≡ r → is_some (find R k (cond (is_some e.1) (e ∷ filter (λ e. is_some e.1) es) (filter (λ e. is_some e.1) es))) ≡ is_some
-          (flat (cond (is_eq r) (Some e.1) (find R k es)))) [
+      (flat (cond (is_eq r) (Some e.1) (find R k es)))) [
         | Less ↦ λ t. passed e es Less t refl rest
         | Equal ↦ λ t. here e es t (below-filter R (λ e. is_some e.1) k es (below_tied R o k e.0 es t (first _ _ s)))
         | Greater ↦ λ t. passed e es Greater t refl rest
@@ -90,9 +88,9 @@ module _ {K V : Type 0} (R : K → K → Ordering) where
           → is_some (find R k (cond (is_some e.1) (e ∷ filter (λ e. is_some e.1) es) (filter (λ e. is_some e.1) es))) ≡ is_some (flat (find R k es))
       passed e es r t apart rest = elim (is_some e.1) as
           (λ b. is_some (find R k (cond b (e ∷ filter (λ e. is_some e.1) es) (filter (λ e. is_some e.1) es))) ≡ is_some (flat (find R k es))) [
-        | true ↦ ap (λ b. is_some (cond b (Some e.1) (find R k (filter (λ e. is_some e.1) es)))) (ap is_eq t ∙ apart) ∙ rest
-        | false ↦ rest
-      ]
+            | true ↦ ap (λ b. is_some (cond b (Some e.1) (find R k (filter (λ e. is_some e.1) es)))) (ap is_eq t ∙ apart) ∙ rest
+            | false ↦ rest
+          ]
 
       here : (e : K × Option V) (es : List (K × Option V)) → R k e.0 ≡ Equal → T (below_all R k (filter (λ e. is_some e.1) es))
           → is_some (find R k (cond (is_some e.1) (e ∷ filter (λ e. is_some e.1) es) (filter (λ e. is_some e.1) es))) ≡ is_some e.1
@@ -205,7 +203,7 @@ module _ {K X : Type 0} {R : K → K → Ordering} (o : IsTotalOrder R) where
   pub from_sorted-put : (k : K) (v : X) (es : List (K × X)) → T (is_sorted R es) → from_sorted {R = R} (put R k v es) ≡ insert (from_sorted es) k v
   from_sorted-put k v es s =
       same_entries_map _ _ (entries-from_sorted R _ (is_sorted-put R o k v es s) ∙ ap (put R k v) (sym (entries-from_sorted R es s)) ∙
-          sym (entries-insert o (from_sorted es) k v))
+      sym (entries-insert o (from_sorted es) k v))
 
   turned : (b : Bool) (x : Option X) → cond (not b) x None ≡ cond b None x
   turned true x = refl
@@ -235,21 +233,24 @@ module _ {K V : Type 0} {R : K → K → Ordering} (o : IsTotalOrder R) where
   from_sorted-with_slot k es s =
       ap (λ x. from_sorted (cond (is_some x) es (put R k None es))) (sym (get-from_sorted R es k s))
       ∙ elim (is_some (get (from_sorted {R = R} es) k)) as
-          (λ b. from_sorted {R = R} (cond b es (put R k None es)) ≡ cond b (from_sorted es) (insert (from_sorted es) k None)) [
+      (λ b. from_sorted {R = R} (cond b es (put R k None es)) ≡ cond b (from_sorted es) (insert (from_sorted es) k None)) [
         | true ↦ refl
         | false ↦ from_sorted-put o k None es s
       ]
 
   pub sorted-emptied : (k : K) (es : List (K × Option V)) → T (is_sorted R es) → T (is_sorted R (cond (is_some (find R k es)) (put R k None es) es))
-  sorted-emptied k es s = elim (is_some (find R k es)) as (λ b. T (is_sorted R (cond b (put R k None es) es))) [ true ↦ is_sorted-put R o k None es s | false ↦
-      s ]
+  sorted-emptied k es s = elim (is_some (find R k es)) as (λ b. T (is_sorted R (cond b (put R k None es) es))) [
+    | true ↦ is_sorted-put R o k None es s
+    | false ↦
+        s
+  ]
 
   pub from_sorted-emptied : (k : K) (es : List (K × Option V)) → T (is_sorted R es) →
       from_sorted {R = R} (cond (is_some (find R k es)) (put R k None es) es) ≡ emptied (from_sorted es) k
   from_sorted-emptied k es s =
       ap (λ x. from_sorted (cond (is_some x) (put R k None es) es)) (sym (get-from_sorted R es k s))
       ∙ elim (is_some (get (from_sorted {R = R} es) k)) as
-          (λ b. from_sorted {R = R} (cond b (put R k None es) es) ≡ cond b (insert (from_sorted es) k None) (from_sorted es)) [
+      (λ b. from_sorted {R = R} (cond b (put R k None es) es) ≡ cond b (insert (from_sorted es) k None) (from_sorted es)) [
         | true ↦ from_sorted-put o k None es s
         | false ↦ refl
       ]
@@ -264,7 +265,7 @@ module _ {K V : Type 0} {R : K → K → Ordering} (o : IsTotalOrder R) where
   from_sorted-without_vacant same k es s =
       ap (λ x. from_sorted (cond (is_some (flat x)) es (without R k es))) (sym (get-from_sorted R es k s))
       ∙ elim (is_some (flat (get (from_sorted {R = R} es) k))) as
-          (λ b. from_sorted {R = R} (cond b es (without R k es)) ≡ cond b (from_sorted es) (remove (from_sorted es) k)) [
+      (λ b. from_sorted {R = R} (cond b es (without R k es)) ≡ cond b (from_sorted es) (remove (from_sorted es) k)) [
         | true ↦ refl
         | false ↦ from_sorted-without o same k es s
       ]
@@ -303,6 +304,31 @@ module _ {K V : Type 0} {R : K → K → Ordering} (o : IsTotalOrder R) where
         | true ↦ λ e. e
         | false ↦ λ e. has_slot-insert_here m k None
       ] refl
+
+module _ {K V : Type 0} {R : K → K → Ordering} (o : IsTotalOrder R) where
+  -- a slot that was made is there
+  pub slot_made : (old made : FinMap R (Option V)) (k : K) → made ≡ with_slot old k → IsTrue (has_slot made k)
+  slot_made old made k e = subst (λ m. IsTrue (has_slot m k)) (sym e) (has_slot-with_slot_here o old k)
+
+  -- a row set in a slot that was made for it is inserted
+  pub row_put : IsAntisymmetric R → (old made new : FinMap R (Option V)) (k : K) (v : V) → made ≡ with_slot old k → new ≡ insert made k (Some v) →
+      rows new ≡ insert (rows old) k v
+  row_put same old made new k v e f = ap rows f ∙ rows-set o same made k v ∙ ap (λ m. insert (rows m) k v) e ∙
+      ap (λ m. insert m k v) (rows-with_slot o same old k)
+
+  -- a slot that was made goes again
+  pub remove-with_slot : IsAntisymmetric R → (m : FinMap R (Option V)) (k : K) → has_slot m k ≡ false → remove (with_slot m k) k ≡ m
+  remove-with_slot same m k none = ap (λ b. remove (cond b m (insert m k None)) k) none ∙ same_map o same _ _ (λ q.
+      get-remove o (insert m k None) k q ∙ ap (cond (eq_by_cmp R q k) None) (get-insert o m k None q)
+      ∙ elim (R q k) as (λ r. R q k ≡ r → cond (is_eq r) None (cond (is_eq r) (Some None) (get m q)) ≡ get m q) [
+        | Less ↦ λ _. refl
+        | Equal ↦ λ t. sym (ap (get m) (same q k t) ∙ absent_at (get m k) none)
+        | Greater ↦ λ _. refl
+      ] refl)
+    where
+      absent_at : (x : Option (Option V)) → is_some x ≡ false → x ≡ None
+      absent_at None e = refl
+      absent_at (Some x) e = cc
 
 module _ {K V : Type 0} {R : K → K → Ordering} where
   -- a row has a slot

@@ -1,2 +1,4 @@
+pub mod Over
+pub mod Series
 pub mod Slots
 pub mod Table

@@ -1,18 +1,22 @@
 -- Words on a table: a list of slots whose keys strictly rise. A slot has a row, or is vacant: room for a row.
-use Rattle.std.specs.Prelude.{
-    ◌≡◌, ℕ, ◌<◌, ◌≤◌, T, length, Bool, cond, not, List, is_some, Result, Ok, Err, Option, Some, None
-}
+use Rattle.std.specs.Prelude.{◌≡◌, ℕ, ◌<◌, ◌≤◌, T, length, Bool, cond, not, List, is_some, Result, Ok, Err, Option}
+use Rattle.std.specs.Prelude.{Some, None}
 use Rattle.std.specs.declared.cmp.Ordering.{Ordering}
 use Rattle.std.specs.Ordering.{eq_by_cmp}
 use Rattle.std.specs.List.{filter, insert, remove}
 use Rattle.std.proofs.Common.{get_or, set}
 use Rattle.std.specs.FinMap.Entries.{find, put, is_sorted}
-use Rattle.keyed.specs.Table.{flat}
+use Rattle.keyed.specs.Table.{flat, row_list}
 
 module _ {K X : Type 0} (R : K → K → Ordering) where
   -- the entries without the key
   abbrev pub without : K → List (K × X) → List (K × X)
   without k = filter (λ e. not (eq_by_cmp R k e.0))
+
+module _ {K V : Type 0} (R : K → K → Ordering) where
+  -- each slot stands after those with smaller keys, and that many have a row
+  abbrev pub IsTable : List (K × Option V) → ℕ → Type 0
+  IsTable es filled = T (is_sorted R es) × (filled ≡ length (row_list es))
 
 module _ {K X : Type 0} (R : K → K → Ordering) where
   -- the entry of the key stands at i

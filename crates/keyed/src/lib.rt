@@ -4,7 +4,9 @@
 
 mod names;
 mod numbers;
+mod series;
 mod slots;
 
 pub use names::NameTable;
 pub use numbers::NumberTable;
+pub use series::Series;

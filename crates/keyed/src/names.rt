@@ -1,8 +1,10 @@
 // Tables by name.
-ghost use Rattle.std.specs.Prelude.{◌≡◌, IsTrue, OnOk, OnErr, is_some, option_copied};
+ghost use Rattle.std.specs.Prelude.{◌≡◌, IsTrue, T, OnOk, OnErr, is_some, option_copied};
 ghost use Rattle.std.specs.FinMap as table;
+ghost use Rattle.std.specs.FinMap.Entries.{is_sorted};
 ghost use Rattle.keyed.specs.Table.{rows, row_at, has_slot, with_slot, emptied, without_vacant};
-ghost use Rattle.ns_types.specs.State.Names.{Name};
+ghost use Rattle.keyed.specs.Over.{HasRoomFor, over};
+ghost use Rattle.ns_types.specs.State.Names.{Name, name_cmp};
 
 use crate::slots::Slots;
 use ns_types::text::Text;
@@ -52,6 +54,24 @@ impl<V: Drop> NameTable<V> {
         self.slots.as_slice()
     }
 
+    /// A table of slots whose keys rise. It takes no memory.
+    pub fn from_slots(slots: Vec<(Text, Option<V>)>) -> NameTable<V>
+        requires { T (is_sorted name_cmp slots.items) }
+        ensures { result ≡ table.from_sorted slots.items }
+    {
+        NameTable {
+            slots: Slots::from_slots(slots),
+        }
+    }
+
+    /// The slots with their keys, which rise.
+    pub fn into_slots(self) -> Vec<(Text, Option<V>)>
+        ensures { result.items ≡ table.entries self }
+    {
+        let NameTable { slots } = self;
+        slots.into_slots()
+    }
+
     /// The number of rows.
     pub fn len(&self) -> usize
         ensures { result ≡ table.len (rows self.now) }
@@ -66,12 +86,26 @@ impl<V: Drop> NameTable<V> {
         self.slots.get(key)
     }
 
+    /// The slot of `key`, with its row or vacant.
+    pub fn slot(&self, key: &Text) -> Option<&Option<V>>
+        ensures { option_copied result ≡ table.get self.now key.now }
+    {
+        self.slots.slot(key)
+    }
+
     /// The row at `key`, to be changed where it stands.
     pub fn get_mut(&mut self, key: &Text) -> Option<&mut V>
         ensures* writes_back { sem 𝓛 (LendsIf (the_row V.row) V.row self.entry result (λ w. table.insert self.old key.now (Some w)) self.old) }
         ensures value { option_copied_mut result ≡ row_at self.old key.now }
     {
         self.slots.get_mut(key)
+    }
+
+    /// Whether a row at `key` needs no memory.
+    pub fn has_slot(&self, key: &Text) -> bool
+        ensures { result ≡ has_slot self.now key.now }
+    {
+        self.slots.has_slot(key)
     }
 
     /// Makes room for a row at `key`, unless it is there: the key is copied only where it is not.
@@ -124,5 +158,41 @@ impl<V: Drop> NameTable<V> {
         ensures slots { (key : Name) → has_slot self.new key ≡ is_some (row_at self.old key) }
     {
         self.slots.clear_room();
+    }
+
+    // ---- changes: a slot with a row is the row's new value, a vacant one takes the row away
+
+    /// The row at `key` with those changes.
+    pub fn get_over<'a>(&'a self, changes: &'a NameTable<V>, key: &Text) -> Option<&'a V>
+        ensures { option_copied result ≡ table.get (over (rows self.now) changes.now) key.now }
+    {
+        match changes.slot(key) {
+            Some(slot) => slot.as_ref(),
+            None => self.get(key),
+        }
+    }
+
+    /// Makes room for each changed row.
+    pub fn reserve_all(&mut self, changes: &NameTable<V>) -> Result<(), AllocError>
+        ensures rows { rows self.new ≡ rows self.old }
+        ensures room { OnOk result (HasRoomFor changes.now self.new) }
+    {
+        for slot in changes.as_slice() {
+            self.reserve(&slot.0)?;
+        }
+        Ok(())
+    }
+
+    /// Writes the changed rows, and takes away those that are gone. It takes no memory.
+    pub fn apply(&mut self, changes: NameTable<V>)
+        requires { HasRoomFor changes self.old }
+        ensures { rows self.new ≡ over (rows self.old) changes }
+    {
+        for (key, slot) in changes.into_slots() {
+            match slot {
+                Some(row) => self.set(&key, row),
+                None => self.remove(&key),
+            }
+        }
     }
 }

@@ -1,6 +1,6 @@
 // Slots in the order of their keys, in a plain `Vec`.
 ghost use Rattle.std.specs.Prelude.{◌≡◌, [], IsTrue, T, OnOk, OnErr, length, option_copied};
-ghost use Rattle.std.specs.FinMap.Entries.{put, is_sorted};
+ghost use Rattle.std.specs.FinMap.Entries.{find, put, is_sorted};
 ghost use Rattle.keyed.specs.Slots.{Placed, has_slot, with_slot, row, without, without_vacant, emptied, filled};
 ghost use Rattle.keyed.specs.Table.{row_list};
 
@@ -16,15 +16,14 @@ pub(crate) struct Slots<K: Ord, V> {
 }
 
 impl<K: Ord, V> Model for Slots<K, V> {
-    ghost use Rattle.std.specs.Prelude.{◌≡◌, List, Option, T, length};
-    ghost use Rattle.std.specs.FinMap.Entries.{is_sorted};
-    ghost use Rattle.keyed.specs.Table.{row_list};
+    ghost use Rattle.std.specs.Prelude.{List, Option};
+    ghost use Rattle.keyed.specs.Slots.{IsTable};
 
     ghost Value = { List (K × Option V) };
 
     ghost view = { λ a. a.slots.items };
 
-    ghost invariant = { λ a. T (is_sorted K.cmp a.slots.items) × (a.filled ≡ length (row_list a.slots.items)) };
+    ghost invariant = { λ a. IsTable K.cmp a.slots.items a.filled };
 }
 
 /// Where the slot of `key` stands, or where it belongs: a binary search.
@@ -45,6 +44,19 @@ fn place_in<K: Ord, X>(slots: &[(K, X)], key: &K) -> Result<usize, usize>
     Err(low)
 }
 
+/// How many slots have a row.
+fn count_rows<K, V>(slots: &[(K, Option<V>)]) -> usize
+    ensures { result ≡ length (row_list slots.now) }
+{
+    let mut count = 0;
+    for slot in slots {
+        if slot.1.is_some() {
+            count += 1;
+        }
+    }
+    count
+}
+
 impl<K: Ord + Drop, V: Drop> Slots<K, V> {
     ghost use Rattle.std.specs.Borrow.{LendsIf, sem};
     ghost use Rattle.std.specs.Option.{option_copied_mut};
@@ -63,6 +75,22 @@ impl<K: Ord + Drop, V: Drop> Slots<K, V> {
         ensures { result.now ≡ self.now }
     {
         self.slots.as_slice()
+    }
+
+    /// Slots whose keys rise.
+    pub(crate) fn from_slots(slots: Vec<(K, Option<V>)>) -> Slots<K, V>
+        requires { T (is_sorted K.cmp slots.items) }
+        ensures { result ≡ slots.items }
+    {
+        let filled = count_rows(slots.as_slice());
+        Slots { slots, filled }
+    }
+
+    pub(crate) fn into_slots(self) -> Vec<(K, Option<V>)>
+        ensures { result.items ≡ self }
+    {
+        let Slots { slots, filled: _ } = self;
+        slots
     }
 
     /// The number of rows.
@@ -89,6 +117,16 @@ impl<K: Ord + Drop, V: Drop> Slots<K, V> {
     {
         match self.place(key) {
             Ok(i) => self.slots[i].1.as_ref(),
+            Err(_) => None,
+        }
+    }
+
+    /// The slot of `key`.
+    pub(crate) fn slot(&self, key: &K) -> Option<&Option<V>>
+        ensures { option_copied result ≡ find K.cmp key.now self.now }
+    {
+        match self.place(key) {
+            Ok(i) => Some(&self.slots[i].1),
             Err(_) => None,
         }
     }

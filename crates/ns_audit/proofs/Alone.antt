@@ -1,11 +1,10 @@
 pub mod Chosen
 pub mod Settling
-pub mod Idle
 pub mod Going
 pub mod Summing
 pub mod Sides
 pub mod Asking
-pub mod Telling
+pub mod Pools
 pub mod Recording
 pub mod Administering
 pub mod Queueing

@@ -1,5 +1,4 @@
 pub mod Alone
-pub mod Every
 pub mod Outcomes
 pub mod Steady
 pub mod ValidAllocations

@@ -3,7 +3,7 @@ use Rattle.std.specs.Prelude.{◌≡◌, Bool, true, false, cond, Option, Some, 
 use Rattle.std.proofs.Common.{refl}
 use Rattle.std.specs.Option.{option_map_or}
 use Rattle.ns_types.specs.declared.refusal.Refusal.{Refusal}
-use Rattle.ns_types.specs.Settling.Outcome.{Outcome, NotEnabled, Refused, Done, unless, found}
+use Rattle.ns_types.specs.Settling.Outcome.{Outcome, NotEnabled, Refused, Done, unless, refused_by, found}
 
 -- where the change is made, P holds of what it leads to
 abbrev pub Leads : {S : Type 0} → (S → Type 0) → Outcome S → Type 0
@@ -21,6 +21,10 @@ module _ {S : Type 0} (P : S → Type 0) where
   unfolding unless
   leads_unless true refusal o h = tt
   leads_unless false refusal o h = h refl
+
+  pub leads_refused : (x : Option Refusal) (o : Outcome S) → (x ≡ None → Leads P o) → Leads P (refused_by x o)
+  leads_refused None o h = h refl
+  leads_refused (Some refusal) o h = tt
 
   pub leads_found : {A : Type 0} (x : Option A) (f : A → Outcome S) → ((a : A) → x ≡ Some a → Leads P (f a)) → Leads P (found x f)
   leads_found {A = A} x f h = by x refl

@@ -11,11 +11,11 @@ use Rattle.ns_types.specs.State.Rows.{State, Tenant, PoolRows}
 use Rattle.ns_types.specs.Steps.{Answer, opening, Run}
 use Rattle.ns_types.specs.Validity.{IsSoundNode, IsSoundPool, IsSoundTenant, IsValid}
 use Rattle.ns_types.specs.Within.{IsGoodStep}
-use Rattle.ns_audit.specs.Allocated.{IsAllocated}
-use Rattle.ns_audit.specs.Records.{HasRecords}
+use Rattle.ns_audit.proofs.ValidAllocations.Statement.{IsAllocated}
+use Rattle.ns_audit.proofs.ValidRecords.Statement.{HasRecords}
 use Rattle.ns_audit.specs.Valid.{ValidStep, OpeningValid, ReachedIsValid}
-use Rattle.ns_audit.specs.ValidEvaluations.{IsSoundInEvaluations}
-use Rattle.ns_audit.specs.ValidWorkers.{HasSoundWorkers}
+use Rattle.ns_audit.proofs.ValidEvaluations.Statement.{IsSoundInEvaluations}
+use Rattle.ns_audit.proofs.ValidWorkers.Statement.{HasSoundWorkers}
 use Rattle.ns_audit.proofs.ValidAllocations.Steps.{allocations_step, allocations_opening}
 use Rattle.ns_audit.proofs.ValidEvaluations.Step.{evaluations_step, evaluations_opening}
 use Rattle.ns_audit.proofs.ValidRecords.Opening.{records_opening}

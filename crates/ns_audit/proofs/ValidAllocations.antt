@@ -1,3 +1,4 @@
+pub mod Statement
 pub mod Placing
 pub mod Going
 pub mod Sound

@@ -1,3 +1,4 @@
+pub mod Statement
 pub mod Work
 pub mod Asks
 pub mod Filed

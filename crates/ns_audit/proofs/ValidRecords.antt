@@ -1,3 +1,4 @@
+pub mod Statement
 pub mod Opening
 pub mod Nodes
 pub mod Admins

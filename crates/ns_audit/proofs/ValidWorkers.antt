@@ -1,3 +1,4 @@
+pub mod Statement
 pub mod Once
 pub mod Busy
 pub mod Finish

@@ -15,8 +15,12 @@ use Rattle.ns_types.specs.Access.Sharing.{permits}
 
 -- the owners that are not chosen
 abbrev pub rest : Part → Part
-rest part = record { spaces = λ ns. not (part.spaces ns); pools = λ pool. not (part.pools pool); quotas =
-    λ quota. not (part.quotas quota) }
+rest part = record {
+  spaces = λ ns. not (part.spaces ns);
+  pools = λ pool. not (part.pools pool);
+  quotas =
+      λ quota. not (part.quotas quota);
+}
 
 -- a pool, and a quota if there is one, that are chosen exactly where the namespace is
 pub record IsWith (part : Part) (ns pool : Name) (quota : Option Name) : Type 0 where

@@ -2,9 +2,8 @@
 -- alone.
 use Rattle.std.specs.Prelude.{◌≡◌, true, false, List}
 use Rattle.ns_types.specs.declared.step.Step.{Step}
-use Rattle.ns_types.specs.Isolation.{
-    part_of, Agree, SameTables, Keeps, IsIsolated, alone, is_own, struck, struck_answers
-}
+use Rattle.ns_types.specs.Isolation.{part_of, Agree, SameTables, Keeps, IsIsolated, alone, is_own, struck}
+use Rattle.ns_types.specs.Isolation.{struck_answers}
 use Rattle.ns_types.specs.State.Names.{Name}
 use Rattle.ns_types.specs.State.Rows.{State}
 use Rattle.ns_types.specs.Access.Sharing.{is_unshared}
@@ -36,7 +35,7 @@ abbrev pub OwnStep : Type 0
 OwnStep = (ns : Name) (s0 s t s' : State) (step : Step) (answer : Answer) → IsSteady s → is_unshared s.world ns ≡ true →
     SameTables ns s0 s → Agree ns s t
     → is_own ns s0 step ≡ true → after step s ≡ said answer s' → (t' : State) × (after step t ≡ said answer t') ×
-        Agree ns s' t'
+    Agree ns s' t'
 
 -- Any other step that leaves the tables of the namespace alone changes nothing that it has.
 abbrev pub OtherStep : Type 0

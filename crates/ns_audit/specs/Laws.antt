@@ -1,9 +1,7 @@
 -- Isolation: what belongs to a choice of owners goes on without the others, and the others leave it alone.
 use Rattle.std.specs.Prelude.{◌≡◌, Bool, true, false, ◌&&◌, if◌then◌else◌, List, [], ◌∷◌, Option, filter}
 use Rattle.ns_types.specs.declared.step.NodeCommand.{NodeCommand}
-use Rattle.ns_types.specs.declared.step.NodeCommand.TheVariants as NodeCommand
 use Rattle.ns_types.specs.declared.step.Step.{Step}
-use Rattle.ns_types.specs.declared.step.Step.TheVariants as Step
 use Rattle.ns_types.specs.Isolation.{Part, alone_in, namespace_at, quota_record, pool_record}
 use Rattle.ns_types.specs.State.Names.{Name}
 use Rattle.ns_types.specs.Access.Rights.{rights_of, pool_rights_of}
@@ -19,7 +17,7 @@ abbrev pub concerns_part : Part → NodeCommand → Bool
 concerns_part part (NodeCommand.Report name report) = part.spaces report.namespace
 concerns_part part _ = true
 
--- asked in a chosen namespace, told of a chosen pool, or made by a worker for a chosen namespace
+-- asked in a chosen namespace or of a chosen pool, or made by a worker for a chosen namespace
 abbrev pub belongs : Part → Step → Bool
 belongs part (Step.Ask ns secret command) = part.spaces ns
 belongs part (Step.Admin secret command) = false
@@ -84,7 +82,7 @@ abbrev pub QuietRun : Part → State → List Step → List Answer → State →
 QuietRun part s [] [] s' = s' ≡ s
 QuietRun part s (step ∷ steps) (answer ∷ answers) s' =
     (mid : State) × (after step s ≡ said answer mid) × IsFit part s × LeavesTables part step s mid ×
-        QuietRun part mid steps answers s'
+    QuietRun part mid steps answers s'
 QuietRun part s [] (answer ∷ answers) s' = ⊥
 QuietRun part s (step ∷ steps) [] s' = ⊥
 
@@ -102,7 +100,7 @@ abbrev pub StruckRunApart : Type 0
 StruckRunApart = (part : Part) (s s' : State) (steps : List Step) (answers : List Answer) →
     QuietRun part s steps answers s'
     → (t' : State) × Run (alone_on part s) (filter (belongs part) steps) (its_answers part steps answers) t' ×
-        AgreeOn part s' t'
+    AgreeOn part s' t'
 
 -- ---- what each step does at its end
 

@@ -2,8 +2,4 @@ pub mod Apart
 pub mod Laws
 pub mod Orderly
 pub mod Headline
-pub mod Allocated
-pub mod Records
-pub mod ValidEvaluations
-pub mod ValidWorkers
 pub mod Valid

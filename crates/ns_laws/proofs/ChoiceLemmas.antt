@@ -1,8 +1,6 @@
 -- The best of a list under an order, and the shortest prefix that will do.
-use Rattle.std.specs.Prelude.{
-    ◌≡◌, ℕ, zero, suc, ◌+◌, ◌<◌, ◌≤◌, Bool, true, false, cond, not, ◌&&◌, List, [], ◌∷◌, ◌++◌, length, take, slice_get,
-    position, Option, Some, None, option_map
-}
+use Rattle.std.specs.Prelude.{◌≡◌, ℕ, zero, suc, ◌+◌, ◌<◌, ◌≤◌, Bool, true, false, cond, not, ◌&&◌, List, [], ◌∷◌, ◌++◌, length, take, slice_get, position}
+use Rattle.std.specs.Prelude.{Option, Some, None, option_map}
 use Rattle.std.proofs.Common.{refl, sym, ap, subst, ◌∙◌, arith}
 use Rattle.std.specs.Cmp.{IsStrictWeakOrder}
 use Rattle.std.specs.List.{list_all, position_or_len}
@@ -14,7 +12,7 @@ use Rattle.ns_types.specs.Placing.Choice.{is_unbeaten, best, shortest_prefix}
 use Rattle.ns_types.specs.State.Lists.{Each}
 use Rattle.ns_types.proofs.Lists.{not_both, each_map}
 use Rattle.ns_types.proofs.Named.{first_of_both, second_of_both}
-use Rattle.ns_laws.proofs.Elements.{each_from_all, all_from_each}
+use Rattle.ns_types.proofs.Elements.{each_from_all, all_from_each}
 
 -- ---- the place of the first that passes
 

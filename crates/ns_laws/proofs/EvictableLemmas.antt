@@ -8,8 +8,8 @@ use Rattle.std.proofs.lemmas.List.Kept.{AllPairs-cons}
 use Rattle.ns_types.specs.State.Lists.{Each}
 use Rattle.ns_types.specs.Placing.Preemption.{evictable}
 use Rattle.ns_types.proofs.Lists.{each_map, filter-append, filter_none, filter_all}
+use Rattle.ns_types.proofs.Elements.{each_append, each_kept, each_true, all_from}
 use Rattle.ns_laws.specs.Placement.{EvictableAreLower, EvictableInOrder, EvictableAreAll}
-use Rattle.ns_laws.proofs.Elements.{each_join, each_kept, each_true, all_from}
 
 module _ {X : Type 0} (key : X → ℕ) (xs : List X) where
   abbrev level : ℕ → List X
@@ -23,7 +23,7 @@ module _ {X : Type 0} (key : X → ℕ) (xs : List X) where
 
   each_within : (a n : ℕ) → Each (λ x. (a ≤ key x) × (key x < a + n)) (levels a n)
   each_within a zero = tt
-  each_within a (suc n) = each_join _ (level a) (levels (a + 1) n)
+  each_within a (suc n) = each_append _ (level a) (levels (a + 1) n)
       (each_map (λ x h. (omega (arith, h), omega (arith, h))) (level a) (each_at a))
       (each_map (λ x h. (omega (arith, h.0), omega (arith, h.1))) (levels (a + 1) n) (each_within (a + 1) n))
 
@@ -32,8 +32,8 @@ module _ {X : Type 0} (key : X → ℕ) (xs : List X) where
       AllPairs (λ x y. key x ≤ key y) (ys ++ zs)
   in_order a [] zs h k pairs = pairs
   in_order a (y ∷ ys) zs h k pairs = AllPairs-cons (λ x y. key x ≤ key y) y (ys ++ zs)
-      (all_from (λ z. key y ≤ key z) (ys ++ zs) (each_join _ ys zs (each_map (λ x e. omega (arith, e, h.0)) ys h.1)
-          (each_map (λ x e. omega (arith, e, h.0)) zs k)))
+      (all_from (λ z. key y ≤ key z) (ys ++ zs) (each_append _ ys zs (each_map (λ x e. omega (arith, e, h.0)) ys h.1)
+      (each_map (λ x e. omega (arith, e, h.0)) zs k)))
       (in_order a ys zs h.1 k pairs)
 
   pairs_none : AllPairs (λ (x y : X). key x ≤ key y) []

@@ -12,6 +12,8 @@ use Rattle.ns_types.specs.declared.evaluation.Evaluation.{Evaluation}
 use Rattle.ns_types.specs.State.Lists.{Each}
 use Rattle.ns_types.specs.State.Names.{Name, ByNumber, name_cmp, same_name}
 use Rattle.ns_types.specs.State.Rows.{Tenant, is_pending, is_live_on}
+use Rattle.ns_types.proofs.Elements.{any_map}
+use Rattle.ns_types.proofs.Tests.{first, second}
 use Rattle.ns_types.proofs.Lists.{not_both, each_map}
 use Rattle.ns_types.proofs.Named.{names, one_name, one_number, same_name_is, same_name_refl, first_of_both, second_of_both, numbers}
 use Rattle.ns_types.proofs.Tables.{each_row, tied}
@@ -19,14 +21,6 @@ use Rattle.ns_laws.specs.Nodes as law
 use Rattle.ns_laws.specs.Queue as queue
 
 -- ---- entries in order
-
-T_first : (a b : Bool) → T (a && b) → T a
-T_first true b h = tt
-T_first false b h = absurd h
-
-T_second : (a b : Bool) → T (a && b) → T b
-T_second true b h = h
-T_second false b h = absurd h
 
 less_of : (a b : ℕ) → T (is_lt (nat_cmp a b)) → a < b
 less_of a b h = by (nat_cmp a b) refl h
@@ -39,7 +33,7 @@ less_of a b h = by (nat_cmp a b) refl h
 module _ {X : Type 0} where
   above : (k : ℕ) (es : List (ℕ × X)) → T (Entries.below_all nat_cmp k es) → Each (λ e. k < e.0) es
   above k [] h = tt
-  above k (e ∷ es) h = (less_of k e.0 (T_first _ _ h), above k es (T_second _ _ h))
+  above k (e ∷ es) h = (less_of k e.0 (first _ _ h), above k es (second _ _ h))
 
   found_holds : (P : ℕ × X → Type 0) (p : ℕ × X → Bool) (es : List (ℕ × X)) (e : ℕ × X) → Each P es → find p es ≡ Some e → (p e ≡ true) × P e
   found_holds P p [] e h is = absurd (none-some e is)
@@ -52,10 +46,10 @@ module _ {X : Type 0} where
   first_least : (p : ℕ × X → Bool) (es : List (ℕ × X)) (e : ℕ × X) → T (Entries.is_sorted nat_cmp es) → find p es ≡ Some e →
       Each (λ x. p x ≡ true → e.0 ≤ x.0) es
   first_least p [] e sorted is = tt
-  first_least p (x ∷ es) e sorted is = by (p x) refl is (first_least p es e (T_second _ _ sorted))
+  first_least p (x ∷ es) e sorted is = by (p x) refl is (first_least p es e (second _ _ sorted))
     where
       later : Each (λ y. x.0 < y.0) es
-      later = above x.0 es (T_first _ _ sorted)
+      later = above x.0 es (first _ _ sorted)
 
       by : (b : Bool) → p x ≡ b → cond b (Some x) (find p es) ≡ Some e → (find p es ≡ Some e → Each (λ y. p y ≡ true → e.0 ≤ y.0) es) →
           Each (λ y. p y ≡ true → e.0 ≤ y.0) (x ∷ es)
@@ -88,9 +82,12 @@ module _ {K X : Type 0} {R : K → K → Ordering} (same : IsAntisymmetric R) wh
 first_row : {X : Type 0} (p : ℕ × X → Bool) (m : ByNumber X) (n : ℕ) (x : X) → find p (entries m) ≡ Some (n, x)
     → (get m n ≡ Some x) × (p (n, x) ≡ true) × ((k : ℕ) (y : X) → get m k ≡ Some y → p (k, y) ≡ true → n ≤ k)
 first_row p m n x is =
-    let found = found_holds (λ e. get m e.0 ≡ Some e.1) p (entries m) (n, x) (each_row numbers one_number (λ k y. get m k ≡ Some y) m (λ k y e. e)) is in
-    (found.1, found.0, λ k y there passes. row_at one_number (λ k y. p (k, y) ≡ true → n ≤ k) m k y (first_least p (entries m) (n, x) (entries_sorted m) is)
-        there passes)
+    let found = found_holds (λ e. get m e.0 ≡ Some e.1) p (entries m) (n, x) (each_row numbers one_number (λ k y. get m k ≡ Some y) m (λ k y e. e)) is in (
+      found.1,
+      found.0,
+      λ k y there passes. row_at one_number (λ k y. p (k, y) ≡ true → n ≤ k) m k y (first_least p (entries m) (n, x) (entries_sorted m) is)
+          there passes,
+    )
 
 -- ---- who waits
 
@@ -160,7 +157,7 @@ get_loser : (pool node : Name) (t : Tenant) (job : Name)
 unfolding losers
 get_loser pool node t job =
     get-from_entries names (map by_job (filter (lives_on pool node) (entries t.allocations))) job ∙
-        find_job job (filter (lives_on pool node) (entries t.allocations))
+    find_job job (filter (lives_on pool node) (entries t.allocations))
     ∙ ap (option_map (λ e. e.1)) (find_kept (lives_on pool node) (λ e. same_name job e.1.job) (entries t.allocations))
 
 loser_is_first : (pool node : Name) (t : Tenant) (job : Name) (a : Allocation) → get (losers pool node t) job ≡ Some a → law.IsFirstOfJob pool node t a
@@ -193,10 +190,6 @@ losers_are_first pool node t =
     each_over_map (law.IsFirstOfJob pool node t) (λ e. e.1) (entries (losers pool node t))
     (each_row names one_name (λ job a. law.IsFirstOfJob pool node t a) (losers pool node t) (λ job a is. loser_is_first pool node t job a is))
 
-any_over_map : {A B : Type 0} (p : B → Bool) (h : A → B) (xs : List A) → list_any p (map h xs) ≡ list_any (λ x. p (h x)) xs
-any_over_map p h [] = refl
-any_over_map p h (x ∷ xs) = ap (λ b. p (h x) || b) (any_over_map p h xs)
-
 -- an element that a test passes is found by any test that passes it
 any_each : {K X : Type 0} (p : K × X → Bool) (es : List (K × X)) → list_any p es ≡ false → Each (λ e. p e ≡ false) es
 any_each p [] e = tt
@@ -208,7 +201,7 @@ any_each p (x ∷ es) e = by (p x) refl e (any_each p es)
 
 pub each_job_loses : law.EachJobLoses
 unfolding losers
-each_job_loses pool node t n a there lives = any_over_map (λ other. same_name a.job other.job) (λ e. e.1) (entries (losers pool node t))
+each_job_loses pool node t n a there lives = any_map (λ other. same_name a.job other.job) (λ e. e.1) (entries (losers pool node t))
     ∙ by (list_any (λ e. same_name a.job e.1.job) (entries (losers pool node t))) refl
   where
     passes : ℕ × Allocation → Bool
@@ -232,4 +225,4 @@ each_job_loses pool node t n a there lives = any_over_map (λ other. same_name a
     by false e =
         let found = row (find passes (entries t.allocations)) refl in
         not_both found.2 (row_at one_name (λ job x. same_name a.job x.job ≡ false) (losers pool node t) a.job found.0
-            (any_each (λ e. same_name a.job e.1.job) (entries (losers pool node t)) e) found.1)
+        (any_each (λ e. same_name a.job e.1.job) (entries (losers pool node t)) e) found.1)

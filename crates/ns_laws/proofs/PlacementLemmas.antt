@@ -1,8 +1,6 @@
 -- The orders by which nodes are chosen, and who may be evicted.
-use Rattle.std.specs.Prelude.{
-    ◌≡◌, ℕ, ◌-◌, ◌<◌, ◌≤◌, Bool, true, false, cond, List, [], length, Option, Some, None, unwrap_or, is_some, slice_get,
-    option_map, IsFalse, ◌||◌, ◌==◌, ◌⊎◌, nat_le, max, fold, sum_by, ◌&&◌, ◌+◌, ◌∷◌
-}
+use Rattle.std.specs.Prelude.{◌≡◌, ℕ, ◌-◌, ◌<◌, ◌≤◌, Bool, true, false, cond, List, [], length, Option, Some, None, unwrap_or, is_some, slice_get, option_map}
+use Rattle.std.specs.Prelude.{IsFalse, ◌||◌, ◌==◌, ◌⊎◌, nat_le, max, fold, sum_by, ◌&&◌, ◌+◌, ◌∷◌}
 use Rattle.std.specs.declared.cmp.Ordering.{Ordering}
 use Rattle.std.proofs.Common.{refl, sym, ap, ◌∙◌, arith, Less, Equal, is_lt, subst, inl, inr}
 use Rattle.std.specs.Cmp.{IsStrictWeakOrder, nat_cmp_is}
@@ -17,14 +15,15 @@ use Rattle.ns_types.specs.Placing.Choice.{shortest_prefix}
 use Rattle.ns_types.specs.State.Names.{name_cmp}
 use Rattle.ns_types.specs.Placing.Placement.{Candidate, fits, better, best_fit}
 use Rattle.ns_types.specs.Placing.Preemption.{makes_room, victims, highest_priority, cheaper, best_victims}
+use Rattle.std.proofs.lemmas.Bool.{or_right}
 use Rattle.ns_types.proofs.Lists.{not_both, each_map}
 use Rattle.ns_types.proofs.Named.{first_of_both, second_of_both}
+use Rattle.ns_types.proofs.Elements.{each_both}
 use Rattle.ns_laws.specs.Placement.{HasLessLeft, less_cpu, less_memory, less_name, IsBestNode, ChosenIsBest, NoneChosenOfNone}
 use Rattle.ns_laws.specs.Placement as law
 use Rattle.ns_laws.proofs.ChoiceLemmas.{best_is, best_of_none, shortest_is, shortest_none, is_shortest}
 use Rattle.std.specs.Option.{option_map_or, option_and_then}
 use Rattle.ns_types.specs.Placing.Planning.{Choice}
-use Rattle.ns_laws.proofs.Elements.{each_both}
 use Rattle.ns_types.specs.State.Lists.{Each}
 use Rattle.std.specs.List.{list_any}
 use Rattle.ns_types.specs.State.Resources.{is_within}
@@ -85,8 +84,11 @@ pub room_is_made : law.RoomIsMade
 room_is_made size node gone =
     let cpu = node.left.cpu + sum_by (λ a. a.size.cpu) gone in
     let memory = node.left.memory + sum_by (λ a. a.size.memory) gone in (
-      (λ e. (leb-true size.cpu cpu (first_of_both (nat_le size.cpu cpu) (nat_le size.memory memory) e), leb-true size.memory memory
-          (second_of_both (nat_le size.cpu cpu) (nat_le size.memory memory) e))),
+      (λ e. (
+        leb-true size.cpu cpu (first_of_both (nat_le size.cpu cpu) (nat_le size.memory memory) e),
+        leb-true size.memory memory
+            (second_of_both (nat_le size.cpu cpu) (nat_le size.memory memory) e),
+      )),
       (λ h. two size.cpu cpu size.memory memory h),
     )
 
@@ -106,10 +108,6 @@ reached_from m (x ∷ xs) = by (fold (λ m a. max m a.priority) (max m x.priorit
     here : (top : ℕ) → x.priority ≡ top → (x.priority == top || list_any (λ a. a.priority == top) xs) ≡ true
     here top e = ap (λ b. b || list_any (λ a. a.priority == top) xs) (eq-eqb x.priority top e)
 
-    later : (a b : Bool) → b ≡ true → (a || b) ≡ true
-    later true b e = refl
-    later false b e = e
-
     start : (top : ℕ) → top ≡ max m x.priority → (m < x.priority) ⊎ (x.priority ≤ m) → (top ≡ m)
         ⊎ ((x.priority == top || list_any (λ a. a.priority == top) xs) ≡ true)
     start top e (inl less) = inr (here top (omega (arith, e, less)))
@@ -118,7 +116,7 @@ reached_from m (x ∷ xs) = by (fold (λ m a. max m a.priority) (max m x.priorit
     by : (top : ℕ) → (top ≡ max m x.priority) ⊎ (list_any (λ a. a.priority == top) xs ≡ true) → (top ≡ m)
         ⊎ ((x.priority == top || list_any (λ a. a.priority == top) xs) ≡ true)
     by top (inl e) = start top e (cases_lt m x.priority)
-    by top (inr e) = inr (later (x.priority == top) (list_any (λ a. a.priority == top) xs) e)
+    by top (inr e) = inr (or_right (x.priority == top) (list_any (λ a. a.priority == top) xs) e)
 
 pub highest_is_highest : law.HighestIsHighest
 unfolding IsReached
@@ -242,7 +240,7 @@ no_choice_of_none size nodes e = by (best_fit size nodes) refl (best_victims siz
   where
     by : (b : Option ℕ) → best_fit size nodes ≡ b → (v : Option ℕ) → best_victims size nodes ≡ v
         → option_map_or (λ k. Some (record { node = k; victims = [] })) b (chosen_with size nodes v) ≡ None →
-            Each (λ node. IsFalse (fits size node) × (victims size node ≡ None)) nodes
+        Each (λ node. IsFalse (fits size node) × (victims size node ≡ None)) nodes
     by (Some k) f v g e = absurd (none-some (record { node = k; victims = [] }) (sym e))
     by None f (Some k) g e =
         let is = evicted_cost_least size nodes k g in absurd (none-some (record { node = k; victims = is.gone }) (sym e ∙ victims_at size nodes k is))

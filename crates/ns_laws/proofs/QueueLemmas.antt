@@ -14,10 +14,12 @@ use Rattle.ns_types.specs.Settling.Releases.{woken, wakes}
 use Rattle.ns_types.specs.State.Rows.{World, Tenant, evaluation_at}
 use Rattle.ns_types.specs.Validity.{IsSound}
 use Rattle.ns_types.proofs.Lists.{not_both, each_map}
-use Rattle.ns_types.proofs.Named.{one_number, same_name_is, same_name_refl, same_number_refl, first_of_both, second_of_both}
+use Rattle.ns_types.proofs.Named.{one_number, same_name_is, first_of_both, second_of_both, same_key_refl}
+use Rattle.std.proofs.lemmas.Bool.{or_right}
 use Rattle.ns_types.proofs.Tables.{equal_by}
+use Rattle.ns_types.proofs.Elements.{each_from_all, all_from_each, each_kept, any_kept, each_back}
 use Rattle.ns_laws.specs.Queue.{ServedIsFirst, FirstIsServed, NoneServedOfNone, WokenInOrder, WokenAreCalled, IsBlockedAt, WokenWereBlocked}
-use Rattle.ns_laws.proofs.Elements.{each_from_all, all_from_each, each_kept, filter_in_order, any_kept, each_back}
+use Rattle.ns_laws.proofs.Elements.{filter_in_order}
 
 not_Some : {A : Type 0} (a : Option Key) (key : Key) → a ≡ None → a ≡ Some key → A
 not_Some a key e f = absurd (subst T (sym (ap is_some (sym e ∙ f))) tt)
@@ -99,7 +101,7 @@ served_is_first w keys key e = let is = first_is (priority_at w) keys key e in
 pub first_is_served : FirstIsServed
 first_is_served w keys key is =
     let most = each_back (λ o. priority_at w o ≤ priority_at w key) is.before (key ∷ is.later)
-        (subst (Each (λ o. priority_at w o ≤ priority_at w key)) is.listed is.none_greater) in
+    (subst (Each (λ o. priority_at w o ≤ priority_at w key)) is.listed is.none_greater) in
     ap (first_of_greatest (priority_at w)) is.listed ∙ is_first (priority_at w) is.before is.later key most.1 is.less_before
 
 pub none_served_of_none : NoneServedOfNone
@@ -116,18 +118,11 @@ same_key_is a b e =
     let numbers = same_number_is a.1 b.1 (second_of_both (same_name a.0 b.0) _ e) in
     λ i. (names i, numbers i)
 
-same_key_refl : (a : Key) → same_key a a ≡ true
-same_key_refl a = ap (λ b. b && same_number a.1 a.1) (same_name_refl a.0) ∙ same_number_refl a.1
-
-either_way : (a b : Bool) → b ≡ true → (a || b) ≡ true
-either_way true b e = refl
-either_way false b e = e
-
 -- each key of a list is found in it
 each_listed : (keys : List Key) → Each (λ key. has_key keys key ≡ true) keys
 each_listed [] = tt
 each_listed (key ∷ keys) =
-    (ap (λ b. b || has_key keys key) (same_key_refl key), each_map (λ other h. either_way (same_key other key) _ h) keys (each_listed keys))
+    (ap (λ b. b || has_key keys key) (same_key_refl key), each_map (λ other h. or_right (same_key other key) _ h) keys (each_listed keys))
 
 pub woken_in_order : WokenInOrder
 unfolding woken
@@ -159,4 +154,4 @@ unfolding woken
 woken_were_blocked w w' sound =
     each_map (λ key h. blocked_at w w' sound key h.0 (second_of_both (has_key w'.blocked key) _ h.1)) (woken w w')
     (each_kept (λ key. has_key w.blocked key ≡ true) (λ key. has_key w'.blocked key && option_map_or (wakes w w') (evaluation_at w key) false) w.blocked
-        (each_listed w.blocked))
+    (each_listed w.blocked))

@@ -1,36 +1,31 @@
 -- Which refusals a step answers, command by command.
 use Rattle.std.specs.Prelude.{◌≡◌, ℕ, ◌+◌, Bool, true, false, cond, ◌&&◌, nat_lt, nat_le, Option, Some, None, Ok, Err}
 use Rattle.std.proofs.Common.{refl, sym, ap, ◌∙◌}
-use Rattle.std.specs.FinMap.{get}
+use Rattle.std.specs.FinMap.{contains_key, get}
 use Rattle.std.specs.Option.{option_map_or}
 use Rattle.ns_types.specs.declared.evaluation.Evaluation.{Evaluation}
 use Rattle.ns_types.specs.declared.refusal.Refusal.{Refusal}
-use Rattle.ns_types.specs.declared.refusal.Refusal.TheVariants as Refusal
 use Rattle.ns_types.specs.declared.step.AdminCommand.{AdminCommand}
-use Rattle.ns_types.specs.declared.step.AdminCommand.TheVariants as AdminCommand
 use Rattle.ns_types.specs.declared.step.AskCommand.{AskCommand}
-use Rattle.ns_types.specs.declared.step.AskCommand.TheVariants as AskCommand
 use Rattle.ns_types.specs.declared.step.NodeCommand.{NodeCommand}
-use Rattle.ns_types.specs.declared.step.NodeCommand.TheVariants as NodeCommand
 use Rattle.ns_types.specs.declared.step.Step.{Step}
-use Rattle.ns_types.specs.declared.step.Step.TheVariants as Step
 use Rattle.ns_types.specs.declared.worker.Worker.{Worker}
 use Rattle.ns_types.specs.Asking.Policies.{administer, with_acl, with_world, secret_of}
 use Rattle.ns_types.specs.Asking.Admins.{put_namespace, delete_namespace, put_quota, delete_quota, put_pool_record, delete_pool}
-use Rattle.ns_types.specs.Asking.Asks.{ask, asked_in}
+use Rattle.ns_types.specs.Asking.Asks.{ask, asked_in, first_refusal, has_no_room, is_outdated, pool_of}
 use Rattle.ns_types.specs.Working.Commit.{apply, apply_for}
 use Rattle.ns_types.specs.State.Names.{Name, Key}
 use Rattle.ns_types.specs.Asking.Nodes.{ask_pool, asked_in_pool, same_client}
-use Rattle.ns_types.specs.Settling.Outcome.{Outcome, NotEnabled, Refused, Done, unless, found, lift}
+use Rattle.ns_types.specs.Settling.Outcome.{Outcome, NotEnabled, Refused, Done, unless, refused_by, found, lift}
 use Rattle.ns_types.specs.Working.Queue.{is_served}
 use Rattle.ns_types.specs.State.Rows.{State, World, Tenant, PoolRows, allocation_at}
 use Rattle.ns_types.specs.Steps.{Answer, after, act, said, concluded, is_allowed, is_past_bound, settled, reply_of}
 use Rattle.ns_types.specs.State.Sums.{names_quota}
-use Rattle.ns_types.specs.Working.Work.{
-    at_work, workers_end, is_idle, dequeue, dequeue_in, may_snap, snap, snap_for, may_submit, submit, submit_for,
-    may_finish, needs_follower, finish, finish_for, is_submitted, most_nacks, nack, nack_for
-}
+use Rattle.ns_types.specs.Working.Work.{at_work, workers_end, is_idle, dequeue, dequeue_in, may_snap, snap, snap_for, may_submit, submit, submit_for}
+use Rattle.ns_types.specs.Working.Work.{may_finish, needs_follower, finish, finish_for, is_submitted, most_nacks, nack, nack_for}
+use Rattle.ns_types.specs.Access.Sharing.{permits}
 use Rattle.ns_types.proofs.Lists.{not_both}
+use Rattle.ns_types.proofs.Registrations.{by_tests}
 use Rattle.ns_laws.specs.Refusals as law
 use Rattle.ns_laws.proofs.RightsLemmas.{denied_without}
 use Rattle.ns_laws.proofs.StepLemmas.{same_answer, not_said, not_refused}
@@ -50,6 +45,11 @@ module _ (passes : Refusal → Bool) where
   by_unless true refusal rest e f = e
   by_unless false refusal rest e f = f
 
+  by_refused : {S : Type 0} (x : Option Refusal) (rest : Outcome S) → option_map_or passes x true ≡ true → only passes rest ≡ true →
+      only passes (refused_by x rest) ≡ true
+  by_refused None rest e f = f
+  by_refused (Some refusal) rest e f = e
+
   by_if : {S : Type 0} (b : Bool) (first rest : Outcome S) → only passes first ≡ true → only passes rest ≡ true → only passes (cond b first rest) ≡ true
   by_if true first rest e f = e
   by_if false first rest e f = f
@@ -64,7 +64,7 @@ module _ (passes : Refusal → Bool) where
   by_lift whole (Refused refusal) e = e
   by_lift whole (Done content a) e = refl
 
--- ---- what is asked, told and administered
+-- ---- what is asked and administered
 
 abbrev later : Refusal → Bool
 later Refusal.NotFound = true
@@ -79,9 +79,17 @@ by_found : {S A : Type 0} (o : Option A) (go : A → Outcome S) → ((a : A) →
 by_found None go f = refl
 by_found (Some a) go f = f a
 
+by_tests_later : (a b c d : Bool) → option_map_or later (by_tests a b c d) true ≡ true
+by_tests_later false b c d = refl
+by_tests_later true false c d = refl
+by_tests_later true true true d = refl
+by_tests_later true true false true = refl
+by_tests_later true true false false = refl
+
 asked : (ns : Name) (command : AskCommand) (w : World) (t : Tenant) → only later (asked_in ns command w t) ≡ true
 asked ns (AskCommand.ListJobs prefix) w t = refl
-asked ns (AskCommand.Register r) w t = by_unless later _ _ _ refl (by_unless later _ _ _ refl (by_unless later _ _ _ refl (by_unless later _ _ _ refl refl)))
+asked ns (AskCommand.Register r) w t = by_refused later (first_refusal w t r) _
+    (by_tests_later (permits t.namespace (pool_of t r)) (contains_key w.pools (pool_of t r)) (is_outdated r t) (has_no_room r t)) refl
 asked ns (AskCommand.ReadJob id) w t = by_found (get t.jobs id) _ (λ job. refl)
 asked ns (AskCommand.Deregister id purge) w t = by_found (get t.jobs id) _ (λ job. refl)
 asked ns (AskCommand.JobAllocations id) w t = refl
@@ -95,14 +103,14 @@ asked ns AskCommand.ReadNamespace w t = refl
 asked ns (AskCommand.QuotaUsage quota) w t = by_if later (names_quota quota t.namespace) _ _ refl refl
 asked ns (AskCommand.Events index) w t = refl
 
-told : (pool : Name) (command : NodeCommand) (w : World) (p : PoolRows) → only later (asked_in_pool pool command w p) ≡ true
-told pool NodeCommand.ReadPool w p = refl
-told pool NodeCommand.ListNodes w p = refl
-told pool (NodeCommand.PutNode name offer) w p = by_unless later _ _ _ refl (by_unless later _ _ _ refl refl)
-told pool (NodeCommand.DeleteNode name) w p = by_found (get p.nodes name) _ (λ node. by_unless later _ _ _ refl refl)
-told pool (NodeCommand.SetStatus name status) w p = by_found (get p.nodes name) _ (λ node. refl)
-told pool (NodeCommand.SetEligible name eligible) w p = by_found (get p.nodes name) _ (λ node. refl)
-told pool (NodeCommand.Report name r) w p = by_found (get p.nodes name) _ (λ node. by_found (allocation_at w (r.namespace, r.number)) _ (λ a.
+pool_asked : (pool : Name) (command : NodeCommand) (w : World) (p : PoolRows) → only later (asked_in_pool pool command w p) ≡ true
+pool_asked pool NodeCommand.ReadPool w p = refl
+pool_asked pool NodeCommand.ListNodes w p = refl
+pool_asked pool (NodeCommand.PutNode name offer) w p = by_unless later _ _ _ refl (by_unless later _ _ _ refl refl)
+pool_asked pool (NodeCommand.DeleteNode name) w p = by_found (get p.nodes name) _ (λ node. by_unless later _ _ _ refl refl)
+pool_asked pool (NodeCommand.SetStatus name status) w p = by_found (get p.nodes name) _ (λ node. refl)
+pool_asked pool (NodeCommand.SetEligible name eligible) w p = by_found (get p.nodes name) _ (λ node. refl)
+pool_asked pool (NodeCommand.Report name r) w p = by_found (get p.nodes name) _ (λ node. by_found (allocation_at w (r.namespace, r.number)) _ (λ a.
     by_unless later _ _ _ refl (by_if later (same_client a.client r.client) _ _ refl (by_unless later _ _ _ refl refl))))
 
 administered : (secret : Option Name) (command : AdminCommand) (s : State) → only later (administer secret command s) ≡ true
@@ -196,7 +204,7 @@ acts (Step.Ask ns secret command) s = by_lift later (with_world s.acl) (ask ns c
     (by_found (get s.world.tenants ns) (asked_in ns command s.world) (λ t. asked ns command s.world t))
 acts (Step.Admin secret command) s = administered secret command s
 acts (Step.Node pool secret command) s = by_lift later (with_world s.acl) (ask_pool pool command s.world)
-    (by_found (get s.world.pools pool) (asked_in_pool pool command s.world) (λ p. told pool command s.world p))
+    (by_found (get s.world.pools pool) (asked_in_pool pool command s.world) (λ p. pool_asked pool command s.world p))
 acts (Step.Dequeue worker ns n) s = more _ (worker_acts (Step.Dequeue worker ns n) s refl)
 acts (Step.Snap worker ns) s = more _ (worker_acts (Step.Snap worker ns) s refl)
 acts (Step.Submit worker ns) s = more _ (worker_acts (Step.Submit worker ns) s refl)

@@ -7,33 +7,28 @@ use Rattle.std.proofs.lemmas.Bool.{leb-true, le-leb, eqb-true, eq-eqb, ne_eqb}
 use Rattle.ns_types.specs.declared.job.Registration.{Registration}
 use Rattle.ns_types.specs.declared.refusal.Member.TheVariants as Member
 use Rattle.ns_types.specs.declared.refusal.Refusal.{Refusal}
-use Rattle.ns_types.specs.declared.refusal.Refusal.TheVariants as Refusal
 use Rattle.ns_types.specs.declared.reply.Content.{Content}
 use Rattle.ns_types.specs.declared.step.AskCommand.TheVariants as AskCommand
 use Rattle.ns_types.specs.declared.step.Step.{Step}
-use Rattle.ns_types.specs.declared.step.Step.TheVariants as Step
 use Rattle.ns_types.specs.Asking.Policies.{with_world}
-use Rattle.ns_types.specs.Asking.Asks.{ask, asked_in, pool_of, meets, most_jobs, registered_with, registered_job, document_of}
+use Rattle.ns_types.specs.Asking.Asks.{ask, asked_in, document_of, first_refusal, has_no_room, is_outdated, meets, most_jobs, pool_of, registered_job}
+use Rattle.ns_types.specs.Asking.Asks.{registered_with}
 use Rattle.ns_types.specs.State.Names.{Name, same_number}
-use Rattle.ns_types.specs.Settling.Outcome.{Outcome, Refused, Done, unless, found, lift}
+use Rattle.ns_types.specs.Settling.Outcome.{Outcome, Refused, Done, refused_by, found, lift}
 use Rattle.ns_types.specs.Access.Rights.{rights_of}
 use Rattle.ns_types.specs.State.Rows.{State, World, Tenant}
 use Rattle.ns_types.specs.Access.Sharing.{permits}
 use Rattle.ns_types.specs.Steps.{after, act, said, concluded, is_past_bound, settled, reply_of}
 use Rattle.ns_types.proofs.Lists.{not_both}
+use Rattle.ns_types.proofs.Registrations.{by_tests}
 use Rattle.ns_types.proofs.Named.{first_of_both, second_of_both, same_number_refl}
+use Rattle.ns_types.proofs.Tests.{is_no}
 use Rattle.ns_laws.specs.Refusals as law
 use Rattle.ns_laws.specs.Refusals.{SpeaksAgainst, rank}
 use Rattle.ns_laws.proofs.RefusalLemmas.{same_refusal, after_allowed}
 use Rattle.ns_laws.proofs.RightsLemmas.{denied_without}
-use Rattle.ns_laws.proofs.SharingLemmas.{is_no}
 use Rattle.ns_laws.proofs.StepLemmas.{same_answer, not_refused}
 use Rattle.ns_laws.proofs.QueueLemmas.{same_number_is}
-
--- what is refused in a namespace, by four tests
-abbrev tested : Bool → Bool → Bool → Bool → Outcome World → Outcome World
-tested foreign missing other full rest =
-    unless foreign Refusal.PoolNotPermitted (unless missing (Refusal.BadField Member.NodePool) (unless other Refusal.Conflict (unless full Refusal.Full rest)))
 
 module _ (s : State) (secret : Option Name) (ns : Name) (r : Registration) where
   abbrev step : Step
@@ -42,17 +37,11 @@ module _ (s : State) (secret : Option Name) (ns : Name) (r : Registration) where
   abbrev has_right : Bool
   has_right = (rights_of s.acl secret ns).submit_job
 
-  abbrev is_foreign : Tenant → Bool
-  is_foreign t = not (permits t.namespace (pool_of t r))
+  abbrev is_permitted : Tenant → Bool
+  is_permitted t = permits t.namespace (pool_of t r)
 
-  abbrev is_missing : Tenant → Bool
-  is_missing t = not (contains_key s.world.pools (pool_of t r))
-
-  abbrev is_other : Tenant → Bool
-  is_other t = option_map_or (λ index. not (meets (get t.jobs r.id) index)) r.enforced false
-
-  abbrev has_no_room : Tenant → Bool
-  has_no_room t = not (contains_key t.jobs r.id) && nat_le most_jobs (len t.jobs)
+  abbrev is_there : Tenant → Bool
+  is_there t = contains_key s.world.pools (pool_of t r)
 
   abbrev done : Tenant → Outcome World
   done t = registered_with ns r s.world t (registered_job (t.index + 1) (document_of t r) (get t.jobs r.id))
@@ -60,7 +49,7 @@ module _ (s : State) (secret : Option Name) (ns : Name) (r : Registration) where
   abbrev in_state : Outcome World → Outcome State
   in_state o = lift (with_world s.acl) o
 
-  acts_in : (t : Tenant) → get s.world.tenants ns ≡ Some t → act step s ≡ in_state (tested (is_foreign t) (is_missing t) (is_other t) (has_no_room t) (done t))
+  acts_in : (t : Tenant) → get s.world.tenants ns ≡ Some t → act step s ≡ in_state (refused_by (first_refusal s.world t r) (done t))
   unfolding act ask
   acts_in t is = ap (λ o. in_state (found o (asked_in ns (AskCommand.Register r) s.world))) is
 
@@ -71,32 +60,13 @@ module _ (s : State) (secret : Option Name) (ns : Name) (r : Registration) where
   refused_so : (refusal : Refusal) → has_right ≡ true → act step s ≡ Refused refusal → after step s ≡ said (Err refusal) s
   refused_so refusal may e = after_allowed step s may ∙ ap (concluded step s) e
 
-  foreign_is : (t : Tenant) → get s.world.tenants ns ≡ Some t → is_foreign t ≡ true → act step s ≡ Refused Refusal.PoolNotPermitted
-  unfolding unless
-  foreign_is t is e = acts_in t is ∙ ap (λ b. in_state (tested b (is_missing t) (is_other t) (has_no_room t) (done t))) e
-
-  missing_is : (t : Tenant) → get s.world.tenants ns ≡ Some t → is_foreign t ≡ false → is_missing t ≡ true →
-      act step s ≡ Refused (Refusal.BadField Member.NodePool)
-  unfolding unless
-  missing_is t is e f = acts_in t is ∙ (λ i. in_state (tested (e i) (f i) (is_other t) (has_no_room t) (done t)))
-
-  other_is : (t : Tenant) → get s.world.tenants ns ≡ Some t → is_foreign t ≡ false → is_missing t ≡ false → is_other t ≡ true →
-      act step s ≡ Refused Refusal.Conflict
-  unfolding unless
-  other_is t is e f g = acts_in t is ∙ (λ i. in_state (tested (e i) (f i) (g i) (has_no_room t) (done t)))
-
-  full_is : (t : Tenant) → get s.world.tenants ns ≡ Some t → is_foreign t ≡ false → is_missing t ≡ false → is_other t ≡ false → has_no_room t ≡ true →
-      act step s ≡ Refused Refusal.Full
-  unfolding unless
-  full_is t is e f g h = acts_in t is ∙ (λ i. in_state (tested (e i) (f i) (g i) (h i) (done t)))
-
-  done_is : (t : Tenant) → get s.world.tenants ns ≡ Some t → is_foreign t ≡ false → is_missing t ≡ false → is_other t ≡ false → has_no_room t ≡ false →
-      act step s ≡ in_state (done t)
-  unfolding unless
-  done_is t is e f g h = acts_in t is ∙ (λ i. in_state (tested (e i) (f i) (g i) (h i) (done t)))
+  -- by what the tests say
+  tested : (t : Tenant) → get s.world.tenants ns ≡ Some t → {a b c d : Bool} → is_permitted t ≡ a → is_there t ≡ b → is_outdated r t ≡ c → has_no_room r t ≡ d
+      → act step s ≡ in_state (refused_by (by_tests a b c d) (done t))
+  tested t is e f g h = acts_in t is ∙ (λ i. in_state (refused_by (by_tests (e i) (f i) (g i) (h i)) (done t)))
 
   -- what speaks against it where a test holds
-  other_against : (t : Tenant) → get s.world.tenants ns ≡ Some t → is_other t ≡ true → SpeaksAgainst s secret ns r Refusal.Conflict
+  other_against : (t : Tenant) → get s.world.tenants ns ≡ Some t → is_outdated r t ≡ true → SpeaksAgainst s secret ns r Refusal.Conflict
   other_against t is e = by r.enforced refl e
     where
       by : (o : Option ℕ) → r.enforced ≡ o → option_map_or (λ index. not (meets (get t.jobs r.id) index)) o false ≡ true →
@@ -104,7 +74,7 @@ module _ (s : State) (secret : Option Name) (ns : Name) (r : Registration) where
       by None f e = not_both e refl
       by (Some index) f e = law.other_index t index is f (is_no (meets (get t.jobs r.id) index) e)
 
-  room_against : (t : Tenant) → get s.world.tenants ns ≡ Some t → has_no_room t ≡ true → SpeaksAgainst s secret ns r Refusal.Full
+  room_against : (t : Tenant) → get s.world.tenants ns ≡ Some t → has_no_room r t ≡ true → SpeaksAgainst s secret ns r Refusal.Full
   room_against t is e = law.no_room t is (is_no (contains_key t.jobs r.id) (first_of_both (not (contains_key t.jobs r.id)) _ e))
       (leb-true most_jobs (len t.jobs) (second_of_both (not (contains_key t.jobs r.id)) _ e))
 
@@ -119,50 +89,55 @@ module _ (s : State) (secret : Option Name) (ns : Name) (r : Registration) where
       by true e go = go e
       by false e go = (Refusal.Denied, law.no_right e, omega arith, denied_without step s e)
 
-  with_own_pool : (n : ℕ) → 2 ≤ n → has_right ≡ true → (t : Tenant) → get s.world.tenants ns ≡ Some t → (is_foreign t ≡ false → Answered n) → Answered n
-  with_own_pool n le may t is go = by (is_foreign t) refl go
+  with_own_pool : (n : ℕ) → 2 ≤ n → has_right ≡ true → (t : Tenant) → get s.world.tenants ns ≡ Some t → (is_permitted t ≡ true → Answered n) → Answered n
+  with_own_pool n le may t is go = by (is_permitted t) refl go
     where
-      by : (b : Bool) → is_foreign t ≡ b → (is_foreign t ≡ false → Answered n) → Answered n
-      by false e go = go e
-      by true e go = (Refusal.PoolNotPermitted, law.foreign_pool t is (is_no _ e), le, refused_so Refusal.PoolNotPermitted may (foreign_is t is e))
+      by : (b : Bool) → is_permitted t ≡ b → (is_permitted t ≡ true → Answered n) → Answered n
+      by true e go = go e
+      by false e go = (Refusal.PoolNotPermitted, law.foreign_pool t is e, le, refused_so Refusal.PoolNotPermitted may (tested t is e refl refl refl))
 
-  with_pool : (n : ℕ) → 3 ≤ n → has_right ≡ true → (t : Tenant) → get s.world.tenants ns ≡ Some t → is_foreign t ≡ false → (is_missing t ≡ false → Answered n) →
+  with_pool : (n : ℕ) → 3 ≤ n → has_right ≡ true → (t : Tenant) → get s.world.tenants ns ≡ Some t → is_permitted t ≡ true → (is_there t ≡ true → Answered n) →
       Answered n
-  with_pool n le may t is own go = by (is_missing t) refl go
+  with_pool n le may t is own go = by (is_there t) refl go
     where
-      by : (b : Bool) → is_missing t ≡ b → (is_missing t ≡ false → Answered n) → Answered n
-      by false e go = go e
-      by true e go = (Refusal.BadField Member.NodePool, law.no_pool t is (is_no _ e), le, refused_so (Refusal.BadField Member.NodePool) may
-          (missing_is t is own e))
+      by : (b : Bool) → is_there t ≡ b → (is_there t ≡ true → Answered n) → Answered n
+      by true e go = go e
+      by false e go = (
+        Refusal.BadField Member.NodePool,
+        law.no_pool t is e,
+        le,
+        refused_so (Refusal.BadField Member.NodePool) may
+            (tested t is own e refl refl),
+      )
 
-  with_index : (n : ℕ) → 4 ≤ n → has_right ≡ true → (t : Tenant) → get s.world.tenants ns ≡ Some t → is_foreign t ≡ false → is_missing t ≡ false →
-      (is_other t ≡ false → Answered n) → Answered n
-  with_index n le may t is own there go = by (is_other t) refl go
+  with_index : (n : ℕ) → 4 ≤ n → has_right ≡ true → (t : Tenant) → get s.world.tenants ns ≡ Some t → is_permitted t ≡ true → is_there t ≡ true →
+      (is_outdated r t ≡ false → Answered n) → Answered n
+  with_index n le may t is own there go = by (is_outdated r t) refl go
     where
-      by : (b : Bool) → is_other t ≡ b → (is_other t ≡ false → Answered n) → Answered n
+      by : (b : Bool) → is_outdated r t ≡ b → (is_outdated r t ≡ false → Answered n) → Answered n
       by false e go = go e
-      by true e go = (Refusal.Conflict, other_against t is e, le, refused_so Refusal.Conflict may (other_is t is own there e))
+      by true e go = (Refusal.Conflict, other_against t is e, le, refused_so Refusal.Conflict may (tested t is own there e refl))
 
-  other_test : (t : Tenant) (index : ℕ) → r.enforced ≡ Some index → meets (get t.jobs r.id) index ≡ false → is_other t ≡ true
+  other_test : (t : Tenant) (index : ℕ) → r.enforced ≡ Some index → meets (get t.jobs r.id) index ≡ false → is_outdated r t ≡ true
   other_test t index is e = ap (λ o. option_map_or (λ index. not (meets (get t.jobs r.id) index)) o false) is ∙ ap not e
 
-  room_test : (t : Tenant) → contains_key t.jobs r.id ≡ false → most_jobs ≤ len t.jobs → has_no_room t ≡ true
+  room_test : (t : Tenant) → contains_key t.jobs r.id ≡ false → most_jobs ≤ len t.jobs → has_no_room r t ≡ true
   room_test t e le = ap (λ b. not b && nat_le most_jobs (len t.jobs)) e ∙ le-leb most_jobs (len t.jobs) le
 
-  first_refusal : (other : Refusal) → SpeaksAgainst s secret ns r other → Answered (rank other)
-  first_refusal other (law.no_right e) = (Refusal.Denied, law.no_right e, omega arith, denied_without step s e)
-  first_refusal other (law.no_namespace e) = with_right 1
+  first_answer : (other : Refusal) → SpeaksAgainst s secret ns r other → Answered (rank other)
+  first_answer other (law.no_right e) = (Refusal.Denied, law.no_right e, omega arith, denied_without step s e)
+  first_answer other (law.no_namespace e) = with_right 1
       (λ may. (Refusal.NotFound, law.no_namespace e, omega arith, refused_so Refusal.NotFound may (acts_nowhere e)))
-  first_refusal other (law.foreign_pool t is e) = with_right 2 (λ may. with_own_pool 2 (omega arith) may t is (λ own. not_both (ap not e) own))
-  first_refusal other (law.no_pool t is e) = with_right 3
-      (λ may. with_own_pool 3 (omega arith) may t is (λ own. with_pool 3 (omega arith) may t is own (λ there. not_both (ap not e) there)))
-  first_refusal other (law.other_index t index is of e) =
+  first_answer other (law.foreign_pool t is e) = with_right 2 (λ may. with_own_pool 2 (omega arith) may t is (λ own. not_both own e))
+  first_answer other (law.no_pool t is e) = with_right 3
+      (λ may. with_own_pool 3 (omega arith) may t is (λ own. with_pool 3 (omega arith) may t is own (λ there. not_both there e)))
+  first_answer other (law.other_index t index is of e) =
       with_right 4 (λ may. with_own_pool 4 (omega arith) may t is (λ own. with_pool 4 (omega arith) may t is own (λ there.
       with_index 4 (omega arith) may t is own there (λ same. not_both (other_test t index of e) same))))
-  first_refusal other (law.no_room t is e le) = with_right 6
+  first_answer other (law.no_room t is e le) = with_right 6
       (λ may. with_own_pool 6 (omega arith) may t is (λ own. with_pool 6 (omega arith) may t is own (λ there.
       with_index 6 (omega arith) may t is own there (λ same.
-      (Refusal.Full, law.no_room t is e le, omega arith, refused_so Refusal.Full may (full_is t is own there same (room_test t e le)))))))
+      (Refusal.Full, law.no_room t is e le, omega arith, refused_so Refusal.Full may (tested t is own there same (room_test t e le)))))))
 
   -- ---- and no other
 
@@ -184,25 +159,25 @@ module _ (s : State) (secret : Option Name) (ns : Name) (r : Registration) where
 
   why_in : (refusal : Refusal) (end : State) (t : Tenant) → has_right ≡ true → get s.world.tenants ns ≡ Some t → after step s ≡ said (Err refusal) end →
       IsWhy refusal
-  why_in refusal end t may is e = foreign (is_foreign t) refl
+  why_in refusal end t may is e = foreign (is_permitted t) refl
     where
-      full : is_foreign t ≡ false → is_missing t ≡ false → is_other t ≡ false → (b : Bool) → has_no_room t ≡ b → IsWhy refusal
-      full f g h true k = by_known Refusal.Full refusal end (room_against t is k) (refused_so Refusal.Full may (full_is t is f g h k)) e
-      full f g h false k = by_done refusal end _ _ (sym (after_allowed step s may ∙ ap (concluded step s) (done_is t is f g h k)) ∙ e)
+      full : is_permitted t ≡ true → is_there t ≡ true → is_outdated r t ≡ false → (b : Bool) → has_no_room r t ≡ b → IsWhy refusal
+      full f g h true k = by_known Refusal.Full refusal end (room_against t is k) (refused_so Refusal.Full may (tested t is f g h k)) e
+      full f g h false k = by_done refusal end _ _ (sym (after_allowed step s may ∙ ap (concluded step s) (tested t is f g h k)) ∙ e)
 
-      other : is_foreign t ≡ false → is_missing t ≡ false → (b : Bool) → is_other t ≡ b → IsWhy refusal
-      other f g true h = by_known Refusal.Conflict refusal end (other_against t is h) (refused_so Refusal.Conflict may (other_is t is f g h)) e
-      other f g false h = full f g h (has_no_room t) refl
+      other : is_permitted t ≡ true → is_there t ≡ true → (b : Bool) → is_outdated r t ≡ b → IsWhy refusal
+      other f g true h = by_known Refusal.Conflict refusal end (other_against t is h) (refused_so Refusal.Conflict may (tested t is f g h refl)) e
+      other f g false h = full f g h (has_no_room r t) refl
 
-      missing : is_foreign t ≡ false → (b : Bool) → is_missing t ≡ b → IsWhy refusal
-      missing f true g = by_known (Refusal.BadField Member.NodePool) refusal end (law.no_pool t is (is_no _ g))
-          (refused_so (Refusal.BadField Member.NodePool) may (missing_is t is f g)) e
-      missing f false g = other f g (is_other t) refl
+      missing : is_permitted t ≡ true → (b : Bool) → is_there t ≡ b → IsWhy refusal
+      missing f false g = by_known (Refusal.BadField Member.NodePool) refusal end (law.no_pool t is g)
+          (refused_so (Refusal.BadField Member.NodePool) may (tested t is f g refl refl)) e
+      missing f true g = other f g (is_outdated r t) refl
 
-      foreign : (b : Bool) → is_foreign t ≡ b → IsWhy refusal
-      foreign true f = by_known Refusal.PoolNotPermitted refusal end (law.foreign_pool t is (is_no _ f))
-          (refused_so Refusal.PoolNotPermitted may (foreign_is t is f)) e
-      foreign false f = missing f (is_missing t) refl
+      foreign : (b : Bool) → is_permitted t ≡ b → IsWhy refusal
+      foreign false f = by_known Refusal.PoolNotPermitted refusal end (law.foreign_pool t is f)
+          (refused_so Refusal.PoolNotPermitted may (tested t is f refl refl refl)) e
+      foreign true f = missing f (is_there t) refl
 
   why : (refusal : Refusal) (end : State) → after step s ≡ said (Err refusal) end → IsWhy refusal
   why refusal end e = by has_right refl
@@ -216,7 +191,7 @@ module _ (s : State) (secret : Option Name) (ns : Name) (r : Registration) where
       by false may = by_known Refusal.Denied refusal end (law.no_right may) (denied_without step s may) e
 
 pub first_refusal_of_register : law.FirstRefusalOfRegister
-first_refusal_of_register s secret ns r other against = first_refusal s secret ns r other against
+first_refusal_of_register s secret ns r other against = first_answer s secret ns r other against
 
 pub register_refuses_so : law.RegisterRefusesSo
 register_refuses_so s t secret ns r refusal e = why s secret ns r refusal t e
@@ -225,8 +200,11 @@ pub index_is_demanded : law.IndexIsDemanded
 index_is_demanded job index = (
   ((λ e. eqb-true index 0 e), (λ e. eq-eqb index 0 e)),
   (
-    (λ e. (same_number_is job.modify_index index (first_of_both (same_number job.modify_index index) _ e), λ zero_is. not_both (eq-eqb index 0 zero_is)
-        (is_no _ (second_of_both (same_number job.modify_index index) _ e)))),
+    (λ e. (
+      same_number_is job.modify_index index (first_of_both (same_number job.modify_index index) _ e),
+      λ zero_is. not_both (eq-eqb index 0 zero_is)
+          (is_no _ (second_of_both (same_number job.modify_index index) _ e)),
+    )),
     (λ h. λ i. same_number_of h.0 i && not (ne_eqb index 0 h.1 i)),
   ),
 )

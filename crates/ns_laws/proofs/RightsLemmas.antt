@@ -1,8 +1,6 @@
 -- Whom a secret stands for, which rules count, and what they give.
-use Rattle.std.specs.Prelude.{
-    ◌≡◌, ℕ, ◌≤◌, max, Bool, true, false, not, cond, ◌&&◌, ◌||◌, List, [], ◌∷◌, ◌++◌, length, take, Option, Some, None,
-    Err, filter, fold, IsTrue
-}
+use Rattle.std.specs.Prelude.{◌≡◌, ℕ, ◌≤◌, max, Bool, true, false, not, cond, ◌&&◌, ◌||◌, List, [], ◌∷◌, ◌++◌, length, take, Option, Some, None, Err, filter}
+use Rattle.std.specs.Prelude.{fold, IsTrue}
 use Rattle.std.proofs.Common.{refl, sym, ap, subst, ◌∙◌, arith}
 use Rattle.std.specs.Cmp.Lexicographic.{same_text}
 use Rattle.std.specs.FinMap.{get}
@@ -14,29 +12,24 @@ use Rattle.ns_types.specs.declared.acl.Token.{Token}
 use Rattle.ns_types.specs.declared.acl.TokenKind.TheVariants as TokenKind
 use Rattle.ns_types.specs.declared.refusal.Refusal.TheVariants as Refusal
 use Rattle.ns_types.specs.declared.step.AdminCommand.{AdminCommand}
-use Rattle.ns_types.specs.declared.step.AdminCommand.TheVariants as AdminCommand
 use Rattle.ns_types.specs.declared.step.AskCommand.{AskCommand}
-use Rattle.ns_types.specs.declared.step.AskCommand.TheVariants as AskCommand
 use Rattle.ns_types.specs.declared.step.NodeCommand.{NodeCommand}
-use Rattle.ns_types.specs.declared.step.NodeCommand.TheVariants as NodeCommand
 use Rattle.ns_types.specs.declared.step.Step.{Step}
-use Rattle.ns_types.specs.declared.step.Step.TheVariants as Step
 use Rattle.ns_types.specs.Asking.Policies.{may_administer}
 use Rattle.ns_types.specs.Asking.Asks.{right_of}
 use Rattle.ns_types.specs.State.Lists.{Each, is_empty}
 use Rattle.ns_types.specs.State.Names.{Name, same_name, same_number}
 use Rattle.ns_types.specs.Asking.Nodes.{pool_right_of}
-use Rattle.ns_types.specs.Access.Rights.{
-    Bearer, Unknown, Manager, Holder, bearer, bearer_with, no_rights, all_rights, no_grants, both, merged, granted,
-    rules_of, counting, longest, longest_match, is_exact, is_match, rights_of, rights_for, pool_rights_of,
-    pool_rights_for, is_manager, is_known
-}
+use Rattle.ns_types.specs.Access.Rights.{Bearer, Unknown, Manager, Holder, bearer, bearer_with, no_rights, all_rights, no_grants, both, merged, granted}
+use Rattle.ns_types.specs.Access.Rights.{rules_of, counting, longest, longest_match, is_exact, is_match, rights_of, rights_for, pool_rights_of, pool_rights_for}
+use Rattle.ns_types.specs.Access.Rights.{is_manager, is_known}
 use Rattle.ns_types.specs.State.Rows.{Acl, State}
 use Rattle.ns_types.specs.Steps.{after, act, said, concluded, is_allowed}
-use Rattle.ns_types.proofs.Lists.{not_both, each_map}
+use Rattle.ns_types.proofs.Tests.{is_no, or_none}
+use Rattle.ns_types.proofs.Lists.{each_map}
 use Rattle.ns_types.proofs.Named.{first_of_both, second_of_both, same_name_is}
+use Rattle.ns_types.proofs.Elements.{each_kept, each_true, each_passing, filter_without, any_without}
 use Rattle.ns_laws.specs.Rights as law
-use Rattle.ns_laws.proofs.Elements.{each_kept, each_true, each_passing, filter_without, any_without}
 use Rattle.ns_laws.proofs.QueueLemmas.{same_number_is}
 
 -- ---- whom a secret stands for
@@ -54,7 +47,7 @@ manager_bearer : (acl : Acl) (secret : Name) (token : Token) (by : Option Name) 
     → bearer acl by ≡ Manager
 manager_bearer acl secret token by found kind is =
     ap (bearer acl) is ∙ ap (λ (o : Option Token). option_map_or (λ token. bearer_with token.kind token.policies) o Unknown) found ∙
-        ap (λ k. bearer_with k token.policies) kind
+    ap (λ k. bearer_with k token.policies) kind
 
 no_right : (command : AskCommand) → right_of command no_rights ≡ false
 no_right (AskCommand.ListJobs prefix) = refl
@@ -168,14 +161,10 @@ or_assoc : (a b c : Bool) → ((a || b) || c) ≡ (a || (b || c))
 or_assoc true b c = refl
 or_assoc false b c = refl
 
-or_nothing : (a : Bool) → a ≡ (a || false)
-or_nothing true = refl
-or_nothing false = refl
-
 -- of a right that two rules give together where one of them does
 merged_gives : (right : Grants → Bool) → ((a b : Grants) → right (both a b) ≡ (right a || right b)) → (start : Grants) (rules : List Rule)
     → right (fold (λ grants rule. both grants rule.grants) start rules) ≡ (right start || list_any (λ rule. right rule.grants) rules)
-merged_gives right joins start [] = or_nothing (right start)
+merged_gives right joins start [] = sym (or_none (right start))
 merged_gives right joins start (rule ∷ rules) =
     merged_gives right joins (both start rule.grants) rules ∙ ap (λ b. b || list_any (λ rule. right rule.grants) rules) (joins start rule.grants)
     ∙ or_assoc (right start) (right rule.grants) (list_any (λ rule. right rule.grants) rules)
@@ -191,7 +180,7 @@ unfolding granted
 some_rule_gives acl kind policies target e =
     let rules = counting target (rules_of acl kind policies) in
     let all : granted acl kind policies target ≡ merged rules =
-        ap (λ b. cond b no_grants (merged rules)) (merged_gives (λ g. g.deny) (λ a b. refl) no_grants rules ∙ e) in record {
+    ap (λ b. cond b no_grants (merged rules)) (merged_gives (λ g. g.deny) (λ a b. refl) no_grants rules ∙ e) in record {
       list_jobs = ap (λ (g : Grants). g.list_jobs) all ∙ merged_gives (λ g. g.list_jobs) (λ a b. refl) no_grants rules;
       read_job = ap (λ (g : Grants). g.read_job) all ∙ merged_gives (λ g. g.read_job) (λ a b. refl) no_grants rules;
       submit_job = ap (λ (g : Grants). g.submit_job) all ∙ merged_gives (λ g. g.submit_job) (λ a b. refl) no_grants rules;
@@ -254,25 +243,23 @@ longest_star_counts target rules none =
     let matching = filter (is_match target) rules in
     let most = each_passing (λ other. length other.pattern.text ≤ longest matching) (is_match target) rules (longest_is matching 0).1 in
     subst (Each (λ rule. IsTrue (is_match target rule) × Each (λ other. IsTrue (is_match target other) → length other.pattern.text ≤ length rule.pattern.text)
-        rules))
+    rules))
     (sym (star_counts target rules none))
     (each_map (λ rule h. (h.0, each_map (λ other f match. omega (arith, f match, same_number_is (length rule.pattern.text) (longest matching) h.1)) rules most))
-        (longest_match target rules)
+    (longest_match target rules)
     (each_kept (λ rule. is_match target rule ≡ true) (λ rule. same_number (length rule.pattern.text) (longest matching)) matching
     (each_map (λ rule h. h.1) matching (each_kept (λ _. Unit {0}) (is_match target) rules (each_true rules)))))
-
-is_no : (b : Bool) → not b ≡ true → b ≡ false
-is_no true e = not_both refl (sym e)
-is_no false e = refl
 
 all_alike : (text : Name) (is_prefix : Bool) (rules : List Rule) → Each (λ r. (r.pattern.text ≡ text) × (r.pattern.is_prefix ≡ is_prefix)) rules
     → Each (λ a. Each (λ b. law.SamePattern a.pattern b.pattern) rules) rules
 all_alike text is_prefix rules h = each_map (λ a e. each_map (λ b f. (e.0 ∙ sym f.0, e.1 ∙ sym f.1)) rules h) rules h
 
 exact_text : (target : Name) (rule : Rule) → is_exact target rule ≡ true → (rule.pattern.text ≡ target) × (rule.pattern.is_prefix ≡ false)
-exact_text target rule e =
-    (same_name_is rule.pattern.text target (second_of_both (not rule.pattern.is_prefix) _ e), is_no rule.pattern.is_prefix
-        (first_of_both (not rule.pattern.is_prefix) _ e))
+exact_text target rule e = (
+  same_name_is rule.pattern.text target (second_of_both (not rule.pattern.is_prefix) _ e),
+  is_no rule.pattern.is_prefix
+      (first_of_both (not rule.pattern.is_prefix) _ e),
+)
 
 star_text : (target : Name) (rule : Rule) (n : ℕ) → is_match target rule ≡ true → length rule.pattern.text ≡ n → (rule.pattern.text ≡ take n target) ×
     (rule.pattern.is_prefix ≡ true)
@@ -291,7 +278,7 @@ one_pattern_counts target rules = by (list_any (is_exact target) rules) refl
     by true e = subst AllAlike (sym (exact_counts target rules e))
         (all_alike target false (filter (is_exact target) rules)
         (each_map (λ rule h. exact_text target rule h.1) (filter (is_exact target) rules)
-            (each_kept (λ _. Unit {0}) (is_exact target) rules (each_true rules))))
+        (each_kept (λ _. Unit {0}) (is_exact target) rules (each_true rules))))
     by false e =
         let matching = filter (is_match target) rules in
         let matches = each_map (λ rule h. h.1) matching (each_kept (λ _. Unit {0}) (is_match target) rules (each_true rules)) in
@@ -302,6 +289,8 @@ one_pattern_counts target rules = by (list_any (is_exact target) rules) refl
 
 pub unknown_has_no_right : law.UnknownHasNoRight
 unfolding rights_of pool_rights_of
-unknown_has_no_right acl secret name none =
-    (ap (rights_for acl name) (unknown_bearer acl secret (Some secret) none refl), ap (pool_rights_for acl name)
-        (unknown_bearer acl secret (Some secret) none refl))
+unknown_has_no_right acl secret name none = (
+  ap (rights_for acl name) (unknown_bearer acl secret (Some secret) none refl),
+  ap (pool_rights_for acl name)
+      (unknown_bearer acl secret (Some secret) none refl),
+)

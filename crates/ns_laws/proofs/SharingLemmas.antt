@@ -1,8 +1,6 @@
 -- Names in lists, and what follows where no row of another namespace overlaps.
-use Rattle.std.specs.Prelude.{
-    ◌≡◌, ◌≢◌, ℕ, zero, suc, ◌<◌, Bool, true, false, not, ◌&&◌, ◌||◌, List, [], ◌∷◌, length, Option, Some, None, is_some,
-    slice_index_or
-}
+use Rattle.std.specs.Prelude.{◌≡◌, ◌≢◌, ℕ, zero, suc, ◌<◌, Bool, true, false, not, ◌&&◌, ◌||◌, List, [], ◌∷◌, length, Option, Some, None, is_some}
+use Rattle.std.specs.Prelude.{slice_index_or}
 use Rattle.std.proofs.Common.{refl, sym, ap, ◌∙◌, arith, ◌⊎◌, inl, inr}
 use Rattle.std.specs.FinMap.{get}
 use Rattle.std.specs.List.{Contains, list_any}
@@ -12,6 +10,8 @@ use Rattle.ns_types.specs.State.Rows.{World, Tenant, is_open, is_held}
 use Rattle.ns_types.specs.Access.Sharing.{permits, permits_by, is_confined, pools_of, overlaps, shares, shares_with_any, strays, is_unshared}
 use Rattle.ns_types.specs.State.Sums.{names_quota}
 use Rattle.ns_types.specs.State.Tables.{any_row}
+use Rattle.std.proofs.lemmas.Bool.{or_right}
+use Rattle.ns_types.proofs.Tests.{either_of, is_no, is_yes}
 use Rattle.ns_types.proofs.Lists.{not_both, left_none, right_none}
 use Rattle.ns_types.proofs.Named.{one_name, same_name_is, same_name_refl, first_of_both, one_number, second_of_both}
 use Rattle.ns_types.proofs.Tables.{none_of_any}
@@ -31,11 +31,7 @@ found_in (x ∷ names) name e = by (same_name name x) refl e (found_in names nam
 has_at : (names : List Name) (name : Name) (k : ℕ) → k < length names → slice_index_or names k name ≡ name → has_name names name ≡ true
 has_at [] name k lt e = absurd (omega (arith, lt))
 has_at (x ∷ names) name zero lt e = ap (λ b. b || has_name names name) (ap (same_name name) e ∙ same_name_refl name)
-has_at (x ∷ names) name (suc k) lt e = either (same_name name x) (has_name names name) (has_at names name k (omega (arith, lt)) e)
-  where
-    either : (a b : Bool) → b ≡ true → (a || b) ≡ true
-    either true b e = refl
-    either false b e = e
+has_at (x ∷ names) name (suc k) lt e = or_right (same_name name x) (has_name names name) (has_at names name k (omega (arith, lt)) e)
 
 has_contained : (names : List Name) (name : Name) → Contains names name → has_name names name ≡ true
 has_contained names name h = has_at names name h.0 h.1 h.2
@@ -50,14 +46,6 @@ none_at_name p (x ∷ names) name none e = by (same_name name x) refl e (none_at
     by false f e go = go e
 
 -- ---- permitted pools
-
-either_of : (a b : Bool) → (a || b) ≡ true → (a ≡ true) ⊎ (b ≡ true)
-either_of true b e = inl refl
-either_of false b e = inr e
-
-or_right : (a b : Bool) → b ≡ true → (a || b) ≡ true
-or_right true b e = refl
-or_right false b e = e
 
 pub confined_to_its_pools : law.ConfinedToItsPools
 confined_to_its_pools namespace allowed pool is = (to, from)
@@ -94,14 +82,6 @@ else_all_but_denied namespace pool is = (to, from)
 
 -- ---- what is not shared
 
-pub is_no : (b : Bool) → not b ≡ true → b ≡ false
-is_no true e = not_both refl (sym e)
-is_no false e = refl
-
-pub is_yes : (b : Bool) → not b ≡ false → b ≡ true
-is_yes true e = refl
-is_yes false e = not_both refl e
-
 shares_none : (w : World) (ns : Name) (t : Tenant) → is_unshared w ns ≡ true → get w.tenants ns ≡ Some t → shares_with_any w ns t ≡ false
 unfolding is_unshared shares
 shares_none w ns t e is =
@@ -132,23 +112,23 @@ no_overlap w ns other t o e is there ne =
     ap (λ b. not b && overlaps t.namespace o.namespace) (sym (other_name other ns ne))
     ∙ none_of_any one_name (λ name other. not (same_name name ns) && overlaps t.namespace other.namespace) w.tenants other o
     (right_none (not (is_confined t.namespace)) (any_row (λ name other. not (same_name name ns) && overlaps t.namespace other.namespace) w.tenants)
-        (shares_none w ns t e is)) there
+    (shares_none w ns t e is)) there
 
 pub unshared_pools_are_its_own : law.UnsharedPoolsAreItsOwn
 unshared_pools_are_its_own w ns other t o pool e is there ne may =
     let confined = unshared_is_confined w ns t e is in
     let none = left_none (list_any (permits o.namespace) (pools_of t.namespace))
-        (option_map_or (λ quota. names_quota quota o.namespace) t.namespace.quota false)
+    (option_map_or (λ quota. names_quota quota o.namespace) t.namespace.quota false)
     (no_overlap w ns other t o e is there ne) in
     none_at_name (permits o.namespace) (t.namespace.default_pool ∷ confined.0) pool
     (ap (λ (a : Option (List Name)). list_any (permits o.namespace) (option_map_or (λ allowed. t.namespace.default_pool ∷ allowed) a [])) (sym confined.1) ∙
-        none)
+    none)
     (ap (λ a. permits_by a t.namespace pool) (sym confined.1) ∙ may)
 
 pub unshared_quota_is_its_own : law.UnsharedQuotaIsItsOwn
 unshared_quota_is_its_own w ns other t o quota e is there ne its theirs =
     let none = right_none (list_any (permits o.namespace) (pools_of t.namespace))
-        (option_map_or (λ quota. names_quota quota o.namespace) t.namespace.quota false)
+    (option_map_or (λ quota. names_quota quota o.namespace) t.namespace.quota false)
     (no_overlap w ns other t o e is there ne) in
     not_both (ap (λ (q : Option Name). option_map_or (same_name quota) q false) theirs ∙ same_name_refl quota)
     (ap (λ (q : Option Name). option_map_or (λ quota. names_quota quota o.namespace) q false) (sym its) ∙ none)
@@ -173,12 +153,12 @@ unshared_keeps_to_its_pools w ns t e is =
     let first_two : (open_ones || snapshots) ≡ false = left_none (open_ones || snapshots) held none in record {
       evaluation = λ n x found is_one. both_are (is_open x.status) (permits t.namespace x.pool)
           (none_of_any one_number (λ _ x. is_open x.status && not (permits t.namespace x.pool)) t.evaluations n x (left_none open_ones snapshots first_two)
-              found) is_one;
+          found) is_one;
       snapshot = λ n worker kept found keeps. is_yes (permits t.namespace kept.pool)
           (ap (λ (o : Option Snapshot). option_map_or (λ (kept : Snapshot). not (permits t.namespace kept.pool)) o false) (sym keeps)
           ∙ none_of_any one_number (λ _ worker. option_map_or (λ (kept : Snapshot). not (permits t.namespace kept.pool)) worker.kept false) t.workers n worker
-              (right_none open_ones snapshots first_two) found);
+          (right_none open_ones snapshots first_two) found);
       allocation = λ n a found is_one. both_are (is_held a.client) (permits t.namespace a.pool)
           (none_of_any one_number (λ _ a. is_held a.client && not (permits t.namespace a.pool)) t.allocations n a
-              (right_none (open_ones || snapshots) held none) found) is_one;
+          (right_none (open_ones || snapshots) held none) found) is_one;
     }

@@ -2,7 +2,6 @@
 use Rattle.std.specs.Prelude.{◌≡◌, suc, Bool, true, false, cond, T, [], ◌∷◌, Option, None, Ok, Err, unwrap_or, is_some}
 use Rattle.std.proofs.Common.{refl, sym, ap, subst, ◌∙◌}
 use Rattle.ns_types.specs.declared.refusal.Refusal.{Refusal}
-use Rattle.ns_types.specs.declared.refusal.Refusal.TheVariants as Refusal
 use Rattle.ns_types.specs.declared.reply.Reply.{Reply}
 use Rattle.ns_types.specs.declared.step.Step.{Step}
 use Rattle.ns_types.specs.Settling.Outcome.{Outcome, NotEnabled, Refused, Done}

@@ -1,8 +1,5 @@
 -- Sums over lists and the classes that their elements fall into, and so the sum over all live allocations by their nodes.
-use Rattle.std.specs.Prelude.{
-    ◌≡◌, ℕ, ◌+◌, ◌^◌, ◌<◌, ◌≤◌, Bool, true, false, cond, ◌&&◌, ◌||◌, List, [], ◌∷◌, ◌++◌, map, flat_map, sum_by, Option,
-    Some, None, nat_le
-}
+use Rattle.std.specs.Prelude.{◌≡◌, ℕ, ◌+◌, ◌^◌, ◌<◌, ◌≤◌, Bool, true, false, cond, ◌&&◌, ◌||◌, List, [], ◌∷◌, map, flat_map, sum_by, Option, Some, None, nat_le}
 use Rattle.std.proofs.Common.{refl, sym, ap, ◌∙◌, arith, ◌⊎◌, inl, inr}
 use Rattle.std.specs.FinMap.{get, entries, len-entries}
 use Rattle.std.specs.List.{list_any}
@@ -10,6 +7,7 @@ use Rattle.std.specs.Option.{option_and_then}
 use Rattle.std.proofs.lemmas.Bool.{leb-true}
 use Rattle.std.proofs.lemmas.List.Sums.{sum_by-cons, sum_by-append, sum_by-le, sum_by-le-sum_by}
 use Rattle.std.proofs.lemmas.Option.{none-some}
+use Rattle.std.proofs.lemmas.List.Folds.{list_any-append}
 use Rattle.ns_types.specs.declared.allocation.Allocation.{Allocation}
 use Rattle.ns_types.specs.declared.node.Node.{Node}
 use Rattle.ns_types.specs.declared.resources.Resources.{Resources}
@@ -23,9 +21,9 @@ use Rattle.ns_types.specs.Validity.{IsSound, IsSoundNode, IsSoundAllocation}
 use Rattle.ns_types.proofs.Lists.{not_both, each, any_alike}
 use Rattle.ns_types.proofs.Named.{names, one_name, numbers, one_number, same_name_refl, first_of_both, second_of_both}
 use Rattle.ns_types.proofs.Tables.{each_row, none_of_any}
+use Rattle.ns_types.proofs.Elements.{each_append, all_from}
 use Rattle.ns_laws.specs.Sums as law
 use Rattle.ns_laws.specs.Sums.{live_sum}
-use Rattle.ns_laws.proofs.Elements.{each_join, all_from}
 use Rattle.ns_types.specs.State.Resources.{is_within}
 
 -- ---- sums over lists
@@ -87,7 +85,7 @@ sum_by_classes f has cs (x ∷ xs) h =
     let whole = sum_by-cons f x xs in
     let by_class = sum_same (λ c. sum_by (λ x. cond (has c x) (f x) 0) (x ∷ xs)) (λ c. cond (has c x) (f x) 0 + sum_by (λ x. cond (has c x) (f x) 0) xs) cs
     (each (λ c. sum_by (λ x. cond (has c x) (f x) 0) (x ∷ xs) ≡ cond (has c x) (f x) 0 + sum_by (λ x. cond (has c x) (f x) 0) xs)
-        (λ c. sum_by-cons (λ x. cond (has c x) (f x) 0) x xs) cs) in
+    (λ c. sum_by-cons (λ x. cond (has c x) (f x) 0) x xs) cs) in
     let split = sum_add (λ c. cond (has c x) (f x) 0) (λ c. sum_by (λ x. cond (has c x) (f x) 0) xs) cs in
     let here = own h.0 in
     omega (arith, rest, whole, by_class, split, here)
@@ -100,19 +98,11 @@ sum_by_classes f has cs (x ∷ xs) h =
 
 pub each_flat : {A C : Type 0} (P : A → Type 0) (g : C → List A) (cs : List C) → Each (λ c. Each P (g c)) cs → Each P (flat_map g cs)
 each_flat P g [] h = tt
-each_flat P g (c ∷ cs) h = each_join P (g c) (flat_map g cs) h.0 (each_flat P g cs h.1)
-
-any_join : {A : Type 0} (p : A → Bool) (xs ys : List A) → list_any p (xs ++ ys) ≡ (list_any p xs || list_any p ys)
-any_join p [] ys = refl
-any_join p (x ∷ xs) ys = ap (λ b. p x || b) (any_join p xs ys) ∙ or_first (p x) (list_any p xs) (list_any p ys)
-  where
-    or_first : (a b c : Bool) → (a || (b || c)) ≡ ((a || b) || c)
-    or_first true b c = refl
-    or_first false b c = refl
+each_flat P g (c ∷ cs) h = each_append P (g c) (flat_map g cs) h.0 (each_flat P g cs h.1)
 
 any_flat : {A C : Type 0} (p : A → Bool) (g : C → List A) (cs : List C) → list_any p (flat_map g cs) ≡ list_any (λ c. list_any p (g c)) cs
 any_flat p g [] = refl
-any_flat p g (c ∷ cs) = any_join p (g c) (flat_map g cs) ∙ ap (λ b. list_any p (g c) || b) (any_flat p g cs)
+any_flat p g (c ∷ cs) = list_any-append p (g c) (flat_map g cs) ∙ ap (λ b. list_any p (g c) || b) (any_flat p g cs)
 
 any_map : {A C : Type 0} (p : A → Bool) (h : C → A) (cs : List C) → list_any p (map h cs) ≡ list_any (λ c. p (h c)) cs
 any_map p h [] = refl
@@ -219,7 +209,7 @@ all_covered w amount sound =
     each_flat (IsCovered w amount) (λ t. entries t.1.allocations) (entries w.tenants)
     (each_row names one_name (λ ns t. Each (IsCovered w amount) (entries t.allocations)) w.tenants (λ ns t is.
     each_row numbers one_number (λ n a. IsCovered w amount (n, a)) t.allocations
-        (λ n a found. covered w amount t n a ((sound.tenant ns t is).allocation n a found))))
+    (λ n a found. covered w amount t n a ((sound.tenant ns t is).allocation n a found))))
 
 -- so all of them take no more than the loads of all nodes
 by_node : (w : World) (amount : Resources → ℕ) → IsSound w → live_sum w amount ≤ sum_by (λ c. node_sum w c.0 c.1 amount) (places w)
@@ -275,7 +265,7 @@ cpu_within w pool name node sound =
     let load : node_sum w pool name (λ r. r.cpu) ≤ capacity.cpu = cpu_of_within (node_load w pool name) capacity sound.within in
     let amount : is_amount capacity ≡ true = second_of_both _ (is_amount capacity) sound.good in
     let most : capacity.cpu ≤ 2147483647 = most_of capacity.cpu
-        (first_of_both (is_between 1 2147483647 capacity.cpu) (is_between 1 2147483647 capacity.memory) amount) in
+    (first_of_both (is_between 1 2147483647 capacity.cpu) (is_between 1 2147483647 capacity.memory) amount) in
     omega (arith, load, most)
 
 memory_within : (w : World) (pool name : Name) (node : Node) → IsSoundNode w pool name node → node_sum w pool name (λ r. r.memory) ≤ 2147483647
@@ -284,7 +274,7 @@ memory_within w pool name node sound =
     let load : node_sum w pool name (λ r. r.memory) ≤ capacity.memory = memory_of_within (node_load w pool name) capacity sound.within in
     let amount : is_amount capacity ≡ true = second_of_both _ (is_amount capacity) sound.good in
     let most : capacity.memory ≤ 2147483647 = most_of capacity.memory
-        (second_of_both (is_between 1 2147483647 capacity.cpu) (is_between 1 2147483647 capacity.memory) amount) in
+    (second_of_both (is_between 1 2147483647 capacity.cpu) (is_between 1 2147483647 capacity.memory) amount) in
     omega (arith, load, most)
 
 cpu_small : (w : World) → IsSound w → live_sum w (λ r. r.cpu) < 2 ^ 55

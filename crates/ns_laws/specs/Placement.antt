@@ -1,8 +1,6 @@
 -- Laws of the choice of a node, and of those who give way there.
-use Rattle.std.specs.Prelude.{
-    ◌≡◌, ℕ, ◌+◌, ◌<◌, ◌≤◌, ◌==◌, List, ◌++◌, Some, None, filter, length, reverse, slice_get, take, IsTrue, IsFalse, [],
-    ◌↔◌, ◌∷◌, sum_by
-}
+use Rattle.std.specs.Prelude.{◌≡◌, ℕ, ◌+◌, ◌<◌, ◌≤◌, ◌==◌, List, ◌++◌, Some, None, filter, length, reverse, slice_get}
+use Rattle.std.specs.Prelude.{take, IsTrue, IsFalse, [], ◌↔◌, ◌∷◌, sum_by}
 use Rattle.std.specs.List.{AllPairs, list_any}
 use Rattle.std.specs.declared.cmp.Ordering.TheVariants.{Less}
 use Rattle.ns_types.specs.declared.resources.Resources.{Resources}
@@ -24,7 +22,7 @@ FitsWhereRoom = (size : Resources) (node : Candidate)
 abbrev pub RoomIsMade : Type 0
 RoomIsMade = (size : Resources) (node : Candidate) (gone : List LiveAllocation) → IsTrue (makes_room size node gone)
     ↔ ((size.cpu ≤ node.left.cpu + sum_by (λ a. a.size.cpu) gone) ×
-        (size.memory ≤ node.left.memory + sum_by (λ a. a.size.memory) gone))
+    (size.memory ≤ node.left.memory + sum_by (λ a. a.size.memory) gone))
 
 -- the highest priority is one of theirs, and none of them has a higher one
 abbrev pub HighestIsHighest : Type 0

@@ -2,10 +2,8 @@
 use Rattle.std.specs.Prelude.{◌≡◌, ◌↔◌, Bool, true, false, Err, IsTrue, IsFalse, ℕ, ◌≤◌, Option, Some, None, ◌⊎◌}
 use Rattle.ns_types.specs.declared.refusal.Member.TheVariants as Member
 use Rattle.ns_types.specs.declared.refusal.Refusal.{Refusal}
-use Rattle.ns_types.specs.declared.refusal.Refusal.TheVariants as Refusal
 use Rattle.ns_types.specs.declared.step.AskCommand.TheVariants as AskCommand
 use Rattle.ns_types.specs.declared.step.Step.{Step}
-use Rattle.ns_types.specs.declared.step.Step.TheVariants as Step
 use Rattle.ns_types.specs.State.Rows.{State, Tenant}
 use Rattle.ns_types.specs.Steps.{after, said, is_allowed}
 use Rattle.std.specs.FinMap.{get, len, contains_key}
@@ -89,7 +87,7 @@ abbrev pub FirstRefusalOfRegister : Type 0
 FirstRefusalOfRegister = (s : State) (secret : Option Name) (ns : Name) (r : Registration) (other : Refusal) →
     SpeaksAgainst s secret ns r other
     → (refusal : Refusal) × SpeaksAgainst s secret ns r refusal × (rank refusal ≤ rank other) ×
-        (after (Step.Ask ns secret (AskCommand.Register r)) s ≡ said (Err refusal) s)
+    (after (Step.Ask ns secret (AskCommand.Register r)) s ≡ said (Err refusal) s)
 
 -- where nothing does, it is refused only where a counter would pass its bound
 abbrev pub RegisterRefusesSo : Type 0

@@ -11,12 +11,10 @@ use Rattle.ns_types.specs.declared.acl.Token.{Token}
 use Rattle.ns_types.specs.declared.acl.TokenKind.TheVariants as TokenKind
 use Rattle.ns_types.specs.declared.refusal.Refusal.TheVariants as Refusal
 use Rattle.ns_types.specs.declared.step.Step.{Step}
-use Rattle.ns_types.specs.declared.step.Step.TheVariants as Step
 use Rattle.ns_types.specs.State.Lists.{Each}
 use Rattle.ns_types.specs.State.Names.{Name}
-use Rattle.ns_types.specs.Access.Rights.{
-    is_exact, is_match, counting, rules_of, no_grants, granted, rights_of, pool_rights_of, no_rights
-}
+use Rattle.ns_types.specs.Access.Rights.{is_exact, is_match, counting, rules_of, no_grants, granted, rights_of}
+use Rattle.ns_types.specs.Access.Rights.{pool_rights_of, no_rights}
 use Rattle.ns_types.specs.State.Rows.{Acl, State}
 use Rattle.ns_types.specs.Steps.{after, said, is_allowed}
 
@@ -46,7 +44,7 @@ ManagerIsAllowed = (acl : Acl) (secret : Name) (token : Token) (step : Step) →
 abbrev pub DenyGivesNothing : Type 0
 DenyGivesNothing = (acl : Acl) (kind : RuleKind) (policies : List Name) (target : Name)
     → IsTrue (list_any (λ rule. rule.grants.deny) (counting target (rules_of acl kind policies))) →
-        granted acl kind policies target ≡ no_grants
+    granted acl kind policies target ≡ no_grants
 
 -- what is given is what some of the rules give
 pub record IsGivenBySome (grants : Grants) (rules : List Rule) : Type 0 where
@@ -73,8 +71,8 @@ ExactBeforeStars = (target : Name) (before later : List Rule) (rule : Rule) →
 abbrev pub LongestStarCounts : Type 0
 LongestStarCounts = (target : Name) (rules : List Rule) → IsFalse (list_any (is_exact target) rules)
     → Each (λ rule. IsTrue (is_match target rule) ×
-        Each (λ other. IsTrue (is_match target other) → length other.pattern.text ≤ length rule.pattern.text) rules)
-        (counting target rules)
+    Each (λ other. IsTrue (is_match target other) → length other.pattern.text ≤ length rule.pattern.text) rules)
+    (counting target rules)
 
 -- a rule that does not match changes nothing
 abbrev pub OthersDoNotCount : Type 0

@@ -30,13 +30,13 @@ UnsharedIsConfined = (w : World) (ns : Name) (t : Tenant) → IsTrue (is_unshare
 abbrev pub UnsharedPoolsAreItsOwn : Type 0
 UnsharedPoolsAreItsOwn = (w : World) (ns other : Name) (t o : Tenant) (pool : Name) → IsTrue (is_unshared w ns)
     → get w.tenants ns ≡ Some t → get w.tenants other ≡ Some o → other ≢ ns → IsTrue (permits t.namespace pool) →
-        IsFalse (permits o.namespace pool)
+    IsFalse (permits o.namespace pool)
 
 -- and the quota that it names, no other names
 abbrev pub UnsharedQuotaIsItsOwn : Type 0
 UnsharedQuotaIsItsOwn = (w : World) (ns other : Name) (t o : Tenant) (quota : Name) → IsTrue (is_unshared w ns)
     → get w.tenants ns ≡ Some t → get w.tenants other ≡ Some o → other ≢ ns → t.namespace.quota ≡ Some quota →
-        o.namespace.quota ≢ Some quota
+    o.namespace.quota ≢ Some quota
 
 -- nor does it keep anything elsewhere: its open evaluations, the snapshots that workers keep for it, and its
 -- allocations

@@ -23,7 +23,7 @@ AnswerEachStep = (s t : State) (steps : List Step) (answers : List Answer) → R
 abbrev pub RunSplits : Type 0
 RunSplits = (s t : State) (first rest : List Step) (answers : List Answer) → Run s (first ++ rest) answers t
     → (mid : State) × (before : List Answer) × (later : List Answer) × (answers ≡ before ++ later) ×
-        Run s first before mid × Run mid rest later t
+    Run s first before mid × Run mid rest later t
 
 -- a run and one that goes on from where it leads are one run
 abbrev pub RunsJoin : Type 0

@@ -7,10 +7,8 @@ use Rattle.ns_types.specs.declared.records.Namespace.{Namespace}
 use Rattle.ns_types.specs.declared.records.Pool.{Pool}
 use Rattle.ns_types.specs.declared.refusal.Refusal.{Refusal}
 use Rattle.ns_types.specs.declared.refusal.Refusal.TheVariants as Refusal
-use Rattle.ns_types.specs.Asking.Admins.{
-    delete_namespace, delete_pool, delete_quota, has_live, has_open, put_namespace, put_pool_record, with_namespace,
-    with_pool
-}
+use Rattle.ns_types.specs.Asking.Admins.{delete_namespace, delete_pool, delete_quota, has_live, has_open, put_namespace, put_pool_record, with_namespace}
+use Rattle.ns_types.specs.Asking.Admins.{with_pool}
 use Rattle.ns_types.specs.Settling.Making.{put_tenant}
 use Rattle.ns_types.specs.State.Names.{Name, ByName, name_cmp}
 use Rattle.ns_types.specs.Settling.Outcome.{Outcome, NotEnabled, Refused, Done, found, unless}
@@ -19,9 +17,10 @@ use Rattle.ns_types.specs.State.Tables.{any_row}
 use Rattle.ns_types.proofs.Lists.{left_none, not_both, right_none}
 use Rattle.ns_types.proofs.Named.{names, one_name, one_number}
 use Rattle.ns_types.proofs.Tables.{none_of_any, tied}
+use Rattle.ns_types.proofs.TableRows.{row_of_insert, row_of_remove, stays}
+use Rattle.ns_types.proofs.Tests.{same_Some}
 use Rattle.ns_steps.specs.Administered.{IsPoolOf, IsTenantOf}
 use Rattle.ns_steps.proofs.Resting.{HasNothingOpen, Rests}
-use Rattle.ns_steps.proofs.Rows.{put_cases, same_Some, stays}
 
 -- ---- quotas that were there
 
@@ -39,14 +38,6 @@ same_pool w name p is = subst (λ o. IsPoolOf o p) (sym is) refl
 none_gone : (w : World) (ns : Name) (t : Tenant) → get w.tenants ns ≡ Some t → get w.tenants ns ≡ None → HasNothingOpen t
 none_gone w ns t is none = not_both refl (ap is_some (sym is ∙ none))
 
--- the row that is left after another was taken out
-left : {X : Type 0} (m : ByName X) (k q : Name) (x : X) → get (remove m k) q ≡ Some x → get m q ≡ Some x
-left m k q x is = by (eq_by_cmp name_cmp q k) (sym (get-remove names m k q) ∙ is)
-  where
-    by : (b : Bool) → cond b None (get m q) ≡ Some x → get m q ≡ Some x
-    by true e = not_both refl (ap is_some (sym e))
-    by false e = e
-
 -- a row that is not left is the one taken out
 taken : {X : Type 0} (m : ByName X) (k q : Name) (x : X) → get m q ≡ Some x → get (remove m k) q ≡ None → q ≡ k
 taken m k q x is none = by (eq_by_cmp name_cmp q k) refl
@@ -57,9 +48,10 @@ taken m k q x is none = by (eq_by_cmp name_cmp q k) refl
 
 -- ---- what each command leaves alone
 
--- a refusal of a step that is enabled
+-- a refusal of a step that is enabled: of the state, and not of memory
 abbrev pub is_of_step : Refusal → Bool
 is_of_step Refusal.NotEnabled = false
+is_of_step Refusal.Memory = false
 is_of_step _ = true
 
 abbrev pub Leaves : World → Outcome World → Type 0
@@ -91,9 +83,9 @@ module _ (w : World) where
 
     put_tenant_rests : Rests w (put_tenant name (with_namespace namespace (get w.tenants name)) w)
     put_tenant_rests = record {
-      tenant = λ ns t' is. ⊎_elim (λ own. subst (λ x. IsTenantOf (get w.tenants ns) x) (sym own.1)
+      tenant = λ ns t' is. ⊎_elim (λ own. subst (λ x. IsTenantOf (get w.tenants ns) x) own.1
           (subst (λ n. IsTenantOf (get w.tenants n) (with_namespace namespace (get w.tenants name))) (sym own.0) (is_of (get w.tenants name))))
-          (same_tenant w ns t') (put_cases names one_name w.tenants name (with_namespace namespace (get w.tenants name)) ns t' is);
+          (same_tenant w ns t') (row_of_insert names one_name w.tenants name (with_namespace namespace (get w.tenants name)) ns t' is);
       gone = λ ns t is none. not_both (stays names one_name w.tenants name (with_namespace namespace (get w.tenants name)) ns (ap is_some is))
           (ap is_some none);
       pool = same_pool w;
@@ -116,7 +108,7 @@ module _ (w : World) where
       rests : (t : Tenant) → get w.tenants name ≡ Some t → (any_row (λ _ job. true) t.jobs || has_open t || has_live t) ≡ false →
           Rests w (record w { tenants = remove w.tenants name })
       rests t is empty = record {
-        tenant = λ ns t' at. same_tenant w ns t' (left w.tenants name ns t' at);
+        tenant = λ ns t' at. same_tenant w ns t' (row_of_remove w.tenants name ns t' at);
         gone = λ ns x at none.
             let same : x ≡ t = same_Some x t (sym at ∙ ap (get w.tenants) (taken w.tenants name ns x at none) ∙ is) in
             subst HasNothingOpen (sym same) (record {
@@ -133,9 +125,11 @@ module _ (w : World) where
 
   pub delete_quota_leaves : (name : Name) → Leaves w (delete_quota name w)
   unfolding delete_quota
-  delete_quota_leaves name = leaves_found w (get w.quotas name) _ (λ q is. leaves_unless w _ _ _ refl (λ _.
-      (record { tenant = same_tenant w; gone = none_gone w; pool = same_pool w; ready = refl; plans = refl; blocked = refl }, λ other x at.
-          left w.quotas name other x at)))
+  delete_quota_leaves name = leaves_found w (get w.quotas name) _ (λ q is. leaves_unless w _ _ _ refl (λ _. (
+    record { tenant = same_tenant w; gone = none_gone w; pool = same_pool w; ready = refl; plans = refl; blocked = refl },
+    λ other x at.
+        row_of_remove w.quotas name other x at,
+  )))
 
   module _ (name : Name) (pool : Pool) where
     is_of_pool : (o : Option PoolRows) → IsPoolOf o (with_pool pool o)
@@ -148,9 +142,9 @@ module _ (w : World) where
       record {
         tenant = same_tenant w;
         gone = none_gone w;
-        pool = λ other p' is. ⊎_elim (λ own. subst (λ x. IsPoolOf (get w.pools other) x) (sym own.1)
+        pool = λ other p' is. ⊎_elim (λ own. subst (λ x. IsPoolOf (get w.pools other) x) own.1
             (subst (λ n. IsPoolOf (get w.pools n) (with_pool pool (get w.pools name))) (sym own.0) (is_of_pool (get w.pools name))))
-            (same_pool w other p') (put_cases names one_name w.pools name (with_pool pool (get w.pools name)) other p' is);
+            (same_pool w other p') (row_of_insert names one_name w.pools name (with_pool pool (get w.pools name)) other p' is);
         ready = refl;
         plans = refl;
         blocked = refl;
@@ -160,9 +154,19 @@ module _ (w : World) where
 
   pub delete_pool_leaves : (name : Name) → Leaves w (delete_pool name w)
   unfolding delete_pool
-  delete_pool_leaves name = leaves_found w (get w.pools name) _ (λ p is. leaves_unless w _ _ _ refl (λ _. leaves_unless w _ _ _ refl (λ _.
-      (record { tenant = same_tenant w; gone = none_gone w; pool = λ other p' at. same_pool w other p' (left w.pools name other p' at); ready = refl; plans =
-          refl; blocked = refl }, λ name q is. is))))
+  delete_pool_leaves name = leaves_found w (get w.pools name) _ (λ p is. leaves_unless w _ _ _ refl (λ _. leaves_unless w _ _ _ refl (λ _. (
+    record {
+      tenant = same_tenant w;
+      gone = none_gone w;
+      pool = λ other p' at. same_pool w other p' (row_of_remove w.pools name other p' at);
+      ready =
+          refl;
+      plans =
+          refl;
+      blocked = refl;
+    },
+    λ name q is. is,
+  ))))
 
   pub put_quota_rests : (name : Name) (q : QuotaRows) → Rests w (record w { quotas = insert w.quotas name q })
   put_quota_rests name q = record { tenant = same_tenant w; gone = none_gone w; pool = same_pool w; ready = refl; plans = refl; blocked = refl }

@@ -12,35 +12,31 @@ use Rattle.ns_types.specs.declared.step.AdminCommand.{AdminCommand}
 use Rattle.ns_types.specs.declared.step.AdminCommand.TheVariants as AdminCommand
 use Rattle.ns_types.specs.declared.step.NodeCommand.TheVariants as NodeCommand
 use Rattle.ns_types.specs.declared.step.Step.TheVariants as Step
-use Rattle.ns_types.specs.Asking.Policies.{
-    administer, create_token, delete_policy, delete_token, in_world, may_administer, put_policy, read_policy, with_acl,
-    with_world
-}
+use Rattle.ns_types.specs.Asking.Policies.{administer, create_token, delete_policy, delete_token, in_world, may_administer, put_policy, read_policy, with_acl}
+use Rattle.ns_types.specs.Asking.Policies.{with_world}
 use Rattle.ns_types.specs.Asking.Admins.{is_full, put_quota, read_quota, with_quota}
 use Rattle.ns_types.specs.State.Names.{Name}
 use Rattle.ns_types.specs.Asking.Nodes.{read_pool, ask_pool}
-use Rattle.ns_types.specs.Settling.Outcome.{Changes, Outcome, NotEnabled, Refused, Done, found, lift, unless}
+use Rattle.ns_types.specs.Settling.Outcome.{Changes, Outcome, NotEnabled, Refused, Done, found, is_done, lift, unless}
 use Rattle.ns_types.specs.Settling.Releases.{changes_limits}
 use Rattle.ns_types.specs.State.Resources.{limits_in}
 use Rattle.ns_types.specs.Access.Rights.{pool_rights_of}
 use Rattle.ns_types.specs.State.Rows.{Acl, State, World, PoolRows, QuotaRows}
 use Rattle.ns_types.specs.Settling.Settle.{after_quota_release, settle}
-use Rattle.ns_types.specs.Steps.{Makes, act, after, concluded, concluded_with, greatest, is_past_bound, said}
+use Rattle.ns_types.specs.Steps.{Makes, act, after, concluded, concluded_with, greatest, is_made, is_past_bound, said}
 use Rattle.ns_types.specs.State.Tables.{any_row, map_rows}
 use Rattle.ns_types.proofs.Lists.{not_both}
 use Rattle.ns_types.proofs.Named.{names, one_name}
 use Rattle.ns_types.proofs.Tables.{any_row-none, map_rows_idle, none_of_any}
-use Rattle.ns_steps.specs.Administered.{IsCalm, plain, relimited, relimited_state}
+use Rattle.ns_types.proofs.Alike.{same_limits_refl}
+use Rattle.ns_types.proofs.TableRows.{any_row-put, map_rows-put}
+use Rattle.ns_steps.specs.Administered.{IsCalm, plain, relimited, relimited_state, state_put}
 use Rattle.ns_steps.specs.Early.{IsEarly}
-use Rattle.ns_steps.proofs.Administering.{
-    KeepsQuotas, Leaves, is_of_step, delete_namespace_leaves, delete_pool_leaves, delete_quota_leaves, nothing_changes,
-    put_namespace_leaves, put_pool_leaves, put_quota_rests
-}
-use Rattle.ns_steps.proofs.Alike.{same_limits_refl}
+use Rattle.ns_steps.proofs.Administering.{KeepsQuotas, Leaves, is_of_step, delete_namespace_leaves, delete_pool_leaves, delete_quota_leaves, nothing_changes}
+use Rattle.ns_steps.proofs.Administering.{put_namespace_leaves, put_pool_leaves, put_quota_rests}
 use Rattle.ns_steps.proofs.Registering.{all_within}
 use Rattle.ns_steps.proofs.Resting.{Rests, rests_early, rests_settled, settled_quotas}
-use Rattle.ns_steps.proofs.Rows.{any_row-put, map_rows-put}
-use Rattle.ns_steps.proofs.Settling.{settle_same}
+use Rattle.ns_types.proofs.Settling.{settle_same}
 
 -- ---- refusals of the access lists
 
@@ -146,19 +142,31 @@ module _ (s s' : State) (rests : Rests s.world s'.world) (keeps : KeepsQuotas s.
   calm_early : IsEarly s'.world
   calm_early = rests_early s.world s'.world rests early
       (any_row-none names one_name _ s'.world.quotas
-          (λ name q is. none_of_any one_name (λ _ q. nat_lt greatest q.release) s.world.quotas name q (all_within s.world early.within).2 (keeps name q is)))
+      (λ name q is. none_of_any one_name (λ _ q. nat_lt greatest q.release) s.world.quotas name q (all_within s.world early.within).2 (keeps name q is)))
 
 module _ (s : State) (secret : Option Name) (command : AdminCommand) (allowed : may_administer s.acl secret command ≡ true) (early : IsEarly s.world)
     (calm : IsCalm command) where
   refuses_so : (refusal : Refusal) (s' : State) → administer secret command s ≡ Refused refusal → s' ≡ s → Makes (Step.Admin secret command) s (Err refusal) s'
       × IsEarly s'.world
-  refuses_so refusal s' is same = (by refusal (subst (LeavesState s) is (calm_leaves secret command s calm))
-      (admin_concludes s secret command allowed (Refused refusal) is), subst (λ x. IsEarly x.world) (sym same) early)
+  refuses_so refusal s' is same = (
+    by refusal (subst (LeavesState s) is (calm_leaves secret command s calm))
+        (admin_concludes s secret command allowed (Refused refusal) is),
+    subst (λ x. IsEarly x.world) (sym same) early,
+  )
     where
       by : (r : Refusal) → is_of_step r ≡ true → after (Step.Admin secret command) s ≡ said (Err r) s → Makes (Step.Admin secret command) s (Err r) s'
       by Refusal.NotEnabled named e = not_both named refl
-      by Refusal.Memory named e = same
+      by Refusal.Memory named e = not_both named refl
       by _ named e = (e, same)
+
+  -- a change that is done is a step that is made
+  made_if_done : (o : Outcome State) → administer secret command s ≡ o → is_done o ≡ true → is_made (after (Step.Admin secret command) s) ≡ true
+  made_if_done NotEnabled is done = not_both done refl
+  made_if_done (Refused refusal) is done = not_both done refl
+  made_if_done (Done content s') is done =
+      let left : Rests s.world s'.world × KeepsQuotas s.world s'.world = subst (LeavesState s) is (calm_leaves secret command s calm) in
+      ap is_made (admin_done s secret command allowed content s' s'.world is (calm_settles s s' left.0 left.1 early)
+      (calm_early s s' left.0 left.1 early).within)
 
   pub admin_makes : (result : Result Content Refusal) (s' : State) → Changes (administer secret command s) s result s' →
       Makes (Step.Admin secret command) s (plain result) s' × IsEarly s'.world
@@ -169,7 +177,7 @@ module _ (s : State) (secret : Option Name) (command : AdminCommand) (allowed : 
   admin_makes (Err refusal) s' h = by refusal h
     where
       by : (r : Refusal) → Changes (administer secret command s) s (Err r) s' → Makes (Step.Admin secret command) s (Err r) s' × IsEarly s'.world
-      by Refusal.Memory h = (h, subst (λ x. IsEarly x.world) (sym h) early)
+      by Refusal.Memory h = ((made_if_done (administer secret command s) refl h.0, h.1), subst (λ x. IsEarly x.world) (sym h.1) early)
       by r h = refuses_so r s' h.0 h.1
 
 -- whatever it answers, it leaves all but records alone
@@ -181,7 +189,7 @@ admin_rests s secret command calm (Ok content) s' is =
 admin_rests s secret command calm (Err refusal) s' h = subst (λ x. Rests s.world x.world) (sym (by refusal h)) (nothing_changes s.world).0
   where
     by : (r : Refusal) → Changes (administer secret command s) s (Err r) s' → s' ≡ s
-    by Refusal.Memory h = h
+    by Refusal.Memory h = h.1
     by r h = h.1
 
 -- ---- a put of a quota
@@ -195,7 +203,7 @@ module _ (s : State) (name : Name) (quota : Quota) where
 
   released_as : (o : Option QuotaRows) → get s.world.quotas name ≡ o
       → after_quota_release (option_map_or (λ old. changes_limits old (with_quota quota (get s.world.quotas name))) (get s.world.quotas name) false)
-          (with_quota quota (get s.world.quotas name)) ≡ relimited s.world name quota
+      (with_quota quota (get s.world.quotas name)) ≡ relimited s.world name quota
   released_as None is = (λ i. after_quota_release (option_map_or (λ old. changes_limits old (with_quota quota (is i))) (is i) false) (with_quota quota (is i)))
       ∙ sym (λ i. after_quota_release (option_map_or (λ old. changes_limits old (with_quota quota (Some old))) (is i) false) (with_quota quota (is i)))
   released_as (Some old) is = (λ i. after_quota_release (option_map_or (λ old. changes_limits old (with_quota quota (is i))) (is i) false)
@@ -217,7 +225,7 @@ module _ (s : State) (name : Name) (quota : Quota) where
     unfolding is_past_bound
     over_is = let parts = all_within s.world early.within in
         (λ i. (parts.0 i || parts.1 i) || any_row-put names one_name (λ _ q. nat_lt greatest q.release) s.world.quotas name (relimited s.world name quota)
-            parts.2 i)
+        parts.2 i)
 
     module _ (secret : Option Name) (allowed : may_administer s.acl secret (AdminCommand.PutQuota name quota) ≡ true) where
       put_is : (b : Bool) → is_full s.world.quotas name ≡ b
@@ -246,25 +254,21 @@ module _ (s : State) (name : Name) (quota : Quota) where
       refusal_of (Refused refusal) = refusal
       refusal_of _ = Refusal.Full
 
-      pub quota_refused : (refusal : Refusal) → put_quota name quota s.world ≡ Refused refusal → (s' : State) → s' ≡ s
-          → Makes (Step.Admin secret (AdminCommand.PutQuota name quota)) s (Err refusal) s'
-      quota_refused refusal e s' same = by (is_full s.world.quotas name) refl
+      quota_refused : (refusal : Refusal) → put_quota name quota s.world ≡ Refused refusal
+          → Makes (Step.Admin secret (AdminCommand.PutQuota name quota)) s (Err refusal) s
+      quota_refused refusal e = by (is_full s.world.quotas name) refl
         where
-          is_done : Outcome World → Bool
-          is_done (Done content w) = true
-          is_done _ = false
-
-          by : (b : Bool) → is_full s.world.quotas name ≡ b → Makes (Step.Admin secret (AdminCommand.PutQuota name quota)) s (Err refusal) s'
-          by true full = subst (λ r. Makes (Step.Admin secret (AdminCommand.PutQuota name quota)) s (Err r) s')
+          by : (b : Bool) → is_full s.world.quotas name ≡ b → Makes (Step.Admin secret (AdminCommand.PutQuota name quota)) s (Err refusal) s
+          by true full = subst (λ r. Makes (Step.Admin secret (AdminCommand.PutQuota name quota)) s (Err r) s)
               (ap refusal_of (sym (put_cases_of true full) ∙ e))
-              (admin_concludes s secret (AdminCommand.PutQuota name quota) allowed (Refused Refusal.Full) (put_is true full), same)
+              (admin_concludes s secret (AdminCommand.PutQuota name quota) allowed (Refused Refusal.Full) (put_is true full), refl)
           by false room = not_both refl (sym (ap is_done (sym e ∙ put_cases_of false room)))
 
       -- and with other limits it has one more release
-      pub quota_done : nat_lt greatest (relimited s.world name quota).release ≡ false → (content : Content) (w' : World) →
+      quota_done : nat_lt greatest (relimited s.world name quota).release ≡ false → (content : Content) (w' : World) →
           put_quota name quota s.world ≡ Done content w'
           → after (Step.Admin secret (AdminCommand.PutQuota name quota)) s ≡ said (Ok (record { index = None; content = content }))
-              (relimited_state s name quota)
+          (relimited_state s name quota)
       quota_done within content w' e = by (is_full s.world.quotas name) refl
         where
           is_refused : Outcome World → Bool
@@ -282,7 +286,25 @@ module _ (s : State) (name : Name) (quota : Quota) where
           by false room = subst (λ c. after (Step.Admin secret (AdminCommand.PutQuota name quota)) s ≡ said (Ok (record { index = None; content = c }))
               (relimited_state s name quota)) (ap content_of (sym (put_cases_of false room) ∙ e))
               (admin_done s secret (AdminCommand.PutQuota name quota) allowed Content.Written (record s { world = put_world })
-                  (relimited_state s name quota).world (put_is false room) quota_settles (over_is ∙ within))
+              (relimited_state s name quota).world (put_is false room) quota_settles (over_is ∙ within))
+
+      -- where the put would be done, the step would be made
+      made_if_put : nat_lt greatest (relimited s.world name quota).release ≡ false → (o : Outcome World) → put_quota name quota s.world ≡ o → is_done o ≡ true
+          → is_made (after (Step.Admin secret (AdminCommand.PutQuota name quota)) s) ≡ true
+      made_if_put within NotEnabled is done = not_both done refl
+      made_if_put within (Refused refusal) is done = not_both done refl
+      made_if_put within (Done content w') is done = ap is_made (quota_done within content w' is)
+
+      pub quota_makes : nat_lt greatest (relimited s.world name quota).release ≡ false → (result : Result Content Refusal) (w' : World) →
+          Changes (put_quota name quota s.world) s.world result w'
+          → Makes (Step.Admin secret (AdminCommand.PutQuota name quota)) s (plain result) (state_put result s name quota)
+      quota_makes within (Ok content) w' e = quota_done within content w' e
+      quota_makes within (Err refusal) w' h = by refusal h
+        where
+          by : (r : Refusal) → Changes (put_quota name quota s.world) s.world (Err r) w' →
+              Makes (Step.Admin secret (AdminCommand.PutQuota name quota)) s (Err r) s
+          by Refusal.Memory h = (made_if_put within (put_quota name quota s.world) refl h.0, refl)
+          by r h = quota_refused r h.0
 
     pub relimited_rests : Rests s.world (relimited_state s name quota).world
     relimited_rests = put_quota_rests s.world name (relimited s.world name quota)
@@ -306,12 +328,12 @@ module _ (s : State) (secret : Option Name) (name : Name) where
     pool_found : (o : Option PoolRows) → get s.world.pools name ≡ o
         → after (Step.Node name secret NodeCommand.ReadPool) s
         ≡ concluded (Step.Node name secret NodeCommand.ReadPool) s
-            (lift (with_world s.acl) (option_map_or (λ p. Done (read_pool name p) s.world) o (Refused Refusal.NotFound)))
+        (lift (with_world s.acl) (option_map_or (λ p. Done (read_pool name p) s.world) o (Refused Refusal.NotFound)))
     unfolding after act ask_pool
     pool_found o is = ap (λ b. cond b (concluded (Step.Node name secret NodeCommand.ReadPool) s (in_world s (ask_pool name NodeCommand.ReadPool)))
         (said (Err Refusal.Denied) s)) allowed
         ∙ ap (λ o. concluded (Step.Node name secret NodeCommand.ReadPool) s
-            (lift (with_world s.acl) (option_map_or (λ p. Done (read_pool name p) s.world) o (Refused Refusal.NotFound)))) is
+        (lift (with_world s.acl) (option_map_or (λ p. Done (read_pool name p) s.world) o (Refused Refusal.NotFound)))) is
 
     pub pool_not_found : get s.world.pools name ≡ None → after (Step.Node name secret NodeCommand.ReadPool) s ≡ said (Err Refusal.NotFound) s
     pool_not_found none = pool_found None none

@@ -13,14 +13,15 @@ use Rattle.ns_types.specs.State.Names.{Name, Key, default_name, has_key, name_cm
 use Rattle.ns_types.specs.Working.Queue.{is_busy}
 use Rattle.ns_types.specs.State.Rows.{World, Tenant, QuotaRows, is_pending}
 use Rattle.ns_types.specs.Steps.{greatest, is_past_bound, is_pool_past_bound, is_tenant_past_bound, opening, opening_pool, opening_tenant, opening_world}
-use Rattle.ns_types.specs.Validity.{IsReady, IsSound}
+use Rattle.ns_types.specs.Validity.{IsReady}
 use Rattle.ns_types.proofs.Lists.{not_both}
 use Rattle.ns_types.proofs.Named.{names, numbers, one_name, one_number}
 use Rattle.ns_types.proofs.Tables.{tied}
+use Rattle.ns_types.proofs.TableRows.{any_append, any_row-empty, any_row-put, get_other, get_put, row_of_insert, stays}
+use Rattle.ns_types.proofs.Tests.{or_none}
 use Rattle.ns_steps.specs.Early.{IsEarly, IsFresh}
-use Rattle.ns_steps.specs.Registered.{made_evaluation, next_index, next_number, registered_tenant, registered_world}
+use Rattle.ns_steps.specs.Registered.{made_evaluation, next_number, passes_bound, registered_tenant, registered_world}
 use Rattle.ns_steps.proofs.Registering.{over_registered}
-use Rattle.ns_steps.proofs.Rows.{any_append, any_row-empty, any_row-put, get_other, get_put, or_none, put_cases, stays}
 
 -- ---- the next number
 
@@ -57,8 +58,8 @@ opening_within = λ i. (any_row-put names one_name (λ _ t. is_tenant_past_bound
 
 -- its one namespace has no rows
 opening_rows : (ns : Name) (t : Tenant) → get opening_world.tenants ns ≡ Some t → t ≡ opening_tenant
-opening_rows ns t is = ⊎_elim (λ own. own.1) (λ before. not_both refl (ap is_some (sym before ∙ get-empty name_cmp ns)))
-    (put_cases names one_name empty default_name opening_tenant ns t is)
+opening_rows ns t is = ⊎_elim (λ own. sym own.1) (λ before. not_both refl (ap is_some (sym before ∙ get-empty name_cmp ns)))
+    (row_of_insert names one_name empty default_name opening_tenant ns t is)
 
 pub opening_early : (secret : Name) → IsEarly (opening secret).world
 unfolding opening
@@ -86,8 +87,12 @@ module _ (ns : Name) (r : Registration) (w : World) (t : Tenant) (early : IsEarl
     where
       by : (b : Bool) → eq_by_cmp nat_cmp n (next_number t) ≡ b → (x : Evaluation) ×
           (get (insert t.evaluations (next_number t) (made_evaluation r t)) n ≡ Some x) × (is_pending x.status ≡ true)
-      by true same = (made_evaluation r t, ap (get (insert t.evaluations (next_number t) (made_evaluation r t))) (tied one_number n (next_number t) same) ∙
-          get_put numbers one_number t.evaluations (next_number t) (made_evaluation r t), refl)
+      by true same = (
+        made_evaluation r t,
+        ap (get (insert t.evaluations (next_number t) (made_evaluation r t))) (tied one_number n (next_number t) same) ∙
+            get_put numbers one_number t.evaluations (next_number t) (made_evaluation r t),
+        refl,
+      )
       by false other = (e, get_other numbers one_number t.evaluations (next_number t) (made_evaluation r t) n other ∙ at, pending)
 
   -- an entry that was ready is ready
@@ -96,11 +101,14 @@ module _ (ns : Name) (r : Registration) (w : World) (t : Tenant) (early : IsEarl
   row_stays key ready = by (eq_by_cmp name_cmp key.0 ns) refl
     where
       by : (b : Bool) → eq_by_cmp name_cmp key.0 ns ≡ b →
-          IsReady (record w { tenants = insert w.tenants ns (registered_tenant r t); ready = if is_busy w ns r.id then w.ready else w.ready ++
-          (ns, next_number t) ∷ [] }) key
+          IsReady (record w {
+            tenants = insert w.tenants ns (registered_tenant r t);
+            ready = if is_busy w ns r.id then w.ready else w.ready ++
+                (ns, next_number t) ∷ [];
+          }) key
       by true e =
           let row = own_pending key.1 ready.row (sym
-              (ap (λ o. option_and_then (λ x. get x.evaluations key.1) o) (ap (get w.tenants) (tied one_name key.0 ns e) ∙ is)) ∙ ready.is_row) ready.pending in
+          (ap (λ o. option_and_then (λ x. get x.evaluations key.1) o) (ap (get w.tenants) (tied one_name key.0 ns e) ∙ is)) ∙ ready.is_row) ready.pending in
           record {
             row = row.0;
             is_row = ap (λ o. option_and_then (λ x. get x.evaluations key.1) o)
@@ -136,7 +144,7 @@ module _ (ns : Name) (r : Registration) (w : World) (t : Tenant) (early : IsEarl
   unfolding registered_tenant
   own_below n e at = ⊎_elim (λ own. let same : n ≡ t.evaluation_number + 1 = own.0 in omega arith) (λ before. let under : n ≤ t.evaluation_number =
       early.below ns t n e is before in omega arith)
-      (put_cases numbers one_number t.evaluations (next_number t) (made_evaluation r t) n e at)
+      (row_of_insert numbers one_number t.evaluations (next_number t) (made_evaluation r t) n e at)
 
   own_worker : (k : ℕ) (x : Worker) → get (registered_tenant r t).workers k ≡ Some x → is_some (get (registered_tenant r t).evaluations x.evaluation) ≡ true
   unfolding registered_tenant
@@ -154,18 +162,18 @@ module _ (ns : Name) (r : Registration) (w : World) (t : Tenant) (early : IsEarl
   below : (ns' : Name) (x : Tenant) (n : ℕ) (e : Evaluation) → get (registered_world ns r w t).tenants ns' ≡ Some x → get x.evaluations n ≡ Some e →
       n ≤ x.evaluation_number
   unfolding registered_world
-  below ns' x n e found = ⊎_elim (λ own. subst (λ y. get y.evaluations n ≡ Some e → n ≤ y.evaluation_number) (sym own.1) (own_below n e))
+  below ns' x n e found = ⊎_elim (λ own. subst (λ y. get y.evaluations n ≡ Some e → n ≤ y.evaluation_number) own.1 (own_below n e))
       (λ before. early.below ns' x n e before)
-      (put_cases names one_name w.tenants ns (registered_tenant r t) ns' x found)
+      (row_of_insert names one_name w.tenants ns (registered_tenant r t) ns' x found)
 
   worker : (ns' : Name) (x : Tenant) (k : ℕ) (y : Worker) → get (registered_world ns r w t).tenants ns' ≡ Some x → get x.workers k ≡ Some y →
       is_some (get x.evaluations y.evaluation) ≡ true
   unfolding registered_world
-  worker ns' x k y found = ⊎_elim (λ own. subst (λ z. get z.workers k ≡ Some y → is_some (get z.evaluations y.evaluation) ≡ true) (sym own.1) (own_worker k y))
+  worker ns' x k y found = ⊎_elim (λ own. subst (λ z. get z.workers k ≡ Some y → is_some (get z.evaluations y.evaluation) ≡ true) own.1 (own_worker k y))
       (λ before. early.worker ns' x k y before)
-      (put_cases names one_name w.tenants ns (registered_tenant r t) ns' x found)
+      (row_of_insert names one_name w.tenants ns (registered_tenant r t) ns' x found)
 
-  pub registered_early : (nat_lt greatest (next_index t) || nat_lt greatest (next_number t)) ≡ false → IsEarly (registered_world ns r w t)
+  pub registered_early : passes_bound t ≡ false → IsEarly (registered_world ns r w t)
   unfolding registered_world
   registered_early fits = record {
     within = over_registered ns r w t is early.within ∙ fits;
@@ -175,16 +183,3 @@ module _ (ns : Name) (r : Registration) (w : World) (t : Tenant) (early : IsEarl
     plans = early.plans;
     blocked = early.blocked;
   }
-
--- ---- later worlds
-
--- what is said here is true of every sound world, as long as nothing is planned and nothing blocked
-pub sound_early : (w : World) → IsSound w → w.plans ≡ [] → w.blocked ≡ [] → IsEarly w
-sound_early w sound plans blocked = record {
-  within = sound.within;
-  below = λ ns t n e is at. ((sound.tenant ns t is).evaluation n e at).below;
-  ready = sound.ready;
-  worker = λ ns t k x is at. ap is_some ((sound.tenant ns t is).worker k x at).is_row;
-  plans = plans;
-  blocked = blocked;
-}

@@ -1,6 +1,3 @@
-pub mod Alike
-pub mod Rows
-pub mod Settling
 pub mod Registering
 pub mod Steps
 pub mod Early
@@ -8,3 +5,4 @@ pub mod Resting
 pub mod Administering
 pub mod Concluding
 pub mod Telling
+pub mod Reading

@@ -19,28 +19,23 @@ use Rattle.ns_types.specs.State.Lists.{last}
 use Rattle.ns_types.specs.State.Names.{Name, Key, name_cmp, same_key, same_name, same_number}
 use Rattle.ns_types.specs.Working.Queue.{is_busy, is_of_job, queue}
 use Rattle.ns_types.specs.State.Rows.{World, Tenant, evaluation_at}
-use Rattle.ns_types.specs.Settling.Settle.{
-    changes_allocation, changes_evaluation, changes_job, created_at, is_changed, is_touched, job_ids, job_topic, settle,
-    stamp_tenant, stamped, stamped_allocation, stamped_evaluation, topics_of
-}
+use Rattle.ns_types.specs.Settling.Settle.{changes_allocation, changes_evaluation, changes_job, created_at, is_changed, is_touched, job_ids, job_topic, settle}
+use Rattle.ns_types.specs.Settling.Settle.{stamp_tenant, stamped, stamped_allocation, stamped_evaluation, topics_of}
 use Rattle.ns_types.specs.Settling.Same.{same_document, same_evaluation, same_job}
 use Rattle.ns_types.specs.Steps.{greatest, is_past_bound, is_pool_past_bound, is_tenant_past_bound}
 use Rattle.ns_types.specs.State.Tables.{any_row, map_rows}
 use Rattle.ns_types.proofs.Lists.{any_alike, each_map, left_none, right_none}
 use Rattle.ns_types.proofs.Named.{names, one_name, numbers, one_number}
 use Rattle.ns_types.proofs.Tables.{map_rows_idle, none_of_any, tied}
+use Rattle.ns_types.proofs.Alike.{same_job_refl}
+use Rattle.ns_types.proofs.TableRows.{any_row-alike, any_row-put, apart, each_fails, filter_no_row, filter_one_key, filter_one_row, get_joined, get_other}
+use Rattle.ns_types.proofs.TableRows.{get_put, map_rows-put, one_more, some_row, turned}
+use Rattle.ns_types.proofs.Tests.{or_none}
 use Rattle.ns_steps.specs.Early.{IsFresh}
 use Rattle.ns_steps.specs.Laws.{put_world, ReleasesNothing}
-use Rattle.ns_steps.specs.Registered.{is_news, job_of, job_topics, made_evaluation, next_index, next_number, registered_tenant, registered_world}
-use Rattle.ns_steps.proofs.Alike.{same_job_refl}
-use Rattle.ns_steps.proofs.Rows.{
-    any_row-alike, any_row-put, apart, each_fails, filter_no_row, filter_one_key, filter_one_row, get_joined, get_other,
-    get_put, map_rows-put, one_more, or_none, some_row, turned
-}
-use Rattle.ns_steps.proofs.Settling.{
-    KeepsRoom, classes_none, keeps_elsewhere, kept_allocation, kept_evaluation, kept_job, quota_none, releases_nothing,
-    stamp_one, wakes_none
-}
+use Rattle.ns_steps.specs.Registered.{is_news, job_of, job_topics, made_evaluation, next_index, next_number, passes_bound, registered_tenant, registered_world}
+use Rattle.ns_types.proofs.Settling.{KeepsRoom, classes_none, keeps_elsewhere, kept_allocation, kept_evaluation, kept_job, quota_none, releases_nothing}
+use Rattle.ns_types.proofs.Settling.{stamp_one, wakes_none}
 
 -- ---- the job
 
@@ -50,8 +45,14 @@ registered_runs index d None = refl
 registered_runs index d (Some old) = by (same_document d old.document) old.stop refl
   where
     by : (same stop : Bool) → old.stop ≡ stop
-        → (cond (same && not stop) old (record { document = d; stop = false; version = old.version + 1; create_index = old.create_index; modify_index =
-            index })).stop ≡ false
+        → (cond (same && not stop) old (record {
+          document = d;
+          stop = false;
+          version = old.version + 1;
+          create_index = old.create_index;
+          modify_index =
+              index;
+        })).stop ≡ false
     by false stop e = refl
     by true true e = refl
     by true false e = e
@@ -65,8 +66,14 @@ shown_newer old d index = and_left _ _ (and_left _ _ (and_right _ _ (one_more ol
 news_with : (index : ℕ) (d : Document) (old : Option Job) → is_changed same_job old (registered_job index d old) ≡ is_news d old
 news_with index d None = refl
 news_with index d (Some old) = elim (same_document d old.document && not old.stop)
-    as (λ b. not (same_job old (cond b old (record { document = d; stop = false; version = old.version + 1; create_index = old.create_index; modify_index =
-        index }))) ≡ not b) [
+    as (λ b. not (same_job old (cond b old (record {
+      document = d;
+      stop = false;
+      version = old.version + 1;
+      create_index = old.create_index;
+      modify_index =
+          index;
+    }))) ≡ not b) [
       | true ↦ ap not (same_job_refl old)
       | false ↦ ap not (shown_newer old d index)
     ]
@@ -114,7 +121,7 @@ module _ (r : Registration) (t : Tenant) where
   job_topics_made : map (job_topic (with_rows r t)) (filter (changes_job t (with_rows r t)) (job_ids t (with_rows r t))) ≡ job_topics r t
   job_topics_made = ap (map (job_topic (with_rows r t))) (jobs_changed ∙ ap (λ b. cond b (r.id ∷ []) []) changes_own)
       ∙ elim (is_news (document_of t r) (get t.jobs r.id)) as
-          (λ b. map (job_topic (with_rows r t)) (cond b (r.id ∷ []) []) ≡ cond b (Topic.JobRegistered r.id ∷ []) []) [
+      (λ b. map (job_topic (with_rows r t)) (cond b (r.id ∷ []) []) ≡ cond b (Topic.JobRegistered r.id ∷ []) []) [
         | true ↦ ap (λ topic. topic ∷ []) topic_own
         | false ↦ refl
       ]
@@ -140,19 +147,25 @@ module _ (r : Registration) (t : Tenant) where
     evaluation_stamped : stamped_evaluation (next_index t) t (next_number t) (new_evaluation r t) ≡ made_evaluation r t
     evaluation_stamped = ap (λ o. cond (is_changed same_evaluation o (new_evaluation r t))
         (record (new_evaluation r t) { create_index = created_at (next_index t) o (λ e. e.create_index); modify_index = next_index t }) (new_evaluation r t))
-            none
+        none
 
     evaluations_stamped : map_rows (stamped_evaluation (next_index t) t) (with_rows r t).evaluations ≡ insert t.evaluations (next_number t)
         (made_evaluation r t)
     evaluations_stamped = map_rows-put numbers one_number (stamped_evaluation (next_index t) t) t.evaluations (next_number t) (new_evaluation r t)
-        (λ n e is. ap (λ b. cond b (record e { create_index = created_at (next_index t) (get t.evaluations n) (λ o. o.create_index); modify_index =
-            next_index t }) e) (kept_evaluation t n e is))
+        (λ n e is. ap (λ b. cond b (record e {
+          create_index = created_at (next_index t) (get t.evaluations n) (λ o. o.create_index);
+          modify_index =
+              next_index t;
+        }) e) (kept_evaluation t n e is))
         ∙ ap (insert t.evaluations (next_number t)) evaluation_stamped
 
     allocations_stamped : map_rows (stamped_allocation (next_index t) t) t.allocations ≡ t.allocations
     allocations_stamped = map_rows_idle numbers one_number (stamped_allocation (next_index t) t) t.allocations
-        (λ n a is. ap (λ b. cond b (record a { create_index = created_at (next_index t) (get t.allocations n) (λ o. o.create_index); modify_index =
-            next_index t }) a) (kept_allocation t n a is))
+        (λ n a is. ap (λ b. cond b (record a {
+          create_index = created_at (next_index t) (get t.allocations n) (λ o. o.create_index);
+          modify_index =
+              next_index t;
+        }) a) (kept_allocation t n a is))
 
     is_touched_by_it : is_touched t (with_rows r t) ≡ true
     is_touched_by_it = or_left _ _ (or_right _ _ (some_row numbers one_number (changes_evaluation t) (with_rows r t).evaluations (next_number t)
@@ -188,7 +201,7 @@ module _ (ns : Name) (r : Registration) (w : World) (t : Tenant) where
   queued = ap (λ o. option_map_or (λ e. cond (is_busy with_tenant ns e.job) with_tenant (record with_tenant { ready = w.ready ++ (ns, next_number t) ∷ [] }))
       o with_tenant) row_found
       ∙ elim (is_busy with_tenant ns r.id) as (λ b. ◌≡◌ {A = World} (cond b with_tenant (record with_tenant { ready = w.ready ++ (ns, next_number t) ∷ [] }))
-          (record with_tenant { ready = cond b w.ready (w.ready ++ (ns, next_number t) ∷ []) })) [
+      (record with_tenant { ready = cond b w.ready (w.ready ++ (ns, next_number t) ∷ []) })) [
         | true ↦ refl
         | false ↦ refl
       ]
@@ -217,7 +230,7 @@ module _ (ns : Name) (r : Registration) (w : World) (t : Tenant) where
 
         by : (b : Bool) → same_name ns key.0 ≡ b → (b && same_number (next_number t) key.1) ≡ false
             → (b && option_map_or (λ e. same_name r.id e.job) (evaluation_at with_tenant key) false) ≡
-                (b && option_map_or (λ e. same_name r.id e.job) (evaluation_at w key) false)
+            (b && option_map_or (λ e. same_name r.id e.job) (evaluation_at w key) false)
         by true e differs = ap (λ x. option_map_or (λ e. same_name r.id e.job) x false) (own key (tied one_name ns key.0 e) differs)
         by false e differs = refl
 
@@ -256,14 +269,14 @@ all_within w within = by _ _ _ within
     by a b c e = (left_none a b (left_none (a || b) c e), right_none a b (left_none (a || b) c e), right_none (a || b) c e)
 
 over_tenant : (r : Registration) (t : Tenant) → is_tenant_past_bound t ≡ false →
-    is_tenant_past_bound (registered_tenant r t) ≡ (nat_lt greatest (next_index t) || nat_lt greatest (next_number t))
+    is_tenant_past_bound (registered_tenant r t) ≡ passes_bound t
 unfolding registered_tenant
-over_tenant r t within = ap (λ b. (nat_lt greatest (next_index t) || nat_lt greatest (next_number t)) || b)
+over_tenant r t within = ap (λ b. passes_bound t || b)
     (right_none (nat_lt greatest t.index || nat_lt greatest t.evaluation_number) (nat_lt greatest t.allocation_number) within)
     ∙ or_none _
 
 pub over_registered : (ns : Name) (r : Registration) (w : World) (t : Tenant) → get w.tenants ns ≡ Some t → is_past_bound w ≡ false
-    → is_past_bound (registered_world ns r w t) ≡ (nat_lt greatest (next_index t) || nat_lt greatest (next_number t))
+    → is_past_bound (registered_world ns r w t) ≡ passes_bound t
 unfolding is_past_bound registered_world
 over_registered ns r w t is within =
     let parts = all_within w within in

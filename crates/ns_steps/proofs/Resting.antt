@@ -20,11 +20,11 @@ use Rattle.ns_types.specs.Validity.{IsReady}
 use Rattle.ns_types.proofs.Lists.{not_both}
 use Rattle.ns_types.proofs.Named.{names, one_name}
 use Rattle.ns_types.proofs.Tables.{any_row-none, map_rows_idle, none_of_any}
+use Rattle.ns_types.proofs.TableRows.{any_row-empty, filter_no_row}
 use Rattle.ns_steps.specs.Administered.{IsPoolOf, IsTenantOf}
 use Rattle.ns_steps.specs.Early.{IsEarly}
 use Rattle.ns_steps.proofs.Registering.{all_within}
-use Rattle.ns_steps.proofs.Rows.{any_row-empty, filter_no_row}
-use Rattle.ns_steps.proofs.Settling.{KeepsLive, ends_none, live_in, node_gives_none, untouched, wake_none}
+use Rattle.ns_types.proofs.Settling.{KeepsLive, ends_none, live_in, node_gives_none, untouched, wake_none}
 
 -- a namespace without open evaluations and live allocations
 pub record HasNothingOpen (t : Tenant) : Type 0 where
@@ -105,8 +105,10 @@ module _ (w w' : World) (rests : Rests w w') where
 
   -- the quotas with the releases of those whose limits changed
   unfoldable pub settled_quotas : World
-  settled_quotas = record w' { quotas = map_rows (λ name q. after_quota_release (option_map_or (λ old. changes_limits old q) (get w.quotas name) false) q)
-      w'.quotas }
+  settled_quotas = record w' {
+    quotas = map_rows (λ name q. after_quota_release (option_map_or (λ old. changes_limits old q) (get w.quotas name) false) q)
+        w'.quotas;
+  }
 
   numbered : number_releases w w' w' ≡ settled_quotas
   unfolding number_releases settled_quotas

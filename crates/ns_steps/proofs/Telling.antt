@@ -1,35 +1,37 @@
 -- What replies say, step by step.
-use Rattle.std.specs.Prelude.{◌≡◌, ◌+◌, Bool, true, false, cond, Option, Some, None, Ok, Err, is_ok, is_some}
+use Rattle.std.specs.Prelude.{◌≡◌, ◌+◌, Bool, true, false, cond, Option, Some, None, Ok, Err, is_ok, is_some, IsSomeAnd}
 use Rattle.std.proofs.Common.{refl, sym, ap, subst, ◌∙◌}
 use Rattle.std.specs.FinMap.{get}
 use Rattle.ns_types.specs.declared.refusal.Refusal.{Refusal}
-use Rattle.ns_types.specs.declared.refusal.Refusal.TheVariants as Refusal
 use Rattle.ns_types.specs.declared.reply.Content.{Content}
-use Rattle.ns_types.specs.declared.reply.Content.TheVariants as Content
 use Rattle.ns_types.specs.declared.reply.Reply.{Reply}
 use Rattle.ns_types.specs.declared.step.AdminCommand.{AdminCommand}
-use Rattle.ns_types.specs.declared.step.AdminCommand.TheVariants as AdminCommand
 use Rattle.ns_types.specs.declared.step.AskCommand.{AskCommand}
-use Rattle.ns_types.specs.declared.step.AskCommand.TheVariants as AskCommand
 use Rattle.ns_types.specs.declared.step.NodeCommand.TheVariants as NodeCommand
 use Rattle.ns_types.specs.declared.step.Step.{Step}
-use Rattle.ns_types.specs.declared.step.Step.TheVariants as Step
 use Rattle.ns_types.specs.Asking.Policies.{administer, create_token, delete_policy, delete_token, put_policy, read_policy, secret_of, with_acl, with_world}
 use Rattle.ns_types.specs.Asking.Admins.{delete_namespace, delete_pool, delete_quota, put_namespace, put_pool_record, put_quota, read_quota}
-use Rattle.ns_types.specs.Asking.Asks.{ask, asked_in, document_of, registered_job, registered_with}
+use Rattle.ns_types.specs.Asking.Asks.{ask, asked_in, document_of, first_refusal, registered_job, registered_with}
 use Rattle.ns_types.specs.State.Names.{Name}
 use Rattle.ns_types.specs.Asking.Nodes.{ask_pool}
-use Rattle.ns_types.specs.Settling.Outcome.{Outcome, NotEnabled, Refused, Done, found, lift, unless}
+use Rattle.ns_types.specs.Settling.Outcome.{Outcome, NotEnabled, Refused, Done, found, lift, refused_by, unless}
 use Rattle.ns_types.specs.State.Rows.{State, Tenant, World}
 use Rattle.ns_types.specs.Settling.Settle.{settle}
 use Rattle.ns_types.specs.Steps.{Answer, act, after, concluded, is_allowed, is_past_bound, reply_of, said}
 use Rattle.ns_types.specs.State.Sums.{names_quota, quota_use}
 use Rattle.ns_types.proofs.Lists.{not_both}
-use Rattle.ns_steps.specs.Served.{IsReading, IsReadingAsk, IsReadingRecords, IsServed, IsServedAsk, IsToldAsk, IsToldBy}
-use Rattle.ns_steps.specs.Told.{IsToldOf, IsUsage}
-use Rattle.ns_steps.proofs.Rows.{same_Some}
-use Rattle.ns_steps.proofs.Settling.{settle_same}
+use Rattle.ns_steps.specs.Served.{IsServed, IsServedAsk, IsToldBy, is_reading, only_reads, served_admin, served_ask}
+use Rattle.ns_steps.specs.Told.{Holds, Shape}
+use Rattle.ns_types.proofs.Tests.{same_Some}
+use Rattle.ns_steps.proofs.Administering.{is_of_step}
+use Rattle.ns_types.proofs.Settling.{settle_same}
 use Rattle.ns_steps.proofs.Steps.{told}
+
+-- ---- lines of the table
+
+-- what the reply holds
+abbrev IsTold : Option Shape → Content → Type 0
+IsTold shape content = IsSomeAnd shape (λ shape. Holds shape content)
 
 -- ---- outcomes, of whatever part
 
@@ -43,6 +45,10 @@ module _ {S : Type 0} (P : Content → Type 0) where
   unfolding unless
   tells_unless true refusal rest h = tt
   tells_unless false refusal rest h = h
+
+  tells_refused : (x : Option Refusal) (rest : Outcome S) → Tells P rest → Tells P (refused_by x rest)
+  tells_refused None rest h = h
+  tells_refused (Some refusal) rest h = tt
 
   tells_found : {A : Type 0} (o : Option A) (f : A → Outcome S) → ((a : A) → Tells P (f a)) → Tells P (found o f)
   tells_found None f h = tt
@@ -66,7 +72,7 @@ tells_concluded P step s (Done content x) reply s' h e = by (is_past_bound (sett
 
 -- ---- administrators
 
-told_of : (secret : Option Name) (command : AdminCommand) (s : State) → Tells (IsToldOf command) (administer secret command s)
+told_of : (secret : Option Name) (command : AdminCommand) (s : State) → Tells (IsTold (served_admin command)) (administer secret command s)
 unfolding administer put_namespace delete_namespace put_quota delete_quota put_pool_record delete_pool
 told_of secret AdminCommand.ListNamespaces s = tt
 told_of secret (AdminCommand.PutNamespace name namespace) s = tells_lift _ (with_world s.acl) (put_namespace name namespace s.world)
@@ -93,21 +99,21 @@ told_of secret (AdminCommand.DeleteToken accessor) s =
 
 -- ---- what is asked in a namespace
 
-asked_in_pool : (ns : Name) (command : AskCommand) (w : World) (t : Tenant) → IsServedAsk command → Tells (IsToldAsk command) (asked_in ns command w t)
+asked_in_pool : (ns : Name) (command : AskCommand) (w : World) (t : Tenant) → IsServedAsk command →
+    Tells (IsTold (served_ask command)) (asked_in ns command w t)
 asked_in_pool ns (AskCommand.Register r) w t served =
-    tells_unless _ _ _ _ (tells_unless _ _ _ _ (tells_unless _ _ _ _
-    (tells_unless _ _ _ (registered_with ns r w t (registered_job (t.index + 1) (document_of t r) (get t.jobs r.id))) tt)))
+    tells_refused _ (first_refusal w t r) (registered_with ns r w t (registered_job (t.index + 1) (document_of t r) (get t.jobs r.id))) tt
 asked_in_pool ns (AskCommand.ReadJob id) w t served = tells_found _ (get t.jobs id) _ (λ job. tt)
 asked_in_pool ns (AskCommand.ListJobs prefix) w t served = tt
 asked_in_pool ns AskCommand.ReadNamespace w t served = tt
 asked_in_pool ns (AskCommand.QuotaUsage quota) w t served = by (names_quota quota t.namespace)
   where
-    by : (b : Bool) → Tells IsUsage (cond b (Done (Content.Usage quota (quota_use w quota)) w) (Refused Refusal.NotFound))
+    by : (b : Bool) → Tells (IsTold (Some Shape.Usage)) (cond b (Done (Content.Usage quota (quota_use w quota)) w) (Refused Refusal.NotFound))
     by true = tt
     by false = tt
-asked_in_pool ns _ w t served = absurd served
+asked_in_pool ns _ w t served = not_both served refl
 
-told_ask : (ns : Name) (command : AskCommand) (w : World) → IsServedAsk command → Tells (IsToldAsk command) (ask ns command w)
+told_ask : (ns : Name) (command : AskCommand) (w : World) → IsServedAsk command → Tells (IsTold (served_ask command)) (ask ns command w)
 unfolding ask
 told_ask ns command w served = tells_found _ (get w.tenants ns) (asked_in ns command w) (λ t. asked_in_pool ns command w t served)
 
@@ -119,7 +125,7 @@ told_by (Step.Ask ns secret command) s served = tells_lift _ (with_world s.acl) 
 told_by (Step.Admin secret command) s served = told_of secret command s
 told_by (Step.Node pool secret NodeCommand.ReadPool) s served =
     tells_lift _ (with_world s.acl) (ask_pool pool NodeCommand.ReadPool s.world) (tells_found _ (get s.world.pools pool) _ (λ p. tt))
-told_by _ s served = absurd served
+told_by _ s served = not_both served refl
 
 decided_concluded : (P : Content → Type 0) (step : Step) (s : State) (o : Outcome State) → Tells P o → concluded step s o ≡ None → ⊥
 decided_concluded P step s NotEnabled h e = h
@@ -151,53 +157,55 @@ served_decides step s served e = by (is_allowed step s.acl) e
 
 -- ---- reads
 
-abbrev Rests : {S : Type 0} → S → Outcome S → Type 0
+abbrev pub Rests : {S : Type 0} → S → Outcome S → Type 0
 Rests s NotEnabled = Unit {0}
-Rests s (Refused refusal) = Unit {0}
+Rests s (Refused refusal) = is_of_step refusal ≡ true
 Rests s (Done content s') = s' ≡ s
 
 rests_found : {S A : Type 0} (s : S) (o : Option A) (f : A → Outcome S) → ((a : A) → Rests s (f a)) → Rests s (found o f)
-rests_found s None f h = tt
+rests_found s None f h = refl
 rests_found s (Some a) f h = h a
 
 rests_lift : {A B : Type 0} (whole : A → B) (a : A) (o : Outcome A) → Rests a o → Rests (whole a) (lift whole o)
 rests_lift whole a NotEnabled h = tt
-rests_lift whole a (Refused refusal) h = tt
+rests_lift whole a (Refused refusal) h = h
 rests_lift whole a (Done content x) h = ap whole h
 
-rests_in : (ns : Name) (command : AskCommand) (w : World) (t : Tenant) → IsReadingAsk command → Rests w (asked_in ns command w t)
-rests_in ns (AskCommand.ReadJob id) w t reads = rests_found w (get t.jobs id) _ (λ job. refl)
-rests_in ns (AskCommand.ListJobs prefix) w t reads = refl
-rests_in ns AskCommand.ReadNamespace w t reads = refl
-rests_in ns (AskCommand.QuotaUsage quota) w t reads = by (names_quota quota t.namespace)
+rests_in : (ns : Name) (command : AskCommand) (w : World) (t : Tenant) → IsServedAsk command → only_reads (served_ask command) ≡ true →
+    Rests w (asked_in ns command w t)
+rests_in ns (AskCommand.ReadJob id) w t served only = rests_found w (get t.jobs id) _ (λ job. refl)
+rests_in ns (AskCommand.ListJobs prefix) w t served only = refl
+rests_in ns AskCommand.ReadNamespace w t served only = refl
+rests_in ns (AskCommand.QuotaUsage quota) w t served only = by (names_quota quota t.namespace)
   where
     by : (b : Bool) → Rests w (cond b (Done (Content.Usage quota (quota_use w quota)) w) (Refused Refusal.NotFound))
     by true = refl
-    by false = tt
-rests_in ns _ w t reads = absurd reads
+    by false = refl
+rests_in ns (AskCommand.Register r) w t served only = not_both only refl
+rests_in ns _ w t served only = not_both served refl
 
-rests_ask : (ns : Name) (command : AskCommand) (w : World) → IsReadingAsk command → Rests w (ask ns command w)
+rests_ask : (ns : Name) (command : AskCommand) (w : World) → IsServedAsk command → only_reads (served_ask command) ≡ true → Rests w (ask ns command w)
 unfolding ask
-rests_ask ns command w reads = rests_found w (get w.tenants ns) (asked_in ns command w) (λ t. rests_in ns command w t reads)
+rests_ask ns command w served only = rests_found w (get w.tenants ns) (asked_in ns command w) (λ t. rests_in ns command w t served only)
 
-rests_records : (secret : Option Name) (command : AdminCommand) (s : State) → IsReadingRecords command → Rests s (administer secret command s)
+rests_records : (secret : Option Name) (command : AdminCommand) (s : State) → only_reads (served_admin command) ≡ true → Rests s (administer secret command s)
 unfolding administer
-rests_records secret AdminCommand.ListNamespaces s reads = refl
-rests_records secret AdminCommand.ListQuotas s reads = refl
-rests_records secret (AdminCommand.ReadQuota name) s reads =
+rests_records secret AdminCommand.ListNamespaces s only = refl
+rests_records secret AdminCommand.ListQuotas s only = refl
+rests_records secret (AdminCommand.ReadQuota name) s only =
     rests_lift (with_world s.acl) s.world (read_quota name s.world) (rests_found s.world (get s.world.quotas name) _ (λ q. refl))
-rests_records secret AdminCommand.ListPools s reads = refl
-rests_records secret (AdminCommand.ReadPolicy name) s reads =
+rests_records secret AdminCommand.ListPools s only = refl
+rests_records secret (AdminCommand.ReadPolicy name) s only =
     rests_lift (with_acl s.world) s.acl (read_policy name s.acl) (rests_found s.acl (get s.acl.policies name) _ (λ policy. refl))
-rests_records secret _ s reads = absurd reads
+rests_records secret _ s only = not_both only refl
 
-rests_by : (step : Step) (s : State) → IsReading step → Rests s (act step s)
+pub rests_by : (step : Step) (s : State) → IsServed step → is_reading step ≡ true → Rests s (act step s)
 unfolding act ask_pool
-rests_by (Step.Ask ns secret command) s reads = rests_lift (with_world s.acl) s.world (ask ns command s.world) (rests_ask ns command s.world reads)
-rests_by (Step.Admin secret command) s reads = rests_records secret command s reads
-rests_by (Step.Node pool secret NodeCommand.ReadPool) s reads = rests_lift (with_world s.acl) s.world (ask_pool pool NodeCommand.ReadPool s.world)
+rests_by (Step.Ask ns secret command) s served only = rests_lift (with_world s.acl) s.world (ask ns command s.world) (rests_ask ns command s.world served only)
+rests_by (Step.Admin secret command) s served only = rests_records secret command s only
+rests_by (Step.Node pool secret NodeCommand.ReadPool) s served only = rests_lift (with_world s.acl) s.world (ask_pool pool NodeCommand.ReadPool s.world)
     (rests_found s.world (get s.world.pools pool) _ (λ p. refl))
-rests_by _ s reads = absurd reads
+rests_by _ s served only = not_both served refl
 
 rests_concluded : (step : Step) (s : State) (o : Outcome State) (answer : Answer) (s' : State) → Rests s o → concluded step s o ≡ said answer s' → s' ≡ s
 rests_concluded step s NotEnabled answer s' h e = not_both refl (sym (ap is_some e))
@@ -213,10 +221,10 @@ rests_concluded step s (Done content x) answer s' h e = by (is_past_bound (settl
     by false e = sym (ap (λ x. x.1) (same_Some _ _ e)) ∙ same
 
 -- a read leaves the state as it is, whatever it answers
-pub reading_rests : (step : Step) (s s' : State) (answer : Answer) → IsReading step → after step s ≡ said answer s' → s' ≡ s
+pub reading_rests : (step : Step) (s s' : State) (answer : Answer) → IsServed step → is_reading step ≡ true → after step s ≡ said answer s' → s' ≡ s
 unfolding after
-reading_rests step s s' answer reads e = by (is_allowed step s.acl) e
+reading_rests step s s' answer served only e = by (is_allowed step s.acl) e
   where
     by : (b : Bool) → cond b (concluded step s (act step s)) (said (Err Refusal.Denied) s) ≡ said answer s' → s' ≡ s
-    by true e = rests_concluded step s (act step s) answer s' (rests_by step s reads) e
+    by true e = rests_concluded step s (act step s) answer s' (rests_by step s served only) e
     by false e = sym (ap (λ x. x.1) (same_Some _ _ e))

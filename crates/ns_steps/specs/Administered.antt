@@ -29,6 +29,11 @@ abbrev pub relimited_state : State → Name → Quota → State
 relimited_state s name quota = record s
     { world = record s.world { quotas = insert s.world.quotas name (relimited s.world name quota) } }
 
+-- the state after a put that answered so
+abbrev pub state_put : Result Content Refusal → State → Name → Quota → State
+state_put (Ok content) s name quota = relimited_state s name quota
+state_put (Err refusal) s name quota = s
+
 -- all other steps of administrators release nothing
 abbrev pub IsCalm : AdminCommand → Type 0
 IsCalm (AdminCommand.PutQuota name quota) = ⊥

@@ -4,3 +4,4 @@ pub mod Early
 pub mod Administered
 pub mod Laws
 pub mod Served
+pub mod Answers

@@ -1,23 +1,19 @@
 -- The world as a registration leaves it, once the step has settled, and when a registration is refused.
-use Rattle.std.specs.Prelude.{
-    ◌≡◌, ℕ, ◌+◌, Bool, true, false, not, ◌&&◌, if◌then◌else◌, List, [], ◌∷◌, ◌++◌, Option, Some, None, map, nat_le
-}
+use Rattle.std.specs.Prelude.{ℕ, ◌+◌, Bool, true, not, ◌&&◌, ◌||◌, if◌then◌else◌, List, [], ◌∷◌, ◌++◌, Option, Some}
+use Rattle.std.specs.Prelude.{None, map, nat_lt}
 use Rattle.std.specs.Option.{option_map_or}
-use Rattle.std.specs.FinMap.{get, insert, contains_key, len}
+use Rattle.std.specs.FinMap.{get, insert}
 use Rattle.ns_types.specs.declared.evaluation.Evaluation.{Evaluation}
 use Rattle.ns_types.specs.declared.evaluation.Trigger.TheVariants as Trigger
 use Rattle.ns_types.specs.declared.event.Event.{Event}
 use Rattle.ns_types.specs.declared.event.Topic.{Topic}
-use Rattle.ns_types.specs.declared.event.Topic.TheVariants as Topic
 use Rattle.ns_types.specs.declared.job.Document.{Document}
 use Rattle.ns_types.specs.declared.job.Job.{Job}
 use Rattle.ns_types.specs.declared.job.Registration.{Registration}
-use Rattle.ns_types.specs.declared.refusal.Member.TheVariants as Member
 use Rattle.ns_types.specs.declared.refusal.Refusal.{Refusal}
-use Rattle.ns_types.specs.declared.refusal.Refusal.TheVariants as Refusal
 use Rattle.ns_types.specs.declared.reply.Content.TheVariants as Content
 use Rattle.ns_types.specs.declared.reply.Reply.{Reply}
-use Rattle.ns_types.specs.Asking.Asks.{document_of, meets, most_jobs, pool_of, registered_job}
+use Rattle.ns_types.specs.Asking.Asks.{document_of, first_refusal, registered_job}
 use Rattle.ns_types.specs.State.Lists.{last}
 use Rattle.ns_types.specs.Settling.Making.{evaluation_of}
 use Rattle.ns_types.specs.State.Names.{Name}
@@ -25,7 +21,7 @@ use Rattle.ns_types.specs.Working.Queue.{is_busy}
 use Rattle.ns_types.specs.Access.Rights.{rights_of}
 use Rattle.ns_types.specs.State.Rows.{State, World, Tenant}
 use Rattle.ns_types.specs.Settling.Same.{same_document}
-use Rattle.ns_types.specs.Access.Sharing.{permits}
+use Rattle.ns_types.specs.Steps.{greatest}
 
 -- ---- what it makes
 
@@ -82,42 +78,20 @@ registered_state ns r s t = record s { world = registered_world ns r s.world t }
 
 -- the numbers of the evaluation, of the step's index, and of the index at which the job was last changed
 abbrev pub registered_reply : Registration → Tenant → Reply
-registered_reply r t = record { index = Some (next_index t); content =
-    Content.Registered (next_number t) (next_index t) (job_of r t).modify_index }
+registered_reply r t = record {
+  index = Some (next_index t);
+  content = Content.Registered (next_number t) (next_index t) (job_of r t).modify_index;
+}
 
 -- ---- when it is refused
 
--- the demanded index is not the job's
-abbrev pub is_outdated : Registration → Tenant → Bool
-is_outdated r t = option_map_or (λ index. not (meets (get t.jobs r.id) index)) r.enforced false
+-- what refuses it first, if anything does: that the secret may not register there, that there is no such namespace,
+-- or what the namespace tests. That a counter would pass its bound comes after all of it
+abbrev pub registration_refusal : State → Name → Option Name → Registration → Option Refusal
+registration_refusal s ns secret r =
+    if not (rights_of s.acl secret ns).submit_job then Some Refusal.Denied
+    else option_map_or (λ t. first_refusal s.world t r) (get s.world.tenants ns) (Some Refusal.NotFound)
 
--- the job is new, and the namespace has a thousand already
-abbrev pub has_no_room : Registration → Tenant → Bool
-has_no_room r t = not (contains_key t.jobs r.id) && nat_le most_jobs (len t.jobs)
-
--- no test refuses it, but for that of the counters, which comes last
-pub record IsRegistrable (s : State) (ns : Name) (secret : Option Name) (r : Registration) (t : Tenant) : Type 0 where
-  pub allowed : (rights_of s.acl secret ns).submit_job ≡ true
-  pub tenant : get s.world.tenants ns ≡ Some t
-  pub permitted : permits t.namespace (pool_of t r) ≡ true
-  pub pool : contains_key s.world.pools (pool_of t r) ≡ true
-  pub current : is_outdated r t ≡ false
-  pub room : has_no_room r t ≡ false
-
--- why a registration is refused: each reason where none before it holds. A counter that would pass its bound comes
--- after them
-pub data Refuses (s : State) (ns : Name) (secret : Option Name) (r : Registration) : Refusal → Type 0 where
-  denied : (rights_of s.acl secret ns).submit_job ≡ false → Refuses s ns secret r Refusal.Denied
-  nowhere : (rights_of s.acl secret ns).submit_job ≡ true → get s.world.tenants ns ≡ None →
-      Refuses s ns secret r Refusal.NotFound
-  not_permitted : (t : Tenant) → (rights_of s.acl secret ns).submit_job ≡ true → get s.world.tenants ns ≡ Some t
-      → permits t.namespace (pool_of t r) ≡ false → Refuses s ns secret r Refusal.PoolNotPermitted
-  no_pool : (t : Tenant) → (rights_of s.acl secret ns).submit_job ≡ true → get s.world.tenants ns ≡ Some t
-      → permits t.namespace (pool_of t r) ≡ true → contains_key s.world.pools (pool_of t r) ≡ false →
-          Refuses s ns secret r (Refusal.BadField Member.NodePool)
-  outdated : (t : Tenant) → (rights_of s.acl secret ns).submit_job ≡ true → get s.world.tenants ns ≡ Some t
-      → permits t.namespace (pool_of t r) ≡ true → contains_key s.world.pools (pool_of t r) ≡ true →
-          is_outdated r t ≡ true → Refuses s ns secret r Refusal.Conflict
-  no_room : (t : Tenant) → (rights_of s.acl secret ns).submit_job ≡ true → get s.world.tenants ns ≡ Some t
-      → permits t.namespace (pool_of t r) ≡ true → contains_key s.world.pools (pool_of t r) ≡ true →
-          is_outdated r t ≡ false → has_no_room r t ≡ true → Refuses s ns secret r Refusal.Full
+-- a counter of the namespace would pass its bound
+abbrev pub passes_bound : Tenant → Bool
+passes_bound t = nat_lt greatest (next_index t) || nat_lt greatest (next_number t)

@@ -1,68 +1,69 @@
--- The steps that are served so far, and those among them that only read.
+-- The steps that are served so far: one table, of what the reply to each of them holds.
+use Rattle.std.specs.Prelude.{Bool, false, not, Option, Some, None, IsSome, IsSomeAnd}
+use Rattle.std.specs.Option.{option_map_or}
 use Rattle.ns_types.specs.declared.reply.Content.{Content}
 use Rattle.ns_types.specs.declared.step.AdminCommand.{AdminCommand}
-use Rattle.ns_types.specs.declared.step.AdminCommand.TheVariants as AdminCommand
 use Rattle.ns_types.specs.declared.step.AskCommand.{AskCommand}
-use Rattle.ns_types.specs.declared.step.AskCommand.TheVariants as AskCommand
 use Rattle.ns_types.specs.declared.step.NodeCommand.{NodeCommand}
-use Rattle.ns_types.specs.declared.step.NodeCommand.TheVariants as NodeCommand
 use Rattle.ns_types.specs.declared.step.Step.{Step}
-use Rattle.ns_types.specs.declared.step.Step.TheVariants as Step
-use Rattle.ns_steps.specs.Told.{IsJob, IsJobs, IsNamespace, IsPool, IsRegistered, IsToldOf, IsUsage}
+use Rattle.ns_steps.specs.Told.{Shape, Holds, is_of_write}
+
+-- ---- the table: none for a command that is not served
+
+abbrev pub served_ask : AskCommand → Option Shape
+served_ask (AskCommand.Register r) = Some Shape.Registered
+served_ask (AskCommand.ReadJob id) = Some Shape.Job
+served_ask (AskCommand.ListJobs prefix) = Some Shape.Jobs
+served_ask AskCommand.ReadNamespace = Some Shape.Namespace
+served_ask (AskCommand.QuotaUsage quota) = Some Shape.Usage
+served_ask _ = None
+
+abbrev pub served_admin : AdminCommand → Option Shape
+served_admin AdminCommand.ListNamespaces = Some Shape.Namespaces
+served_admin (AdminCommand.PutNamespace name namespace) = Some Shape.Written
+served_admin (AdminCommand.DeleteNamespace name) = Some Shape.Written
+served_admin AdminCommand.ListQuotas = Some Shape.Quotas
+served_admin (AdminCommand.ReadQuota name) = Some Shape.Quota
+served_admin (AdminCommand.PutQuota name quota) = Some Shape.Written
+served_admin (AdminCommand.DeleteQuota name) = Some Shape.Written
+served_admin AdminCommand.ListPools = Some Shape.Pools
+served_admin (AdminCommand.PutPool name pool) = Some Shape.Written
+served_admin (AdminCommand.DeletePool name) = Some Shape.Written
+served_admin (AdminCommand.ReadPolicy name) = Some Shape.Policy
+served_admin (AdminCommand.PutPolicy name policy) = Some Shape.Written
+served_admin (AdminCommand.DeletePolicy name) = Some Shape.Written
+served_admin (AdminCommand.CreateToken new) = Some (Shape.TokenOf new)
+served_admin (AdminCommand.DeleteToken accessor) = Some Shape.Written
+
+abbrev pub served_node : NodeCommand → Option Shape
+served_node NodeCommand.ReadPool = Some Shape.Pool
+served_node _ = None
+
+abbrev pub served : Step → Option Shape
+served (Step.Ask ns secret command) = served_ask command
+served (Step.Admin secret command) = served_admin command
+served (Step.Node pool secret command) = served_node command
+served _ = None
+
+-- ---- what follows from it
 
 abbrev pub IsServedAsk : AskCommand → Type 0
-IsServedAsk (AskCommand.Register r) = Unit {0}
-IsServedAsk (AskCommand.ReadJob id) = Unit {0}
-IsServedAsk (AskCommand.ListJobs prefix) = Unit {0}
-IsServedAsk AskCommand.ReadNamespace = Unit {0}
-IsServedAsk (AskCommand.QuotaUsage quota) = Unit {0}
-IsServedAsk _ = ⊥
+IsServedAsk command = IsSome (served_ask command)
 
-abbrev pub IsServedTelling : NodeCommand → Type 0
-IsServedTelling NodeCommand.ReadPool = Unit {0}
-IsServedTelling _ = ⊥
+abbrev pub IsServedNode : NodeCommand → Type 0
+IsServedNode command = IsSome (served_node command)
 
 abbrev pub IsServed : Step → Type 0
-IsServed (Step.Ask ns secret command) = IsServedAsk command
-IsServed (Step.Admin secret command) = Unit {0}
-IsServed (Step.Node pool secret command) = IsServedTelling command
-IsServed _ = ⊥
+IsServed step = IsSome (served step)
 
--- ---- reads
+-- of a line of the table: its command only reads
+abbrev pub only_reads : Option Shape → Bool
+only_reads line = not (option_map_or is_of_write line false)
 
-abbrev pub IsReadingAsk : AskCommand → Type 0
-IsReadingAsk (AskCommand.ReadJob id) = Unit {0}
-IsReadingAsk (AskCommand.ListJobs prefix) = Unit {0}
-IsReadingAsk AskCommand.ReadNamespace = Unit {0}
-IsReadingAsk (AskCommand.QuotaUsage quota) = Unit {0}
-IsReadingAsk _ = ⊥
+-- of the steps that are served
+abbrev pub is_reading : Step → Bool
+is_reading step = only_reads (served step)
 
-abbrev pub IsReadingRecords : AdminCommand → Type 0
-IsReadingRecords AdminCommand.ListNamespaces = Unit {0}
-IsReadingRecords AdminCommand.ListQuotas = Unit {0}
-IsReadingRecords (AdminCommand.ReadQuota name) = Unit {0}
-IsReadingRecords AdminCommand.ListPools = Unit {0}
-IsReadingRecords (AdminCommand.ReadPolicy name) = Unit {0}
-IsReadingRecords _ = ⊥
-
-abbrev pub IsReading : Step → Type 0
-IsReading (Step.Ask ns secret command) = IsReadingAsk command
-IsReading (Step.Admin secret command) = IsReadingRecords command
-IsReading (Step.Node pool secret command) = IsServedTelling command
-IsReading _ = ⊥
-
--- ---- what is told
-
-abbrev pub IsToldAsk : AskCommand → Content → Type 0
-IsToldAsk (AskCommand.Register r) content = IsRegistered content
-IsToldAsk (AskCommand.ReadJob id) content = IsJob content
-IsToldAsk (AskCommand.ListJobs prefix) content = IsJobs content
-IsToldAsk AskCommand.ReadNamespace content = IsNamespace content
-IsToldAsk (AskCommand.QuotaUsage quota) content = IsUsage content
-IsToldAsk _ content = ⊥
-
+-- its reply holds this
 abbrev pub IsToldBy : Step → Content → Type 0
-IsToldBy (Step.Ask ns secret command) content = IsToldAsk command content
-IsToldBy (Step.Admin secret command) content = IsToldOf command content
-IsToldBy (Step.Node pool secret command) content = IsPool content
-IsToldBy _ content = ⊥
+IsToldBy step content = IsSomeAnd (served step) (λ shape. Holds shape content)

@@ -1,6 +1,6 @@
 //! Laws of a registration, of a read, and of administrators' steps, each the contract of a function that does nothing.
 
-ghost use Rattle.ns_steps.specs.Laws.{AdministrationMakes, QuotaPutIs, ReadingRests, RegistrationIs, RegistrationRefused, RegistrationReleasesNothing, ServedDecides, ServedTells};
+ghost use Rattle.ns_steps.specs.Laws.{AdministrationMakes, QuotaPutMakes, ReadingMakes, ReadingRests, RegistrationIs, RegistrationRefused, RegistrationReleasesNothing, ServedDecides, ServedTells};
 
 /// A registration releases no class of a pool and no quota, and wakes no blocked evaluation.
 pub fn registration_releases_nothing()
@@ -22,6 +22,11 @@ pub fn reading_rests()
     ensures { ReadingRests }
 {}
 
+/// A read answers what its change says, and want of memory only where that is no refusal.
+pub fn reading_makes()
+    ensures { ReadingMakes }
+{}
+
 /// A registration that some test refuses is answered with the refusal of the first such test, and changes nothing.
 pub fn registration_refused()
     ensures { RegistrationRefused }
@@ -37,7 +42,7 @@ pub fn administration_makes()
     ensures { AdministrationMakes }
 {}
 
-/// A put of a quota leaves the quota, with one more release where its limits are others.
-pub fn quota_put_is()
-    ensures { QuotaPutIs }
+/// A put of a quota answers what its change says, and leaves the quota with one more release where its limits are others.
+pub fn quota_put_makes()
+    ensures { QuotaPutMakes }
 {}

@@ -1,8 +1,6 @@
 -- The text of an id stands for its number.
-use Rattle.std.proofs.Common.{
-    ◌≡◌, ℕ, zero, suc, ◌+◌, ◌*◌, ◌/◌, ◌%◌, ◌^◌, ◌<◌, List, length, All, Option, Some, None, option_map, refl, sym, ap,
-    ◌∙◌, arith, inl, ◌≢◌, Ok, Err, true≢false
-}
+use Rattle.std.proofs.Common.{◌≡◌, ℕ, zero, suc, ◌+◌, ◌*◌, ◌/◌, ◌%◌, ◌^◌, ◌<◌, List, length, All, Option, Some, None, option_map, refl, sym, ap, ◌∙◌, arith}
+use Rattle.std.proofs.Common.{inl, ◌≢◌, Ok, Err, true≢false}
 use Rattle.std.specs.Int.{w128, byte_at, bytes_high_first, to_be_bytes, from_be_bytes}
 use Rattle.std.specs.List.{AllByRecursion}
 use Rattle.std.specs.Bool.{then_some}
@@ -40,7 +38,7 @@ pub id_text-number : (kind : IdKind) (n : ℕ) → n < 2 ^ 64 → uuid_number (i
 id_text-number kind n h =
     let bytes = to_be_bytes w128 (id_number kind n) in
     let read : Some bytes ≡ parsed (hyphenated_text lower bytes) =
-        parses_hyphenated lower bytes (inl refl) (length-bytes 16 (id_number kind n)) (bytes-below 16 (id_number kind n)) in
+    parses_hyphenated lower bytes (inl refl) (length-bytes 16 (id_number kind n)) (bytes-below 16 (id_number kind n)) in
     rw (← read) (ap Some (from_be_bytes-to_be_bytes_16 (id_number kind n) (id_number-below kind n h)))
 
 pub kind-back : (kind : IdKind) (n : ℕ) → n < 2 ^ 64 → (id_number kind n / 2 ^ 64 ≡ kind_number kind) × (id_number kind n % 2 ^ 64 ≡ n)

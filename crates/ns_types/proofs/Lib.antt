@@ -1,5 +1,11 @@
+pub mod Alike
+pub mod Elements
 pub mod Ids
 pub mod Lists
 pub mod Named
 pub mod ReadingLemmas
+pub mod Registrations
+pub mod Settling
+pub mod TableRows
 pub mod Tables
+pub mod Tests

@@ -11,10 +11,6 @@ cond_same false x = refl
 pub not_both : {A : Type 0} {b : Bool} → b ≡ true → b ≡ false → A
 not_both t f = absurd (subst T (sym t ∙ f) tt)
 
-pub any_false : {A : Type 0} (xs : List A) → list_any (λ _. false) xs ≡ false
-any_false [] = refl
-any_false (x ∷ xs) = any_false xs
-
 pub left_none : (a b : Bool) → (a || b) ≡ false → a ≡ false
 left_none true b e = absurd (subst T e tt)
 left_none false b e = refl
@@ -28,9 +24,9 @@ module _ {A : Type 0} where
   filter-append p [] ys = refl
   filter-append p (x ∷ xs) ys = elim (p x) as (λ b. cond b (x ∷ filter p (xs ++ ys)) (filter p (xs ++ ys)) ≡ cond b (x ∷ filter p xs) (filter p xs) ++
       filter p ys) [
-    | true ↦ ap (λ r. x ∷ r) (filter-append p xs ys)
-    | false ↦ filter-append p xs ys
-  ]
+        | true ↦ ap (λ r. x ∷ r) (filter-append p xs ys)
+        | false ↦ filter-append p xs ys
+      ]
 
   -- the choice and a filter can be made in either order, if the filters agree on what is chosen
   pub filter_chosen : (p f g : A → Bool) (xs : List A) → Each (λ x. p x ≡ true → f x ≡ g x) xs → filter p (filter f xs) ≡ filter g (filter p xs)
@@ -63,10 +59,6 @@ module _ {A : Type 0} where
   any_alike f g [] h = refl
   any_alike f g (x ∷ xs) h = λ i. h.0 i || any_alike f g xs h.1 i
 
-  pub filter_alike : (f g : A → Bool) (xs : List A) → Each (λ x. f x ≡ g x) xs → filter f xs ≡ filter g xs
-  filter_alike f g [] h = refl
-  filter_alike f g (x ∷ xs) h = λ i. cond (h.0 i) (x ∷ filter_alike f g xs h.1 i) (filter_alike f g xs h.1 i)
-
   pub filter_none : (f : A → Bool) (xs : List A) → Each (λ x. f x ≡ false) xs → filter f xs ≡ []
   filter_none f [] h = refl
   filter_none f (x ∷ xs) h = ap (λ b. cond b (x ∷ filter f xs) (filter f xs)) h.0 ∙ filter_none f xs h.1
@@ -90,7 +82,7 @@ module _ {A : Type 0} where
   fold_chosen alone f p h (x ∷ xs) s = fold_chosen alone f p h xs (f s x)
       ∙ ap (λ r. fold f r (filter p xs)) (h s x)
       ∙ elim (p x) as (λ b. fold f (cond b (f (alone s) x) (alone s)) (filter p xs) ≡ fold f (alone s) (cond b (x ∷ filter p xs) (filter p xs)))
-          [ true ↦ refl | false ↦ refl ]
+      [ true ↦ refl | false ↦ refl ]
 
   -- a filter that only chosen items pass
   pub filter_inside : (p f : A → Bool) (xs : List A) → Each (λ x. p x ≡ false → f x ≡ false) xs → filter f xs ≡ filter f (filter p xs)
@@ -124,7 +116,7 @@ pub filter_flat_map : {A B : Type 0} (p : A → Bool) (q : B → Bool) (f : A �
 filter_flat_map p q f [] h = refl
 filter_flat_map p q f (x ∷ xs) h =
     filter-append q (f x) (flat_map f xs) ∙ (elim (p x) as
-        (λ b. p x ≡ b → filter q (f x) ++ filter q (flat_map f xs) ≡ flat_map f (cond b (x ∷ filter p xs) (filter p xs))) [
+    (λ b. p x ≡ b → filter q (f x) ++ filter q (flat_map f xs) ≡ flat_map f (cond b (x ∷ filter p xs) (filter p xs))) [
       | true ↦ λ t i. h.0.0 t i ++ filter_flat_map p q f xs h.1 i
       | false ↦ λ t. (λ i. h.0.1 t i ++ filter_flat_map p q f xs h.1 i)
     ] refl)

@@ -1,8 +1,6 @@
 -- A byte string has one reading, but for the two freedoms.
-use Rattle.std.proofs.Common.{
-    take-add, ◌≡◌, ℕ, ◌+◌, ◌-◌, ◌<◌, ◌⊎◌, inl, inr, Bool, true, false, List, [], ◌∷◌, ◌++◌, map, length, take, drop,
-    sym, refl, ap, ◌∙◌, subst, append_assoc, arith
-}
+use Rattle.std.proofs.Common.{take-add, ◌≡◌, ℕ, ◌+◌, ◌-◌, ◌<◌, ◌⊎◌, inl, inr, Bool, true, false, List, [], ◌∷◌, ◌++◌, map, length, take, drop, sym, refl, ap}
+use Rattle.std.proofs.Common.{◌∙◌, subst, append_assoc, arith}
 use Rattle.std.specs.Prelude.{Ok, MatchBool}
 use Rattle.std.proofs.lemmas.Bool.{false≢true}
 use Rattle.std.proofs.lemmas.List.{append-nil, length-append, take_at, drop_at, take-append-le}
@@ -10,11 +8,9 @@ use Rattle.httparse.specs.Grammar.{RequestHead, IsRequestHead, print_request, Re
 use Rattle.httparse.specs.Spans.{RequestOverflows, name_and_value}
 use Rattle.httparse.proofs.GrammarLemmas.{request_unique}
 use Rattle.ns_types.specs.declared.reply.HeadFault.{HeadFault}
-use Rattle.ns_types.specs.Wire.Http.{
-    IsHead, Message, print_message, IsMessage, closes, body_len, RefusesHead, malformed, framing, too_long, too_many,
-    IsPartial, in_head, in_body, Received, Whole, Refused, Takes, End, Clean, Partial, Closed, is_closed, IsRest,
-    IsFaultyAndOver, faulty_long, faulty_many, ReadAlike
-}
+use Rattle.ns_types.specs.Wire.Http.{IsHead, Message, print_message, IsMessage, closes, body_len, RefusesHead, malformed, framing, too_long, too_many}
+use Rattle.ns_types.specs.Wire.Http.{IsPartial, in_head, in_body, Received, Whole, Refused, Takes, End, Clean, Partial, Closed, is_closed, IsRest}
+use Rattle.ns_types.specs.Wire.Http.{IsFaultyAndOver, faulty_long, faulty_many, ReadAlike}
 
 -- a head takes some bytes
 length-print_request : (h : RequestHead) → IsRequestHead h → 0 < length (print_request h)
@@ -156,7 +152,7 @@ one_reading (Whole m ∷ xs) (Whole n ∷ ys) bytes e f r q t i u j =
     let same = whole_unique bytes m n t.1 u.1 t.0 u.0 t.2 u.2 in
     let there : MatchBool (closes m) ((ys ≡ []) × (is_closed f ≡ true) × (t.1 ≡ q)) (Takes t.1 ys (is_closed f) q) =
     subst (λ k. MatchBool (closes k) ((ys ≡ []) × (is_closed f ≡ true) × (t.1 ≡ q)) (Takes t.1 ys (is_closed f) q)) (sym same.0)
-        (subst (λ l. MatchBool (closes n) ((ys ≡ []) × (is_closed f ≡ true) × (l ≡ q)) (Takes l ys (is_closed f) q)) (sym same.1) u.3) in
+    (subst (λ l. MatchBool (closes n) ((ys ≡ []) × (is_closed f ≡ true) × (l ≡ q)) (Takes l ys (is_closed f) q)) (sym same.1) u.3) in
     (same.0, t.1, t.2, after_whole (closes m) t.1 xs ys e f r q t.3 there (λ x y. one_reading xs ys t.1 e f r q x i y j))
 
 -- a refusal stands whatever follows
@@ -180,6 +176,10 @@ MatchBool-map false f g x = g x
 pub Takes-closed-more : (xs : List Received) (bytes rest more : List ℕ) → Takes bytes xs true rest → Takes (bytes ++ more) xs true (rest ++ more)
 Takes-closed-more [] bytes rest more t = absurd (false≢true (sym t.0))
 Takes-closed-more (Refused a ∷ xs) bytes rest more t = (RefusesHead-more bytes more a t.0, t.1, t.2, ap (λ l. l ++ more) t.3)
-Takes-closed-more (Whole m ∷ xs) bytes rest more t =
-    (t.0, t.1 ++ more, ap (λ l. l ++ more) t.2 ∙ append_assoc (print_message m) t.1 more, MatchBool-map (closes m) (λ x. (x.0, x.1, ap (λ l. l ++ more) x.2))
-        (λ x. Takes-closed-more xs t.1 rest more x) t.3)
+Takes-closed-more (Whole m ∷ xs) bytes rest more t = (
+  t.0,
+  t.1 ++ more,
+  ap (λ l. l ++ more) t.2 ∙ append_assoc (print_message m) t.1 more,
+  MatchBool-map (closes m) (λ x. (x.0, x.1, ap (λ l. l ++ more) x.2))
+      (λ x. Takes-closed-more xs t.1 rest more x) t.3,
+)

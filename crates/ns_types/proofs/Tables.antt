@@ -1,19 +1,17 @@
 -- What the functions of `specs/Tables.antt` answer, and that they go along with a choice of keys.
-use Rattle.std.specs.Prelude.{
-    ◌≡◌, Bool, true, false, cond, not, T, List, [], ◌∷◌, map, Option, Some, None, ◌&&◌, ◌||◌, option_map, is_some,
-    filter, flat_map, unwrap_or
-}
+use Rattle.std.specs.Prelude.{◌≡◌, Bool, true, false, cond, not, T, List, [], ◌∷◌, map, Option, Some, None, ◌&&◌, ◌||◌, option_map, is_some, filter, flat_map}
+use Rattle.std.specs.Prelude.{length, unwrap_or}
 use Rattle.std.proofs.Common.{ℕ, ◌+◌, sum_by, add-zero, fold, refl, sym, ap, subst, ◌∙◌, Ordering, Less, Equal, Greater, is_eq, is_lt}
+use Rattle.std.proofs.lemmas.List.{length-map}
 use Rattle.std.specs.List.{list_any}
 use Rattle.std.specs.Ordering.{eq_by_cmp}
 use Rattle.std.specs.Cmp.{IsTotalOrder, tied_itself}
-use Rattle.std.specs.FinMap.{
-    FinMap, IsAntisymmetric, entries, entries_sorted, entries-from_sorted, same_map, get, get-entries, get-insert,
-    get-retain_keys, insert, retain_keys
-}
+use Rattle.std.specs.FinMap.{FinMap, IsAntisymmetric, empty, entries, entries_sorted, entries-from_sorted, same_map, get, get-empty, get-entries, get-insert}
+use Rattle.std.specs.FinMap.{get-remove, get-retain_keys, insert, len, len-entries, remove, retain_keys}
 use Rattle.std.specs.FinMap.Entries.{find, where_key, below_all, is_sorted, same_entries, is_sorted-where_key, find-where_key}
 use Rattle.ns_types.specs.State.Tables.{map_rows, table_of, any_row}
 use Rattle.ns_types.specs.State.Lists.{Each}
+use Rattle.ns_types.proofs.Tests.{first, not_Some, or_none, second, some_mapped}
 use Rattle.ns_types.proofs.Lists.{filter_inside, flat_map_inside, any_part, left_none, right_none}
 
 pub equal_by : (r : Ordering) → is_eq r ≡ true → r ≡ Equal
@@ -21,22 +19,10 @@ equal_by Less p = absurd (subst T (sym p) tt)
 equal_by Equal p = refl
 equal_by Greater p = absurd (subst T (sym p) tt)
 
-less_by : (r : Ordering) → T (is_lt r) → r ≡ Less
+pub less_by : (r : Ordering) → T (is_lt r) → r ≡ Less
 less_by Less p = refl
 less_by Equal p = absurd p
 less_by Greater p = absurd p
-
-first : (a b : Bool) → T (a && b) → T a
-first true b p = tt
-first false b p = p
-
-second : (a b : Bool) → T (a && b) → T b
-second true b p = p
-second false b p = absurd p
-
-both : (a b : Bool) → T a → T b → T (a && b)
-both true b p q = q
-both false b p q = p
 
 or_first : (a b c : Bool) → (a || (b || c)) ≡ ((a || b) || c)
 or_first true b c = refl
@@ -48,15 +34,8 @@ or_second true false c = refl
 or_second false true c = refl
 or_second false false c = refl
 
-or_none : (a : Bool) → (a || false) ≡ a
-or_none true = refl
-or_none false = refl
-
 changed : {K X Y : Type 0} → (K → X → Y) → List (K × X) → List (K × Y)
 changed f es = map (λ e. (e.0, f e.0 e.1)) es
-
-not_Some : {A : Type 0} (x : A) → None ≡ Some x → ⊥
-not_Some x e = subst T (sym (ap is_some e)) tt
 
 module _ {K : Type 0} {R : K → K → Ordering} (same : IsAntisymmetric R) where
   pub tied : (q k : K) → eq_by_cmp R q k ≡ true → q ≡ k
@@ -91,7 +70,7 @@ module _ {K X : Type 0} {R : K → K → Ordering} (o : IsTotalOrder R) (same : 
   find-changed f q [] = refl
   find-changed f q (e ∷ es) =
       elim (eq_by_cmp R q e.0) as (λ b. eq_by_cmp R q e.0 ≡ b →
-          cond b (Some (f e.0 e.1)) (find R q (changed f es)) ≡ option_map (f q) (cond b (Some e.1) (find R q es))) [
+      cond b (Some (f e.0 e.1)) (find R q (changed f es)) ≡ option_map (f q) (cond b (Some e.1) (find R q es))) [
         | true ↦ λ p. ap (λ k. Some (f k e.1)) (sym (tied same q e.0 p))
         | false ↦ λ p. find-changed f q es
       ] refl
@@ -112,7 +91,7 @@ module _ {K X : Type 0} {R : K → K → Ordering} (o : IsTotalOrder R) (same : 
   pub entries-retain : (m : FinMap R X) (p : K → Bool) → entries (retain_keys m p) ≡ where_key R p (entries m)
   entries-retain m p = same_entries R o same _ _ (entries_sorted (retain_keys m p)) (is_sorted-where_key R p (entries m) (entries_sorted m))
       (λ q. sym (get-entries (retain_keys m p) q) ∙ get-retain m p q ∙ ap (λ x. cond (p q) x None) (get-entries m q) ∙
-          sym (find-where_key R p q (alike same p q) (entries m)))
+      sym (find-where_key R p q (alike same p q) (entries m)))
 
   -- a choice of keys goes through an insertion: the row is chosen with its key, or it was never there
   retain_cases : (p a : Bool) (x y : Option X) → cond p (cond a x y) None ≡ cond a (cond p x None) (cond p y None)
@@ -125,7 +104,7 @@ module _ {K X : Type 0} {R : K → K → Ordering} (o : IsTotalOrder R) (same : 
   retain-insert m p k v = same_map o same _ _ (λ q.
       get-retain (insert m k v) p q ∙ ap (λ x. cond (p q) x None) (get-insert o m k v q) ∙ retain_cases (p q) (eq_by_cmp R q k) (Some v) (get m q)
       ∙ (elim (eq_by_cmp R q k) as (λ b. eq_by_cmp R q k ≡ b →
-          cond b (cond (p q) (Some v) None) (cond (p q) (get m q) None) ≡ get (cond (p k) (insert (retain_keys m p) k v) (retain_keys m p)) q) [
+      cond b (cond (p q) (Some v) None) (cond (p q) (get m q) None) ≡ get (cond (p k) (insert (retain_keys m p) k v) (retain_keys m p)) q) [
         | true ↦ λ t. ap (λ x. cond (p x) (Some v) None) (tied same q k t) ∙ at_key q t
         | false ↦ λ t. sym (get-retain m p q) ∙ elsewhere q t
       ] refl))
@@ -187,9 +166,9 @@ module _ {K X : Type 0} {R : K → K → Ordering} (o : IsTotalOrder R) (same : 
   any_chosen f g p [] h = refl
   any_chosen f g p (e ∷ es) h = elim (p e.0) as (λ b. p e.0 ≡ b →
       (f e.0 e.1 || list_any (λ e. f e.0 e.1) es) ≡ list_any (λ e. g e.0 e.1) (cond b (e ∷ where_key R p es) (where_key R p es))) [
-    | true ↦ λ t i. h.0.0 t i || any_chosen f g p es h.1 i
-    | false ↦ λ t i. (h.0.1 t ∙ refl) i || any_chosen f g p es h.1 i
-  ] refl
+        | true ↦ λ t i. h.0.0 t i || any_chosen f g p es h.1 i
+        | false ↦ λ t i. (h.0.1 t ∙ refl) i || any_chosen f g p es h.1 i
+      ] refl
 
   -- a test that no row outside the choice passes asks the chosen rows alone
   pub any_row-retain : (f g : K → X → Bool) (m : FinMap R X) (p : K → Bool)
@@ -211,9 +190,9 @@ module _ {K X : Type 0} {R : K → K → Ordering} (o : IsTotalOrder R) (same : 
   sum_chosen f p n [] h = refl
   sum_chosen f p n (e ∷ es) h = elim (p e.0) as (λ b. p e.0 ≡ b →
       fold (λ a e. a + f e) (n + f e) es ≡ fold (λ a e. a + f e) n (cond b (e ∷ where_key R p es) (where_key R p es))) [
-    | true ↦ λ t. sum_chosen f p (n + f e) es h.1
-    | false ↦ λ t. ap (λ k. fold (λ a e. a + f e) k es) (ap (λ k. n + k) (h.0 t) ∙ add-zero n) ∙ sum_chosen f p n es h.1
-  ] refl
+        | true ↦ λ t. sum_chosen f p (n + f e) es h.1
+        | false ↦ λ t. ap (λ k. fold (λ a e. a + f e) k es) (ap (λ k. n + k) (h.0 t) ∙ add-zero n) ∙ sum_chosen f p n es h.1
+      ] refl
 
   -- rows outside the choice that count nothing leave the sum to the chosen ones
   pub sum-retain : (f : K → X → ℕ) (m : FinMap R X) (p : K → Bool) → ((k : K) (x : X) → get m k ≡ Some x → p k ≡ false → f k x ≡ 0)
@@ -251,7 +230,7 @@ module _ {K X : Type 0} {R : K → K → Ordering} (o : IsTotalOrder R) (same : 
   split_any f p (e ∷ es) = ap (λ b. f e || b) (split_any f p es) ∙
       elim (p e.0) as (λ b. (f e || (list_any f (where_key R p es) || list_any f (where_key R (λ k. not (p k)) es)))
       ≡ (list_any f (cond b (e ∷ where_key R p es) (where_key R p es))
-          || list_any f (cond (not b) (e ∷ where_key R (λ k. not (p k)) es) (where_key R (λ k. not (p k)) es)))) [
+      || list_any f (cond (not b) (e ∷ where_key R (λ k. not (p k)) es) (where_key R (λ k. not (p k)) es)))) [
         | true ↦ or_first (f e) _ _
         | false ↦ or_second (f e) (list_any f (where_key R p es)) _
       ]
@@ -267,23 +246,42 @@ module _ {K X : Type 0} {R : K → K → Ordering} (o : IsTotalOrder R) (same : 
   pub insert_same : (m : FinMap R X) (k : K) (v : X) → get m k ≡ Some v → insert m k v ≡ m
   insert_same m k v is = same_map o same _ _ (λ q. get-insert o m k v q ∙
       elim (eq_by_cmp R q k) as (λ b. eq_by_cmp R q k ≡ b → cond b (Some v) (get m q) ≡ get m q) [
-    | true ↦ λ t. sym is ∙ ap (get m) (sym (tied same q k t))
-    | false ↦ λ _. refl
-  ] refl)
+        | true ↦ λ t. sym is ∙ ap (get m) (sym (tied same q k t))
+        | false ↦ λ _. refl
+      ] refl)
 
 -- ---- tables made of other tables
 
 module _ {K X Y : Type 0} {R : K → K → Ordering} (o : IsTotalOrder R) (same : IsAntisymmetric R) where
-  -- where the rows are made otherwise at one key alone, the table has a new row there
-  pub table_of-at : (f g : K → X → Y) (m : FinMap R X) (k : K) (x : X) → get m k ≡ Some x → ((q : K) (y : X) → eq_by_cmp R q k ≡ false → g q y ≡ f q y) →
-      table_of g m ≡ insert (table_of f m) k (g k x)
-  table_of-at f g m k x is elsewhere = same_map o same _ _
-      (λ q. get-table_of o same g m q ∙ (elim (eq_by_cmp R q k) as
-      (λ b. eq_by_cmp R q k ≡ b → option_map (g q) (get m q) ≡ cond b (Some (g k x)) (get (table_of f m) q)) [
-    | true ↦ λ t. ap (λ j. option_map (g j) (get m j)) (tied same q k t) ∙ ap (option_map (g k)) is
-    | false ↦ λ t. (elim (get m q) as (λ y. option_map (g q) y ≡ option_map (f q) y) [ Some y ↦ ap Some (elsewhere q y t) | None ↦ refl ]) ∙
-        sym (get-table_of o same f m q)
-  ] refl) ∙ sym (get-insert o (table_of f m) k (g k x) q))
+  -- a row put into the one table is put into the other
+  pub table_of-insert : (f : K → X → Y) (m : FinMap R X) (k : K) (v : X) → table_of f (insert m k v) ≡ insert (table_of f m) k (f k v)
+  table_of-insert f m k v = same_map o same _ _ (λ q.
+      get-table_of o same f (insert m k v) q ∙ ap (option_map (f q)) (get-insert o m k v q)
+      ∙ (elim (eq_by_cmp R q k) as (λ b. eq_by_cmp R q k ≡ b → option_map (f q) (cond b (Some v) (get m q)) ≡ cond b (Some (f k v)) (get (table_of f m) q)) [
+        | true ↦ λ t. ap (λ j. Some (f j v)) (tied same q k t)
+        | false ↦ λ _. sym (get-table_of o same f m q)
+      ] refl)
+      ∙ sym (get-insert o (table_of f m) k (f k v) q))
+
+  pub table_of-remove : (f : K → X → Y) (m : FinMap R X) (k : K) → table_of f (remove m k) ≡ remove (table_of f m) k
+  table_of-remove f m k = same_map o same _ _ (λ q.
+      get-table_of o same f (remove m k) q ∙ ap (option_map (f q)) (get-remove o m k q) ∙ either q (eq_by_cmp R q k) (get m q)
+      ∙ ap (cond (eq_by_cmp R q k) None) (sym (get-table_of o same f m q)) ∙ sym (get-remove o (table_of f m) k q))
+    where
+      either : (q : K) (b : Bool) (x : Option X) → option_map (f q) (cond b None x) ≡ cond b None (option_map (f q) x)
+      either q true x = refl
+      either q false x = refl
+
+  pub table_of-empty : (f : K → X → Y) → table_of f (empty {R = R}) ≡ empty {R = R}
+  table_of-empty f = same_map o same _ _ (λ q. get-table_of o same f empty q ∙ ap (option_map (f q)) (get-empty R q) ∙ sym (get-empty R q))
+
+  -- the keys are the same
+  pub get_mapped : (f : K → X → Y) (m : FinMap R X) (q : K) → is_some (get (table_of f m) q) ≡ is_some (get m q)
+  get_mapped f m q = ap is_some (get-table_of o same f m q) ∙ some_mapped (f q) (get m q)
+
+module _ {K X Y : Type 0} {R : K → K → Ordering} (f : K → X → Y) where
+  pub len-table_of : (m : FinMap R X) → len (table_of f m) ≡ len m
+  len-table_of m = len-entries _ ∙ ap length (entries-table_of f m) ∙ length-map (entries m) _ ∙ sym (len-entries m)
 
 -- what no row does, the row at a key does not
 module _ {K X : Type 0} {R : K → K → Ordering} (same : IsAntisymmetric R) where

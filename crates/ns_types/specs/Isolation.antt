@@ -6,9 +6,7 @@ use Rattle.ns_types.specs.declared.records.Namespace.{Namespace}
 use Rattle.ns_types.specs.declared.records.Pool.{Pool}
 use Rattle.ns_types.specs.declared.records.Quota.{Quota}
 use Rattle.ns_types.specs.declared.step.NodeCommand.{NodeCommand}
-use Rattle.ns_types.specs.declared.step.NodeCommand.TheVariants as NodeCommand
 use Rattle.ns_types.specs.declared.step.Step.{Step}
-use Rattle.ns_types.specs.declared.step.Step.TheVariants as Step
 use Rattle.ns_types.specs.State.Names.{Name, same_name}
 use Rattle.ns_types.specs.Access.Rights.{rights_of, pool_rights_of, has_any}
 use Rattle.ns_types.specs.State.Rows.{State, World}
@@ -82,7 +80,7 @@ abbrev pub concerns : Name → NodeCommand → Bool
 concerns ns (NodeCommand.Report name report) = same_name ns report.namespace
 concerns ns _ = true
 
--- asked in the namespace with a right there in the first state, told of a pool of it, or made by a worker for it
+-- asked in the namespace with a right there in the first state, asked of a pool of it, or made by a worker for it
 unfoldable pub is_own : Name → State → Step → Bool
 is_own ns s0 (Step.Ask asked secret command) = same_name ns asked && has_any (rights_of s0.acl secret ns)
 is_own ns s0 (Step.Admin secret command) = false
@@ -116,6 +114,6 @@ abbrev pub IsIsolated : Name → State → List Step → List Answer → State �
 IsIsolated ns s [] [] s' = (is_unshared s.world ns ≡ true) × (s' ≡ s)
 IsIsolated ns s (step ∷ steps) (answer ∷ answers) s' =
     (mid : State) × (is_unshared s.world ns ≡ true) × (after step s ≡ said answer mid) × Keeps ns step s mid ×
-        IsIsolated ns mid steps answers s'
+    IsIsolated ns mid steps answers s'
 IsIsolated ns s [] (answer ∷ answers) s' = ⊥
 IsIsolated ns s (step ∷ steps) [] s' = ⊥

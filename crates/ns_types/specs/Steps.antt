@@ -1,15 +1,12 @@
 -- One step of the server, and a run of them.
-use Rattle.std.specs.Prelude.{
-    ◌≡◌, ℕ, ◌-◌, ◌^◌, Bool, true, ◌||◌, if◌then◌else◌, List, [], ◌∷◌, Option, Some, None, nat_lt, option_map
-}
+use Rattle.std.specs.Prelude.{◌≡◌, ℕ, ◌-◌, ◌^◌, Bool, true, false, ◌||◌, if◌then◌else◌, List, [], ◌∷◌, Option, Some}
+use Rattle.std.specs.Prelude.{None, nat_lt, option_map}
 use Rattle.std.specs.FinMap.{get, insert, empty}
 use Rattle.ns_types.specs.declared.acl.TokenKind.TheVariants as TokenKind
 use Rattle.ns_types.specs.declared.refusal.Refusal.{Refusal}
-use Rattle.ns_types.specs.declared.refusal.Refusal.TheVariants as Refusal
 use Rattle.ns_types.specs.declared.reply.Content.{Content}
 use Rattle.ns_types.specs.declared.reply.Reply.{Reply}
 use Rattle.ns_types.specs.declared.step.Step.{Step}
-use Rattle.ns_types.specs.declared.step.Step.TheVariants as Step
 use Rattle.std.specs.Prelude.{Result, Ok, Err}
 use Rattle.ns_types.specs.Asking.Policies.{administer, may_administer, bootstrap_accessor, in_world}
 use Rattle.ns_types.specs.Asking.Admins.{new_tenant, with_pool}
@@ -84,7 +81,8 @@ settled s s' = record s' { world = settle s.world s'.world }
 
 -- a step that would pass a counter's bound is refused
 abbrev pub concluded_with : Step → State → Content → State → Option (Answer × State)
-concluded_with step s content s' = if is_past_bound s'.world then said (Err Refusal.Full) s
+concluded_with step s content s' =
+    if is_past_bound s'.world then said (Err Refusal.Full) s
     else said (Ok (reply_of step content s'.world)) s'
 
 -- the answer and the state afterwards; a refusal leaves the state as it is
@@ -97,13 +95,21 @@ concluded step s (Done content s') = concluded_with step s content (settled s s'
 unfoldable pub after : Step → State → Option (Answer × State)
 after step s = if is_allowed step s.acl then concluded step s (act step s) else said (Err Refusal.Denied) s
 
--- What a call that makes the step answers, and the state that it leaves. Want of memory is no step, and it and
--- a call out of turn change nothing.
+-- the step is made: it is in turn, and answered by a reply
+abbrev pub is_made : Option (Answer × State) → Bool
+is_made (Some (Ok reply, s)) = true
+is_made (Some (Err refusal, s)) = false
+is_made None = false
+
+-- What a call that makes the step answers, and the state that it leaves. Want of memory comes last, where the step
+-- would have been made. It is no step, and it and a call out of turn change nothing.
 abbrev pub Makes : Step → State → Answer → State → Type 0
 Makes step s (Ok reply) s' = after step s ≡ said (Ok reply) s'
-Makes step s (Err Refusal.Memory) s' = s' ≡ s
+Makes step s (Err Refusal.Memory) s' = (is_made (after step s) ≡ true) × (s' ≡ s)
 Makes step s (Err Refusal.NotEnabled) s' = (after step s ≡ None) × (s' ≡ s)
 Makes step s (Err refusal) s' = (after step s ≡ said (Err refusal) s) × (s' ≡ s)
+
+-- Neither the headline nor the wire rests on `Makes` and `is_made`: this is the contract of the core.
 
 -- ---- runs
 
@@ -116,8 +122,13 @@ Run s (step ∷ steps) [] s' = ⊥
 -- ---- the opening state
 
 abbrev pub opening_tenant : Tenant
-opening_tenant = new_tenant (record { description = []; quota = None; default_pool = default_name; allowed =
-    None; denied = [] })
+opening_tenant = new_tenant (record {
+  description = [];
+  quota = None;
+  default_pool = default_name;
+  allowed = None;
+  denied = [];
+})
 
 abbrev pub opening_pool : PoolRows
 opening_pool = with_pool (record { description = [] }) None
@@ -136,8 +147,12 @@ opening_world = record {
 abbrev pub opening_acl : Name → Acl
 opening_acl secret = record {
   policies = empty;
-  tokens = insert empty secret (record { accessor = bootstrap_accessor; name = []; kind =
-      TokenKind.Management; policies = [] });
+  tokens = insert empty secret (record {
+    accessor = bootstrap_accessor;
+    name = [];
+    kind = TokenKind.Management;
+    policies = [];
+  });
 }
 
 unfoldable pub opening : Name → State

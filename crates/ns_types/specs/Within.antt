@@ -1,19 +1,14 @@
+-- Neither the headline nor the wire rests on this: it is the premise under which states stay valid.
 -- Steps whose names, members and lists are within the limits, as each is that a request asks for.
 use Rattle.std.specs.Prelude.{Bool, true, ◌&&◌, IsTrue}
 use Rattle.ns_types.specs.declared.name.NameKind.TheVariants as NameKind
 use Rattle.ns_types.specs.declared.step.AdminCommand.{AdminCommand}
-use Rattle.ns_types.specs.declared.step.AdminCommand.TheVariants as AdminCommand
 use Rattle.ns_types.specs.declared.step.AskCommand.{AskCommand}
-use Rattle.ns_types.specs.declared.step.AskCommand.TheVariants as AskCommand
 use Rattle.ns_types.specs.declared.step.NodeCommand.{NodeCommand}
-use Rattle.ns_types.specs.declared.step.NodeCommand.TheVariants as NodeCommand
 use Rattle.ns_types.specs.declared.step.Step.{Step}
-use Rattle.ns_types.specs.declared.step.Step.TheVariants as Step
 use Rattle.ns_types.specs.Asking.Policies.{token_of}
-use Rattle.ns_types.specs.State.Limits.{
-    is_text, is_pool_name, is_good_registration, is_good_offer, is_good_namespace, is_good_quota, is_good_policy,
-    is_good_token
-}
+use Rattle.ns_types.specs.State.Limits.{is_text, is_pool_name, is_good_registration, is_good_offer, is_good_namespace}
+use Rattle.ns_types.specs.State.Limits.{is_good_quota, is_good_policy, is_good_token}
 use Rattle.ns_types.specs.State.Name.{is_name}
 use Rattle.ns_types.specs.Validity.{IsInOrder}
 

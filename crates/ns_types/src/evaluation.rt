@@ -1,9 +1,12 @@
 //! Evaluations: what is to be looked at for a job.
 
+ghost use Rattle.std.specs.Prelude.{◌≡◌};
+
 use crate::job::JobKind;
 use crate::node::Class;
 use crate::rows::Rows;
 use crate::text::Text;
+use std::alloc::AllocError;
 
 #[derive(Clone, Copy, Debug, PartialEq, Eq)]
 pub enum Status {
@@ -49,4 +52,27 @@ pub struct Evaluation {
     pub nacks: u64,
     pub create_index: u64,
     pub modify_index: u64,
+}
+
+impl Clone for Evaluation {
+    ghost is_clone = { λ a b. b ≡ a };
+
+    fn clone(&self) -> Result<Evaluation, AllocError> {
+        Ok(Evaluation {
+            job: self.job.clone()?,
+            kind: self.kind,
+            priority: self.priority,
+            pool: self.pool.clone()?,
+            trigger: self.trigger,
+            status: self.status,
+            previous: self.previous,
+            follower: self.follower,
+            quota: self.quota.clone()?,
+            escapes: self.escapes,
+            infeasible: self.infeasible.clone()?,
+            nacks: self.nacks,
+            create_index: self.create_index,
+            modify_index: self.modify_index,
+        })
+    }
 }

@@ -1,7 +1,7 @@
 //! Ids of evaluations and allocations: UUID texts that say a kind and a number.
 
 ghost use Rattle.std.specs.Prelude.{◌≡◌, ◌<◌, ◌^◌, ℕ, Some, IfSome, IfNone, IfOk, ◌≤◌, length};
-ghost use Rattle.ns_types.specs.State.Id.{id_text as text_of, id_number, kind_number, uuid_number};
+ghost use Rattle.ns_types.specs.State.Id.{IsNoId, id_text as text_of, id_number, kind_number, uuid_number};
 
 use crate::text::Text;
 use std::alloc::{AllocError, Global};
@@ -47,7 +47,7 @@ pub fn id_text(alloc: Global, kind: IdKind, number: u64) -> Result<Text, AllocEr
 pub fn id_read(kind: IdKind, text: &str) -> Option<u64>
     // It is the number for which the text is the id.
     ensures found { IfSome result (λ n. uuid_number text.now ≡ Some (id_number kind n)) }
-    ensures none { IfNone result ((n : ℕ) → n < 2 ^ 64 → uuid_number text.now ≡ Some (id_number kind n) → ⊥) }
+    ensures none { IfNone result (IsNoId kind text.now) }
     // What `id_text` writes is read again.
     ensures written { (n : ℕ) → n < 2 ^ 64 → text.now ≡ text_of kind n → result ≡ Some n }
 {

@@ -33,6 +33,12 @@ impl<T> Rows<T> {
         Rows { items }
     }
 
+    pub fn into_vec(self) -> Vec<T>
+        ensures { result.items ≡ self }
+    {
+        self.items
+    }
+
     pub fn as_slice(&self) -> &[T]
         ensures { result.now ≡ self.now }
     {

@@ -8,6 +8,7 @@ ghost use Rattle.std.specs.Cmp.Rules.{hashing};
 ghost use Rattle.std.specs.Hash as fed;
 ghost use Rattle.std.specs.Prelude.{nat_eq};
 ghost use Rattle.std.specs.String.{string_bytes};
+ghost use Rattle.ns_types.specs.State.Names.{same_name};
 ghost use borrow.Author.Rules.{rules};
 
 use std::alloc::{AllocError, Global};
@@ -113,4 +114,12 @@ impl Hash for Text {
     fn hash<H: Hasher>(&self, state: &mut H) {
         self.as_str().hash(state);
     }
+}
+
+/// Whether the texts have the same bytes.
+#[tactic(auto, using(crate::proofs::Named::text_ties))]
+pub fn same_text(a: &Text, b: &Text) -> bool
+    ensures { result ≡ same_name a.now b.now }
+{
+    a == b
 }

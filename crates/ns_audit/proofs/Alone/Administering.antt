@@ -6,15 +6,11 @@ use Rattle.ns_types.specs.declared.records.Namespace.{Namespace}
 use Rattle.ns_types.specs.declared.records.Pool.{Pool}
 use Rattle.ns_types.specs.declared.records.Quota.{Quota}
 use Rattle.ns_types.specs.declared.refusal.Refusal.{Refusal}
-use Rattle.ns_types.specs.declared.refusal.Refusal.TheVariants as Refusal
 use Rattle.ns_types.specs.declared.step.AdminCommand.{AdminCommand}
-use Rattle.ns_types.specs.declared.step.AdminCommand.TheVariants as AdminCommand
 use Rattle.ns_types.specs.declared.step.Step.TheVariants as Step
 use Rattle.ns_types.specs.Asking.Policies.{with_world, with_acl, administer}
-use Rattle.ns_types.specs.Asking.Admins.{
-    with_namespace, put_namespace, delete_namespace, with_quota, put_quota, delete_quota, read_quota, with_pool,
-    put_pool_record, delete_pool
-}
+use Rattle.ns_types.specs.Asking.Admins.{with_namespace, put_namespace, delete_namespace, with_quota, put_quota, delete_quota, read_quota, with_pool}
+use Rattle.ns_types.specs.Asking.Admins.{put_pool_record, delete_pool}
 use Rattle.ns_types.specs.Isolation.{Part, alone_in, namespace_at, pool_record, quota_record}
 use Rattle.ns_types.specs.State.Names.{Name, ByName}
 use Rattle.ns_types.specs.Settling.Outcome.{Outcome, NotEnabled, Refused, Done, unless, lift}
@@ -23,9 +19,10 @@ use Rattle.ns_types.specs.Settling.Settle.{settle}
 use Rattle.ns_types.specs.Steps.{Answer, said, act, after, is_allowed, concluded, reply_of, is_past_bound}
 use Rattle.ns_types.proofs.Named.{names, one_name, same_name_refl}
 use Rattle.ns_types.proofs.Tables.{retain-insert, insert_same}
+use Rattle.ns_types.proofs.Tests.{not_Some, same_Some}
 use Rattle.ns_audit.specs.Apart.{IsApart}
 use Rattle.ns_audit.specs.Laws.{KeepsTables}
-use Rattle.ns_audit.proofs.Alone.Chosen.{no_path, same_Some, retain-remove}
+use Rattle.ns_audit.proofs.Alone.Chosen.{retain-remove}
 use Rattle.ns_audit.proofs.Outcomes.{Leads, leads_unless, leads_found}
 use Rattle.ns_audit.proofs.Alone.Recording.{namespace_settled, pool_settled, quota_settled}
 use Rattle.ns_audit.proofs.Alone.Sides.{settled_leaves}
@@ -36,7 +33,7 @@ module _ {X Y : Type 0} (m : ByName X) (p : Name → Bool) (name : Name) (kept :
   -- a row whose record is put anew: where the record is the same, nothing is changed
   put_kept : (f : Option X → X) (y : Y) → ((x : X) → kept x ≡ y → f (Some x) ≡ x) → ((o : Option X) → kept (f o) ≡ y)
       → (p name ≡ true → option_map kept (get (insert m name (f (get m name))) name) ≡ option_map kept (get m name)) →
-          retain_keys (insert m name (f (get m name))) p ≡ retain_keys m p
+      retain_keys (insert m name (f (get m name))) p ≡ retain_keys m p
   put_kept f y same new tables = by (p name) refl
     where
       there : option_map kept (get (insert m name (f (get m name))) name) ≡ Some y
@@ -44,7 +41,7 @@ module _ {X Y : Type 0} (m : ByName X) (p : Name → Bool) (name : Name) (kept :
           ∙ ap Some (new (get m name))
 
       row : (o : Option X) → get m name ≡ o → Some y ≡ option_map kept o → get m name ≡ Some (f (get m name))
-      row None is e = absurd (no_path (sym e))
+      row None is e = absurd (not_Some _ (sym e))
       row (Some x) is e = is ∙ ap Some (sym (ap f is ∙ same x (sym (same_Some _ _ e))))
 
       by : (b : Bool) → p name ≡ b → retain_keys (insert m name (f (get m name))) p ≡ retain_keys m p
@@ -60,7 +57,7 @@ module _ {X Y : Type 0} (m : ByName X) (p : Name → Bool) (name : Name) (kept :
       gone = ap (option_map kept) (get-remove names m name name ∙ ap (λ b. cond b None (get m name)) (same_name_refl name))
 
       by : (b : Bool) → p name ≡ b → retain_keys (remove m name) p ≡ retain_keys m p
-      by true own = absurd (no_path (sym gone ∙ tables own ∙ ap (option_map kept) is))
+      by true own = absurd (not_Some _ (sym gone ∙ tables own ∙ ap (option_map kept) is))
       by false other = retain-remove m p name ∙ ap (λ b. cond b (remove (retain_keys m p) name) (retain_keys m p)) other
 
 -- ---- commands
@@ -85,8 +82,10 @@ module _ (part : Part) (w : World) where
   namespace_put : (name : Name) (namespace : Namespace) → Alters part w (put_namespace name namespace w)
   unfolding put_namespace
   namespace_put name namespace = alters_unless _ _ _ (alters_unless _ _ _ (alters_unless _ _ _ (alters_unless _ _ _ (alters_unless _ _ _ (λ kept i.
-      record (alone_in part w) { tenants = put_kept w.tenants part.spaces name (λ t. t.namespace) (with_namespace namespace) namespace
-          (λ t e i. record t { namespace = sym e i }) new (kept.spaces name) i })))))
+      record (alone_in part w) {
+        tenants = put_kept w.tenants part.spaces name (λ t. t.namespace) (with_namespace namespace) namespace
+            (λ t e i. record t { namespace = sym e i }) new (kept.spaces name) i;
+      })))))
     where
       new : (o : Option Tenant) → (with_namespace namespace o).namespace ≡ namespace
       new None = refl
@@ -100,8 +99,10 @@ module _ (part : Part) (w : World) where
   quota_put : (name : Name) (quota : Quota) → Alters part w (put_quota name quota w)
   unfolding put_quota
   quota_put name quota = alters_unless _ _ _ (λ kept i.
-      record (alone_in part w) { quotas = put_kept w.quotas part.quotas name (λ q. q.quota) (with_quota quota) quota (λ q e i. record q { quota = sym e i })
-          (λ o. refl) (kept.quotas name) i })
+      record (alone_in part w) {
+        quotas = put_kept w.quotas part.quotas name (λ q. q.quota) (with_quota quota) quota (λ q e i. record q { quota = sym e i })
+            (λ o. refl) (kept.quotas name) i;
+      })
 
   quota_deleted : (name : Name) → Alters part w (delete_quota name w)
   unfolding delete_quota
@@ -111,8 +112,10 @@ module _ (part : Part) (w : World) where
   pool_put : (name : Name) (pool : Pool) → Alters part w (put_pool_record name pool w)
   unfolding put_pool_record
   pool_put name pool = alters_unless _ _ _ (λ kept i.
-      record (alone_in part w) { pools = put_kept w.pools part.pools name (λ p. p.pool) (with_pool pool) pool (λ p e i. record p { pool = sym e i }) new
-          (kept.pools name) i })
+      record (alone_in part w) {
+        pools = put_kept w.pools part.pools name (λ p. p.pool) (with_pool pool) pool (λ p e i. record p { pool = sym e i }) new
+            (kept.pools name) i;
+      })
     where
       new : (o : Option PoolRows) → (with_pool pool o).pool ≡ pool
       new None = refl
@@ -167,7 +170,7 @@ module _ (part : Part) (s s' : State) (secret : Option Name) (command : AdminCom
 
   concluded_keeps : (o : Outcome State) → AltersState part s o → concluded (Step.Admin secret command) s o ≡ said answer s' →
       alone_in part s'.world ≡ alone_in part s.world
-  concluded_keeps NotEnabled alters e = absurd (no_path e)
+  concluded_keeps NotEnabled alters e = absurd (not_Some _ e)
   concluded_keeps (Refused refusal) alters e = same_state s (ap (λ x. x.1) (same_Some _ _ e)) refl
   concluded_keeps (Done content x) alters e = by (is_past_bound (settle s.world x.world)) e
     where

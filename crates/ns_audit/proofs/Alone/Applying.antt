@@ -15,12 +15,10 @@ use Rattle.ns_types.specs.declared.reply.Content.TheVariants as Content
 use Rattle.ns_types.specs.declared.resources.Resources.{Resources}
 use Rattle.ns_types.specs.declared.snapshot.Snapshot.{Snapshot}
 use Rattle.ns_types.specs.declared.worker.Worker.{Worker}
-use Rattle.ns_types.specs.Working.Commit.{
-    still_stands, live_stops, stop_all, node_name, nodes_in, part_of, size_of, victims_of, evict_all, quota_allows,
-    Commit, begun, accepts_at, decide, new_allocation, with_allocation, with_place, counted, place_with, place_one,
-    committed_placements, place_all, Victim, victim_at, evicted_rows, same_victim_job, least_of_job, make_up, Applied,
-    refused_whole, done_with, done, commit, applied_worker, applied, apply_for, apply
-}
+use Rattle.ns_types.specs.Working.Commit.{still_stands, live_stops, stop_all, node_name, nodes_in, part_of, size_of, victims_of, evict_all, quota_allows}
+use Rattle.ns_types.specs.Working.Commit.{Commit, begun, accepts_at, decide, new_allocation, with_allocation, with_place, counted, place_with, place_one}
+use Rattle.ns_types.specs.Working.Commit.{committed_placements, place_all, Victim, victim_at, evicted_rows, same_victim_job, least_of_job, make_up, Applied}
+use Rattle.ns_types.specs.Working.Commit.{refused_whole, done_with, done, commit, applied_worker, applied, apply_for, apply}
 use Rattle.ns_types.specs.Placing.Constraint.{is_feasible}
 use Rattle.ns_types.specs.Isolation.{Part, alone_in}
 use Rattle.ns_types.specs.State.Lists.{Each, first_each}
@@ -35,15 +33,13 @@ use Rattle.ns_types.specs.State.Sums.{quota_use}
 use Rattle.ns_types.specs.Working.Work.{with_worker, without_key, is_submitted}
 use Rattle.ns_audit.specs.Apart.{IsApart, Leaves, Follows}
 use Rattle.ns_audit.proofs.Alone.Asking.{goes_make}
-use Rattle.ns_audit.proofs.Alone.Chosen.{
-    tenant_alone, pool_alone, quota_alone, node_alone, GoesAlone, goes_then, goes_nowhere, goes_with, goes_change,
-    goes_pool, goes_unplanned, its_own, not_its_own
-}
+use Rattle.ns_audit.proofs.Alone.Chosen.{tenant_alone, pool_alone, quota_alone, node_alone, GoesAlone, goes_then, goes_nowhere, goes_with, goes_change}
+use Rattle.ns_audit.proofs.Alone.Chosen.{goes_pool, goes_unplanned, its_own, not_its_own}
 use Rattle.ns_audit.proofs.Alone.Evicting.{Standing, stopped_stands, evicted_stands, victims_side, victims_alone, evict_goes, rows_side, rows_alone}
-use Rattle.ns_audit.proofs.Every.{each_first}
 use Rattle.ns_audit.proofs.Alone.Going.{Goes, goes_where}
 use Rattle.ns_audit.proofs.Alone.Summing.{quota_use_alone, node_load_alone}
 use Rattle.ns_audit.proofs.Alone.Working.{served_among, at_work_keeping}
+use Rattle.ns_types.proofs.Elements.{each_first}
 
 goes_each : {A : Type 0} (part : Part) (b : Bool) (f : World → A → World) (P : A → Type 0) → ((x : A) → P x → GoesAlone part b (λ w. f w x)) → (xs : List A) →
     Each P xs → GoesAlone part b (λ w. fold f w xs)
@@ -101,9 +97,14 @@ module _ (part : Part) (kept : Snapshot) (placements : List Placement) where
   unfolding decide
   decided_stands c k s = elim (accepts_at kept (evict_all c.world (victims_of c.world kept (part_of k placements))) (node_name kept k) (part_of k placements)
       c.placed) as
-      (λ b. Standing part (cond b (record { world = evict_all c.world (victims_of c.world kept (part_of k placements)); placed =
-          plus c.placed (size_of (part_of k placements)); committed = c.committed ++ k ∷ []; dropped = c.dropped })
-          (record c { dropped = c.dropped ++ k ∷ [] })).world) [
+      (λ b. Standing part (cond b (record {
+        world = evict_all c.world (victims_of c.world kept (part_of k placements));
+        placed =
+            plus c.placed (size_of (part_of k placements));
+        committed = c.committed ++ k ∷ [];
+        dropped = c.dropped;
+      })
+      (record c { dropped = c.dropped ++ k ∷ [] })).world) [
         | true ↦ evicted_stands part (victims_of c.world kept (part_of k placements)) c.world s
         | false ↦ s
       ]
@@ -153,9 +154,14 @@ module _ (part : Part) (kept : Snapshot) (placements : List Placement) where
   unfolding decide
   decide_other other c k s = elim (accepts_at kept (evict_all c.world (victims_of c.world kept (part_of k placements))) (node_name kept k)
       (part_of k placements) c.placed) as
-      (λ b. alone_in part (cond b (record { world = evict_all c.world (victims_of c.world kept (part_of k placements)); placed =
-          plus c.placed (size_of (part_of k placements)); committed = c.committed ++ k ∷ []; dropped = c.dropped })
-          (record c { dropped = c.dropped ++ k ∷ [] })).world ≡ alone_in part c.world) [
+      (λ b. alone_in part (cond b (record {
+        world = evict_all c.world (victims_of c.world kept (part_of k placements));
+        placed =
+            plus c.placed (size_of (part_of k placements));
+        committed = c.committed ++ k ∷ [];
+        dropped = c.dropped;
+      })
+      (record c { dropped = c.dropped ++ k ∷ [] })).world ≡ alone_in part c.world) [
         | true ↦ evicted_goes false other c.world s (part_of k placements)
         | false ↦ refl
       ]
@@ -188,7 +194,7 @@ module _ (part : Part) (b : Bool) (kept : Snapshot) (pool_side : part.pools kept
   goes_place_one p = goes_with part b (λ w. kept.job) (λ job w. option_map_or (place_with kept p w job) (node_at w kept.pool (node_name kept p.node)) w)
       (λ w own. refl) (λ job.
       goes_with part b (λ w. node_at w kept.pool (node_name kept p.node)) (λ node w. place_with kept p w job node)
-          (λ w own. sym (node_alone part w kept.pool (node_name kept p.node) (pool_side ∙ own))) (goes_place_with p job))
+      (λ w own. sym (node_alone part w kept.pool (node_name kept p.node) (pool_side ∙ own))) (goes_place_with p job))
 
   goes_place_all : (ps : List Placement) → GoesAlone part b (λ w. place_all kept w ps)
   goes_place_all ps = goes_each part b (place_one kept) (λ p. Unit {0}) (λ p _. goes_place_one p) ps (each_is ps)
@@ -198,21 +204,21 @@ module _ (part : Part) (b : Bool) (kept : Snapshot) (pool_side : part.pools kept
   goes_make_up victims sides = goes_each part b (λ x v. make v.0 (λ t. evaluation_for t (least_of_job victims v) Trigger.Preemption) x)
       (λ v. part.spaces v.0 ≡ b)
       (λ v of_b. goes_make part b v.0 of_b (λ t. evaluation_for t (least_of_job victims v) Trigger.Preemption)) (first_each same_victim_job victims)
-          (each_first (λ v. part.spaces v.0 ≡ b) same_victim_job victims sides)
+      (each_first (λ v. part.spaces v.0 ≡ b) same_victim_job victims sides)
 
   -- all that follows what was decided
   goes_after_it : (x : World) → Standing part x → (ps : List Placement) → GoesAlone part b (λ w. make_up (evicted_rows x kept ps) (place_all kept w ps))
   goes_after_it x s ps = goes_then part b (λ w. place_all kept w ps) (make_up (evicted_rows x kept ps)) (goes_place_all ps)
       (goes_make_up (evicted_rows x kept ps)
       (rows_side (λ ns. part.spaces ns ≡ b) x (victims_of x kept ps)
-          (each_at (λ (e : Eviction) c. part.spaces e.namespace ≡ c) (part.pools kept.pool) b pool_side (victims_of x kept ps)
-          (victims_side part x s.stands kept ps))))
+      (each_at (λ (e : Eviction) c. part.spaces e.namespace ≡ c) (part.pools kept.pool) b pool_side (victims_of x kept ps)
+      (victims_side part x s.stands kept ps))))
 
 rows_alike : (part : Part) (x : World) → Standing part x → (kept : Snapshot) → part.pools kept.pool ≡ true → (ps : List Placement) →
     evicted_rows (alone_in part x) kept ps ≡ evicted_rows x kept ps
 rows_alike part x s kept mine ps = ap (filter_map (victim_at (alone_in part x))) (sym (victims_alone part x s.stands kept mine ps))
     ∙ rows_alone part x (victims_of x kept ps) (each_at (λ (e : Eviction) c. part.spaces e.namespace ≡ c) (part.pools kept.pool) true mine
-        (victims_of x kept ps) (victims_side part x s.stands kept ps))
+    (victims_of x kept ps) (victims_side part x s.stands kept ps))
 
 -- ---- a whole commit
 
@@ -245,7 +251,7 @@ module _ (part : Part) (w : World) (s : Standing part w) (kept : Snapshot) (p : 
   unfolding stops stopped decided
   done_own mine own = (λ i. done_with kept t stops p.placing.placements (sym (stopped_goes true own) i) (decided (sym (stopped_goes true own) i)))
       ∙ ap (done_with kept t stops p.placing.placements (alone_in part (stopped w)))
-          (all_own part kept p.placing.placements mine own (nodes_in p.placing.placements) (begun (stopped w)) stopped_standing)
+      (all_own part kept p.placing.placements mine own (nodes_in p.placing.placements) (begun (stopped w)) stopped_standing)
       ∙ finishing (decided (stopped w))
     where
       finishing : (c : Commit) → done_with kept t stops p.placing.placements (alone_in part (stopped w)) (alone_commit part c) ≡ alone_applied part
@@ -255,14 +261,14 @@ module _ (part : Part) (w : World) (s : Standing part w) (kept : Snapshot) (p : 
           λ i. record (done_with kept t stops p.placing.placements (stopped w) c) {
             world = (ap (λ rows. make_up rows (place_all kept (alone_in part c.world) placed)) (rows_alike part (stopped w) stopped_standing kept mine placed)
                 ∙ sym (its_own part true (λ x. make_up (evicted_rows (stopped w) kept placed) (place_all kept x placed)) c.world
-                    (goes_after_it part true kept mine own (stopped w) stopped_standing placed) refl)) i;
+                (goes_after_it part true kept mine own (stopped w) stopped_standing placed) refl)) i;
           }
 
   done_other : part.pools kept.pool ≡ false → part.spaces kept.namespace ≡ false → alone_in part (done kept p w t).world ≡ alone_in part w
   unfolding stops stopped decided
   done_other foreign other =
       not_its_own part false (λ x. make_up (evicted_rows (stopped w) kept placed) (place_all kept x placed)) (decided (stopped w)).world
-          (goes_after_it part false kept foreign other (stopped w) stopped_standing placed) refl
+      (goes_after_it part false kept foreign other (stopped w) stopped_standing placed) refl
       ∙ all_other part kept p.placing.placements foreign (nodes_in p.placing.placements) (begun (stopped w)) stopped_standing
       ∙ stopped_goes false other
     where
@@ -275,14 +281,14 @@ module _ (part : Part) (w : World) (s : Standing part w) (kept : Snapshot) (p : 
   commit_goes true mine own = elim (still_stands kept.job (get t.jobs kept.evaluation.job)) as
       (λ c. cond c (done kept p (alone_in part w) t) (refused_whole kept p (alone_in part w)) ≡ alone_applied part
       (cond c (done kept p w t) (refused_whole kept p w))) [
-    | true ↦ done_own mine own
-    | false ↦ refl
-  ]
+        | true ↦ done_own mine own
+        | false ↦ refl
+      ]
   commit_goes false foreign other = elim (still_stands kept.job (get t.jobs kept.evaluation.job)) as
       (λ c. alone_in part (cond c (done kept p w t) (refused_whole kept p w)).world ≡ alone_in part w) [
-    | true ↦ done_other foreign other
-    | false ↦ refl
-  ]
+        | true ↦ done_other foreign other
+        | false ↦ refl
+      ]
 
 -- ---- Apply
 
@@ -322,10 +328,10 @@ module _ (part : Part) (b : Bool) (ns : Name) (side : part.spaces ns ≡ b) (w :
   apply_goes number = at_work_keeping part b ns side number w (apply_for number ns w) (apply_for number ns (alone_in part w)) apart
       (λ t worker e kept is at row with.
       goes_where part w b (is_submitted worker.phase && is_served w w.plans (ns, worker.evaluation)) _ _ _
-          (λ own. served own worker (is_submitted worker.phase)) (λ _.
+      (λ own. served own worker (is_submitted worker.phase)) (λ _.
       applied_goes number worker e (commit kept (plan kept) w t) (commit kept (plan kept) (alone_in part w) t)
       (commit_goes part w (record { stands = apart.allocation; names = apart.quota }) kept (plan kept) t b (with.with.pool_with ∙ side)
-          (ap part.spaces with.namespace ∙ side))))
+      (ap part.spaces with.namespace ∙ side))))
     where
       served : b ≡ true → (worker : Worker) → (c : Bool) → (c && is_served w w.plans (ns, worker.evaluation)) ≡ true →
           (c && is_served (alone_in part w) (alone_in part w).plans (ns, worker.evaluation)) ≡ true

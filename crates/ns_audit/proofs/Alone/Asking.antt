@@ -1,35 +1,29 @@
 -- What is asked in a namespace goes along with a choice of owners.
-use Rattle.std.specs.Prelude.{◌≡◌, ℕ, ◌+◌, Bool, true, false, not, Some, ◌&&◌, nat_le, is_some}
+use Rattle.std.specs.Prelude.{◌≡◌, ℕ, ◌+◌, Bool, true, not, Some, is_some}
 use Rattle.std.proofs.Common.{refl, sym, ap, ◌∙◌}
-use Rattle.std.specs.Option.{option_map_or}
-use Rattle.std.specs.FinMap.{get, contains_key, len}
+use Rattle.std.specs.FinMap.{get}
 use Rattle.ns_types.specs.declared.allocation.DesiredStatus.TheVariants as DesiredStatus
 use Rattle.ns_types.specs.declared.evaluation.Evaluation.{Evaluation}
 use Rattle.ns_types.specs.declared.evaluation.Trigger.TheVariants as Trigger
 use Rattle.ns_types.specs.declared.job.Job.{Job}
 use Rattle.ns_types.specs.declared.job.Registration.{Registration}
-use Rattle.ns_types.specs.declared.refusal.Member.TheVariants as Member
 use Rattle.ns_types.specs.declared.refusal.Refusal.TheVariants as Refusal
 use Rattle.ns_types.specs.declared.reply.Content.TheVariants as Content
 use Rattle.ns_types.specs.declared.step.AskCommand.{AskCommand}
-use Rattle.ns_types.specs.declared.step.AskCommand.TheVariants as AskCommand
-use Rattle.ns_types.specs.Asking.Asks.{
-    pool_of, document_of, meets, registered_job, most_jobs, registered_with, register, deregistered, index_told,
-    deregister, stop_allocation, asked_in, ask
-}
+use Rattle.ns_types.specs.Asking.Asks.{first_refusal, pool_of, document_of, registered_job, registered_with, register, deregistered, index_told, deregister}
+use Rattle.ns_types.specs.Asking.Asks.{stop_allocation, asked_in, ask}
 use Rattle.ns_types.specs.Isolation.{Part, alone_in}
 use Rattle.ns_types.specs.Settling.Making.{put_tenant, with_job, with_desired, evaluation_of, evaluation_for, with_evaluation, make_in, make}
 use Rattle.ns_types.specs.State.Names.{Name}
 use Rattle.ns_types.specs.Working.Queue.{queue}
 use Rattle.ns_types.specs.Asking.Reads.{quota_usage}
 use Rattle.ns_types.specs.State.Rows.{World, Tenant, is_live}
-use Rattle.ns_types.specs.Access.Sharing.{permits}
 use Rattle.ns_types.specs.State.Sums.{names_quota}
 use Rattle.ns_types.proofs.Lists.{cond_same}
+use Rattle.ns_types.proofs.Registrations.{refusal_alike}
 use Rattle.ns_audit.specs.Apart.{IsApart}
 use Rattle.ns_audit.proofs.Alone.Chosen.{tenant_alone, pool_alone, GoesAlone, goes_then, goes_put, goes_with, tenant_seen}
-use Rattle.ns_audit.proofs.Every.{on}
-use Rattle.ns_audit.proofs.Alone.Going.{Goes, goes_refused, goes_done, goes_by, goes_read, goes_unless, goes_found, goes_either}
+use Rattle.ns_audit.proofs.Alone.Going.{Goes, goes_refused, goes_done, goes_by, goes_read, goes_unless, goes_refused_by, goes_found, goes_either}
 use Rattle.ns_audit.proofs.Alone.Settling.{goes_queue}
 use Rattle.ns_audit.proofs.Alone.Summing.{quota_use_alone, its_quota}
 
@@ -45,14 +39,9 @@ module _ (part : Part) (b : Bool) (ns : Name) (side : part.spaces ns ≡ b) wher
   module _ (w : World) (apart : IsApart part w) where
     registration_goes : (r : Registration) (t : Tenant) → get w.tenants ns ≡ Some t → Goes part w b (register ns r w t) (register ns r (alone_in part w) t)
     registration_goes r t is =
-        goes_unless part w b (not (permits t.namespace (pool_of t r))) _ Refusal.PoolNotPermitted _ _ (λ _. refl) (λ permitted.
-        goes_unless part w b (not (contains_key w.pools (pool_of t r))) (not (contains_key (alone_in part w).pools (pool_of t r)))
-            (Refusal.BadField Member.NodePool) _ _
-        (λ own. ap (λ o. not (is_some o)) (pool_alone part w (pool_of t r) (apart.pool ns t _ is (on (permits t.namespace (pool_of t r)) permitted) ∙ side ∙
-            own))) (λ _.
-        goes_unless part w b (option_map_or (λ index. not (meets (get t.jobs r.id) index)) r.enforced false) _ Refusal.Conflict _ _ (λ _. refl) (λ _.
-        goes_unless part w b (not (contains_key t.jobs r.id) && nat_le most_jobs (len t.jobs)) _ Refusal.Full _ _ (λ _. refl) (λ _.
-        with_the_job (registered_job (t.index + 1) (document_of t r) (get t.jobs r.id))))))
+        goes_refused_by part w b (first_refusal w t r) (first_refusal (alone_in part w) t r) _ _
+        (λ own. refusal_alike (alone_in part w) t r w (λ permitted. ap is_some (pool_alone part w (pool_of t r) (apart.pool ns t _ is permitted ∙ side ∙ own))))
+        (λ _. with_the_job (registered_job (t.index + 1) (document_of t r) (get t.jobs r.id)))
       where
         with_the_job : (job : Job) → Goes part w b (registered_with ns r w t job) (registered_with ns r (alone_in part w) t job)
         with_the_job job = goes_by part w b (Content.Registered (t.evaluation_number + 1) (t.index + 1) job.modify_index)
@@ -75,7 +64,7 @@ module _ (part : Part) (b : Bool) (ns : Name) (side : part.spaces ns ≡ b) wher
     usage_goes : (quota : Name) (t : Tenant) → get w.tenants ns ≡ Some t → Goes part w b (quota_usage quota w t) (quota_usage quota (alone_in part w) t)
     usage_goes quota t is = goes_either part w b (names_quota quota t.namespace) _ _ _ _ _ (λ _. refl)
         (λ named. goes_done part w b _ _ w (alone_in part w) (λ own. ap (Content.Usage quota) (quota_use_alone part w apart.quota quota (mine named own)))
-            (sym (cond_same b (alone_in part w))))
+        (sym (cond_same b (alone_in part w))))
         (λ _. goes_refused part w b Refusal.NotFound)
       where
         mine : names_quota quota t.namespace ≡ true → b ≡ true → part.quotas quota ≡ true

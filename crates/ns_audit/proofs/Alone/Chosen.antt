@@ -1,6 +1,6 @@
 -- Rows of chosen owners are read alike, and a change of one owner goes along with the choice.
-use Rattle.std.specs.Prelude.{◌≡◌, ℕ, Bool, true, false, cond, not, T, List, [], ◌∷◌, ◌++◌, Option, Some, None, ◌&&◌, filter, is_some, unwrap_or}
-use Rattle.std.proofs.Common.{append-nil, refl, sym, ap, subst, ◌∙◌}
+use Rattle.std.specs.Prelude.{◌≡◌, ℕ, Bool, true, false, cond, not, List, [], ◌∷◌, ◌++◌, Option, Some, None, ◌&&◌, filter}
+use Rattle.std.proofs.Common.{append-nil, refl, sym, ap, ◌∙◌}
 use Rattle.std.specs.Option.{option_map_or, option_and_then}
 use Rattle.std.specs.FinMap.{get, get-remove, insert, remove, retain_keys, same_map}
 use Rattle.std.specs.Ordering.{eq_by_cmp}
@@ -12,16 +12,6 @@ use Rattle.ns_types.specs.Working.Work.{without_key}
 use Rattle.ns_types.proofs.Lists.{cond_same, not_both, filter_chosen, filter_all, filter-append, any_chosen, each}
 use Rattle.ns_types.proofs.Named.{names, one_name, same_name_is}
 use Rattle.ns_types.proofs.Tables.{get-retain, retain-insert, tied}
-
-pub no_path : {A : Type 0} {x : A} → None ≡ Some x → ⊥
-no_path e = subst T (sym (ap is_some e)) tt
-
-pub same_Some : {A : Type 0} (x y : A) → Some x ≡ Some y → x ≡ y
-same_Some x y e = ap (λ o. unwrap_or o x) e
-
-pub off : (b : Bool) → not b ≡ true → b ≡ false
-off true e = absurd (subst T (sym e) tt)
-off false e = refl
 
 -- a choice of keys goes through a removal
 pub retain-remove : {X : Type 0} (m : ByName X) (p : Name → Bool) (k : Name) →
@@ -83,7 +73,7 @@ module _ (part : Part) (b : Bool) where
   pub goes_then : (f g : World → World) → GoesAlone part b f → GoesAlone part b g → GoesAlone part b (λ w. g (f w))
   goes_then f g hf hg w = hg (f w) ∙ ap (λ x. cond b (g x) x) (hf w)
       ∙ elim b as (λ b. cond b (g (cond b (f (alone_in part w)) (alone_in part w))) (cond b (f (alone_in part w)) (alone_in part w)) ≡ cond b
-          (g (f (alone_in part w))) (alone_in part w)) [ true ↦ refl | false ↦ refl ]
+      (g (f (alone_in part w))) (alone_in part w)) [ true ↦ refl | false ↦ refl ]
 
   pub goes_nowhere : GoesAlone part b (λ w. w)
   goes_nowhere w = sym (cond_same b (alone_in part w))
@@ -92,7 +82,7 @@ module _ (part : Part) (b : Bool) where
       GoesAlone part b (λ w. cond (c w) (f w) (g w))
   goes_if c f g alike hf hg w =
       elim (c w) as (λ d. alone_in part (cond d (f w) (g w)) ≡ cond d (cond b (f (alone_in part w)) (alone_in part w))
-          (cond b (g (alone_in part w)) (alone_in part w))) [ true ↦ hf w | false ↦ hg w ]
+      (cond b (g (alone_in part w)) (alone_in part w))) [ true ↦ hf w | false ↦ hg w ]
       ∙ by b refl
     where
       by : (s : Bool) → b ≡ s → cond (c w) (cond s (f (alone_in part w)) (alone_in part w)) (cond s (g (alone_in part w)) (alone_in part w)) ≡ cond s
@@ -123,21 +113,23 @@ module _ (part : Part) (b : Bool) where
   -- ---- rows of a pool
 
   pub goes_pool : (name : Name) (pool : PoolRows) → part.pools name ≡ b → GoesAlone part b (put_pool name pool)
-  goes_pool name pool side w = (λ i. record (alone_in part w)
-      { pools = (retain-insert names one_name w.pools part.pools name pool ∙ ap (λ b. cond b (insert (alone_in part w).pools name pool) (alone_in part w).pools)
-      side) i })
+  goes_pool name pool side w = (λ i. record (alone_in part w) {
+    pools = (retain-insert names one_name w.pools part.pools name pool ∙ ap (λ b. cond b (insert (alone_in part w).pools name pool) (alone_in part w).pools)
+        side) i;
+  })
       ∙ elim b as (λ b. ◌≡◌ {A = World} (record (alone_in part w) { pools = cond b (insert (alone_in part w).pools name pool) (alone_in part w).pools })
-          (cond b (put_pool name pool (alone_in part w)) (alone_in part w))) [ true ↦ refl | false ↦ refl ]
+      (cond b (put_pool name pool (alone_in part w)) (alone_in part w))) [ true ↦ refl | false ↦ refl ]
 
   module _ (ns : Name) (side : part.spaces ns ≡ b) where
     -- ---- rows of a namespace
 
     pub goes_put : (t : Tenant) → GoesAlone part b (put_tenant ns t)
-    goes_put t w = (λ i. record (alone_in part w)
-        { tenants = (retain-insert names one_name w.tenants part.spaces ns t ∙
-        ap (λ b. cond b (insert (alone_in part w).tenants ns t) (alone_in part w).tenants) side) i })
+    goes_put t w = (λ i. record (alone_in part w) {
+      tenants = (retain-insert names one_name w.tenants part.spaces ns t ∙
+          ap (λ b. cond b (insert (alone_in part w).tenants ns t) (alone_in part w).tenants) side) i;
+    })
         ∙ elim b as (λ b. ◌≡◌ {A = World} (record (alone_in part w) { tenants = cond b (insert (alone_in part w).tenants ns t) (alone_in part w).tenants })
-            (cond b (put_tenant ns t (alone_in part w)) (alone_in part w))) [ true ↦ refl | false ↦ refl ]
+        (cond b (put_tenant ns t (alone_in part w)) (alone_in part w))) [ true ↦ refl | false ↦ refl ]
 
     pub tenant_seen : (w : World) → b ≡ true → get w.tenants ns ≡ get (alone_in part w).tenants ns
     tenant_seen w own = sym (tenant_alone part w ns (side ∙ own))
@@ -168,35 +160,35 @@ module _ (part : Part) (b : Bool) where
         (filter (λ k. part.spaces k.0) keys)
     put_in n keys = filter-append _ keys ((ns, n) ∷ []) ∙ ap (λ b. filter (λ k. part.spaces k.0) keys ++ cond b ((ns, n) ∷ []) []) side
         ∙ elim b as (λ b. filter (λ k. part.spaces k.0) keys ++ cond b ((ns, n) ∷ []) [] ≡ cond b (filter (λ k. part.spaces k.0) keys ++ (ns, n) ∷ [])
-            (filter (λ k. part.spaces k.0) keys)) [ true ↦ refl | false ↦ append-nil _ ]
+        (filter (λ k. part.spaces k.0) keys)) [ true ↦ refl | false ↦ append-nil _ ]
 
     pub goes_ready : (n : ℕ) → GoesAlone part b (λ w. record w { ready = w.ready ++ (ns, n) ∷ [] })
     goes_ready n w = (λ i. record (alone_in part w) { ready = put_in n w.ready i })
         ∙ elim b as (λ b. ◌≡◌ {A = World} (record (alone_in part w) { ready = cond b ((alone_in part w).ready ++ (ns, n) ∷ []) (alone_in part w).ready })
-            (cond b (record (alone_in part w) { ready = (alone_in part w).ready ++ (ns, n) ∷ [] }) (alone_in part w))) [ true ↦ refl | false ↦ refl ]
+        (cond b (record (alone_in part w) { ready = (alone_in part w).ready ++ (ns, n) ∷ [] }) (alone_in part w))) [ true ↦ refl | false ↦ refl ]
 
     pub goes_plans : (n : ℕ) → GoesAlone part b (λ w. record w { plans = w.plans ++ (ns, n) ∷ [] })
     goes_plans n w = (λ i. record (alone_in part w) { plans = put_in n w.plans i })
         ∙ elim b as (λ b. ◌≡◌ {A = World} (record (alone_in part w) { plans = cond b ((alone_in part w).plans ++ (ns, n) ∷ []) (alone_in part w).plans })
-            (cond b (record (alone_in part w) { plans = (alone_in part w).plans ++ (ns, n) ∷ [] }) (alone_in part w))) [ true ↦ refl | false ↦ refl ]
+        (cond b (record (alone_in part w) { plans = (alone_in part w).plans ++ (ns, n) ∷ [] }) (alone_in part w))) [ true ↦ refl | false ↦ refl ]
 
     pub goes_blocked : (n : ℕ) → GoesAlone part b (λ w. record w { blocked = w.blocked ++ (ns, n) ∷ [] })
     goes_blocked n w = (λ i. record (alone_in part w) { blocked = put_in n w.blocked i })
         ∙ elim b as (λ b. ◌≡◌ {A = World} (record (alone_in part w) { blocked = cond b ((alone_in part w).blocked ++ (ns, n) ∷ []) (alone_in part w).blocked })
-            (cond b (record (alone_in part w) { blocked = (alone_in part w).blocked ++ (ns, n) ∷ [] }) (alone_in part w))) [ true ↦ refl | false ↦ refl ]
+        (cond b (record (alone_in part w) { blocked = (alone_in part w).blocked ++ (ns, n) ∷ [] }) (alone_in part w))) [ true ↦ refl | false ↦ refl ]
 
     pub goes_unready : (n : ℕ) → GoesAlone part b (λ w. record w { ready = without_key (ns, n) w.ready })
     goes_unready n w = (λ i. record (alone_in part w) { ready = taken_out n w.ready i })
         ∙ elim b as (λ b. ◌≡◌ {A = World} (record (alone_in part w) { ready = cond b (without_key (ns, n) (alone_in part w).ready) (alone_in part w).ready })
-            (cond b (record (alone_in part w) { ready = without_key (ns, n) (alone_in part w).ready }) (alone_in part w))) [ true ↦ refl | false ↦ refl ]
+        (cond b (record (alone_in part w) { ready = without_key (ns, n) (alone_in part w).ready }) (alone_in part w))) [ true ↦ refl | false ↦ refl ]
 
     pub goes_unplanned : (n : ℕ) → GoesAlone part b (λ w. record w { plans = without_key (ns, n) w.plans })
     goes_unplanned n w = (λ i. record (alone_in part w) { plans = taken_out n w.plans i })
         ∙ elim b as (λ b. ◌≡◌ {A = World} (record (alone_in part w) { plans = cond b (without_key (ns, n) (alone_in part w).plans) (alone_in part w).plans })
-            (cond b (record (alone_in part w) { plans = without_key (ns, n) (alone_in part w).plans }) (alone_in part w))) [ true ↦ refl | false ↦ refl ]
+        (cond b (record (alone_in part w) { plans = without_key (ns, n) (alone_in part w).plans }) (alone_in part w))) [ true ↦ refl | false ↦ refl ]
 
     pub goes_unblocked : (n : ℕ) → GoesAlone part b (λ w. record w { blocked = without_key (ns, n) w.blocked })
     goes_unblocked n w = (λ i. record (alone_in part w) { blocked = taken_out n w.blocked i })
         ∙ elim b as (λ b. ◌≡◌ {A = World} (record (alone_in part w)
-            { blocked = cond b (without_key (ns, n) (alone_in part w).blocked) (alone_in part w).blocked })
-            (cond b (record (alone_in part w) { blocked = without_key (ns, n) (alone_in part w).blocked }) (alone_in part w))) [ true ↦ refl | false ↦ refl ]
+        { blocked = cond b (without_key (ns, n) (alone_in part w).blocked) (alone_in part w).blocked })
+        (cond b (record (alone_in part w) { blocked = without_key (ns, n) (alone_in part w).blocked }) (alone_in part w))) [ true ↦ refl | false ↦ refl ]

@@ -6,7 +6,6 @@ use Rattle.std.specs.List.{cons_option}
 use Rattle.std.specs.Option.{option_map_or, option_and_then}
 use Rattle.ns_types.specs.declared.allocation.Allocation.{Allocation}
 use Rattle.ns_types.specs.declared.allocation.DesiredStatus.{DesiredStatus}
-use Rattle.ns_types.specs.declared.allocation.DesiredStatus.TheVariants as DesiredStatus
 use Rattle.ns_types.specs.declared.plan.Eviction.{Eviction}
 use Rattle.ns_types.specs.declared.plan.Placement.{Placement}
 use Rattle.ns_types.specs.declared.snapshot.Snapshot.{Snapshot}
@@ -19,7 +18,8 @@ use Rattle.ns_types.specs.State.Rows.{World, Tenant, is_live, is_run, is_held, i
 use Rattle.ns_types.proofs.Lists.{not_both}
 use Rattle.ns_types.proofs.Named.{names, one_name, numbers, one_number, same_name_is, first_of_both, second_of_both}
 use Rattle.ns_types.proofs.Tables.{get-retain}
-use Rattle.ns_audit.proofs.Every.{row_of_insert, each_passes, each_of, each_flat_map}
+use Rattle.ns_types.proofs.TableRows.{row_of_insert}
+use Rattle.ns_types.proofs.Elements.{each_passes, each_of, each_flat_map}
 use Rattle.ns_audit.proofs.Alone.Chosen.{allocation_alone, GoesAlone, goes_change}
 use Rattle.ns_audit.proofs.Alone.Summing.{StandsApart, NamesApart}
 
@@ -98,7 +98,7 @@ module _ (part : Part) (w : World) (stands : StandsApart part w) (pool : Name) w
       row t is (Some a) at c =
           let on : is_live_on pool node a ≡ true = first_of_both (is_live_on pool node a) _ c in
           sym (stands e.namespace t e.number a is at (first_of_both (is_live a) _ on)) ∙
-              ap part.pools (sym (same_name_is pool a.pool (first_of_both (same_name pool a.pool) _ (second_of_both (is_live a) _ on))))
+          ap part.pools (sym (same_name_is pool a.pool (first_of_both (same_name pool a.pool) _ (second_of_both (is_live a) _ on))))
 
       by : (t : Option Tenant) → get w.tenants e.namespace ≡ t → option_map_or (λ a. is_live_on pool node a && same_number a.priority e.priority)
           (option_and_then (λ t. get t.allocations e.number) t) false ≡ true → part.spaces e.namespace ≡ part.pools pool
@@ -121,7 +121,7 @@ module _ (part : Part) (w : World) (stands : StandsApart part w) (kept : Snapsho
   pub victims_side : (placements : List Placement) → Each (λ e. part.spaces e.namespace ≡ part.pools kept.pool) (victims_of w kept placements)
   victims_side placements = each_flat_map (λ e. part.spaces e.namespace ≡ part.pools kept.pool) (victims_in w kept)
       (λ p. each_of (λ e. counts w kept.pool (node_name kept p.node) e ≡ true) (λ e. part.spaces e.namespace ≡ part.pools kept.pool)
-          (λ e c. counts_side part w stands kept.pool (node_name kept p.node) e c)
+      (λ e c. counts_side part w stands kept.pool (node_name kept p.node) e c)
       (filter (counts w kept.pool (node_name kept p.node)) p.evictions) (each_passes (counts w kept.pool (node_name kept p.node)) p.evictions)) placements
 
   pub victims_alone : part.pools kept.pool ≡ true → (placements : List Placement) → victims_of w kept placements ≡ victims_of (alone_in part w) kept placements
@@ -133,7 +133,7 @@ evict_goes part b [] h w = elim b as (λ b. alone_in part w ≡ cond b (alone_in
 evict_goes part b (v ∷ vs) h w = evict_goes part b vs h.1 (evict w v) ∙
     ap (λ x. cond b (evict_all x vs) x) (goes_change part b v.namespace h.0 (with_desired v.number DesiredStatus.Evict) w)
     ∙ elim b as (λ b. cond b (evict_all (cond b (evict (alone_in part w) v) (alone_in part w)) vs) (cond b (evict (alone_in part w) v) (alone_in part w))
-        ≡ cond b (evict_all (evict (alone_in part w) v) vs) (alone_in part w)) [ true ↦ refl | false ↦ refl ]
+    ≡ cond b (evict_all (evict (alone_in part w) v) vs) (alone_in part w)) [ true ↦ refl | false ↦ refl ]
 
 -- ---- the rows of victims
 
@@ -142,9 +142,9 @@ rows_side P w [] h = tt
 rows_side P w (e ∷ vs) h = elim (allocation_at w (e.namespace, e.number)) as
     (λ (o : Option Allocation). Each (λ (v : Victim). P v.0)
     (cons_option {X = Victim} (option_map (λ a. (e.namespace, (e.number, a))) o) (filter_map (victim_at w) vs))) [
-  | Some a ↦ (h.0, rows_side P w vs h.1)
-  | None ↦ rows_side P w vs h.1
-]
+      | Some a ↦ (h.0, rows_side P w vs h.1)
+      | None ↦ rows_side P w vs h.1
+    ]
 
 pub rows_alone : (part : Part) (w : World) (vs : List Eviction) → Each (λ e. part.spaces e.namespace ≡ true) vs →
     filter_map (victim_at (alone_in part w)) vs ≡ filter_map (victim_at w) vs

@@ -5,7 +5,6 @@ use Rattle.std.specs.FinMap.{get, get-insert, insert}
 use Rattle.std.specs.Option.{option_map_or}
 use Rattle.ns_types.specs.declared.allocation.Allocation.{Allocation}
 use Rattle.ns_types.specs.declared.allocation.DesiredStatus.{DesiredStatus}
-use Rattle.ns_types.specs.declared.allocation.DesiredStatus.TheVariants as DesiredStatus
 use Rattle.ns_types.specs.declared.evaluation.Evaluation.{Evaluation}
 use Rattle.ns_types.specs.declared.evaluation.Trigger.TheVariants as Trigger
 use Rattle.ns_types.specs.declared.job.Job.{Job}
@@ -13,12 +12,9 @@ use Rattle.ns_types.specs.declared.node.Node.{Node}
 use Rattle.ns_types.specs.declared.plan.Eviction.{Eviction}
 use Rattle.ns_types.specs.declared.plan.Placement.{Placement}
 use Rattle.ns_types.specs.declared.snapshot.Snapshot.{Snapshot}
-use Rattle.ns_types.specs.Working.Commit.{
-    stop_all, victims_of, evict, evict_all, accepts_at, node_name, size_of, part_of, Commit, decide, begun, nodes_in,
-    place_one, place_with, place_all, make_up, Victim, least_of_job, same_victim_job, evicted_rows,
-    committed_placements, live_stops, with_place, with_allocation, new_allocation, done, done_with, commit,
-    refused_whole, still_stands
-}
+use Rattle.ns_types.specs.Working.Commit.{stop_all, victims_of, evict, evict_all, accepts_at, node_name, size_of, part_of, Commit, decide, begun, nodes_in}
+use Rattle.ns_types.specs.Working.Commit.{place_one, place_with, place_all, make_up, Victim, least_of_job, same_victim_job, evicted_rows, committed_placements}
+use Rattle.ns_types.specs.Working.Commit.{live_stops, with_place, with_allocation, new_allocation, done, done_with, commit, refused_whole, still_stands}
 use Rattle.ns_types.specs.Settling.Making.{put_tenant, change_tenant, put_pool, with_desired, evaluation_for, with_evaluation, make_in, make}
 use Rattle.ns_types.specs.State.Lists.{first_each}
 use Rattle.ns_types.specs.State.Names.{Name, ByNumber, name_cmp}
@@ -41,9 +37,9 @@ SameIn of w x = (k : Name) → of_at of x k ≡ of_at of w k
 
 module _ {Y : Type 0} (of : Tenant → Y)
     (same_evaluations : (t : Tenant) (number : ℕ) (evaluations : ByNumber Evaluation) →
-        of (record t { evaluation_number = number; evaluations = evaluations }) ≡ of t)
+    of (record t { evaluation_number = number; evaluations = evaluations }) ≡ of t)
     (same_allocations : (t : Tenant) (number : ℕ) (allocations : ByNumber Allocation) →
-        of (record t { allocation_number = number; allocations = allocations }) ≡ of t) where
+    of (record t { allocation_number = number; allocations = allocations }) ≡ of t) where
   pub fixed_put : (ns : Name) (t t' : Tenant) (w : World) → get w.tenants ns ≡ Some t → of t' ≡ of t → SameIn of w (put_tenant ns t' w)
   fixed_put ns t t' w is same k = ap (option_map of) (get-insert names w.tenants ns t' k) ∙ by (eq_by_cmp name_cmp k ns) refl
     where
@@ -90,9 +86,14 @@ module _ {Y : Type 0} (of : Tenant → Y)
   decided_one : (kept : Snapshot) (ps : List Placement) (c : Commit) (n : ℕ) → SameIn of c.world (decide kept ps c n).world
   unfolding decide
   decided_one kept ps c n k = elim (accepts_at kept (evict_all c.world (victims_of c.world kept (part_of n ps))) (node_name kept n) (part_of n ps) c.placed) as
-      (λ b. of_at of (cond b (record { world = evict_all c.world (victims_of c.world kept (part_of n ps)); placed =
-          plus c.placed (size_of (part_of n ps)); committed = c.committed ++ n ∷ []; dropped = c.dropped }) (record c { dropped = c.dropped ++ n ∷ [] })).world
-          k ≡ of_at of c.world k) [
+      (λ b. of_at of (cond b (record {
+        world = evict_all c.world (victims_of c.world kept (part_of n ps));
+        placed =
+            plus c.placed (size_of (part_of n ps));
+        committed = c.committed ++ n ∷ [];
+        dropped = c.dropped;
+      }) (record c { dropped = c.dropped ++ n ∷ [] })).world
+      k ≡ of_at of c.world k) [
         | true ↦ fixed_evicted (victims_of c.world kept (part_of n ps)) c.world k
         | false ↦ refl
       ]
@@ -130,9 +131,9 @@ module _ {Y : Type 0} (of : Tenant → Y)
   unfolding commit
   fixed_commit kept p w t k = elim (still_stands kept.job (get t.jobs kept.evaluation.job)) as
       (λ b. of_at of (cond b (done kept p w t) (refused_whole kept p w)).world k ≡ of_at of w k) [
-    | true ↦ whole (stop_all kept.namespace stops w) (fixed_change kept.namespace _ (fixed_stops stops) w k)
-    | false ↦ refl
-  ]
+        | true ↦ whole (stop_all kept.namespace stops w) (fixed_change kept.namespace _ (fixed_stops stops) w k)
+        | false ↦ refl
+      ]
     where
       stops : List ℕ
       stops = live_stops t p.stops

@@ -5,7 +5,7 @@ use Rattle.std.specs.Option.{option_map_or}
 use Rattle.ns_types.specs.declared.refusal.Refusal.{Refusal}
 use Rattle.ns_types.specs.declared.reply.Content.{Content}
 use Rattle.ns_types.specs.Isolation.{Part, alone_in}
-use Rattle.ns_types.specs.Settling.Outcome.{Outcome, NotEnabled, Refused, Done, unless, found}
+use Rattle.ns_types.specs.Settling.Outcome.{Outcome, NotEnabled, Refused, Done, unless, refused_by, found}
 use Rattle.ns_types.specs.State.Rows.{World}
 use Rattle.ns_types.proofs.Lists.{cond_same}
 use Rattle.ns_audit.specs.Apart.{Leaves, Follows}
@@ -55,6 +55,20 @@ module _ (part : Part) (w : World) where
       by : (c : Bool) → d ≡ c → Leaves part w (cond c (Refused refusal) o)
       by true _ = tt
       by false is = h is
+
+  pub goes_refused_by : (b : Bool) (x x' : Option Refusal) (o o' : Outcome World) → (b ≡ true → x' ≡ x) → (x ≡ None → Goes part w b o o') →
+      Goes part w b (refused_by x o) (refused_by x' o')
+  unfolding Follows Leaves
+  goes_refused_by true x x' o o' alike h = subst (λ y. Follows part (refused_by x o) (refused_by y o')) (sym (alike refl)) (by x refl)
+    where
+      by : (y : Option Refusal) → x ≡ y → Follows part (refused_by y o) (refused_by y o')
+      by None is = h is
+      by (Some refusal) is = refl
+  goes_refused_by false x x' o o' alike h = by x refl
+    where
+      by : (y : Option Refusal) → x ≡ y → Leaves part w (refused_by y o)
+      by None is = h is
+      by (Some refusal) is = tt
 
   pub goes_found : {A : Type 0} (b : Bool) (x x' : Option A) (f f' : A → Outcome World) → (b ≡ true → x' ≡ x) →
       ((a : A) → x ≡ Some a → Goes part w b (f a) (f' a)) → Goes part w b (found x f) (found x' f')

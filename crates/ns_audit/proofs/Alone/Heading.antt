@@ -5,11 +5,8 @@ use Rattle.ns_types.specs.declared.acl.Rights.{Rights}
 use Rattle.ns_types.specs.declared.records.Namespace.{Namespace}
 use Rattle.ns_types.specs.declared.refusal.Refusal.TheVariants as Refusal
 use Rattle.ns_types.specs.declared.step.AskCommand.{AskCommand}
-use Rattle.ns_types.specs.declared.step.AskCommand.TheVariants as AskCommand
 use Rattle.ns_types.specs.declared.step.NodeCommand.{NodeCommand}
-use Rattle.ns_types.specs.declared.step.NodeCommand.TheVariants as NodeCommand
 use Rattle.ns_types.specs.declared.step.Step.{Step}
-use Rattle.ns_types.specs.declared.step.Step.TheVariants as Step
 use Rattle.ns_types.specs.Asking.Policies.{with_world}
 use Rattle.ns_types.specs.Asking.Asks.{right_of}
 use Rattle.ns_types.specs.Isolation.{namespace_at, has_pool, part_of, alone, quota_record, pool_record, SameTables, Agree, concerns, is_own, Keeps}
@@ -24,9 +21,10 @@ use Rattle.ns_types.specs.State.Sums.{names_quota}
 use Rattle.ns_types.specs.Steps.{Answer, said, act, after, is_allowed, concluded, reply_of, is_past_bound}
 use Rattle.ns_types.proofs.Lists.{left_none, right_none}
 use Rattle.ns_types.proofs.Named.{same_name_is, same_name_refl, first_of_both}
+use Rattle.ns_types.proofs.Tests.{not_Some, same_Some}
 use Rattle.ns_audit.specs.Headline.{OwnStep, OtherStep}
 use Rattle.ns_audit.specs.Laws.{concerns_part, belongs, AgreeOn, KeepsTables, LeavesTables, IsFit}
-use Rattle.ns_audit.proofs.Alone.Chosen.{no_path, same_Some, tenant_alone, pool_alone, quota_alone}
+use Rattle.ns_audit.proofs.Alone.Chosen.{tenant_alone, pool_alone, quota_alone}
 use Rattle.ns_audit.proofs.Alone.Naming.{Named, change_named}
 use Rattle.ns_audit.proofs.Alone.Owning.{fit_of}
 use Rattle.ns_audit.proofs.Alone.Recording.{namespace_settled}
@@ -42,7 +40,7 @@ module _ (s s' : State) (step : Step) (answer : Answer) (plain : is_admin step �
 
   concluded_keeps : (ns : Name) (o : Outcome World) → Named s.world o → concluded step s (lift (with_world s.acl) o) ≡ said answer s' →
       (namespace_at s'.world ns ≡ namespace_at s.world ns) × (s'.acl ≡ s.acl)
-  concluded_keeps ns NotEnabled named e = absurd (no_path e)
+  concluded_keeps ns NotEnabled named e = absurd (not_Some _ e)
   concluded_keeps ns (Refused refusal) named e = same_there s (ap (λ x. x.1) (same_Some _ _ e)) ns refl refl
   concluded_keeps ns (Done content w) named e = by (is_past_bound (settle s.world w)) e
     where
@@ -192,7 +190,7 @@ denied : (s s' : State) (asked : Name) (secret : Option Name) (command : AskComm
 unfolding after
 denied s s' asked secret command answer none e =
     ap (λ x. x.1) (same_Some _ _ (sym (ap (λ b. cond b (concluded (Step.Ask asked secret command) s (act (Step.Ask asked secret command) s))
-        (said (Err Refusal.Denied) s)) (lacks command (rights_of s.acl secret asked) none)) ∙ e))
+    (said (Err Refusal.Denied) s)) (lacks command (rights_of s.acl secret asked) none)) ∙ e))
 
 -- ---- the tables of the namespace as those of its part
 

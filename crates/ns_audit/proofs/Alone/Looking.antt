@@ -21,8 +21,9 @@ use Rattle.ns_types.specs.Working.Work.{has_failed, follower_of}
 use Rattle.ns_types.proofs.Lists.{filter_none}
 use Rattle.ns_types.proofs.Named.{names, one_name, numbers, one_number}
 use Rattle.ns_types.proofs.Tables.{each_row, filter-retain, flat_map-retain}
+use Rattle.ns_types.proofs.Tests.{not_Some}
 use Rattle.ns_audit.specs.Apart.{IsKeptWith, IsApart}
-use Rattle.ns_audit.proofs.Alone.Chosen.{no_path, pool_alone, quota_alone}
+use Rattle.ns_audit.proofs.Alone.Chosen.{pool_alone, quota_alone}
 use Rattle.ns_audit.proofs.Alone.Summing.{names_none, on_none, quota_use_alone}
 
 module _ (part : Part) (w : World) (apart : IsApart part w) where
@@ -31,8 +32,8 @@ module _ (part : Part) (w : World) (apart : IsApart part w) where
   live_on_alone pool node mine = ap (λ xs. map seen_live (by_number (λ a. a.1.1.place) xs))
       (flat_map-retain names one_name (λ ns t. map (λ a. (ns, a)) (filter (λ a. is_live_on pool node a.1) (entries t.allocations))) w.tenants part.spaces
       (λ k t is other. ap (map (λ a. (k, a))) (filter_none _ (entries t.allocations)
-          (each_row numbers one_number (λ n a. is_live_on pool node a ≡ false) t.allocations
-          (λ n a at. on_none part w apart.allocation pool node k t n a mine is other at)))))
+      (each_row numbers one_number (λ n a. is_live_on pool node a ≡ false) t.allocations
+      (λ n a at. on_none part w apart.allocation pool node k t n a mine is other at)))))
 
   nodes_of_alone : (pool : Name) → part.pools pool ≡ true → nodes_of w pool ≡ nodes_of (alone_in part w) pool
   nodes_of_alone pool mine = λ i. option_map_or (λ p. map (λ n. record { name = n.0; row = n.1; live = live_on_alone pool n.0 mine i }) (entries p.nodes))
@@ -85,9 +86,9 @@ pub limits_by : (e : Evaluation) (worker : Worker) (kept : Snapshot) (q : Name) 
 limits_by e worker kept q = by (has_failed worker) (plan kept).placing.quota_limited
   where
     by : (a b : Bool) → cond a None (cond b (option_map (λ q. q.name) kept.quota) None) ≡ Some q → option_map (λ q. q.name) kept.quota ≡ Some q
-    by true b at = absurd (no_path at)
+    by true b at = absurd (not_Some _ at)
     by false true at = at
-    by false false at = absurd (no_path at)
+    by false false at = absurd (not_Some _ at)
 
 pub missed_alone : (part : Part) (w : World) (ns : Name) (e : Evaluation) (worker : Worker) (kept : Snapshot) → part.spaces ns ≡ true → IsKeptWith part ns kept
     → missed (alone_in part w) kept (follower_of e worker kept) ≡ missed w kept (follower_of e worker kept)

@@ -6,34 +6,27 @@ use Rattle.std.specs.Option.{option_map_or}
 use Rattle.ns_types.specs.declared.allocation.Allocation.{Allocation}
 use Rattle.ns_types.specs.declared.allocation.ClientStatus.{ClientStatus}
 use Rattle.ns_types.specs.declared.allocation.DesiredStatus.{DesiredStatus}
-use Rattle.ns_types.specs.declared.allocation.DesiredStatus.TheVariants as DesiredStatus
 use Rattle.ns_types.specs.declared.evaluation.Evaluation.{Evaluation}
 use Rattle.ns_types.specs.declared.evaluation.Status.{Status}
-use Rattle.ns_types.specs.declared.evaluation.Status.TheVariants as Status
 use Rattle.ns_types.specs.declared.evaluation.Trigger.TheVariants as Trigger
 use Rattle.ns_types.specs.declared.job.Job.{Job}
 use Rattle.ns_types.specs.declared.plan.Placement.{Placement}
 use Rattle.ns_types.specs.declared.refusal.Refusal.{Refusal}
 use Rattle.ns_types.specs.declared.snapshot.Snapshot.{Snapshot}
 use Rattle.ns_types.specs.declared.step.AskCommand.{AskCommand}
-use Rattle.ns_types.specs.declared.step.AskCommand.TheVariants as AskCommand
 use Rattle.ns_types.specs.declared.step.NodeCommand.{NodeCommand}
-use Rattle.ns_types.specs.declared.step.NodeCommand.TheVariants as NodeCommand
 use Rattle.ns_types.specs.declared.step.Report.{Report}
 use Rattle.ns_types.specs.declared.step.Step.{Step}
-use Rattle.ns_types.specs.declared.step.Step.TheVariants as Step
 use Rattle.ns_types.specs.declared.worker.Worker.{Worker}
-use Rattle.ns_types.specs.Asking.Asks.{deregistered, asked_in, ask}
+use Rattle.ns_types.specs.Asking.Asks.{deregistered, asked_in, ask, first_refusal}
 use Rattle.ns_types.specs.Working.Commit.{Commit, decide, place_one, commit, applied_worker, applied, apply_for, apply}
 use Rattle.ns_types.specs.Isolation.{namespace_at}
 use Rattle.ns_types.specs.Settling.Making.{put_tenant, change_tenant, put_pool, with_status, with_desired, with_client, evaluation_for, make_in, make}
 use Rattle.ns_types.specs.State.Names.{Name}
 use Rattle.std.specs.Prelude.{not}
 use Rattle.ns_types.specs.State.Rows.{allocation_at}
-use Rattle.ns_types.specs.Asking.Nodes.{
-    is_on, report_of, same_client, may_become, lose, lost, losses, go_down, reported, calls_for_one, asked_in_pool,
-    ask_pool
-}
+use Rattle.ns_types.specs.Asking.Nodes.{is_on, report_of, same_client, may_become, lose, lost, losses, go_down, reported, calls_for_one, asked_in_pool}
+use Rattle.ns_types.specs.Asking.Nodes.{ask_pool}
 use Rattle.ns_types.specs.Settling.Outcome.{Outcome, NotEnabled, Refused, Done, unless}
 use Rattle.ns_types.specs.Working.Queue.{promote, first_waiting, is_busy}
 use Rattle.ns_types.specs.State.Rows.{World, Tenant, PoolRows}
@@ -45,23 +38,18 @@ use Rattle.ns_types.specs.State.Rows.{is_ready}
 use Rattle.std.specs.Prelude.{nat_le}
 use Rattle.ns_types.specs.declared.reply.Content.TheVariants as Content
 use Rattle.ns_types.specs.Working.Queue.{is_served}
-use Rattle.ns_types.specs.declared.refusal.Refusal.TheVariants as Refusal
 use Rattle.ns_types.specs.State.Sums.{names_quota, quota_use}
 use Rattle.std.specs.Prelude.{nat_lt}
 use Rattle.ns_types.specs.declared.worker.Phase.TheVariants as Phase
 use Rattle.ns_types.specs.Working.Snapshot.{snapshot_of}
-use Rattle.ns_types.specs.Working.Work.{
-    workers_end, is_idle, new_worker, taken, may_snap, with_snapshot, may_submit, submitted, is_submitted, most_nacks,
-    given_up, given_back, may_finish, needs_follower, finished, snap_for, submit_for, finish_for, nack_for, follower_of,
-    end_of, without_key, at_work, with_worker, without_worker, cancel_blocked, blocked_of, without_blocked, ended,
-    with_follower, followed, dequeue_in, dequeue, snap, submit, finish, nack, with_nack
-}
+use Rattle.ns_types.specs.Working.Work.{workers_end, is_idle, new_worker, taken, may_snap, with_snapshot, may_submit, submitted, is_submitted, most_nacks}
+use Rattle.ns_types.specs.Working.Work.{given_up, given_back, may_finish, needs_follower, finished, snap_for, submit_for, finish_for, nack_for, follower_of}
+use Rattle.ns_types.specs.Working.Work.{end_of, without_key, at_work, with_worker, without_worker, cancel_blocked, blocked_of, without_blocked, ended}
+use Rattle.ns_types.specs.Working.Work.{with_follower, followed, dequeue_in, dequeue, snap, submit, finish, nack, with_nack}
 use Rattle.ns_types.specs.declared.records.Namespace.{Namespace}
-use Rattle.ns_audit.proofs.Alone.Fixed.{
-    fixed_put, fixed_change, fixed_make_in, fixed_make, fixed_each, fixed_desired, fixed_stops, fixed_decided,
-    fixed_placed, fixed_commit
-}
-use Rattle.ns_audit.proofs.Outcomes.{Leads, leads_unless, leads_found, leads_there, leads_if}
+use Rattle.ns_audit.proofs.Alone.Fixed.{fixed_put, fixed_change, fixed_make_in, fixed_make, fixed_each, fixed_desired, fixed_stops, fixed_decided, fixed_placed}
+use Rattle.ns_audit.proofs.Alone.Fixed.{fixed_commit}
+use Rattle.ns_audit.proofs.Outcomes.{Leads, leads_unless, leads_refused, leads_found, leads_there, leads_if}
 use Rattle.ns_audit.proofs.Alone.Recording.{record_kept}
 use Rattle.ns_audit.proofs.Alone.Sides.{change}
 
@@ -165,12 +153,11 @@ module _ (w : World) where
   named_keeping number ns act h = named_at_work number ns (λ t worker e. option_map_or (act t worker e) worker.kept NotEnabled)
       (λ t worker e is. leads_there (SameNamed w) worker.kept (act t worker e) (λ kept _. h t worker e kept is))
 
-  -- ---- what is asked and told
+  -- ---- what is asked of a namespace and of a pool
 
   named_asked : (ns : Name) (command : AskCommand) (t : Tenant) → get w.tenants ns ≡ Some t → Named w (asked_in ns command w t)
   named_asked ns (AskCommand.ListJobs prefix) t is = λ k. refl
-  named_asked ns (AskCommand.Register r) t is = named_unless _ _ _
-      (named_unless _ _ _ (named_unless _ _ _ (named_unless _ _ _ (named_make_in ns _ t _ w is refl))))
+  named_asked ns (AskCommand.Register r) t is = leads_refused (SameNamed w) (first_refusal w t r) _ (λ _. named_make_in ns _ t _ w is refl)
   named_asked ns (AskCommand.ReadJob id) t is = leads_found (SameNamed w) (get t.jobs id) _ (λ job _ k. refl)
   named_asked ns (AskCommand.Deregister id purge) t is =
       leads_found (SameNamed w) (get t.jobs id) _ (λ job _. named_make_in ns _ t (deregistered purge id job t) w is (deregistered_same purge id job t))
@@ -193,31 +180,31 @@ module _ (w : World) where
   named_down pool name x k = named_each (λ y (loss : Name × Allocation). make loss.0 (λ t. evaluation_for t loss.1 Trigger.NodeUpdate) y)
       (λ y loss. named_make loss.0 _ y) (losses pool name x) (lose pool name x) k
       ∙ record_kept (λ _ t. record t { allocations = map_rows (λ _ a. lost pool name a) t.allocations }) (λ (t : Tenant). t.namespace) (λ ns t. refl)
-          x.tenants k
+      x.tenants k
 
   named_reported : (r : Report) (a : Allocation) → SameNamed w (reported r a w)
   named_reported r a k = elim (option_map_or (λ t. calls_for_one t a r.client) (get w.tenants r.namespace) false) as
       (λ b. namespace_at (cond b (make r.namespace (λ t. evaluation_for t a Trigger.AllocFailure) (change_tenant r.namespace (with_client r.number r.client) w))
-          (change_tenant r.namespace (with_client r.number r.client) w)) k ≡ namespace_at w k) [
+      (change_tenant r.namespace (with_client r.number r.client) w)) k ≡ namespace_at w k) [
         | true ↦ named_make r.namespace (λ t. evaluation_for t a Trigger.AllocFailure) (change_tenant r.namespace (with_client r.number r.client) w) k ∙
             named_change r.namespace (with_client r.number r.client) (client_same r.number r.client) w k
         | false ↦ named_change r.namespace (with_client r.number r.client) (client_same r.number r.client) w k
       ]
 
-  named_told : (pool : Name) (command : NodeCommand) (p : PoolRows) → Named w (asked_in_pool pool command w p)
-  named_told pool NodeCommand.ReadPool p = λ k. refl
-  named_told pool NodeCommand.ListNodes p = λ k. refl
-  named_told pool (NodeCommand.PutNode name offer) p = named_unless _ _ _ (named_unless _ _ _ (λ k. refl))
-  named_told pool (NodeCommand.DeleteNode name) p = leads_found (SameNamed w) (get p.nodes name) _ (λ node _. named_unless _ _ _ (λ k. refl))
-  named_told pool (NodeCommand.SetStatus name status) p =
+  named_pool : (pool : Name) (command : NodeCommand) (p : PoolRows) → Named w (asked_in_pool pool command w p)
+  named_pool pool NodeCommand.ReadPool p = λ k. refl
+  named_pool pool NodeCommand.ListNodes p = λ k. refl
+  named_pool pool (NodeCommand.PutNode name offer) p = named_unless _ _ _ (named_unless _ _ _ (λ k. refl))
+  named_pool pool (NodeCommand.DeleteNode name) p = leads_found (SameNamed w) (get p.nodes name) _ (λ node _. named_unless _ _ _ (λ k. refl))
+  named_pool pool (NodeCommand.SetStatus name status) p =
       leads_found (SameNamed w) (get p.nodes name) _
       (λ node _. by (put_pool pool (record p { nodes = insert p.nodes name (record node { status = status }) }) w) (λ k. refl) (is_ready status))
     where
       by : (x : World) → SameNamed w x → (b : Bool) → SameNamed w (cond b x (go_down pool name x))
       by x same true = same
       by x same false = λ k. named_down pool name x k ∙ same k
-  named_told pool (NodeCommand.SetEligible name eligible) p = leads_found (SameNamed w) (get p.nodes name) _ (λ node _ k. refl)
-  named_told pool (NodeCommand.Report name r) p =
+  named_pool pool (NodeCommand.SetEligible name eligible) p = leads_found (SameNamed w) (get p.nodes name) _ (λ node _ k. refl)
+  named_pool pool (NodeCommand.Report name r) p =
       leads_found (SameNamed w) (get p.nodes name) _
       (λ node _. leads_found (SameNamed w) (allocation_at w (r.namespace, r.number)) (λ x. unless (not (is_on pool name x)) Refusal.NotFound (report_of r w x))
       (λ a _. named_unless (not (is_on pool name a)) Refusal.NotFound (report_of r w a)
@@ -256,10 +243,10 @@ module _ (w : World) where
 
       either : (t : Tenant) (worker : Worker) (e : Evaluation) (kept : Snapshot) → get w.tenants ns ≡ Some t → (b : Bool)
           → Named w (cond b (Done (Content.Finished (end_of worker) (Some (t.evaluation_number + 1)))
-              (promote ns e.job (followed ns worker (follower_of e worker kept) (ended number worker e (end_of worker) t)
-              (missed w kept (follower_of e worker kept)) (without_blocked ns e.job t w))))
+          (promote ns e.job (followed ns worker (follower_of e worker kept) (ended number worker e (end_of worker) t)
+          (missed w kept (follower_of e worker kept)) (without_blocked ns e.job t w))))
           (Done (Content.Finished (end_of worker) None)
-              (promote ns e.job (put_tenant ns (ended number worker e (end_of worker) t) (without_blocked ns e.job t w)))))
+          (promote ns e.job (put_tenant ns (ended number worker e (end_of worker) t) (without_blocked ns e.job t w)))))
       either t worker e kept is true = λ k. named_promote ns e.job
           (followed ns worker (follower_of e worker kept) (ended number worker e (end_of worker) t) (missed w kept (follower_of e worker kept))
           (without_blocked ns e.job t w)) k ∙ by t worker e kept is (missed w kept (follower_of e worker kept)) k
@@ -271,10 +258,10 @@ module _ (w : World) where
   unfolding nack
   named_nack number ns = named_at_work number ns (nack_for number ns w) (λ t worker e is. named_either (is_submitted worker.phase) NotEnabled _ tt
       (named_either (nat_le most_nacks (e.nacks + 1)) (given_up number ns w (with_nack worker.evaluation e t) worker e)
-          (given_back number ns w (with_nack worker.evaluation e t) worker)
+      (given_back number ns w (with_nack worker.evaluation e t) worker)
       (λ k. named_promote ns e.job (put_tenant ns (with_status worker.evaluation Status.Failed (without_worker number (with_nack worker.evaluation e t))) w) k
       ∙ named_put ns t (with_status worker.evaluation Status.Failed (without_worker number (with_nack worker.evaluation e t))) w is
-          (status_same worker.evaluation Status.Failed (without_worker number (with_nack worker.evaluation e t))) k)
+      (status_same worker.evaluation Status.Failed (without_worker number (with_nack worker.evaluation e t))) k)
       (named_put ns t (without_worker number (with_nack worker.evaluation e t)) w is refl)))
 
 -- ---- Apply
@@ -294,7 +281,7 @@ named_apply w number ns = named_keeping w number ns (apply_for number ns w)
     (λ t worker e kept is. named_either w (is_submitted worker.phase && is_served w w.plans (ns, worker.evaluation))
     (applied number ns worker e (commit kept (plan kept) w t)) NotEnabled
     (λ k. named_change ns (with_worker number (applied_worker (commit kept (plan kept) w t) worker e)) (λ x. refl) (commit kept (plan kept) w t).world k ∙
-        named_commit kept (plan kept) w t k) tt)
+    named_commit kept (plan kept) w t k) tt)
 
 -- ---- all steps
 
@@ -302,18 +289,18 @@ pub change_named : (step : Step) (w : World) → Named w (change step w)
 unfolding ask ask_pool dequeue snap submit
 change_named (Step.Ask ns secret command) w = leads_found (SameNamed w) (get w.tenants ns) _ (λ t is. named_asked w ns command t is)
 change_named (Step.Admin secret command) w = tt
-change_named (Step.Node pool secret command) w = leads_found (SameNamed w) (get w.pools pool) _ (λ p is. named_told w pool command p)
+change_named (Step.Node pool secret command) w = leads_found (SameNamed w) (get w.pools pool) _ (λ p is. named_pool w pool command p)
 change_named (Step.Dequeue worker ns n) w = named_either w (nat_lt worker workers_end && is_idle w worker && is_served w w.ready (ns, n))
     (option_map_or (dequeue_in worker (ns, n) w) (get w.tenants ns) NotEnabled) NotEnabled
     (leads_there (SameNamed w) (get w.tenants ns) (dequeue_in worker (ns, n) w)
-        (λ t is. leads_there (SameNamed w) (get t.evaluations n) (λ e. Done (Content.Took n) (taken worker (ns, n) w t e))
-        (λ e _. named_put ns t (with_worker worker (new_worker n e) t) w is refl))) tt
+    (λ t is. leads_there (SameNamed w) (get t.evaluations n) (λ e. Done (Content.Took n) (taken worker (ns, n) w t e))
+    (λ e _. named_put ns t (with_worker worker (new_worker n e) t) w is refl))) tt
 change_named (Step.Snap worker ns) w = named_at_work w worker ns (snap_for worker ns w) (λ t x e is.
     let t' = with_worker worker (with_snapshot (snapshot_of w ns t x.evaluation e) x) t in
     named_either w (may_snap x.tries x.phase) (Done (Content.Snapped x.evaluation) (put_tenant ns t' w)) NotEnabled (named_put ns t t' w is refl) tt)
 change_named (Step.Submit worker ns) w = named_keeping w worker ns (λ t x e. submit_for worker ns w t x) (λ t x e kept is.
     named_either w (may_submit x kept) (Done (Content.Queued x.evaluation) (submitted worker ns w t x)) NotEnabled
-        (named_put ns t (with_worker worker (record x { phase = Phase.Submitted }) t) w is refl) tt)
+    (named_put ns t (with_worker worker (record x { phase = Phase.Submitted }) t) w is refl) tt)
 change_named (Step.Apply worker ns) w = named_apply w worker ns
 change_named (Step.Finish worker ns) w = named_finish w worker ns
 change_named (Step.Nack worker ns) w = named_nack w worker ns

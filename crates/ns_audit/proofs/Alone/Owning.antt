@@ -6,7 +6,6 @@ use Rattle.std.specs.List.{list_any}
 use Rattle.std.specs.Option.{option_map_or, option_and_then}
 use Rattle.ns_types.specs.declared.evaluation.Evaluation.{Evaluation}
 use Rattle.ns_types.specs.declared.evaluation.Status.{Status}
-use Rattle.ns_types.specs.declared.evaluation.Status.TheVariants as Status
 use Rattle.ns_types.specs.Isolation.{namespace_at, has_pool, has_quota, part_of}
 use Rattle.ns_types.specs.State.Lists.{Each}
 use Rattle.ns_types.specs.State.Names.{Name, Key, same_name, same_key, has_key}
@@ -18,11 +17,11 @@ use Rattle.ns_types.specs.Validity.{IsAllowed, IsSound, IsSoundTenant}
 use Rattle.ns_types.proofs.Lists.{not_both, left_none, right_none}
 use Rattle.ns_types.proofs.Named.{one_name, one_number, same_name_is, same_name_refl, same_number_refl, first_of_both, second_of_both}
 use Rattle.ns_types.proofs.Tables.{none_of_any}
+use Rattle.ns_types.proofs.Tests.{not_Some, same_Some, is_no}
+use Rattle.std.proofs.lemmas.Bool.{or_right}
 use Rattle.ns_audit.specs.Apart.{IsWith, IsApart, IsAtHome}
 use Rattle.ns_audit.specs.Laws.{IsFit}
 use Rattle.ns_audit.specs.Orderly.{IsAllowedTo, IsOrderlyTenant, IsReadyIn, IsBlockedIn, IsListed, IsOrderly}
-use Rattle.ns_audit.proofs.Steady.Keeping.{or_true}
-use Rattle.ns_audit.proofs.Alone.Chosen.{no_path, same_Some, off}
 
 -- ---- a valid state is orderly
 
@@ -66,7 +65,7 @@ module _ (w : World) (s : IsSound w) where
     listed_at e at h = by (get w.tenants ns) refl at
       where
         by : (o : Option Tenant) → get w.tenants ns ≡ o → option_and_then (λ t. get t.evaluations n) o ≡ Some e → IsListed w P ns n
-        by None is at = absurd (no_path at)
+        by None is at = absurd (not_Some _ at)
         by (Some t) is at = record { tenant = t; is_tenant = is; entry = h t is at }
 
   ready_orderly : (ns : Name) (n : ℕ) → has_key w.ready (ns, n) ≡ true → IsListed w IsReadyIn ns n
@@ -144,7 +143,7 @@ module _ (w : World) (ns : Name) (t : Tenant) (is : get w.tenants ns ≡ Some t)
     quota_side k x q at named = quotas_are q ∙ by (same_name ns k) refl
       where
         own : (r : Option Name) → r ≡ Some q → option_map_or (same_name q) r false ≡ true
-        own None e = absurd (no_path e)
+        own None e = absurd (not_Some _ e)
         own (Some r) e = ap (same_name q) (same_Some r q e) ∙ same_name_refl q
 
         none : (r : Option Name) → t.namespace.quota ≡ r → option_map_or (λ quota. names_quota quota x.namespace) r false ≡ false →
@@ -173,28 +172,31 @@ module _ (w : World) (ns : Name) (t : Tenant) (is : get w.tenants ns ≡ Some t)
 module _ (w : World) (ns : Name) (t : Tenant) (is : get w.tenants ns ≡ Some t) (unshared : shares_with_any w ns t ≡ false) (o : IsOrderly w) where
   with_its : (k : Name) (x : Tenant) → get w.tenants k ≡ Some x → (pool : Name) (quota : Option Name) → IsAllowedTo x.namespace pool quota →
       IsWith (part_of w ns) k pool quota
-  with_its k x at pool quota a = record { pool_with = pool_side w ns t is unshared k x pool at a.permitted; quota_with =
-      λ q e. quota_side w ns t is unshared k x q at (a.its_quota q e) }
+  with_its k x at pool quota a = record {
+    pool_with = pool_side w ns t is unshared k x pool at a.permitted;
+    quota_with =
+        λ q e. quota_side w ns t is unshared k x q at (a.its_quota q e);
+  }
 
   blocked_with : (key : Key) (e : Evaluation) → has_key w.blocked key ≡ true → evaluation_at w key ≡ Some e → IsWith (part_of w ns) key.0 e.pool e.quota
   blocked_with key e has at = by (get w.tenants key.0) refl at
     where
       by : (x : Option Tenant) → get w.tenants key.0 ≡ x → option_and_then (λ t. get t.evaluations key.1) x ≡ Some e →
           IsWith (part_of w ns) key.0 e.pool e.quota
-      by None x_is at = absurd (no_path at)
+      by None x_is at = absurd (not_Some _ at)
       by (Some x) x_is at =
           let b = o.blocked key.0 key.1 has in
           let same : x ≡ b.tenant = same_Some _ _ (sym x_is ∙ b.is_tenant) in
           with_its key.0 x x_is e.pool e.quota ((o.tenant key.0 x x_is).evaluation key.1 e at
-              (ap (λ e. is_open e.status) (same_Some _ _ (sym at ∙ ap (λ (t : Tenant). get t.evaluations key.1) same ∙ b.entry.is_row)) ∙
-              ap is_open b.entry.is_blocked))
+          (ap (λ e. is_open e.status) (same_Some _ _ (sym at ∙ ap (λ (t : Tenant). get t.evaluations key.1) same ∙ b.entry.is_row)) ∙
+          ap is_open b.entry.is_blocked))
 
   each_blocked : (keys : List Key) → ((key : Key) → has_key keys key ≡ true → has_key w.blocked key ≡ true) →
       Each (λ key. (e : Evaluation) → evaluation_at w key ≡ Some e → IsWith (part_of w ns) key.0 e.pool e.quota) keys
   each_blocked [] h = tt
   each_blocked (k ∷ ks) h = (
     (λ e at. blocked_with k e (h k (ap (λ b. b || has_key ks k) (λ i. same_name_refl k.0 i && same_number_refl k.1 i))) at),
-    each_blocked ks (λ key has. h key (or_true (same_key key k) _ has)),
+    each_blocked ks (λ key has. h key (or_right (same_key key k) _ has)),
   )
 
   apart : IsApart (part_of w ns) w
@@ -214,7 +216,7 @@ module _ (w : World) (ns : Name) (t : Tenant) (is : get w.tenants ns ≡ Some t)
   at_home : strays t ≡ false → IsAtHome (part_of w ns) w
   at_home none k x n a at row held own =
       pools_are w ns t is a.pool ∙ by (permits t.namespace a.pool) (is_held a.client) held
-          (none_of_any one_number (λ _ a. is_held a.client && not (permits t.namespace a.pool)) t.allocations n a (right_none _ _ none)
+      (none_of_any one_number (λ _ a. is_held a.client && not (permits t.namespace a.pool)) t.allocations n a (right_none _ _ none)
       (ap (λ (y : Tenant). get y.allocations n) (same_Some _ _ (sym is ∙ ap (get w.tenants) (same_name_is ns k own) ∙ at)) ∙ row))
     where
       by : (b h : Bool) → h ≡ true → (h && not b) ≡ false → b ≡ true
@@ -223,9 +225,9 @@ module _ (w : World) (ns : Name) (t : Tenant) (is : get w.tenants ns ≡ Some t)
 
 pub fit_of : (s : State) (ns : Name) → IsOrderly s.world → is_past_bound s.world ≡ false → is_unshared s.world ns ≡ true → IsFit (part_of s.world ns) s
 unfolding is_unshared shares
-fit_of s ns o within unshared = by (get s.world.tenants ns) refl (off _ (first_of_both _ _ unshared)) (second_of_both (not (shares s.world ns)) _ unshared)
+fit_of s ns o within unshared = by (get s.world.tenants ns) refl (is_no _ (first_of_both _ _ unshared)) (second_of_both (not (shares s.world ns)) _ unshared)
   where
     by : (x : Option Tenant) → get s.world.tenants ns ≡ x → option_map_or (shares_with_any s.world ns) x true ≡ false →
         option_map_or (λ t. not (strays t)) x false ≡ true → IsFit (part_of s.world ns) s
     by None is shared home = absurd (subst T (sym home) tt)
-    by (Some t) is shared home = record { apart = apart s.world ns t is shared o; at_home = at_home s.world ns t is shared o (off _ home); within = within }
+    by (Some t) is shared home = record { apart = apart s.world ns t is shared o; at_home = at_home s.world ns t is shared o (is_no _ home); within = within }

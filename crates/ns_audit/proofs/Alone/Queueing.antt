@@ -7,7 +7,7 @@ use Rattle.ns_types.specs.Working.Queue.{first_of_greatest}
 use Rattle.ns_types.specs.State.Lists.{Each}
 use Rattle.ns_types.proofs.Lists.{not_both}
 use Rattle.ns_types.proofs.Named.{first_of_both, second_of_both}
-use Rattle.ns_audit.proofs.Alone.Chosen.{no_path, same_Some}
+use Rattle.ns_types.proofs.Tests.{not_Some, same_Some}
 
 nat_le_trans : (a b c : ℕ) → nat_le a b ≡ true → nat_le b c ≡ true → nat_le a c ≡ true
 nat_le_trans a b c p q = grind arith
@@ -36,7 +36,7 @@ module _ (priority : Key → ℕ) where
 
   -- what holds of all holds of the one that is served
   all_served : (f : Key → Bool) (keys : List Key) (key : Key) → first_of_greatest priority keys ≡ Some key → list_all f keys ≡ true → f key ≡ true
-  all_served f [] key e h = absurd (no_path e)
+  all_served f [] key e h = absurd (not_Some _ e)
   all_served f (x ∷ xs) key e h = by (λ e'. all_served f xs key e' (second_of_both (f x) _ h)) (list_all (λ other. nat_le (priority other) (priority x)) xs) e
     where
       by : (first_of_greatest priority xs ≡ Some key → f key ≡ true) → (b : Bool) → cond b (Some x) (first_of_greatest priority xs) ≡ Some key → f key ≡ true
@@ -97,8 +97,11 @@ served_alike f g (x ∷ xs) h = λ i. cond (alike xs h.1 i) (Some x) (served_ali
 
 each_in : (P : Key → Type 0) (p : Key → Bool) (keys : List Key) → ((key : Key) → p key ≡ true → P key) → Each P (filter p keys)
 each_in P p [] h = tt
-each_in P p (x ∷ xs) h = elim (p x) as (λ b. p x ≡ b → Each P (cond b (x ∷ filter p xs) (filter p xs))) [ true ↦ λ is. (h x is, each_in P p xs h) | false ↦
-    λ _. each_in P p xs h ] refl
+each_in P p (x ∷ xs) h = elim (p x) as (λ b. p x ≡ b → Each P (cond b (x ∷ filter p xs) (filter p xs))) [
+  | true ↦ λ is. (h x is, each_in P p xs h)
+  | false ↦
+      λ _. each_in P p xs h
+] refl
 
 pub served_alone : (f g : Key → ℕ) (p : Key → Bool) (keys : List Key) (key : Key) → ((k : Key) → p k ≡ true → f k ≡ g k) → first_of_greatest f keys ≡ Some key →
     p key ≡ true → first_of_greatest g (filter p keys) ≡ Some key

@@ -10,10 +10,8 @@ use Rattle.ns_types.specs.State.Names.{Name, Key, ByName}
 use Rattle.ns_types.specs.Working.Queue.{queue, is_busy}
 use Rattle.ns_types.specs.Settling.Releases.{released_classes, releases_quota, woken}
 use Rattle.ns_types.specs.State.Rows.{World, Tenant, PoolRows, QuotaRows, evaluation_at}
-use Rattle.ns_types.specs.Settling.Settle.{
-    unblocked_in, wake, after_release, after_quota_release, number_releases, is_touched, stamped, stamp_tenant, stamp,
-    settle
-}
+use Rattle.ns_types.specs.Settling.Settle.{unblocked_in, wake, after_release, after_quota_release, number_releases, is_touched, stamped, stamp_tenant, stamp}
+use Rattle.ns_types.specs.Settling.Settle.{settle}
 use Rattle.ns_types.proofs.Named.{names, one_name}
 use Rattle.ns_types.proofs.Tables.{get-map_rows}
 use Rattle.ns_types.specs.State.Tables.{map_rows}

@@ -3,7 +3,6 @@ use Rattle.std.specs.Prelude.{◌≡◌, Bool, true, false, cond, List, [], ◌�
 use Rattle.std.proofs.Common.{refl, sym, ap, subst, ◌∙◌}
 use Rattle.ns_types.specs.declared.refusal.Refusal.TheVariants as Refusal
 use Rattle.ns_types.specs.declared.step.Step.{Step}
-use Rattle.ns_types.specs.declared.step.Step.TheVariants as Step
 use Rattle.ns_types.specs.Isolation.{alone, Agree, is_own, struck, struck_answers, IsIsolated}
 use Rattle.ns_types.specs.State.Names.{Name}
 use Rattle.ns_types.specs.Settling.Outcome.{Outcome, NotEnabled, Refused, Done}
@@ -12,7 +11,6 @@ use Rattle.ns_types.specs.Settling.Settle.{settle}
 use Rattle.ns_types.specs.Steps.{Answer, said, act, after, is_allowed, concluded, reply_of, is_past_bound, Run}
 use Rattle.ns_audit.specs.Headline.{ValidIsSteady, SteadyStep, UnsharedIsApart, StruckRun, StruckSteadyRun}
 use Rattle.ns_audit.specs.Orderly.{IsOrderly, IsSteady}
-use Rattle.ns_audit.proofs.Alone.Chosen.{no_path, same_Some}
 use Rattle.ns_audit.proofs.Alone.Heading.{Reaches, reaches, from_part, own_of, other_of}
 use Rattle.ns_audit.proofs.Steady.Admins.{KeepsOrderState, of_world, administer_orderly}
 use Rattle.ns_audit.proofs.Steady.Apply.{apply_orderly}
@@ -22,6 +20,7 @@ use Rattle.ns_audit.proofs.Steady.Nodes.{ask_pool_orderly}
 use Rattle.ns_audit.proofs.Steady.Workers.{dequeue_orderly, snap_orderly, submit_orderly, nack_orderly}
 use Rattle.ns_audit.proofs.Alone.Owning.{orderly, fit_of}
 use Rattle.ns_audit.proofs.Steady.Resting.{settle_orderly}
+use Rattle.ns_types.proofs.Tests.{not_Some, same_Some}
 
 pub act_orderly : (s : State) → IsOrderly s.world → (step : Step) → KeepsOrderState (act step s)
 unfolding act
@@ -37,7 +36,7 @@ act_orderly s o (Step.Nack worker ns) = of_world s o _ (nack_orderly s.world o n
 
 module _ (s : State) (steady : IsSteady s) (step : Step) (s' : State) (answer : Answer) where
   concluded_steady : (o : Outcome State) → KeepsOrderState o → concluded step s o ≡ said answer s' → IsSteady s'
-  concluded_steady NotEnabled h e = absurd (no_path e)
+  concluded_steady NotEnabled h e = absurd (not_Some _ e)
   concluded_steady (Refused refusal) h e = subst IsSteady (ap (λ x. x.1) (same_Some _ _ e)) steady
   concluded_steady (Done content x) h e = by (is_past_bound (settle s.world x.world)) refl e
     where
@@ -82,7 +81,7 @@ from_agreeing ns s0 s t s1 (step ∷ steps) (answer ∷ answers) steady r agree 
     let next_reach = reaches_on ns s0 s run.0 r (reaches ns s run.0 step answer run.3 run.2) in
     elim (is_own ns s0 step) as (λ b. is_own ns s0 step ≡ b → (t1 : State)
     × Run t (cond b (step ∷ struck ns s0 steps) (struck ns s0 steps))
-        (cond b (answer ∷ struck_answers ns s0 steps answers) (struck_answers ns s0 steps answers)) t1 × Agree ns s1 t1) [
+    (cond b (answer ∷ struck_answers ns s0 steps answers) (struck_answers ns s0 steps answers)) t1 × Agree ns s1 t1) [
       | true ↦ λ own.
           let next = own_of ns s0 s t run.0 step answer fit r agree own run.2 in
           let later = from_agreeing ns s0 run.0 next.0 s1 steps answers next_steady next_reach next.2 run.4 in

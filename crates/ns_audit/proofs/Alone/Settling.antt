@@ -11,10 +11,8 @@ use Rattle.ns_types.specs.declared.records.Namespace.{Namespace}
 use Rattle.ns_types.specs.Isolation.{Part, alone_in}
 use Rattle.ns_types.specs.State.Names.{Name, Key, same_name, has_key}
 use Rattle.ns_types.specs.Working.Queue.{queue, is_of_job, is_busy}
-use Rattle.ns_types.specs.Settling.Releases.{
-    ends, is_on, counts_in, gives_room, released_classes, classes_of, changes_limits, releases_quota, is_released_quota,
-    can_use, wakes, wakes_by, woken, same_offer
-}
+use Rattle.ns_types.specs.Settling.Releases.{ends, is_on, counts_in, gives_room, released_classes, classes_of, changes_limits, releases_quota}
+use Rattle.ns_types.specs.Settling.Releases.{is_released_quota, can_use, wakes, wakes_by, woken, same_offer}
 use Rattle.ns_types.specs.State.Rows.{World, Tenant, PoolRows, QuotaRows, is_live, is_free, class_of, evaluation_at}
 use Rattle.ns_types.specs.Settling.Settle.{unblocked_in, pending, wake, after_release, after_quota_release, number_releases, stamp_tenant, stamp, settle}
 use Rattle.ns_types.specs.State.Tables.{map_rows, any_row}
@@ -22,17 +20,15 @@ use Rattle.ns_types.proofs.Lists.{not_both, filter_chosen, any_chosen, each, eac
 use Rattle.ns_types.proofs.Named.{names, one_name, numbers, one_number, same_name_is, first_of_both}
 use Rattle.ns_types.proofs.Tables.{retain-map_rows, any_row-retain, any_row-none}
 use Rattle.ns_audit.specs.Apart.{IsApart, IsWith}
-use Rattle.ns_audit.proofs.Alone.Chosen.{
-    tenant_alone, pool_alone, quota_alone, evaluation_alone, allocation_alone, node_alone, has_key_alone, GoesAlone,
-    goes_if, goes_with, goes_nowhere, goes_ready
-}
+use Rattle.ns_audit.proofs.Alone.Chosen.{tenant_alone, pool_alone, quota_alone, evaluation_alone, allocation_alone, node_alone, has_key_alone, GoesAlone}
+use Rattle.ns_audit.proofs.Alone.Chosen.{goes_if, goes_with, goes_nowhere, goes_ready}
 
 module _ (part : Part) where
   -- ---- releases
 
   ends_alone : (w w' : World) (passes : Namespace → Allocation → Bool)
       → ((ns : Name) (t : Tenant) (n : ℕ) (a : Allocation) → get w.tenants ns ≡ Some t → get t.allocations n ≡ Some a → is_live a ≡ true →
-          passes t.namespace a ≡ true → part.spaces ns ≡ true)
+      passes t.namespace a ≡ true → part.spaces ns ≡ true)
       → ends w w' passes ≡ ends (alone_in part w) (alone_in part w') passes
   unfolding ends
   ends_alone w w' passes inside = any_row-retain names one_name _ _ w.tenants part.spaces (λ ns t is. (
@@ -97,12 +93,12 @@ module _ (part : Part) where
     unfolding woken
     woken_alone = filter_chosen (λ key. part.spaces key.0) _ _ w.blocked (each_map (λ key with own.
         (λ i. has_key_alone part w'.blocked key own i
-            && (row key with own (evaluation_at w key) refl ∙
-            ap (λ e. option_map_or (wakes (alone_in part w) (alone_in part w')) e false) (sym (evaluation_alone part w key own))) i)) w.blocked apart.blocked)
+        && (row key with own (evaluation_at w key) refl ∙
+        ap (λ e. option_map_or (wakes (alone_in part w) (alone_in part w')) e false) (sym (evaluation_alone part w key own))) i)) w.blocked apart.blocked)
       where
         row : (key : Key) → ((e : Evaluation) → evaluation_at w key ≡ Some e → IsWith part key.0 e.pool e.quota) → part.spaces key.0 ≡ true
             → (e : Option Evaluation) → evaluation_at w key ≡ e →
-                option_map_or (wakes w w') e false ≡ option_map_or (wakes (alone_in part w) (alone_in part w')) e false
+            option_map_or (wakes w w') e false ≡ option_map_or (wakes (alone_in part w) (alone_in part w')) e false
         row key with own None is = refl
         row key with own (Some e) is = wakes_alone key.0 e (with e is) own
 
@@ -130,7 +126,7 @@ module _ (part : Part) where
 
       worker : option_map_or (λ t. any_row (λ _ worker. is_of_job w ns job (ns, worker.evaluation)) t.workers) (get w.tenants ns) false
           ≡ option_map_or (λ t. any_row (λ _ worker. is_of_job (alone_in part w) ns job (ns, worker.evaluation)) t.workers) (get (alone_in part w).tenants ns)
-              false
+          false
       worker = λ i. option_map_or (λ t. any_row (λ _ worker. is_of_job_alone w ns job (ns, worker.evaluation) own i) t.workers)
           (sym (tenant_alone part w ns own) i) false
 
@@ -139,7 +135,7 @@ module _ (part : Part) where
   goes_queue b key side = goes_with part b (λ w. evaluation_at w key) (λ e w. cond (is_busy w key.0 e.job) w (record w { ready = w.ready ++ key ∷ [] }))
       (λ w own. sym (evaluation_alone part w key (side ∙ own)))
       (λ e. goes_if part b (λ w. is_busy w key.0 e.job) (λ w. w) (λ w. record w { ready = w.ready ++ key ∷ [] })
-          (λ w own. is_busy_alone w key.0 e.job (side ∙ own))
+      (λ w own. is_busy_alone w key.0 e.job (side ∙ own))
       (goes_nowhere part b) (goes_ready part b key.0 side key.1))
 
   -- ---- the passes
@@ -182,4 +178,4 @@ module _ (part : Part) where
   unfolding settle
   settle_alone w w' apart = stamp_alone w _ ∙ ap (stamp (alone_in part w)) (number_releases_alone w w' _ apart
       ∙ ap (number_releases (alone_in part w) (alone_in part w'))
-          (wake_alone (woken w w') w' ∙ ap (λ keys. wake keys (alone_in part w')) (woken_alone w w' apart)))
+      (wake_alone (woken w w') w' ∙ ap (λ keys. wake keys (alone_in part w')) (woken_alone w w' apart)))

@@ -3,10 +3,8 @@ use Rattle.std.specs.Prelude.{◌≡◌, Bool, true, false, not, Option, ◌&&�
 use Rattle.std.proofs.Common.{◌⊎◌, inl, inr, refl, ap, ◌∙◌}
 use Rattle.ns_types.specs.declared.reply.Content.{Content}
 use Rattle.ns_types.specs.declared.step.NodeCommand.{NodeCommand}
-use Rattle.ns_types.specs.declared.step.NodeCommand.TheVariants as NodeCommand
 use Rattle.ns_types.specs.declared.step.Report.{Report}
 use Rattle.ns_types.specs.declared.step.Step.{Step}
-use Rattle.ns_types.specs.declared.step.Step.TheVariants as Step
 use Rattle.ns_types.specs.Asking.Policies.{with_world}
 use Rattle.ns_types.specs.Asking.Asks.{ask, right_of}
 use Rattle.ns_types.specs.Working.Commit.{apply}
@@ -25,7 +23,7 @@ use Rattle.ns_types.proofs.Tables.{any_row-chosen, any_row-retain-none}
 use Rattle.ns_audit.specs.Apart.{rest, IsWith, IsApart, IsAtHome}
 use Rattle.ns_audit.specs.Laws.{concerns_part, belongs, SameRights}
 use Rattle.ns_audit.proofs.Alone.Chosen.{tenant_alone}
-use Rattle.ns_audit.proofs.Alone.Idle.{settle_idle}
+use Rattle.ns_types.proofs.Settling.{settle_same}
 use Rattle.ns_audit.proofs.Alone.Settling.{settle_alone}
 
 -- ---- the other side
@@ -41,8 +39,11 @@ apart_rest part w apart = record {
   allocation = λ ns t n a is at live. ap not (apart.allocation ns t n a is at live);
   job = λ ns t id j is at. ap not (apart.job ns t id j is at);
   held = λ ns t n worker e is at row. ap not (apart.held ns t n worker e is at row);
-  kept = λ ns t n worker kept is at has. record { namespace = (apart.kept ns t n worker kept is at has).namespace; with =
-      rest_with part ns kept.pool _ (apart.kept ns t n worker kept is at has).with };
+  kept = λ ns t n worker kept is at has. record {
+    namespace = (apart.kept ns t n worker kept is at has).namespace;
+    with =
+        rest_with part ns kept.pool _ (apart.kept ns t n worker kept is at has).with;
+  };
 }
 
 -- ---- on which side a step is
@@ -53,14 +54,14 @@ abbrev pub ReportsOn : Part → World → Bool → Name → Report → Type 0
 ReportsOn part w true pool r = (part.pools pool ≡ true) × (part.spaces r.namespace ≡ true)
 ReportsOn part w false pool r = (part.spaces r.namespace ≡ false) ⊎ ((part.pools pool ≡ false) × IsAtHome part w)
 
-abbrev pub TellsOn : Part → World → Bool → Name → NodeCommand → Type 0
-TellsOn part w b pool (NodeCommand.Report name r) = ReportsOn part w b pool r
-TellsOn part w b pool _ = part.pools pool ≡ b
+abbrev pub AsksPoolOn : Part → World → Bool → Name → NodeCommand → Type 0
+AsksPoolOn part w b pool (NodeCommand.Report name r) = ReportsOn part w b pool r
+AsksPoolOn part w b pool _ = part.pools pool ≡ b
 
 abbrev pub IsOn : Part → World → Bool → Step → Type 0
 IsOn part w b (Step.Ask ns secret command) = part.spaces ns ≡ b
 IsOn part w b (Step.Admin secret command) = ⊥
-IsOn part w b (Step.Node pool secret command) = TellsOn part w b pool command
+IsOn part w b (Step.Node pool secret command) = AsksPoolOn part w b pool command
 IsOn part w b (Step.Dequeue worker ns n) = part.spaces ns ≡ b
 IsOn part w b (Step.Snap worker ns) = part.spaces ns ≡ b
 IsOn part w b (Step.Submit worker ns) = part.spaces ns ≡ b
@@ -85,7 +86,7 @@ change (Step.Finish worker ns) w = finish worker ns w
 change (Step.Nack worker ns) w = nack worker ns w
 
 own_tell : (part : Part) (w : World) (pool : Name) (command : NodeCommand) → (part.pools pool && concerns_part part command) ≡ true →
-    TellsOn part w true pool command
+    AsksPoolOn part w true pool command
 own_tell part w pool NodeCommand.ReadPool own = first_of_both _ _ own
 own_tell part w pool NodeCommand.ListNodes own = first_of_both _ _ own
 own_tell part w pool (NodeCommand.PutNode name offer) own = first_of_both _ _ own
@@ -110,7 +111,7 @@ both_off true e = e
 both_off false e = refl
 
 other_tell : (part : Part) (w : World) (pool : Name) (command : NodeCommand) → IsAtHome part w → (part.pools pool && concerns_part part command) ≡ false →
-    TellsOn part w false pool command
+    AsksPoolOn part w false pool command
 other_tell part w pool NodeCommand.ReadPool home other = both_off _ other
 other_tell part w pool NodeCommand.ListNodes home other = both_off _ other
 other_tell part w pool (NodeCommand.PutNode name offer) home other = both_off _ other
@@ -134,7 +135,7 @@ is_of_other part w (Step.Apply worker ns) home other plain = other
 is_of_other part w (Step.Finish worker ns) home other plain = other
 is_of_other part w (Step.Nack worker ns) home other plain = other
 
-rest_tell : (part : Part) (w : World) (pool : Name) (command : NodeCommand) → TellsOn part w true pool command → TellsOn (rest part) w false pool command
+rest_tell : (part : Part) (w : World) (pool : Name) (command : NodeCommand) → AsksPoolOn part w true pool command → AsksPoolOn (rest part) w false pool command
 rest_tell part w pool NodeCommand.ReadPool own = ap not own
 rest_tell part w pool NodeCommand.ListNodes own = ap not own
 rest_tell part w pool (NodeCommand.PutNode name offer) own = ap not own
@@ -223,4 +224,4 @@ over_part part x e = λ i.
 
 -- a change that leaves the chosen owners leaves them when all is settled, too
 pub settled_leaves : (part : Part) (w w' : World) → IsApart part w → alone_in part w' ≡ alone_in part w → alone_in part (settle w w') ≡ alone_in part w
-settled_leaves part w w' apart leaves = settle_alone part w w' apart ∙ ap (settle (alone_in part w)) leaves ∙ settle_idle (alone_in part w)
+settled_leaves part w w' apart leaves = settle_alone part w w' apart ∙ ap (settle (alone_in part w)) leaves ∙ settle_same (alone_in part w)

@@ -3,9 +3,7 @@ use Rattle.std.specs.Prelude.{◌≡◌, Bool, true, false, cond, List, [], ◌�
 use Rattle.std.specs.Prelude.{Ok, Err}
 use Rattle.std.proofs.Common.{refl, sym, ap, subst, ◌∙◌}
 use Rattle.ns_types.specs.declared.refusal.Refusal.{Refusal}
-use Rattle.ns_types.specs.declared.refusal.Refusal.TheVariants as Refusal
 use Rattle.ns_types.specs.declared.step.Step.{Step}
-use Rattle.ns_types.specs.declared.step.Step.TheVariants as Step
 use Rattle.ns_types.specs.Asking.Policies.{with_world}
 use Rattle.ns_types.specs.Isolation.{Part, alone_in}
 use Rattle.ns_types.specs.Settling.Outcome.{Outcome, NotEnabled, Refused, Done, lift}
@@ -14,18 +12,16 @@ use Rattle.ns_types.specs.Settling.Settle.{settle}
 use Rattle.ns_types.specs.Steps.{Answer, said, after, act, is_allowed, concluded, reply_of, is_past_bound, Run}
 use Rattle.ns_audit.specs.Apart.{rest, IsApart, Leaves, Follows}
 use Rattle.ns_audit.specs.Laws.{belongs, SameRights, AgreeOn, IsFit, OwnStepApart, OtherStepApart, QuietRun, its_answers, alone_on, StruckRunApart}
-use Rattle.ns_audit.proofs.Alone.Chosen.{no_path, same_Some}
 use Rattle.ns_audit.proofs.Alone.Going.{Goes}
 use Rattle.ns_audit.proofs.Alone.Settling.{settle_alone}
 use Rattle.ns_audit.proofs.Alone.Administering.{admin_keeps}
 use Rattle.ns_audit.proofs.Alone.Applying.{apply_goes}
 use Rattle.ns_audit.proofs.Alone.Asking.{ask_goes}
-use Rattle.ns_audit.proofs.Alone.Sides.{
-    apart_rest, IsOn, is_admin, change, is_of_own, is_of_other, not_of_rest, plain_own, act_is, allowed_alike,
-    reply_alike, over_alone, over_part, settled_leaves
-}
-use Rattle.ns_audit.proofs.Alone.Telling.{ask_pool_goes}
+use Rattle.ns_audit.proofs.Alone.Sides.{apart_rest, IsOn, is_admin, change, is_of_own, is_of_other, not_of_rest, plain_own, act_is, allowed_alike, reply_alike}
+use Rattle.ns_audit.proofs.Alone.Sides.{over_alone, over_part, settled_leaves}
+use Rattle.ns_audit.proofs.Alone.Pools.{ask_pool_goes}
 use Rattle.ns_audit.proofs.Alone.Working.{dequeue_goes, snap_goes, submit_goes, finish_goes, nack_goes}
+use Rattle.ns_types.proofs.Tests.{not_Some, same_Some}
 
 -- ---- the own step
 
@@ -39,7 +35,7 @@ module _ (part : Part) (s t : State) (step : Step) (agree : AgreeOn part s t) (f
   concluded_alike : (o o' : Outcome World) → Follows part o o' → Leaves (rest part) s.world o → (s' : State) (answer : Answer) →
       concluded step s (lift (with_world s.acl) o) ≡ said answer s' → Answered s' answer (concluded step t (lift (with_world t.acl) o'))
   unfolding Follows Leaves
-  concluded_alike NotEnabled o' follows leaves s' answer e = absurd (no_path e)
+  concluded_alike NotEnabled o' follows leaves s' answer e = absurd (not_Some _ e)
   concluded_alike (Refused refusal) o' follows leaves s' answer e = subst (λ x. Answered s' answer (concluded step t (lift (with_world t.acl) x))) (sym follows)
       (refused_alike refusal s' answer e)
   concluded_alike (Done content w) o' follows leaves s' answer e =
@@ -96,7 +92,7 @@ module _ (part : Part) (s t : State) (step : Step) (agree : AgreeOn part s t) (f
   concluded_leaves : (o : Outcome World) → Leaves part s.world o → (s' : State) (answer : Answer) →
       concluded step s (lift (with_world s.acl) o) ≡ said answer s' → AgreeOn part s' t
   unfolding Leaves
-  concluded_leaves NotEnabled leaves s' answer e = absurd (no_path e)
+  concluded_leaves NotEnabled leaves s' answer e = absurd (not_Some _ e)
   concluded_leaves (Refused refusal) leaves s' answer e = subst (λ x. AgreeOn part x t) (ap (λ x. x.1) (same_Some _ _ e)) agree
   concluded_leaves (Done content w) leaves s' answer e = by (is_past_bound (settle s.world w)) e
     where
@@ -116,8 +112,11 @@ module _ (part : Part) (s t : State) (step : Step) (agree : AgreeOn part s t) (f
       by false e = subst (λ x. AgreeOn part x t) (ap (λ x. x.1) (same_Some _ _ e)) agree
 
 chained : (part : Part) (a b c : Acl) → SameRights part a c → SameRights part a b → SameRights part b c
-chained part a b c h k = record { spaces = λ secret ns own. h.spaces secret ns own ∙ sym (k.spaces secret ns own); pools =
-    λ secret pool own. h.pools secret pool own ∙ sym (k.pools secret pool own) }
+chained part a b c h k = record {
+  spaces = λ secret ns own. h.spaces secret ns own ∙ sym (k.spaces secret ns own);
+  pools =
+      λ secret pool own. h.pools secret pool own ∙ sym (k.pools secret pool own);
+}
 
 -- ---- all steps
 
@@ -143,7 +142,7 @@ plain_step : (part : Part) (s t s' : State) (step : Step) (answer : Answer) → 
     is_admin step ≡ false → after step s ≡ said answer s' → AgreeOn part s' t
 plain_step part s t s' step answer agree fit other plain e =
     other_after part s t step agree fit plain (change_goes part s.world fit.apart step false (is_of_other part s.world step fit.at_home other plain))
-        s' answer e
+    s' answer e
 
 pub other_step_apart : OtherStepApart
 other_step_apart part s t s' (Step.Admin secret command) answer agree fit other keeps e = record {
@@ -171,7 +170,7 @@ from_agreeing part s t s' [] (answer ∷ answers) agree run = absurd run
 from_agreeing part s t s' (step ∷ steps) [] agree run = absurd run
 from_agreeing part s t s' (step ∷ steps) (answer ∷ answers) agree run =
     elim (belongs part step) as (λ b. belongs part step ≡ b → (t' : State) × Run t (cond b (step ∷ filter (belongs part) steps) (filter (belongs part) steps))
-        (cond b (answer ∷ its_answers part steps answers) (its_answers part steps answers)) t' × AgreeOn part s' t') [
+    (cond b (answer ∷ its_answers part steps answers) (its_answers part steps answers)) t' × AgreeOn part s' t') [
       | true ↦ λ own.
           let next = own_step_apart part s t run.0 step answer agree run.2 own run.1 in
           let later = from_agreeing part run.0 next.0 s' steps answers next.2 run.4 in

@@ -7,14 +7,11 @@ use Rattle.std.specs.Ordering.{eq_by_cmp, nat_cmp}
 use Rattle.ns_types.specs.declared.evaluation.Evaluation.{Evaluation}
 use Rattle.ns_types.specs.declared.records.Namespace.{Namespace}
 use Rattle.ns_types.specs.declared.step.AdminCommand.{AdminCommand}
-use Rattle.ns_types.specs.declared.step.AdminCommand.TheVariants as AdminCommand
 use Rattle.ns_types.specs.declared.worker.Worker.{Worker}
 use Rattle.ns_types.specs.declared.snapshot.Snapshot.{Snapshot}
 use Rattle.ns_types.specs.Asking.Policies.{with_world, with_acl, administer}
-use Rattle.ns_types.specs.Asking.Admins.{
-    has_open, has_live, looks_to_pool, uses_pool, new_tenant, with_namespace, is_withdrawn, same_quota, forbids_put,
-    put_namespace, delete_namespace, put_quota, delete_quota, read_quota, put_pool_record, delete_pool
-}
+use Rattle.ns_types.specs.Asking.Admins.{has_open, has_live, looks_to_pool, uses_pool, new_tenant, with_namespace, is_withdrawn, same_quota, forbids_put}
+use Rattle.ns_types.specs.Asking.Admins.{put_namespace, delete_namespace, put_quota, delete_quota, read_quota, put_pool_record, delete_pool}
 use Rattle.ns_types.specs.Settling.Making.{put_tenant}
 use Rattle.ns_types.specs.State.Names.{Name, name_cmp, same_name, has_key}
 use Rattle.ns_types.specs.Settling.Outcome.{Outcome, NotEnabled, Refused, Done, lift}
@@ -23,9 +20,9 @@ use Rattle.ns_types.specs.Access.Sharing.{permits}
 use Rattle.ns_types.proofs.Lists.{not_both, left_none, right_none}
 use Rattle.ns_types.proofs.Named.{names, one_name, one_number, same_name_is}
 use Rattle.ns_types.proofs.Tables.{none_of_any}
+use Rattle.ns_types.proofs.Tests.{not_Some, same_Some}
+use Rattle.ns_types.proofs.TableRows.{row_of_insert}
 use Rattle.ns_audit.specs.Orderly.{IsAllowedTo, IsOrderlyTenant, IsReadyIn, IsBlockedIn, IsListed, IsOrderly}
-use Rattle.ns_audit.proofs.Alone.Chosen.{no_path, same_Some}
-use Rattle.ns_audit.proofs.Every.{row_of_insert}
 use Rattle.ns_audit.proofs.Steady.Keeping.{KeepsTenant, put_orderly}
 use Rattle.ns_audit.proofs.Steady.Asks.{KeepsOrder}
 use Rattle.ns_audit.proofs.Outcomes.{Leads, leads_unless, leads_found}
@@ -71,7 +68,7 @@ module _ (ns : Name) (ready blocked : ℕ → Bool) (t : Tenant) (s : IsOrderlyT
   kept_still n worker kept at has =
       ap (λ o. option_map_or (λ kept. is_withdrawn t.namespace new kept.pool) o false) (sym has)
       ∙ none_of_any one_number (λ _ worker. option_map_or (λ kept. is_withdrawn t.namespace new kept.pool) worker.kept false) t.workers n worker
-          (right_none _ _ unlooked) at
+      (right_none _ _ unlooked) at
 
   evaluation_still : (n : ℕ) (e : Evaluation) → get t.evaluations n ≡ Some e → is_open e.status ≡ true → IsAllowedTo new e.pool e.quota
   evaluation_still n e at open_ =
@@ -111,13 +108,13 @@ module _ (ns : Name) (ready blocked : ℕ → Bool) (t : Tenant) (s : IsOrderlyT
 
 pub new_orderly : (ns : Name) (namespace : Namespace) → IsOrderlyTenant ns (new_tenant namespace)
 new_orderly ns namespace = record {
-  job = λ id j at. absurd (no_path (sym (get-empty name_cmp id) ∙ at));
-  evaluation = λ n e at _. absurd (no_path (sym (get-empty nat_cmp n) ∙ at));
-  allocation = λ n a at _. absurd (no_path (sym (get-empty nat_cmp n) ∙ at));
-  snapshot = λ n worker kept at _. absurd (no_path (sym (get-empty nat_cmp n) ∙ at));
-  held = λ n worker at. absurd (no_path (sym (get-empty nat_cmp n) ∙ at));
-  one_each = λ m n v x at _ _. absurd (no_path (sym (get-empty nat_cmp m) ∙ at));
-  numbers = λ n e at. absurd (no_path (sym (get-empty nat_cmp n) ∙ at));
+  job = λ id j at. absurd (not_Some _ (sym (get-empty name_cmp id) ∙ at));
+  evaluation = λ n e at _. absurd (not_Some _ (sym (get-empty nat_cmp n) ∙ at));
+  allocation = λ n a at _. absurd (not_Some _ (sym (get-empty nat_cmp n) ∙ at));
+  snapshot = λ n worker kept at _. absurd (not_Some _ (sym (get-empty nat_cmp n) ∙ at));
+  held = λ n worker at. absurd (not_Some _ (sym (get-empty nat_cmp n) ∙ at));
+  one_each = λ m n v x at _ _. absurd (not_Some _ (sym (get-empty nat_cmp m) ∙ at));
+  numbers = λ n e at. absurd (not_Some _ (sym (get-empty nat_cmp n) ∙ at));
 }
 
 added_orderly : (w : World) (ns : Name) (namespace : Namespace) → IsOrderly w → get w.tenants ns ≡ None → IsOrderly (put_tenant ns (new_tenant namespace) w)
@@ -132,11 +129,15 @@ added_orderly w ns namespace s none = record {
     by_tenant k x (inr at) = s.tenant k x at
 
     again : (P : Tenant → ℕ → Type 0) (k : Name) (n : ℕ) → IsListed w P k n → IsListed (put_tenant ns (new_tenant namespace) w) P k n
-    again P k n l = record { tenant = l.tenant; entry = l.entry; is_tenant = get-insert names w.tenants ns (new_tenant namespace) k ∙
-        by (eq_by_cmp name_cmp k ns) refl }
+    again P k n l = record {
+      tenant = l.tenant;
+      entry = l.entry;
+      is_tenant = get-insert names w.tenants ns (new_tenant namespace) k ∙
+          by (eq_by_cmp name_cmp k ns) refl;
+    }
       where
         by : (b : Bool) → eq_by_cmp name_cmp k ns ≡ b → cond b (Some (new_tenant namespace)) (get w.tenants k) ≡ Some l.tenant
-        by true same = absurd (no_path (sym none ∙ ap (get w.tenants) (sym (same_name_is k ns same)) ∙ l.is_tenant))
+        by true same = absurd (not_Some _ (sym none ∙ ap (get w.tenants) (sym (same_name_is k ns same)) ∙ l.is_tenant))
         by false _ = l.is_tenant
 
 removed_orderly : (w : World) (ns : Name) (t : Tenant) → IsOrderly w → get w.tenants ns ≡ Some t → has_open t ≡ false →
@@ -148,7 +149,7 @@ removed_orderly w ns t s is none = record {
 }
   where
     by_tenant : (k : Name) (x : Tenant) (b : Bool) → cond b None (get w.tenants k) ≡ Some x → IsOrderlyTenant k x
-    by_tenant k x true at = absurd (no_path at)
+    by_tenant k x true at = absurd (not_Some _ at)
     by_tenant k x false at = s.tenant k x at
 
     -- no list names an evaluation of a namespace that has no open one

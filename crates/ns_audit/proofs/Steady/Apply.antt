@@ -1,8 +1,6 @@
 -- Apply keeps a world orderly.
-use Rattle.std.specs.Prelude.{
-    ◌≡◌, ℕ, ◌+◌, Bool, true, false, cond, List, [], ◌∷◌, ◌++◌, map, Option, Some, None, ◌&&◌, filter, filter_map, find,
-    fold, option_map
-}
+use Rattle.std.specs.Prelude.{◌≡◌, ℕ, ◌+◌, Bool, true, false, cond, List, [], ◌∷◌, ◌++◌, map, Option, Some, None, ◌&&◌, filter, filter_map, find, fold}
+use Rattle.std.specs.Prelude.{option_map}
 use Rattle.std.proofs.Common.{◌⊎◌, inl, inr, refl, sym, ap, subst, ◌∙◌}
 use Rattle.std.specs.FinMap.{get, entries, from_entries, get-from_entries, insert}
 use Rattle.std.specs.List.{cons_option}
@@ -19,12 +17,10 @@ use Rattle.ns_types.specs.declared.plan.Placement.{Placement}
 use Rattle.ns_types.specs.declared.plan.Plan.{Plan}
 use Rattle.ns_types.specs.declared.snapshot.Snapshot.{Snapshot}
 use Rattle.ns_types.specs.declared.worker.Worker.{Worker}
-use Rattle.ns_types.specs.Working.Commit.{
-    still_stands, live_stops, stop_all, node_name, nodes_in, part_of, size_of, counts, victims_in, victims_of, evict,
-    evict_all, Commit, begun, accepts_at, decide, new_allocation, with_allocation, with_place, place_with, place_one,
-    committed_placements, place_all, Victim, victim_at, evicted_rows, same_victim_job, least_of_job, make_up, Applied,
-    refused_whole, done_with, done, commit, applied_worker, applied, apply_for, apply
-}
+use Rattle.ns_types.specs.Working.Commit.{still_stands, live_stops, stop_all, node_name, nodes_in, part_of, size_of, counts, victims_in, victims_of, evict}
+use Rattle.ns_types.specs.Working.Commit.{evict_all, Commit, begun, accepts_at, decide, new_allocation, with_allocation, with_place, place_with, place_one}
+use Rattle.ns_types.specs.Working.Commit.{committed_placements, place_all, Victim, victim_at, evicted_rows, same_victim_job, least_of_job, make_up, Applied}
+use Rattle.ns_types.specs.Working.Commit.{refused_whole, done_with, done, commit, applied_worker, applied, apply_for, apply}
 use Rattle.ns_types.specs.State.Lists.{Each, first_each}
 use Rattle.ns_types.specs.Settling.Making.{put_tenant, put_pool, change_tenant, with_desired, least}
 use Rattle.ns_types.specs.State.Names.{Name, ByNumber, same_name, same_number, has_key}
@@ -37,9 +33,10 @@ use Rattle.ns_types.specs.Access.Sharing.{permits}
 use Rattle.ns_types.specs.Working.Work.{with_worker, without_key, is_submitted}
 use Rattle.ns_types.proofs.Named.{numbers as numbers_, one_number, same_name_is, first_of_both, second_of_both}
 use Rattle.ns_types.proofs.Tables.{each_row}
+use Rattle.ns_types.proofs.Tests.{not_Some, same_Some}
+use Rattle.ns_types.proofs.TableRows.{row_of_insert}
+use Rattle.ns_types.proofs.Elements.{each_passes, each_of, each_first, each_flat_map, each_mapped, each_kept, found_of}
 use Rattle.ns_audit.specs.Orderly.{IsOrderlyTenant, IsOrderly}
-use Rattle.ns_audit.proofs.Alone.Chosen.{no_path, same_Some}
-use Rattle.ns_audit.proofs.Every.{row_of_insert, each_passes, each_of, each_first, each_flat_map, each_mapped, each_left, found_of}
 use Rattle.ns_audit.proofs.Steady.Keeping.{KeepsTenant, keeps_same, keeps_then, keeps_rows, put_orderly}
 use Rattle.ns_audit.proofs.Alone.Fixed.{SameIn, fixed_commit}
 use Rattle.ns_audit.proofs.Alone.Naming.{SameNamed, named_change, named_placed, named_decided, stops_same, named_each}
@@ -67,7 +64,7 @@ keeps_stops ns ready blocked [] t s = keeps_same ns ready blocked t s
 keeps_stops ns ready blocked (n ∷ stops) t s =
     let first = keeps_desired ns ready blocked t s n DesiredStatus.Stop refl in
     keeps_then ns ready blocked t (with_desired n DesiredStatus.Stop t) _ first
-        (keeps_stops ns ready blocked stops (with_desired n DesiredStatus.Stop t) first.sound)
+    (keeps_stops ns ready blocked stops (with_desired n DesiredStatus.Stop t) first.sound)
 
 stopped_orderly : (ns : Name) (stops : List ℕ) (w : World) → IsOrderly w → IsOrderly (stop_all ns stops w)
 stopped_orderly ns stops w s = change_orderly w ns (λ t. fold (λ x n. with_desired n DesiredStatus.Stop x) t stops) s
@@ -82,8 +79,13 @@ evicted_orderly (v ∷ vs) w s = evicted_orderly vs (evict w v)
 decide_orderly : (kept : Snapshot) (ps : List Placement) (c : Commit) (k : ℕ) → IsOrderly c.world → IsOrderly (decide kept ps c k).world
 unfolding decide
 decide_orderly kept ps c k s = elim (accepts_at kept (evict_all c.world (victims_of c.world kept (part_of k ps))) (node_name kept k) (part_of k ps) c.placed) as
-    (λ b. IsOrderly (cond b (record { world = evict_all c.world (victims_of c.world kept (part_of k ps)); placed =
-        plus c.placed (size_of (part_of k ps)); committed = c.committed ++ k ∷ []; dropped = c.dropped }) (record c { dropped = c.dropped ++ k ∷ [] })).world) [
+    (λ b. IsOrderly (cond b (record {
+      world = evict_all c.world (victims_of c.world kept (part_of k ps));
+      placed =
+          plus c.placed (size_of (part_of k ps));
+      committed = c.committed ++ k ∷ [];
+      dropped = c.dropped;
+    }) (record c { dropped = c.dropped ++ k ∷ [] })).world) [
       | true ↦ evicted_orderly (victims_of c.world kept (part_of k ps)) c.world s
       | false ↦ s
     ]
@@ -152,7 +154,7 @@ module _ (x : World) (s : IsOrderly x) (kept : Snapshot) where
 
       by : (o : Option Tenant) → get x.tenants e.namespace ≡ o → option_and_then (λ t. get t.allocations e.number) o ≡ Some a → (a.pool ≡ kept.pool) ×
           PermitsAt x e.namespace kept.pool
-      by None is at = absurd (no_path at)
+      by None is at = absurd (not_Some _ at)
       by (Some t) is at = (
         its,
         λ namespace named. subst (λ n. permits n kept.pool ≡ true) (same_Some _ _ (sym (ap (option_map (λ (t : Tenant). t.namespace)) is) ∙ named))
@@ -184,7 +186,7 @@ least_is P xs h a is = by (find (λ e. true) (entries (from_entries {R = nat_cmp
         (λ k a at. found_of nat_cmp P xs k a h (sym (get-from_entries numbers_ xs k) ∙ at))
 
     by : (o : Option (ℕ × Allocation)) → find (λ e. true) (entries (from_entries {R = nat_cmp} xs)) ≡ o → option_map (λ e. e.1) o ≡ Some a → P a
-    by None found is = absurd (no_path is)
+    by None found is = absurd (not_Some _ is)
     by (Some e) found is = subst P (same_Some _ _ is)
         (find_each (λ (e : ℕ × Allocation). P e.1) (λ e. true) (entries (from_entries {R = nat_cmp} xs)) e rows found).0
 
@@ -195,8 +197,8 @@ module _ (x : World) (kept : Snapshot) (victims : List Victim) (fit : Each (λ (
       of_job : Each (λ (e : ℕ × Allocation). e.1.pool ≡ kept.pool) (map (λ (x : Victim). x.1) (filter (same_victim_job v) victims))
       of_job = each_mapped (λ (e : ℕ × Allocation). e.1.pool ≡ kept.pool) (λ (x : Victim). x.1) (filter (same_victim_job v) victims)
           (each_of (λ (y : Victim). ((y.1.1.pool ≡ kept.pool) × PermitsAt x y.0 kept.pool) × (same_victim_job v y ≡ true))
-              (λ (y : Victim). y.1.1.pool ≡ kept.pool) (λ y h. h.0.0) (filter (same_victim_job v) victims)
-          (each_left (λ (y : Victim). (y.1.1.pool ≡ kept.pool) × PermitsAt x y.0 kept.pool) (same_victim_job v) victims fit))
+          (λ (y : Victim). y.1.1.pool ≡ kept.pool) (λ y h. h.0.0) (filter (same_victim_job v) victims)
+          (each_kept (λ (y : Victim). (y.1.1.pool ≡ kept.pool) × PermitsAt x y.0 kept.pool) (same_victim_job v) victims fit))
 
       by : (o : Option Allocation) → least (map (λ x. x.1) (filter (same_victim_job v) victims)) ≡ o → (option_map_or (λ a. a) o v.1.1).pool ≡ kept.pool
       by None is = own
@@ -216,12 +218,12 @@ commit_orderly : (kept : Snapshot) (p : Plan) (w : World) (t : Tenant) → IsOrd
 unfolding commit
 commit_orderly kept p w t s allowed = elim (still_stands kept.job (get t.jobs kept.evaluation.job)) as
     (λ b. IsOrderly (cond b (done kept p w t) (refused_whole kept p w)).world) [
-  | true ↦ whole (stop_all kept.namespace (live_stops t p.stops) w) (stopped_orderly kept.namespace (live_stops t p.stops) w s)
-      (permits_still w (stop_all kept.namespace (live_stops t p.stops) w)
+      | true ↦ whole (stop_all kept.namespace (live_stops t p.stops) w) (stopped_orderly kept.namespace (live_stops t p.stops) w s)
+          (permits_still w (stop_all kept.namespace (live_stops t p.stops) w)
           (named_change kept.namespace (λ x. fold (λ x n. with_desired n DesiredStatus.Stop x) x (live_stops t p.stops)) (stops_same (live_stops t p.stops)) w)
           kept.namespace kept.pool allowed)
-  | false ↦ s
-]
+      | false ↦ s
+    ]
   where
     whole : (x : World) → IsOrderly x → PermitsAt x kept.namespace kept.pool →
         IsOrderly (done_with kept t (live_stops t p.stops) p.placing.placements x
@@ -248,11 +250,11 @@ unfolding apply
 apply_orderly w s ns number = keeping_orderly w number ns (apply_for number ns w) (λ t worker e kept is has at keeps.
     let k = (s.tenant ns t is).snapshot number worker kept has keeps in
     leads_if IsOrderly (is_submitted worker.phase && is_served w w.plans (ns, worker.evaluation)) (applied number ns worker e (commit kept (plan kept) w t))
-        NotEnabled
+    NotEnabled
     (λ _. by t worker e is has (commit kept (plan kept) w t) (fixed_commit its_workers (λ x n y. refl) (λ x n y. refl) kept (plan kept) w t)
-        (commit_orderly kept (plan kept) w t s
+    (commit_orderly kept (plan kept) w t s
     (λ namespace named. subst (λ n. permits n kept.pool ≡ true)
-        (same_Some _ _ (sym (ap (option_map (λ (t : Tenant). t.namespace)) (ap (get w.tenants) k.namespace ∙ is)) ∙ named)) k.allowed.permitted))) (λ _. tt))
+    (same_Some _ _ (sym (ap (option_map (λ (t : Tenant). t.namespace)) (ap (get w.tenants) k.namespace ∙ is)) ∙ named)) k.allowed.permitted))) (λ _. tt))
   where
     by : (t : Tenant) (worker : Worker) (e : Evaluation) → get w.tenants ns ≡ Some t → get t.workers number ≡ Some worker → (a : Applied) →
         SameIn its_workers w a.world → IsOrderly a.world → KeepsOrder (applied number ns worker e a)
@@ -261,7 +263,7 @@ apply_orderly w s ns number = keeping_orderly w number ns (apply_for number ns w
         (λ key listed. listed) (λ key listed. listed)
         (change_orderly a.world ns (with_worker number (applied_worker a worker e)) o (λ x x_is.
         keeps_worker ns _ _ x (o.tenant ns x x_is) number worker (applied_worker a worker e) (there x x_is) refl
-            (λ k k_has. (o.tenant ns x x_is).snapshot number worker k (there x x_is) k_has)))
+        (λ k k_has. (o.tenant ns x x_is).snapshot number worker k (there x x_is) k_has)))
       where
         there : (x : Tenant) → get a.world.tenants ns ≡ Some x → get x.workers number ≡ Some worker
         there x x_is = ap (λ (m : ByNumber Worker). get m number)

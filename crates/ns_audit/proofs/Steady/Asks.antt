@@ -1,16 +1,13 @@
 -- What is asked in a namespace keeps a world orderly, and so do new evaluations.
 use Rattle.std.specs.Prelude.{◌≡◌, ℕ, ◌+◌, Bool, true, false, cond, not, Option, Some, None, ◌&&◌, option_map}
-use Rattle.std.proofs.Common.{◌⊎◌, inl, inr, refl, sym, ap, subst, ◌∙◌}
-use Rattle.std.specs.FinMap.{get, get-remove, insert, remove}
+use Rattle.std.proofs.Common.{◌⊎◌, inl, inr, refl, sym, ap, subst}
+use Rattle.std.specs.FinMap.{get, insert, remove}
 use Rattle.std.specs.Option.{option_map_or}
-use Rattle.std.specs.Ordering.{eq_by_cmp}
 use Rattle.ns_types.specs.declared.allocation.Allocation.{Allocation}
 use Rattle.ns_types.specs.declared.allocation.DesiredStatus.{DesiredStatus}
-use Rattle.ns_types.specs.declared.allocation.DesiredStatus.TheVariants as DesiredStatus
 use Rattle.ns_types.specs.declared.evaluation.Evaluation.{Evaluation}
 use Rattle.ns_types.specs.declared.evaluation.Status.TheVariants as Status
 use Rattle.ns_types.specs.declared.evaluation.Trigger.{Trigger}
-use Rattle.ns_types.specs.declared.evaluation.Trigger.TheVariants as Trigger
 use Rattle.ns_types.specs.declared.job.Job.{Job}
 use Rattle.ns_types.specs.declared.job.JobKind.TheVariants as JobKind
 use Rattle.ns_types.specs.declared.job.Registration.{Registration}
@@ -18,14 +15,11 @@ use Rattle.ns_types.specs.declared.records.Namespace.{Namespace}
 use Rattle.ns_types.specs.declared.refusal.Refusal.TheVariants as Refusal
 use Rattle.ns_types.specs.declared.reply.Content.TheVariants as Content
 use Rattle.ns_types.specs.declared.step.AskCommand.{AskCommand}
-use Rattle.ns_types.specs.declared.step.AskCommand.TheVariants as AskCommand
-use Rattle.ns_types.specs.Asking.Asks.{
-    pool_of, document_of, registered_job, registered_with, register, stopped_job, deregistered, deregister_job,
-    deregister, stop_allocation, asked_in, ask
-}
+use Rattle.ns_types.specs.Asking.Asks.{first_refusal, pool_of, document_of, registered_job, registered_with, register, stopped_job, deregistered}
+use Rattle.ns_types.specs.Asking.Asks.{deregister_job, deregister, stop_allocation, asked_in, ask}
 use Rattle.ns_types.specs.Isolation.{namespace_at}
 use Rattle.ns_types.specs.Settling.Making.{with_job, with_desired, new_evaluation, evaluation_of, evaluation_for, make_in, make}
-use Rattle.ns_types.specs.State.Names.{Name, ByName, name_cmp}
+use Rattle.ns_types.specs.State.Names.{Name}
 use Rattle.ns_types.specs.Settling.Outcome.{Outcome, Refused, Done}
 use Rattle.ns_types.specs.State.Rows.{World, Tenant, is_live, is_run, is_held}
 use Rattle.ns_types.specs.Settling.Same.{same_document}
@@ -33,26 +27,18 @@ use Rattle.ns_types.specs.Access.Sharing.{permits}
 use Rattle.ns_types.specs.State.Sums.{names_quota, quota_use}
 use Rattle.ns_types.proofs.Lists.{not_both}
 use Rattle.ns_types.proofs.Named.{names, one_name, numbers as numbers_, one_number}
+use Rattle.ns_types.proofs.Registrations.{accepted}
+use Rattle.ns_types.proofs.Tests.{not_Some, is_yes}
+use Rattle.ns_types.proofs.TableRows.{row_of_insert, row_of_remove}
 use Rattle.ns_audit.specs.Orderly.{IsAllowedTo, IsOrderlyTenant, IsOrderly}
-use Rattle.ns_audit.proofs.Alone.Chosen.{no_path}
-use Rattle.ns_audit.proofs.Every.{row_of_insert, on}
 use Rattle.ns_audit.proofs.Alone.Naming.{deregistered_same, desired_same}
 use Rattle.ns_audit.proofs.Steady.Keeping.{KeepsTenant, keeps_same, keeps_rows, make_in_orderly}
-use Rattle.ns_audit.proofs.Outcomes.{Leads, leads_unless, leads_found, leads_if}
+use Rattle.ns_audit.proofs.Outcomes.{Leads, leads_unless, leads_refused, leads_found, leads_if}
 
 -- ---- outcomes
 
 abbrev pub KeepsOrder : Outcome World → Type 0
 KeepsOrder = Leads IsOrderly
-
--- ---- rows
-
-pub row_of_remove : {X : Type 0} (m : ByName X) (k q : Name) (x : X) → get (remove m k) q ≡ Some x → get m q ≡ Some x
-row_of_remove {X = X} m k q x is = by (eq_by_cmp name_cmp q k) (sym (get-remove names m k q) ∙ is)
-  where
-    by : (b : Bool) → cond b None (get m q) ≡ Some x → get m q ≡ Some x
-    by true is = absurd (no_path is)
-    by false is = is
 
 module _ (ns : Name) (ready blocked : ℕ → Bool) (t : Tenant) (s : IsOrderlyTenant ns t) where
   keeps_with_job : (id : Name) (j : Job) → permits t.namespace j.document.pool ≡ true → KeepsTenant ns ready blocked t (with_job id j t)
@@ -68,7 +54,7 @@ module _ (ns : Name) (ready blocked : ℕ → Bool) (t : Tenant) (s : IsOrderlyT
       (λ k x at. s.job k x (row_of_remove t.jobs id k x at)) s.allocation
   keeps_deregistered false id job is = keeps_with_job id (stopped_job (t.index + 1) job)
       (elim job.stop as (λ b. permits t.namespace (cond b job (record job { stop = true; modify_index = t.index + 1 })).document.pool ≡ true)
-          [ true ↦ s.job id job is | false ↦ s.job id job is ])
+      [ true ↦ s.job id job is | false ↦ s.job id job is ])
 
   -- what is not live in its place
   pub keeps_with_row : (n : ℕ) (b : Allocation) → (is_live b ≡ true → permits t.namespace b.pool ≡ true) →
@@ -107,8 +93,8 @@ module _ (ns : Name) (t : Tenant) (s : IsOrderlyTenant ns t) (a : Allocation) (t
       of_job o = option_map_or (λ (job : Job). evaluation_of a.job job.document trigger) o (new_evaluation a.job JobKind.Service a.priority a.pool trigger)
 
       by : (o : Option Job) → get t.jobs a.job ≡ o → IsAllowedTo t.namespace (of_job o).pool (of_job o).quota
-      by None at = record { permitted = permitted; its_quota = λ q is. absurd (no_path is) }
-      by (Some j) at = record { permitted = s.job a.job j at; its_quota = λ q is. absurd (no_path is) }
+      by None at = record { permitted = permitted; its_quota = λ q is. absurd (not_Some _ is) }
+      by (Some j) at = record { permitted = s.job a.job j at; its_quota = λ q is. absurd (not_Some _ is) }
 
 pub make_orderly : (ns : Name) (a : Allocation) (trigger : Trigger) (w : World) → IsOrderly w → PermitsAt w ns a.pool →
     IsOrderly (make ns (λ t. evaluation_for t a trigger) w)
@@ -127,36 +113,41 @@ module _ (w : World) (s : IsOrderly w) (ns : Name) (t : Tenant) (is : get w.tena
   its = s.tenant ns t is
 
   registration_orderly : (r : Registration) → KeepsOrder (register ns r w t)
-  registration_orderly r = leads_unless IsOrderly _ Refusal.PoolNotPermitted _
-      (λ permitted. leads_unless IsOrderly _ _ _ (λ _. leads_unless IsOrderly _ _ _ (λ _. leads_unless IsOrderly _ _ _ (λ _.
-      by (registered_job (t.index + 1) (document_of t r) (get t.jobs r.id)) (document_allowed (on _ permitted) (get t.jobs r.id) refl)))))
+  registration_orderly r = leads_refused IsOrderly (first_refusal w t r) _ (λ none.
+      by (registered_job (t.index + 1) (document_of t r) (get t.jobs r.id)) (document_allowed (accepted w t r none).permitted (get t.jobs r.id) refl))
     where
       document_allowed : permits t.namespace (pool_of t r) ≡ true → (j : Option Job) → get t.jobs r.id ≡ j →
           permits t.namespace (registered_job (t.index + 1) (document_of t r) j).document.pool ≡ true
       document_allowed allowed None at = allowed
       document_allowed allowed (Some j) at = elim (same_document (document_of t r) j.document && not j.stop) as
-          (λ b. permits t.namespace (cond b j (record { document = document_of t r; stop = false; version = j.version + 1; create_index =
-              j.create_index; modify_index = t.index + 1 })).document.pool ≡ true) [ true ↦ its.job r.id j at | false ↦ allowed ]
+          (λ b. permits t.namespace (cond b j (record {
+            document = document_of t r;
+            stop = false;
+            version = j.version + 1;
+            create_index =
+                j.create_index;
+            modify_index = t.index + 1;
+          })).document.pool ≡ true) [ true ↦ its.job r.id j at | false ↦ allowed ]
 
       by : (job : Job) → permits t.namespace job.document.pool ≡ true → KeepsOrder (registered_with ns r w t job)
       by job allowed = make_in_orderly w ns (evaluation_of r.id job.document Trigger.JobRegister) t (with_job r.id job t) s is
           (keeps_with_job ns _ _ t its r.id job allowed) refl
-          (record { permitted = allowed; its_quota = λ q at. absurd (no_path at) })
+          (record { permitted = allowed; its_quota = λ q at. absurd (not_Some _ at) })
 
   deregistration_orderly : (id : Name) (purge : Bool) → KeepsOrder (deregister ns id purge w t)
   deregistration_orderly id purge = leads_found IsOrderly (get t.jobs id) (deregister_job ns id purge w t) (λ job at.
       make_in_orderly w ns (evaluation_of id job.document Trigger.JobDeregister) t (deregistered purge id job t) s is
-          (keeps_deregistered ns _ _ t its purge id job at) refl
+      (keeps_deregistered ns _ _ t its purge id job at) refl
       (subst (λ namespace. IsAllowedTo namespace job.document.pool None) (sym (deregistered_same purge id job t))
-          (record { permitted = its.job id job at; its_quota = λ q at. absurd (no_path at) })))
+      (record { permitted = its.job id job at; its_quota = λ q at. absurd (not_Some _ at) })))
 
   stop_orderly : (n : ℕ) → KeepsOrder (stop_allocation ns n w t)
   stop_orderly n = leads_found IsOrderly (get t.allocations n) _ (λ a at. leads_unless IsOrderly (not (is_live a)) Refusal.Conflict _ (λ live.
       make_in_orderly w ns (evaluation_for t a Trigger.AllocStop) t (with_desired n DesiredStatus.Stop t) s is
-          (keeps_desired ns _ _ t its n DesiredStatus.Stop refl) (pending_for ns t its a Trigger.AllocStop)
+      (keeps_desired ns _ _ t its n DesiredStatus.Stop refl) (pending_for ns t its a Trigger.AllocStop)
       (subst (λ namespace. IsAllowedTo namespace (evaluation_for t a Trigger.AllocStop).pool (evaluation_for t a Trigger.AllocStop).quota)
-          (sym (desired_same n DesiredStatus.Stop t))
-      (allowed_for ns t its a Trigger.AllocStop (its.allocation n a at (on (is_live a) live))))))
+      (sym (desired_same n DesiredStatus.Stop t))
+      (allowed_for ns t its a Trigger.AllocStop (its.allocation n a at (is_yes (is_live a) live))))))
 
   asked_orderly : (command : AskCommand) → KeepsOrder (asked_in ns command w t)
   asked_orderly (AskCommand.ListJobs prefix) = s

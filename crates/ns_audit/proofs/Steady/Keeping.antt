@@ -19,21 +19,19 @@ use Rattle.ns_types.specs.State.Rows.{World, Tenant, is_open, is_live, evaluatio
 use Rattle.ns_types.specs.Access.Sharing.{permits}
 use Rattle.ns_types.specs.State.Tables.{map_rows, any_row}
 use Rattle.ns_types.proofs.Lists.{not_both, right_none}
-use Rattle.ns_types.proofs.Named.{
-    names, one_name, numbers as numbers_, one_number, same_name_is, same_name_refl, same_number_refl, first_of_both,
-    second_of_both
-}
+use Rattle.ns_types.proofs.Named.{names, one_name, numbers as numbers_, one_number, same_name_is, same_name_refl, same_number_refl, same_key_is}
+use Rattle.std.proofs.lemmas.Bool.{or_right}
 use Rattle.ns_types.proofs.Tables.{get-map_rows, tied, none_of_any}
+use Rattle.ns_types.proofs.Tests.{not_Some, same_Some, either_of}
+use Rattle.ns_types.proofs.TableRows.{row_of_insert}
 use Rattle.ns_audit.specs.Orderly.{IsAllowedTo, IsPendingIn, IsOrderlyTenant, IsReadyIn, IsBlockedIn, IsListed, IsOrderly}
-use Rattle.ns_audit.proofs.Alone.Chosen.{no_path, same_Some}
-use Rattle.ns_audit.proofs.Every.{row_of_insert}
 
 pub row_of_map : {K X : Type 0} {R : K → K → Ordering} (o : IsTotalOrder R) (same : IsAntisymmetric R) (f : K → X → X) (m : FinMap R X) (q : K) (x : X) →
     get (map_rows f m) q ≡ Some x → (y : X) × (get m q ≡ Some y) × (f q y ≡ x)
 row_of_map {X = X} o same f m q x is = by (get m q) refl (sym (get-map_rows o same f m q) ∙ is)
   where
     by : (y : Option X) → get m q ≡ y → option_map (f q) y ≡ Some x → (y : X) × (get m q ≡ Some y) × (f q y ≡ x)
-    by None at is = absurd (no_path is)
+    by None at is = absurd (not_Some _ is)
     by (Some y) at is = (y, at, same_Some _ _ is)
 
 pub at_inserted : {K X : Type 0} {R : K → K → Ordering} (o : IsTotalOrder R) (m : FinMap R X) (k : K) (v : X) → eq_by_cmp R k k ≡ true →
@@ -76,8 +74,12 @@ module _ (w : World) (ns : Name) (t t' : Tenant) (is : get w.tenants ns ≡ Some
             is_tenant = get-insert names w.tenants ns t' k ∙ ap (λ b. cond b (Some t') (get w.tenants k)) same;
             entry = keeps (sym e) (subst (λ x. P x n) (same_Some _ _ (sym l.is_tenant ∙ ap (get w.tenants) e ∙ is)) l.entry);
           }
-      by false differs = record { tenant = l.tenant; is_tenant = get-insert names w.tenants ns t' k ∙ ap (λ b. cond b (Some t') (get w.tenants k)) differs ∙
-          l.is_tenant; entry = l.entry }
+      by false differs = record {
+        tenant = l.tenant;
+        is_tenant = get-insert names w.tenants ns t' k ∙ ap (λ b. cond b (Some t') (get w.tenants k)) differs ∙
+            l.is_tenant;
+        entry = l.entry;
+      }
 
   pub put_orderly : IsOrderly w → KeepsTenant ns (λ n. has_key w.ready (ns, n)) (λ n. has_key w.blocked (ns, n)) t t' → IsOrderly (put_tenant ns t' w)
   put_orderly s keeps = record {
@@ -95,8 +97,12 @@ module _ (ns : Name) (ready blocked : ℕ → Bool) where
   keeps_same t s = record { sound = s; ready_kept = λ n has r. r; blocked_kept = λ n has b. b }
 
   pub keeps_then : (t u v : Tenant) → KeepsTenant ns ready blocked t u → KeepsTenant ns ready blocked u v → KeepsTenant ns ready blocked t v
-  keeps_then t u v a b = record { sound = b.sound; ready_kept = λ n has r. b.ready_kept n has (a.ready_kept n has r); blocked_kept =
-      λ n has r. b.blocked_kept n has (a.blocked_kept n has r) }
+  keeps_then t u v a b = record {
+    sound = b.sound;
+    ready_kept = λ n has r. b.ready_kept n has (a.ready_kept n has r);
+    blocked_kept =
+        λ n has r. b.blocked_kept n has (a.blocked_kept n has r);
+  }
 
   -- other jobs and allocations
   pub keeps_rows : (t : Tenant) (jobs : ByName Job) (allocations : ByNumber Allocation) (number : ℕ) → IsOrderlyTenant ns t
@@ -157,27 +163,13 @@ module _ (ns : Name) (ready blocked : ℕ → Bool) where
 
 -- ---- the lists
 
-pub or_cases : (a b : Bool) → (a || b) ≡ true → (a ≡ true) ⊎ (b ≡ true)
-or_cases true b e = inl refl
-or_cases false b e = inr e
-
-pub or_true : (a b : Bool) → b ≡ true → (a || b) ≡ true
-or_true true b e = refl
-or_true false b e = e
-
-pub same_key_is : (a b : Key) → same_key a b ≡ true → (a.0 ≡ b.0) × (a.1 ≡ b.1)
-same_key_is a b e = (same_name_is a.0 b.0 (first_of_both _ _ e), tied one_number a.1 b.1 (second_of_both _ _ e))
-
-pub same_key_refl : (a : Key) → same_key a a ≡ true
-same_key_refl a = λ i. same_name_refl a.0 i && same_number_refl a.1 i
-
 pub has_key_append : (keys : List Key) (k key : Key) → has_key (keys ++ k ∷ []) key ≡ true → (has_key keys key ≡ true) ⊎ (same_key key k ≡ true)
 has_key_append [] k key e = inr (one (same_key key k) e)
   where
     one : (b : Bool) → (b || false) ≡ true → b ≡ true
     one true e = refl
     one false e = e
-has_key_append (x ∷ xs) k key e = by (has_key_append xs k key) (or_cases (same_key key x) _ e)
+has_key_append (x ∷ xs) k key e = by (has_key_append xs k key) (either_of (same_key key x) _ e)
   where
     by : (has_key (xs ++ k ∷ []) key ≡ true → (has_key xs key ≡ true) ⊎ (same_key key k ≡ true)) → (same_key key x ≡ true)
         ⊎ (has_key (xs ++ k ∷ []) key ≡ true) → (has_key (x ∷ xs) key ≡ true) ⊎ (same_key key k ≡ true)
@@ -185,7 +177,7 @@ has_key_append (x ∷ xs) k key e = by (has_key_append xs k key) (or_cases (same
     by later (inr there) = more_of (later there)
       where
         more_of : (has_key xs key ≡ true) ⊎ (same_key key k ≡ true) → ((same_key key x || has_key xs key) ≡ true) ⊎ (same_key key k ≡ true)
-        more_of (inl in_) = inl (or_true (same_key key x) _ in_)
+        more_of (inl in_) = inl (or_right (same_key key x) _ in_)
         more_of (inr last) = inr last
 
 -- an entry of a filtered list is an entry of the list, and passes
@@ -195,18 +187,22 @@ has_key_filter p (x ∷ xs) key e = by (has_key_filter p xs key) (p x) refl e
   where
     by : (has_key (filter p xs) key ≡ true → (has_key xs key ≡ true) × (p key ≡ true)) → (b : Bool) → p x ≡ b →
         has_key (cond b (x ∷ filter p xs) (filter p xs)) key ≡ true → (has_key (x ∷ xs) key ≡ true) × (p key ≡ true)
-    by later false fails e = let r = later e in (or_true (same_key key x) (has_key xs key) r.0, r.1)
-    by later true passes e = here (or_cases (same_key key x) _ e)
+    by later false fails e = let r = later e in (or_right (same_key key x) (has_key xs key) r.0, r.1)
+    by later true passes e = here (either_of (same_key key x) _ e)
       where
         here : (same_key key x ≡ true) ⊎ (has_key (filter p xs) key ≡ true) → (has_key (x ∷ xs) key ≡ true) × (p key ≡ true)
         here (inl is) = (ap (λ b. b || has_key xs key) is, ap p (λ i. ((same_key_is key x is).0 i, (same_key_is key x is).1 i)) ∙ passes)
-        here (inr in_) = let r = later in_ in (or_true (same_key key x) (has_key xs key) r.0, r.1)
+        here (inr in_) = let r = later in_ in (or_right (same_key key x) (has_key xs key) r.0, r.1)
 
 -- an entry is put into `ready`, or into `blocked`
 module _ (w : World) (s : IsOrderly w) (ns : Name) (n : ℕ) where
   pub ready_orderly : IsListed w IsReadyIn ns n → IsOrderly (record w { ready = w.ready ++ (ns, n) ∷ [] })
-  ready_orderly l = record { tenant = s.tenant; blocked = λ k m has. again IsBlockedIn k m (s.blocked k m has); ready =
-      λ k m has. again IsReadyIn k m (by k m (has_key_append w.ready (ns, n) (k, m) has)) }
+  ready_orderly l = record {
+    tenant = s.tenant;
+    blocked = λ k m has. again IsBlockedIn k m (s.blocked k m has);
+    ready =
+        λ k m has. again IsReadyIn k m (by k m (has_key_append w.ready (ns, n) (k, m) has));
+  }
     where
       again : (P : Tenant → ℕ → Type 0) (k : Name) (m : ℕ) → IsListed w P k m → IsListed (record w { ready = w.ready ++ (ns, n) ∷ [] }) P k m
       again P k m l = record { tenant = l.tenant; is_tenant = l.is_tenant; entry = l.entry }
@@ -217,8 +213,12 @@ module _ (w : World) (s : IsOrderly w) (ns : Name) (n : ℕ) where
           (subst (λ m. IsListed w IsReadyIn ns m) (sym (same_key_is (k, m) (ns, n) last).1) l)
 
   pub blocked_orderly : IsListed w IsBlockedIn ns n → IsOrderly (record w { blocked = w.blocked ++ (ns, n) ∷ [] })
-  blocked_orderly l = record { tenant = s.tenant; ready = λ k m has. again IsReadyIn k m (s.ready k m has); blocked =
-      λ k m has. again IsBlockedIn k m (by k m (has_key_append w.blocked (ns, n) (k, m) has)) }
+  blocked_orderly l = record {
+    tenant = s.tenant;
+    ready = λ k m has. again IsReadyIn k m (s.ready k m has);
+    blocked =
+        λ k m has. again IsBlockedIn k m (by k m (has_key_append w.blocked (ns, n) (k, m) has));
+  }
     where
       again : (P : Tenant → ℕ → Type 0) (k : Name) (m : ℕ) → IsListed w P k m → IsListed (record w { blocked = w.blocked ++ (ns, n) ∷ [] }) P k m
       again P k m l = record { tenant = l.tenant; is_tenant = l.is_tenant; entry = l.entry }
@@ -234,10 +234,10 @@ pub free_of : (w : World) (ns job : Name) (n : ℕ) (t : Tenant) (e : Evaluation
     → (m : ℕ) (worker : Worker) → get t.workers m ≡ Some worker → worker.evaluation ≢ n
 free_of w ns job n t e idle is at of_it m worker has same = not_both
     (λ i. same_name_refl ns i && (ap (λ n. option_map_or (λ x. same_name job x.job) (evaluation_at w (ns, n)) false) same ∙
-        ap (λ o. option_map_or (λ x. same_name job x.job) o false) (ap (option_and_then (λ t. get t.evaluations n)) is ∙ at) ∙ of_it) i)
+    ap (λ o. option_map_or (λ x. same_name job x.job) o false) (ap (option_and_then (λ t. get t.evaluations n)) is ∙ at) ∙ of_it) i)
     (none_of_any one_number (λ _ worker. is_of_job w ns job (ns, worker.evaluation)) t.workers m worker
     (ap (λ o. option_map_or (λ t. any_row (λ _ worker. is_of_job w ns job (ns, worker.evaluation)) t.workers) o false) (sym is) ∙
-        right_none (list_any (is_of_job w ns job) w.ready) _ idle) has)
+    right_none (list_any (is_of_job w ns job) w.ready) _ idle) has)
 
 pub queue_orderly : (w : World) (ns : Name) (n : ℕ) (t : Tenant) → IsOrderly w → get w.tenants ns ≡ Some t → IsPendingIn t n → IsOrderly (queue w (ns, n))
 unfolding queue
@@ -254,11 +254,15 @@ queue_orderly w ns n t s is p = subst (λ o. IsOrderly (option_map_or (λ e. con
 -- of a namespace that goes from t to t', with a new pending one of t'
 pub make_in_orderly : (w : World) (ns : Name) (e : Evaluation) (t t' : Tenant) → IsOrderly w → get w.tenants ns ≡ Some t
     → KeepsTenant ns (λ n. has_key w.ready (ns, n)) (λ n. has_key w.blocked (ns, n)) t t' → e.status ≡ Status.Pending →
-        IsAllowedTo t'.namespace e.pool e.quota → IsOrderly (make_in ns e w t')
+    IsAllowedTo t'.namespace e.pool e.quota → IsOrderly (make_in ns e w t')
 make_in_orderly w ns e t t' s is keeps pending allowed =
     queue_orderly (put_tenant ns (with_evaluation e t') w) ns (t'.evaluation_number + 1) (with_evaluation e t')
     (put_orderly w ns t (with_evaluation e t') is s
-        (keeps_then ns _ _ t t' (with_evaluation e t') keeps (keeps_with_evaluation ns _ _ t' e keeps.sound allowed)))
+    (keeps_then ns _ _ t t' (with_evaluation e t') keeps (keeps_with_evaluation ns _ _ t' e keeps.sound allowed)))
     (at_inserted names w.tenants ns (with_evaluation e t') (same_name_refl ns))
-    (record { row = e; is_row = at_inserted numbers_ t'.evaluations (t'.evaluation_number + 1) e (same_number_refl (t'.evaluation_number + 1)); is_pending =
-        pending })
+    (record {
+      row = e;
+      is_row = at_inserted numbers_ t'.evaluations (t'.evaluation_number + 1) e (same_number_refl (t'.evaluation_number + 1));
+      is_pending =
+          pending;
+    })

@@ -6,17 +6,15 @@ use Rattle.ns_types.specs.declared.node.Node.{Node}
 use Rattle.ns_types.specs.declared.step.Step.{Step}
 use Rattle.ns_types.specs.State.Names.{Name, name_cmp, default_name}
 use Rattle.ns_types.specs.State.Rows.{State, QuotaRows}
-use Rattle.ns_types.specs.Steps.{
-    Answer, greatest, is_tenant_past_bound, is_pool_past_bound, is_past_bound, opening_tenant, opening_pool,
-    opening_world, opening, Run
-}
+use Rattle.ns_types.specs.Steps.{Answer, greatest, is_tenant_past_bound, is_pool_past_bound, is_past_bound, opening_tenant, opening_pool, opening_world}
+use Rattle.ns_types.specs.Steps.{opening, Run}
 use Rattle.ns_types.specs.State.Tables.{any_row}
 use Rattle.ns_types.proofs.Named.{names, one_name}
 use Rattle.ns_types.proofs.Tables.{any_row-none}
+use Rattle.ns_types.proofs.Tests.{not_Some}
+use Rattle.ns_types.proofs.TableRows.{row_of_insert}
 use Rattle.ns_audit.specs.Headline.{ReachedIsSteady}
 use Rattle.ns_audit.specs.Orderly.{IsOrderlyTenant, IsOrderly, IsSteady}
-use Rattle.ns_audit.proofs.Alone.Chosen.{no_path}
-use Rattle.ns_audit.proofs.Every.{row_of_insert}
 use Rattle.ns_audit.proofs.Steady.Admins.{new_orderly}
 use Rattle.ns_audit.proofs.Alone.Running.{steady_step}
 
@@ -29,7 +27,7 @@ only_row {X = X} k v q x at = by (row_of_insert names one_name (empty {R = name_
   where
     by : ((q ≡ k) × (v ≡ x)) ⊎ (get (empty {X = X} {R = name_cmp}) q ≡ Some x) → v ≡ x
     by (inl e) = e.1
-    by (inr none) = absurd (no_path (sym (get-empty name_cmp q) ∙ none))
+    by (inr none) = absurd (not_Some _ (sym (get-empty name_cmp q) ∙ none))
 
 opening_orderly : IsOrderly opening_world
 opening_orderly = record {
@@ -47,11 +45,11 @@ no_pool_over : any_row (λ _ p. is_pool_past_bound p) opening_world.pools ≡ fa
 no_pool_over = any_row-none names one_name (λ _ p. is_pool_past_bound p) opening_world.pools
     (λ name p is. ap is_pool_past_bound (sym (only_row default_name opening_pool name p is))
     ∙ (λ i. none_below greatest i || any_row-none names one_name (λ _ (node : Node). nat_lt greatest node.places) empty
-        (λ k node at. absurd (no_path (sym (get-empty name_cmp k) ∙ at))) i))
+    (λ k node at. absurd (not_Some _ (sym (get-empty name_cmp k) ∙ at))) i))
 
 no_quota_over : any_row (λ _ (q : QuotaRows). nat_lt greatest q.release) opening_world.quotas ≡ false
 no_quota_over = any_row-none names one_name (λ _ (q : QuotaRows). nat_lt greatest q.release) empty
-    (λ k q at. absurd (no_path (sym (get-empty name_cmp k) ∙ at)))
+    (λ k q at. absurd (not_Some _ (sym (get-empty name_cmp k) ∙ at)))
 
 opening_steady : (secret : Name) → IsSteady (opening secret)
 unfolding opening is_past_bound

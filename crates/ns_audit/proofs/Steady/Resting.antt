@@ -10,19 +10,18 @@ use Rattle.ns_types.specs.State.Names.{Name, Key, ByNumber, has_key}
 use Rattle.ns_types.specs.Working.Queue.{queue}
 use Rattle.ns_types.specs.Settling.Releases.{woken}
 use Rattle.ns_types.specs.State.Rows.{World, Tenant, is_open, is_live}
-use Rattle.ns_types.specs.Settling.Settle.{
-    pending, unblocked_in, wake, number_releases, is_touched, changes_evaluation, changes_allocation, created_at,
-    stamped_evaluation, stamped_allocation, events_of, stamped, stamp_tenant, stamp, settle
-}
+use Rattle.ns_types.specs.Settling.Settle.{pending, unblocked_in, wake, number_releases, is_touched, changes_evaluation, changes_allocation, created_at}
+use Rattle.ns_types.specs.Settling.Settle.{stamped_evaluation, stamped_allocation, events_of, stamped, stamp_tenant, stamp, settle}
 use Rattle.ns_types.specs.State.Lists.{last}
 use Rattle.std.specs.Prelude.{◌++◌}
 use Rattle.ns_types.specs.Access.Sharing.{permits}
 use Rattle.ns_types.specs.State.Tables.{map_rows}
-use Rattle.ns_types.proofs.Named.{names, one_name, numbers as numbers_, one_number, first_of_both}
+use Rattle.ns_types.proofs.Named.{names, one_name, numbers as numbers_, one_number, first_of_both, same_key_refl}
 use Rattle.ns_types.proofs.Tables.{get-map_rows}
+use Rattle.ns_types.proofs.Tests.{same_Some, is_no}
+use Rattle.std.proofs.lemmas.Bool.{or_right}
 use Rattle.ns_audit.specs.Orderly.{IsAllowedTo, IsPendingIn, IsOrderlyTenant, IsReadyIn, IsBlockedIn, IsListed, IsOrderly}
-use Rattle.ns_audit.proofs.Alone.Chosen.{same_Some, off}
-use Rattle.ns_audit.proofs.Steady.Keeping.{row_of_map, KeepsTenant, keeps_same, or_true, same_key_refl, has_key_filter, queue_orderly}
+use Rattle.ns_audit.proofs.Steady.Keeping.{row_of_map, KeepsTenant, keeps_same, has_key_filter, queue_orderly}
 use Rattle.ns_audit.proofs.Alone.Recording.{queue_keeps}
 
 -- ---- worlds with the same namespaces
@@ -61,26 +60,42 @@ mapped ns ready blocked t f allocations index events s allowed pends blocks allo
     numbers = λ n e at. let y = row_of_map numbers_ one_number f t.evaluations n e at in s.numbers n y.0 y.1;
   };
   ready_kept = λ n has r. record { pending = still n r.pending; free = r.free };
-  blocked_kept = λ n has b. record { row = f n b.row; is_row = get-map_rows numbers_ one_number f t.evaluations n ∙ ap (option_map (f n)) b.is_row; is_blocked =
-      blocks n b.row has b.is_blocked };
+  blocked_kept = λ n has b. record {
+    row = f n b.row;
+    is_row = get-map_rows numbers_ one_number f t.evaluations n ∙ ap (option_map (f n)) b.is_row;
+    is_blocked =
+        blocks n b.row has b.is_blocked;
+  };
 }
   where
     still : (n : ℕ) → IsPendingIn t n → IsPendingIn
         (record t { index = index; evaluations = map_rows f t.evaluations; allocations = allocations; events = events }) n
-    still n p = record { row = f n p.row; is_row = get-map_rows numbers_ one_number f t.evaluations n ∙ ap (option_map (f n)) p.is_row; is_pending =
-        pends n p.row p.is_pending }
+    still n p = record {
+      row = f n p.row;
+      is_row = get-map_rows numbers_ one_number f t.evaluations n ∙ ap (option_map (f n)) p.is_row;
+      is_pending =
+          pends n p.row p.is_pending;
+    }
 
 pub map_orderly : (w : World) (f : Name → Tenant → Tenant) → IsOrderly w
     → ((ns : Name) (t : Tenant) → get w.tenants ns ≡ Some t → KeepsTenant ns (λ n. has_key w.ready (ns, n)) (λ n. has_key w.blocked (ns, n)) t (f ns t)) →
-        IsOrderly (record w { tenants = map_rows f w.tenants })
+    IsOrderly (record w { tenants = map_rows f w.tenants })
 map_orderly w f s keeps = record {
   tenant = λ ns t is. let y = row_of_map names one_name f w.tenants ns t is in subst (IsOrderlyTenant ns) y.2 (keeps ns y.0 y.1).sound;
   ready = λ ns n has. let l = s.ready ns n has in
-      record { tenant = f ns l.tenant; is_tenant = get-map_rows names one_name f w.tenants ns ∙ ap (option_map (f ns)) l.is_tenant; entry =
-      (keeps ns l.tenant l.is_tenant).ready_kept n has l.entry };
+      record {
+        tenant = f ns l.tenant;
+        is_tenant = get-map_rows names one_name f w.tenants ns ∙ ap (option_map (f ns)) l.is_tenant;
+        entry =
+            (keeps ns l.tenant l.is_tenant).ready_kept n has l.entry;
+      };
   blocked = λ ns n has. let l = s.blocked ns n has in
-      record { tenant = f ns l.tenant; is_tenant = get-map_rows names one_name f w.tenants ns ∙ ap (option_map (f ns)) l.is_tenant; entry =
-      (keeps ns l.tenant l.is_tenant).blocked_kept n has l.entry };
+      record {
+        tenant = f ns l.tenant;
+        is_tenant = get-map_rows names one_name f w.tenants ns ∙ ap (option_map (f ns)) l.is_tenant;
+        entry =
+            (keeps ns l.tenant l.is_tenant).blocked_kept n has l.entry;
+      };
 }
 
 -- ---- indexes
@@ -91,7 +106,7 @@ module _ (ns : Name) (ready blocked : ℕ → Bool) (t : Tenant) (s : IsOrderlyT
       (last 100 (t.events ++ events_of index old t)) s
       (λ n e at. row_allowed n e (s.evaluation n e at)) (λ n e p. row_status n e ∙ p) (λ n e _ b. row_status n e ∙ b)
       (λ n a at. let y = row_of_map numbers_ one_number (stamped_allocation index old) t.allocations n a at in
-          subst (λ a. is_live a ≡ true → permits t.namespace a.pool ≡ true) y.2 (row_live n y.0 (s.allocation n y.0 y.1)))
+      subst (λ a. is_live a ≡ true → permits t.namespace a.pool ≡ true) y.2 (row_live n y.0 (s.allocation n y.0 y.1)))
     where
       row_status : (n : ℕ) (e : Evaluation) → (stamped_evaluation index old n e).status ≡ e.status
       row_status n e = elim (changes_evaluation old n e) as
@@ -105,15 +120,15 @@ module _ (ns : Name) (ready blocked : ℕ → Bool) (t : Tenant) (s : IsOrderlyT
           (λ b. is_open (cond b (record e { create_index = created_at index (get old.evaluations n) (λ o. o.create_index); modify_index = index })
           e).status ≡ true
           → IsAllowedTo t.namespace (cond b (record e { create_index = created_at index (get old.evaluations n) (λ o. o.create_index); modify_index = index })
-              e).pool (cond b (record e { create_index = created_at index (get old.evaluations n) (λ o. o.create_index); modify_index = index }) e).quota)
-              [ true ↦ h | false ↦ h ]
+          e).pool (cond b (record e { create_index = created_at index (get old.evaluations n) (λ o. o.create_index); modify_index = index }) e).quota)
+          [ true ↦ h | false ↦ h ]
 
       row_live : (n : ℕ) (a : Allocation) → (is_live a ≡ true → permits t.namespace a.pool ≡ true) → is_live (stamped_allocation index old n a) ≡ true →
           permits t.namespace (stamped_allocation index old n a).pool ≡ true
       row_live n a h = elim (changes_allocation old n a) as
           (λ b. is_live (cond b (record a { create_index = created_at index (get old.allocations n) (λ o. o.create_index); modify_index = index }) a) ≡ true
           → permits t.namespace (cond b (record a { create_index = created_at index (get old.allocations n) (λ o. o.create_index); modify_index = index })
-              a).pool ≡ true) [ true ↦ h | false ↦ h ]
+          a).pool ≡ true) [ true ↦ h | false ↦ h ]
 
   stamp_keeps : (old : Option Tenant) → KeepsTenant ns ready blocked t (stamp_tenant old t)
   unfolding stamp_tenant
@@ -137,7 +152,7 @@ queues_orderly [] w s pend = s
 queues_orderly (key ∷ keys) w s pend =
     let l = pend key.0 key.1 (ap (λ b. b || has_key keys key) (same_key_refl key)) in
     queues_orderly keys (queue w key) (queue_orderly w key.0 key.1 l.tenant s l.is_tenant l.entry)
-    (λ ns n has. relisted w (queue w key) (queue_keeps (λ x. x.tenants) (λ x ks. refl) w key) IsPendingIn ns n (pend ns n (or_true _ _ has)))
+    (λ ns n has. relisted w (queue w key) (queue_keeps (λ x. x.tenants) (λ x ks. refl) w key) IsPendingIn ns n (pend ns n (or_right _ _ has)))
 
 wake_orderly : (keys : List Key) (w : World) → ((key : Key) → has_key keys key ≡ true → has_key w.blocked key ≡ true) → IsOrderly w → IsOrderly (wake keys w)
 unfolding wake
@@ -159,7 +174,7 @@ wake_orderly keys w inside s = queues_orderly keys (record less { tenants = map_
     was_open ns t is n e at has =
         let l = s.blocked ns n (inside (ns, n) has) in
         ap (λ e. is_open e.status) (same_Some _ _ (sym at ∙ ap (λ (t : Tenant). get t.evaluations n) (same_Some _ _ (sym is ∙ l.is_tenant)) ∙ l.entry.is_row)) ∙
-            ap is_open l.entry.is_blocked
+        ap is_open l.entry.is_blocked
 
     allowed : (ns : Name) (t : Tenant) → get w.tenants ns ≡ Some t → (n : ℕ) (e : Evaluation) → get t.evaluations n ≡ Some e →
         is_open (row ns n e).status ≡ true → IsAllowedTo t.namespace (row ns n e).pool (row ns n e).quota
@@ -176,8 +191,8 @@ wake_orderly keys w inside s = queues_orderly keys (record less { tenants = map_
     keeps : (ns : Name) (t : Tenant) → get w.tenants ns ≡ Some t → KeepsTenant ns (λ n. has_key less.ready (ns, n)) (λ n. has_key less.blocked (ns, n)) t
         (unblocked_in keys ns t)
     keeps ns t is = mapped ns _ (λ n. has_key less.blocked (ns, n)) t (row ns) t.allocations t.index t.events (s.tenant ns t is) (allowed ns t is) (pends ns)
-        (λ n e listed b. ap (λ c. (cond c (pending e) e).status) (off _ (has_key_filter (λ key. not (has_key keys key)) w.blocked (ns, n) listed).1) ∙ b)
-            (s.tenant ns t is).allocation
+        (λ n e listed b. ap (λ c. (cond c (pending e) e).status) (is_no _ (has_key_filter (λ key. not (has_key keys key)) w.blocked (ns, n) listed).1) ∙ b)
+        (s.tenant ns t is).allocation
 
     pend : (ns : Name) (n : ℕ) → has_key keys (ns, n) ≡ true → IsListed (record less { tenants = map_rows (unblocked_in keys) w.tenants }) IsPendingIn ns n
     pend ns n has =

@@ -9,12 +9,9 @@ use Rattle.ns_types.specs.declared.node.Node.{Node}
 use Rattle.ns_types.specs.declared.records.Namespace.{Namespace}
 use Rattle.ns_types.specs.declared.records.Pool.{Pool}
 use Rattle.ns_types.specs.declared.step.AdminCommand.{AdminCommand}
-use Rattle.ns_types.specs.declared.step.AdminCommand.TheVariants as AdminCommand
 use Rattle.ns_types.specs.Asking.Policies.{with_world, with_acl, administer}
-use Rattle.ns_types.specs.Asking.Admins.{
-    looks_to_pool, uses_pool, new_tenant, with_namespace, is_withdrawn, forbids_put, put_namespace, delete_namespace,
-    put_quota, delete_quota, read_quota, with_pool, put_pool_record, delete_pool
-}
+use Rattle.ns_types.specs.Asking.Admins.{looks_to_pool, uses_pool, new_tenant, with_namespace, is_withdrawn, forbids_put, put_namespace, delete_namespace}
+use Rattle.ns_types.specs.Asking.Admins.{put_quota, delete_quota, read_quota, with_pool, put_pool_record, delete_pool}
 use Rattle.ns_types.specs.Settling.Making.{put_tenant}
 use Rattle.ns_types.specs.State.Names.{Name, name_cmp, same_name}
 use Rattle.ns_types.specs.Settling.Outcome.{Outcome, NotEnabled, Refused, Done, lift}
@@ -24,9 +21,9 @@ use Rattle.ns_types.specs.State.Tables.{any_row}
 use Rattle.ns_types.proofs.Lists.{not_both, left_none, right_none}
 use Rattle.ns_types.proofs.Named.{names, one_name, one_number, same_name_is}
 use Rattle.ns_types.proofs.Tables.{none_of_any}
-use Rattle.ns_audit.specs.Allocated.{IsAllocated}
-use Rattle.ns_audit.proofs.Alone.Chosen.{no_path, same_Some}
-use Rattle.ns_audit.proofs.Every.{row_of_insert}
+use Rattle.ns_types.proofs.Tests.{not_Some, same_Some}
+use Rattle.ns_types.proofs.TableRows.{row_of_insert}
+use Rattle.ns_audit.proofs.ValidAllocations.Statement.{IsAllocated}
 use Rattle.ns_audit.proofs.Outcomes.{Leads, leads_unless, leads_found}
 use Rattle.ns_audit.proofs.ValidAllocations.Sound.{le_same, ComesFrom, IsFrom, allocated_from, nodes_stay, nodes_hold}
 use Rattle.ns_audit.proofs.ValidAllocations.Going.{comes_same, Goes, goes_still, SameIndex, Allocates, allocates_still}
@@ -52,7 +49,7 @@ module _ (w : World) (s : IsAllocated w) (name : Name) (namespace : Namespace) w
   new_from ns t n b is at = by (row_of_insert names one_name w.tenants name (new_tenant namespace) ns t is)
     where
       by : ((ns ≡ name) × (new_tenant namespace ≡ t)) ⊎ (get w.tenants ns ≡ Some t) → ComesFrom w ns t n b
-      by (inl e) = absurd (no_path (sym (get-empty nat_cmp n) ∙ ap (λ (t : Tenant). get t.allocations n) e.1 ∙ at))
+      by (inl e) = absurd (not_Some _ (sym (get-empty nat_cmp n) ∙ ap (λ (t : Tenant). get t.allocations n) e.1 ∙ at))
       by (inr was) = comes_same w s ns t n b was at
 
   module _ (o : Tenant) (was : get w.tenants name ≡ Some o) (free : forbids_put namespace o ≡ false) where
@@ -81,8 +78,8 @@ module _ (w : World) (s : IsAllocated w) (name : Name) (namespace : Namespace) w
         used : (n : ℕ) (b : Allocation) → get o.allocations n ≡ Some b → is_live b ≡ true → is_withdrawn o.namespace namespace b.pool ≡ false
         used n b there live = ap (λ l. l && is_withdrawn o.namespace namespace b.pool) (sym live)
             ∙ none_of_any one_number (λ _ (a : Allocation). is_live a && is_withdrawn o.namespace namespace a.pool) o.allocations n b
-                (right_none (looks_to_pool (is_withdrawn o.namespace namespace) o) _ (left_none (uses_pool (is_withdrawn o.namespace namespace) o) _ free))
-                there
+            (right_none (looks_to_pool (is_withdrawn o.namespace namespace) o) _ (left_none (uses_pool (is_withdrawn o.namespace namespace) o) _ free))
+            there
 
     renamed_from : IsFrom w (put renamed)
     renamed_from ns t n b is at = by (row_of_insert names one_name w.tenants name renamed ns t is)
@@ -95,7 +92,7 @@ module _ (w : World) (s : IsAllocated w) (name : Name) (namespace : Namespace) w
   put_index ns o t was is = by (row_of_insert names one_name w.tenants name (with_namespace namespace (get w.tenants name)) ns t is)
     where
       of_row : (r : Option Tenant) → r ≡ Some o → (with_namespace namespace r).index ≡ o.index
-      of_row None e = absurd (no_path e)
+      of_row None e = absurd (not_Some _ e)
       of_row (Some x) e = ap (λ (t : Tenant). t.index) (same_Some x o e)
 
       by : ((ns ≡ name) × (with_namespace namespace (get w.tenants name) ≡ t)) ⊎ (get w.tenants ns ≡ Some t) → t.index ≡ o.index
@@ -126,7 +123,7 @@ module _ (w : World) (name : Name) where
       gone = record { nodes = λ pool n. refl; goes = λ k t at. by k t (same_name k name) (sym (get-remove names w.tenants name k) ∙ at) }
         where
           by : (k : Name) (t : Tenant) (b : Bool) → cond b None (get w.tenants k) ≡ Some t → (u : Tenant) × (get w.tenants k ≡ Some u) × Goes u t
-          by k t true at = absurd (no_path at)
+          by k t true at = absurd (not_Some _ at)
           by k t false at = (t, at, goes_still t)
 
   -- ---- pools
@@ -134,8 +131,11 @@ module _ (w : World) (name : Name) where
   pool_put : (pool : Pool) → Leads (Continues w) (put_pool_record name pool w)
   unfolding put_pool_record
   pool_put pool = leads_unless (Continues w) _ _ _
-      (λ _. record { goes = (continues_same w w refl refl).goes; nodes = λ q n. node_in_put w name (with_pool pool (get w.pools name)) q n ∙
-      by q n (same_name q name) refl })
+      (λ _. record {
+        goes = (continues_same w w refl refl).goes;
+        nodes = λ q n. node_in_put w name (with_pool pool (get w.pools name)) q n ∙
+            by q n (same_name q name) refl;
+      })
     where
       of_row : (o : Option PoolRows) (n : Name) → get (with_pool pool o).nodes n ≡ option_and_then (λ (p : PoolRows). get p.nodes n) o
       of_row None n = get-empty name_cmp n
@@ -148,9 +148,12 @@ module _ (w : World) (name : Name) where
   pool_deleted : Leads (Continues w) (delete_pool name w)
   unfolding delete_pool
   pool_deleted = leads_found (Continues w) (get w.pools name) _ (λ p is. leads_unless (Continues w) _ _ _ (λ _. leads_unless (Continues w) _ _ _ (λ free.
-      record { goes = (continues_same w w refl refl).goes; nodes =
-          λ q n. ap (option_and_then (λ (p : PoolRows). get p.nodes n)) (get-remove names w.pools name q) ∙
-          by p is (left_none (any_row (λ _ node. true) p.nodes) _ free) q n (same_name q name) refl })))
+      record {
+        goes = (continues_same w w refl refl).goes;
+        nodes =
+            λ q n. ap (option_and_then (λ (p : PoolRows). get p.nodes n)) (get-remove names w.pools name q) ∙
+            by p is (left_none (any_row (λ _ node. true) p.nodes) _ free) q n (same_name q name) refl;
+      })))
     where
       none : (p : PoolRows) → any_row (λ _ node. true) p.nodes ≡ false → (n : Name) (o : Option Node) → get p.nodes n ≡ o → None ≡ o
       none p free n None at = refl

@@ -11,11 +11,9 @@ use Rattle.ns_types.specs.declared.node.Node.{Node}
 use Rattle.ns_types.specs.declared.plan.Placement.{Placement}
 use Rattle.ns_types.specs.declared.snapshot.Snapshot.{Snapshot}
 use Rattle.ns_types.specs.declared.worker.Worker.{Worker}
-use Rattle.ns_types.specs.Working.Commit.{
-    still_stands, has_ended, same_version, live_stops, stop_all, node_name, nodes_in, Commit, begun, decide,
-    committed_placements, place_all, evicted_rows, Victim, same_victim_job, least_of_job, make_up, Applied,
-    refused_whole, done, commit, applied_worker, applied, apply_for, apply
-}
+use Rattle.ns_types.specs.Working.Commit.{still_stands, has_ended, same_version, live_stops, stop_all, node_name, nodes_in, Commit, begun, decide}
+use Rattle.ns_types.specs.Working.Commit.{committed_placements, place_all, evicted_rows, Victim, same_victim_job, least_of_job, make_up, Applied, refused_whole}
+use Rattle.ns_types.specs.Working.Commit.{done, commit, applied_worker, applied, apply_for, apply}
 use Rattle.ns_types.specs.Isolation.{namespace_at}
 use Rattle.ns_types.specs.State.Limits.{is_pool_name}
 use Rattle.ns_types.specs.State.Lists.{Each, first_each}
@@ -30,16 +28,14 @@ use Rattle.ns_types.specs.Validity.{IsSound, IsSoundEvaluation, IsSoundSnapshot}
 use Rattle.ns_types.specs.Working.Work.{with_worker, without_key, is_submitted}
 use Rattle.ns_types.proofs.Named.{one_number, first_of_both, second_of_both}
 use Rattle.ns_types.proofs.Tables.{tied}
-use Rattle.ns_audit.specs.Allocated.{IsAllocated}
-use Rattle.ns_audit.proofs.Alone.Chosen.{no_path, same_Some}
-use Rattle.ns_audit.proofs.Every.{each_of, each_left}
+use Rattle.ns_types.proofs.Tests.{not_Some, same_Some}
+use Rattle.ns_types.proofs.Elements.{each_of, each_kept}
+use Rattle.ns_audit.proofs.ValidAllocations.Statement.{IsAllocated}
 use Rattle.ns_audit.proofs.Alone.Naming.{named_change, named_decided, stops_same}
 use Rattle.ns_audit.proofs.Outcomes.{Leads, leads_if}
 use Rattle.ns_audit.proofs.ValidAllocations.Sound.{itself, node_row}
-use Rattle.ns_audit.proofs.ValidAllocations.Going.{
-    Onward, onward_same, onward_then, Lasts, lasts_still, lasts_then, Goes, goes_still, goes_then, goes_quiet,
-    goes_lasts, same_index, Allocates
-}
+use Rattle.ns_audit.proofs.ValidAllocations.Going.{Onward, onward_same, onward_then, Lasts, lasts_still, lasts_then, Goes, goes_still, goes_then, goes_quiet}
+use Rattle.ns_audit.proofs.ValidAllocations.Going.{goes_lasts, same_index, Allocates}
 use Rattle.ns_audit.proofs.ValidAllocations.Nodes.{continues_each, continues_make, continues_change}
 use Rattle.ns_audit.proofs.ValidAllocations.Placing.{Suits, suits_last, IsPlaceable, IsReserved, all_reserved, none_placed, all_placed_last}
 use Rattle.ns_audit.proofs.ValidAllocations.Plan.{IsPartOf, plan_parts, good_priority}
@@ -117,8 +113,11 @@ pub record Commits (w x : World) : Type 0 where
   pub lasts : Onward Lasts w x
 
 commits_on : (w x y : World) → Commits w x → Continues x y → Commits w y
-commits_on w x y c on = record { allocated = (continues_allocates x y c.allocated on).allocated; lasts =
-    onward_then Lasts lasts_still lasts_then w x y c.lasts (goes_lasts x y on.goes) }
+commits_on w x y c on = record {
+  allocated = (continues_allocates x y c.allocated on).allocated;
+  lasts =
+      onward_then Lasts lasts_still lasts_then w x y c.lasts (goes_lasts x y on.goes);
+}
 
 module _ (w : World) (v : IsSound w) (ns : Name) (t : Tenant) (is : get w.tenants ns ≡ Some t) (worker : Worker) (kept : Snapshot)
     (k : IsSoundSnapshot w ns t worker kept) where
@@ -166,7 +165,7 @@ module _ (w : World) (v : IsSound w) (ns : Name) (t : Tenant) (is : get w.tenant
           ∙ ap (option_map (λ (t : Tenant). t.namespace)) (ap (get w.tenants) k.namespace ∙ is)
 
       by : (o : Option Tenant) → get decided.world.tenants kept.namespace ≡ o → (u : Tenant) × (get decided.world.tenants kept.namespace ≡ Some u) × Lasts t u
-      by None none = absurd (no_path (sym (ap (option_map (λ (t : Tenant). t.namespace)) none) ∙ named))
+      by None none = absurd (not_Some _ (sym (ap (option_map (λ (t : Tenant). t.namespace)) none) ∙ named))
       by (Some u) there = let g = decided_on kept.namespace u there in
           (u, there, subst (λ t. Lasts t u) (same_Some g.0 t (sym g.1 ∙ ap (get w.tenants) k.namespace ∙ is)) g.2.lasts)
 
@@ -175,7 +174,7 @@ module _ (w : World) (v : IsSound w) (ns : Name) (t : Tenant) (is : get w.tenant
     placeable j has = each_of (λ (p : Placement). IsPartOf j p.group p.size × (has_number decided.committed p.node ≡ true)) (IsPlaceable kept j stopped) (λ p h.
         let s = each_has (Stands kept stopped) decided.committed is_decided.standing p.node h.1 in
         record { part = h.0; named = stopped_named (node_name kept p.node) s.row s.is_row; row = s.row; is_row = s.is_row; ready = s.ready }) placed
-        (each_left (λ (p : Placement). IsPartOf j p.group p.size) (λ p. has_number decided.committed p.node) ps (plan_parts kept j has (k.job_good j has)))
+        (each_kept (λ (p : Placement). IsPartOf j p.group p.size) (λ p. has_number decided.committed p.node) ps (plan_parts kept j has (k.job_good j has)))
 
     reserved : (j : Job) → kept.job ≡ Some j → IsReserved kept j stopped decided.world placed
     reserved j has = record {
@@ -197,10 +196,10 @@ module _ (w : World) (v : IsSound w) (ns : Name) (t : Tenant) (is : get w.tenant
     done_commits : Commits w (done kept (plan kept) w t).world
     done_commits = commits_on w (place_all kept decided.world placed) (make_up (evicted_rows stopped kept placed) (place_all kept decided.world placed))
         (record {
-      allocated = placed_allocated;
-      lasts = onward_then Lasts lasts_still lasts_then w decided.world (place_all kept decided.world placed) (goes_lasts w decided.world decided_on)
-          (all_placed_last kept placed decided.world);
-    }) (made_up_continues (evicted_rows stopped kept placed) (place_all kept decided.world placed))
+          allocated = placed_allocated;
+          lasts = onward_then Lasts lasts_still lasts_then w decided.world (place_all kept decided.world placed) (goes_lasts w decided.world decided_on)
+              (all_placed_last kept placed decided.world);
+        }) (made_up_continues (evicted_rows stopped kept placed) (place_all kept decided.world placed))
 
   commit_commits : Commits w (commit kept (plan kept) w t).world
   unfolding commit
@@ -215,9 +214,9 @@ pub apply_allocates : (w : World) → IsSound w → (ns : Name) (number : ℕ) �
 unfolding apply
 apply_allocates w v ns number = leads_keeping (Allocates w) number ns w (apply_for number ns w) (λ t worker e kept is has at keeps.
     leads_if (Allocates w) (is_submitted worker.phase && is_served w w.plans (ns, worker.evaluation)) (applied number ns worker e (commit kept (plan kept) w t))
-        NotEnabled
+    NotEnabled
     (λ _. by worker e (commit kept (plan kept) w t)
-        (commit_commits w v ns t is worker kept (((v.tenant ns t is).worker number worker has).snapshot kept keeps))) (λ _. tt))
+    (commit_commits w v ns t is worker kept (((v.tenant ns t is).worker number worker has).snapshot kept keeps))) (λ _. tt))
   where
     by : (worker : Worker) (e : Evaluation) (a : Applied) → Commits w a.world → Leads (Allocates w) (applied number ns worker e a)
     by worker e a c = let d = commits_on w a.world x c on in record { allocated = d.allocated; index = same_index w x d.lasts }

@@ -10,17 +10,15 @@ use Rattle.ns_types.specs.Settling.Making.{put_tenant, change_tenant, with_evalu
 use Rattle.ns_types.specs.State.Names.{Name, Key, ByNumber}
 use Rattle.ns_types.specs.Settling.Releases.{released_classes, woken}
 use Rattle.ns_types.specs.State.Rows.{World, Tenant, PoolRows, is_live, node_at}
-use Rattle.ns_types.specs.Settling.Settle.{
-    unblocked_in, wake, after_release, number_releases, is_touched, changes_allocation, created_at, stamped_allocation,
-    stamped, stamp_tenant, stamp, settle
-}
+use Rattle.ns_types.specs.Settling.Settle.{unblocked_in, wake, after_release, number_releases, is_touched, changes_allocation, created_at, stamped_allocation}
+use Rattle.ns_types.specs.Settling.Settle.{stamped, stamp_tenant, stamp, settle}
 use Rattle.ns_types.specs.Access.Sharing.{permits}
 use Rattle.ns_types.specs.State.Tables.{map_rows}
 use Rattle.ns_types.proofs.Named.{names, one_name, numbers as numbers_, one_number}
 use Rattle.ns_types.proofs.Tables.{get-map_rows}
-use Rattle.ns_audit.specs.Allocated.{IsAllocated}
-use Rattle.ns_audit.proofs.Alone.Chosen.{same_Some}
-use Rattle.ns_audit.proofs.Every.{row_of_insert}
+use Rattle.ns_types.proofs.Tests.{same_Some}
+use Rattle.ns_types.proofs.TableRows.{row_of_insert}
+use Rattle.ns_audit.proofs.ValidAllocations.Statement.{IsAllocated}
 use Rattle.ns_audit.proofs.Steady.Keeping.{row_of_map, more}
 use Rattle.ns_audit.proofs.Alone.Recording.{queue_keeps, queues_keep}
 use Rattle.ns_audit.proofs.ValidAllocations.Sound.{itself, le_then, le_same, ComesFrom, IsFrom, allocated_from, nodes_stay, nodes_hold}
@@ -58,14 +56,6 @@ module _ (P : Tenant → Tenant → Type 0) (still : (t : Tenant) → P t t) whe
       Onward P w (make_in ns e w t')
   onward_make_in w ns e t t' is p k u at = onward_put w ns t (with_evaluation e t') is p k u
       (sym (ap (λ m. get m k) (queue_keeps (λ x. x.tenants) (λ x keys. refl) (put_tenant ns (with_evaluation e t') w) (ns, t'.evaluation_number + 1))) ∙ at)
-
-  pub onward_make : (w : World) (ns : Name) (evaluation : Tenant → Evaluation) → ((e : Evaluation) (t : Tenant) → P t (with_evaluation e t)) →
-      Onward P w (make ns evaluation w)
-  onward_make w ns evaluation p = by (get w.tenants ns) refl
-    where
-      by : (o : Option Tenant) → get w.tenants ns ≡ o → Onward P w (option_map_or (λ t. make_in ns (evaluation t) w t) o w)
-      by None is = onward_same w w refl
-      by (Some t) is = onward_make_in w ns (evaluation t) t t is (p (evaluation t) t)
 
   module _ (then : (t u v : Tenant) → P t u → P u v → P t v) where
     pub onward_then : (w x y : World) → Onward P w x → Onward P x y → Onward P w y
@@ -126,16 +116,25 @@ goes_then t u v a b = record {
   row = λ n x at.
       let r = b.row n x at in
       let q = a.row n r.row r.is_row in
-      record { row = q.row; is_row = q.is_row; live = λ live. q.live (r.live live); same = r.same ∙
-          (λ i. record (q.same i) { desired = x.desired; client = x.client }) };
+      record {
+        row = q.row;
+        is_row = q.is_row;
+        live = λ live. q.live (r.live live);
+        same = r.same ∙
+            (λ i. record (q.same i) { desired = x.desired; client = x.client });
+      };
 }
 
 -- another allocation in the place of one
 pub goes_row : (t : Tenant) (n : ℕ) (a b : Allocation) → get t.allocations n ≡ Some a → b ≡ record a { desired = b.desired; client = b.client } →
     (is_live b ≡ true → is_live a ≡ true)
     → Goes t (record t { allocations = insert t.allocations n b })
-goes_row t n a b is same live = record { lasts = record { namespace = refl; index = refl; evaluations = itself t.evaluation_number }; number =
-    itself t.allocation_number; row = λ m x at. by m x (row_of_insert numbers_ one_number t.allocations n b m x at) }
+goes_row t n a b is same live = record {
+  lasts = record { namespace = refl; index = refl; evaluations = itself t.evaluation_number };
+  number =
+      itself t.allocation_number;
+  row = λ m x at. by m x (row_of_insert numbers_ one_number t.allocations n b m x at);
+}
   where
     by : (m : ℕ) (x : Allocation) → ((m ≡ n) × (b ≡ x)) ⊎ (get t.allocations m ≡ Some x) → GoesRow t.allocations m x
     by m x (inl e) = subst (GoesRow t.allocations m) e.1 (record { row = a; is_row = ap (get t.allocations) e.0 ∙ is; same = same; live = live })
@@ -153,8 +152,13 @@ goes_from w x s goes ns t n b is at =
       is_tenant = g.1;
       row = r.row;
       is_row = r.is_row;
-      same = r.same ∙ (λ i. record r.row { desired = b.desired; client = b.client; create_index =
-          sym (ap (λ (a : Allocation). a.create_index) r.same) i; modify_index = sym (ap (λ (a : Allocation). a.modify_index) r.same) i });
+      same = r.same ∙ (λ i. record r.row {
+        desired = b.desired;
+        client = b.client;
+        create_index =
+            sym (ap (λ (a : Allocation). a.create_index) r.same) i;
+        modify_index = sym (ap (λ (a : Allocation). a.modify_index) r.same) i;
+      });
       live = r.live;
       permitted = λ live allowed. subst (λ n. permits n r.row.pool ≡ true) (sym g.2.lasts.namespace) allowed;
       index = to_index;
@@ -252,8 +256,11 @@ module _ (w x : World) (old : IsAllocated w) (s : IsAllocated x) (same : SameInd
 
     row_from : (n : ℕ) (a : Allocation) → get t.allocations n ≡ Some a → (b : Bool)
         → ComesFrom x ns (stamped (o.index + 1) o t) n
-            (cond b (record a { create_index = created_at (o.index + 1) (get o.allocations n) (λ (a : Allocation). a.create_index); modify_index =
-            o.index + 1 }) a)
+        (cond b (record a {
+          create_index = created_at (o.index + 1) (get o.allocations n) (λ (a : Allocation). a.create_index);
+          modify_index =
+              o.index + 1;
+        }) a)
     row_from n a at true = record {
       tenant = t;
       is_tenant = is;
@@ -294,9 +301,9 @@ module _ (w x : World) (old : IsAllocated w) (s : IsAllocated x) (same : SameInd
   tenant_from ns t is None was n b at = comes_same x s ns t n b is at
   tenant_from ns t is (Some o) was n b at = (elim (is_touched o t) as (λ c. get (cond c (stamped (o.index + 1) o t) t).allocations n ≡ Some b →
       ComesFrom x ns (cond c (stamped (o.index + 1) o t) t) n b) [
-    | true ↦ stamped_from ns t o is was n b
-    | false ↦ comes_same x s ns t n b is
-  ]) at
+        | true ↦ stamped_from ns t o is was n b
+        | false ↦ comes_same x s ns t n b is
+      ]) at
 
   stamp_from : IsFrom x (stamp w x)
   unfolding stamp

@@ -1,4 +1,4 @@
--- What is told of the nodes of a pool: allocations stay sound.
+-- What is asked of a pool and its nodes: allocations stay sound.
 use Rattle.std.specs.Prelude.{◌≡◌, ℕ, ◌≤◌, Bool, true, false, cond, not, T, List, [], ◌∷◌, Option, Some, None, ◌&&◌, IsTrue, fold, nat_le}
 use Rattle.std.proofs.Common.{refl, sym, ap, subst, ◌∙◌}
 use Rattle.std.specs.FinMap.{get, get-insert, get-remove, contains_key, insert, len, remove}
@@ -12,15 +12,12 @@ use Rattle.ns_types.specs.declared.node.Offer.{Offer}
 use Rattle.ns_types.specs.declared.refusal.Refusal.TheVariants as Refusal
 use Rattle.ns_types.specs.declared.reply.Content.TheVariants as Content
 use Rattle.ns_types.specs.declared.step.NodeCommand.{NodeCommand}
-use Rattle.ns_types.specs.declared.step.NodeCommand.TheVariants as NodeCommand
 use Rattle.ns_types.specs.declared.step.Report.{Report}
 use Rattle.ns_types.specs.Settling.Making.{put_tenant, put_pool, with_node, change_tenant, with_client, evaluation_for, make_in, make}
 use Rattle.ns_types.specs.declared.evaluation.Evaluation.{Evaluation}
 use Rattle.ns_types.specs.State.Names.{Name, same_name}
-use Rattle.ns_types.specs.Asking.Nodes.{
-    most_nodes, with_offer, put_node, losses, lost, lose, go_down, may_become, same_client, calls_for_one, reported,
-    is_on, report_of, report, asked_in_pool, ask_pool
-}
+use Rattle.ns_types.specs.Asking.Nodes.{most_nodes, with_offer, put_node, losses, lost, lose, go_down, may_become, same_client, calls_for_one, reported, is_on}
+use Rattle.ns_types.specs.Asking.Nodes.{report_of, report, asked_in_pool, ask_pool}
 use Rattle.ns_types.specs.Settling.Outcome.{Done, unless}
 use Rattle.ns_types.specs.State.Resources.{is_within}
 use Rattle.ns_types.specs.State.Rows.{World, Tenant, PoolRows, is_ready, is_run, is_held, is_live, is_live_on, allocation_at, node_at}
@@ -28,24 +25,24 @@ use Rattle.ns_types.specs.State.Sums.{node_load}
 use Rattle.ns_types.specs.State.Tables.{map_rows}
 use Rattle.ns_types.proofs.Lists.{not_both}
 use Rattle.ns_types.proofs.Named.{names, one_name, numbers as numbers_, one_number, same_name_is, same_name_refl, first_of_both}
-use Rattle.ns_audit.specs.Allocated.{IsAllocated}
-use Rattle.ns_audit.proofs.Alone.Chosen.{no_path, same_Some}
-use Rattle.ns_audit.proofs.Every.{on}
+use Rattle.ns_types.proofs.Tests.{not_Some, same_Some, is_yes}
+use Rattle.ns_audit.proofs.ValidAllocations.Statement.{IsAllocated}
 use Rattle.ns_audit.proofs.Steady.Keeping.{row_of_map}
 use Rattle.ns_audit.proofs.Steady.Nodes.{held_before}
 use Rattle.ns_audit.proofs.Outcomes.{Leads, leads_of, leads_unless, leads_found, leads_if}
 use Rattle.ns_audit.proofs.ValidAllocations.Sound.{itself, le_same, allocation_row, LivesOn, StillThere, NodesStay, NodesHold, allocated_from}
-use Rattle.ns_audit.proofs.ValidAllocations.Going.{
-    onward_same, onward_change, onward_map, onward_then, GoesRow, Goes, goes_still, goes_then, goes_row, goes_from,
-    goes_lasts, same_index, Allocates, allocates_still
-}
+use Rattle.ns_audit.proofs.ValidAllocations.Going.{onward_same, onward_change, onward_map, onward_then, GoesRow, Goes, goes_still, goes_then, goes_row}
+use Rattle.ns_audit.proofs.ValidAllocations.Going.{goes_from, goes_lasts, same_index, Allocates, allocates_still}
 use Rattle.ns_audit.proofs.ValidAllocations.Work.{Continues, continues_allocates, continues_same, continues_make_in}
 
--- ---- what goes on goes on again
+-- ---- what goes is_yes goes is_yes again
 
 pub continues_then : (w x y : World) → Continues w x → Continues x y → Continues w y
-continues_then w x y a b = record { goes = onward_then Goes goes_still goes_then w x y a.goes b.goes; nodes = λ pool name. b.nodes pool name ∙
-    a.nodes pool name }
+continues_then w x y a b = record {
+  goes = onward_then Goes goes_still goes_then w x y a.goes b.goes;
+  nodes = λ pool name. b.nodes pool name ∙
+      a.nodes pool name;
+}
 
 pub continues_make : (ns : Name) (evaluation : Tenant → Evaluation) (w : World) → Continues w (make ns evaluation w)
 continues_make ns evaluation w = by (get w.tenants ns) refl
@@ -61,8 +58,11 @@ continues_each f h (a ∷ list) w = continues_then w (f w a) (fold f (f w a) lis
 
 pub continues_change : (w : World) (ns : Name) (f : Tenant → Tenant) → ((t : Tenant) → get w.tenants ns ≡ Some t → Goes t (f t)) →
     Continues w (change_tenant ns f w)
-continues_change w ns f goes = record { goes = onward_change Goes goes_still w ns f goes; nodes =
-    λ pool name. ap (λ m. option_and_then (λ (p : PoolRows). get p.nodes name) (get m pool)) same }
+continues_change w ns f goes = record {
+  goes = onward_change Goes goes_still w ns f goes;
+  nodes =
+      λ pool name. ap (λ m. option_and_then (λ (p : PoolRows). get p.nodes name) (get m pool)) same;
+}
   where
     same : (change_tenant ns f w).pools ≡ w.pools
     same = elim (get w.tenants ns) as (λ (o : Option Tenant). (option_map_or (λ t. put_tenant ns (f t) w) o w).pools ≡ w.pools) [ Some t ↦ refl | None ↦ refl ]
@@ -107,7 +107,7 @@ module _ (w : World) (s : IsAllocated w) (pool : Name) (p : PoolRows) (is : get 
 
     pub still_at : (q n : Name) (old : Node) → node_at w q n ≡ Some old → is_ready old.status ≡ true
         → (same_name q pool ≡ true → same_name n name ≡ true → (is_ready new.status ≡ true) × (old.places ≤ new.places)) →
-            StillThere (put_pool pool (with_node name new p) w) q n old
+        StillThere (put_pool pool (with_node name new p) w) q n old
     still_at q n old at old_ready k = by (same_name q pool) refl (same_name n name) refl
       where
         by : (b : Bool) → same_name q pool ≡ b → (c : Bool) → same_name n name ≡ c → StillThere (put_pool pool (with_node name new p) w) q n old
@@ -115,7 +115,7 @@ module _ (w : World) (s : IsAllocated w) (pool : Name) (p : PoolRows) (is : get 
         by true e false f = record { row = old; is_row = put_here q n true e false f ∙ at; ready = old_ready; places = itself old.places }
         by false e c f = record { row = old; is_row = put_here q n false e c f ∙ at; ready = old_ready; places = itself old.places }
 
-  -- which is ready where something is live on it, and has room for what is there
+  -- which is ready where something is live is_yes it, and has room for what is there
   module _ (new : Node) (ready : LivesOn w pool name → (old : Node) → get p.nodes name ≡ Some old → is_ready old.status ≡ true → (is_ready new.status ≡ true) ×
       (old.places ≤ new.places))
       (room : IsTrue (is_within (node_load w pool name) new.offer.capacity)) where
@@ -145,11 +145,11 @@ module _ (w : World) (s : IsAllocated w) (pool : Name) (p : PoolRows) (is : get 
   put_allocates : (offer : Offer) → Leads (Allocates w) (put_node pool name offer w p)
   put_allocates offer = leads_unless (Allocates w) _ Refusal.InUse _
       (λ room. leads_unless (Allocates w) (not (contains_key p.nodes name) && nat_le most_nodes (len p.nodes)) Refusal.Full _ (λ _.
-      by (get p.nodes name) refl (on _ room)))
+      by (get p.nodes name) refl (is_yes _ room)))
     where
       by : (o : Option Node) → get p.nodes name ≡ o → IsTrue (is_within (node_load w pool name) offer.capacity) →
           Allocates w (put_pool pool (with_node name (with_offer offer o) p) w)
-      by None was room = node_allocates (with_offer offer None) (λ _ old at _. absurd (no_path (sym was ∙ at))) room
+      by None was room = node_allocates (with_offer offer None) (λ _ old at _. absurd (not_Some _ (sym was ∙ at))) room
       by (Some node) was room = node_allocates (record node { offer = offer }) (λ _ old at ready. let e = same_Some old node (sym at ∙ was) in
           (ap (λ (n : Node). is_ready n.status) (sym e) ∙ ready, le_same old.places node.places (ap (λ (n : Node). n.places) e))) room
 
@@ -157,9 +157,12 @@ module _ (w : World) (s : IsAllocated w) (pool : Name) (p : PoolRows) (is : get 
 
   gone_allocates : (node : Node) → get p.nodes name ≡ Some node → is_ready node.status ≡ false →
       Allocates w (put_pool pool (record p { nodes = remove p.nodes name }) w)
-  gone_allocates node there down = record { allocated =
-      allocated_from w y s (goes_from w y s (onward_same Goes goes_still w y refl)) stays_without holds_without; index =
-      same_index w y (goes_lasts w y (onward_same Goes goes_still w y refl)) }
+  gone_allocates node there down = record {
+    allocated =
+        allocated_from w y s (goes_from w y s (onward_same Goes goes_still w y refl)) stays_without holds_without;
+    index =
+        same_index w y (goes_lasts w y (onward_same Goes goes_still w y refl));
+  }
     where
       y : World
       y = put_pool pool (record p { nodes = remove p.nodes name }) w
@@ -185,7 +188,7 @@ module _ (w : World) (s : IsAllocated w) (pool : Name) (p : PoolRows) (is : get 
       holds_without q n x at = by (same_name q pool) refl (same_name n name) refl
         where
           by : (b : Bool) → same_name q pool ≡ b → (c : Bool) → same_name n name ≡ c → IsTrue (is_within (node_load w q n) x.offer.capacity)
-          by true e true f = absurd (no_path (sym (node_in_put w pool (record p { nodes = remove p.nodes name }) q n ∙
+          by true e true f = absurd (not_Some _ (sym (node_in_put w pool (record p { nodes = remove p.nodes name }) q n ∙
               ap (λ b. cond b (get (remove p.nodes name) n) (node_at w q n)) e ∙ get-remove names p.nodes name n ∙ ap (λ b. cond b None (get p.nodes n)) f) ∙
               at))
           by true e false f = s.within q n x (sym (at_other q n true e false f refl) ∙ at)
@@ -213,22 +216,25 @@ module _ (pool name : Name) where
   }
 
   lose_continues : (w : World) → Continues w (lose pool name w)
-  lose_continues w = record { goes = onward_map Goes goes_still w (λ _ t. record t { allocations = map_rows (λ _ a. lost pool name a) t.allocations })
-      (λ ns t. lose_goes t); nodes = λ q n. refl }
+  lose_continues w = record {
+    goes = onward_map Goes goes_still w (λ _ t. record t { allocations = map_rows (λ _ a. lost pool name a) t.allocations })
+        (λ ns t. lose_goes t);
+    nodes = λ q n. refl;
+  }
 
   -- nothing is live there any more
   none_lives : (w : World) → LivesOn (lose pool name w) pool name → ⊥
   none_lives w l =
       let y = row_of_map names one_name (λ _ t. record t { allocations = map_rows (λ _ a. lost pool name a) t.allocations })
-          w.tenants l.namespace l.tenant l.is_tenant in
+      w.tenants l.namespace l.tenant l.is_tenant in
       let z = row_of_map numbers_ one_number (λ _ a. lost pool name a) y.0.allocations l.number l.row (ap (λ (t : Tenant). get t.allocations l.number) y.2 ∙
-          l.is_row) in
+      l.is_row) in
       by z.0 (is_live_on pool name z.0) refl (ap is_live z.2 ∙ l.live) (ap (λ (a : Allocation). a.pool) z.2 ∙ l.in_pool)
-          (ap (λ (a : Allocation). a.node) z.2 ∙ l.on_node)
+      (ap (λ (a : Allocation). a.node) z.2 ∙ l.on_node)
     where
       by : (a : Allocation) (b : Bool) → is_live_on pool name a ≡ b → is_live (cond b (record a { client = ClientStatus.Lost }) a) ≡ true →
           (cond b (record a { client = ClientStatus.Lost }) a).pool ≡ pool → (cond b (record a { client = ClientStatus.Lost }) a).node ≡ name → ⊥
-      by a true on live q n = not_both live (dead a)
+      by a true is_yes live q n = not_both live (dead a)
       by a false off live q n = not_both (λ i. live i && ((ap (same_name pool) q ∙ same_name_refl pool) i && (ap (same_name name) n ∙ same_name_refl name) i))
           off
 
@@ -255,7 +261,7 @@ module _ (pool name : Name) where
       s_y : IsAllocated y
       s_y = node_allocated x s_x pool p is name new (λ lives old at ready. absurd (none_lives w lives))
           (subst (λ (o : Offer). IsTrue (is_within (node_load x pool name) o.capacity)) (sym same)
-              (s_x.within pool name node (ap (option_and_then (λ (p : PoolRows). get p.nodes name)) is ∙ there)))
+          (s_x.within pool name node (ap (option_and_then (λ (p : PoolRows). get p.nodes name)) is ∙ there)))
 
       later : Continues y z
       later = continues_each (λ x loss. make loss.0 (λ t. evaluation_for t loss.1 Trigger.NodeUpdate) x) (λ x loss. continues_make loss.0 _ x)
@@ -291,11 +297,11 @@ module _ (w : World) (r : Report) where
       (λ a at.
       leads_unless (Continues w) (not (is_on pool name a)) Refusal.NotFound (report_of r w a) (λ _.
       leads_if (Continues w) (same_client a.client r.client) (Done Content.Written w)
-          (unless (not (may_become a.client r.client)) Refusal.Conflict (Done Content.Written (reported r a w))) (λ _. continues_same w w refl refl) (λ _.
+      (unless (not (may_become a.client r.client)) Refusal.Conflict (Done Content.Written (reported r a w))) (λ _. continues_same w w refl refl) (λ _.
       leads_unless (Continues w) (not (may_become a.client r.client)) Refusal.Conflict (Done Content.Written (reported r a w)) (λ becomes.
-      let row = allocation_row w (r.namespace, r.number) a at in reported_goes row.0 a row.1 row.2 (held_before a.client r.client (on _ becomes)))))))
+      let row = allocation_row w (r.namespace, r.number) a at in reported_goes row.0 a row.1 row.2 (held_before a.client r.client (is_yes _ becomes)))))))
 
--- ---- all that is told
+-- ---- all that is asked of a pool
 
 module _ (w : World) (s : IsAllocated w) (pool : Name) (p : PoolRows) (is : get w.pools pool ≡ Some p) where
   row_within : (name : Name) (node : Node) → get p.nodes name ≡ Some node → IsTrue (is_within (node_load w pool name) node.offer.capacity)
@@ -303,7 +309,7 @@ module _ (w : World) (s : IsAllocated w) (pool : Name) (p : PoolRows) (is : get 
 
   status_allocates : (name : Name) (status : NodeStatus) (node : Node) → get p.nodes name ≡ Some node → (b : Bool) → is_ready status ≡ b
       → Allocates w (cond b (put_pool pool (with_node name (record node { status = status }) p) w)
-          (go_down pool name (put_pool pool (with_node name (record node { status = status }) p) w)))
+      (go_down pool name (put_pool pool (with_node name (record node { status = status }) p) w)))
   status_allocates name status node there true up =
       node_allocates w s pool p is name (record node { status = status })
       (λ _ old at ready. (up, le_same old.places node.places (ap (λ (n : Node). n.places) (same_Some old node (sym at ∙ there))))) (row_within name node there)
@@ -320,7 +326,7 @@ module _ (w : World) (s : IsAllocated w) (pool : Name) (p : PoolRows) (is : get 
       leads_found (Allocates w) (get p.nodes name) _ (λ node there. status_allocates name status node there (is_ready status) refl)
   asked_in_pool_allocates (NodeCommand.SetEligible name eligible) = leads_found (Allocates w) (get p.nodes name) _ (λ node there.
       node_allocates w s pool p is name (record node { eligible = eligible }) (λ _ old at ready. let e = same_Some old node (sym at ∙ there) in
-          (ap (λ (n : Node). is_ready n.status) (sym e) ∙ ready, le_same old.places node.places (ap (λ (n : Node). n.places) e))) (row_within name node there))
+      (ap (λ (n : Node). is_ready n.status) (sym e) ∙ ready, le_same old.places node.places (ap (λ (n : Node). n.places) e))) (row_within name node there))
   asked_in_pool_allocates (NodeCommand.Report name r) = leads_of (Continues w) (Allocates w) (λ x c. continues_allocates w x s c) (report pool name r w p)
       (report_goes w r pool name p)
 

@@ -23,14 +23,12 @@ use Rattle.ns_types.specs.Access.Sharing.{permits}
 use Rattle.ns_types.specs.State.Sums.{tenant_sum, node_sum, node_load}
 use Rattle.ns_types.specs.Validity.{IsSoundAllocation, IsLiveAt}
 use Rattle.ns_types.proofs.Named.{names, one_name, numbers as numbers_, one_number, same_name_is, same_name_refl}
-use Rattle.ns_audit.specs.Allocated.{IsAllocated}
-use Rattle.ns_audit.proofs.Alone.Chosen.{no_path, same_Some}
-use Rattle.ns_audit.proofs.Every.{row_of_insert}
+use Rattle.ns_types.proofs.Tests.{not_Some, same_Some}
+use Rattle.ns_types.proofs.TableRows.{row_of_insert}
+use Rattle.ns_audit.proofs.ValidAllocations.Statement.{IsAllocated}
 use Rattle.ns_audit.proofs.Steady.Keeping.{at_inserted}
-use Rattle.ns_audit.proofs.ValidAllocations.Sound.{
-    itself, by_le, le_same, le_then, within_less, allocation_row, row_allocation, node_row, node_pool, ComesFrom,
-    NodesStay, sound_from
-}
+use Rattle.ns_audit.proofs.ValidAllocations.Sound.{itself, by_le, le_same, le_then, within_less, allocation_row, row_allocation, node_row, node_pool, ComesFrom}
+use Rattle.ns_audit.proofs.ValidAllocations.Sound.{NodesStay, sound_from}
 use Rattle.ns_audit.proofs.ValidAllocations.Going.{comes_same, Onward, onward_same, onward_change, onward_each, Lasts, lasts_still, lasts_then}
 use Rattle.ns_audit.proofs.ValidAllocations.Nodes.{still_at, put_here}
 use Rattle.ns_audit.proofs.ValidAllocations.Plan.{IsPartOf}
@@ -135,14 +133,16 @@ module _ (kept : Snapshot) (j : Job) (p : Placement) (w : World) (s : IsAllocate
   place_is : place_with kept p w j node ≡ x
   place_is = ap (λ o. counted kept.pool name node (option_map_or (λ t. put_tenant kept.namespace (with_allocation new t) w) o w)) is
       ∙ ap (λ o. option_map_or (λ q. put_pool kept.pool (with_place name node q) (put_tenant kept.namespace after w)) o (put_tenant kept.namespace after w))
-          is_pool
+      is_pool
 
   was_ready : (q n : Name) (old : Node) → node_at w q n ≡ Some old → is_ready old.status ≡ true → same_name q kept.pool ≡ true → same_name n name ≡ true →
       (is_ready bumped.status ≡ true) × (old.places ≤ bumped.places)
   was_ready q n old there ready e f =
-      let same = same_Some old node (sym there ∙ (λ i. node_at w (same_name_is q kept.pool e i) (same_name_is n name f i)) ∙ at) in
-      (ap (λ (x : Node). is_ready x.status) (sym same) ∙
-          ready, le_then old.places node.places (node.places + 1) (le_same old.places node.places (ap (λ (x : Node). x.places) same)) (one_more node.places))
+      let same = same_Some old node (sym there ∙ (λ i. node_at w (same_name_is q kept.pool e i) (same_name_is n name f i)) ∙ at) in (
+        ap (λ (x : Node). is_ready x.status) (sym same) ∙
+            ready,
+        le_then old.places node.places (node.places + 1) (le_same old.places node.places (ap (λ (x : Node). x.places) same)) (one_more node.places),
+      )
 
   stays : NodesStay w x
   stays q n old lives there ready =
@@ -158,9 +158,13 @@ module _ (kept : Snapshot) (j : Job) (p : Placement) (w : World) (s : IsAllocate
       by : (b : Bool) → same_name q kept.pool ≡ b → (c : Bool) → same_name n name ≡ c → (old : Node) × (node_at w q n ≡ Some old) × (found.offer ≡ old.offer) ×
           (found.status ≡ old.status)
       by true e true f =
-          let same = same_Some found bumped (sym now ∙ put_here w s kept.pool rows is_pool name bumped q n true e true f) in
-          (node, (λ i. node_at w (same_name_is q kept.pool e i) (same_name_is n name f i)) ∙
-              at, ap (λ (x : Node). x.offer) same, ap (λ (x : Node). x.status) same)
+          let same = same_Some found bumped (sym now ∙ put_here w s kept.pool rows is_pool name bumped q n true e true f) in (
+            node,
+            (λ i. node_at w (same_name_is q kept.pool e i) (same_name_is n name f i)) ∙
+                at,
+            ap (λ (x : Node). x.offer) same,
+            ap (λ (x : Node). x.status) same,
+          )
       by true e false f = (found, sym (put_here w s kept.pool rows is_pool name bumped q n true e false f) ∙ now, refl, refl)
       by false e c f = (found, sym (put_here w s kept.pool rows is_pool name bumped q n false e c f) ∙ now, refl, refl)
 
@@ -171,7 +175,7 @@ module _ (kept : Snapshot) (j : Job) (p : Placement) (w : World) (s : IsAllocate
   sum_with pool n amount = added _ (tenant_sum (is_live_on pool n) amount t) _ (tenant_sum (is_live_on pool n) amount after)
       (cond (goes_to kept pool n p) (amount p.size) 0) _
       (subst (λ o. sum_by (λ e. tenant_sum (is_live_on pool n) amount e.1) (entries (insert w.tenants kept.namespace after)) + option_map_or
-          (tenant_sum (is_live_on pool n) amount) o 0
+      (tenant_sum (is_live_on pool n) amount) o 0
       ≤ sum_by (λ e. tenant_sum (is_live_on pool n) amount e.1) (entries w.tenants) + tenant_sum (is_live_on pool n) amount after) is
       (sum_put names one_name (λ _ t. tenant_sum (is_live_on pool n) amount t) w.tenants kept.namespace after))
       (sum_put numbers_ one_number (λ _ (a : Allocation). cond (is_live_on pool n a) (amount a.size) 0) t.allocations number new)
@@ -199,7 +203,7 @@ module _ (kept : Snapshot) (j : Job) (p : Placement) (w : World) (s : IsAllocate
       sized = λ i. by_le 1 p.size.cpu part.cpu i && by_le 1 p.size.memory part.memory i;
       priority = suits.priority;
       placed = λ _. record {
-        allowed = record { exists = node_pool x kept.pool name bumped there_now; permitted = suits.permitted; its_quota = λ q e. absurd (no_path e) };
+        allowed = record { exists = node_pool x kept.pool name bumped there_now; permitted = suits.permitted; its_quota = λ q e. absurd (not_Some _ e) };
         row = bumped;
         there = there_now;
         ready = ready;
@@ -267,7 +271,7 @@ module _ (kept : Snapshot) (j : Job) (p : Placement) (w : World) (s : IsAllocate
         let q = (s.allocation key.0 r.0 key.1 b r.1 r.2).placed l.1 in
         let same = same_Some q.row node (sym q.there ∙ (λ i. node_at w (pool i) (on i)) ∙ at) in
         not_next b.place node.places (le_then b.place q.row.places node.places q.counted (le_same q.row.places node.places (ap (λ (x : Node). x.places) same)))
-            place
+        place
 
     one_place_now : (a b : Key) (u v : Allocation) → IsLiveAt x a u → IsLiveAt x b v → u.pool ≡ v.pool → u.node ≡ v.node → u.place ≡ v.place → a ≡ b
     one_place_now a b u v l k pool on place = by (live_now a u l) (live_now b v k)
@@ -282,7 +286,7 @@ module _ (kept : Snapshot) (j : Job) (p : Placement) (w : World) (s : IsAllocate
 
     pub placed_reserved : (old : World) (rest : List Placement) → NodesWere old w
         → ((pool n : Name) (row : Node) → node_at w pool n ≡ Some row →
-            IsTrue (is_within (plus (node_load w pool n) (size_of (filter (goes_to kept pool n) (p ∷ rest)))) row.offer.capacity))
+        IsTrue (is_within (plus (node_load w pool n) (size_of (filter (goes_to kept pool n) (p ∷ rest)))) row.offer.capacity))
         → IsReserved kept j old (place_with kept p w j node) rest
     placed_reserved old rest were room = subst (λ y. IsReserved kept j old y rest) (sym place_is) (record {
       allocated = record {
@@ -306,8 +310,8 @@ module _ (kept : Snapshot) (j : Job) (p : Placement) (w : World) (s : IsAllocate
         room_now pool n row now =
             let a = nodes_were pool n row now in
             load_with rest pool n row.offer.capacity
-                (subst (λ (o : Offer). IsTrue (is_within (plus (node_load w pool n) (size_of (filter (goes_to kept pool n) (p ∷ rest)))) o.capacity)) (sym a.2)
-                (room pool n a.0 a.1))
+            (subst (λ (o : Offer). IsTrue (is_within (plus (node_load w pool n) (size_of (filter (goes_to kept pool n) (p ∷ rest)))) o.capacity)) (sym a.2)
+            (room pool n a.0 a.1))
 
 -- ---- all placements
 
@@ -370,7 +374,7 @@ placed_lasts kept p w = job kept.job
     node j (Some n) =
         let y = change_tenant kept.namespace (with_allocation (new_allocation kept j p n)) w in
         pool n y (onward_change Lasts lasts_still w kept.namespace (with_allocation (new_allocation kept j p n))
-            (λ t _. record { namespace = refl; index = refl; evaluations = itself t.evaluation_number })) (get y.pools kept.pool)
+        (λ t _. record { namespace = refl; index = refl; evaluations = itself t.evaluation_number })) (get y.pools kept.pool)
 
     job : (o : Option Job) → Onward Lasts w (option_map_or (λ job. option_map_or (place_with kept p w job) (node_at w kept.pool (node_name kept p.node)) w) o w)
     job None = onward_same Lasts lasts_still w w refl

@@ -1,8 +1,6 @@
 -- What a plan places is of groups of its job, and takes what they ask for.
-use Rattle.std.specs.Prelude.{
-    ◌≡◌, ℕ, ◌+◌, ◌≤◌, zero, suc, Bool, true, false, cond, List, [], ◌∷◌, Option, Some, None, ◌&&◌, IsTrue, length,
-    nat_le, replicate, slice_get, sum_by
-}
+use Rattle.std.specs.Prelude.{◌≡◌, ℕ, ◌+◌, ◌≤◌, zero, suc, Bool, true, false, cond, List, [], ◌∷◌, Option, Some, None, ◌&&◌, IsTrue, length, nat_le, replicate}
+use Rattle.std.specs.Prelude.{slice_get, sum_by}
 use Rattle.std.proofs.Common.{refl, sym, ap, subst, arith}
 use Rattle.std.specs.List.{list_all}
 use Rattle.std.specs.Option.{option_map, option_map_or}
@@ -25,7 +23,7 @@ use Rattle.ns_types.specs.Placing.Planning.{Site, Choice, place, placement_of, t
 use Rattle.ns_types.specs.State.Resources.{plus, limits_allow}
 use Rattle.ns_types.specs.Placing.Wanted.{missing, group_size, demands_from, demands, stopping}
 use Rattle.ns_types.proofs.Named.{first_of_both, second_of_both}
-use Rattle.ns_audit.proofs.Every.{each_append}
+use Rattle.ns_types.proofs.Elements.{each_append}
 use Rattle.ns_audit.proofs.ValidAllocations.Sound.{le_by}
 use Rattle.ns_audit.proofs.ValidAllocations.Sums.{le_sum}
 
@@ -46,8 +44,8 @@ module _ (j : Job) (q : QuotaSeen) where
       by : ((w : Site) → Each (λ d. IsPartOf j d.group d.size) ds → Each (λ p. IsPartOf j p.group p.size) (place q ds w).placements) →
           (b : Bool) (o : Option Choice)
           → Each (λ p. IsPartOf j p.group p.size)
-              (cond b (option_map_or (λ (s : Placement × Site). then_rest s.0 (place q ds s.1)) (option_map (λ ch. (placement_of d ch, after q d.size ch w)) o)
-              (without_one (place q ds w))) ended_by_quota).placements
+          (cond b (option_map_or (λ (s : Placement × Site). then_rest s.0 (place q ds s.1)) (option_map (λ ch. (placement_of d ch, after q d.size ch w)) o)
+          (without_one (place q ds w))) ended_by_quota).placements
       by rest false o = tt
       by rest true None = rest w h.1
       by rest true (Some ch) = (h.0, rest (after q d.size ch w) h.1)
@@ -106,7 +104,7 @@ module _ (j : Job) (own : List OwnAllocation) (running : j.stop ≡ false) where
   demands_parts (g ∷ gs) i h good = each_append (λ d. IsPartOf j d.group d.size) (replicate (missing j own g) (record { group = i; size = group_size g }))
       (demands_from (i + 1) j own gs)
       (each_again (λ d. IsPartOf j d.group d.size) (missing j own g) (record { group = i; size = group_size g })
-          (group_part i g (sym (h 0 i (omega arith))) (first_of_both (is_good_group g) _ good)))
+      (group_part i g (sym (h 0 i (omega arith))) (first_of_both (is_good_group g) _ good)))
       (demands_parts gs (i + 1) (λ m k e. h (suc m) k (next m k e)) (second_of_both (is_good_group g) _ good))
     where
       next : (m k : ℕ) → k ≡ i + 1 + m → k ≡ i + suc m

@@ -1,8 +1,6 @@
 -- The nodes that do their part of a plan have room for all that it places there.
-use Rattle.std.specs.Prelude.{
-    ◌≡◌, ℕ, ◌+◌, ◌≤◌, Bool, true, false, cond, T, List, [], ◌∷◌, ◌++◌, Option, Some, None, ◌&&◌, ◌||◌, IsTrue, filter,
-    fold, slice_get, sum_by
-}
+use Rattle.std.specs.Prelude.{◌≡◌, ℕ, ◌+◌, ◌≤◌, Bool, true, false, cond, T, List, [], ◌∷◌, ◌++◌, Option, Some, None, ◌&&◌, ◌||◌, IsTrue, filter, fold}
+use Rattle.std.specs.Prelude.{slice_get, sum_by}
 use Rattle.std.proofs.Common.{◌⊎◌, inl, inr, refl, sym, ap, subst, ◌∙◌, arith}
 use Rattle.std.proofs.lemmas.List.Sums.{sum_by-cons}
 use Rattle.std.specs.Option.{option_map_or}
@@ -14,10 +12,8 @@ use Rattle.ns_types.specs.declared.plan.Placement.{Placement}
 use Rattle.ns_types.specs.declared.resources.Resources.{Resources}
 use Rattle.ns_types.specs.declared.snapshot.PoolNode.{PoolNode}
 use Rattle.ns_types.specs.declared.snapshot.Snapshot.{Snapshot}
-use Rattle.ns_types.specs.Working.Commit.{
-    node_name, part_of, size_of, victims_of, evict, evict_all, Commit, begun, accepts, accepts_at, decide,
-    committed_placements
-}
+use Rattle.ns_types.specs.Working.Commit.{node_name, part_of, size_of, victims_of, evict, evict_all, Commit, begun, accepts, accepts_at, decide}
+use Rattle.ns_types.specs.Working.Commit.{committed_placements}
 use Rattle.ns_types.specs.Placing.Constraint.{is_feasible}
 use Rattle.ns_types.specs.State.Lists.{Each}
 use Rattle.ns_types.specs.Settling.Making.{with_desired}
@@ -30,9 +26,10 @@ use Rattle.ns_types.specs.State.Sums.{node_load}
 use Rattle.ns_types.proofs.Lists.{not_both}
 use Rattle.ns_types.proofs.Named.{one_number, same_name_is, same_number_refl, first_of_both, second_of_both}
 use Rattle.ns_types.proofs.Tables.{tied}
-use Rattle.ns_audit.specs.Allocated.{IsAllocated}
-use Rattle.ns_audit.proofs.Every.{each_append}
-use Rattle.ns_audit.proofs.Steady.Keeping.{or_cases, or_true}
+use Rattle.ns_types.proofs.Elements.{each_append}
+use Rattle.ns_types.proofs.Tests.{either_of}
+use Rattle.std.proofs.lemmas.Bool.{or_right}
+use Rattle.ns_audit.proofs.ValidAllocations.Statement.{IsAllocated}
 use Rattle.ns_audit.proofs.ValidAllocations.Sound.{within_less, sum_from}
 use Rattle.ns_audit.proofs.ValidAllocations.Going.{goes_from}
 use Rattle.ns_audit.proofs.ValidAllocations.Nodes.{continues_then, continues_each, continues_change}
@@ -61,9 +58,9 @@ module _ {A : Type 0} (f : A → ℕ) where
   sum_parts : (a b : A → Bool) (x : A) (xs : List A) → sum_by f (filter a (filter b (x ∷ xs))) ≡ cond (b x && a x) (f x) 0 + sum_by f (filter a (filter b xs))
   sum_parts a b x xs = elim (b x) as (λ v. sum_by f (filter a (cond v (x ∷ filter b xs) (filter b xs))) ≡ cond (v && a x) (f x) 0 + sum_by f
       (filter a (filter b xs))) [
-    | true ↦ sum_part a x (filter b xs)
-    | false ↦ none_more _
-  ]
+        | true ↦ sum_part a x (filter b xs)
+        | false ↦ none_more _
+      ]
 
   one_le : (u v : Bool) (n : ℕ) → (u ≡ true → v ≡ true) → cond u n 0 ≤ cond v n 0
   one_le false v n h = omega arith
@@ -96,7 +93,7 @@ has_number_append [] k n e = inr (one (same_number n k) refl e)
     one : (b : Bool) → same_number n k ≡ b → (b || false) ≡ true → n ≡ k
     one true is e = tied one_number n k is
     one false is e = absurd (subst T (sym e) tt)
-has_number_append (x ∷ ks) k n e = by (has_number_append ks k n) (or_cases (same_number n x) _ e)
+has_number_append (x ∷ ks) k n e = by (has_number_append ks k n) (either_of (same_number n x) _ e)
   where
     by : (has_number (ks ++ k ∷ []) n ≡ true → (has_number ks n ≡ true) ⊎ (n ≡ k)) → (same_number n x ≡ true) ⊎ (has_number (ks ++ k ∷ []) n ≡ true) →
         (has_number (x ∷ ks) n ≡ true) ⊎ (n ≡ k)
@@ -104,12 +101,12 @@ has_number_append (x ∷ ks) k n e = by (has_number_append ks k n) (or_cases (sa
     by later (inr there) = of_rest (later there)
       where
         of_rest : (has_number ks n ≡ true) ⊎ (n ≡ k) → ((same_number n x || has_number ks n) ≡ true) ⊎ (n ≡ k)
-        of_rest (inl in_) = inl (or_true (same_number n x) _ in_)
+        of_rest (inl in_) = inl (or_right (same_number n x) _ in_)
         of_rest (inr last) = inr last
 
 pub each_has : (P : ℕ → Type 0) (ks : List ℕ) → Each P ks → (n : ℕ) → has_number ks n ≡ true → P n
 each_has P [] h n e = absurd (subst T (sym e) tt)
-each_has P (k ∷ ks) h n e = by (each_has P ks h.1 n) (or_cases (same_number n k) _ e)
+each_has P (k ∷ ks) h n e = by (each_has P ks h.1 n) (either_of (same_number n k) _ e)
   where
     by : (has_number ks n ≡ true → P n) → (same_number n k ≡ true) ⊎ (has_number ks n ≡ true) → P n
     by later (inl here) = subst P (sym (tied one_number n k here)) h.0
@@ -149,7 +146,7 @@ module _ (kept : Snapshot) (ps : List Placement) (w : World) (s : IsAllocated w)
     room = λ pool name node at. within_less (plus (node_load w pool name) (size_of (filter (goes_to kept pool name) (filter (λ _. false) ps))))
         (node_load w pool name) node.offer.capacity
         (none_to _ _ (no_parts (λ (p : Placement). p.size.cpu) (goes_to kept pool name) ps))
-            (none_to _ _ (no_parts (λ (p : Placement). p.size.memory) (goes_to kept pool name) ps)) (s.within pool name node at);
+        (none_to _ _ (no_parts (λ (p : Placement). p.size.memory) (goes_to kept pool name) ps)) (s.within pool name node at);
     standing = tt;
   }
     where
@@ -182,7 +179,7 @@ module _ (kept : Snapshot) (ps : List Placement) (w : World) (s : IsAllocated w)
     less : (pool name : Name) → IsBelow (node_load left pool name) (node_load c.world pool name)
     less pool name =
         let from = goes_from c.world left (continues_allocates w c.world s d.goes).allocated
-            (evicted_goes (victims_of c.world kept (part_of k ps)) c.world).goes in
+        (evicted_goes (victims_of c.world kept (part_of k ps)) c.world).goes in
         (sum_from c.world left from pool name (λ r. r.cpu), sum_from c.world left from pool name (λ r. r.memory))
 
     module _ (row : Node) (at : node_at w kept.pool (node_name kept k) ≡ Some row)
@@ -207,7 +204,7 @@ module _ (kept : Snapshot) (ps : List Placement) (w : World) (s : IsAllocated w)
           by (inr last) = ap (λ n. same_number n k) last ∙ same_number_refl k
           by (inl before) = ap (λ n. same_number n k) (one_node p.node k (each_has (Stands kept w) c.committed d.standing p.node before) stands
               (sym (same_name_is name (node_name kept p.node) (second_of_both (same_name pool kept.pool) _ on)) ∙ same_name_is name (node_name kept k) same)) ∙
-                  same_number_refl k
+              same_number_refl k
 
       other_part : (pool name : Name) → (same_name pool kept.pool && same_name name (node_name kept k)) ≡ false → (p : Placement) →
           has_number (c.committed ++ k ∷ []) p.node ≡ true → goes_to kept pool name p ≡ true →
@@ -254,7 +251,7 @@ module _ (kept : Snapshot) (ps : List Placement) (w : World) (s : IsAllocated w)
               let its_name = same_name_is name (node_name kept k) (second_of_both (same_name pool kept.pool) _ same) in
               let is_row = same_row row node (sym at ∙ (λ i. node_at w (sym its_pool i) (sym its_name i)) ∙ there) in
               plus_within (node_load left pool name) (node_load left pool name) _ (size_of (part_of k ps)) node.offer.capacity
-                  (itself (node_load left pool name)) (in_part (second_of_both (same_name pool kept.pool) _ same))
+              (itself (node_load left pool name)) (in_part (second_of_both (same_name pool kept.pool) _ same))
               ((λ i. is_within (plus (node_load left (its_pool i) (its_name i)) (size_of (part_of k ps))) (sym is_row i).offer.capacity) ∙ its_room)
             where
               same_row : (a b : Node) → Some a ≡ Some b → a ≡ b

@@ -12,20 +12,19 @@ use Rattle.ns_types.specs.State.Rows.{World, PoolRows}
 use Rattle.ns_types.specs.Working.Snapshot.{nodes_of, live_on}
 use Rattle.ns_types.proofs.Lists.{not_both}
 use Rattle.ns_types.proofs.Named.{names}
-use Rattle.ns_audit.proofs.Alone.Chosen.{no_path, same_Some}
-use Rattle.ns_audit.proofs.Every.{first, second}
+use Rattle.ns_types.proofs.Tests.{not_Some, same_Some, first, second}
 use Rattle.ns_audit.proofs.ValidAllocations.Sums.{unlike}
 
 module _ {K X : Type 0} {R : K → K → Ordering} (o : IsTotalOrder R) where
   -- what stands in a sorted list is not what its keys are below
   not_below : (k : K) (es : List (K × X)) (i : ℕ) (e : K × X) → T (below_all R k es) → slice_get es i ≡ Some e → k ≡ e.0 → ⊥
-  not_below k [] i e below at same = no_path at
+  not_below k [] i e below at same = not_Some _ at
   not_below k (x ∷ es) zero e below at same = not_both (ap is_eq (tied_itself o k)) (ap (λ q. is_eq (R k q)) (same ∙ sym (ap (λ e. e.0) (same_Some x e at))) ∙
       unlike (R k x.0) (first _ _ below))
   not_below k (x ∷ es) (suc i) e below at same = not_below k es i e (second _ _ below) at same
 
   entry_once : (es : List (K × X)) → T (is_sorted R es) → (i j : ℕ) (a b : K × X) → slice_get es i ≡ Some a → slice_get es j ≡ Some b → a.0 ≡ b.0 → i ≡ j
-  entry_once [] sorted i j a b at there same = absurd (no_path at)
+  entry_once [] sorted i j a b at there same = absurd (not_Some _ at)
   entry_once (e ∷ es) sorted zero zero a b at there same = refl
   entry_once (e ∷ es) sorted zero (suc j) a b at there same = absurd (not_below e.0 es j b (first _ _ sorted) there (ap (λ e. e.0) (same_Some e a at) ∙ same))
   entry_once (e ∷ es) sorted (suc i) zero a b at there same =
@@ -34,7 +33,7 @@ module _ {K X : Type 0} {R : K → K → Ordering} (o : IsTotalOrder R) where
 
 -- an element of a list made of another comes from one at its place
 came_from : {A B : Type 0} (f : A → B) (xs : List A) (i : ℕ) (b : B) → slice_get (map f xs) i ≡ Some b → (a : A) × (slice_get xs i ≡ Some a) × (f a ≡ b)
-came_from f [] i b at = absurd (no_path at)
+came_from f [] i b at = absurd (not_Some _ at)
 came_from f (x ∷ xs) zero b at = (x, refl, same_Some (f x) b at)
 came_from f (x ∷ xs) (suc i) b at = came_from f xs i b at
 
@@ -47,9 +46,9 @@ seen_once w pool i j m n = by (get w.pools pool)
 
     by : (o : Option PoolRows) → slice_get (option_map_or (λ p. map seen (entries p.nodes)) o []) i ≡ Some m →
         slice_get (option_map_or (λ p. map seen (entries p.nodes)) o []) j ≡ Some n → m.name ≡ n.name → i ≡ j
-    by None at there same = absurd (no_path at)
+    by None at there same = absurd (not_Some _ at)
     by (Some p) at there same =
         let a = came_from seen (entries p.nodes) i m at in
         let b = came_from seen (entries p.nodes) j n there in
         entry_once names (entries p.nodes) (entries_sorted p.nodes) i j a.0 b.0 a.1 b.1 (ap (λ (x : PoolNode). x.name) a.2 ∙ same ∙
-            sym (ap (λ (x : PoolNode). x.name) b.2))
+        sym (ap (λ (x : PoolNode). x.name) b.2))

@@ -16,8 +16,9 @@ use Rattle.ns_types.specs.Access.Sharing.{permits}
 use Rattle.ns_types.specs.State.Sums.{tenant_sum, node_sum, node_load}
 use Rattle.ns_types.specs.Validity.{IsPlaced, IsSoundAllocation, IsLiveAt}
 use Rattle.ns_types.proofs.Named.{names, one_name, numbers as numbers_, one_number, first_of_both, second_of_both}
-use Rattle.ns_audit.specs.Allocated.{IsAllocated}
-use Rattle.ns_audit.proofs.Alone.Chosen.{no_path, same_Some}
+use Rattle.std.specs.Cmp.Derive.{both_true}
+use Rattle.ns_types.proofs.Tests.{not_Some, same_Some}
+use Rattle.ns_audit.proofs.ValidAllocations.Statement.{IsAllocated}
 use Rattle.ns_audit.proofs.ValidAllocations.Sums.{zero_le, sum_below, sum_none}
 
 -- ---- numbers
@@ -37,11 +38,8 @@ le_same a b e = omega arith
 pub itself : (n : ℕ) → n ≤ n
 itself n = omega arith
 
-both_true : (a b : Bool) → a ≡ true → b ≡ true → (a && b) ≡ true
-both_true a b e f = λ i. e i && f i
-
 pub within_less : (a b c : Resources) → a.cpu ≤ b.cpu → a.memory ≤ b.memory → IsTrue (is_within b c) → IsTrue (is_within a c)
-within_less a b c cpu memory h = both_true _ _
+within_less a b c cpu memory h = both_true
     (by_le a.cpu c.cpu (le_then a.cpu b.cpu c.cpu cpu (le_by b.cpu c.cpu (first_of_both (nat_le b.cpu c.cpu) _ h))))
     (by_le a.memory c.memory (le_then a.memory b.memory c.memory memory (le_by b.memory c.memory (second_of_both (nat_le b.cpu c.cpu) _ h))))
 
@@ -53,7 +51,7 @@ allocation_row w key a at = by (get w.tenants key.0) refl at
   where
     by : (o : Option Tenant) → get w.tenants key.0 ≡ o → option_and_then (λ t. get t.allocations key.1) o ≡ Some a → (t : Tenant) ×
         (get w.tenants key.0 ≡ Some t) × (get t.allocations key.1 ≡ Some a)
-    by None is at = absurd (no_path at)
+    by None is at = absurd (not_Some _ at)
     by (Some t) is at = (t, is, at)
 
 pub row_allocation : (w : World) (ns : Name) (n : ℕ) (t : Tenant) (a : Allocation) → get w.tenants ns ≡ Some t → get t.allocations n ≡ Some a →
@@ -66,7 +64,7 @@ node_row w pool name node at = by (get w.pools pool) refl at
   where
     by : (o : Option PoolRows) → get w.pools pool ≡ o → option_and_then (λ p. get p.nodes name) o ≡ Some node → (p : PoolRows) × (get w.pools pool ≡ Some p) ×
         (get p.nodes name ≡ Some node)
-    by None is at = absurd (no_path at)
+    by None is at = absurd (not_Some _ at)
     by (Some p) is at = (p, is, at)
 
 -- the pool of a node is there
@@ -129,7 +127,7 @@ module _ (w x : World) (from : IsFrom w x) (pool name : Name) (amount : Resource
   row_below b row same live = by (is_live_on pool name b) refl
     where
       on : is_live_on pool name b ≡ true → is_live_on pool name row ≡ true
-      on e = both_true (is_live row) _ (live (first_of_both (is_live b) _ e)) ((λ i. same_name pool (sym same i).pool && same_name name (sym same i).node) ∙
+      on e = both_true (live (first_of_both (is_live b) _ e)) ((λ i. same_name pool (sym same i).pool && same_name name (sym same i).node) ∙
           second_of_both (is_live b) _ e)
 
       by : (c : Bool) → is_live_on pool name b ≡ c → cond c (amount b.size) 0 ≤ cond (is_live_on pool name row) (amount row.size) 0
@@ -143,12 +141,12 @@ module _ (w x : World) (from : IsFrom w x) (pool name : Name) (amount : Resource
       by : (o : Option Tenant) → get w.tenants ns ≡ o → tenant_sum (is_live_on pool name) amount t ≤ option_map_or (tenant_sum (is_live_on pool name) amount)
           o 0
       by None none = sum_none numbers_ one_number (λ n (a : Allocation). cond (is_live_on pool name a) (amount a.size) 0) t.allocations
-          (λ n b at. no_path (sym none ∙ (from ns t n b is at).is_tenant))
+          (λ n b at. not_Some _ (sym none ∙ (from ns t n b is at).is_tenant))
       by (Some u) was = sum_below numbers_ one_number (λ n (a : Allocation). cond (is_live_on pool name a) (amount a.size) 0)
           (λ n (a : Allocation). cond (is_live_on pool name a) (amount a.size) 0) t.allocations u.allocations (λ n b at.
           let c = from ns t n b is at in
           subst (λ (o : Option Allocation). cond (is_live_on pool name b) (amount b.size) 0 ≤ option_map_or
-              (λ a. cond (is_live_on pool name a) (amount a.size) 0) o 0)
+          (λ a. cond (is_live_on pool name a) (amount a.size) 0) o 0)
           (sym (ap (λ (t : Tenant). get t.allocations n) (same_Some _ _ (sym was ∙ c.is_tenant)) ∙ c.is_row)) (row_below b c.row c.same c.live))
 
   pub sum_from : node_sum x pool name amount ≤ node_sum w pool name amount
@@ -168,13 +166,23 @@ module _ (w x : World) (s : IsAllocated w) (stay : NodesStay w x) (ns : Name) (t
   placed_from live =
       let p = old.placed (c.live live) in
       let q = stay c.row.pool c.row.node p.row
-      (record { namespace = ns; tenant = t; number = n; row = b; is_tenant = is; is_row = at; live = live; in_pool =
-          ap (λ (a : Allocation). a.pool) c.same; on_node = ap (λ (a : Allocation). a.node) c.same }) p.there p.ready in
+      (record {
+        namespace = ns;
+        tenant = t;
+        number = n;
+        row = b;
+        is_tenant = is;
+        is_row = at;
+        live = live;
+        in_pool =
+            ap (λ (a : Allocation). a.pool) c.same;
+        on_node = ap (λ (a : Allocation). a.node) c.same;
+      }) p.there p.ready in
       let there = (λ i. node_at x (c.same i).pool (c.same i).node) ∙ q.is_row in record {
         allowed = record {
           exists = node_pool x b.pool b.node q.row there;
           permitted = subst (λ (a : Allocation). permits t.namespace a.pool ≡ true) (sym c.same) (c.permitted live p.allowed.permitted);
-          its_quota = λ name e. absurd (no_path e);
+          its_quota = λ name e. absurd (not_Some _ e);
         };
         row = q.row;
         there = there;
@@ -203,9 +211,14 @@ module _ (w x : World) (s : IsAllocated w) (from : IsFrom w x) where
       (a.place ≡ b.place)
   live_from key b l =
       let r = allocation_row x key b l.0 in
-      let c = from key.0 r.0 key.1 b r.1 r.2 in
-      (c.row, (row_allocation w key.0 key.1 c.tenant c.row c.is_tenant c.is_row, c.live l.1), sym (ap (λ (a : Allocation). a.pool) c.same), sym
-          (ap (λ (a : Allocation). a.node) c.same), sym (ap (λ (a : Allocation). a.place) c.same))
+      let c = from key.0 r.0 key.1 b r.1 r.2 in (
+        c.row,
+        (row_allocation w key.0 key.1 c.tenant c.row c.is_tenant c.is_row, c.live l.1),
+        sym (ap (λ (a : Allocation). a.pool) c.same),
+        sym
+            (ap (λ (a : Allocation). a.node) c.same),
+        sym (ap (λ (a : Allocation). a.place) c.same),
+      )
 
   pub allocated_from : NodesStay w x → NodesHold w x → IsAllocated x
   allocated_from stay hold = record {

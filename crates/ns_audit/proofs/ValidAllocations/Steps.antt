@@ -7,15 +7,13 @@ use Rattle.ns_types.specs.declared.allocation.Allocation.{Allocation}
 use Rattle.ns_types.specs.declared.node.Node.{Node}
 use Rattle.ns_types.specs.declared.refusal.Refusal.TheVariants as Refusal
 use Rattle.ns_types.specs.declared.step.Step.{Step}
-use Rattle.ns_types.specs.declared.step.Step.TheVariants as Step
 use Rattle.ns_types.specs.Settling.Outcome.{Outcome, NotEnabled, Refused, Done}
 use Rattle.ns_types.specs.State.Names.{Name, name_cmp, default_name}
 use Rattle.ns_types.specs.State.Rows.{State, Tenant, PoolRows, node_at}
 use Rattle.ns_types.specs.Settling.Settle.{settle}
 use Rattle.ns_types.specs.Steps.{Answer, said, act, after, is_allowed, concluded, reply_of, is_past_bound, opening_tenant, opening_pool, opening_world, opening}
 use Rattle.ns_types.specs.Validity.{IsValid}
-use Rattle.ns_audit.specs.Allocated.{IsAllocated, AllocationsStep, AllocationsOpening}
-use Rattle.ns_audit.proofs.Alone.Chosen.{no_path, same_Some}
+use Rattle.ns_audit.proofs.ValidAllocations.Statement.{IsAllocated, AllocationsStep, AllocationsOpening}
 use Rattle.ns_audit.proofs.Steady.Opening.{only_row}
 use Rattle.ns_audit.proofs.Outcomes.{Leads}
 use Rattle.ns_audit.proofs.ValidAllocations.Sound.{allocation_row, node_row}
@@ -24,6 +22,7 @@ use Rattle.ns_audit.proofs.ValidAllocations.Apply.{sound_allocated, apply_alloca
 use Rattle.ns_audit.proofs.ValidAllocations.Going.{Allocates, settle_allocated}
 use Rattle.ns_audit.proofs.ValidAllocations.Nodes.{ask_pool_allocates}
 use Rattle.ns_audit.proofs.ValidAllocations.Work.{ask_goes, dequeue_goes, snap_goes, submit_goes, finish_goes, nack_goes}
+use Rattle.ns_types.proofs.Tests.{not_Some, same_Some}
 
 module _ (s : State) (valid : IsValid s) where
   sound : IsAllocated s.world
@@ -43,7 +42,7 @@ module _ (s : State) (valid : IsValid s) where
 
   module _ (step : Step) (s' : State) (answer : Answer) where
     concluded_allocated : (o : Outcome State) → Leads (λ x. Allocates s.world x.world) o → concluded step s o ≡ said answer s' → IsAllocated s'.world
-    concluded_allocated NotEnabled h e = absurd (no_path e)
+    concluded_allocated NotEnabled h e = absurd (not_Some _ e)
     concluded_allocated (Refused refusal) h e = subst (λ (x : State). IsAllocated x.world) (ap (λ x. x.1) (same_Some _ _ e)) sound
     concluded_allocated (Done content x) h e = by (is_past_bound (settle s.world x.world)) e
       where
@@ -69,13 +68,13 @@ allocations_step s s' step answer valid good e = after_allocated s valid step s'
 -- ---- the opening state
 
 no_allocation : (ns : Name) (t : Tenant) (n : ℕ) (a : Allocation) → get opening_world.tenants ns ≡ Some t → get t.allocations n ≡ Some a → ⊥
-no_allocation ns t n a is at = no_path (sym (get-empty nat_cmp n) ∙ ap (λ (t : Tenant). get t.allocations n) (only_row default_name opening_tenant ns t is) ∙
+no_allocation ns t n a is at = not_Some _ (sym (get-empty nat_cmp n) ∙ ap (λ (t : Tenant). get t.allocations n) (only_row default_name opening_tenant ns t is) ∙
     at)
 
 no_node : (pool name : Name) (node : Node) → node_at opening_world pool name ≡ Some node → ⊥
 no_node pool name node at =
     let r = node_row opening_world pool name node at in
-    no_path (sym (get-empty name_cmp name) ∙ ap (λ (p : PoolRows). get p.nodes name) (only_row default_name opening_pool pool r.0 r.1) ∙ r.2)
+    not_Some _ (sym (get-empty name_cmp name) ∙ ap (λ (p : PoolRows). get p.nodes name) (only_row default_name opening_pool pool r.0 r.1) ∙ r.2)
 
 pub allocations_opening : AllocationsOpening
 unfolding opening

@@ -10,7 +10,7 @@ use Rattle.std.specs.Ordering.{eq_by_cmp}
 use Rattle.ns_types.specs.State.Lists.{Each}
 use Rattle.ns_types.proofs.Lists.{not_both}
 use Rattle.ns_types.proofs.Tables.{each_row, tied}
-use Rattle.ns_audit.proofs.Every.{first, second}
+use Rattle.ns_types.proofs.Tests.{first, second}
 
 -- ---- numbers
 
@@ -81,7 +81,7 @@ module _ {K : Type 0} {R : K → K → Ordering} (o : IsTotalOrder R) (same : Is
       where
         by : at k es + sum (where_key R (elsewhere k) es) ≤ sum es → (b : Bool) → eq_by_cmp R k e.0 ≡ b → (c : Bool) → eq_by_cmp R e.0 k ≡ c
             → option_map_or (g k) (cond b (Some e.1) (find R k es)) 0 + sum (cond (not c) (e ∷ where_key R (elsewhere k) es) (where_key R (elsewhere k) es))
-                ≤ sum (e ∷ es)
+            ≤ sum (e ∷ es)
         by rest true t true u = le_sum (λ e. g e.0 e.1) e es _
             (both_le _ _ _ _ (subst (λ q. g k e.1 ≤ g q e.1) (tied same k e.0 t) (omega arith)) (part_le (elsewhere k) es))
         by rest true t false u = not_both t (other e.0 k u)
@@ -125,9 +125,9 @@ module _ {K : Type 0} {R : K → K → Ordering} (o : IsTotalOrder R) (same : Is
     sum_put m k v = put_together _ (f k v) (sum f (where_key R (elsewhere k) (entries m))) (option_map_or (f k) (get m k) 0) _
         (subst (λ s. sum f (entries (insert m k v)) ≤ s) (sum_by-cons (λ e. f e.0 e.1) (k, v) (where_key R (elsewhere k) (entries m)))
         (list_below f f (entries (insert m k v)) (entries_sorted (insert m k v)) ((k, v) ∷ where_key R (elsewhere k) (entries m))
-            (each_row o same _ (insert m k v) (λ q x is. held q x (sym (there q) ∙ is)))))
+        (each_row o same _ (insert m k v) (λ q x is. held q x (sym (there q) ∙ is)))))
         (subst (λ y. option_map_or (f k) y 0 + sum f (where_key R (elsewhere k) (entries m)) ≤ sum f (entries m)) (sym (get-entries m k))
-            (apart f k (entries m)))
+        (apart f k (entries m)))
       where
         there : (q : K) → get (insert m k v) q ≡ find R q ((k, v) ∷ where_key R (elsewhere k) (entries m))
         there q = get-insert o m k v q ∙ by (eq_by_cmp R q k) refl

@@ -5,10 +5,8 @@ use Rattle.std.specs.FinMap.{get, insert, remove}
 use Rattle.std.specs.Option.{option_map_or, option_and_then}
 use Rattle.ns_types.specs.declared.allocation.Allocation.{Allocation}
 use Rattle.ns_types.specs.declared.allocation.DesiredStatus.{DesiredStatus}
-use Rattle.ns_types.specs.declared.allocation.DesiredStatus.TheVariants as DesiredStatus
 use Rattle.ns_types.specs.declared.evaluation.Evaluation.{Evaluation}
 use Rattle.ns_types.specs.declared.evaluation.Status.{Status}
-use Rattle.ns_types.specs.declared.evaluation.Status.TheVariants as Status
 use Rattle.ns_types.specs.declared.evaluation.Trigger.TheVariants as Trigger
 use Rattle.ns_types.specs.declared.job.Job.{Job}
 use Rattle.ns_types.specs.declared.job.Registration.{Registration}
@@ -16,9 +14,8 @@ use Rattle.ns_types.specs.declared.refusal.Refusal.TheVariants as Refusal
 use Rattle.ns_types.specs.declared.reply.Content.TheVariants as Content
 use Rattle.ns_types.specs.declared.snapshot.Snapshot.{Snapshot}
 use Rattle.ns_types.specs.declared.step.AskCommand.{AskCommand}
-use Rattle.ns_types.specs.declared.step.AskCommand.TheVariants as AskCommand
 use Rattle.ns_types.specs.declared.worker.Worker.{Worker}
-use Rattle.ns_types.specs.Asking.Asks.{document_of, registered_job, register, deregistered, deregister_job, asked_in, ask}
+use Rattle.ns_types.specs.Asking.Asks.{first_refusal, document_of, registered_job, register, deregistered, deregister_job, asked_in, ask}
 use Rattle.ns_types.specs.Settling.Making.{put_tenant, with_job, with_status, with_desired, with_evaluation, evaluation_of, evaluation_for, make_in}
 use Rattle.ns_types.specs.State.Names.{Name, Key, ByName, ByNumber}
 use Rattle.ns_types.specs.Settling.Outcome.{Outcome, NotEnabled, Refused, Done}
@@ -26,24 +23,20 @@ use Rattle.ns_types.specs.Working.Queue.{is_busy, first_waiting, promote, is_ser
 use Rattle.ns_types.specs.Settling.Releases.{missed}
 use Rattle.ns_types.specs.State.Rows.{World, Tenant, PoolRows, is_live, is_run, is_held, node_at}
 use Rattle.ns_types.specs.State.Sums.{names_quota, quota_use}
-use Rattle.ns_types.specs.Working.Work.{
-    with_worker, without_worker, without_key, at_work, workers_end, is_idle, new_worker, taken, dequeue_in, dequeue,
-    may_snap, with_snapshot, snap_for, snap, may_submit, submitted, submit_for, submit, may_finish, end_of,
-    needs_follower, follower_of, blocked_of, without_blocked, cancel_blocked, ended, tied_to, with_follower, followed,
-    finished, finish_for, finish, is_submitted, most_nacks, with_nack, given_back, given_up, nack_for, nack
-}
+use Rattle.ns_types.specs.Working.Work.{with_worker, without_worker, without_key, at_work, workers_end, is_idle, new_worker, taken, dequeue_in, dequeue}
+use Rattle.ns_types.specs.Working.Work.{may_snap, with_snapshot, snap_for, snap, may_submit, submitted, submit_for, submit, may_finish, end_of, needs_follower}
+use Rattle.ns_types.specs.Working.Work.{follower_of, blocked_of, without_blocked, cancel_blocked, ended, tied_to, with_follower, followed, finished, finish_for}
+use Rattle.ns_types.specs.Working.Work.{finish, is_submitted, most_nacks, with_nack, given_back, given_up, nack_for, nack}
 use Rattle.ns_types.specs.Working.Snapshot.{snapshot_of}
 use Rattle.ns_types.specs.declared.worker.Phase.TheVariants as Phase
 use Rattle.ns_types.proofs.Lists.{not_both}
-use Rattle.ns_audit.specs.Allocated.{IsAllocated}
+use Rattle.ns_audit.proofs.ValidAllocations.Statement.{IsAllocated}
 use Rattle.ns_audit.proofs.Steady.Keeping.{more}
-use Rattle.ns_audit.proofs.Outcomes.{Leads, leads_unless, leads_found, leads_there, leads_if}
+use Rattle.ns_audit.proofs.Outcomes.{Leads, leads_unless, leads_refused, leads_found, leads_there, leads_if}
 use Rattle.ns_audit.proofs.Alone.Recording.{queue_keeps}
 use Rattle.ns_audit.proofs.ValidAllocations.Sound.{itself, le_same}
-use Rattle.ns_audit.proofs.ValidAllocations.Going.{
-    Onward, onward_same, onward_put, onward_make_in, Goes, goes_quiet, goes_still, goes_then, goes_evaluation, goes_row,
-    Allocates, allocates_on
-}
+use Rattle.ns_audit.proofs.ValidAllocations.Going.{Onward, onward_same, onward_put, onward_make_in, Goes, goes_quiet, goes_still, goes_then, goes_evaluation}
+use Rattle.ns_audit.proofs.ValidAllocations.Going.{goes_row, Allocates, allocates_on}
 
 -- the allocations go on, and the nodes are the same
 pub record Continues (w x : World) : Type 0 where
@@ -54,8 +47,11 @@ pub continues_allocates : (w x : World) → IsAllocated w → Continues w x → 
 continues_allocates w x s c = allocates_on w x s c.goes c.nodes
 
 pub continues_same : (w x : World) → x.tenants ≡ w.tenants → x.pools ≡ w.pools → Continues w x
-continues_same w x tenants pools = record { goes = onward_same Goes goes_still w x tenants; nodes =
-    λ pool name. ap (λ m. option_and_then (λ (p : PoolRows). get p.nodes name) (get m pool)) pools }
+continues_same w x tenants pools = record {
+  goes = onward_same Goes goes_still w x tenants;
+  nodes =
+      λ pool name. ap (λ m. option_and_then (λ (p : PoolRows). get p.nodes name) (get m pool)) pools;
+}
 
 pub continues_put : (w x : World) (ns : Name) (t t' : Tenant) → get w.tenants ns ≡ Some t → Goes t t' → x.tenants ≡ (put_tenant ns t' w).tenants →
     x.pools ≡ w.pools → Continues w x
@@ -100,9 +96,9 @@ goes_desired n d ends t = by (get t.allocations n) refl
 goes_status : (n : ℕ) (status : Status) (t : Tenant) → Goes t (with_status n status t)
 goes_status n status t = elim (get t.evaluations n) as
     (λ (o : Option Evaluation). Goes t (option_map_or (λ e. record t { evaluations = insert t.evaluations n (record e { status = status }) }) o t)) [
-  | Some e ↦ goes_evaluations (insert t.evaluations n (record e { status = status })) t
-  | None ↦ goes_still t
-]
+      | Some e ↦ goes_evaluations (insert t.evaluations n (record e { status = status })) t
+      | None ↦ goes_still t
+    ]
 
 goes_canceled : (job : Name) (t : Tenant) → Goes t (cancel_blocked job t)
 goes_canceled job t = elim (blocked_of t job) as (λ (o : Option ℕ). Goes t (option_map_or (λ n. with_status n Status.Canceled t) o t))
@@ -118,9 +114,9 @@ goes_ended number worker e status t =
 goes_tied : (n follower : ℕ) (t : Tenant) → Goes t (tied_to n follower t)
 goes_tied n follower t = elim (get t.evaluations n) as
     (λ (o : Option Evaluation). Goes t (option_map_or (λ e. record t { evaluations = insert t.evaluations n (record e { follower = Some follower }) }) o t)) [
-  | Some e ↦ goes_evaluations (insert t.evaluations n (record e { follower = Some follower })) t
-  | None ↦ goes_still t
-]
+      | Some e ↦ goes_evaluations (insert t.evaluations n (record e { follower = Some follower })) t
+      | None ↦ goes_still t
+    ]
 
 tied_number : (n follower : ℕ) (t : Tenant) → (tied_to n follower t).evaluation_number ≡ t.evaluation_number
 tied_number n follower t = elim (get t.evaluations n) as
@@ -141,9 +137,7 @@ module _ (w : World) (ns : Name) (t : Tenant) (is : get w.tenants ns ≡ Some t)
   still = continues_same w w refl refl
 
   registration_goes : (r : Registration) → Leads (Continues w) (register ns r w t)
-  registration_goes r = leads_unless (Continues w) _ Refusal.PoolNotPermitted _
-      (λ _. leads_unless (Continues w) _ _ _ (λ _. leads_unless (Continues w) _ _ _ (λ _. leads_unless (Continues w) _ _ _ (λ _.
-      by (registered_job (t.index + 1) (document_of t r) (get t.jobs r.id))))))
+  registration_goes r = leads_refused (Continues w) (first_refusal w t r) _ (λ _. by (registered_job (t.index + 1) (document_of t r) (get t.jobs r.id)))
     where
       by : (job : Job) → Continues w (make_in ns (evaluation_of r.id job.document Trigger.JobRegister) w (with_job r.id job t))
       by job = continues_make_in w ns (evaluation_of r.id job.document Trigger.JobRegister) t (with_job r.id job t) is (goes_job (insert t.jobs r.id job) t)
@@ -181,7 +175,7 @@ ask_goes w ns command = leads_found (Continues w) (get w.tenants ns) (asked_in n
 module _ (P : World → Type 0) (number : ℕ) (ns : Name) (w : World) where
   pub leads_at_work : (act : Tenant → Worker → Evaluation → Outcome World)
       → ((t : Tenant) (worker : Worker) (e : Evaluation) → get w.tenants ns ≡ Some t → get t.workers number ≡ Some worker →
-          get t.evaluations worker.evaluation ≡ Some e → Leads P (act t worker e))
+      get t.evaluations worker.evaluation ≡ Some e → Leads P (act t worker e))
       → Leads P (at_work number ns w act)
   leads_at_work act h = leads_there P (get w.tenants ns) _
       (λ t is. leads_there P (get t.workers number) _
@@ -190,7 +184,7 @@ module _ (P : World → Type 0) (number : ℕ) (ns : Name) (w : World) where
   -- with the snapshot that it keeps
   pub leads_keeping : (act : Tenant → Worker → Evaluation → Snapshot → Outcome World)
       → ((t : Tenant) (worker : Worker) (e : Evaluation) (kept : Snapshot) → get w.tenants ns ≡ Some t → get t.workers number ≡ Some worker →
-          get t.evaluations worker.evaluation ≡ Some e → worker.kept ≡ Some kept → Leads P (act t worker e kept))
+      get t.evaluations worker.evaluation ≡ Some e → worker.kept ≡ Some kept → Leads P (act t worker e kept))
       → Leads P (at_work number ns w (λ t worker e. option_map_or (act t worker e) worker.kept NotEnabled))
   leads_keeping act h = leads_at_work (λ t worker e. option_map_or (act t worker e) worker.kept NotEnabled)
       (λ t worker e is has at. leads_there P worker.kept (act t worker e) (λ kept keeps. h t worker e kept is has at keeps))
@@ -202,7 +196,7 @@ module _ (w : World) (number : ℕ) where
       (option_map_or (dequeue_in number key w) (get w.tenants key.0) NotEnabled) NotEnabled (λ _.
       leads_there (Continues w) (get w.tenants key.0) (dequeue_in number key w) (λ t is. leads_there (Continues w) (get t.evaluations key.1) _ (λ e _.
       continues_put w (taken number key w t e) key.0 t (with_worker number (new_worker key.1 e) t) is
-          (goes_workers (insert t.workers number (new_worker key.1 e)) t) refl refl))) (λ _. tt)
+      (goes_workers (insert t.workers number (new_worker key.1 e)) t) refl refl))) (λ _. tt)
 
   module _ (ns : Name) where
     pub snap_goes : Leads (Continues w) (snap number ns w)
@@ -221,7 +215,7 @@ module _ (w : World) (number : ℕ) where
     submit_goes = leads_keeping (Continues w) number ns w (λ t worker e. submit_for number ns w t worker) (λ t worker e kept is _ _ _.
         leads_if (Continues w) (may_submit worker kept) (Done (Content.Queued worker.evaluation) (submitted number ns w t worker)) NotEnabled (λ _.
         continues_put w (submitted number ns w t worker) ns t (with_worker number (record worker { phase = Phase.Submitted }) t) is
-            (goes_workers (insert t.workers number (record worker { phase = Phase.Submitted })) t) refl refl) (λ _. tt))
+        (goes_workers (insert t.workers number (record worker { phase = Phase.Submitted })) t) refl refl) (λ _. tt))
 
     -- the next one of the job is ready
     promote_goes : (job : Name) (x : World) → Continues w x → Continues w (promote ns job x)
@@ -253,7 +247,7 @@ module _ (w : World) (number : ℕ) where
           Continues w (followed ns worker follower t' b (without_blocked ns e.job t w))
       followed_goes t' goes follower true = continues_put w _ ns t (with_follower worker.evaluation (record follower { status = Status.Pending }) t') is
           (goes_then t t' (with_follower worker.evaluation (record follower { status = Status.Pending }) t') goes
-              (goes_follower worker.evaluation (record follower { status = Status.Pending }) t'))
+          (goes_follower worker.evaluation (record follower { status = Status.Pending }) t'))
           (ap (λ m. insert m ns (with_follower worker.evaluation (record follower { status = Status.Pending }) t')) tenants_before) pools_before
       followed_goes t' goes follower false = continues_put w _ ns t (with_follower worker.evaluation follower t') is
           (goes_then t t' (with_follower worker.evaluation follower t') goes (goes_follower worker.evaluation follower t'))
@@ -266,7 +260,7 @@ module _ (w : World) (number : ℕ) where
           let x = without_blocked ns e.job t w in
           leads_if (Continues w) (needs_follower worker kept)
           (Done (Content.Finished (end_of worker) (Some (t.evaluation_number + 1)))
-              (promote ns e.job (followed ns worker (follower_of e worker kept) t' (missed w kept (follower_of e worker kept)) x)))
+          (promote ns e.job (followed ns worker (follower_of e worker kept) t' (missed w kept (follower_of e worker kept)) x)))
           (Done (Content.Finished (end_of worker) None) (promote ns e.job (put_tenant ns t' x)))
           (λ _. promote_goes e.job _ (followed_goes t' goes (follower_of e worker kept) (missed w kept (follower_of e worker kept))))
           (λ _. promote_goes e.job _ (continues_put w (put_tenant ns t' x) ns t t' is goes (ap (λ m. insert m ns t') tenants_before) pools_before))
@@ -284,10 +278,10 @@ module _ (w : World) (number : ℕ) where
           let u = without_worker number t' in
           let v = with_status worker.evaluation Status.Failed u in
           leads_if (Continues w) (is_submitted worker.phase) NotEnabled
-              (cond (nat_le most_nacks (e.nacks + 1)) (given_up number ns w t' worker e) (given_back number ns w t' worker)) (λ _. tt) (λ _.
+          (cond (nat_le most_nacks (e.nacks + 1)) (given_up number ns w t' worker e) (given_back number ns w t' worker)) (λ _. tt) (λ _.
           leads_if (Continues w) (nat_le most_nacks (e.nacks + 1)) (given_up number ns w t' worker e) (given_back number ns w t' worker)
           (λ _. promote_goes e.job (put_tenant ns v w)
-              (continues_put w (put_tenant ns v w) ns t v is (goes_then t u v nacked_goes (goes_status worker.evaluation Status.Failed u)) refl refl))
+          (continues_put w (put_tenant ns v w) ns t v is (goes_then t u v nacked_goes (goes_status worker.evaluation Status.Failed u)) refl refl))
           (λ _. continues_put w _ ns t u is nacked_goes refl refl))
 
     pub finish_goes : Leads (Continues w) (finish number ns w)

@@ -8,12 +8,9 @@ use Rattle.ns_types.specs.declared.evaluation.Evaluation.{Evaluation}
 use Rattle.ns_types.specs.declared.job.Job.{Job}
 use Rattle.ns_types.specs.declared.records.Namespace.{Namespace}
 use Rattle.ns_types.specs.declared.step.AdminCommand.{AdminCommand}
-use Rattle.ns_types.specs.declared.step.AdminCommand.TheVariants as AdminCommand
 use Rattle.ns_types.specs.Asking.Policies.{with_world, with_acl, administer}
-use Rattle.ns_types.specs.Asking.Admins.{
-    looks_to_pool, names_pool, new_tenant, with_namespace, put_namespace, delete_namespace, put_quota, delete_quota,
-    read_quota, put_pool_record, delete_pool
-}
+use Rattle.ns_types.specs.Asking.Admins.{looks_to_pool, names_pool, new_tenant, with_namespace, put_namespace, delete_namespace, put_quota, delete_quota}
+use Rattle.ns_types.specs.Asking.Admins.{read_quota, put_pool_record, delete_pool}
 use Rattle.ns_types.specs.State.Names.{Name, name_cmp, same_name, same_key, has_key}
 use Rattle.ns_types.specs.Settling.Outcome.{Outcome, NotEnabled, Refused, Done, lift}
 use Rattle.ns_types.specs.State.Rows.{State, World, Acl, Tenant, is_open}
@@ -21,8 +18,8 @@ use Rattle.ns_types.specs.Validity.{IsSound}
 use Rattle.ns_types.proofs.Lists.{left_none, right_none}
 use Rattle.ns_types.proofs.Named.{names, one_name, one_number}
 use Rattle.ns_types.proofs.Tables.{none_of_any}
-use Rattle.ns_audit.proofs.Alone.Chosen.{no_path}
-use Rattle.ns_audit.proofs.Steady.Asks.{row_of_remove}
+use Rattle.ns_types.proofs.Tests.{not_Some}
+use Rattle.ns_types.proofs.TableRows.{row_of_remove}
 use Rattle.ns_audit.proofs.Outcomes.{Leads, leads_unless, leads_found}
 use Rattle.ns_audit.proofs.Alone.Owning.{turned_name}
 use Rattle.ns_audit.proofs.ValidEvaluations.Filed.{IsFiledEvaluation, IsFiledJob, IsFiledTenant, IsFiled, put_filed, put_pool_filed}
@@ -36,11 +33,11 @@ IsFiledAfter w x = (pools : Name → Bool) × IsFiled pools (index_in w) x
 pub new_tenant_filed : (pools : Name → Bool) (listed : ℕ → Bool) (namespace : Namespace) → IsFiledTenant pools 0 listed (new_tenant namespace)
 new_tenant_filed pools listed namespace = (
   record {
-    row = λ n e at. absurd (no_path (sym (get-empty nat_cmp n) ∙ at));
-    in_list = λ n e at _. absurd (no_path (sym (get-empty nat_cmp n) ∙ at));
-    one = λ m n d e at _ _ _ _. absurd (no_path (sym (get-empty nat_cmp m) ∙ at));
+    row = λ n e at. absurd (not_Some _ (sym (get-empty nat_cmp n) ∙ at));
+    in_list = λ n e at _. absurd (not_Some _ (sym (get-empty nat_cmp n) ∙ at));
+    one = λ m n d e at _ _ _ _. absurd (not_Some _ (sym (get-empty nat_cmp m) ∙ at));
   },
-  (λ id j at. absurd (no_path (sym (get-empty name_cmp id) ∙ at))),
+  (λ id j at. absurd (not_Some _ (sym (get-empty name_cmp id) ∙ at))),
   refl,
 )
 
@@ -83,10 +80,16 @@ module _ (w : World) (s : IsSound w) where
 
   pool_deleted : (name : Name) → Keeps (delete_pool name w)
   unfolding delete_pool
-  pool_deleted name = leads_found _ (get w.pools name) _ (λ p _. leads_unless _ _ _ _ (λ _. leads_unless _ _ _ _ (λ free.
-      (left, record { known = λ k has. has; once = filed.once; tenant =
+  pool_deleted name = leads_found _ (get w.pools name) _ (λ p _. leads_unless _ _ _ _ (λ _. leads_unless _ _ _ _ (λ free. (
+    left,
+    record {
+      known = λ k has. has;
+      once = filed.once;
+      tenant =
           λ ns t is. still ns t is (none_of_any one_name (λ _ t. names_pool name t.namespace || looks_to_pool (same_name name) t) w.tenants ns t
-          (right_none _ _ free) is) }))))
+          (right_none _ _ free) is);
+    },
+  ))))
     where
       left : Name → Bool
       left k = contains_key (remove w.pools name) k

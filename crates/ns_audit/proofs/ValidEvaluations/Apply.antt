@@ -15,12 +15,10 @@ use Rattle.ns_types.specs.declared.plan.Placement.{Placement}
 use Rattle.ns_types.specs.declared.plan.Plan.{Plan}
 use Rattle.ns_types.specs.declared.snapshot.Snapshot.{Snapshot}
 use Rattle.ns_types.specs.declared.worker.Worker.{Worker}
-use Rattle.ns_types.specs.Working.Commit.{
-    still_stands, live_stops, stop_all, node_name, nodes_in, part_of, size_of, counts, victims_in, victims_of, evict,
-    evict_all, Commit, begun, accepts_at, decide, new_allocation, with_allocation, with_place, place_with, place_one,
-    committed_placements, place_all, Victim, victim_at, evicted_rows, same_victim_job, least_of_job, make_up, Applied,
-    refused_whole, done_with, done, commit, applied_worker, applied, apply_for, apply
-}
+use Rattle.ns_types.specs.Working.Commit.{still_stands, live_stops, stop_all, node_name, nodes_in, part_of, size_of, counts, victims_in, victims_of, evict}
+use Rattle.ns_types.specs.Working.Commit.{evict_all, Commit, begun, accepts_at, decide, new_allocation, with_allocation, with_place, place_with, place_one}
+use Rattle.ns_types.specs.Working.Commit.{committed_placements, place_all, Victim, victim_at, evicted_rows, same_victim_job, least_of_job, make_up, Applied}
+use Rattle.ns_types.specs.Working.Commit.{refused_whole, done_with, done, commit, applied_worker, applied, apply_for, apply}
 use Rattle.ns_types.specs.State.Lists.{Each, first_each}
 use Rattle.ns_types.specs.Settling.Making.{put_pool, change_tenant, with_desired, least}
 use Rattle.ns_types.specs.State.Names.{Name, has_key, same_number}
@@ -33,8 +31,9 @@ use Rattle.ns_types.specs.Validity.{IsSound}
 use Rattle.ns_types.specs.Working.Work.{with_worker, without_key, is_submitted}
 use Rattle.ns_types.proofs.Lists.{not_both}
 use Rattle.ns_types.proofs.Named.{names, one_name, numbers as numbers_, one_number, first_of_both}
-use Rattle.ns_audit.proofs.Alone.Chosen.{no_path}
-use Rattle.ns_audit.proofs.Every.{row_of_insert, each_passes, each_of, each_first, each_flat_map, each_mapped, each_left}
+use Rattle.ns_types.proofs.Tests.{not_Some}
+use Rattle.ns_types.proofs.TableRows.{row_of_insert}
+use Rattle.ns_types.proofs.Elements.{each_passes, each_of, each_first, each_flat_map, each_mapped, each_kept}
 use Rattle.ns_audit.proofs.Steady.Apply.{least_is}
 use Rattle.ns_audit.proofs.Outcomes.{Leads, leads_if}
 use Rattle.ns_audit.proofs.ValidEvaluations.Asks.{cause_of, desired_filed}
@@ -63,9 +62,13 @@ module _ (pools : Name → Bool) (index : Name → ℕ) where
   decide_filed : (kept : Snapshot) (ps : List Placement) (c : Commit) (k : ℕ) → IsFiled pools index c.world → IsFiled pools index (decide kept ps c k).world
   unfolding decide
   decide_filed kept ps c k s = elim (accepts_at kept (evict_all c.world (victims_of c.world kept (part_of k ps))) (node_name kept k) (part_of k ps) c.placed) as
-      (λ b. IsFiled pools index (cond b (record { world = evict_all c.world (victims_of c.world kept (part_of k ps)); placed =
-          plus c.placed (size_of (part_of k ps)); committed = c.committed ++ k ∷ []; dropped = c.dropped }) (record c { dropped = c.dropped ++ k ∷ [] })).world)
-          [
+      (λ b. IsFiled pools index (cond b (record {
+        world = evict_all c.world (victims_of c.world kept (part_of k ps));
+        placed =
+            plus c.placed (size_of (part_of k ps));
+        committed = c.committed ++ k ∷ [];
+        dropped = c.dropped;
+      }) (record c { dropped = c.dropped ++ k ∷ [] })).world) [
         | true ↦ evicted_filed (victims_of c.world kept (part_of k ps)) c.world s
         | false ↦ s
       ]
@@ -154,7 +157,7 @@ module _ (pools : Name → Bool) (index : Name → ℕ) where
             (sym (ap (λ o. option_map_or (λ a. is_live_on kept.pool node a && same_number a.priority e.priority) o false) at) ∙ c)
 
         by : (o : Option Tenant) → get x.tenants e.namespace ≡ o → option_and_then (λ t. get t.allocations e.number) o ≡ Some a → IsCause pools a
-        by None is at = absurd (no_path at)
+        by None is at = absurd (not_Some _ at)
         by (Some t) is at = causes e.namespace t is e.number a at (first_of_both (is_live a) _ on)
 
     abbrev Fits : Victim → Type 0
@@ -181,8 +184,8 @@ module _ (pools : Name → Bool) (index : Name → ℕ) where
         of_job : Each (λ (e : ℕ × Allocation). IsCause pools e.1) (map (λ (x : Victim). x.1) (filter (same_victim_job v) victims))
         of_job = each_mapped (λ (e : ℕ × Allocation). IsCause pools e.1) (λ (x : Victim). x.1) (filter (same_victim_job v) victims)
             (each_of (λ (y : Victim). IsCause pools y.1.1 × (same_victim_job v y ≡ true)) (λ (y : Victim). IsCause pools y.1.1) (λ y h. h.0)
-                (filter (same_victim_job v) victims)
-            (each_left (λ (y : Victim). IsCause pools y.1.1) (same_victim_job v) victims fit))
+            (filter (same_victim_job v) victims)
+            (each_kept (λ (y : Victim). IsCause pools y.1.1) (same_victim_job v) victims fit))
 
         by : (o : Option Allocation) → least (map (λ x. x.1) (filter (same_victim_job v) victims)) ≡ o → IsCause pools (option_map_or (λ a. a) o v.1.1)
         by None is = own
@@ -192,7 +195,7 @@ module _ (pools : Name → Bool) (index : Name → ℕ) where
     unfolding make_up
     made_up_filed w s = makes_filed pools index (λ (v : Victim). v.0) (least_of_job victims) Trigger.Preemption (first_each same_victim_job victims) w s
         (each_of (λ (v : Victim). IsCause pools v.1.1) (λ (v : Victim). IsCause pools (least_of_job victims v)) least_fits (first_each same_victim_job victims)
-            (each_first (λ (v : Victim). IsCause pools v.1.1) same_victim_job victims fit))
+        (each_first (λ (v : Victim). IsCause pools v.1.1) same_victim_job victims fit))
 
   -- ---- the whole
 
@@ -200,10 +203,10 @@ module _ (pools : Name → Bool) (index : Name → ℕ) where
   unfolding commit
   commit_filed kept p w t s causes = elim (still_stands kept.job (get t.jobs kept.evaluation.job)) as
       (λ b. IsFiled pools index (cond b (done kept p w t) (refused_whole kept p w)).world) [
-    | true ↦ whole (stop_all kept.namespace (live_stops t p.stops) w) (stopped_filed kept.namespace (live_stops t p.stops) w s)
-        (stopped_causes kept.namespace (live_stops t p.stops) w causes)
-    | false ↦ s
-  ]
+        | true ↦ whole (stop_all kept.namespace (live_stops t p.stops) w) (stopped_filed kept.namespace (live_stops t p.stops) w s)
+            (stopped_causes kept.namespace (live_stops t p.stops) w causes)
+        | false ↦ s
+      ]
     where
       whole : (x : World) → IsFiled pools index x → Causes x →
           IsFiled pools index (done_with kept t (live_stops t p.stops) p.placing.placements x
@@ -217,15 +220,15 @@ module _ (pools : Name → Bool) (index : Name → ℕ) where
           with_it c c_filed =
               let placed = committed_placements c p.placing.placements in
               made_up_filed (evicted_rows x kept placed) (victims_fit x of_x kept placed) (place_all kept c.world placed)
-                  (all_placed_filed kept placed c.world c_filed)
+              (all_placed_filed kept placed c.world c_filed)
 
 pub apply_filed : (w : World) → IsSound w → (number : ℕ) (ns : Name) → Leads (IsFiled (pools_in w) (index_in w)) (apply number ns w)
 unfolding apply
 apply_filed w s number ns = holds_keeping _ w number ns (apply_for number ns w) (λ t worker e kept is has at keeps.
     leads_if _ (is_submitted worker.phase && is_served w w.plans (ns, worker.evaluation)) (applied number ns worker e (commit kept (plan kept) w t)) NotEnabled
     (λ _. by worker e (commit kept (plan kept) w t)
-        (commit_filed (pools_in w) (index_in w) kept (plan kept) w t (sound_filed w s) (λ k x k_is n a a_at live. cause_of w s k x k_is n a a_at live)))
-        (λ _. tt))
+    (commit_filed (pools_in w) (index_in w) kept (plan kept) w t (sound_filed w s) (λ k x k_is n a a_at live. cause_of w s k x k_is n a a_at live)))
+    (λ _. tt))
   where
     by : (worker : Worker) (e : Evaluation) (a : Applied) → IsFiled (pools_in w) (index_in w) a.world →
         Leads (IsFiled (pools_in w) (index_in w)) (applied number ns worker e a)

@@ -5,7 +5,6 @@ use Rattle.std.specs.FinMap.{get, insert, contains_key}
 use Rattle.std.specs.Option.{option_map_or}
 use Rattle.ns_types.specs.declared.allocation.Allocation.{Allocation}
 use Rattle.ns_types.specs.declared.allocation.DesiredStatus.{DesiredStatus}
-use Rattle.ns_types.specs.declared.allocation.DesiredStatus.TheVariants as DesiredStatus
 use Rattle.ns_types.specs.declared.evaluation.Trigger.TheVariants as Trigger
 use Rattle.ns_types.specs.declared.job.Job.{Job}
 use Rattle.ns_types.specs.declared.job.Registration.{Registration}
@@ -13,11 +12,8 @@ use Rattle.ns_types.specs.declared.name.NameKind.TheVariants as NameKind
 use Rattle.ns_types.specs.declared.refusal.Refusal.TheVariants as Refusal
 use Rattle.ns_types.specs.declared.reply.Content.TheVariants as Content
 use Rattle.ns_types.specs.declared.step.AskCommand.{AskCommand}
-use Rattle.ns_types.specs.declared.step.AskCommand.TheVariants as AskCommand
-use Rattle.ns_types.specs.Asking.Asks.{
-    pool_of, document_of, registered_job, registered_with, register, stopped_job, deregistered, deregister_job,
-    deregister, stop_allocation, asked_in, ask
-}
+use Rattle.ns_types.specs.Asking.Asks.{first_refusal, pool_of, document_of, registered_job, registered_with, register, stopped_job, deregistered}
+use Rattle.ns_types.specs.Asking.Asks.{deregister_job, deregister, stop_allocation, asked_in, ask}
 use Rattle.ns_types.specs.State.Limits.{is_between, is_pool_name, is_good_registration}
 use Rattle.ns_types.specs.Settling.Making.{with_job, with_desired, evaluation_of, evaluation_for, make_in}
 use Rattle.ns_types.specs.State.Name.{is_name}
@@ -29,9 +25,10 @@ use Rattle.ns_types.specs.State.Sums.{names_quota, quota_use}
 use Rattle.ns_types.specs.Validity.{IsSound, IsSoundTenant}
 use Rattle.ns_types.specs.Within.{is_good_ask}
 use Rattle.ns_types.proofs.Named.{names, one_name, first_of_both, second_of_both}
-use Rattle.ns_audit.proofs.Every.{row_of_insert, on}
-use Rattle.ns_audit.proofs.Steady.Asks.{row_of_remove}
-use Rattle.ns_audit.proofs.Outcomes.{Leads, leads_unless, leads_found, leads_if}
+use Rattle.ns_types.proofs.Registrations.{accepted}
+use Rattle.ns_types.proofs.TableRows.{row_of_insert, row_of_remove}
+use Rattle.ns_types.proofs.Tests.{is_yes}
+use Rattle.ns_audit.proofs.Outcomes.{Leads, leads_unless, leads_refused, leads_found, leads_if}
 use Rattle.ns_audit.proofs.ValidEvaluations.Filed.{IsFiledJob, IsFiledTenant, IsFiled, IsCause, new_filed, filed_for, unblocked_for, make_in_filed}
 use Rattle.ns_audit.proofs.ValidEvaluations.Settle.{index_in, pools_in, sound_filed}
 use Rattle.ns_audit.proofs.ValidRecords.Asks.{default_named}
@@ -84,8 +81,8 @@ module _ (w : World) (s : IsSound w) (ns : Name) (t : Tenant) (is : get w.tenant
   -- ---- registration
 
   registration_filed : (r : Registration) → is_good_registration r ≡ true → Keeps (register ns r w t)
-  registration_filed r good = leads_unless _ _ _ _ (λ _. leads_unless _ _ _ _ (λ there. leads_unless _ _ _ _ (λ _. leads_unless _ _ _ _ (λ _.
-      by (registered_job (t.index + 1) (document_of t r) (get t.jobs r.id)) (job_filed (on _ there) (get t.jobs r.id) refl)))))
+  registration_filed r good = leads_refused _ (first_refusal w t r) _ (λ none.
+      by (registered_job (t.index + 1) (document_of t r) (get t.jobs r.id)) (job_filed (accepted w t r none).pool (get t.jobs r.id) refl))
     where
       few : (is_name NameKind.Job r.id && is_between 1 100 r.priority && option_map_or is_pool_name r.pool true) ≡ true
       few = first_of_both _ _ (first_of_both _ _ (first_of_both _ _ (first_of_both _ _ (first_of_both _ _ good))))
@@ -101,20 +98,24 @@ module _ (w : World) (s : IsSound w) (ns : Name) (t : Tenant) (is : get w.tenant
 
       job_filed : contains_key w.pools (pool_of t r) ≡ true → (o : Option Job) → get t.jobs r.id ≡ o →
           IsFiledJob (pools_in w) (registered_job (t.index + 1) (document_of t r) o)
-      job_filed there None at = record { pool = pool_named r.pool refl; priority =
-          second_of_both (is_name NameKind.Job r.id) _ (first_of_both _ _ few); exists = there }
+      job_filed there None at = record {
+        pool = pool_named r.pool refl;
+        priority =
+            second_of_both (is_name NameKind.Job r.id) _ (first_of_both _ _ few);
+        exists = there;
+      }
       job_filed there (Some j) at = elim (same_document (document_of t r) j.document && not j.stop) as
           (λ b. IsFiledJob (pools_in w) (cond b j
           (record { document = document_of t r; stop = false; version = j.version + 1; create_index = j.create_index; modify_index = t.index + 1 }))) [
-        | true ↦ its_filed.1 r.id j at
-        | false ↦ record { pool = pool_named r.pool refl; priority = second_of_both (is_name NameKind.Job r.id) _ (first_of_both _ _ few); exists = there }
-      ]
+            | true ↦ its_filed.1 r.id j at
+            | false ↦ record { pool = pool_named r.pool refl; priority = second_of_both (is_name NameKind.Job r.id) _ (first_of_both _ _ few); exists = there }
+          ]
 
       by : (job : Job) → IsFiledJob (pools_in w) job → Keeps (registered_with ns r w t job)
       by job f = make_in_filed (pools_in w) (index_in w) ns (evaluation_of r.id job.document Trigger.JobRegister) w (with_job r.id job t) filed
           (with_job_filed r.id job f)
           (new_filed (pools_in w) t.evaluation_number (index_in w ns) r.id job.document.kind job.document.priority job.document.pool Trigger.JobRegister
-              id_named f.priority f.pool f.exists) refl
+          id_named f.priority f.pool f.exists) refl
 
   -- ---- deregistration
 
@@ -124,28 +125,28 @@ module _ (w : World) (s : IsSound w) (ns : Name) (t : Tenant) (is : get w.tenant
       by : (job : Job) → get t.jobs id ≡ Some job → (purge : Bool) → Keeps (deregister_job ns id purge w t job)
       by job at true = let f = its_filed.1 id job at in
           make_in_filed (pools_in w) (index_in w) ns (evaluation_of id job.document Trigger.JobDeregister) w (deregistered true id job t) filed
-              (its_filed.0, (λ k x x_at. its_filed.1 k x (row_of_remove t.jobs id k x x_at)), its_filed.2)
+          (its_filed.0, (λ k x x_at. its_filed.1 k x (row_of_remove t.jobs id k x x_at)), its_filed.2)
           (new_filed (pools_in w) t.evaluation_number (index_in w ns) id job.document.kind job.document.priority job.document.pool Trigger.JobDeregister
-              (its.job id job at).named f.priority f.pool f.exists) refl
+          (its.job id job at).named f.priority f.pool f.exists) refl
       by job at false = let f = its_filed.1 id job at in
           make_in_filed (pools_in w) (index_in w) ns (evaluation_of id job.document Trigger.JobDeregister) w (deregistered false id job t) filed
           (with_job_filed id (stopped_job (t.index + 1) job)
-              (elim job.stop as (λ b. IsFiledJob (pools_in w) (cond b job (record job { stop = true; modify_index = t.index + 1 })))
-              [ true ↦ f | false ↦ record { pool = f.pool; priority = f.priority; exists = f.exists } ]))
+          (elim job.stop as (λ b. IsFiledJob (pools_in w) (cond b job (record job { stop = true; modify_index = t.index + 1 })))
+          [ true ↦ f | false ↦ record { pool = f.pool; priority = f.priority; exists = f.exists } ]))
           (new_filed (pools_in w) t.evaluation_number (index_in w ns) id job.document.kind job.document.priority job.document.pool Trigger.JobDeregister
-              (its.job id job at).named f.priority f.pool f.exists) refl
+          (its.job id job at).named f.priority f.pool f.exists) refl
 
   -- ---- stopping an allocation
 
   stop_filed : (n : ℕ) → Keeps (stop_allocation ns n w t)
   stop_filed n = leads_found _ (get t.allocations n) _ (λ a at. leads_unless _ _ _ _ (λ live.
-      let cause = cause_of w s ns t is n a at (on (is_live a) live) in
+      let cause = cause_of w s ns t is n a at (is_yes (is_live a) live) in
       subst (λ x. IsFiled (pools_in w) (index_in w) (make_in ns (evaluation_for t a Trigger.AllocStop) w x))
       (sym (ap (λ o. option_map_or (λ a. record t { allocations = insert t.allocations n (record a { desired = DesiredStatus.Stop }) }) o t) at))
       (make_in_filed (pools_in w) (index_in w) ns (evaluation_for t a Trigger.AllocStop) w
-          (record t { allocations = insert t.allocations n (record a { desired = DesiredStatus.Stop }) }) filed its_filed
+      (record t { allocations = insert t.allocations n (record a { desired = DesiredStatus.Stop }) }) filed its_filed
       (filed_for (pools_in w) (index_in w ns) listed t its_filed a Trigger.AllocStop cause)
-          (unblocked_for (pools_in w) (index_in w ns) listed t its_filed a Trigger.AllocStop))))
+      (unblocked_for (pools_in w) (index_in w ns) listed t its_filed a Trigger.AllocStop))))
 
   -- ---- all that is asked
 

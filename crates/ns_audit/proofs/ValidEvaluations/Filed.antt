@@ -9,7 +9,6 @@ use Rattle.ns_types.specs.declared.evaluation.Evaluation.{Evaluation}
 use Rattle.ns_types.specs.declared.evaluation.Trigger.{Trigger}
 use Rattle.ns_types.specs.declared.job.Job.{Job}
 use Rattle.ns_types.specs.declared.job.JobKind.{JobKind}
-use Rattle.ns_types.specs.declared.job.JobKind.TheVariants as JobKind
 use Rattle.ns_types.specs.declared.name.NameKind.TheVariants as NameKind
 use Rattle.ns_types.specs.State.Limits.{is_between, is_pool_name}
 use Rattle.ns_types.specs.State.Lists.{Each}
@@ -22,8 +21,8 @@ use Rattle.ns_types.specs.State.Tables.{map_rows}
 use Rattle.ns_types.specs.Working.Work.{most_nacks}
 use Rattle.ns_types.proofs.Lists.{not_both}
 use Rattle.ns_types.proofs.Named.{names, one_name, numbers as numbers_, one_number, same_name_is, same_name_refl}
-use Rattle.ns_audit.proofs.Alone.Chosen.{no_path, same_Some}
-use Rattle.ns_audit.proofs.Every.{row_of_insert}
+use Rattle.ns_types.proofs.Tests.{not_Some, same_Some}
+use Rattle.ns_types.proofs.TableRows.{row_of_insert}
 use Rattle.ns_audit.proofs.Steady.Keeping.{more, row_of_map}
 use Rattle.ns_audit.proofs.ValidEvaluations.Pairs.{Pairs}
 
@@ -75,14 +74,14 @@ grown_rows pools last index listed rows s = record { row = λ n e at. grown_eval
 
 pub relisted_rows : (pools : Name → Bool) (last index : ℕ) (listed listed' : ℕ → Bool) (rows : ByNumber Evaluation) → IsFiledRows pools last index listed rows
     → ((n : ℕ) (e : Evaluation) → get rows n ≡ Some e → is_blocked e.status ≡ true → listed n ≡ true → listed' n ≡ true) →
-        IsFiledRows pools last index listed' rows
+    IsFiledRows pools last index listed' rows
 relisted_rows pools last index listed listed' rows s h =
     record { row = s.row; in_list = λ n e at blocked. h n e at blocked (s.in_list n e at blocked); one = s.one }
 
 -- a row is put
 pub put_rows : (pools : Name → Bool) (last index : ℕ) (listed : ℕ → Bool) (rows : ByNumber Evaluation) → IsFiledRows pools last index listed rows
     → (n : ℕ) (new : Evaluation) → IsFiledEvaluation pools last index new → (is_blocked new.status ≡ true → IsOnlyOne listed rows n new) →
-        IsFiledRows pools last index listed (insert rows n new)
+    IsFiledRows pools last index listed (insert rows n new)
 put_rows pools last index listed rows s n new f only = record {
   row = λ k e at. by_row k e (came k e at);
   in_list = λ k e at. by_list k e (came k e at);
@@ -112,7 +111,7 @@ put_rows pools last index listed rows s n new f only = record {
 -- in the place of one with its job and its status
 pub replaced_rows : (pools : Name → Bool) (last index : ℕ) (listed : ℕ → Bool) (rows : ByNumber Evaluation) → IsFiledRows pools last index listed rows
     → (n : ℕ) (old new : Evaluation) → get rows n ≡ Some old → new.status ≡ old.status → new.job ≡ old.job → IsFiledEvaluation pools last index new →
-        IsFiledRows pools last index listed (insert rows n new)
+    IsFiledRows pools last index listed (insert rows n new)
 replaced_rows pools last index listed rows s n old new at status job f = put_rows pools last index listed rows s n new f (λ blocked.
     let was = ap is_blocked (sym status) ∙ blocked in
     record { in_list = s.in_list n old at was; one = λ m d d_at d_blocked same. s.one m n d old d_at at d_blocked was (same ∙ job) })
@@ -132,7 +131,7 @@ mapped_rows pools last index index' listed listed' rows f s row job status = rec
       let y = was m d a in
       let z = was n e b in
       s.one m n y.0 z.0 y.1 z.1 (status m y.0 y.1 (ap (λ (x : Evaluation). is_blocked x.status) y.2 ∙ p)).0
-          (status n z.0 z.1 (ap (λ (x : Evaluation). is_blocked x.status) z.2 ∙ q)).0
+      (status n z.0 z.1 (ap (λ (x : Evaluation). is_blocked x.status) z.2 ∙ q)).0
       (sym (job m y.0 y.1) ∙ ap (λ (x : Evaluation). x.job) y.2 ∙ same ∙ sym (ap (λ (x : Evaluation). x.job) z.2) ∙ job n z.0 z.1);
 }
   where
@@ -172,8 +171,12 @@ module _ (pools : Name → Bool) (index : Name → ℕ) where
 
   pub put_beside : (ns : Name) (t' : Tenant) (w : World) → IsFiledBeside pools index ns w → IsFiledTenant pools (index ns) (λ n. has_key w.blocked (ns, n)) t' →
       IsFiled pools index (put_tenant ns t' w)
-  put_beside ns t' w s filed = record { known = s.known; tenant =
-      λ k x at. by k x (eq_by_cmp name_cmp k ns) refl (sym (get-insert names w.tenants ns t' k) ∙ at); once = s.once }
+  put_beside ns t' w s filed = record {
+    known = s.known;
+    tenant =
+        λ k x at. by k x (eq_by_cmp name_cmp k ns) refl (sym (get-insert names w.tenants ns t' k) ∙ at);
+    once = s.once;
+  }
     where
       by : (k : Name) (x : Tenant) (b : Bool) → eq_by_cmp name_cmp k ns ≡ b → cond b (Some t') (get w.tenants k) ≡ Some x →
           IsFiledTenant pools (index k) (λ n. has_key w.blocked (k, n)) x
@@ -187,7 +190,7 @@ module _ (pools : Name → Bool) (index : Name → ℕ) where
 
   pub change_filed : (ns : Name) (f : Tenant → Tenant) (w : World) → IsFiled pools index w
       → ((t : Tenant) → IsFiledTenant pools (index ns) (λ n. has_key w.blocked (ns, n)) t →
-          IsFiledTenant pools (index ns) (λ n. has_key w.blocked (ns, n)) (f t)) → IsFiled pools index (change_tenant ns f w)
+      IsFiledTenant pools (index ns) (λ n. has_key w.blocked (ns, n)) (f t)) → IsFiled pools index (change_tenant ns f w)
   change_filed ns f w s keeps = by (get w.tenants ns) refl
     where
       by : (o : Option Tenant) → get w.tenants ns ≡ o → IsFiled pools index (option_map_or (λ t. put_tenant ns (f t) w) o w)
@@ -196,7 +199,7 @@ module _ (pools : Name → Bool) (index : Name → ℕ) where
 
   pub map_filed : (f : Name → Tenant → Tenant) (w : World) → IsFiled pools index w
       → ((ns : Name) (t : Tenant) → get w.tenants ns ≡ Some t → IsFiledTenant pools (index ns) (λ n. has_key w.blocked (ns, n)) (f ns t)) →
-          IsFiled pools index (record w { tenants = map_rows f w.tenants })
+      IsFiled pools index (record w { tenants = map_rows f w.tenants })
   map_filed f w s keeps = record {
     known = s.known;
     once = s.once;
@@ -210,8 +213,12 @@ module _ (pools : Name → Bool) (index : Name → ℕ) where
   lists_filed w ready plans s = record { known = s.known; tenant = s.tenant; once = s.once }
 
   pub put_pool_filed : (pool : Name) (p : PoolRows) (w : World) → IsFiled pools index w → IsFiled pools index (put_pool pool p w)
-  put_pool_filed pool p w s = record { tenant = s.tenant; once = s.once; known = λ name passes. ap is_some (get-insert names w.pools pool p name) ∙
-      by name (eq_by_cmp name_cmp name pool) (s.known name passes) }
+  put_pool_filed pool p w s = record {
+    tenant = s.tenant;
+    once = s.once;
+    known = λ name passes. ap is_some (get-insert names w.pools pool p name) ∙
+        by name (eq_by_cmp name_cmp name pool) (s.known name passes);
+  }
     where
       by : (name : Name) (b : Bool) → contains_key w.pools name ≡ true → is_some (cond b (Some p) (get w.pools name)) ≡ true
       by name true has = refl
@@ -229,7 +236,7 @@ module _ (pools : Name → Bool) (index : Name → ℕ) where
 -- ---- new evaluations
 
 none_named : {A : Type 0} (m : ℕ) → None ≡ Some m → A
-none_named m e = absurd (no_path e)
+none_named m e = absurd (not_Some _ e)
 
 pub at_least_zero : (n : ℕ) → 0 ≤ n
 at_least_zero n = omega arith
@@ -302,7 +309,7 @@ module _ (pools : Name → Bool) (index : Name → ℕ) where
       by None is = s
       by (Some t) is = let r = s.tenant ns t is in make_in_filed ns (evaluation_for t a trigger) w t s r
           (filed_for pools (index ns) (λ n. has_key w.blocked (ns, n)) t r a trigger cause)
-              (unblocked_for pools (index ns) (λ n. has_key w.blocked (ns, n)) t r a trigger)
+          (unblocked_for pools (index ns) (λ n. has_key w.blocked (ns, n)) t r a trigger)
 
   pub makes_filed : {A : Type 0} (ns_of : A → Name) (row_of : A → Allocation) (trigger : Trigger) (xs : List A) (w : World) → IsFiled pools index w →
       Each (λ x. IsCause pools (row_of x)) xs

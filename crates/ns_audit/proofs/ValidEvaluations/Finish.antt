@@ -1,15 +1,12 @@
 -- Finish keeps what is said of evaluations.
-use Rattle.std.specs.Prelude.{
-    ◌≡◌, ◌≢◌, ℕ, ◌+◌, ◌≤◌, Bool, true, false, cond, not, T, List, [], ◌∷◌, ◌++◌, Option, Some, None, ◌&&◌, ◌||◌, find,
-    is_some, option_map
-}
+use Rattle.std.specs.Prelude.{◌≡◌, ◌≢◌, ℕ, ◌+◌, ◌≤◌, Bool, true, false, cond, not, T, List, [], ◌∷◌, ◌++◌, Option, Some, None, ◌&&◌, ◌||◌, find, is_some}
+use Rattle.std.specs.Prelude.{option_map}
 use Rattle.std.proofs.Common.{◌⊎◌, inl, inr, refl, sym, ap, subst, ◌∙◌}
 use Rattle.std.specs.FinMap.{get, get-entries, get-insert, insert, entries, contains_key}
 use Rattle.std.specs.Option.{option_map_or}
 use Rattle.std.specs.Ordering.{eq_by_cmp, nat_cmp}
 use Rattle.ns_types.specs.declared.evaluation.Evaluation.{Evaluation}
 use Rattle.ns_types.specs.declared.evaluation.Status.{Status}
-use Rattle.ns_types.specs.declared.evaluation.Status.TheVariants as Status
 use Rattle.ns_types.specs.declared.name.NameKind.TheVariants as NameKind
 use Rattle.ns_types.specs.declared.reply.Content.TheVariants as Content
 use Rattle.ns_types.specs.declared.snapshot.Snapshot.{Snapshot}
@@ -24,25 +21,22 @@ use Rattle.ns_types.specs.Working.Queue.{promote}
 use Rattle.ns_types.specs.Settling.Releases.{missed}
 use Rattle.ns_types.specs.State.Rows.{World, Tenant, PoolRows, is_open, is_blocked}
 use Rattle.ns_types.specs.Validity.{IsSound}
-use Rattle.ns_types.specs.Working.Work.{
-    without_worker, without_key, end_of, needs_follower, follower_of, blocked_of, without_blocked, cancel_blocked,
-    ended, with_follower, followed, may_finish, finished, finish_for, finish
-}
+use Rattle.ns_types.specs.Working.Work.{without_worker, without_key, end_of, needs_follower, follower_of, blocked_of, without_blocked, cancel_blocked, ended}
+use Rattle.ns_types.specs.Working.Work.{with_follower, followed, may_finish, finished, finish_for, finish}
 use Rattle.ns_types.proofs.Lists.{not_both, left_none, right_none, any_part}
-use Rattle.ns_types.proofs.Named.{numbers as numbers_, one_number, same_name_is, same_name_refl, same_number_refl, first_of_both, second_of_both}
+use Rattle.ns_types.proofs.Named.{numbers as numbers_, one_number, same_name_is, same_name_refl, same_number_refl, first_of_both, second_of_both, same_key_is}
+use Rattle.ns_types.proofs.Named.{same_key_refl}
 use Rattle.ns_types.proofs.Tables.{tied, each_row}
+use Rattle.ns_types.proofs.Tests.{not_Some, same_Some}
 use Rattle.ns_audit.specs.Orderly.{IsBlockedIn}
-use Rattle.ns_audit.proofs.Alone.Chosen.{no_path, same_Some}
-use Rattle.ns_audit.proofs.Steady.Keeping.{elsewhere, above, more, same_key_is, same_key_refl}
+use Rattle.ns_audit.proofs.Steady.Keeping.{elsewhere, above, more}
 use Rattle.ns_audit.proofs.Steady.Finish.{same_blocked, shut_end}
 use Rattle.ns_audit.proofs.Steady.Work.{pending_not_blocked}
 use Rattle.ns_audit.proofs.Steady.Workers.{at_tenant, find_each}
 use Rattle.ns_audit.proofs.Outcomes.{Leads, leads_if}
 use Rattle.ns_audit.proofs.Alone.Owning.{orderly, blocked_is}
-use Rattle.ns_audit.proofs.ValidEvaluations.Filed.{
-    IsFiledEvaluation, IsFiledRows, grown_rows, relisted_rows, put_rows, replaced_rows, IsFiledTenant, IsFiled,
-    IsFiledBeside, beside, put_beside, at_least_zero, zero_below
-}
+use Rattle.ns_audit.proofs.ValidEvaluations.Filed.{IsFiledEvaluation, IsFiledRows, grown_rows, relisted_rows, put_rows, replaced_rows, IsFiledTenant, IsFiled}
+use Rattle.ns_audit.proofs.ValidEvaluations.Filed.{IsFiledBeside, beside, put_beside, at_least_zero, zero_below}
 use Rattle.ns_audit.proofs.ValidEvaluations.Pairs.{pairs_still, pairs_append, each_at}
 use Rattle.ns_audit.proofs.ValidEvaluations.Settle.{index_in, pools_in, sound_filed, itself}
 use Rattle.ns_audit.proofs.ValidEvaluations.Work.{holds_keeping, held_pending, promote_filed}
@@ -90,7 +84,7 @@ none_found f (x ∷ xs) is = by (none_found f xs) (f x) refl is
   where
     by : (find f xs ≡ None → Each (λ x. f x ≡ false) xs) → (b : Bool) → f x ≡ b → cond b (Some x) (find f xs) ≡ None → (f x ≡ false) ×
         Each (λ x. f x ≡ false) xs
-    by rest true t is = absurd (no_path (sym is))
+    by rest true t is = absurd (not_Some _ (sym is))
     by rest false t is = (t, rest is)
 
 -- none of the job is blocked
@@ -112,13 +106,18 @@ module _ (t : Tenant) (job : Name) where
   blocked_there k is = by (find passes (entries t.evaluations)) refl is
     where
       by : (x : Option (ℕ × Evaluation)) → find passes (entries t.evaluations) ≡ x → option_map (λ e. e.0) x ≡ Some k → IsBlockedOf t.evaluations job k
-      by None found is = absurd (no_path is)
+      by None found is = absurd (not_Some _ is)
       by (Some x) found is =
           let y = find_each (λ e. get t.evaluations e.0 ≡ Some e.1) passes (entries t.evaluations) x
-              (each_row numbers_ one_number (λ k e. get t.evaluations k ≡ Some e) t.evaluations (λ k e at. at)) found in
+          (each_row numbers_ one_number (λ k e. get t.evaluations k ≡ Some e) t.evaluations (λ k e at. at)) found in
           subst (IsBlockedOf t.evaluations job) (same_Some _ _ is)
-              (record { row = x.1; is_row = y.0; is_so = second_of_both (same_name job x.1.job) _ y.1; its_job =
-              sym (same_name_is job x.1.job (first_of_both (same_name job x.1.job) _ y.1)) })
+          (record {
+            row = x.1;
+            is_row = y.0;
+            is_so = second_of_both (same_name job x.1.job) _ y.1;
+            its_job =
+                sym (same_name_is job x.1.job (first_of_both (same_name job x.1.job) _ y.1));
+          })
 
   none_blocked : blocked_of t job ≡ None → NoneBlocked job t.evaluations
   unfolding passes
@@ -128,7 +127,7 @@ module _ (t : Tenant) (job : Name) where
       by None found is = not_both (λ i. (ap (same_name job) same ∙ same_name_refl job) i && blocked i)
           (each_at (λ e. passes e ≡ false) (entries t.evaluations) m d (none_found passes (entries t.evaluations) found)
           (sym (get-entries t.evaluations m) ∙ at))
-      by (Some x) found is = no_path (sym is)
+      by (Some x) found is = not_Some _ (sym is)
 
 -- ---- rows
 
@@ -173,7 +172,7 @@ with_follower_row pools last index e number low f = record {
 
 module _ (pools : Name → Bool) (index : ℕ) (listed : ℕ → Bool) (t : Tenant) (s : IsFiledTenant pools index listed t) (n : ℕ) (f : Evaluation)
     (good : IsFiledEvaluation pools (t.evaluation_number + 1) index f) (only : is_blocked f.status ≡ true → (listed (t.evaluation_number + 1) ≡ true) ×
-        NoneBlocked f.job t.evaluations) where
+    NoneBlocked f.job t.evaluations) where
   abbrev next : ℕ
   next = t.evaluation_number + 1
 
@@ -192,15 +191,18 @@ module _ (pools : Name → Bool) (index : ℕ) (listed : ℕ → Bool) (t : Tena
           (λ blocked. record { in_list = (only blocked).0; one = λ m d at d_blocked same. absurd (none blocked m d at d_blocked same) })
 
       by : (o : Option Evaluation) → get t.evaluations n ≡ o →
-          IsFiledTenant pools index listed (record (tied_row o) { evaluation_number = t.evaluation_number + 1; evaluations =
-          insert (tied_row o).evaluations (t.evaluation_number + 1) f })
+          IsFiledTenant pools index listed (record (tied_row o) {
+            evaluation_number = t.evaluation_number + 1;
+            evaluations =
+                insert (tied_row o).evaluations (t.evaluation_number + 1) f;
+          })
       by None at = (put t.evaluations grown (λ blocked. (only blocked).1), s.1, s.2)
       by (Some e) at = (
         put (insert t.evaluations n (record e { follower = Some next }))
             (replaced_rows pools next index listed t.evaluations grown n e (record e { follower = Some next }) at refl refl
-                (with_follower_row pools next index e next (itself next) (grown.row n e at)))
+            (with_follower_row pools next index e next (itself next) (grown.row n e at)))
             (λ blocked m d d_at d_blocked same. still (only blocked).1 m d d_blocked same
-                (row_beside t.evaluations n (record e { follower = Some next }) m d d_at)),
+            (row_beside t.evaluations n (record e { follower = Some next }) m d d_at)),
         s.1,
         s.2,
       )
@@ -243,7 +245,7 @@ module _ (w : World) (s : IsSound w) (ns : Name) (number : ℕ) (t : Tenant) (wo
   rows1 : IsFiledRows (pools_in w) t.evaluation_number (index_in w ns) listed t1.evaluations
   rows1 = put_rows (pools_in w) t.evaluation_number (index_in w ns) listed t.evaluations its.0 worker.evaluation closed
       (shut_row (pools_in w) t.evaluation_number (index_in w ns) e (end_of worker) (shut_end worker).0 (its.0.row worker.evaluation e at))
-          (λ blocked. not_both blocked (shut_end worker).1)
+      (λ blocked. not_both blocked (shut_end worker).1)
 
   fresh_key : has_key w.blocked (ns, t.evaluation_number + 1) ≡ false
   fresh_key = by (has_key w.blocked (ns, t.evaluation_number + 1)) refl
@@ -255,7 +257,7 @@ module _ (w : World) (s : IsSound w) (ns : Name) (number : ℕ) (t : Tenant) (wo
 
   ended_by : (o : Option ℕ) → blocked_of t e.job ≡ o
       → IsEnded (pools_in w) (index_in w) ns e.job t.evaluation_number (option_map_or (λ n. record w { blocked = without_key (ns, n) w.blocked }) o w)
-          (option_map_or (λ n. with_status n Status.Canceled t1) o t1)
+      (option_map_or (λ n. with_status n Status.Canceled t1) o t1)
   ended_by None none = record {
     filed = (rows1, its.1, its.2);
     others = beside (pools_in w) (index_in w) ns w all_filed;
@@ -270,28 +272,29 @@ module _ (w : World) (s : IsSound w) (ns : Name) (number : ℕ) (t : Tenant) (wo
       by m d blocked same (inr x) = none_blocked t e.job none m d x.1 blocked same
   ended_by (Some k) some = subst (IsEnded (pools_in w) (index_in w) ns e.job t.evaluation_number (record w { blocked = without_key (ns, k) w.blocked }))
       (sym is_canceled) (record {
-    filed = (
-      relisted_rows (pools_in w) t.evaluation_number (index_in w ns) listed (λ m. has_key (without_key (ns, k) w.blocked) (ns, m))
-          (insert t1.evaluations k canceled) rows2 (λ m d d_at blocked in_list.
-          has_key_still (λ other. not (same_key (ns, k) other)) w.blocked (ns, m) in_list (ap not (other_key ns k m (not_canceled m d d_at blocked).0))),
-      its.1,
-      its.2,
-    );
-    others = record {
-      known = all_filed.known;
-      once = pairs_still (λ a b. same_key a b ≡ false) (λ other. not (same_key (ns, k) other)) w.blocked all_filed.once;
-      tenant = λ other x differs x_at. let r = all_filed.tenant other x x_at in (
-        relisted_rows (pools_in w) x.evaluation_number (index_in w other) (λ m. has_key w.blocked (other, m))
-            (λ m. has_key (without_key (ns, k) w.blocked) (other, m)) x.evaluations r.0 (λ m d _ _ in_list.
-            has_key_still (λ key. not (same_key (ns, k) key)) w.blocked (other, m) in_list (ap not (other_name ns other k m differs))),
-        r.1,
-        r.2,
-      );
-    };
-    none = λ m d d_at blocked same. let x = not_canceled m d d_at blocked in x.0 (rows1.one m k d b.row x.1 kept_row blocked b.is_so (same ∙ sym b.its_job));
-    same_number = refl;
-    fresh = any_part (λ other. not (same_key (ns, k) other)) (same_key (ns, t.evaluation_number + 1)) w.blocked fresh_key;
-  })
+        filed = (
+          relisted_rows (pools_in w) t.evaluation_number (index_in w ns) listed (λ m. has_key (without_key (ns, k) w.blocked) (ns, m))
+              (insert t1.evaluations k canceled) rows2 (λ m d d_at blocked in_list.
+              has_key_still (λ other. not (same_key (ns, k) other)) w.blocked (ns, m) in_list (ap not (other_key ns k m (not_canceled m d d_at blocked).0))),
+          its.1,
+          its.2,
+        );
+        others = record {
+          known = all_filed.known;
+          once = pairs_still (λ a b. same_key a b ≡ false) (λ other. not (same_key (ns, k) other)) w.blocked all_filed.once;
+          tenant = λ other x differs x_at. let r = all_filed.tenant other x x_at in (
+            relisted_rows (pools_in w) x.evaluation_number (index_in w other) (λ m. has_key w.blocked (other, m))
+                (λ m. has_key (without_key (ns, k) w.blocked) (other, m)) x.evaluations r.0 (λ m d _ _ in_list.
+                has_key_still (λ key. not (same_key (ns, k) key)) w.blocked (other, m) in_list (ap not (other_name ns other k m differs))),
+            r.1,
+            r.2,
+          );
+        };
+        none = λ m d d_at blocked same. let x = not_canceled m d d_at blocked in
+            x.0 (rows1.one m k d b.row x.1 kept_row blocked b.is_so (same ∙ sym b.its_job));
+        same_number = refl;
+        fresh = any_part (λ other. not (same_key (ns, k) other)) (same_key (ns, t.evaluation_number + 1)) w.blocked fresh_key;
+      })
     where
       b : IsBlockedOf t.evaluations e.job k
       b = blocked_there t e.job k some
@@ -302,7 +305,7 @@ module _ (w : World) (s : IsSound w) (ns : Name) (number : ℕ) (t : Tenant) (wo
       kept_row : get t1.evaluations k ≡ Some b.row
       kept_row = elsewhere t.evaluations worker.evaluation k closed b.row (λ same. pending_not_blocked e.status pending
           (ap (λ (x : Evaluation). x.status) (same_Some _ _ (sym at ∙ ap (get t.evaluations) (sym same) ∙ b.is_row)) ∙ blocked_is b.row.status b.is_so))
-              b.is_row
+          b.is_row
 
       is_canceled : with_status k Status.Canceled t1 ≡ record t1 { evaluations = insert t1.evaluations k canceled }
       is_canceled = ap (λ o. option_map_or (λ e. record t1 { evaluations = insert t1.evaluations k (record e { status = Status.Canceled }) }) o t1) kept_row
@@ -322,7 +325,7 @@ module _ (w : World) (s : IsSound w) (ns : Name) (number : ℕ) (t : Tenant) (wo
   is_ended : IsEnded (pools_in w) (index_in w) ns e.job t.evaluation_number (without_blocked ns e.job t w) (ended number worker e (end_of worker) t)
   is_ended = subst (λ x. IsEnded (pools_in w) (index_in w) ns e.job t.evaluation_number (without_blocked ns e.job t w) (cancel_blocked e.job x)) (sym closes)
       (subst (λ o. IsEnded (pools_in w) (index_in w) ns e.job t.evaluation_number (without_blocked ns e.job t w)
-          (option_map_or (λ n. with_status n Status.Canceled t1) o t1))
+      (option_map_or (λ n. with_status n Status.Canceled t1) o t1))
       (sym (same_blocked t t1 e.job worker.evaluation e (end_of worker) at pending (shut_end worker).1 refl)) (ended_by (blocked_of t e.job) refl))
     where
       closes : with_status worker.evaluation (end_of worker) (without_worker number t) ≡ t1
@@ -333,7 +336,7 @@ module _ (w : World) (s : IsSound w) (ns : Name) (number : ℕ) (t : Tenant) (wo
 
 module _ (w : World) (s : IsSound w) (ns : Name) (number : ℕ) (t : Tenant) (worker : Worker) (e : Evaluation) (kept : Snapshot)
     (is : get w.tenants ns ≡ Some t) (has : get t.workers number ≡ Some worker) (at : get t.evaluations worker.evaluation ≡ Some e)
-        (keeps : worker.kept ≡ Some kept) where
+    (keeps : worker.kept ≡ Some kept) where
   abbrev w1 : World
   w1 = without_blocked ns e.job t w
 
@@ -363,7 +366,7 @@ module _ (w : World) (s : IsSound w) (ns : Name) (number : ℕ) (t : Tenant) (wo
         exists = λ _. there;
         previous = λ m m_is. subst (λ m. m ≤ t2.evaluation_number + 1) (same_Some worker.evaluation m m_is)
             (subst (λ n. worker.evaluation ≤ n + 1) (sym over.same_number) (more _ _ r.below));
-        follower = λ m m_is. absurd (no_path m_is);
+        follower = λ m m_is. absurd (not_Some _ m_is);
         given_back = at_least_zero 3;
         few_nacks = λ _. zero_below;
         created = at_least_zero (index_in w ns);
@@ -374,32 +377,32 @@ module _ (w : World) (s : IsSound w) (ns : Name) (number : ℕ) (t : Tenant) (wo
   followed_filed true = put_beside (pools_in w) (index_in w) ns
       (with_follower worker.evaluation (record (follower_of e worker kept) { status = Status.Pending }) t2) w1 over.others
       (follower_filed (pools_in w) (index_in w ns) (λ m. has_key w1.blocked (ns, m)) t2 over.filed worker.evaluation
-          (record (follower_of e worker kept) { status = Status.Pending }) (good Status.Pending) (λ blocked. not_both blocked refl))
+      (record (follower_of e worker kept) { status = Status.Pending }) (good Status.Pending) (λ blocked. not_both blocked refl))
   followed_filed false = put_beside (pools_in w) (index_in w) ns (with_follower worker.evaluation (follower_of e worker kept) t2)
       (record w1 { blocked = w1.blocked ++ (ns, t2.evaluation_number + 1) ∷ [] }) (record {
-    known = over.others.known;
-    once = pairs_append (λ a b. same_key a b ≡ false) w1.blocked (ns, t2.evaluation_number + 1) over.others.once
-        (unlisted w1.blocked (ns, t2.evaluation_number + 1) (ap (λ n. has_key w1.blocked (ns, n + 1)) over.same_number ∙ over.fresh));
-    tenant = λ other x differs x_at. let r = over.others.tenant other x differs x_at in (
-      relisted_rows (pools_in w) x.evaluation_number (index_in w other) (λ m. has_key w1.blocked (other, m))
-          (λ m. has_key (w1.blocked ++ (ns, t2.evaluation_number + 1) ∷ []) (other, m)) x.evaluations r.0
-          (λ m d _ _ in_list. key_still w1.blocked (ns, t2.evaluation_number + 1) (other, m) in_list),
-      r.1,
-      r.2,
-    );
-  }) (follower_filed (pools_in w) (index_in w ns) (λ m. has_key (w1.blocked ++ (ns, t2.evaluation_number + 1) ∷ []) (ns, m)) t2 (
-    relisted_rows (pools_in w) t2.evaluation_number (index_in w ns) (λ m. has_key w1.blocked (ns, m))
-        (λ m. has_key (w1.blocked ++ (ns, t2.evaluation_number + 1) ∷ []) (ns, m)) t2.evaluations over.filed.0
-        (λ m d _ _ in_list. key_still w1.blocked (ns, t2.evaluation_number + 1) (ns, m) in_list),
-    over.filed.1,
-    over.filed.2,
-  )
+        known = over.others.known;
+        once = pairs_append (λ a b. same_key a b ≡ false) w1.blocked (ns, t2.evaluation_number + 1) over.others.once
+            (unlisted w1.blocked (ns, t2.evaluation_number + 1) (ap (λ n. has_key w1.blocked (ns, n + 1)) over.same_number ∙ over.fresh));
+        tenant = λ other x differs x_at. let r = over.others.tenant other x differs x_at in (
+          relisted_rows (pools_in w) x.evaluation_number (index_in w other) (λ m. has_key w1.blocked (other, m))
+              (λ m. has_key (w1.blocked ++ (ns, t2.evaluation_number + 1) ∷ []) (other, m)) x.evaluations r.0
+              (λ m d _ _ in_list. key_still w1.blocked (ns, t2.evaluation_number + 1) (other, m) in_list),
+          r.1,
+          r.2,
+        );
+      }) (follower_filed (pools_in w) (index_in w ns) (λ m. has_key (w1.blocked ++ (ns, t2.evaluation_number + 1) ∷ []) (ns, m)) t2 (
+        relisted_rows (pools_in w) t2.evaluation_number (index_in w ns) (λ m. has_key w1.blocked (ns, m))
+            (λ m. has_key (w1.blocked ++ (ns, t2.evaluation_number + 1) ∷ []) (ns, m)) t2.evaluations over.filed.0
+            (λ m d _ _ in_list. key_still w1.blocked (ns, t2.evaluation_number + 1) (ns, m) in_list),
+        over.filed.1,
+        over.filed.2,
+      )
       worker.evaluation (follower_of e worker kept) (good Status.Blocked) (λ _. (has_key_last w1.blocked (ns, t2.evaluation_number + 1), over.none)))
 
   finished_filed : Leads (IsFiled (pools_in w) (index_in w)) (finished number ns w t worker e kept)
   finished_filed = leads_if _ (needs_follower worker kept)
       (Done (Content.Finished (end_of worker) (Some (t.evaluation_number + 1)))
-          (promote ns e.job (followed ns worker (follower_of e worker kept) t2 (missed w kept (follower_of e worker kept)) w1)))
+      (promote ns e.job (followed ns worker (follower_of e worker kept) t2 (missed w kept (follower_of e worker kept)) w1)))
       (Done (Content.Finished (end_of worker) None) (promote ns e.job (put_tenant ns t2 w1)))
       (λ _. promote_filed (pools_in w) (index_in w) ns e.job _ (followed_filed (missed w kept (follower_of e worker kept))))
       (λ _. promote_filed (pools_in w) (index_in w) ns e.job _ (put_beside (pools_in w) (index_in w) ns t2 w1 over.others over.filed))
@@ -408,4 +411,4 @@ pub finish_filed : (w : World) → IsSound w → (number : ℕ) (ns : Name) → 
 unfolding finish
 finish_filed w s number ns = holds_keeping _ w number ns (finish_for number ns w) (λ t worker e kept is has at keeps.
     leads_if _ (may_finish worker kept) (finished number ns w t worker e kept) NotEnabled (λ _. finished_filed w s ns number t worker e kept is has at keeps)
-        (λ _. tt))
+    (λ _. tt))

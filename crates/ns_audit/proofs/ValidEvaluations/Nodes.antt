@@ -1,4 +1,4 @@
--- What is told of a pool keeps what is said of evaluations.
+-- What is asked of a pool keeps what is said of evaluations.
 use Rattle.std.specs.Prelude.{◌≡◌, ℕ, Bool, true, false, cond, not, List, map, Option, Some, None, ◌&&◌, filter}
 use Rattle.std.proofs.Common.{refl, sym, ap, subst, ◌∙◌}
 use Rattle.std.specs.FinMap.{get, entries, from_entries, get-from_entries, insert}
@@ -8,23 +8,20 @@ use Rattle.ns_types.specs.declared.evaluation.Trigger.TheVariants as Trigger
 use Rattle.ns_types.specs.declared.refusal.Refusal.TheVariants as Refusal
 use Rattle.ns_types.specs.declared.reply.Content.TheVariants as Content
 use Rattle.ns_types.specs.declared.step.NodeCommand.{NodeCommand}
-use Rattle.ns_types.specs.declared.step.NodeCommand.TheVariants as NodeCommand
 use Rattle.ns_types.specs.declared.step.Report.{Report}
 use Rattle.ns_types.specs.State.Lists.{Each}
 use Rattle.ns_types.specs.Settling.Making.{put_pool, with_node, change_tenant, with_client, evaluation_for, make}
 use Rattle.ns_types.specs.State.Names.{Name, name_cmp, has_key}
-use Rattle.ns_types.specs.Asking.Nodes.{
-    losing_jobs, losses, lost, lose, go_down, may_become, same_client, calls_for_one, reported, is_on, report_of,
-    report, asked_in_pool, ask_pool
-}
+use Rattle.ns_types.specs.Asking.Nodes.{losing_jobs, losses, lost, lose, go_down, may_become, same_client, calls_for_one, reported, is_on, report_of, report}
+use Rattle.ns_types.specs.Asking.Nodes.{asked_in_pool, ask_pool}
 use Rattle.ns_types.specs.Settling.Outcome.{Outcome, Done, unless}
 use Rattle.ns_types.specs.State.Rows.{World, Tenant, PoolRows, is_ready, is_held, is_live_on, allocation_at}
 use Rattle.ns_types.specs.State.Tables.{map_rows}
 use Rattle.ns_types.specs.Validity.{IsSound}
 use Rattle.ns_types.proofs.Named.{names, one_name, numbers as numbers_, one_number, first_of_both}
 use Rattle.ns_types.proofs.Tables.{each_row}
-use Rattle.ns_audit.proofs.Alone.Chosen.{no_path}
-use Rattle.ns_audit.proofs.Every.{each_of, each_mapped, each_left, each_flat, found_of, on}
+use Rattle.ns_types.proofs.Tests.{not_Some, is_yes}
+use Rattle.ns_types.proofs.Elements.{each_of, each_mapped, each_kept, each_flat, found_of}
 use Rattle.ns_audit.proofs.Steady.Nodes.{held_before, run_before}
 use Rattle.ns_audit.proofs.Outcomes.{Leads, leads_unless, leads_found, leads_if}
 use Rattle.ns_audit.proofs.ValidEvaluations.Asks.{cause_of}
@@ -48,7 +45,7 @@ module _ (w : World) (s : IsSound w) where
   losses_cause pool node = each_flat (λ (loss : Name × Allocation). IsCause (pools_in w) loss.1)
       (λ (t : Name × Tenant). map (λ a. (t.0, a)) (losing_jobs pool node t.1)) (entries w.tenants)
       (each_row names one_name (λ ns t. Each (λ (loss : Name × Allocation). IsCause (pools_in w) loss.1) (map (λ a. (ns, a)) (losing_jobs pool node t)))
-          w.tenants
+      w.tenants
       (λ ns t is. each_mapped (λ (loss : Name × Allocation). IsCause (pools_in w) loss.1) (λ a. (ns, a)) (losing_jobs pool node t) (of_tenant ns t is)))
     where
       of_tenant : (ns : Name) (t : Tenant) → get w.tenants ns ≡ Some t → Each (λ (a : Allocation). IsCause (pools_in w) a) (losing_jobs pool node t)
@@ -65,8 +62,8 @@ module _ (w : World) (s : IsSound w) where
               (each_of (λ (e : ℕ × Allocation). (get t.allocations e.0 ≡ Some e.1) × (is_live_on pool node e.1 ≡ true)) (λ e. IsCause (pools_in w) e.1)
               (λ e h. cause_of w s ns t is e.0 e.1 h.0 (first_of_both _ _ h.1))
               (filter (λ a. is_live_on pool node a.1) (entries t.allocations))
-              (each_left (λ (e : ℕ × Allocation). get t.allocations e.0 ≡ Some e.1) (λ e. is_live_on pool node e.1) (entries t.allocations)
-                  (each_row numbers_ one_number (λ n a. get t.allocations n ≡ Some a) t.allocations (λ n a at. at))))
+              (each_kept (λ (e : ℕ × Allocation). get t.allocations e.0 ≡ Some e.1) (λ e. is_live_on pool node e.1) (entries t.allocations)
+              (each_row numbers_ one_number (λ n a. get t.allocations n ≡ Some a) t.allocations (λ n a at. at))))
 
   down_filed : (pool node : Name) (p : PoolRows) → IsFiled (pools_in w) (index_in w) (go_down pool node (put_pool pool p w))
   unfolding go_down
@@ -99,7 +96,7 @@ module _ (w : World) (s : IsSound w) where
         by true calls e = subst (λ b. IsFiled (pools_in w) (index_in w) (cond b (make r.namespace (λ t. evaluation_for t a Trigger.AllocFailure) x) x))
             (sym (e ∙ calls))
             (make_filed (pools_in w) (index_in w) r.namespace a Trigger.AllocFailure x changed
-                (cause_of w s r.namespace t is r.number a at (λ i. run_before t a r.client calls i && held i)))
+            (cause_of w s r.namespace t is r.number a at (λ i. run_before t a r.client calls i && held i)))
         by false calls e = subst (λ b. IsFiled (pools_in w) (index_in w) (cond b (make r.namespace (λ t. evaluation_for t a Trigger.AllocFailure) x) x))
             (sym (e ∙ calls)) changed
 
@@ -108,16 +105,16 @@ module _ (w : World) (s : IsSound w) where
         (λ node _. leads_found _ (allocation_at w (r.namespace, r.number)) (λ x. unless (not (is_on pool name x)) Refusal.NotFound (report_of r w x)) (λ a at.
         leads_unless _ (not (is_on pool name a)) Refusal.NotFound (report_of r w a) (λ _.
         leads_if _ (same_client a.client r.client) (Done Content.Written w)
-            (unless (not (may_become a.client r.client)) Refusal.Conflict (Done Content.Written (reported r a w))) (λ _. filed) (λ _.
+        (unless (not (may_become a.client r.client)) Refusal.Conflict (Done Content.Written (reported r a w))) (λ _. filed) (λ _.
         leads_unless _ (not (may_become a.client r.client)) Refusal.Conflict (Done Content.Written (reported r a w))
-            (λ becomes. by a (get w.tenants r.namespace) refl at (held_before a.client r.client (on _ becomes)))))))
+        (λ becomes. by a (get w.tenants r.namespace) refl at (held_before a.client r.client (is_yes _ becomes)))))))
       where
         by : (a : Allocation) (o : Option Tenant) → get w.tenants r.namespace ≡ o → option_and_then (λ t. get t.allocations r.number) o ≡ Some a →
             is_held a.client ≡ true → IsFiled (pools_in w) (index_in w) (reported r a w)
-        by a None is at held = absurd (no_path at)
+        by a None is at held = absurd (not_Some _ at)
         by a (Some t) is at held = reported_filed t a is at held
 
-  -- ---- all that is told
+  -- ---- all that is asked of a pool
 
   asked_in_pool_filed : (pool : Name) (command : NodeCommand) (p : PoolRows) → Keeps (asked_in_pool pool command w p)
   asked_in_pool_filed pool NodeCommand.ReadPool p = filed

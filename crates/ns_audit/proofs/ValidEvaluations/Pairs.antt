@@ -9,8 +9,8 @@ use Rattle.ns_types.specs.State.Lists.{Each, first_each}
 use Rattle.ns_types.proofs.Lists.{not_both, filter_all, each}
 use Rattle.ns_types.proofs.Named.{numbers as numbers_, one_number}
 use Rattle.ns_types.proofs.Tables.{tied}
-use Rattle.ns_audit.proofs.Alone.Chosen.{no_path, same_Some, off}
-use Rattle.ns_audit.proofs.Every.{each_append, each_left, each_of, each_still, filter_shorter, first_shorter, first, second}
+use Rattle.ns_types.proofs.Tests.{not_Some, same_Some, is_no, first, second}
+use Rattle.ns_types.proofs.Elements.{each_passing, each_append, each_kept, each_of, each_still, filter_shorter, first_shorter}
 
 -- an earlier element with a later one
 abbrev pub Pairs : {A : Type 0} → (A → A → Type 0) → List A → Type 0
@@ -45,27 +45,24 @@ module _ {A : Type 0} where
   pub pairs_where : (Q : A → A → Type 0) (p : A → Bool) (xs : List A) → Pairs (λ x y. p x ≡ true → p y ≡ true → Q x y) xs → Pairs Q (filter p xs)
   pairs_where Q p [] h = tt
   pairs_where Q p (x ∷ xs) h = elim (p x) as (λ b. p x ≡ b → Pairs Q (cond b (x ∷ filter p xs) (filter p xs))) [
-    | true ↦ λ is. (each_of (λ y. (p x ≡ true → p y ≡ true → Q x y) × (p y ≡ true)) (Q x) (λ y k. k.0 is k.1) (filter p xs)
-        (each_left (λ y. p x ≡ true → p y ≡ true → Q x y) p xs h.0), pairs_where Q p xs h.1)
+    | true ↦ λ is. (
+      each_of (λ y. (p x ≡ true → p y ≡ true → Q x y) × (p y ≡ true)) (Q x) (λ y k. k.0 is k.1) (filter p xs)
+          (each_kept (λ y. p x ≡ true → p y ≡ true → Q x y) p xs h.0),
+      pairs_where Q p xs h.1,
+    )
     | false ↦ λ _. pairs_where Q p xs h.1
   ] refl
-
-  each_among : (P : A → Type 0) (p : A → Bool) (xs : List A) → Each P (filter p xs) → Each (λ x. p x ≡ true → P x) xs
-  each_among P p [] h = tt
-  each_among P p (x ∷ xs) h = elim (p x) as (λ b. p x ≡ b → Each P (cond b (x ∷ filter p xs) (filter p xs)) → (p x ≡ true → P x) ×
-      Each (λ x. p x ≡ true → P x) xs) [
-    | true ↦ λ _ k. ((λ _. k.0), each_among P p xs k.1)
-    | false ↦ λ off_ k. ((λ on. not_both on off_), each_among P p xs k)
-  ] refl h
 
   pub pairs_among : (Q : A → A → Type 0) (p : A → Bool) (xs : List A) → Pairs Q (filter p xs) → Pairs (λ x y. p x ≡ true → p y ≡ true → Q x y) xs
   pairs_among Q p [] h = tt
   pairs_among Q p (x ∷ xs) h = elim (p x) as (λ b. p x ≡ b → Pairs Q (cond b (x ∷ filter p xs) (filter p xs)) → Each (λ y. p x ≡ true → p y ≡ true → Q x y) xs ×
       Pairs (λ x y. p x ≡ true → p y ≡ true → Q x y) xs) [
-    | true ↦ λ _ k. (each_of (λ y. p y ≡ true → Q x y) (λ y. p x ≡ true → p y ≡ true → Q x y) (λ y q _ on. q on) xs (each_among (Q x) p xs k.0),
-        pairs_among Q p xs k.1)
-    | false ↦ λ off_ k. (each (λ y. p x ≡ true → p y ≡ true → Q x y) (λ y on _. not_both on off_) xs, pairs_among Q p xs k)
-  ] refl h
+        | true ↦ λ _ k. (
+          each_of (λ y. p y ≡ true → Q x y) (λ y. p x ≡ true → p y ≡ true → Q x y) (λ y q _ on. q on) xs (each_passing (Q x) p xs k.0),
+          pairs_among Q p xs k.1,
+        )
+        | false ↦ λ off_ k. (each (λ y. p x ≡ true → p y ≡ true → Q x y) (λ y on _. not_both on off_) xs, pairs_among Q p xs k)
+      ] refl h
 
 -- ---- lists made of lists
 
@@ -108,9 +105,9 @@ module _ {A : Type 0} where
   all_left f [] e = tt
   all_left f (x ∷ xs) e = elim (f x) as (λ b. f x ≡ b → length (cond b (x ∷ filter f xs) (filter f xs)) ≡ suc (length xs) → (f x ≡ true) ×
       Each (λ x. f x ≡ true) xs) [
-    | true ↦ λ is e. (is, all_left f xs (one_down _ _ e))
-    | false ↦ λ _ e. absurd (too_few _ _ (filter_shorter f xs) e)
-  ] refl e
+        | true ↦ λ is e. (is, all_left f xs (one_down _ _ e))
+        | false ↦ λ _ e. absurd (too_few _ _ (filter_shorter f xs) e)
+      ] refl e
 
   module _ (same : A → A → Bool) where
     abbrev Differs : A → A → Type 0
@@ -123,7 +120,7 @@ module _ {A : Type 0} where
         let rest = all_firsts xs (squeezed _ _ _ few (first_shorter same xs) e) in
         let passes = all_left (λ y. not (same x y)) (first_each same xs) (one_down _ _ e ∙ sym (ap length rest.0)) in (
           ap (λ r. x ∷ r) (filter_all (λ y. not (same x y)) (first_each same xs) passes ∙ rest.0),
-          (each_of (λ y. not (same x y) ≡ true) (Differs x) (λ y k. off (same x y) k) xs (subst (Each (λ y. not (same x y) ≡ true)) rest.0 passes), rest.1),
+          (each_of (λ y. not (same x y) ≡ true) (Differs x) (λ y k. is_no (same x y) k) xs (subst (Each (λ y. not (same x y) ≡ true)) rest.0 passes), rest.1),
         )
 
     pub pairs_of_distinct : (xs : List A) → is_distinct same xs ≡ true → Pairs (λ x y. same x y ≡ false) xs
@@ -147,11 +144,14 @@ module _ {X : Type 0} where
     where
       above : (ys : List (ℕ × X)) → T (below_all nat_cmp x.0 ys) → Each (λ y. x.0 ≢ y.0) ys
       above [] k = tt
-      above (y ∷ ys) k = ((λ same. subst T (ap is_lt (ap (nat_cmp x.0) (sym same) ∙ tied_itself numbers_ x.0)) (first (is_lt (nat_cmp x.0 y.0)) _ k)), above ys
-          (second (is_lt (nat_cmp x.0 y.0)) _ k))
+      above (y ∷ ys) k = (
+        (λ same. subst T (ap is_lt (ap (nat_cmp x.0) (sym same) ∙ tied_itself numbers_ x.0)) (first (is_lt (nat_cmp x.0 y.0)) _ k)),
+        above ys
+            (second (is_lt (nat_cmp x.0 y.0)) _ k),
+      )
 
   pub each_at : (P : ℕ × X → Type 0) (es : List (ℕ × X)) (n : ℕ) (v : X) → Each P es → find nat_cmp n es ≡ Some v → P (n, v)
-  each_at P [] n v h is = absurd (no_path is)
+  each_at P [] n v h is = absurd (not_Some _ is)
   each_at P (e ∷ es) n v h is = by (each_at P es n v h.1) (eq_by_cmp nat_cmp n e.0) refl is
     where
       by : (find nat_cmp n es ≡ Some v → P (n, v)) → (b : Bool) → eq_by_cmp nat_cmp n e.0 ≡ b → cond b (Some e.1) (find nat_cmp n es) ≡ Some v → P (n, v)
@@ -161,12 +161,12 @@ module _ {X : Type 0} where
   -- what holds of each two entries, in either order, holds of the rows at two numbers
   pub pairs_at : (Q : ℕ × X → ℕ × X → Type 0) → ((x y : ℕ × X) → Q x y → Q y x) → (es : List (ℕ × X)) → Pairs Q es → (m n : ℕ) (v w : X) →
       find nat_cmp m es ≡ Some v → find nat_cmp n es ≡ Some w → (m ≡ n) ⊎ Q (m, v) (n, w)
-  pairs_at Q turn [] h m n v w a b = absurd (no_path a)
+  pairs_at Q turn [] h m n v w a b = absurd (not_Some _ a)
   pairs_at Q turn (e ∷ es) h m n v w a b = by (pairs_at Q turn es h.1 m n v w) (eq_by_cmp nat_cmp m e.0) refl a (eq_by_cmp nat_cmp n e.0) refl b
     where
       by : (find nat_cmp m es ≡ Some v → find nat_cmp n es ≡ Some w → (m ≡ n) ⊎ Q (m, v) (n, w))
           → (c : Bool) → eq_by_cmp nat_cmp m e.0 ≡ c → cond c (Some e.1) (find nat_cmp m es) ≡ Some v → (d : Bool) → eq_by_cmp nat_cmp n e.0 ≡ d →
-              cond d (Some e.1) (find nat_cmp n es) ≡ Some w → (m ≡ n) ⊎ Q (m, v) (n, w)
+          cond d (Some e.1) (find nat_cmp n es) ≡ Some w → (m ≡ n) ⊎ Q (m, v) (n, w)
       by later true s a true t b = inl (tied one_number m e.0 s ∙ sym (tied one_number n e.0 t))
       by later true s a false t b = inr (subst (λ x. Q x (n, w)) (λ i. (sym (tied one_number m e.0 s) i, same_Some e.1 v a i)) (each_at (Q e) es n w h.0 b))
       by later false s a true t b = inr (turn (n, w) (m, v)

@@ -11,27 +11,23 @@ use Rattle.ns_types.specs.State.Names.{Name, Key, ByNumber, same_name, same_key,
 use Rattle.ns_types.specs.Working.Queue.{queue}
 use Rattle.ns_types.specs.Settling.Releases.{released_classes, woken}
 use Rattle.ns_types.specs.State.Rows.{World, Tenant, PoolRows, is_open, is_blocked, evaluation_at}
-use Rattle.ns_types.specs.Settling.Settle.{
-    pending, unblocked_in, wake, after_release, number_releases, is_touched, changes_evaluation, created_at,
-    stamped_evaluation, stamped, stamp_tenant, stamp, settle
-}
+use Rattle.ns_types.specs.Settling.Settle.{pending, unblocked_in, wake, after_release, number_releases, is_touched, changes_evaluation, created_at}
+use Rattle.ns_types.specs.Settling.Settle.{stamped_evaluation, stamped, stamp_tenant, stamp, settle}
 use Rattle.ns_types.specs.State.Tables.{map_rows}
 use Rattle.ns_types.specs.Validity.{IsSound, IsSoundTenant, IsSoundEvaluation}
 use Rattle.ns_types.proofs.Lists.{not_both}
 use Rattle.ns_types.proofs.Named.{names, one_name, numbers as numbers_, one_number, same_name_is, same_name_refl, first_of_both, second_of_both}
 use Rattle.ns_types.proofs.Tables.{get-map_rows, each_row}
+use Rattle.ns_types.proofs.Tests.{same_Some}
 use Rattle.ns_audit.specs.Orderly.{IsBlockedIn, IsListed, IsOrderly}
-use Rattle.ns_audit.specs.ValidEvaluations.{IsSoundInEvaluations}
-use Rattle.ns_audit.proofs.Alone.Chosen.{same_Some}
+use Rattle.ns_audit.proofs.ValidEvaluations.Statement.{IsSoundInEvaluations}
 use Rattle.ns_audit.proofs.Steady.Keeping.{more, row_of_map}
 use Rattle.ns_audit.proofs.Steady.Workers.{at_tenant}
 use Rattle.ns_audit.proofs.Alone.Owning.{turned_name}
 use Rattle.ns_audit.proofs.Steady.Resting.{woken_of_blocked}
 use Rattle.ns_audit.proofs.ValidEvaluations.Filed.{IsFiledEvaluation, mapped_rows, IsFiledJob, IsFiledTenant, IsFiled, queue_filed}
-use Rattle.ns_audit.proofs.ValidEvaluations.Pairs.{
-    pairs_of, pairs_still, pairs_with, pairs_where, pairs_among, pairs_mapped, pairs_of_mapped, pairs_of_distinct,
-    distinct_of_pairs, pairs_sorted, pairs_at
-}
+use Rattle.ns_audit.proofs.ValidEvaluations.Pairs.{pairs_of, pairs_still, pairs_with, pairs_where, pairs_among, pairs_mapped, pairs_of_mapped}
+use Rattle.ns_audit.proofs.ValidEvaluations.Pairs.{pairs_of_distinct, distinct_of_pairs, pairs_sorted, pairs_at}
 use Rattle.ns_audit.proofs.ValidWorkers.Once.{has_key_still}
 
 -- ---- at most one of a job is blocked
@@ -46,11 +42,11 @@ DiffersInJob x y = is_blocked_row x ≡ true → is_blocked_row y ≡ true → s
 module _ (rows : ByNumber Evaluation) where
   one_of_distinct : is_distinct same_name (map (λ (e : ℕ × Evaluation). e.1.job) (filter is_blocked_row (entries rows))) ≡ true
       → (m n : ℕ) (d e : Evaluation) → get rows m ≡ Some d → get rows n ≡ Some e → is_blocked d.status ≡ true → is_blocked e.status ≡ true → d.job ≡ e.job →
-          m ≡ n
+      m ≡ n
   one_of_distinct distinct m n d e a b p q same = by (pairs_at DiffersInJob (λ x y k on off_. turned_name x.1.job y.1.job (k off_ on)) (entries rows)
       (pairs_among (λ x y. same_name x.1.job y.1.job ≡ false) is_blocked_row (entries rows)
       (pairs_of_mapped (λ (e : ℕ × Evaluation). e.1.job) (λ i j. same_name i j ≡ false) (filter is_blocked_row (entries rows))
-          (pairs_of_distinct same_name _ distinct)))
+      (pairs_of_distinct same_name _ distinct)))
       m n d e (sym (get-entries rows m) ∙ a) (sym (get-entries rows n) ∙ b))
     where
       by : (m ≡ n) ⊎ DiffersInJob (m, d) (n, e) → m ≡ n
@@ -64,9 +60,9 @@ module _ (rows : ByNumber Evaluation) where
       (pairs_mapped (λ (e : ℕ × Evaluation). e.1.job) (λ i j. same_name i j ≡ false) (filter is_blocked_row (entries rows))
       (pairs_where (λ x y. same_name x.1.job y.1.job ≡ false) is_blocked_row (entries rows)
       (pairs_of (λ (x y : ℕ × Evaluation). (get rows x.0 ≡ Some x.1) × (get rows y.0 ≡ Some y.1) × (x.0 ≢ y.0)) DiffersInJob
-          (λ x y k p q. apart x y k p q (same_name x.1.job y.1.job) refl) (entries rows)
+      (λ x y k p q. apart x y k p q (same_name x.1.job y.1.job) refl) (entries rows)
       (pairs_with (λ (x : ℕ × Evaluation). get rows x.0 ≡ Some x.1) (λ x y. x.0 ≢ y.0) (entries rows)
-          (each_row numbers_ one_number (λ n e. get rows n ≡ Some e) rows (λ n e at. at))
+      (each_row numbers_ one_number (λ n e. get rows n ≡ Some e) rows (λ n e at. at))
       (pairs_sorted (entries rows) (entries_sorted rows))))))
     where
       apart : (x y : ℕ × Evaluation) → (get rows x.0 ≡ Some x.1) × (get rows y.0 ≡ Some y.1) × (x.0 ≢ y.0) → is_blocked_row x ≡ true → is_blocked_row y ≡ true →
@@ -114,14 +110,14 @@ sound_filed w s = record { known = λ name has. has; tenant = of_tenant; once = 
     of_tenant : (ns : Name) (t : Tenant) → get w.tenants ns ≡ Some t → IsFiledTenant (pools_in w) (index_in w ns) (λ n. has_key w.blocked (ns, n)) t
     of_tenant ns t is = subst (λ i. IsFiledTenant (pools_in w) i (λ n. has_key w.blocked (ns, n)) t)
         (sym (ap (λ o. option_map_or (λ (t : Tenant). t.index) o 0) is)) (
-      record {
-        row = filed_of w ns t r;
-        in_list = λ n e at blocked. r.blocked_listed n e at ∙ blocked;
-        one = one_of_distinct t.evaluations r.one_blocked;
-      },
-      job_of_sound w ns t r,
-      refl,
-    )
+          record {
+            row = filed_of w ns t r;
+            in_list = λ n e at blocked. r.blocked_listed n e at ∙ blocked;
+            one = one_of_distinct t.evaluations r.one_blocked;
+          },
+          job_of_sound w ns t r,
+          refl,
+        )
       where
         r : IsSoundTenant w ns t
         r = s.tenant ns t is
@@ -310,11 +306,11 @@ module _ (pools : Name → Bool) (listed : ℕ → Bool) (o t : Tenant) (s : IsF
 
   touched_filed : IsFiledTenant pools (stamp_tenant (Some o) t).index listed (stamp_tenant (Some o) t)
   unfolding stamp_tenant
-  touched_filed = elim (is_touched o t) as (λ b. IsFiledTenant pools (cond b (stamped (o.index + 1) o t) t).index listed (cond b (stamped (o.index + 1) o t) t))
-      [
-    | true ↦ stamped_filed
-    | false ↦ subst (λ i. IsFiledTenant pools i listed t) (sym s.2) s
-  ]
+  touched_filed = elim (is_touched o t) as (λ b. IsFiledTenant pools (cond b (stamped (o.index + 1) o t) t).index listed
+      (cond b (stamped (o.index + 1) o t) t)) [
+        | true ↦ stamped_filed
+        | false ↦ subst (λ i. IsFiledTenant pools i listed t) (sym s.2) s
+      ]
 
 stamp_filed : (pools : Name → Bool) (w x : World) →
     ((ns : Name) (t : Tenant) → get w.tenants ns ≡ Some t → (n : ℕ) (e : Evaluation) → get t.evaluations n ≡ Some e → e.create_index ≤ t.index)

@@ -4,7 +4,6 @@ use Rattle.std.proofs.Common.{refl, sym, ap, subst}
 use Rattle.std.specs.Option.{option_map_or}
 use Rattle.ns_types.specs.declared.refusal.Refusal.TheVariants as Refusal
 use Rattle.ns_types.specs.declared.step.Step.{Step}
-use Rattle.ns_types.specs.declared.step.Step.TheVariants as Step
 use Rattle.ns_types.specs.State.Names.{has_key, default_name}
 use Rattle.ns_types.specs.Settling.Outcome.{Outcome, NotEnabled, Refused, Done}
 use Rattle.ns_types.specs.State.Rows.{State, Tenant}
@@ -13,9 +12,9 @@ use Rattle.ns_types.specs.Steps.{Answer, said, act, after, is_allowed, concluded
 use Rattle.ns_types.specs.Validity.{IsValid}
 use Rattle.ns_types.specs.Within.{IsGoodStep}
 use Rattle.ns_types.proofs.Lists.{not_both}
+use Rattle.ns_types.proofs.Tests.{not_Some, same_Some}
 use Rattle.ns_audit.specs.Orderly.{IsOrderly}
-use Rattle.ns_audit.specs.ValidEvaluations.{IsSoundInEvaluations, EvaluationsStep, EvaluationsOpening}
-use Rattle.ns_audit.proofs.Alone.Chosen.{no_path, same_Some}
+use Rattle.ns_audit.proofs.ValidEvaluations.Statement.{IsSoundInEvaluations, EvaluationsStep, EvaluationsOpening}
 use Rattle.ns_audit.proofs.Steady.Opening.{only_row, reached_is_steady}
 use Rattle.ns_audit.proofs.Steady.Admins.{KeepsOrderState}
 use Rattle.ns_audit.proofs.Alone.Owning.{orderly}
@@ -55,7 +54,7 @@ module _ (s : State) (valid : IsValid s) (step : Step) (s' : State) (answer : An
   unchanged = filed_sound (pools_in s.world) s.world (sound_filed s.world valid.world) is_orderly
 
   concluded_sound : (o : Outcome State) → KeepsOrderState o → HoldsAfter s.world o → concluded step s o ≡ said answer s' → IsSoundInEvaluations s'.world
-  concluded_sound NotEnabled h f e = absurd (no_path e)
+  concluded_sound NotEnabled h f e = absurd (not_Some _ e)
   concluded_sound (Refused refusal) h f e = subst (λ (x : State). IsSoundInEvaluations x.world) (ap (λ x. x.1) (same_Some _ _ e)) unchanged
   concluded_sound (Done content x) h f e = by (is_past_bound (settle s.world x.world)) e
     where

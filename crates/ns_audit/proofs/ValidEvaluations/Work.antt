@@ -17,14 +17,12 @@ use Rattle.ns_types.specs.Working.Queue.{is_busy, first_waiting, promote, is_ser
 use Rattle.ns_types.specs.State.Rows.{World, Tenant, is_open}
 use Rattle.ns_types.specs.Working.Snapshot.{snapshot_of}
 use Rattle.ns_types.specs.Validity.{IsSound}
-use Rattle.ns_types.specs.Working.Work.{
-    with_worker, without_worker, without_key, at_work, workers_end, is_idle, new_worker, dequeue_in, dequeue, may_snap,
-    with_snapshot, snap_for, snap, may_submit, submitted, submit_for, submit, is_submitted, most_nacks, with_nack,
-    given_back, given_up, nack_for, nack
-}
+use Rattle.ns_types.specs.Working.Work.{with_worker, without_worker, without_key, at_work, workers_end, is_idle, new_worker, dequeue_in, dequeue, may_snap}
+use Rattle.ns_types.specs.Working.Work.{with_snapshot, snap_for, snap, may_submit, submitted, submit_for, submit, is_submitted, most_nacks, with_nack}
+use Rattle.ns_types.specs.Working.Work.{given_back, given_up, nack_for, nack}
 use Rattle.ns_types.proofs.Lists.{not_both}
 use Rattle.ns_types.proofs.Named.{numbers as numbers_, one_number, same_number_refl}
-use Rattle.ns_audit.proofs.Alone.Chosen.{same_Some}
+use Rattle.ns_types.proofs.Tests.{same_Some}
 use Rattle.ns_audit.proofs.Steady.Keeping.{at_inserted}
 use Rattle.ns_audit.proofs.Outcomes.{Leads, leads_there, leads_if}
 use Rattle.ns_audit.proofs.Alone.Owning.{pending_is}
@@ -36,14 +34,14 @@ use Rattle.ns_audit.proofs.ValidEvaluations.Settle.{index_in, pools_in, sound_fi
 module _ (P : World → Type 0) (w : World) (number : ℕ) (ns : Name) where
   pub holds_at_work : (act : Tenant → Worker → Evaluation → Outcome World)
       → ((t : Tenant) (worker : Worker) (e : Evaluation) → get w.tenants ns ≡ Some t → get t.workers number ≡ Some worker →
-          get t.evaluations worker.evaluation ≡ Some e → Leads P (act t worker e)) → Leads P (at_work number ns w act)
+      get t.evaluations worker.evaluation ≡ Some e → Leads P (act t worker e)) → Leads P (at_work number ns w act)
   holds_at_work act h = leads_there P (get w.tenants ns) _
       (λ t is. leads_there P (get t.workers number) _
       (λ worker at. leads_there P (get t.evaluations worker.evaluation) (act t worker) (λ e row. h t worker e is at row)))
 
   pub holds_keeping : (act : Tenant → Worker → Evaluation → Snapshot → Outcome World)
       → ((t : Tenant) (worker : Worker) (e : Evaluation) (kept : Snapshot) → get w.tenants ns ≡ Some t → get t.workers number ≡ Some worker →
-          get t.evaluations worker.evaluation ≡ Some e → worker.kept ≡ Some kept → Leads P (act t worker e kept))
+      get t.evaluations worker.evaluation ≡ Some e → worker.kept ≡ Some kept → Leads P (act t worker e kept))
       → Leads P (at_work number ns w (λ t worker e. option_map_or (act t worker e) worker.kept NotEnabled))
   holds_keeping act h = holds_at_work (λ t worker e. option_map_or (act t worker e) worker.kept NotEnabled)
       (λ t worker e is at row. leads_there P worker.kept (act t worker e) (λ kept has. h t worker e kept is at row has))
@@ -94,14 +92,14 @@ module _ (w : World) (s : IsSound w) where
       (option_map_or (dequeue_in number key w) (get w.tenants key.0) NotEnabled) NotEnabled (λ _.
       leads_there _ (get w.tenants key.0) (dequeue_in number key w) (λ t is. leads_there _ (get t.evaluations key.1) _ (λ e _.
       lists_filed (pools_in w) (index_in w) (put_tenant key.0 (with_worker number (new_worker key.1 e) t) w) (without_key key w.ready) w.plans
-          (with_worker_filed key.0 t is number (new_worker key.1 e))))) (λ _. tt)
+      (with_worker_filed key.0 t is number (new_worker key.1 e))))) (λ _. tt)
 
   pub snap_filed : (number : ℕ) (ns : Name) → Keeps (snap number ns w)
   unfolding snap
   snap_filed number ns = holds_at_work _ w number ns (snap_for number ns w) (λ t worker e is _ _.
       leads_if _ (may_snap worker.tries worker.phase)
-          (Done (Content.Snapped worker.evaluation) (put_tenant ns (with_worker number (with_snapshot (snapshot_of w ns t worker.evaluation e) worker) t) w))
-          NotEnabled
+      (Done (Content.Snapped worker.evaluation) (put_tenant ns (with_worker number (with_snapshot (snapshot_of w ns t worker.evaluation e) worker) t) w))
+      NotEnabled
       (λ _. with_worker_filed ns t is number (with_snapshot (snapshot_of w ns t worker.evaluation e) worker)) (λ _. tt))
 
   pub submit_filed : (number : ℕ) (ns : Name) → Keeps (submit number ns w)
@@ -109,7 +107,7 @@ module _ (w : World) (s : IsSound w) where
   submit_filed number ns = holds_keeping _ w number ns (λ t worker e. submit_for number ns w t worker) (λ t worker e kept is _ _ _.
       leads_if _ (may_submit worker kept) (Done (Content.Queued worker.evaluation) (submitted number ns w t worker)) NotEnabled
       (λ _. lists_filed (pools_in w) (index_in w) (put_tenant ns (with_worker number (record worker { phase = Phase.Submitted }) t) w) w.ready
-          (w.plans ++ (ns, worker.evaluation) ∷ []) (with_worker_filed ns t is number (record worker { phase = Phase.Submitted }))) (λ _. tt))
+      (w.plans ++ (ns, worker.evaluation) ∷ []) (with_worker_filed ns t is number (record worker { phase = Phase.Submitted }))) (λ _. tt))
 
 -- ---- Nack
 
@@ -172,27 +170,30 @@ module _ (w : World) (s : IsSound w) (ns : Name) (number : ℕ) (t : Tenant) (wo
       (insert t.evaluations worker.evaluation (record e { nacks = e.nacks + 1; status = Status.Failed }))
   failed_rows = put_rows (pools_in w) t.evaluation_number (index_in w ns) listed t.evaluations its.0 worker.evaluation
       (record e { nacks = e.nacks + 1; status = Status.Failed }) (record {
-    named = row.named;
-    priority = row.priority;
-    exists = λ open_. not_both open_ refl;
-    previous = row.previous;
-    follower = row.follower;
-    given_back = no_more e.nacks few;
-    few_nacks = λ open_. not_both open_ refl;
-    created = row.created;
-    modified = row.modified;
-  }) (λ blocked. not_both blocked refl)
+        named = row.named;
+        priority = row.priority;
+        exists = λ open_. not_both open_ refl;
+        previous = row.previous;
+        follower = row.follower;
+        given_back = no_more e.nacks few;
+        few_nacks = λ open_. not_both open_ refl;
+        created = row.created;
+        modified = row.modified;
+      }) (λ blocked. not_both blocked refl)
 
   up_filed : Leads (IsFiled (pools_in w) (index_in w)) (given_up number ns w (with_nack worker.evaluation e t) worker e)
   up_filed = promote_filed (pools_in w) (index_in w) ns e.job
       (put_tenant ns (with_status worker.evaluation Status.Failed (without_worker number (with_nack worker.evaluation e t))) w)
-      (put_filed (pools_in w) (index_in w) ns _ w (sound_filed w s) (subst (IsFiledTenant (pools_in w) (index_in w ns) listed) (sym is_failed)
-      (subst (IsFiledRows (pools_in w) t.evaluation_number (index_in w ns) listed)
-          (sym (insert_twice t.evaluations worker.evaluation nacked (record nacked { status = Status.Failed }))) failed_rows, its.1, its.2)))
+      (put_filed (pools_in w) (index_in w) ns _ w (sound_filed w s) (subst (IsFiledTenant (pools_in w) (index_in w ns) listed) (sym is_failed) (
+        subst (IsFiledRows (pools_in w) t.evaluation_number (index_in w ns) listed)
+            (sym (insert_twice t.evaluations worker.evaluation nacked (record nacked { status = Status.Failed }))) failed_rows,
+        its.1,
+        its.2,
+      )))
     where
       is_failed : with_status worker.evaluation Status.Failed (without_worker number (with_nack worker.evaluation e t))
           ≡ record (without_worker number (with_nack worker.evaluation e t))
-              { evaluations = insert (insert t.evaluations worker.evaluation nacked) worker.evaluation (record nacked { status = Status.Failed }) }
+          { evaluations = insert (insert t.evaluations worker.evaluation nacked) worker.evaluation (record nacked { status = Status.Failed }) }
       is_failed = ap (λ o. option_map_or (λ e. record (without_worker number (with_nack worker.evaluation e t))
           { evaluations = insert (insert t.evaluations worker.evaluation nacked) worker.evaluation (record e { status = Status.Failed }) }) o
           (without_worker number (with_nack worker.evaluation e t)))
@@ -203,5 +204,5 @@ unfolding nack
 nack_filed w s number ns = holds_at_work _ w number ns (nack_for number ns w) (λ t worker e is has at.
     leads_if _ (is_submitted worker.phase) NotEnabled _ (λ _. tt) (λ _.
     leads_if _ (nat_le most_nacks (e.nacks + 1)) (given_up number ns w (with_nack worker.evaluation e t) worker e)
-        (given_back number ns w (with_nack worker.evaluation e t) worker)
+    (given_back number ns w (with_nack worker.evaluation e t) worker)
     (λ _. up_filed w s ns number t worker e is has at) (λ more. back_filed w s ns number t worker e is has at more)))

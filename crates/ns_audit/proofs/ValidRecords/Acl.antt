@@ -17,10 +17,9 @@ use Rattle.ns_types.specs.Validity.{IsSoundAcl}
 use Rattle.ns_types.proofs.Lists.{left_none, right_none}
 use Rattle.ns_types.proofs.Named.{names, one_name}
 use Rattle.ns_types.proofs.Tables.{none_of_any}
-use Rattle.ns_audit.proofs.Every.{row_of_insert}
+use Rattle.ns_types.proofs.TableRows.{row_of_insert, row_of_remove}
 use Rattle.ns_audit.proofs.Outcomes.{Leads, leads_unless, leads_found}
 use Rattle.ns_audit.proofs.Alone.Owning.{turned_name}
-use Rattle.ns_audit.proofs.Steady.Asks.{row_of_remove}
 use Rattle.ns_audit.proofs.ValidRecords.Tables.{len_removed, len_room}
 use Rattle.ns_audit.proofs.ValidRecords.Distinct.{distinct_inserted, distinct_removed}
 
@@ -55,15 +54,15 @@ module _ (acl : Acl) (s : IsSoundAcl acl) where
   pub token_created : (new : NewToken) → (is_name NameKind.Secret new.secret && is_good_token (token_of new)) ≡ true → Leads IsSoundAcl (create_token new acl)
   token_created new good = leads_unless IsSoundAcl (contains_key acl.tokens new.secret || has_accessor acl new.accessor) _ _
       (λ fresh. leads_unless IsSoundAcl (nat_le most_rows (len acl.tokens)) _ _ (λ room. record {
-    few_policies = s.few_policies;
-    few_tokens = len_room acl.tokens new.secret (token_of new) most_rows s.few_tokens
-        (ap (λ b. not b && nat_le most_rows (len acl.tokens)) (left_none _ _ fresh) ∙ room);
-    policy = s.policy;
-    token = λ k x at. by k x (row_of_insert names one_name acl.tokens new.secret (token_of new) k x at);
-    accessors = distinct_inserted names one_name same_name (λ (x : Token). x.accessor) acl.tokens new.secret (token_of new)
-        (λ k x at. let other = none_of_any one_name (λ _ token. same_name new.accessor token.accessor) acl.tokens k x
+        few_policies = s.few_policies;
+        few_tokens = len_room acl.tokens new.secret (token_of new) most_rows s.few_tokens
+            (ap (λ b. not b && nat_le most_rows (len acl.tokens)) (left_none _ _ fresh) ∙ room);
+        policy = s.policy;
+        token = λ k x at. by k x (row_of_insert names one_name acl.tokens new.secret (token_of new) k x at);
+        accessors = distinct_inserted names one_name same_name (λ (x : Token). x.accessor) acl.tokens new.secret (token_of new)
+            (λ k x at. let other = none_of_any one_name (λ _ token. same_name new.accessor token.accessor) acl.tokens k x
             (right_none (contains_key acl.tokens new.secret) _ fresh) at in (other, turned_name new.accessor x.accessor other)) s.accessors;
-  }))
+      }))
     where
       by : (k : Name) (x : Token) → ((k ≡ new.secret) × (token_of new ≡ x)) ⊎ (get acl.tokens k ≡ Some x) →
           (is_name NameKind.Secret k && is_good_token x) ≡ true

@@ -11,11 +11,8 @@ use Rattle.ns_types.specs.declared.node.Node.{Node}
 use Rattle.ns_types.specs.declared.records.Namespace.{Namespace}
 use Rattle.ns_types.specs.declared.records.Pool.{Pool}
 use Rattle.ns_types.specs.declared.records.Quota.{Quota}
-use Rattle.ns_types.specs.Asking.Admins.{
-    most_rows, is_full, looks_to_pool, new_tenant, with_namespace, lacks_quota, lacks_pool, lacks_allowed,
-    put_namespace, delete_namespace, with_quota, put_quota, delete_quota, with_pool, put_pool_record, names_pool,
-    delete_pool
-}
+use Rattle.ns_types.specs.Asking.Admins.{most_rows, is_full, looks_to_pool, new_tenant, with_namespace, lacks_quota, lacks_pool, lacks_allowed, put_namespace}
+use Rattle.ns_types.specs.Asking.Admins.{delete_namespace, with_quota, put_quota, delete_quota, with_pool, put_pool_record, names_pool, delete_pool}
 use Rattle.ns_types.specs.Asking.Asks.{most_jobs}
 use Rattle.ns_types.specs.Asking.Nodes.{most_nodes}
 use Rattle.ns_types.specs.State.Limits.{is_text, is_pool_name, is_good_namespace, is_good_quota}
@@ -29,12 +26,11 @@ use Rattle.ns_types.specs.Validity.{IsSoundQuota}
 use Rattle.ns_types.proofs.Lists.{left_none, right_none}
 use Rattle.ns_types.proofs.Named.{names, one_name, first_of_both, second_of_both}
 use Rattle.ns_types.proofs.Tables.{none_of_any}
-use Rattle.ns_audit.specs.Records.{IsGoodPool}
-use Rattle.ns_audit.proofs.Alone.Chosen.{no_path}
-use Rattle.ns_audit.proofs.Every.{row_of_insert, on}
+use Rattle.ns_types.proofs.Tests.{not_Some, is_yes}
+use Rattle.ns_types.proofs.TableRows.{row_of_insert, row_of_remove}
+use Rattle.ns_audit.proofs.ValidRecords.Statement.{IsGoodPool}
 use Rattle.ns_audit.proofs.Outcomes.{Leads, leads_unless, leads_found}
 use Rattle.ns_audit.proofs.ValidRecords.Sound.{kept_of, Names, IsFoundRecord, IsGoodKept, IsRecorded, IsNearKept, IsNear, near_first}
-use Rattle.ns_audit.proofs.Steady.Asks.{row_of_remove}
 use Rattle.ns_audit.proofs.ValidRecords.Tables.{list_all_of, len_removed, len_room, still_there, there_but, values_pass, by_class, one_class}
 
 -- what holds of each of a list, but of those that are gone, which it does not name
@@ -51,8 +47,8 @@ new_pool_good name pool named described = record {
   named = named;
   described = described;
   few_nodes = subst (λ n. n ≤ most_nodes) (sym (len-empty name_cmp Node)) (omega arith);
-  node = λ n node has. absurd (no_path (sym (get-empty name_cmp n) ∙ has));
-  classes = values_pass by_class one_class (λ r. nat_le r 0) empty (λ c r has. absurd (no_path (sym (get-empty class_cmp c) ∙ has)));
+  node = λ n node has. absurd (not_Some _ (sym (get-empty name_cmp n) ∙ has));
+  classes = values_pass by_class one_class (λ r. nat_le r 0) empty (λ c r has. absurd (not_Some _ (sym (get-empty class_cmp c) ∙ has)));
 }
 
 pub new_tenant_good : (pools quotas : Names) (ns : Name) (namespace : Namespace) → is_name NameKind.Namespace ns ≡ true → IsFoundRecord pools quotas namespace →
@@ -61,7 +57,7 @@ new_tenant_good pools quotas ns namespace named f = record {
   named = named;
   namespace = f;
   few_jobs = subst (λ n. n ≤ most_jobs) (sym (len-empty name_cmp Job)) (omega arith);
-  job = λ id j at. absurd (no_path (sym (get-empty name_cmp id) ∙ at));
+  job = λ id j at. absurd (not_Some _ (sym (get-empty name_cmp id) ∙ at));
   few_events = omega arith;
   events_below = refl;
 }
@@ -74,7 +70,7 @@ module _ (w : World) (s : IsRecorded w) where
       → ((ns : Name) (t : Tenant) → get w.tenants ns ≡ Some t → IsFoundRecord (contains_key pools) (contains_key quotas) t.namespace)
       → ((ns : Name) (t : Tenant) (id : Name) (j : Job) → get w.tenants ns ≡ Some t → get t.jobs id ≡ Some j → contains_key pools j.document.pool ≡ true)
       → ((name : Name) (p : PoolRows) → get pools name ≡ Some p → IsGoodPool name p) →
-          ((name : Name) (q : QuotaRows) → get quotas name ≡ Some q → IsSoundQuota name q)
+      ((name : Name) (q : QuotaRows) → get quotas name ≡ Some q → IsSoundQuota name q)
       → IsNear w (record w { pools = pools; quotas = quotas })
   tables_near pools quotas few_pools few_quotas found there pool quota = record {
     few_tenants = s.few_tenants;
@@ -127,7 +123,7 @@ module _ (w : World) (s : IsRecorded w) where
   pool_deleted name = leads_found (IsNear w) (get w.pools name) _ (λ p _. leads_unless (IsNear w) _ _ _ (λ _. leads_unless (IsNear w) _ _ _ (λ idle.
       tables_near (remove w.pools name) w.quotas (le_trans (len_removed w.pools name) s.few_pools) s.few_quotas
       (λ ns t is. found ns t is (unnamed (right_none _ _ idle) ns t is))
-          (λ ns t id j is at. there_but w.pools name j.document.pool (unlooked (right_none _ _ idle) ns t is id j at) ((s.tenant ns t is).job id j at).exists)
+      (λ ns t id j is at. there_but w.pools name j.document.pool (unlooked (right_none _ _ idle) ns t is id j at) ((s.tenant ns t is).job id j at).exists)
       (λ k p at. s.pool k p (row_of_remove w.pools name k p at)) s.quota)))
     where
       named_by : Name → Tenant → Bool
@@ -140,7 +136,7 @@ module _ (w : World) (s : IsRecorded w) where
           same_name name j.document.pool ≡ false
       unlooked idle ns t is id j at = none_of_any one_name (λ _ job. same_name name job.document.pool) t.jobs id j
           (left_none _ _ (left_none _ _ (right_none (names_pool name t.namespace) (looks_to_pool (same_name name) t)
-              (none_of_any one_name named_by w.tenants ns t idle is)))) at
+          (none_of_any one_name named_by w.tenants ns t idle is)))) at
 
       found : (ns : Name) (t : Tenant) → get w.tenants ns ≡ Some t → names_pool name t.namespace ≡ false →
           IsFoundRecord (contains_key (remove w.pools name)) (contains_key w.quotas) t.namespace
@@ -149,7 +145,7 @@ module _ (w : World) (s : IsRecorded w) where
         default = there_but w.pools name t.namespace.default_pool (left_none _ _ none) f.default;
         allowed = λ listed e. all_but (same_name name) (contains_key w.pools) (contains_key (remove w.pools name)) (there_but w.pools name) listed
             (unlisted listed (sym (ap (λ o. option_map_or (λ allowed. has_name allowed name) o false) e) ∙
-                right_none (same_name name t.namespace.default_pool) _ none)) (f.allowed listed e);
+            right_none (same_name name t.namespace.default_pool) _ none)) (f.allowed listed e);
         quota = f.quota;
       }
         where
@@ -161,7 +157,7 @@ module _ (w : World) (s : IsRecorded w) where
   quota_put name quota named good = leads_unless (IsNear w) (is_full w.quotas name) _ _ (λ room.
       tables_near w.pools (insert w.quotas name new) s.few_pools (len_room w.quotas name new most_rows s.few_quotas room)
       (λ ns t is. let f = (s.tenant ns t is).namespace in
-          record { good = f.good; default = f.default; allowed = f.allowed; quota = λ q e. still_there w.quotas name new q (f.quota q e) })
+      record { good = f.good; default = f.default; allowed = f.allowed; quota = λ q e. still_there w.quotas name new q (f.quota q e) })
       (λ ns t id j is at. ((s.tenant ns t is).job id j at).exists) s.pool (λ k q at. by k q (row_of_insert names one_name w.quotas name new k q at)))
     where
       new : QuotaRows
@@ -176,7 +172,7 @@ module _ (w : World) (s : IsRecorded w) where
   quota_deleted name = leads_found (IsNear w) (get w.quotas name) _ (λ q _. leads_unless (IsNear w) _ _ _ (λ idle.
       tables_near w.pools (remove w.quotas name) s.few_pools (le_trans (len_removed w.quotas name) s.few_quotas)
       (λ ns t is. let f = (s.tenant ns t is).namespace in
-          record { good = f.good; default = f.default; allowed = f.allowed; quota = λ q e. there_but w.quotas name q (other ns t is idle q e) (f.quota q e) })
+      record { good = f.good; default = f.default; allowed = f.allowed; quota = λ q e. there_but w.quotas name q (other ns t is idle q e) (f.quota q e) })
       (λ ns t id j is at. ((s.tenant ns t is).job id j at).exists) s.pool (λ k q at. s.quota k q (row_of_remove w.quotas name k q at))))
     where
       other : (ns : Name) (t : Tenant) → get w.tenants ns ≡ Some t → any_row (λ _ t. names_quota name t.namespace) w.tenants ≡ false → (q : Name) →
@@ -191,8 +187,8 @@ module _ (w : World) (s : IsRecorded w) where
   unfolding put_namespace
   namespace_put name namespace named good =
       leads_unless (IsNear w) (lacks_quota w namespace) _ _
-          (λ quota. leads_unless (IsNear w) (lacks_pool w namespace.default_pool) _ _
-          (λ default. leads_unless (IsNear w) (lacks_allowed w namespace) _ _ (λ allowed.
+      (λ quota. leads_unless (IsNear w) (lacks_pool w namespace.default_pool) _ _
+      (λ default. leads_unless (IsNear w) (lacks_allowed w namespace) _ _ (λ allowed.
       leads_unless (IsNear w) _ _ _ (λ _. leads_unless (IsNear w) (is_full w.tenants name) _ _ (λ room. whole room (found quota default allowed))))))
     where
       new : Tenant
@@ -202,23 +198,30 @@ module _ (w : World) (s : IsRecorded w) where
           IsFoundRecord (contains_key w.pools) (contains_key w.quotas) namespace
       found quota default allowed = record {
         good = good;
-        default = on _ default;
-        allowed = λ listed e. on (list_all (contains_key w.pools) listed)
+        default = is_yes _ default;
+        allowed = λ listed e. is_yes (list_all (contains_key w.pools) listed)
             (sym (ap (λ o. option_map_or (λ allowed. not (list_all (contains_key w.pools) allowed)) o false) e) ∙ allowed);
-        quota = λ q e. on (contains_key w.quotas q) (sym (ap (λ o. option_map_or (λ q. not (contains_key w.quotas q)) o false) e) ∙ quota);
+        quota = λ q e. is_yes (contains_key w.quotas q) (sym (ap (λ o. option_map_or (λ q. not (contains_key w.quotas q)) o false) e) ∙ quota);
       }
 
       made : IsFoundRecord (contains_key w.pools) (contains_key w.quotas) namespace → (o : Option Tenant) → get w.tenants name ≡ o →
           IsNearKept (contains_key w.pools) (contains_key w.quotas) o name (kept_of (with_namespace namespace o))
       made f None is = record {
-        same_index = λ o e. absurd (no_path e);
+        same_index = λ o e. absurd (not_Some _ e);
         good = new_tenant_good (contains_key w.pools) (contains_key w.quotas) name namespace named f;
       }
       made f (Some t) is =
           let k = subst (λ o. IsNearKept (contains_key w.pools) (contains_key w.quotas) o name (kept_of t)) is ((near_first w s).tenant name t is) in record {
             same_index = k.same_index;
-            good = record { named = named; namespace = f; few_jobs = k.good.few_jobs; job = k.good.job; few_events = k.good.few_events; events_below =
-                k.good.events_below };
+            good = record {
+              named = named;
+              namespace = f;
+              few_jobs = k.good.few_jobs;
+              job = k.good.job;
+              few_events = k.good.few_events;
+              events_below =
+                  k.good.events_below;
+            };
           }
 
       whole : is_full w.tenants name ≡ false → IsFoundRecord (contains_key w.pools) (contains_key w.quotas) namespace → IsNear w (put_tenant name new w)
@@ -235,7 +238,7 @@ module _ (w : World) (s : IsRecorded w) where
               IsNearKept (contains_key w.pools) (contains_key w.quotas) (get w.tenants k) k (kept_of x)
           by k x (inl e) = subst (λ x. IsNearKept (contains_key w.pools) (contains_key w.quotas) (get w.tenants k) k (kept_of x)) e.1
               (subst (λ k. IsNearKept (contains_key w.pools) (contains_key w.quotas) (get w.tenants k) k (kept_of new)) (sym e.0)
-                  (made f (get w.tenants name) refl))
+              (made f (get w.tenants name) refl))
           by k x (inr at) = (near_first w s).tenant k x at
 
   pub namespace_deleted : (name : Name) → Leads (IsNear w) (delete_namespace name w)

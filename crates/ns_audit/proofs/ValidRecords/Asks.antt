@@ -1,5 +1,5 @@
 -- What is asked in a namespace keeps records sound.
-use Rattle.std.specs.Prelude.{◌≡◌, ℕ, ◌+◌, ◌≤◌, Bool, true, false, cond, not, Option, Some, None, ◌&&◌, IsTrue, nat_le, unwrap_or}
+use Rattle.std.specs.Prelude.{◌≡◌, ℕ, ◌+◌, ◌≤◌, Bool, true, false, cond, not, Option, Some, None, ◌&&◌, IsTrue, unwrap_or}
 use Rattle.std.proofs.Common.{◌⊎◌, inl, inr, refl, sym, ap, subst, arith}
 use Rattle.std.proofs.Math.Nat.{le_trans}
 use Rattle.std.specs.FinMap.{get, contains_key, insert, remove, len}
@@ -13,11 +13,8 @@ use Rattle.ns_types.specs.declared.records.Namespace.{Namespace}
 use Rattle.ns_types.specs.declared.refusal.Refusal.TheVariants as Refusal
 use Rattle.ns_types.specs.declared.reply.Content.TheVariants as Content
 use Rattle.ns_types.specs.declared.step.AskCommand.{AskCommand}
-use Rattle.ns_types.specs.declared.step.AskCommand.TheVariants as AskCommand
-use Rattle.ns_types.specs.Asking.Asks.{
-    most_jobs, pool_of, document_of, registered_job, registered_with, register, stopped_job, deregistered,
-    deregister_job, asked_in, ask
-}
+use Rattle.ns_types.specs.Asking.Asks.{first_refusal, has_no_room, most_jobs, pool_of, document_of, registered_job, registered_with, register, stopped_job}
+use Rattle.ns_types.specs.Asking.Asks.{deregistered, deregister_job, asked_in, ask}
 use Rattle.ns_types.specs.State.Limits.{is_between, is_good_document, is_good_namespace, is_good_registration, is_pool_name, is_text}
 use Rattle.ns_types.specs.Settling.Making.{with_job, with_desired, evaluation_of, evaluation_for}
 use Rattle.ns_types.specs.State.Name.{is_name}
@@ -29,11 +26,11 @@ use Rattle.ns_types.specs.State.Sums.{names_quota, quota_use}
 use Rattle.ns_types.specs.Within.{is_good_ask}
 use Rattle.ns_types.proofs.Lists.{not_both}
 use Rattle.ns_types.proofs.Named.{names, one_name, first_of_both, second_of_both}
-use Rattle.ns_audit.proofs.Alone.Chosen.{same_Some}
-use Rattle.ns_audit.proofs.Every.{row_of_insert, on}
+use Rattle.ns_types.proofs.Registrations.{accepted}
+use Rattle.ns_types.proofs.Tests.{same_Some}
+use Rattle.ns_types.proofs.TableRows.{row_of_insert, row_of_remove}
 use Rattle.ns_audit.proofs.Steady.Keeping.{more}
-use Rattle.ns_audit.proofs.Steady.Asks.{row_of_remove}
-use Rattle.ns_audit.proofs.Outcomes.{Leads, leads_unless, leads_found, leads_if}
+use Rattle.ns_audit.proofs.Outcomes.{Leads, leads_unless, leads_refused, leads_found, leads_if}
 use Rattle.ns_audit.proofs.ValidRecords.Tables.{len_put, len_removed, len_room}
 use Rattle.ns_audit.proofs.ValidRecords.Sound.{Kept, kept_of, IsGoodJob, IsGoodKept, IsRecorded, IsNearKept, IsNear, near_first}
 use Rattle.ns_audit.proofs.ValidRecords.Frames.{kept_desired, near_make_in}
@@ -72,17 +69,32 @@ module _ (w : World) (s : IsRecorded w) (ns : Name) (t : Tenant) (is : get w.ten
   GoodHere id j = IsGoodJob (contains_key w.pools) (t.index + 1) id j
 
   before : (id : Name) (j : Job) → get t.jobs id ≡ Some j → GoodHere id j
-  before id j at = let g = its.job id j at in record { named = g.named; good = g.good; exists = g.exists; created = more _ _ g.created; modified =
-      more _ _ g.modified; versions = more _ _ g.versions }
+  before id j at = let g = its.job id j at in record {
+    named = g.named;
+    good = g.good;
+    exists = g.exists;
+    created = more _ _ g.created;
+    modified =
+        more _ _ g.modified;
+    versions = more _ _ g.versions;
+  }
 
   -- with other jobs
   jobs_near : (jobs : ByName Job) → len jobs ≤ most_jobs → ((id : Name) (j : Job) → get jobs id ≡ Some j → GoodHere id j) →
       NearHere (record { namespace = t.namespace; index = t.index; jobs = jobs; events = t.events })
   jobs_near jobs few good = subst (λ o. IsNearKept (contains_key w.pools) (contains_key w.quotas) o ns
       (record { namespace = t.namespace; index = t.index; jobs = jobs; events = t.events })) (sym is) (record {
-    good = record { named = its.named; namespace = its.namespace; few_jobs = few; job = good; few_events = its.few_events; events_below = its.events_below };
-    same_index = λ o e. ap (λ (t : Tenant). t.index) (same_Some _ _ e);
-  })
+        good = record {
+          named = its.named;
+          namespace = its.namespace;
+          few_jobs = few;
+          job = good;
+          few_events = its.few_events;
+          events_below =
+              its.events_below;
+        };
+        same_index = λ o e. ap (λ (t : Tenant). t.index) (same_Some _ _ e);
+      })
 
   with_job_near : (id : Name) (job : Job) → len (insert t.jobs id job) ≤ most_jobs → GoodHere id job → NearHere (kept_of (with_job id job t))
   with_job_near id job few good = jobs_near (insert t.jobs id job) few (λ k j at. by k j (row_of_insert names one_name t.jobs id job k j at))
@@ -121,14 +133,34 @@ module _ (w : World) (s : IsRecorded w) (ns : Name) (t : Tenant) (is : get w.ten
 
   registered_good : (r : Registration) → is_good_registration r ≡ true → contains_key w.pools (pool_of t r) ≡ true → (o : Option Job) → get t.jobs r.id ≡ o →
       GoodHere r.id (registered_job (t.index + 1) (document_of t r) o)
-  registered_good r e there None at = record { named = id_named r e; good = document_good r e; exists = there; created = next_one; modified =
-      next_one; versions = omega arith }
+  registered_good r e there None at = record {
+    named = id_named r e;
+    good = document_good r e;
+    exists = there;
+    created = next_one;
+    modified =
+        next_one;
+    versions = omega arith;
+  }
   registered_good r e there (Some j) at = elim (same_document (document_of t r) j.document && not j.stop) as
-      (λ b. GoodHere r.id (cond b j (record { document = document_of t r; stop = false; version = j.version + 1; create_index = j.create_index; modify_index =
-          t.index + 1 }))) [
+      (λ b. GoodHere r.id (cond b j (record {
+        document = document_of t r;
+        stop = false;
+        version = j.version + 1;
+        create_index = j.create_index;
+        modify_index =
+            t.index + 1;
+      }))) [
         | true ↦ before r.id j at
-        | false ↦ let g = its.job r.id j at in record { named = g.named; good = document_good r e; exists = there; created = more _ _ g.created; modified =
-            next_one; versions = up _ _ g.versions }
+        | false ↦ let g = its.job r.id j at in record {
+          named = g.named;
+          good = document_good r e;
+          exists = there;
+          created = more _ _ g.created;
+          modified =
+              next_one;
+          versions = up _ _ g.versions;
+        }
       ]
     where
       up : (a b : ℕ) → a ≤ b → a + 1 ≤ b + 1
@@ -138,11 +170,10 @@ module _ (w : World) (s : IsRecorded w) (ns : Name) (t : Tenant) (is : get w.ten
   near_world = near_first w s
 
   registration_near : (r : Registration) → is_good_registration r ≡ true → Leads (IsNear w) (register ns r w t)
-  registration_near r good = leads_unless (IsNear w) _ Refusal.PoolNotPermitted _
-      (λ _. leads_unless (IsNear w) _ _ _ (λ there. leads_unless (IsNear w) _ _ _ (λ _. leads_unless (IsNear w) _ _ _ (λ room.
-      by (registered_job (t.index + 1) (document_of t r) (get t.jobs r.id)) room (registered_good r good (on _ there) (get t.jobs r.id) refl)))))
+  registration_near r good = leads_refused (IsNear w) (first_refusal w t r) _ (λ none. let it = accepted w t r none in
+      by (registered_job (t.index + 1) (document_of t r) (get t.jobs r.id)) it.room (registered_good r good it.pool (get t.jobs r.id) refl))
     where
-      by : (job : Job) → (not (contains_key t.jobs r.id) && nat_le most_jobs (len t.jobs)) ≡ false → GoodHere r.id job →
+      by : (job : Job) → has_no_room r t ≡ false → GoodHere r.id job →
           Leads (IsNear w) (registered_with ns r w t job)
       by job room g = near_make_in w w near_world ns (evaluation_of r.id job.document Trigger.JobRegister) t (with_job r.id job t) is
           (with_job_near r.id job (len_room t.jobs r.id job most_jobs its.few_jobs room) g)
@@ -154,8 +185,15 @@ module _ (w : World) (s : IsRecorded w) (ns : Name) (t : Tenant) (is : get w.ten
       (subst (λ n. n ≤ most_jobs) (sym (len_put t.jobs id (stopped_job (t.index + 1) job) job at)) its.few_jobs)
       (elim job.stop as (λ b. GoodHere id (cond b job (record job { stop = true; modify_index = t.index + 1 }))) [
         | true ↦ before id job at
-        | false ↦ let g = before id job at in record { named = g.named; good = g.good; exists = g.exists; created = g.created; modified = next_one; versions =
-            g.versions }
+        | false ↦ let g = before id job at in record {
+          named = g.named;
+          good = g.good;
+          exists = g.exists;
+          created = g.created;
+          modified = next_one;
+          versions =
+              g.versions;
+        }
       ])
 
   asked_near : (command : AskCommand) → IsTrue (is_good_ask command) → Leads (IsNear w) (asked_in ns command w t)
@@ -164,7 +202,7 @@ module _ (w : World) (s : IsRecorded w) (ns : Name) (t : Tenant) (is : get w.ten
   asked_near (AskCommand.ReadJob id) good = leads_found (IsNear w) (get t.jobs id) _ (λ job _. near_world)
   asked_near (AskCommand.Deregister id purge) good = leads_found (IsNear w) (get t.jobs id) (deregister_job ns id purge w t) (λ job at.
       near_make_in w w near_world ns (evaluation_of id job.document Trigger.JobDeregister) t (deregistered purge id job t) is
-          (deregistered_near purge id job at))
+      (deregistered_near purge id job at))
   asked_near (AskCommand.JobAllocations id) good = near_world
   asked_near (AskCommand.JobEvaluations id) good = near_world
   asked_near (AskCommand.ListEvaluations prefix) good = near_world
@@ -174,7 +212,7 @@ module _ (w : World) (s : IsRecorded w) (ns : Name) (t : Tenant) (is : get w.ten
   asked_near (AskCommand.StopAllocation n) good =
       leads_found (IsNear w) (get t.allocations n) _ (λ a at. leads_unless (IsNear w) (not (is_live a)) Refusal.Conflict _ (λ _.
       near_make_in w w near_world ns (evaluation_for t a Trigger.AllocStop) t (with_desired n DesiredStatus.Stop t) is
-          (subst NearHere (sym (kept_desired n DesiredStatus.Stop t)) same_here)))
+      (subst NearHere (sym (kept_desired n DesiredStatus.Stop t)) same_here)))
   asked_near AskCommand.ReadNamespace good = near_world
   asked_near (AskCommand.QuotaUsage quota) good = leads_if (IsNear w) (names_quota quota t.namespace) (Done (Content.Usage quota (quota_use w quota)) w)
       (Refused Refusal.NotFound) (λ _. near_world) (λ _. tt)

@@ -31,12 +31,12 @@ module _ {K X : Type 0} (R : K → K → Ordering) (same : X → X → Bool) (k 
   pub apart_put : (es : List (K × X)) → Each (λ e. (same v e.1 ≡ false) × (same e.1 v ≡ false)) es → Apart (λ (a b : K × X). same a.1 b.1) es →
       Apart (λ (a b : K × X). same a.1 b.1) (put R k v es)
   apart_put [] other h = (tt, tt)
-  apart_put (e ∷ es) other h = elim (R k e.0) as (λ r. Apart (λ (a b : K × X). same a.1 b.1) (by_order r ((k, v) ∷ e ∷ es) ((e.0, v) ∷ es) (e ∷ put R k v es)))
-      [
-    | Less ↦ (unlike (e ∷ es) other, h)
-    | Equal ↦ (unlike es other.1, h.1)
-    | Greater ↦ (each_put (λ x. same e.1 x ≡ false) es other.0.1 h.0, apart_put es other.1 h.1)
-  ]
+  apart_put (e ∷ es) other h = elim (R k e.0) as
+      (λ r. Apart (λ (a b : K × X). same a.1 b.1) (by_order r ((k, v) ∷ e ∷ es) ((e.0, v) ∷ es) (e ∷ put R k v es))) [
+        | Less ↦ (unlike (e ∷ es) other, h)
+        | Equal ↦ (unlike es other.1, h.1)
+        | Greater ↦ (each_put (λ x. same e.1 x ≡ false) es other.0.1 h.0, apart_put es other.1 h.1)
+      ]
     where
       unlike : (es : List (K × X)) → Each (λ e. (same v e.1 ≡ false) × (same e.1 v ≡ false)) es → Each (λ e. same v e.1 ≡ false) es
       unlike [] h = tt
@@ -58,7 +58,7 @@ module _ {K X Y : Type 0} {R : K → K → Ordering} (o : IsTotalOrder R) (one :
       is_distinct same (map g (values m)) ≡ true → is_distinct same (map g (values (insert m k v))) ≡ true
   distinct_inserted m k v other e = rows_distinct (insert m k v) (subst (Apart alike) (sym (entries-insert o m k v))
       (apart_put R (λ a b. same (g a) (g b)) k v (entries m) (each_row o one (λ q x. (same (g v) (g x) ≡ false) × (same (g x) (g v) ≡ false)) m other)
-          (rows_apart m e)))
+      (rows_apart m e)))
 
   removed_is : (m : FinMap R X) (k : K) → remove m k ≡ retain_keys m (λ q. not (eq_by_cmp R q k))
   removed_is m k = same_map o one _ _ (λ q. get-remove o m k q ∙ by (eq_by_cmp R q k) (get m q) ∙ sym (get-retain o one m (λ q. not (eq_by_cmp R q k)) q))
@@ -70,4 +70,4 @@ module _ {K X Y : Type 0} {R : K → K → Ordering} (o : IsTotalOrder R) (one :
   pub distinct_removed : (m : FinMap R X) (k : K) → is_distinct same (map g (values m)) ≡ true → is_distinct same (map g (values (remove m k))) ≡ true
   distinct_removed m k e = rows_distinct (remove m k) (subst (λ m. Apart alike (entries m)) (sym (removed_is m k))
       (subst (Apart alike) (sym (entries-retain o one m (λ q. not (eq_by_cmp R q k))))
-          (pairs_still (λ a b. alike a b ≡ false) (λ e. not (eq_by_cmp R e.0 k)) (entries m) (rows_apart m e))))
+      (pairs_still (λ a b. alike a b ≡ false) (λ e. not (eq_by_cmp R e.0 k)) (entries m) (rows_apart m e))))

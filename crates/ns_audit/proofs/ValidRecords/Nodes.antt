@@ -1,4 +1,4 @@
--- What is told of a pool keeps records sound.
+-- What is asked of a pool keeps records sound.
 use Rattle.std.specs.Prelude.{◌≡◌, ◌≤◌, Bool, true, false, cond, not, Option, Some, None, ◌&&◌, nat_le}
 use Rattle.std.proofs.Common.{◌⊎◌, inl, inr, refl, sym, subst}
 use Rattle.std.proofs.Math.Nat.{le_trans}
@@ -12,28 +12,24 @@ use Rattle.ns_types.specs.declared.node.Offer.{Offer}
 use Rattle.ns_types.specs.declared.refusal.Refusal.TheVariants as Refusal
 use Rattle.ns_types.specs.declared.reply.Content.TheVariants as Content
 use Rattle.ns_types.specs.declared.step.NodeCommand.{NodeCommand}
-use Rattle.ns_types.specs.declared.step.NodeCommand.TheVariants as NodeCommand
 use Rattle.ns_types.specs.declared.step.Report.{Report}
 use Rattle.ns_types.specs.State.Limits.{is_good_offer}
 use Rattle.ns_types.specs.Settling.Making.{put_pool, with_node, change_tenant, with_client, evaluation_for, make}
 use Rattle.ns_types.specs.State.Name.{is_name}
 use Rattle.ns_types.specs.State.Names.{Name}
-use Rattle.ns_types.specs.Asking.Nodes.{
-    most_nodes, with_offer, losses, lost, lose, go_down, may_become, same_client, calls_for_one, reported, is_on,
-    report_of, report, asked_in_pool, ask_pool
-}
+use Rattle.ns_types.specs.Asking.Nodes.{most_nodes, with_offer, losses, lost, lose, go_down, may_become, same_client, calls_for_one, reported, is_on, report_of}
+use Rattle.ns_types.specs.Asking.Nodes.{report, asked_in_pool, ask_pool}
 use Rattle.ns_types.specs.Settling.Outcome.{Done, unless}
 use Rattle.ns_types.specs.State.Rows.{World, PoolRows, is_ready, allocation_at}
 use Rattle.ns_types.specs.State.Tables.{map_rows}
 use Rattle.ns_types.specs.Validity.{IsInOrder}
 use Rattle.ns_types.specs.Within.{IsGoodTelling}
 use Rattle.ns_types.proofs.Named.{names, one_name, first_of_both, second_of_both}
-use Rattle.ns_audit.specs.Records.{IsGoodNode, IsGoodPool}
-use Rattle.ns_audit.proofs.Every.{row_of_insert}
+use Rattle.ns_types.proofs.TableRows.{row_of_insert, row_of_remove}
+use Rattle.ns_audit.proofs.ValidRecords.Statement.{IsGoodNode, IsGoodPool}
 use Rattle.ns_audit.proofs.Outcomes.{Leads, leads_unless, leads_found, leads_if}
 use Rattle.ns_audit.proofs.Alone.Recording.{record_kept}
 use Rattle.ns_audit.proofs.ValidRecords.Sound.{kept_of, IsRecorded, IsNear, near_same, near_pool, near_first}
-use Rattle.ns_audit.proofs.Steady.Asks.{row_of_remove}
 use Rattle.ns_audit.proofs.ValidRecords.Tables.{len_put, len_removed, len_room}
 use Rattle.ns_audit.proofs.ValidRecords.Frames.{kept_client, near_change, near_make, near_each}
 
@@ -42,8 +38,14 @@ use Rattle.ns_audit.proofs.ValidRecords.Frames.{kept_client, near_change, near_m
 module _ (name : Name) (p : PoolRows) (g : IsGoodPool name p) where
   -- with a node's row
   pub with_node_good : (n : Name) (node : Node) → len (insert p.nodes n node) ≤ most_nodes → IsGoodNode n node → IsGoodPool name (with_node n node p)
-  with_node_good n node few good = record { named = g.named; described = g.described; few_nodes = few; node =
-      λ k x at. by k x (row_of_insert names one_name p.nodes n node k x at); classes = g.classes }
+  with_node_good n node few good = record {
+    named = g.named;
+    described = g.described;
+    few_nodes = few;
+    node =
+        λ k x at. by k x (row_of_insert names one_name p.nodes n node k x at);
+    classes = g.classes;
+  }
     where
       by : (k : Name) (x : Node) → ((k ≡ n) × (node ≡ x)) ⊎ (get p.nodes k ≡ Some x) → IsGoodNode k x
       by k x (inl e) = subst (IsGoodNode k) e.1 (subst (λ k. IsGoodNode k node) (sym e.0) good)
@@ -57,8 +59,14 @@ module _ (name : Name) (p : PoolRows) (g : IsGoodPool name p) where
       (record { named = x.named; good = subst (λ offer. is_good_offer offer ≡ true) (sym same) x.good; in_order = subst IsInOrder (sym same) x.in_order })
 
   removed_good : (n : Name) → IsGoodPool name (record p { nodes = remove p.nodes n })
-  removed_good n = record { named = g.named; described = g.described; few_nodes = le_trans (len_removed p.nodes n) g.few_nodes; node =
-      λ k x at. g.node k x (row_of_remove p.nodes n k x at); classes = g.classes }
+  removed_good n = record {
+    named = g.named;
+    described = g.described;
+    few_nodes = le_trans (len_removed p.nodes n) g.few_nodes;
+    node =
+        λ k x at. g.node k x (row_of_remove p.nodes n k x at);
+    classes = g.classes;
+  }
 
   offered_good : (n : Name) (offer : Offer) → (not (contains_key p.nodes n) && nat_le most_nodes (len p.nodes)) ≡ false → is_name NameKind.Node n ≡ true →
       is_good_offer offer ≡ true → IsInOrder offer
@@ -89,7 +97,7 @@ module _ (w : World) where
       let x = change_tenant r.namespace (with_client r.number r.client) w in
       let x_near = near_change w w near r.namespace (with_client r.number r.client) (kept_client r.number r.client) in
       elim (option_map_or (λ t. calls_for_one t a r.client) (get w.tenants r.namespace) false) as
-          (λ b. IsNear w (cond b (make r.namespace (λ t. evaluation_for t a Trigger.AllocFailure) x) x)) [
+      (λ b. IsNear w (cond b (make r.namespace (λ t. evaluation_for t a Trigger.AllocFailure) x) x)) [
         | true ↦ near_make w x x_near r.namespace (λ t. evaluation_for t a Trigger.AllocFailure)
         | false ↦ x_near
       ]
@@ -100,10 +108,10 @@ module _ (w : World) where
       (λ a _.
       leads_unless (IsNear w) (not (is_on pool name a)) Refusal.NotFound (report_of r w a) (λ _.
       leads_if (IsNear w) (same_client a.client r.client) (Done Content.Written w)
-          (unless (not (may_become a.client r.client)) Refusal.Conflict (Done Content.Written (reported r a w))) (λ _. near) (λ _.
+      (unless (not (may_become a.client r.client)) Refusal.Conflict (Done Content.Written (reported r a w))) (λ _. near) (λ _.
       leads_unless (IsNear w) (not (may_become a.client r.client)) Refusal.Conflict (Done Content.Written (reported r a w)) (λ _. reported_near near r a)))))
 
--- ---- all that is told
+-- ---- all that is asked of a pool
 
 module _ (w : World) (s : IsRecorded w) (pool : Name) (p : PoolRows) (is : get w.pools pool ≡ Some p) where
   here : IsNear w w
@@ -120,7 +128,7 @@ module _ (w : World) (s : IsRecorded w) (pool : Name) (p : PoolRows) (is : get w
   asked_in_pool_near NodeCommand.ListNodes good = here
   asked_in_pool_near (NodeCommand.PutNode name offer) good = leads_unless (IsNear w) _ _ _ (λ _. leads_unless (IsNear w) _ _ _ (λ room.
       put (with_node name (with_offer offer (get p.nodes name)) p)
-          (offered_good pool p good_pool name offer room (first_of_both _ _ good.0) (second_of_both _ _ good.0) good.1)))
+      (offered_good pool p good_pool name offer room (first_of_both _ _ good.0) (second_of_both _ _ good.0) good.1)))
   asked_in_pool_near (NodeCommand.DeleteNode name) good =
       leads_found (IsNear w) (get p.nodes name) _
       (λ node _. leads_unless (IsNear w) _ _ _ (λ _. put (record p { nodes = remove p.nodes name }) (removed_good pool p good_pool name)))

@@ -17,9 +17,9 @@ use Rattle.ns_types.specs.Steps.{opening_tenant, opening_pool, opening_world, op
 use Rattle.ns_types.specs.Validity.{IsSoundAcl}
 use Rattle.ns_types.proofs.Named.{names, one_name, same_name_refl}
 use Rattle.ns_types.proofs.Tables.{each_row}
-use Rattle.ns_audit.specs.Records.{IsGoodPool, RecordsOpening}
-use Rattle.ns_audit.proofs.Alone.Chosen.{no_path}
-use Rattle.ns_audit.proofs.Every.{row_of_insert}
+use Rattle.ns_types.proofs.Tests.{not_Some}
+use Rattle.ns_types.proofs.TableRows.{row_of_insert}
+use Rattle.ns_audit.proofs.ValidRecords.Statement.{IsGoodPool, RecordsOpening}
 use Rattle.ns_audit.proofs.Steady.Keeping.{at_inserted}
 use Rattle.ns_audit.proofs.Steady.Opening.{reached_is_steady}
 use Rattle.ns_audit.proofs.ValidRecords.Sound.{kept_of, IsGoodKept, IsRecorded}
@@ -35,7 +35,7 @@ none_few X = subst (λ n. n ≤ most_rows) (sym (len-empty name_cmp X)) (omega a
 
 module _ {X : Type 0} where
   none_yet : {A : Type 0} (q : Name) (x : X) → get (empty {X = X} {R = name_cmp}) q ≡ Some x → A
-  none_yet q x is = absurd (no_path (sym (get-empty name_cmp q) ∙ is))
+  none_yet q x is = absurd (not_Some _ (sym (get-empty name_cmp q) ∙ is))
 
   one_few : (k : Name) (v : X) → len (insert (empty {R = name_cmp}) k v) ≤ most_rows
   one_few k v = len_room empty k v most_rows (none_few X)
@@ -84,7 +84,7 @@ opening_recorded = record {
   tenant = of_one (λ ns (t : Tenant). IsGoodKept (contains_key opening_world.pools) (contains_key opening_world.quotas) ns t.index (kept_of t))
       default_name opening_tenant
       (new_tenant_good (contains_key opening_world.pools) (contains_key opening_world.quotas) default_name opening_tenant.namespace refl
-      (record { good = refl; default = has_default; allowed = λ listed none. absurd (no_path none); quota = λ q none. absurd (no_path none) }));
+      (record { good = refl; default = has_default; allowed = λ listed none. absurd (not_Some _ none); quota = λ q none. absurd (not_Some _ none) }));
   pool = of_one IsGoodPool default_name opening_pool (new_pool_good default_name opening_pool.pool refl refl);
   quota = λ name q is. none_yet name q is;
 }

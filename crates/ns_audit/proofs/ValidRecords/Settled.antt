@@ -1,8 +1,6 @@
 -- What a step does at its end keeps records sound.
-use Rattle.std.specs.Prelude.{
-    ◌≡◌, ℕ, ◌+◌, ◌-◌, ◌≤◌, Bool, true, false, cond, not, List, [], ◌∷◌, ◌++◌, map, Option, Some, None, ◌&&◌, drop, take,
-    fold, length, nat_le, option_map
-}
+use Rattle.std.specs.Prelude.{◌≡◌, ℕ, ◌+◌, ◌-◌, ◌≤◌, Bool, true, false, cond, not, List, [], ◌∷◌, ◌++◌, map, Option, Some, None, ◌&&◌, drop, take, fold, length}
+use Rattle.std.specs.Prelude.{nat_le, option_map}
 use Rattle.std.proofs.Common.{◌⊎◌, inl, inr, refl, sym, ap, subst, ◌∙◌, arith, length-drop}
 use Rattle.std.proofs.lemmas.Bool.{leb-true, le-leb}
 use Rattle.std.proofs.lemmas.List.{take-append-drop}
@@ -21,17 +19,16 @@ use Rattle.ns_types.specs.State.Names.{Name, ByClass, same_number}
 use Rattle.ns_types.specs.Settling.Releases.{released_classes, releases_quota, woken}
 use Rattle.ns_types.specs.State.Rows.{World, Tenant, PoolRows, QuotaRows}
 use Rattle.ns_types.specs.Settling.Same.{same_job, same_document, same_flag}
-use Rattle.ns_types.specs.Settling.Settle.{
-    unblocked_in, wake, after_release, after_quota_release, number_releases, is_changed, changes_job,
-    changes_evaluation, is_touched, topics_of, events_of, stamped, stamp_tenant, stamp, settle
-}
+use Rattle.ns_types.specs.Settling.Settle.{unblocked_in, wake, after_release, after_quota_release, number_releases, is_changed, changes_job, changes_evaluation}
+use Rattle.ns_types.specs.Settling.Settle.{is_touched, topics_of, events_of, stamped, stamp_tenant, stamp, settle}
 use Rattle.ns_types.specs.State.Tables.{map_rows, any_row}
 use Rattle.ns_types.specs.Validity.{IsSoundQuota}
 use Rattle.ns_types.proofs.Lists.{not_both, left_none}
 use Rattle.ns_types.proofs.Named.{names as by_name, one_name, one_number, first_of_both, second_of_both}
 use Rattle.ns_types.proofs.Tables.{tied, none_of_any}
-use Rattle.ns_audit.specs.Records.{IsGoodPool}
-use Rattle.ns_audit.proofs.Every.{row_of_insert, on}
+use Rattle.ns_types.proofs.TableRows.{row_of_insert}
+use Rattle.ns_types.proofs.Tests.{is_yes}
+use Rattle.ns_audit.proofs.ValidRecords.Statement.{IsGoodPool}
 use Rattle.ns_audit.proofs.Steady.Keeping.{row_of_map}
 use Rattle.ns_audit.proofs.Alone.Recording.{queues_keep, record_kept}
 use Rattle.ns_audit.proofs.ValidRecords.Sound.{kept_of, Names, IsGoodJob, IsGoodKept, IsRecorded, bound_of, IsNearKept, IsNear, near_same}
@@ -80,7 +77,7 @@ module _ (w : World) (old : IsRecorded w) (pools quotas : Names) (ns : Name) whe
   as_before o t is same untouched id j at = by (get o.jobs id) refl
       (sym (ap (λ x. option_map_or (is_changed same_job (get o.jobs id)) x (contains_key o.jobs id)) at)
       ∙ none_of_any one_name (λ id _. changes_job o t id) t.jobs id j
-          (left_none _ _ (left_none _ (any_row (changes_evaluation o) t.evaluations) (left_none _ _ untouched))) at)
+      (left_none _ _ (left_none _ (any_row (changes_evaluation o) t.evaluations) (left_none _ _ untouched))) at)
     where
       bounded : (a b : ℕ) → eq_by_cmp nat_cmp a b ≡ true → a ≤ o.index → b ≤ t.index
       bounded a b e le = subst (λ n. b ≤ n) (sym same) (subst (λ n. n ≤ o.index) (tied one_number a b e) le)
@@ -88,14 +85,16 @@ module _ (w : World) (old : IsRecorded w) (pools quotas : Names) (ns : Name) whe
       alike : (y : Job) → get o.jobs id ≡ Some y → same_job y j ≡ true → (j.create_index ≤ t.index) × (j.modify_index ≤ t.index) × (j.version ≤ t.index)
       alike y has e =
           let g = (old.tenant ns o is).job id y has in
-          let s = numbers_alike y j e in
-          (bounded y.create_index j.create_index s.0 g.created, bounded y.modify_index j.modify_index s.1 g.modified,
-              bounded y.version j.version s.2 g.versions)
+          let s = numbers_alike y j e in (
+            bounded y.create_index j.create_index s.0 g.created,
+            bounded y.modify_index j.modify_index s.1 g.modified,
+            bounded y.version j.version s.2 g.versions,
+          )
 
       by : (x : Option Job) → get o.jobs id ≡ x → option_map_or (λ y. not (same_job y j)) x true ≡ false → (j.create_index ≤ t.index) ×
           (j.modify_index ≤ t.index) × (j.version ≤ t.index)
       by None has e = not_both refl e
-      by (Some y) has e = alike y has (on (same_job y j) e)
+      by (Some y) has e = alike y has (is_yes (same_job y j) e)
 
   stamped_good : (o t : Tenant) → t.index ≡ o.index → IsGoodKept pools quotas ns (t.index + 1) (kept_of t) →
       IsGoodKept pools quotas ns (o.index + 1) (kept_of (stamped (o.index + 1) o t))
@@ -154,7 +153,7 @@ stamp_recorded w x old near = record {
   tenant = λ ns t is.
       let y = row_of_map by_name one_name (λ ns t. stamp_tenant (get w.tenants ns) t) x.tenants ns t is in
       subst (λ (t : Tenant). IsGoodKept (contains_key x.pools) (contains_key x.quotas) ns t.index (kept_of t)) y.2
-          (stamp_good w old (contains_key x.pools) (contains_key x.quotas) ns y.0 (near.tenant ns y.0 y.1));
+      (stamp_good w old (contains_key x.pools) (contains_key x.quotas) ns y.0 (near.tenant ns y.0 y.1));
   pool = near.pool;
   quota = near.quota;
 }
@@ -180,7 +179,7 @@ released_good name (class ∷ classes) p g = record {
   node = g.node;
   classes = values_pass by_class one_class (λ r. nat_le r (p.release + 1)) (fold (λ known c. insert known c (p.release + 1)) p.classes (class ∷ classes))
       (numbered (class ∷ classes) p.classes (p.release + 1)
-          (λ c r is. below_next r p.release (value_passes by_class one_class (λ r. nat_le r p.release) p.classes c r g.classes is)));
+      (λ c r is. below_next r p.release (value_passes by_class one_class (λ r. nat_le r p.release) p.classes c r g.classes is)));
 }
 
 quota_released_good : (name : Name) (b : Bool) (q : QuotaRows) → IsSoundQuota name q → IsSoundQuota name (after_quota_release b q)
@@ -196,7 +195,7 @@ numbered_near w w' v x near = record {
   tenant = λ ns t is. subst (λ pools. IsNearKept pools (contains_key (map_rows limited x.quotas)) (get v.tenants ns) ns (kept_of t))
       (λ i k. sym (keys_mapped by_name one_name pooled x.pools k) i)
       (subst (λ quotas. IsNearKept (contains_key x.pools) quotas (get v.tenants ns) ns (kept_of t))
-          (λ i k. sym (keys_mapped by_name one_name limited x.quotas k) i) (near.tenant ns t is));
+      (λ i k. sym (keys_mapped by_name one_name limited x.quotas k) i) (near.tenant ns t is));
   pool = λ name p is. let y = row_of_map by_name one_name pooled x.pools name p is in
       subst (IsGoodPool name) y.2 (released_good name (released_classes w w' name y.0) y.0 (near.pool name y.0 y.1));
   quota = λ name q is. let y = row_of_map by_name one_name limited x.quotas name q is in
@@ -215,5 +214,5 @@ pub settled_recorded : (w x : World) → IsRecorded w → IsNear w x → IsRecor
 unfolding settle wake
 settled_recorded w x old near = stamp_recorded w _ old (numbered_near w x w (wake (woken w x) x) (near_same w x (wake (woken w x) x) near
     (λ k. ap (λ m. option_map kept_of (get m k)) (queues_keep (λ y. y.tenants) (λ y keys. refl) (woken w x) _) ∙
-        record_kept (unblocked_in (woken w x)) kept_of (λ ns t. refl) x.tenants k)
+    record_kept (unblocked_in (woken w x)) kept_of (λ ns t. refl) x.tenants k)
     (queues_keep (λ y. y.pools) (λ y keys. refl) (woken w x) _) (queues_keep (λ y. y.quotas) (λ y keys. refl) (woken w x) _)))

@@ -16,9 +16,9 @@ use Rattle.ns_types.specs.State.Names.{Name, ByName}
 use Rattle.ns_types.specs.State.Rows.{World, Tenant, PoolRows, QuotaRows}
 use Rattle.ns_types.specs.Validity.{IsSoundQuota}
 use Rattle.ns_types.proofs.Named.{names as by_name, one_name}
-use Rattle.ns_audit.specs.Records.{IsGoodPool}
-use Rattle.ns_audit.proofs.Alone.Chosen.{no_path, same_Some}
-use Rattle.ns_audit.proofs.Every.{row_of_insert}
+use Rattle.ns_types.proofs.Tests.{some_mapped, not_Some, same_Some}
+use Rattle.ns_types.proofs.TableRows.{row_of_insert}
+use Rattle.ns_audit.proofs.ValidRecords.Statement.{IsGoodPool}
 use Rattle.ns_audit.proofs.Alone.Fixed.{SameIn}
 use Rattle.ns_audit.proofs.Steady.Keeping.{more}
 use Rattle.ns_audit.proofs.ValidRecords.Tables.{same_len, keys_put, len_put}
@@ -97,12 +97,8 @@ pub record IsNear (w x : World) : Type 0 where
 -- ---- changes that keep it
 
 pub found_in : {X Y : Type 0} (f : X → Y) (o : Option X) (y : Y) → option_map f o ≡ Some y → (x : X) × (o ≡ Some x) × (f x ≡ y)
-found_in f None y e = absurd (no_path e)
+found_in f None y e = absurd (not_Some _ e)
 found_in f (Some x) y e = (x, refl, same_Some _ _ e)
-
-some_mapped : {X Y : Type 0} (f : X → Y) (o : Option X) → is_some (option_map f o) ≡ is_some o
-some_mapped f None = refl
-some_mapped f (Some x) = refl
 
 module _ (w y x : World) (near : IsNear w y) where
   -- nothing of it is changed
@@ -179,5 +175,12 @@ near_first w s = record {
     higher : (ns : Name) (t : Tenant) → get w.tenants ns ≡ Some t → (id : Name) (j : Job) → IsGoodJob (contains_key w.pools) t.index id j →
         IsGoodJob (contains_key w.pools) (bound_of (get w.tenants ns) t.index) id j
     higher ns t is id j g = subst (λ o. IsGoodJob (contains_key w.pools) (bound_of o t.index) id j) (sym is)
-        (record { named = g.named; good = g.good; exists = g.exists; created = more _ _ g.created; modified = more _ _ g.modified; versions =
-            more _ _ g.versions })
+        (record {
+          named = g.named;
+          good = g.good;
+          exists = g.exists;
+          created = more _ _ g.created;
+          modified = more _ _ g.modified;
+          versions =
+              more _ _ g.versions;
+        })

@@ -4,9 +4,7 @@ use Rattle.std.proofs.Common.{ap, subst}
 use Rattle.std.specs.FinMap.{get}
 use Rattle.ns_types.specs.declared.refusal.Refusal.TheVariants as Refusal
 use Rattle.ns_types.specs.declared.step.AdminCommand.{AdminCommand}
-use Rattle.ns_types.specs.declared.step.AdminCommand.TheVariants as AdminCommand
 use Rattle.ns_types.specs.declared.step.Step.{Step}
-use Rattle.ns_types.specs.declared.step.Step.TheVariants as Step
 use Rattle.ns_types.specs.Asking.Policies.{with_world, with_acl, administer}
 use Rattle.ns_types.specs.Asking.Admins.{read_quota}
 use Rattle.ns_types.specs.State.Names.{Name}
@@ -17,9 +15,9 @@ use Rattle.ns_types.specs.Steps.{Answer, said, act, after, is_allowed, concluded
 use Rattle.ns_types.specs.Validity.{IsSoundAcl, IsSound}
 use Rattle.ns_types.specs.Within.{is_good_admin, IsGoodStep}
 use Rattle.ns_types.proofs.Named.{first_of_both, second_of_both}
+use Rattle.ns_types.proofs.Tests.{not_Some, same_Some}
 use Rattle.ns_audit.specs.Orderly.{IsSteady}
-use Rattle.ns_audit.specs.Records.{HasRecords, RecordsStep}
-use Rattle.ns_audit.proofs.Alone.Chosen.{no_path, same_Some}
+use Rattle.ns_audit.proofs.ValidRecords.Statement.{HasRecords, RecordsStep}
 use Rattle.ns_audit.proofs.Outcomes.{Leads, leads_found}
 use Rattle.ns_audit.proofs.Alone.Running.{valid_is_steady, steady_step}
 use Rattle.ns_audit.proofs.ValidRecords.Sound.{IsRecorded, IsNear, near_first}
@@ -41,8 +39,15 @@ valid_recorded w s = record {
     named = x.named;
     namespace = record { good = x.namespace.good; default = x.namespace.default; allowed = x.namespace.allowed; quota = x.namespace.quota };
     few_jobs = x.few_jobs;
-    job = λ id j at. let y = x.job id j at in record { named = y.named; good = y.good; exists = y.allowed.exists; created = y.created; modified =
-        y.modified; versions = y.versions };
+    job = λ id j at. let y = x.job id j at in record {
+      named = y.named;
+      good = y.good;
+      exists = y.allowed.exists;
+      created = y.created;
+      modified =
+          y.modified;
+      versions = y.versions;
+    };
     few_events = x.few_events;
     events_below = x.events_below;
   };
@@ -119,7 +124,7 @@ pub record IsRecordedState (s : State) : Type 0 where
 
 module _ (s : State) (kept : IsRecordedState s) (step : Step) (s' : State) (answer : Answer) where
   concluded_recorded : (o : Outcome State) → Leads (IsNearState s) o → concluded step s o ≡ said answer s' → IsRecordedState s'
-  concluded_recorded NotEnabled h e = absurd (no_path e)
+  concluded_recorded NotEnabled h e = absurd (not_Some _ e)
   concluded_recorded (Refused refusal) h e = subst IsRecordedState (ap (λ x. x.1) (same_Some _ _ e)) kept
   concluded_recorded (Done content x) h e = by (is_past_bound (settle s.world x.world)) e
     where
@@ -152,7 +157,7 @@ has_records s kept steady = record {
     job = λ id j at. let g = k.job id j at in record {
       named = g.named;
       good = g.good;
-      allowed = record { exists = g.exists; permitted = (steady.orderly.tenant ns t is).job id j at; its_quota = λ q none. absurd (no_path none) };
+      allowed = record { exists = g.exists; permitted = (steady.orderly.tenant ns t is).job id j at; its_quota = λ q none. absurd (not_Some _ none) };
       created = g.created;
       modified = g.modified;
       versions = g.versions;

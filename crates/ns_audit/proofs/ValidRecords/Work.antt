@@ -5,7 +5,6 @@ use Rattle.std.specs.FinMap.{get, insert}
 use Rattle.std.specs.Option.{option_map_or, option_and_then}
 use Rattle.ns_types.specs.declared.evaluation.Evaluation.{Evaluation}
 use Rattle.ns_types.specs.declared.evaluation.Status.{Status}
-use Rattle.ns_types.specs.declared.evaluation.Status.TheVariants as Status
 use Rattle.ns_types.specs.declared.evaluation.Trigger.TheVariants as Trigger
 use Rattle.ns_types.specs.declared.allocation.DesiredStatus.TheVariants as DesiredStatus
 use Rattle.ns_types.specs.declared.job.Job.{Job}
@@ -17,12 +16,10 @@ use Rattle.ns_types.specs.declared.reply.Content.TheVariants as Content
 use Rattle.ns_types.specs.declared.snapshot.Snapshot.{Snapshot}
 use Rattle.ns_types.specs.declared.worker.Phase.TheVariants as Phase
 use Rattle.ns_types.specs.declared.worker.Worker.{Worker}
-use Rattle.ns_types.specs.Working.Commit.{
-    still_stands, live_stops, stop_all, node_name, nodes_in, part_of, size_of, victims_of, evict, evict_all, Commit,
-    begun, accepts_at, decide, new_allocation, with_allocation, with_place, place_with, place_one, committed_placements,
-    place_all, Victim, evicted_rows, same_victim_job, least_of_job, make_up, Applied, refused_whole, done_with, done,
-    commit, applied_worker, applied, apply_for, apply
-}
+use Rattle.ns_types.specs.Working.Commit.{still_stands, live_stops, stop_all, node_name, nodes_in, part_of, size_of, victims_of, evict, evict_all, Commit}
+use Rattle.ns_types.specs.Working.Commit.{begun, accepts_at, decide, new_allocation, with_allocation, with_place, place_with, place_one, committed_placements}
+use Rattle.ns_types.specs.Working.Commit.{place_all, Victim, evicted_rows, same_victim_job, least_of_job, make_up, Applied, refused_whole, done_with, done}
+use Rattle.ns_types.specs.Working.Commit.{commit, applied_worker, applied, apply_for, apply}
 use Rattle.ns_types.specs.State.Lists.{first_each}
 use Rattle.ns_types.specs.Settling.Making.{put_tenant, put_pool, change_tenant, with_status, with_desired, evaluation_for, make}
 use Rattle.ns_types.specs.State.Names.{Name}
@@ -33,12 +30,10 @@ use Rattle.ns_types.specs.Settling.Releases.{missed}
 use Rattle.ns_types.specs.State.Resources.{plus}
 use Rattle.ns_types.specs.State.Rows.{World, Tenant, PoolRows, node_at}
 use Rattle.ns_types.specs.Working.Snapshot.{snapshot_of}
-use Rattle.ns_types.specs.Working.Work.{
-    with_worker, without_worker, without_key, at_work, workers_end, is_idle, new_worker, taken, dequeue_in, dequeue,
-    may_snap, with_snapshot, snap_for, snap, may_submit, submitted, submit_for, submit, may_finish, end_of,
-    needs_follower, follower_of, blocked_of, without_blocked, ended, with_follower, followed, finished, finish_for,
-    finish, is_submitted, most_nacks, with_nack, given_back, given_up, nack_for, nack
-}
+use Rattle.ns_types.specs.Working.Work.{with_worker, without_worker, without_key, at_work, workers_end, is_idle, new_worker, taken, dequeue_in, dequeue}
+use Rattle.ns_types.specs.Working.Work.{may_snap, with_snapshot, snap_for, snap, may_submit, submitted, submit_for, submit, may_finish, end_of, needs_follower}
+use Rattle.ns_types.specs.Working.Work.{follower_of, blocked_of, without_blocked, ended, with_follower, followed, finished, finish_for, finish, is_submitted}
+use Rattle.ns_types.specs.Working.Work.{most_nacks, with_nack, given_back, given_up, nack_for, nack}
 use Rattle.ns_audit.proofs.Alone.Fixed.{fixed_stops}
 use Rattle.ns_audit.proofs.Outcomes.{Leads, leads_there, leads_if}
 use Rattle.ns_audit.proofs.ValidRecords.Sound.{kept_of, IsRecorded, IsNear, near_pool, near_first}
@@ -71,7 +66,7 @@ module _ (w : World) (s : IsRecorded w) where
 
   work_near : (number : ℕ) (ns : Name) (act : Tenant → Worker → Evaluation → Outcome World)
       → ((t : Tenant) (worker : Worker) (e : Evaluation) → get w.tenants ns ≡ Some t → Leads (IsNear w) (act t worker e)) →
-          Leads (IsNear w) (at_work number ns w act)
+      Leads (IsNear w) (at_work number ns w act)
   work_near number ns act h = leads_there (IsNear w) (get w.tenants ns) _
       (λ t is. leads_there (IsNear w) (get t.workers number) _
       (λ worker _. leads_there (IsNear w) (get t.evaluations worker.evaluation) (act t worker) (λ e _. h t worker e is)))
@@ -90,16 +85,16 @@ module _ (w : World) (s : IsRecorded w) where
   dequeue_near number ns n = leads_if (IsNear w) (nat_lt number workers_end && is_idle w number && is_served w w.ready (ns, n))
       (option_map_or (dequeue_in number (ns, n) w) (get w.tenants ns) NotEnabled) NotEnabled (λ _.
       leads_there (IsNear w) (get w.tenants ns) (dequeue_in number (ns, n) w)
-          (λ t is. leads_there (IsNear w) (get t.evaluations n) (λ e. Done (Content.Took n) (taken number (ns, n) w t e)) (λ e _.
+      (λ t is. leads_there (IsNear w) (get t.evaluations n) (λ e. Done (Content.Took n) (taken number (ns, n) w t e)) (λ e _.
       near_lists w (put_tenant ns (with_worker number (new_worker n e) t) w) (put_same ns t (with_worker number (new_worker n e) t) is refl)
-          (without_key (ns, n) w.ready) w.plans w.blocked))) (λ _. tt)
+      (without_key (ns, n) w.ready) w.plans w.blocked))) (λ _. tt)
 
   pub snap_near : (number : ℕ) (ns : Name) → Leads (IsNear w) (snap number ns w)
   unfolding snap
   snap_near number ns = work_near number ns (snap_for number ns w) (λ t worker e is.
       let t' = with_worker number (with_snapshot (snapshot_of w ns t worker.evaluation e) worker) t in
       leads_if (IsNear w) (may_snap worker.tries worker.phase) (Done (Content.Snapped worker.evaluation) (put_tenant ns t' w)) NotEnabled
-          (λ _. put_same ns t t' is refl) (λ _. tt))
+      (λ _. put_same ns t t' is refl) (λ _. tt))
 
   pub submit_near : (number : ℕ) (ns : Name) → Leads (IsNear w) (submit number ns w)
   unfolding submit
@@ -117,7 +112,7 @@ module _ (w : World) (s : IsRecorded w) where
       leads_if (IsNear w) (nat_le most_nacks (e.nacks + 1)) (given_up number ns w t' worker e) (given_back number ns w t' worker)
       (λ _. near_promote w (put_tenant ns up w) (put_same ns t up is (kept_status worker.evaluation Status.Failed (without_worker number t'))) ns e.job)
       (λ _. near_lists w (put_tenant ns (without_worker number t') w) (put_same ns t (without_worker number t') is refl)
-          (w.ready ++ (ns, worker.evaluation) ∷ []) w.plans w.blocked)))
+      (w.ready ++ (ns, worker.evaluation) ∷ []) w.plans w.blocked)))
 
   -- ---- Finish
 
@@ -148,17 +143,17 @@ module _ (w : World) (s : IsRecorded w) where
     finished_near : Leads (IsNear w) (finished number ns w t worker e kept)
     finished_near = leads_if (IsNear w) (needs_follower worker kept)
         (Done (Content.Finished (end_of worker) (Some (t.evaluation_number + 1)))
-            (promote ns e.job (followed ns worker (follower_of e worker kept) t' (missed w kept (follower_of e worker kept)) less)))
+        (promote ns e.job (followed ns worker (follower_of e worker kept) t' (missed w kept (follower_of e worker kept)) less)))
         (Done (Content.Finished (end_of worker) None) (promote ns e.job (put_tenant ns t' less)))
         (λ _. near_promote w (followed ns worker (follower_of e worker kept) t' (missed w kept (follower_of e worker kept)) less)
-            (followed_near (missed w kept (follower_of e worker kept))) ns e.job)
+        (followed_near (missed w kept (follower_of e worker kept))) ns e.job)
         (λ _. near_promote w (put_tenant ns t' less) (near_put_same w less less_near ns t t' in_less (kept_ended number worker e (end_of worker) t)) ns e.job)
 
   pub finish_near : (number : ℕ) (ns : Name) → Leads (IsNear w) (finish number ns w)
   unfolding finish
   finish_near number ns = keeping_near number ns (finish_for number ns w) (λ t worker e kept is.
       leads_if (IsNear w) (may_finish worker kept) (finished number ns w t worker e kept) NotEnabled (λ _. finished_near ns number t worker e kept is)
-          (λ _. tt))
+      (λ _. tt))
 
 -- ---- Apply
 
@@ -170,9 +165,13 @@ module _ (w : World) where
   decide_near : (kept : Snapshot) (ps : List Placement) (c : Commit) (k : ℕ) → IsNear w c.world → IsNear w (decide kept ps c k).world
   unfolding decide
   decide_near kept ps c k h = elim (accepts_at kept (evict_all c.world (victims_of c.world kept (part_of k ps))) (node_name kept k) (part_of k ps) c.placed) as
-      (λ b. IsNear w (cond b (record { world = evict_all c.world (victims_of c.world kept (part_of k ps)); placed =
-          plus c.placed (size_of (part_of k ps)); committed = c.committed ++ k ∷ []; dropped = c.dropped }) (record c { dropped = c.dropped ++ k ∷ [] })).world)
-          [
+      (λ b. IsNear w (cond b (record {
+        world = evict_all c.world (victims_of c.world kept (part_of k ps));
+        placed =
+            plus c.placed (size_of (part_of k ps));
+        committed = c.committed ++ k ∷ [];
+        dropped = c.dropped;
+      }) (record c { dropped = c.dropped ++ k ∷ [] })).world) [
         | true ↦ evicted_near (victims_of c.world kept (part_of k ps)) c.world h
         | false ↦ h
       ]
@@ -222,9 +221,9 @@ module _ (w : World) where
   unfolding commit
   commit_near kept p t h = elim (still_stands kept.job (get t.jobs kept.evaluation.job)) as
       (λ b. IsNear w (cond b (done kept p w t) (refused_whole kept p w)).world) [
-    | true ↦ whole (stop_all kept.namespace stops w) (near_change w w h kept.namespace _ (fixed_stops kept_of (λ t n e. refl) (λ t n a. refl) stops))
-    | false ↦ h
-  ]
+        | true ↦ whole (stop_all kept.namespace stops w) (near_change w w h kept.namespace _ (fixed_stops kept_of (λ t n e. refl) (λ t n a. refl) stops))
+        | false ↦ h
+      ]
     where
       stops : List ℕ
       stops = live_stops t p.stops
@@ -236,17 +235,17 @@ module _ (w : World) where
           let placed = committed_placements c p.placing.placements in
           made_up_near (evicted_rows x kept placed) (place_all kept c.world placed)
           (near_each w (place_one kept) (λ y q. placed_near kept q y) placed c.world
-              (decided_near kept p.placing.placements (nodes_in p.placing.placements) (begun x) g))
+          (decided_near kept p.placing.placements (nodes_in p.placing.placements) (begun x) g))
 
 pub apply_near : (w : World) → IsRecorded w → (number : ℕ) (ns : Name) → Leads (IsNear w) (apply number ns w)
 unfolding apply
 apply_near w s number ns = keeping_near w s number ns (apply_for number ns w) (λ t worker e kept is.
     leads_if (IsNear w) (is_submitted worker.phase && is_served w w.plans (ns, worker.evaluation)) (applied number ns worker e (commit kept (plan kept) w t))
-        NotEnabled
+    NotEnabled
     (λ _. by worker e (commit kept (plan kept) w t) (commit_near w kept (plan kept) t (near_first w s))) (λ _. tt))
   where
     by : (worker : Worker) (e : Evaluation) (a : Applied) → IsNear w a.world → Leads (IsNear w) (applied number ns worker e a)
     by worker e a h =
         let x = change_tenant ns (with_worker number (applied_worker a worker e)) a.world in
         near_lists w x (near_change w a.world h ns (with_worker number (applied_worker a worker e)) (λ t. refl)) x.ready
-            (without_key (ns, worker.evaluation) a.world.plans) x.blocked
+        (without_key (ns, worker.evaluation) a.world.plans) x.blocked

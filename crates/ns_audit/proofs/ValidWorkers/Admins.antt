@@ -10,13 +10,10 @@ use Rattle.ns_types.specs.declared.records.Quota.{Quota}
 use Rattle.ns_types.specs.declared.snapshot.QuotaSeen.{QuotaSeen}
 use Rattle.ns_types.specs.declared.snapshot.Snapshot.{Snapshot}
 use Rattle.ns_types.specs.declared.step.AdminCommand.{AdminCommand}
-use Rattle.ns_types.specs.declared.step.AdminCommand.TheVariants as AdminCommand
 use Rattle.ns_types.specs.declared.worker.Worker.{Worker}
 use Rattle.ns_types.specs.Asking.Policies.{with_world, with_acl, administer}
-use Rattle.ns_types.specs.Asking.Admins.{
-    has_open, new_tenant, with_namespace, put_namespace, delete_namespace, with_quota, put_quota, delete_quota,
-    read_quota, with_pool, put_pool_record, names_pool, looks_to_pool, is_pool_in_use, delete_pool
-}
+use Rattle.ns_types.specs.Asking.Admins.{has_open, new_tenant, with_namespace, put_namespace, delete_namespace, with_quota, put_quota, delete_quota, read_quota}
+use Rattle.ns_types.specs.Asking.Admins.{with_pool, put_pool_record, names_pool, looks_to_pool, is_pool_in_use, delete_pool}
 use Rattle.ns_types.specs.Settling.Making.{put_tenant}
 use Rattle.ns_types.specs.State.Names.{Name, name_cmp, same_name}
 use Rattle.ns_types.specs.Settling.Outcome.{Outcome, NotEnabled, Refused, Done, lift}
@@ -26,8 +23,8 @@ use Rattle.ns_types.specs.Validity.{IsSound}
 use Rattle.ns_types.proofs.Lists.{not_both, left_none, right_none}
 use Rattle.ns_types.proofs.Named.{names, one_name, one_number, same_name_is}
 use Rattle.ns_types.proofs.Tables.{none_of_any}
-use Rattle.ns_audit.proofs.Alone.Chosen.{no_path, same_Some}
-use Rattle.ns_audit.proofs.Every.{row_of_insert}
+use Rattle.ns_types.proofs.Tests.{not_Some, same_Some}
+use Rattle.ns_types.proofs.TableRows.{row_of_insert}
 use Rattle.ns_audit.proofs.Outcomes.{Leads, leads_unless, leads_found}
 use Rattle.ns_audit.proofs.Alone.Owning.{turned_name, orderly}
 use Rattle.ns_audit.proofs.ValidWorkers.Busy.{IsBusyIn, IsQueuedIn, IsQueued}
@@ -63,7 +60,7 @@ module _ (w : World) (s : IsSound w) (q : IsQueued w) where
   -- other pools and quotas, but for those that kept snapshots name
   looked_well : (x : World) → x.tenants ≡ w.tenants → x.ready ≡ w.ready → x.plans ≡ w.plans
       → ((k : Name) (t : Tenant) (n : ℕ) (worker : Worker) (kept : Snapshot) → get w.tenants k ≡ Some t → get t.workers n ≡ Some worker →
-          worker.kept ≡ Some kept → LooksStill w x kept) → IsWell w x
+      worker.kept ≡ Some kept → LooksStill w x kept) → IsWell w x
   looked_well x tenants ready plans looks = stays_well x (record {
     came = λ k u n worker is has. record { tenant = u; is_tenant = ap (λ m. get m k) (sym tenants) ∙ is; is_worker = has; row = refl };
     goes = λ k t n worker is has. (t, ap (λ m. get m k) tenants ∙ is, has);
@@ -89,22 +86,22 @@ module _ (w : World) (s : IsSound w) (q : IsQueued w) where
 
       came : (k : Name) (u : Tenant) (n : ℕ) (worker : Worker) → ((k ≡ ns) × (new ≡ u)) ⊎ (get w.tenants k ≡ Some u) → get u.workers n ≡ Some worker →
           CameFrom w k u n worker
-      came k u n worker (inl e) has = absurd (no_path (sym (get-empty nat_cmp n) ∙ ap (λ (t : Tenant). get t.workers n) e.1 ∙ has))
+      came k u n worker (inl e) has = absurd (not_Some _ (sym (get-empty nat_cmp n) ∙ ap (λ (t : Tenant). get t.workers n) e.1 ∙ has))
       came k u n worker (inr at) has = record { tenant = u; is_tenant = at; is_worker = has; row = refl }
 
       there : (k : Name) (t : Tenant) → get w.tenants k ≡ Some t → (b : Bool) → same_name k ns ≡ b → cond (same_name k ns) (Some new) (get w.tenants k) ≡ Some t
-      there k t is true same = absurd (no_path (sym none ∙ ap (get w.tenants) (sym (same_name_is k ns same)) ∙ is))
+      there k t is true same = absurd (not_Some _ (sym none ∙ ap (get w.tenants) (sym (same_name_is k ns same)) ∙ is))
       there k t is false differs = ap (λ b. cond b (Some new) (get w.tenants k)) differs ∙ is
 
       -- no list names an evaluation of a namespace that was not there
       idle : (k : Name) (n : ℕ) → k ≡ ns → IsBusyIn w.ready k new.workers n → ⊥
-      idle k n same (inl has) = let l = (orderly w s).ready k n has in no_path (sym none ∙ ap (get w.tenants) (sym same) ∙ l.is_tenant)
-      idle k n same (inr h) = no_path (sym (get-empty nat_cmp h.number) ∙ h.is_worker)
+      idle k n same (inl has) = let l = (orderly w s).ready k n has in not_Some _ (sym none ∙ ap (get w.tenants) (sym same) ∙ l.is_tenant)
+      idle k n same (inr h) = not_Some _ (sym (get-empty nat_cmp h.number) ∙ h.is_worker)
 
       queued : (k : Name) (u : Tenant) → ((k ≡ ns) × (new ≡ u)) ⊎ (get w.tenants k ≡ Some u) → IsQueuedIn w.ready k u
       queued k u (inr at) = q.tenant k u at
       queued k u (inl e) = subst (λ u. IsQueuedIn w.ready k u) e.1 (record {
-        numbered = λ n a at. absurd (no_path (sym (get-empty nat_cmp n) ∙ at));
+        numbered = λ n a at. absurd (not_Some _ (sym (get-empty nat_cmp n) ∙ at));
         there = λ n b. absurd (idle k n e.0 b);
         one_busy = λ m n d c bm bn dm cn same. absurd (idle k m e.0 bm);
       })
@@ -121,7 +118,7 @@ module _ (w : World) (s : IsSound w) (q : IsQueued w) where
       x = record w { tenants = remove w.tenants ns }
 
       left : (k : Name) (u : Tenant) (b : Bool) → cond b None (get w.tenants k) ≡ Some u → get w.tenants k ≡ Some u
-      left k u true at = absurd (no_path at)
+      left k u true at = absurd (not_Some _ at)
       left k u false at = at
 
       was : (k : Name) (u : Tenant) → get (remove w.tenants ns) k ≡ Some u → get w.tenants k ≡ Some u
@@ -134,7 +131,7 @@ module _ (w : World) (s : IsSound w) (q : IsQueued w) where
           let p = ((orderly w s).tenant k u at).held n worker has in
           let one = same_Some _ _ (sym is ∙ ap (get w.tenants) (sym (same_name_is k ns same)) ∙ at) in
           not_both (ap is_open p.is_pending) (none_of_any one_number (λ _ e. is_open e.status) t.evaluations worker.evaluation p.row none
-              (ap (λ (t : Tenant). get t.evaluations worker.evaluation) one ∙ p.is_row))
+          (ap (λ (t : Tenant). get t.evaluations worker.evaluation) one ∙ p.is_row))
       there k u n worker at has false differs = ap (λ b. cond b None (get w.tenants k)) differs ∙ at
 
   namespace_put : (name : Name) (namespace : Namespace) → KeepsStaff w (put_namespace name namespace w)
@@ -176,7 +173,7 @@ module _ (w : World) (s : IsSound w) (q : IsQueued w) where
       by : (k : Name) (t : Tenant) (n : ℕ) (worker : Worker) (kept : Snapshot) → get w.tenants k ≡ Some t → get t.workers n ≡ Some worker →
           worker.kept ≡ Some kept
           → (q : QuotaSeen) → kept.quota ≡ Some q → (r : QuotaRows) → ((q.name ≡ name) × (new ≡ r)) ⊎ (get w.quotas q.name ≡ Some r) → (p : QuotaRows) ×
-              (get w.quotas q.name ≡ Some p) × (p.release ≤ r.release)
+          (get w.quotas q.name ≡ Some p) × (p.release ≤ r.release)
       by k t n worker kept is has keeps q its r (inr at) = (r, at, le_refl r.release)
       by k t n worker kept is has keeps q its r (inl e) =
           let sound = s.tenant k t is in
@@ -190,12 +187,12 @@ module _ (w : World) (s : IsSound w) (q : IsQueued w) where
   quota_deleted name = leads_found (IsWell w) (get w.quotas name) _
       (λ o _. leads_unless (IsWell w) _ _ _ (λ _. looked_well (record w { quotas = remove w.quotas name }) refl refl refl
       (λ k t n worker kept is has keeps. record {
-    pool = λ p p_is. (p, p_is, le_refl p.release);
-    quota = λ q its r r_is. (r, by q.name r (eq_by_cmp name_cmp q.name name) (sym (get-remove names w.quotas name q.name) ∙ r_is), le_refl r.release);
-  })))
+        pool = λ p p_is. (p, p_is, le_refl p.release);
+        quota = λ q its r r_is. (r, by q.name r (eq_by_cmp name_cmp q.name name) (sym (get-remove names w.quotas name q.name) ∙ r_is), le_refl r.release);
+      })))
     where
       by : (k : Name) (r : QuotaRows) (b : Bool) → cond b None (get w.quotas k) ≡ Some r → get w.quotas k ≡ Some r
-      by k r true at = absurd (no_path at)
+      by k r true at = absurd (not_Some _ at)
       by k r false at = at
 
   -- ---- pools
@@ -207,15 +204,19 @@ module _ (w : World) (s : IsSound w) (q : IsQueued w) where
       stays_well _ (quiet_stays w _ h q (orderly w s)) (h.queued q))
     where
       by : (o : Option PoolRows) (p : PoolRows) → o ≡ Some p → p.release ≤ (with_pool pool o).release
-      by None p is = absurd (no_path is)
+      by None p is = absurd (not_Some _ is)
       by (Some o) p is = subst (λ (p : PoolRows). p.release ≤ o.release) (same_Some _ _ is) (le_refl o.release)
 
   pool_deleted : (name : Name) → KeepsStaff w (delete_pool name w)
   unfolding delete_pool
   pool_deleted name = leads_found (IsWell w) (get w.pools name) _ (λ o _. leads_unless (IsWell w) _ _ _ (λ _. leads_unless (IsWell w) _ _ _ (λ unused.
       looked_well (record w { pools = remove w.pools name }) refl refl refl (λ k t n worker kept is has keeps. record {
-        pool = λ p p_is. (p, get-remove names w.pools name kept.pool ∙
-            ap (λ b. cond b None (get w.pools kept.pool)) (other k t n worker kept is has keeps (right_none _ _ unused)) ∙ p_is, le_refl p.release);
+        pool = λ p p_is. (
+          p,
+          get-remove names w.pools name kept.pool ∙
+              ap (λ b. cond b None (get w.pools kept.pool)) (other k t n worker kept is has keeps (right_none _ _ unused)) ∙ p_is,
+          le_refl p.release,
+        );
         quota = λ q its r r_is. (r, r_is, le_refl r.release);
       }))))
     where
@@ -224,10 +225,10 @@ module _ (w : World) (s : IsSound w) (q : IsQueued w) where
           worker.kept ≡ Some kept → is_pool_in_use name w ≡ false → same_name kept.pool name ≡ false
       other k t n worker kept is has keeps unused =
           let none = right_none (names_pool name t.namespace) _
-              (none_of_any one_name (λ _ t. names_pool name t.namespace || looks_to_pool (same_name name) t) w.tenants k t unused is) in
+          (none_of_any one_name (λ _ t. names_pool name t.namespace || looks_to_pool (same_name name) t) w.tenants k t unused is) in
           turned_name name kept.pool (ap (λ o. option_map_or (λ kept. same_name name kept.pool) o false) (sym keeps)
           ∙ none_of_any one_number (λ _ worker. option_map_or (λ kept. same_name name kept.pool) worker.kept false) t.workers n worker
-              (unlooked (same_name name) t none) has)
+          (unlooked (same_name name) t none) has)
 
 -- ---- all that administrators ask
 

@@ -1,4 +1,4 @@
--- What is asked and told, and what a plan does, leaves workers and their evaluations alone.
+-- What is asked of a namespace and of a pool, and what a plan does, leaves workers and their evaluations alone.
 use Rattle.std.specs.Prelude.{◌≡◌, ℕ, ◌≤◌, Bool, true, false, cond, not, List, [], ◌∷◌, ◌++◌, Option, Some, None, fold}
 use Rattle.std.proofs.Common.{refl, sym, ap, ◌∙◌, arith}
 use Rattle.std.specs.FinMap.{get, insert}
@@ -6,7 +6,6 @@ use Rattle.std.specs.Option.{option_map_or}
 use Rattle.ns_types.specs.declared.allocation.Allocation.{Allocation}
 use Rattle.ns_types.specs.declared.allocation.ClientStatus.{ClientStatus}
 use Rattle.ns_types.specs.declared.allocation.DesiredStatus.{DesiredStatus}
-use Rattle.ns_types.specs.declared.allocation.DesiredStatus.TheVariants as DesiredStatus
 use Rattle.ns_types.specs.declared.evaluation.Trigger.TheVariants as Trigger
 use Rattle.ns_types.specs.declared.job.Job.{Job}
 use Rattle.ns_types.specs.declared.node.Node.{Node}
@@ -17,34 +16,26 @@ use Rattle.ns_types.specs.declared.refusal.Refusal.TheVariants as Refusal
 use Rattle.ns_types.specs.declared.reply.Content.TheVariants as Content
 use Rattle.ns_types.specs.declared.snapshot.Snapshot.{Snapshot}
 use Rattle.ns_types.specs.declared.step.AskCommand.{AskCommand}
-use Rattle.ns_types.specs.declared.step.AskCommand.TheVariants as AskCommand
 use Rattle.ns_types.specs.declared.step.NodeCommand.{NodeCommand}
-use Rattle.ns_types.specs.declared.step.NodeCommand.TheVariants as NodeCommand
 use Rattle.ns_types.specs.declared.step.Report.{Report}
-use Rattle.ns_types.specs.Asking.Asks.{deregistered, asked_in, ask}
-use Rattle.ns_types.specs.Working.Commit.{
-    still_stands, live_stops, stop_all, node_name, nodes_in, part_of, size_of, victims_of, evict, evict_all, Commit,
-    begun, accepts_at, decide, new_allocation, with_allocation, with_place, place_with, place_one, committed_placements,
-    place_all, Victim, evicted_rows, same_victim_job, least_of_job, make_up, refused_whole, done, commit
-}
+use Rattle.ns_types.specs.Asking.Asks.{deregistered, asked_in, ask, first_refusal}
+use Rattle.ns_types.specs.Working.Commit.{still_stands, live_stops, stop_all, node_name, nodes_in, part_of, size_of, victims_of, evict, evict_all, Commit}
+use Rattle.ns_types.specs.Working.Commit.{begun, accepts_at, decide, new_allocation, with_allocation, with_place, place_with, place_one, committed_placements}
+use Rattle.ns_types.specs.Working.Commit.{place_all, Victim, evicted_rows, same_victim_job, least_of_job, make_up, refused_whole, done, commit}
 use Rattle.ns_types.specs.State.Lists.{first_each}
 use Rattle.ns_types.specs.Settling.Making.{change_tenant, put_pool, with_node, with_desired, with_client, evaluation_for, make}
 use Rattle.ns_types.specs.State.Names.{Name}
-use Rattle.ns_types.specs.Asking.Nodes.{
-    losses, lost, lose, go_down, may_become, same_client, calls_for_one, reported, is_on, report_of, asked_in_pool,
-    ask_pool
-}
+use Rattle.ns_types.specs.Asking.Nodes.{losses, lost, lose, go_down, may_become, same_client, calls_for_one, reported, is_on, report_of, asked_in_pool}
+use Rattle.ns_types.specs.Asking.Nodes.{ask_pool}
 use Rattle.ns_types.specs.Settling.Outcome.{Refused, Done, unless}
 use Rattle.ns_types.specs.State.Resources.{plus}
 use Rattle.ns_types.specs.State.Rows.{World, Tenant, PoolRows, is_ready, allocation_at, node_at}
 use Rattle.ns_types.specs.State.Sums.{names_quota, quota_use}
 use Rattle.ns_types.specs.State.Tables.{map_rows}
-use Rattle.ns_audit.proofs.Alone.Chosen.{same_Some}
-use Rattle.ns_audit.proofs.Outcomes.{leads_unless, leads_found, leads_if}
-use Rattle.ns_audit.proofs.ValidWorkers.Quiet.{
-    Grows, grows_none, grows_then, Quiet, quiet_same, quiet_then, quiet_each, quiet_change, quiet_map, quiet_make_in,
-    quiet_make, quiet_pool, Quietly
-}
+use Rattle.ns_audit.proofs.Outcomes.{leads_unless, leads_refused, leads_found, leads_if}
+use Rattle.ns_audit.proofs.ValidWorkers.Quiet.{Grows, grows_none, grows_then, Quiet, quiet_same, quiet_then, quiet_each, quiet_change, quiet_map, quiet_make_in}
+use Rattle.ns_audit.proofs.ValidWorkers.Quiet.{quiet_make, quiet_pool, Quietly}
+use Rattle.ns_types.proofs.Tests.{same_Some}
 
 -- ---- one namespace
 
@@ -75,9 +66,8 @@ grows_deregistered false id job t = grows_none t _ refl refl refl
 
 asked_quiet : (w : World) (ns : Name) (command : AskCommand) (t : Tenant) → get w.tenants ns ≡ Some t → Quietly w (asked_in ns command w t)
 asked_quiet w ns (AskCommand.ListJobs prefix) t is = quiet_same w
-asked_quiet w ns (AskCommand.Register r) t is = leads_unless (Quiet w) _ _ _
-    (λ _. leads_unless (Quiet w) _ _ _ (λ _. leads_unless (Quiet w) _ _ _
-    (λ _. leads_unless (Quiet w) _ _ _ (λ _. quiet_make_in ns _ t _ w is (grows_none t _ refl refl refl)))))
+asked_quiet w ns (AskCommand.Register r) t is = leads_refused (Quiet w) (first_refusal w t r) _
+    (λ _. quiet_make_in ns _ t _ w is (grows_none t _ refl refl refl))
 asked_quiet w ns (AskCommand.ReadJob id) t is = leads_found (Quiet w) (get t.jobs id) _ (λ job _. quiet_same w)
 asked_quiet w ns (AskCommand.Deregister id purge) t is =
     leads_found (Quiet w) (get t.jobs id) _ (λ job _. quiet_make_in ns _ t (deregistered purge id job t) w is (grows_deregistered purge id job t))
@@ -99,14 +89,14 @@ pub ask_quiet : (w : World) (ns : Name) (command : AskCommand) → Quietly w (as
 unfolding ask
 ask_quiet w ns command = leads_found (Quiet w) (get w.tenants ns) (asked_in ns command w) (λ t is. asked_quiet w ns command t is)
 
--- ---- what is told
+-- ---- what is asked of a pool
 
 down_quiet : (pool node : Name) (w : World) → Quiet w (go_down pool node w)
 unfolding go_down
 down_quiet pool node w = quiet_then w (lose pool node w) _
     (quiet_map (λ _ t. record t { allocations = map_rows (λ _ a. lost pool node a) t.allocations }) (λ ns t. grows_none t _ refl refl refl) w)
     (quiet_each (λ x (loss : Name × Allocation). make loss.0 (λ t. evaluation_for t loss.1 Trigger.NodeUpdate) x) (λ x loss. quiet_make loss.0 _ x)
-        (losses pool node w) (lose pool node w))
+    (losses pool node w) (lose pool node w))
 
 reported_quiet : (r : Report) (a : Allocation) (w : World) → Quiet w (reported r a w)
 reported_quiet r a w = by (option_map_or (λ t. calls_for_one t a r.client) (get w.tenants r.namespace) false)
@@ -145,7 +135,7 @@ asked_in_pool_quiet w pool (NodeCommand.Report name r) p is = leads_found (Quiet
     leads_found (Quiet w) (allocation_at w (r.namespace, r.number)) (λ x. unless (not (is_on pool name x)) Refusal.NotFound (report_of r w x)) (λ a _.
     leads_unless (Quiet w) (not (is_on pool name a)) Refusal.NotFound (report_of r w a) (λ _.
     leads_if (Quiet w) (same_client a.client r.client) (Done Content.Written w)
-        (unless (not (may_become a.client r.client)) Refusal.Conflict (Done Content.Written (reported r a w))) (λ _. quiet_same w)
+    (unless (not (may_become a.client r.client)) Refusal.Conflict (Done Content.Written (reported r a w))) (λ _. quiet_same w)
     (λ _. leads_unless (Quiet w) (not (may_become a.client r.client)) Refusal.Conflict (Done Content.Written (reported r a w)) (λ _. reported_quiet r a w)))))
 
 pub ask_pool_quiet : (w : World) (pool : Name) (command : NodeCommand) → Quietly w (ask_pool pool command w)
@@ -162,8 +152,13 @@ decided_one : (kept : Snapshot) (ps : List Placement) (c : Commit) (n : ℕ) →
 unfolding decide
 decided_one kept ps c n = by (accepts_at kept (evict_all c.world (victims_of c.world kept (part_of n ps))) (node_name kept n) (part_of n ps) c.placed)
   where
-    by : (b : Bool) → Quiet c.world (cond b (record { world = evict_all c.world (victims_of c.world kept (part_of n ps)); placed =
-        plus c.placed (size_of (part_of n ps)); committed = c.committed ++ n ∷ []; dropped = c.dropped }) (record c { dropped = c.dropped ++ n ∷ [] })).world
+    by : (b : Bool) → Quiet c.world (cond b (record {
+      world = evict_all c.world (victims_of c.world kept (part_of n ps));
+      placed =
+          plus c.placed (size_of (part_of n ps));
+      committed = c.committed ++ n ∷ [];
+      dropped = c.dropped;
+    }) (record c { dropped = c.dropped ++ n ∷ [] })).world
     by true = evicted_quiet (victims_of c.world kept (part_of n ps)) c.world
     by false = quiet_same c.world
 
@@ -188,7 +183,7 @@ placed_quiet kept p w = job kept.job
     node j (Some n) =
         let x = change_tenant kept.namespace (with_allocation (new_allocation kept j p n)) w in
         quiet_then w x _ (quiet_change kept.namespace (with_allocation (new_allocation kept j p n)) (λ t. grows_none t _ refl refl refl) w)
-            (counted_quiet kept.pool (node_name kept p.node) n x)
+        (counted_quiet kept.pool (node_name kept p.node) n x)
 
     job : (o : Option Job) → Quiet w (option_map_or (λ job. option_map_or (place_with kept p w job) (node_at w kept.pool (node_name kept p.node)) w) o w)
     job None = quiet_same w

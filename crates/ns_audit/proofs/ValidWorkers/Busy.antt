@@ -10,11 +10,11 @@ use Rattle.ns_types.specs.State.Names.{Name, Key, ByNumber, same_name, same_key,
 use Rattle.ns_types.specs.Working.Queue.{is_of_job, is_busy, queue, first_waiting, promote}
 use Rattle.ns_types.specs.State.Rows.{World, Tenant, is_pending}
 use Rattle.ns_types.proofs.Lists.{not_both, left_none, right_none}
-use Rattle.ns_types.proofs.Named.{numbers as numbers_, one_number, same_name_is, same_name_refl, first_of_both}
+use Rattle.ns_types.proofs.Named.{numbers as numbers_, one_number, same_name_is, same_name_refl, first_of_both, same_key_is}
 use Rattle.ns_types.proofs.Tables.{each_row}
-use Rattle.ns_audit.proofs.Alone.Chosen.{no_path, same_Some}
-use Rattle.ns_audit.proofs.Every.{row_of_insert}
-use Rattle.ns_audit.proofs.Steady.Keeping.{or_cases, has_key_append, same_key_is, free_of}
+use Rattle.ns_types.proofs.Tests.{not_Some, same_Some, either_of}
+use Rattle.ns_types.proofs.TableRows.{row_of_insert}
+use Rattle.ns_audit.proofs.Steady.Keeping.{has_key_append, free_of}
 use Rattle.ns_audit.proofs.Steady.Work.{removed_row}
 use Rattle.ns_audit.proofs.Steady.Workers.{find_each}
 use Rattle.ns_audit.proofs.ValidWorkers.Once.{is_once, once_append}
@@ -61,7 +61,7 @@ queued_in ready less ns t u q numbered busy rows = record {
       let x = rows m a.0 a.1 in
       let y = rows n b.0 b.1 in
       q.one_busy m n a.0 b.0 (busy m bm) (busy n bn) a.1 b.1 (sym x.2 ∙ ap (λ (e : Evaluation). e.job) (same_Some _ _ (sym x.1 ∙ dm)) ∙ same ∙
-          ap (λ (e : Evaluation). e.job) (same_Some _ _ (sym en ∙ y.1)) ∙ y.2);
+      ap (λ (e : Evaluation). e.job) (same_Some _ _ (sym en ∙ y.1)) ∙ y.2);
 }
 
 -- ---- workers
@@ -75,14 +75,19 @@ worker_of_insert workers number new n h = by (row_of_insert numbers_ one_number 
     by (inr at) = inr (record { number = h.number; worker = h.worker; is_worker = at; same = h.same })
 
 pub worker_of_remove : (workers : ByNumber Worker) (number : ℕ) (n : ℕ) → HasWorker (remove workers number) n → HasWorker workers n
-worker_of_remove workers number n h = record { number = h.number; worker = h.worker; is_worker =
-    (removed_row workers number h.number h.worker h.is_worker).0; same = h.same }
+worker_of_remove workers number n h = record {
+  number = h.number;
+  worker = h.worker;
+  is_worker =
+      (removed_row workers number h.number h.worker h.is_worker).0;
+  same = h.same;
+}
 
 -- ---- the lists
 
 pub any_at : (f : Key → Bool) (keys : List Key) (key : Key) → has_key keys key ≡ true → list_any f keys ≡ false → f key ≡ false
 any_at f [] key has none = not_both has refl
-any_at f (x ∷ xs) key has none = by (λ later. any_at f xs key later (right_none (f x) _ none)) (or_cases (same_key key x) _ has)
+any_at f (x ∷ xs) key has none = by (λ later. any_at f xs key later (right_none (f x) _ none)) (either_of (same_key key x) _ has)
   where
     by : (has_key xs key ≡ true → f key ≡ false) → (same_key key x ≡ true) ⊎ (has_key xs key ≡ true) → f key ≡ false
     by rest (inl here) = let k = same_key_is key x here in ap f (λ i. (k.0 i, k.1 i)) ∙ left_none (f x) _ none
@@ -94,7 +99,7 @@ module _ (w : World) (q : IsQueued w) (ns : Name) (n : ℕ) (t : Tenant) (e : Ev
   not_busy : (m : ℕ) (d : Evaluation) → get t.evaluations m ≡ Some d → d.job ≡ e.job → IsBusyIn w.ready ns t.workers m → ⊥
   not_busy m d d_at same (inl has) = not_both
       (λ i. same_name_refl ns i && (ap (λ o. option_map_or (λ (x : Evaluation). same_name e.job x.job) o false)
-          (ap (option_and_then (λ (t : Tenant). get t.evaluations m)) is ∙ d_at) ∙ ap (same_name e.job) same ∙ same_name_refl e.job) i)
+      (ap (option_and_then (λ (t : Tenant). get t.evaluations m)) is ∙ d_at) ∙ ap (same_name e.job) same ∙ same_name_refl e.job) i)
       (any_at (is_of_job w ns e.job) w.ready (ns, m) has (left_none _ _ idle))
   not_busy m d d_at same (inr h) = free_of w ns e.job m t d idle is d_at (ap (same_name e.job) same ∙ same_name_refl e.job) h.number h.worker h.is_worker h.same
 
@@ -179,10 +184,10 @@ waiting_of t job n is = by (find f (entries t.evaluations)) refl is
 
     by : (x : Option (ℕ × Evaluation)) → find f (entries t.evaluations) ≡ x → option_map (λ e. e.0) x ≡ Some n → (e : Evaluation) ×
         (get t.evaluations n ≡ Some e) × (job ≡ e.job)
-    by None found is = absurd (no_path is)
+    by None found is = absurd (not_Some _ is)
     by (Some x) found is =
         let y = find_each (λ e. get t.evaluations e.0 ≡ Some e.1) f (entries t.evaluations) x
-            (each_row numbers_ one_number (λ k e. get t.evaluations k ≡ Some e) t.evaluations (λ k e at. at)) found in
+        (each_row numbers_ one_number (λ k e. get t.evaluations k ≡ Some e) t.evaluations (λ k e at. at)) found in
         (x.1, ap (get t.evaluations) (sym (same_Some _ _ is)) ∙ y.0, same_name_is job x.1.job (first_of_both _ _ y.1))
 
 pub promote_queued : (ns job : Name) (w : World) → IsQueued w → IsQueued (promote ns job w)

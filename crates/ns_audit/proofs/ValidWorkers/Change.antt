@@ -15,10 +15,9 @@ use Rattle.ns_types.specs.State.Rows.{World, Tenant}
 use Rattle.ns_types.specs.Validity.{IsPlanned}
 use Rattle.ns_types.specs.Working.Work.{at_work}
 use Rattle.ns_types.proofs.Lists.{not_both}
-use Rattle.ns_types.proofs.Named.{names, one_name, numbers as numbers_, one_number, same_name_is, same_name_refl, same_number_refl}
+use Rattle.ns_types.proofs.Named.{names, one_name, numbers as numbers_, one_number, same_name_is, same_name_refl, same_number_refl, same_key_is}
 use Rattle.ns_types.proofs.Tables.{tied}
-use Rattle.ns_audit.proofs.Alone.Chosen.{same_Some}
-use Rattle.ns_audit.proofs.Steady.Keeping.{same_key_is}
+use Rattle.ns_types.proofs.Tests.{same_Some}
 use Rattle.ns_audit.proofs.Outcomes.{leads_there}
 use Rattle.ns_audit.proofs.ValidWorkers.Admins.{IsWell, KeepsStaff}
 use Rattle.ns_audit.proofs.ValidWorkers.Busy.{IsQueued}
@@ -90,7 +89,7 @@ module _ (w b x : World) (ns : Name) (number n : ℕ) (t u : Tenant) (s : IsStaf
   })
   came_at k y m v (inl e) has = subst (λ k. ((k ≡ ns) × IsMine w x k number n y m v) ⊎ IsOther b number k y m v) (sym e.0)
       (subst (λ y. ((ns ≡ ns) × IsMine w x ns number n y m v) ⊎ IsOther b number ns y m v) e.1
-          (by (r.back m v (ap (λ (t : Tenant). get t.workers m) e.1 ∙ has))))
+      (by (r.back m v (ap (λ (t : Tenant). get t.workers m) e.1 ∙ has))))
     where
       by : IsMine w x ns number n u m v ⊎ ((get t.workers m ≡ Some v) × (m ≢ number)) → ((ns ≡ ns) × IsMine w x ns number n u m v) ⊎ IsOther b number ns u m v
       by (inl mine) = inl (refl, mine)
@@ -108,8 +107,12 @@ module _ (w b x : World) (ns : Name) (number n : ℕ) (t u : Tenant) (s : IsStaf
       at c e = ap (λ m. get m k) r.put ∙ get-insert names b.tenants ns u k ∙ (λ i. cond (e i) (Some u) (is i))
 
       by : (c : Bool) → same_name k ns ≡ c → (z : Tenant) × (get x.tenants k ≡ Some z) × (get z.workers m ≡ Some v)
-      by true e = (u, at true e, r.on m v (ap (λ (t : Tenant). get t.workers m)
-          (same_Some _ _ (sym r.is_tenant ∙ ap (get b.tenants) (sym (same_name_is k ns e)) ∙ is)) ∙ has) differs)
+      by true e = (
+        u,
+        at true e,
+        r.on m v (ap (λ (t : Tenant). get t.workers m)
+            (same_Some _ _ (sym r.is_tenant ∙ ap (get b.tenants) (sym (same_name_is k ns e)) ∙ is)) ∙ has) differs,
+      )
       by false e = (y, at false e, has)
 
   -- its evaluation is not the one at hand
@@ -119,7 +122,7 @@ module _ (w b x : World) (ns : Name) (number n : ℕ) (t u : Tenant) (s : IsStaf
       by : (c : Bool) → same_key (k, v.evaluation) (ns, n) ≡ c → c ≡ false
       by true e = let p = same_key_is (k, v.evaluation) (ns, n) e in
           absurd (r.free m v (ap (λ (t : Tenant). get t.workers m) (same_Some _ _ (sym r.is_tenant ∙ ap (get b.tenants) (sym p.0) ∙ o.is_tenant)) ∙ o.is_worker)
-              o.differs p.1)
+          o.differs p.1)
       by false _ = refl
 
   able_at : (k : Name) (y : Tenant) (m : ℕ) (v : Worker) → ((k ≡ ns) × IsMine w x k number n y m v) ⊎ IsOther b number k y m v → IsAbleWorker x k y m v
@@ -148,10 +151,10 @@ module _ (w b x : World) (ns : Name) (number n : ℕ) (t u : Tenant) (s : IsStaf
           o.is_worker) o.differs same
   each_at k y l m v z (inr o) (inl c) e =
       absurd (r.free l v (ap (λ (t : Tenant). get t.workers l) (same_Some _ _ (sym r.is_tenant ∙ ap (get b.tenants) (sym c.0) ∙ o.is_tenant)) ∙ o.is_worker)
-          o.differs (e ∙ c.1.its_evaluation))
+      o.differs (e ∙ c.1.its_evaluation))
   each_at k y l m v z (inr o) (inr p) e =
       s.one_each k o.tenant l m v z o.is_tenant o.is_worker (ap (λ (t : Tenant). get t.workers m) (same_Some _ _ (sym o.is_tenant ∙ p.is_tenant)) ∙ p.is_worker)
-          e
+      e
 
   row_at : (a c : Name) (y z : Tenant) (m : ℕ) (v q : Worker) → ((a ≡ ns) × IsMine w x a number n y m v) ⊎ IsOther b number a y m v →
       ((c ≡ ns) × IsMine w x c number n z m q) ⊎ IsOther b number c z m q → a ≡ c
@@ -168,7 +171,7 @@ module _ (w b x : World) (ns : Name) (number n : ℕ) (t u : Tenant) (s : IsStaf
       let g = goes key.0 p.tenant p.number p.worker p.is_tenant p.is_worker (λ same.
       let o = r.was key.0 p.tenant p.worker p.is_tenant (ap (get p.tenant.workers) (sym same) ∙ p.is_worker) in
       not_both (λ i. (ap (λ k. same_name k ns) o.0 ∙ same_name_refl ns) i && (ap (λ m. eq_by_cmp nat_cmp m n) (sym p.same ∙ o.1) ∙ same_number_refl n) i) e) in
-          record {
+      record {
         tenant = g.0;
         number = p.number;
         worker = p.worker;
@@ -197,9 +200,11 @@ module _ (b : World) (s : IsStaffed b) (ns : Name) (number : ℕ) (t : Tenant) (
     (has : get t.workers number ≡ Some worker) where
   pub was_here : (k : Name) (y : Tenant) (v : Worker) → get b.tenants k ≡ Some y → get y.workers number ≡ Some v → (k ≡ ns) × (v.evaluation ≡ worker.evaluation)
   was_here k y v k_is v_has =
-      let same = s.one_row k ns y t number v worker k_is is v_has has in
-      (same, ap (λ (v : Worker). v.evaluation) (same_Some _ _
-          (sym v_has ∙ ap (λ (t : Tenant). get t.workers number) (same_Some _ _ (sym k_is ∙ ap (get b.tenants) same ∙ is)) ∙ has)))
+      let same = s.one_row k ns y t number v worker k_is is v_has has in (
+        same,
+        ap (λ (v : Worker). v.evaluation) (same_Some _ _
+            (sym v_has ∙ ap (λ (t : Tenant). get t.workers number) (same_Some _ _ (sym k_is ∙ ap (get b.tenants) same ∙ is)) ∙ has)),
+      )
 
   pub free_here : (m : ℕ) (v : Worker) → get t.workers m ≡ Some v → m ≢ number → v.evaluation ≢ worker.evaluation
   free_here m v at differs same = differs (s.one_each ns t m number v worker is at has same)
@@ -208,14 +213,14 @@ module _ (b : World) (s : IsStaffed b) (ns : Name) (number : ℕ) (t : Tenant) (
 
 pub working_staff : (w : World) (number : ℕ) (ns : Name) (act : Tenant → Worker → Evaluation → Outcome World)
     → ((t : Tenant) (worker : Worker) (e : Evaluation) → get w.tenants ns ≡ Some t → get t.workers number ≡ Some worker →
-        get t.evaluations worker.evaluation ≡ Some e → KeepsStaff w (act t worker e)) → KeepsStaff w (at_work number ns w act)
+    get t.evaluations worker.evaluation ≡ Some e → KeepsStaff w (act t worker e)) → KeepsStaff w (at_work number ns w act)
 working_staff w number ns act h = leads_there (IsWell w) (get w.tenants ns) _
     (λ t is. leads_there (IsWell w) (get t.workers number) _
     (λ worker at. leads_there (IsWell w) (get t.evaluations worker.evaluation) (act t worker) (λ e row. h t worker e is at row)))
 
 pub keeping_staff : (w : World) (number : ℕ) (ns : Name) (act : Tenant → Worker → Evaluation → Snapshot → Outcome World)
     → ((t : Tenant) (worker : Worker) (e : Evaluation) (kept : Snapshot) → get w.tenants ns ≡ Some t → get t.workers number ≡ Some worker →
-        get t.evaluations worker.evaluation ≡ Some e → worker.kept ≡ Some kept → KeepsStaff w (act t worker e kept))
+    get t.evaluations worker.evaluation ≡ Some e → worker.kept ≡ Some kept → KeepsStaff w (act t worker e kept))
     → KeepsStaff w (at_work number ns w (λ t worker e. option_map_or (act t worker e) worker.kept NotEnabled))
 keeping_staff w number ns act h = working_staff w number ns (λ t worker e. option_map_or (act t worker e) worker.kept NotEnabled)
     (λ t worker e is at row. leads_there (IsWell w) worker.kept (act t worker e) (λ kept has. h t worker e kept is at row has))

@@ -6,11 +6,9 @@ use Rattle.std.specs.Option.{option_map_or}
 use Rattle.std.specs.Ordering.{eq_by_cmp, nat_cmp}
 use Rattle.ns_types.specs.declared.evaluation.Evaluation.{Evaluation}
 use Rattle.ns_types.specs.declared.evaluation.Status.{Status}
-use Rattle.ns_types.specs.declared.evaluation.Status.TheVariants as Status
 use Rattle.ns_types.specs.declared.reply.Content.TheVariants as Content
 use Rattle.ns_types.specs.declared.snapshot.Snapshot.{Snapshot}
 use Rattle.ns_types.specs.declared.worker.Phase.{Phase}
-use Rattle.ns_types.specs.declared.worker.Phase.TheVariants as Phase
 use Rattle.ns_types.specs.declared.worker.Worker.{Worker}
 use Rattle.ns_types.specs.Settling.Making.{put_tenant, with_status, with_evaluation}
 use Rattle.ns_types.specs.State.Names.{Name, Key, same_key, has_key}
@@ -19,17 +17,15 @@ use Rattle.ns_types.specs.Working.Queue.{first_waiting, is_busy, promote}
 use Rattle.ns_types.specs.Settling.Releases.{missed}
 use Rattle.ns_types.specs.State.Rows.{World, Tenant}
 use Rattle.ns_types.specs.Validity.{IsSound}
-use Rattle.ns_types.specs.Working.Work.{
-    without_worker, without_key, end_of, needs_follower, follower_of, blocked_of, without_blocked, cancel_blocked,
-    ended, with_follower, followed, may_finish_in, may_finish, finished, finish_for, finish, is_submitted, most_nacks,
-    with_nack, given_back, given_up, nack_for, nack
-}
+use Rattle.ns_types.specs.Working.Work.{without_worker, without_key, end_of, needs_follower, follower_of, blocked_of, without_blocked, cancel_blocked, ended}
+use Rattle.ns_types.specs.Working.Work.{with_follower, followed, may_finish_in, may_finish, finished, finish_for, finish, is_submitted, most_nacks, with_nack}
+use Rattle.ns_types.specs.Working.Work.{given_back, given_up, nack_for, nack}
 use Rattle.ns_types.proofs.Lists.{not_both}
-use Rattle.ns_types.proofs.Named.{names, one_name, numbers as numbers_, one_number, same_number_refl}
+use Rattle.ns_types.proofs.Named.{names, one_name, numbers as numbers_, one_number, same_number_refl, same_key_is}
 use Rattle.ns_types.proofs.Tables.{tied}
-use Rattle.ns_audit.proofs.Alone.Chosen.{same_Some}
-use Rattle.ns_audit.proofs.Every.{row_of_insert}
-use Rattle.ns_audit.proofs.Steady.Keeping.{at_inserted, elsewhere, has_key_append, same_key_is}
+use Rattle.ns_types.proofs.Tests.{same_Some}
+use Rattle.ns_types.proofs.TableRows.{row_of_insert}
+use Rattle.ns_audit.proofs.Steady.Keeping.{at_inserted, elsewhere, has_key_append}
 use Rattle.ns_audit.proofs.Steady.Finish.{blocked_row}
 use Rattle.ns_audit.proofs.Steady.Work.{removed_row, pending_not_blocked}
 use Rattle.ns_audit.proofs.Outcomes.{leads_if}
@@ -106,7 +102,7 @@ ends_cancel n job t = by (blocked_of t job) refl
     by (Some k) is =
         let b = blocked_row t job k is in
         subst (Ends n t) (sym (ap (λ o. option_map_or (λ e. record t { evaluations = insert t.evaluations k (record e { status = Status.Canceled }) }) o t)
-            b.is_row))
+        b.is_row))
         (ends_row n k t b.row (record b.row { status = Status.Canceled }) b.is_row refl (inr (λ p. pending_not_blocked b.row.status p b.is_blocked)))
 
 ends_follower : (n : ℕ) (f : Evaluation) (t : Tenant) → Ends n t (with_follower n f t)
@@ -117,17 +113,24 @@ ends_follower n f t = by (get t.evaluations n) refl
 
     grown : (u : Tenant) → Ends n u (with_evaluation f u)
     grown u = let g = grows_with_evaluation f u in
-        record { numbered = g.numbered; jobs = λ numbered m e at. (e, g.rows numbered m e at, refl); pending =
-        λ numbered m e differs p at. g.rows numbered m e at }
+        record {
+          numbered = g.numbered;
+          jobs = λ numbered m e at. (e, g.rows numbered m e at, refl);
+          pending =
+              λ numbered m e differs p at. g.rows numbered m e at;
+        }
 
     by : (o : Option Evaluation) → get t.evaluations n ≡ o →
-        Ends n t (record (tied_row o) { evaluation_number = t.evaluation_number + 1; evaluations =
-        insert (tied_row o).evaluations (t.evaluation_number + 1) f })
+        Ends n t (record (tied_row o) {
+          evaluation_number = t.evaluation_number + 1;
+          evaluations =
+              insert (tied_row o).evaluations (t.evaluation_number + 1) f;
+        })
     by None at = grown t
     by (Some e) at =
         let row : Evaluation = record e { follower = Some (t.evaluation_number + 1) } in
         ends_then n t (record t { evaluations = insert t.evaluations n row }) _ (ends_row n n t e row at refl (inl refl))
-            (grown (record t { evaluations = insert t.evaluations n row }))
+        (grown (record t { evaluations = insert t.evaluations n row }))
 
 -- ---- who is gone
 
@@ -195,7 +198,7 @@ module _ (w : World) (s : IsSound w) (q : IsQueued w) (ns : Name) (number : ℕ)
     rows = λ m v at differs.
         let p = ((orderly w s).tenant ns t is).held m v at in
         ends.pending numbered v.evaluation p.row (free_here w (sound_staffed w s) ns number t worker is has m v at differs) p.is_pending p.is_row ∙
-            sym p.is_row;
+        sym p.is_row;
     other_plans = λ key differs. ap (λ keys. has_key keys key) plans;
     plans_once = ap (λ keys. is_once same_key keys) plans ∙ (sound_staffed w s).plans_once;
     planned = λ listed. absurd (not_both (ap (λ keys. has_key keys (ns, worker.evaluation)) (sym plans) ∙ listed)
@@ -258,7 +261,7 @@ module _ (w : World) (s : IsSound w) (q : IsQueued w) (ns : Name) (number : ℕ)
   nack_well = working_staff w number ns (nack_for number ns w) (λ t worker e is has at.
       leads_if (IsWell w) (is_submitted worker.phase) NotEnabled _ (λ _. tt) (λ idle.
       leads_if (IsWell w) (nat_le most_nacks (e.nacks + 1)) (given_up number ns w (with_nack worker.evaluation e t) worker e)
-          (given_back number ns w (with_nack worker.evaluation e t) worker)
+      (given_back number ns w (with_nack worker.evaluation e t) worker)
       (λ _. up t worker e is has at idle) (λ _. back t worker e is has at idle)))
     where
       nacked : (t : Tenant) (worker : Worker) (e : Evaluation) → get t.evaluations worker.evaluation ≡ Some e →
@@ -273,7 +276,7 @@ module _ (w : World) (s : IsSound w) (q : IsQueued w) (ns : Name) (number : ℕ)
       back t worker e is has at idle =
           let u = without_worker number (with_nack worker.evaluation e t) in
           gone_well w s q ns number t worker is has idle u refl (nacked t worker e at)
-              (record (put_tenant ns u w) { ready = w.ready ++ (ns, worker.evaluation) ∷ [] }) refl refl refl refl
+          (record (put_tenant ns u w) { ready = w.ready ++ (ns, worker.evaluation) ∷ [] }) refl refl refl refl
           (back_queued w s q ns number t worker is has idle u refl (nacked t worker e at))
 
       up : (t : Tenant) (worker : Worker) (e : Evaluation) → get w.tenants ns ≡ Some t → get t.workers number ≡ Some worker →
@@ -286,9 +289,9 @@ module _ (w : World) (s : IsSound w) (q : IsQueued w) (ns : Name) (number : ℕ)
           let workers = with_status_workers worker.evaluation Status.Failed v in
           gone_well w s q ns number t worker is has idle u workers ends (promote ns e.job (put_tenant ns u w))
           (promote_keeps (λ w. w.tenants) (λ w keys. refl) ns e.job (put_tenant ns u w))
-              (promote_keeps (λ w. w.plans) (λ w keys. refl) ns e.job (put_tenant ns u w))
+          (promote_keeps (λ w. w.plans) (λ w keys. refl) ns e.job (put_tenant ns u w))
           (promote_keeps (λ w. w.pools) (λ w keys. refl) ns e.job (put_tenant ns u w))
-              (promote_keeps (λ w. w.quotas) (λ w keys. refl) ns e.job (put_tenant ns u w))
+          (promote_keeps (λ w. w.quotas) (λ w keys. refl) ns e.job (put_tenant ns u w))
           (promote_queued ns e.job (put_tenant ns u w) (gone_queued w s q ns number t worker is has idle u workers ends w q refl))
 
 -- ---- Finish
@@ -319,14 +322,14 @@ module _ (w : World) (s : IsSound w) (q : IsQueued w) (ns : Name) (number : ℕ)
   rest_ends = ends_then worker.evaluation t (without_worker number t) rest (ends_same worker.evaluation t (without_worker number t) refl refl)
       (ends_then worker.evaluation (without_worker number t) (with_status worker.evaluation (end_of worker) (without_worker number t)) rest
       (ends_status worker.evaluation (end_of worker) (without_worker number t))
-          (ends_cancel worker.evaluation e.job (with_status worker.evaluation (end_of worker) (without_worker number t))))
+      (ends_cancel worker.evaluation e.job (with_status worker.evaluation (end_of worker) (without_worker number t))))
 
   -- the namespace is put back, others are blocked, and the next one of the job is ready
   put_well : (u : Tenant) → u.workers ≡ remove t.workers number → Ends worker.evaluation t u → (x : World) → x.tenants ≡ insert less.tenants ns u →
       x.ready ≡ less.ready → x.plans ≡ less.plans → x.pools ≡ less.pools → x.quotas ≡ less.quotas → IsWell w (promote ns e.job x)
   put_well u workers ends x tenants ready plans pools quotas = gone_well w s q ns number t worker is has idle u workers ends (promote ns e.job x)
       (promote_keeps (λ w. w.tenants) (λ w keys. refl) ns e.job x ∙ tenants ∙
-          ap (λ m. insert m ns u) (less_keeps (λ w. w.tenants) (λ w keys. refl) ns e.job t w))
+      ap (λ m. insert m ns u) (less_keeps (λ w. w.tenants) (λ w keys. refl) ns e.job t w))
       (promote_keeps (λ w. w.plans) (λ w keys. refl) ns e.job x ∙ plans ∙ less_keeps (λ w. w.plans) (λ w keys. refl) ns e.job t w)
       (promote_keeps (λ w. w.pools) (λ w keys. refl) ns e.job x ∙ pools ∙ less_keeps (λ w. w.pools) (λ w keys. refl) ns e.job t w)
       (promote_keeps (λ w. w.quotas) (λ w keys. refl) ns e.job x ∙ quotas ∙ less_keeps (λ w. w.quotas) (λ w keys. refl) ns e.job t w)
@@ -341,12 +344,12 @@ module _ (w : World) (s : IsSound w) (q : IsQueued w) (ns : Name) (number : ℕ)
   followed_well f false = put_well (with_follower worker.evaluation f rest) (follower_workers worker.evaluation f rest ∙ rest_workers)
       (ends_then worker.evaluation t rest _ rest_ends (ends_follower worker.evaluation f rest))
       (record (put_tenant ns (with_follower worker.evaluation f rest) less) { blocked = less.blocked ++ (ns, rest.evaluation_number + 1) ∷ [] })
-          refl refl refl refl refl
+      refl refl refl refl refl
 
   finished_well : (kept : Snapshot) → KeepsStaff w (finished number ns w t worker e kept)
   finished_well kept = leads_if (IsWell w) (needs_follower worker kept)
       (Done (Content.Finished (end_of worker) (Some (t.evaluation_number + 1)))
-          (promote ns e.job (followed ns worker (follower_of e worker kept) rest (missed w kept (follower_of e worker kept)) less)))
+      (promote ns e.job (followed ns worker (follower_of e worker kept) rest (missed w kept (follower_of e worker kept)) less)))
       (Done (Content.Finished (end_of worker) None) (promote ns e.job (put_tenant ns rest less)))
       (λ _. followed_well (follower_of e worker kept) (missed w kept (follower_of e worker kept)))
       (λ _. put_well rest rest_workers rest_ends (put_tenant ns rest less) refl refl refl refl refl)

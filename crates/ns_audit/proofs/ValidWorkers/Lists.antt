@@ -15,19 +15,16 @@ use Rattle.ns_types.specs.State.Rows.{World, Tenant}
 use Rattle.ns_types.specs.State.Tables.{any_row}
 use Rattle.ns_types.specs.Validity.{busy_with, jobs_at, same_found}
 use Rattle.ns_types.proofs.Lists.{not_both, left_none, right_none}
-use Rattle.ns_types.proofs.Named.{numbers as numbers_, one_number, same_name_is, same_name_refl, first_of_both, second_of_both}
+use Rattle.ns_types.proofs.Named.{numbers as numbers_, one_number, same_name_is, same_name_refl, first_of_both, second_of_both, same_key_is, same_key_refl}
 use Rattle.ns_types.proofs.Tables.{each_row, none_of_any}
-use Rattle.ns_audit.proofs.Alone.Chosen.{off}
-use Rattle.ns_audit.proofs.Every.{first, second}
-use Rattle.ns_audit.proofs.Steady.Keeping.{or_cases, or_true, has_key_filter, same_key_is, same_key_refl}
+use Rattle.ns_types.proofs.Elements.{any_map}
+use Rattle.ns_types.proofs.Tests.{is_no, first, second, either_of}
+use Rattle.std.proofs.lemmas.Bool.{or_right}
+use Rattle.ns_audit.proofs.Steady.Keeping.{has_key_filter}
 use Rattle.ns_audit.proofs.ValidWorkers.Busy.{HasWorker, IsBusyIn, any_at}
 use Rattle.ns_audit.proofs.ValidWorkers.Once.{is_once, once_filter, has_key_still}
 
 -- ---- lists of what keys show
-
-any_map : {A B : Type 0} (p : B → Bool) (f : A → B) (xs : List A) → list_any p (map f xs) ≡ list_any (λ x. p (f x)) xs
-any_map p f [] = refl
-any_map p f (x ∷ xs) = λ i. p (f x) || any_map p f xs i
 
 module _ {A : Type 0} (same : A → A → Bool) (f : Key → A) where
   -- no two that show the same
@@ -35,10 +32,11 @@ module _ {A : Type 0} (same : A → A → Bool) (f : Key → A) where
       same (f b) (f a) ≡ true → same_key a b ≡ true
   once_shows [] once a b a_in b_in ab ba = absurd (subst T (sym a_in) tt)
   once_shows (x ∷ xs) once a b a_in b_in ab ba = by (λ p q. once_shows xs (second_of_both (not (list_any (same (f x)) (map f xs))) _ once) a b p q ab ba)
-      (or_cases (same_key a x) _ a_in) (or_cases (same_key b x) _ b_in)
+      (either_of (same_key a x) _ a_in) (either_of (same_key b x) _ b_in)
     where
       none : (k : Key) → has_key xs k ≡ true → same (f x) (f k) ≡ false
-      none k k_in = any_at (λ k. same (f x) (f k)) xs k k_in (sym (any_map (same (f x)) f xs) ∙ off (list_any (same (f x)) (map f xs)) (first_of_both _ _ once))
+      none k k_in = any_at (λ k. same (f x) (f k)) xs k k_in
+          (sym (any_map (same (f x)) f xs) ∙ is_no (list_any (same (f x)) (map f xs)) (first_of_both _ _ once))
 
       at : (k : Key) → same_key k x ≡ true → k ≡ x
       at k is = let p = same_key_is k x is in λ i. (p.0 i, p.1 i)
@@ -54,7 +52,7 @@ module _ {A : Type 0} (same : A → A → Bool) (f : Key → A) where
       → list_any (same (f x)) (map f xs) ≡ false
   shows_none x [] none h = refl
   shows_none x (y ∷ ys) none h = λ i. here (same (f x) (f y)) refl i
-      || shows_none x ys (right_none (same_key x y) _ none) (λ k k_in. h k (or_true (same_key k y) _ k_in)) i
+      || shows_none x ys (right_none (same_key x y) _ none) (λ k k_in. h k (or_right (same_key k y) _ k_in)) i
     where
       here : (b : Bool) → same (f x) (f y) ≡ b → same (f x) (f y) ≡ false
       here true is = not_both (h y (ap (λ b. b || has_key ys y) (same_key_refl y)) is) (left_none (same_key x y) _ none)
@@ -64,18 +62,18 @@ module _ {A : Type 0} (same : A → A → Bool) (f : Key → A) where
       ((a b : Key) → has_key keys a ≡ true → has_key keys b ≡ true → same (f a) (f b) ≡ true → same_key a b ≡ true) → is_once same (map f keys) ≡ true
   shows_once [] once h = refl
   shows_once (x ∷ xs) once h = λ i.
-      not (shows_none x xs (off (list_any (same_key x) xs) (first_of_both _ _ once))
-          (λ k k_in. h x k (ap (λ b. b || has_key xs x) (same_key_refl x)) (or_true (same_key k x) _ k_in)) i)
+      not (shows_none x xs (is_no (list_any (same_key x) xs) (first_of_both _ _ once))
+      (λ k k_in. h x k (ap (λ b. b || has_key xs x) (same_key_refl x)) (or_right (same_key k x) _ k_in)) i)
       && shows_once xs (second_of_both (not (list_any (same_key x) xs)) _ once)
-          (λ a b a_in b_in. h a b (or_true (same_key a x) _ a_in) (or_true (same_key b x) _ b_in)) i
+      (λ a b a_in b_in. h a b (or_right (same_key a x) _ a_in) (or_right (same_key b x) _ b_in)) i
 
 once_join : (xs ys : List Key) → is_once same_key xs ≡ true → is_once same_key ys ≡ true → ((k : Key) → has_key xs k ≡ true → has_key ys k ≡ false) →
     is_once same_key (xs ++ ys) ≡ true
 once_join [] ys a b apart = b
 once_join (x ∷ xs) ys a b apart = λ i.
-    not ((list_any-append (same_key x) xs ys ∙ (λ i. off (list_any (same_key x) xs) (first_of_both _ _ a) i
-        || apart x (ap (λ b. b || has_key xs x) (same_key_refl x)) i)) i)
-    && once_join xs ys (second_of_both (not (list_any (same_key x) xs)) _ a) b (λ k k_in. apart k (or_true (same_key k x) _ k_in)) i
+    not ((list_any-append (same_key x) xs ys ∙ (λ i. is_no (list_any (same_key x) xs) (first_of_both _ _ a) i
+    || apart x (ap (λ b. b || has_key xs x) (same_key_refl x)) i)) i)
+    && once_join xs ys (second_of_both (not (list_any (same_key x) xs)) _ a) b (λ k k_in. apart k (or_right (same_key k x) _ k_in)) i
 
 -- ---- workers' evaluations
 
@@ -96,7 +94,7 @@ module _ (ns : Name) (workers : ByNumber Worker) where
   has_of : (k : Key) (es : List (ℕ × Worker)) → Each (λ e. get workers e.0 ≡ Some e.1) es → has_key (map key_of es) k ≡ true → (k.0 ≡ ns) ×
       HasWorker workers k.1
   has_of k [] h e = absurd (subst T (sym e) tt)
-  has_of k (x ∷ xs) h e = by (has_of k xs h.1) (or_cases (same_key k (key_of x)) _ e)
+  has_of k (x ∷ xs) h e = by (has_of k xs h.1) (either_of (same_key k (key_of x)) _ e)
     where
       by : (has_key (map key_of xs) k ≡ true → (k.0 ≡ ns) × HasWorker workers k.1) → (same_key k (key_of x) ≡ true) ⊎ (has_key (map key_of xs) k ≡ true) →
           (k.0 ≡ ns) × HasWorker workers k.1
@@ -137,10 +135,10 @@ module _ (w : World) (ns : Name) (t : Tenant) where
       (λ i. has_key_still (λ key. same_name ns key.0) w.ready (ns, n) has (same_name_refl ns) i
       || has_key (map (λ worker. (ns, worker.1.evaluation)) (entries t.workers)) (ns, n))
   busy_listed n (inr h) = list_any-append (same_key (ns, n)) (filter (λ key. same_name ns key.0) w.ready) _ ∙
-      or_true (has_key (filter (λ key. same_name ns key.0) w.ready) (ns, n)) _ (worker_listed ns t.workers n h)
+      or_right (has_key (filter (λ key. same_name ns key.0) w.ready) (ns, n)) _ (worker_listed ns t.workers n h)
 
   listed_busy : (k : Key) → has_key (busy_with w ns t) k ≡ true → (k.0 ≡ ns) × IsBusyIn w.ready ns t.workers k.1
-  listed_busy k e = by (or_cases (has_key (filter (λ key. same_name ns key.0) w.ready) k) _
+  listed_busy k e = by (either_of (has_key (filter (λ key. same_name ns key.0) w.ready) k) _
       (sym (list_any-append (same_key k) (filter (λ key. same_name ns key.0) w.ready) _) ∙ e))
     where
       by : (has_key (filter (λ key. same_name ns key.0) w.ready) k ≡ true) ⊎ (has_key (map (λ worker. (ns, worker.1.evaluation)) (entries t.workers)) k ≡ true)
@@ -172,7 +170,7 @@ module _ (w : World) (ns : Name) (t : Tenant) where
       → is_once same_key w.ready ≡ true → is_once same_found (jobs_at t (busy_with w ns t)) ≡ true
   list_of_one one one_each free once = shows_once same_found job_of (busy_with w ns t)
       (once_join (filter (λ key. same_name ns key.0) w.ready) _ (once_filter same_key (λ key. same_name ns key.0) w.ready once)
-          (workers_once ns t.workers one_each) (λ k has. apart k has _ refl)) (λ a b a_in b_in same.
+      (workers_once ns t.workers one_each) (λ k has. apart k has _ refl)) (λ a b a_in b_in same.
       alike a b (listed_busy a a_in) (listed_busy b b_in) (get t.evaluations a.1) (get t.evaluations b.1) refl refl same)
     where
       job_of : Key → Option Name
@@ -188,7 +186,7 @@ module _ (w : World) (ns : Name) (t : Tenant) where
       alike : (a b : Key) → (a.0 ≡ ns) × IsBusyIn w.ready ns t.workers a.1 → (b.0 ≡ ns) × IsBusyIn w.ready ns t.workers b.1 → (x y : Option Evaluation) →
           get t.evaluations a.1 ≡ x → get t.evaluations b.1 ≡ y
           → same_found (option_map (λ (e : Evaluation). e.job) (get t.evaluations a.1)) (option_map (λ (e : Evaluation). e.job) (get t.evaluations b.1))
-              ≡ true → same_key a b ≡ true
+          ≡ true → same_key a b ≡ true
       alike a b p q None y x_is y_is same = absurd
           (subst T (sym same ∙ ap (λ x. same_found (option_map (λ (e : Evaluation). e.job) x) (option_map (λ (e : Evaluation). e.job) (get t.evaluations b.1)))
           x_is) tt)
@@ -196,6 +194,6 @@ module _ (w : World) (ns : Name) (t : Tenant) where
           absurd (subst T (sym same ∙ (λ i. same_found (option_map (λ (e : Evaluation). e.job) (x_is i)) (option_map (λ (e : Evaluation). e.job) (y_is i)))) tt)
       alike a b p q (Some d) (Some e) x_is y_is same =
           let n = one a.1 b.1 d e p.1 q.1 x_is y_is
-              (same_name_is d.job e.job (sym (λ i. same_found (option_map (λ (e : Evaluation). e.job) (x_is i))
-              (option_map (λ (e : Evaluation). e.job) (y_is i))) ∙ same)) in
+          (same_name_is d.job e.job (sym (λ i. same_found (option_map (λ (e : Evaluation). e.job) (x_is i))
+          (option_map (λ (e : Evaluation). e.job) (y_is i))) ∙ same)) in
           ap (λ k. same_key a k) (λ i. ((q.0 ∙ sym p.0) i, sym n i)) ∙ same_key_refl a

@@ -1,17 +1,16 @@
 -- Lists of which nothing stands twice.
 use Rattle.std.specs.Prelude.{◌≡◌, ◌≤◌, Bool, true, false, cond, not, List, [], ◌∷◌, ◌++◌, length, ◌&&◌, ◌||◌, filter}
 use Rattle.std.proofs.Common.{◌⊎◌, inl, inr, refl, sym, ap, subst, ◌∙◌, arith}
-use Rattle.std.proofs.lemmas.Bool.{eqb-true, eq-eqb}
+use Rattle.std.proofs.lemmas.Bool.{eqb-true, eq-eqb, or_right}
 use Rattle.std.proofs.lemmas.List.Folds.{list_any-append}
 use Rattle.std.specs.List.{list_any}
 use Rattle.ns_types.specs.State.Limits.{is_distinct}
 use Rattle.ns_types.specs.State.Lists.{first_each}
 use Rattle.ns_types.specs.State.Names.{Key, same_key, has_key}
 use Rattle.ns_types.proofs.Lists.{not_both, left_none, right_none, any_part}
-use Rattle.ns_types.proofs.Named.{first_of_both, second_of_both}
-use Rattle.ns_audit.proofs.Alone.Chosen.{off}
-use Rattle.ns_audit.proofs.Every.{filter_shorter, first_shorter}
-use Rattle.ns_audit.proofs.Steady.Keeping.{or_cases, or_true, same_key_is, same_key_refl}
+use Rattle.ns_types.proofs.Named.{first_of_both, second_of_both, same_key_is, same_key_refl}
+use Rattle.ns_types.proofs.Tests.{is_no, either_of}
+use Rattle.ns_types.proofs.Elements.{filter_shorter, first_shorter}
 use Rattle.std.proofs.Math.Bool.{or-false}
 
 -- none of those that follow is the same
@@ -32,7 +31,7 @@ module _ {A : Type 0} where
       by : (b : Bool) → p x ≡ b → (length xs ≤ length (filter p xs) → (filter p xs ≡ xs) × (list_any (λ x. not (p x)) xs ≡ false)) →
           length (filter p xs) ≤ length xs
           → length (x ∷ xs) ≤ length (cond b (x ∷ filter p xs) (filter p xs)) → (cond b (x ∷ filter p xs) (filter p xs) ≡ x ∷ xs) ×
-              ((not (p x) || list_any (λ x. not (p x)) xs) ≡ false)
+          ((not (p x) || list_any (λ x. not (p x)) xs) ≡ false)
       by true t later few h = let r = later (omega arith) in (ap (λ ys. x ∷ ys) r.0, λ i. not (t i) || r.1 i)
       by false t later few h = absurd (omega arith)
 
@@ -70,7 +69,7 @@ module _ {A : Type 0} where
   each_first_once same (x ∷ xs) e =
       let rest = each_first_once same xs (second_of_both (not (list_any (same x) xs)) _ e) in
       ap (λ ys. x ∷ ys) (ap (filter (λ y. not (same x y))) rest ∙
-          pass_all (λ y. not (same x y)) xs (double_not (same x) xs ∙ off (list_any (same x) xs) (first_of_both _ _ e)))
+      pass_all (λ y. not (same x y)) xs (double_not (same x) xs ∙ is_no (list_any (same x) xs) (first_of_both _ _ e)))
 
   pub once_distinct : (same : A → A → Bool) (xs : List A) → is_once same xs ≡ true → is_distinct same xs ≡ true
   once_distinct same xs e = eq-eqb (length (first_each same xs)) (length xs) (ap length (each_first_once same xs e))
@@ -92,12 +91,12 @@ once_append (x ∷ xs) key e none = λ i. not (fresh i)
   where
     fresh : list_any (same_key x) (xs ++ key ∷ []) ≡ false
     fresh = list_any-append (same_key x) xs (key ∷ []) ∙
-        (λ i. off (list_any (same_key x) xs) (first_of_both _ _ e) i || (other_way key x (left_none (same_key key x) _ none) i || false))
+        (λ i. is_no (list_any (same_key x) xs) (first_of_both _ _ e) i || (other_way key x (left_none (same_key key x) _ none) i || false))
 
 pub once_filter : {A : Type 0} (same : A → A → Bool) (p : A → Bool) (xs : List A) → is_once same xs ≡ true → is_once same (filter p xs) ≡ true
 once_filter same p [] e = refl
 once_filter same p (x ∷ xs) e = elim (p x) as (λ b. is_once same (cond b (x ∷ filter p xs) (filter p xs)) ≡ true) [
-  | true ↦ λ i. on _ (any_part p (same x) xs (off (list_any (same x) xs) (first_of_both _ _ e))) i
+  | true ↦ λ i. on _ (any_part p (same x) xs (is_no (list_any (same x) xs) (first_of_both _ _ e))) i
       && once_filter same p xs (second_of_both (not (list_any (same x) xs)) _ e) i
   | false ↦ once_filter same p xs (second_of_both (not (list_any (same x) xs)) _ e)
 ]
@@ -106,7 +105,7 @@ once_filter same p (x ∷ xs) e = elim (p x) as (λ b. is_once same (cond b (x �
 
 pub has_key_still : (p : Key → Bool) (keys : List Key) (key : Key) → has_key keys key ≡ true → p key ≡ true → has_key (filter p keys) key ≡ true
 has_key_still p [] key e passes = e
-has_key_still p (x ∷ xs) key e passes = by (p x) refl (or_cases (same_key key x) _ e) (λ r. has_key_still p xs key r passes)
+has_key_still p (x ∷ xs) key e passes = by (p x) refl (either_of (same_key key x) _ e) (λ r. has_key_still p xs key r passes)
   where
     use_ : (b : Bool) → p x ≡ b → same_key key x ≡ true → has_key (cond b (x ∷ filter p xs) (filter p xs)) key ≡ true
     use_ true t here = ap (λ c. c || has_key (filter p xs) key) here
@@ -115,12 +114,12 @@ has_key_still p (x ∷ xs) key e passes = by (p x) refl (or_cases (same_key key 
     by : (b : Bool) → p x ≡ b → (same_key key x ≡ true) ⊎ (has_key xs key ≡ true) → (has_key xs key ≡ true → has_key (filter p xs) key ≡ true) →
         has_key (cond b (x ∷ filter p xs) (filter p xs)) key ≡ true
     by b t (inl here) later = use_ b t here
-    by true t (inr there) later = or_true (same_key key x) _ (later there)
+    by true t (inr there) later = or_right (same_key key x) _ (later there)
     by false t (inr there) later = later there
 
 pub has_key_last : (keys : List Key) (key : Key) → has_key (keys ++ key ∷ []) key ≡ true
 has_key_last [] key = λ i. same_key_refl key i || false
-has_key_last (x ∷ xs) key = or_true (same_key key x) _ (has_key_last xs key)
+has_key_last (x ∷ xs) key = or_right (same_key key x) _ (has_key_last xs key)
 
 pub has_key_other : (keys : List Key) (k key : Key) → same_key key k ≡ false → has_key (keys ++ k ∷ []) key ≡ has_key keys key
 has_key_other keys k key differs = list_any-append (same_key key) keys (k ∷ []) ∙ (λ i. has_key keys key || (differs i || false)) ∙ or-false (has_key keys key)
@@ -141,7 +140,7 @@ without_other (x ∷ xs) k key differs = by (same_key k x) refl (without_other x
   where
     by : (b : Bool) → same_key k x ≡ b → has_key (filter (λ other. not (same_key k other)) xs) key ≡ has_key xs key
         → has_key (cond (not b) (x ∷ filter (λ other. not (same_key k other)) xs) (filter (λ other. not (same_key k other)) xs)) key ≡
-            (same_key key x || has_key xs key)
+        (same_key key x || has_key xs key)
     by true t rest = let p = same_key_is k x t in rest ∙
         (λ i. (sym (subst (λ (y : Key). same_key key y ≡ false) (λ i. (p.0 i, p.1 i)) differs)) i || has_key xs key)
     by false t rest = λ i. same_key key x || rest i

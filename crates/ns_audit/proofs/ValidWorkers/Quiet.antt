@@ -12,9 +12,9 @@ use Rattle.ns_types.specs.State.Rows.{World, Tenant, PoolRows, evaluation_at}
 use Rattle.ns_types.specs.State.Tables.{map_rows}
 use Rattle.ns_types.proofs.Named.{names, one_name, numbers as numbers_, one_number, same_name_is}
 use Rattle.ns_types.proofs.Tables.{get-map_rows}
+use Rattle.ns_types.proofs.Tests.{same_Some}
+use Rattle.ns_types.proofs.TableRows.{row_of_insert}
 use Rattle.ns_audit.specs.Orderly.{IsOrderly}
-use Rattle.ns_audit.proofs.Alone.Chosen.{same_Some}
-use Rattle.ns_audit.proofs.Every.{row_of_insert}
 use Rattle.ns_audit.proofs.Steady.Keeping.{row_of_map, elsewhere, above, more}
 use Rattle.ns_audit.proofs.Outcomes.{Leads}
 use Rattle.ns_audit.proofs.ValidWorkers.Busy.{IsBusyIn, IsNumbered, IsQueuedIn, IsQueued, queued_in, queue_queued}
@@ -197,8 +197,12 @@ quiet_pool pool p w h = record {
   where
     by : (name : Name) (q : PoolRows) → get w.pools name ≡ Some q → (b : Bool) → same_name name pool ≡ b → (r : PoolRows) ×
         (get (insert w.pools pool p) name ≡ Some r) × (q.release ≤ r.release)
-    by name q is true e = (p, get-insert names w.pools pool p name ∙
-        ap (λ b. cond b (Some p) (get w.pools name)) e, h q (ap (get w.pools) (sym (same_name_is name pool e)) ∙ is))
+    by name q is true e = (
+      p,
+      get-insert names w.pools pool p name ∙
+          ap (λ b. cond b (Some p) (get w.pools name)) e,
+      h q (ap (get w.pools) (sym (same_name_is name pool e)) ∙ is),
+    )
     by name q is false e = (q, get-insert names w.pools pool p name ∙ ap (λ b. cond b (Some p) (get w.pools name)) e ∙ is, le_refl q.release)
 
 -- ---- what follows

@@ -10,16 +10,14 @@ use Rattle.ns_types.specs.Working.Queue.{queue}
 use Rattle.ns_types.specs.Settling.Releases.{released_classes, releases_quota, woken}
 use Rattle.ns_types.specs.State.Rows.{World, Tenant, PoolRows, QuotaRows}
 use Rattle.ns_types.specs.Settling.Same.{same_evaluation}
-use Rattle.ns_types.specs.Settling.Settle.{
-    pending, unblocked_in, wake, after_release, after_quota_release, number_releases, is_touched, is_changed,
-    changes_evaluation, created_at, stamped_evaluation, stamped, stamp_tenant, stamp, settle
-}
+use Rattle.ns_types.specs.Settling.Settle.{pending, unblocked_in, wake, after_release, after_quota_release, number_releases, is_touched, is_changed}
+use Rattle.ns_types.specs.Settling.Settle.{changes_evaluation, created_at, stamped_evaluation, stamped, stamp_tenant, stamp, settle}
 use Rattle.ns_types.specs.State.Tables.{map_rows}
 use Rattle.ns_types.proofs.Named.{names, one_name, numbers as numbers_, one_number}
 use Rattle.ns_types.proofs.Tables.{get-map_rows}
+use Rattle.ns_types.proofs.Tests.{same_Some}
+use Rattle.ns_types.proofs.Alike.{same_evaluation_refl}
 use Rattle.ns_audit.specs.Orderly.{IsOrderly, IsBlockedIn}
-use Rattle.ns_audit.proofs.Alone.Chosen.{same_Some}
-use Rattle.ns_audit.proofs.Alone.Idle.{same_evaluation_refl}
 use Rattle.ns_audit.proofs.Steady.Keeping.{row_of_map, has_key_filter}
 use Rattle.ns_audit.proofs.Steady.Work.{pending_not_blocked}
 use Rattle.ns_audit.proofs.Steady.Workers.{at_tenant}
@@ -78,7 +76,7 @@ stays_tables w x tenants plans pools quotas = record {
 stays_map : (w x : World) (f : Name → Tenant → Tenant) → x.tenants ≡ map_rows f w.tenants → x.plans ≡ w.plans → x.pools ≡ w.pools → x.quotas ≡ w.quotas
     → ((k : Name) (t : Tenant) → (f k t).workers ≡ t.workers)
     → ((k : Name) (t : Tenant) (n : ℕ) (worker : Worker) → get w.tenants k ≡ Some t → get t.workers n ≡ Some worker →
-        get (f k t).evaluations worker.evaluation ≡ get t.evaluations worker.evaluation) → Stays w x
+    get (f k t).evaluations worker.evaluation ≡ get t.evaluations worker.evaluation) → Stays w x
 stays_map w x f tenants plans pools quotas workers rows = record {
   came = λ k u n worker is has.
       let y = row_of_map names one_name f w.tenants k u (ap (λ m. get m k) (sym tenants) ∙ is) in
@@ -88,8 +86,12 @@ stays_map w x f tenants plans pools quotas workers rows = record {
         is_worker = at;
         row = ap (λ (u : Tenant). get u.evaluations worker.evaluation) (sym y.2) ∙ rows k y.0 n worker y.1 at;
       };
-  goes = λ k t n worker is has. (f k t, ap (λ m. get m k) tenants ∙ get-map_rows names one_name f w.tenants k ∙
-      ap (option_map (f k)) is, ap (λ m. get m n) (workers k t) ∙ has);
+  goes = λ k t n worker is has. (
+    f k t,
+    ap (λ m. get m k) tenants ∙ get-map_rows names one_name f w.tenants k ∙
+        ap (option_map (f k)) is,
+    ap (λ m. get m n) (workers k t) ∙ has,
+  );
   plans = plans;
   looks = λ k t n worker kept is has keeps. looks_same w x pools quotas kept;
 }
@@ -122,7 +124,7 @@ queued_map : (w x : World) (f : Name → Tenant → Tenant) → x.tenants ≡ ma
 queued_map w x f tenants ready alike q = record {
   tenant = λ k u is. let y = row_of_map names one_name f w.tenants k u (ap (λ m. get m k) (sym tenants) ∙ is) in
       subst (λ keys. IsQueuedIn keys k u) (sym ready)
-          (subst (λ u. IsQueuedIn w.ready k u) y.2 (queued_alike w.ready k y.0 (f k y.0) (alike k y.0) (q.tenant k y.0 y.1)));
+      (subst (λ u. IsQueuedIn w.ready k u) y.2 (queued_alike w.ready k y.0 (f k y.0) (alike k y.0) (q.tenant k y.0 y.1)));
   once = ap (is_once same_key) ready ∙ q.once;
 }
 
@@ -179,8 +181,8 @@ module _ (w x : World) where
   stamped_alike (Some o) t = elim (is_touched o t) as (λ b. Alike t (cond b (stamped (o.index + 1) o t) t)) [
     | true ↦ alike_rows t (stamped (o.index + 1) o t) (stamped_evaluation (o.index + 1) o) refl refl refl (λ n e.
         elim (changes_evaluation o n e) as (λ b. (cond b
-            (record e { create_index = created_at (o.index + 1) (get o.evaluations n) (λ o. o.create_index); modify_index = o.index + 1 }) e).job ≡ e.job)
-            [ true ↦ refl | false ↦ refl ])
+        (record e { create_index = created_at (o.index + 1) (get o.evaluations n) (λ o. o.create_index); modify_index = o.index + 1 }) e).job ≡ e.job)
+        [ true ↦ refl | false ↦ refl ])
     | false ↦ alike_same t
   ]
 

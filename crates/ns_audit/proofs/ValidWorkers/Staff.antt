@@ -15,9 +15,9 @@ use Rattle.ns_types.specs.State.Names.{Name, Key, has_key, same_key}
 use Rattle.ns_types.specs.State.Rows.{World, Tenant, PoolRows, QuotaRows}
 use Rattle.ns_types.specs.Validity.{IsSound, IsSoundWorker, IsPlanned, keeps, least_tries, is_fit}
 use Rattle.ns_types.specs.Working.Work.{workers_end, is_submitted, tries_for}
-use Rattle.ns_audit.proofs.Alone.Chosen.{same_Some}
 use Rattle.ns_audit.proofs.ValidWorkers.Once.{is_once, distinct_once}
 use Rattle.std.proofs.Math.Nat.{le_refl, le_trans}
+use Rattle.ns_types.proofs.Tests.{same_Some}
 
 -- the kept snapshot is of the worker's evaluation as it is, of a pool that is there, and saw no release before it came
 pub record IsAbleSnapshot (w : World) (t : Tenant) (worker : Worker) (kept : Snapshot) : Type 0 where
@@ -126,7 +126,7 @@ snapshot_still w x t u worker kept y row looks = record {
 pub worker_still : (w x : World) (ns : Name) (t u : Tenant) (n : ℕ) (worker : Worker) → IsAbleWorker w ns t n worker →
     get u.evaluations worker.evaluation ≡ get t.evaluations worker.evaluation
     → has_key x.plans (ns, worker.evaluation) ≡ has_key w.plans (ns, worker.evaluation) → ((kept : Snapshot) → worker.kept ≡ Some kept → LooksStill w x kept) →
-        IsAbleWorker x ns u n worker
+    IsAbleWorker x ns u n worker
 worker_still w x ns t u n worker k row plans looks = record {
   below = k.below;
   snapshot = λ kept has. snapshot_still w x t u worker kept (k.snapshot kept has) row (looks kept has);
@@ -156,13 +156,13 @@ pub staffed_stays : (w x : World) → Stays w x → IsStaffed w → IsStaffed x
 staffed_stays w x h s = record {
   worker = λ k u n worker is has. let c = h.came k u n worker is has in
       worker_still w x k c.tenant u n worker (s.worker k c.tenant n worker c.is_tenant c.is_worker) c.row
-          (ap (λ keys. has_key keys (k, worker.evaluation)) h.plans)
+      (ap (λ keys. has_key keys (k, worker.evaluation)) h.plans)
       (λ kept keeps. h.looks k c.tenant n worker kept c.is_tenant c.is_worker keeps);
   one_each = λ k u m n v y is a b same.
       let c = h.came k u m v is a in
       let d = h.came k u n y is b in
       s.one_each k c.tenant m n v y c.is_tenant c.is_worker (ap (λ (t : Tenant). get t.workers n) (same_Some _ _ (sym c.is_tenant ∙ d.is_tenant)) ∙ d.is_worker)
-          same;
+      same;
   one_row = λ a b u t n v y a_is b_is a_has b_has.
       let c = h.came a u n v a_is a_has in
       let d = h.came b t n y b_is b_has in

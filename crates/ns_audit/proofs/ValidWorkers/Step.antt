@@ -8,7 +8,6 @@ use Rattle.ns_types.specs.declared.evaluation.Evaluation.{Evaluation}
 use Rattle.ns_types.specs.declared.refusal.Refusal.TheVariants as Refusal
 use Rattle.ns_types.specs.declared.snapshot.Snapshot.{Snapshot}
 use Rattle.ns_types.specs.declared.step.Step.{Step}
-use Rattle.ns_types.specs.declared.step.Step.TheVariants as Step
 use Rattle.ns_types.specs.declared.worker.Worker.{Worker}
 use Rattle.ns_types.specs.State.Names.{Name, default_name, same_key, has_key}
 use Rattle.ns_types.specs.Settling.Outcome.{Outcome, NotEnabled, Refused, Done}
@@ -17,8 +16,7 @@ use Rattle.ns_types.specs.Settling.Settle.{settle}
 use Rattle.ns_types.specs.Steps.{Answer, said, act, after, is_allowed, concluded, reply_of, is_past_bound, opening_tenant, opening_world, opening}
 use Rattle.ns_types.specs.Validity.{IsSound, IsSoundWorker, IsSoundSnapshot, IsValid, same_found, busy_with, jobs_at}
 use Rattle.ns_audit.specs.Orderly.{IsReadyIn, IsOrderly}
-use Rattle.ns_audit.specs.ValidWorkers.{IsManned, HasSoundWorkers, WorkersStep, WorkersOpening}
-use Rattle.ns_audit.proofs.Alone.Chosen.{no_path, same_Some}
+use Rattle.ns_audit.proofs.ValidWorkers.Statement.{IsManned, HasSoundWorkers, WorkersStep, WorkersOpening}
 use Rattle.ns_audit.proofs.Steady.Opening.{only_row, reached_is_steady}
 use Rattle.ns_audit.proofs.Steady.Workers.{at_tenant}
 use Rattle.ns_audit.proofs.Alone.Owning.{orderly}
@@ -32,6 +30,7 @@ use Rattle.ns_audit.proofs.ValidWorkers.Once.{distinct_once, once_distinct}
 use Rattle.ns_audit.proofs.ValidWorkers.Settle.{settle_queued, settle_stays}
 use Rattle.ns_audit.proofs.ValidWorkers.Staff.{IsStaffed, sound_staffed, staffed_stays}
 use Rattle.ns_audit.proofs.ValidWorkers.Work.{dequeue_well, snap_well, submit_well, apply_well}
+use Rattle.ns_types.proofs.Tests.{not_Some, same_Some}
 
 -- ---- what a valid state has
 
@@ -145,7 +144,7 @@ module _ (s : State) (valid : IsValid s) (step : Step) (s' : State) (answer : An
   at_first = record { staffed = sound_staffed s.world valid.world; queued = queued }
 
   concluded_right : (o : Outcome State) → KeepsStaffState s.world o → concluded step s o ≡ said answer s' → IsRight s'.world
-  concluded_right NotEnabled h e = absurd (no_path e)
+  concluded_right NotEnabled h e = absurd (not_Some _ e)
   concluded_right (Refused refusal) h e = subst (λ (x : State). IsRight x.world) (ap (λ x. x.1) (same_Some _ _ e)) at_first
   concluded_right (Done content x) h e = by (is_past_bound (settle s.world x.world)) e
     where
@@ -182,10 +181,10 @@ module _ (ns : Name) (t : Tenant) (is : get opening_world.tenants ns ≡ Some t)
   same_tenant = only_row default_name opening_tenant ns t is
 
   no_worker : (n : ℕ) (worker : Worker) → get t.workers n ≡ Some worker → ⊥
-  no_worker n worker has = no_path (sym (get-empty nat_cmp n) ∙ ap (λ (t : Tenant). get t.workers n) same_tenant ∙ has)
+  no_worker n worker has = not_Some _ (sym (get-empty nat_cmp n) ∙ ap (λ (t : Tenant). get t.workers n) same_tenant ∙ has)
 
   no_evaluation : (n : ℕ) (e : Evaluation) → get t.evaluations n ≡ Some e → ⊥
-  no_evaluation n e at = no_path (sym (get-empty nat_cmp n) ∙ ap (λ (t : Tenant). get t.evaluations n) same_tenant ∙ at)
+  no_evaluation n e at = not_Some _ (sym (get-empty nat_cmp n) ∙ ap (λ (t : Tenant). get t.evaluations n) same_tenant ∙ at)
 
   no_busy : (n : ℕ) → IsBusyIn [] ns t.workers n → ⊥
   no_busy n (inl has) = subst T (sym has) tt

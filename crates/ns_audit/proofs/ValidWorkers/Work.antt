@@ -1,8 +1,6 @@
 -- A worker takes, looks, submits, and applies its plan: workers stay sound.
-use Rattle.std.specs.Prelude.{
-    ◌≡◌, ◌≢◌, ℕ, zero, suc, ◌-◌, ◌≤◌, ◌<◌, Bool, true, false, cond, not, T, List, [], ◌∷◌, ◌++◌, Option, Some, None,
-    IsTrue, ◌&&◌, is_some, nat_eq, nat_lt, option_map
-}
+use Rattle.std.specs.Prelude.{◌≡◌, ◌≢◌, ℕ, zero, suc, ◌-◌, ◌≤◌, ◌<◌, Bool, true, false, cond, not, T, List, [], ◌∷◌, ◌++◌, Option, Some, None, IsTrue, ◌&&◌}
+use Rattle.std.specs.Prelude.{is_some, nat_eq, nat_lt, option_map}
 use Rattle.std.proofs.Common.{◌⊎◌, inl, inr, refl, sym, ap, subst, ◌∙◌, arith}
 use Rattle.std.proofs.lemmas.Bool.{ltb-true}
 use Rattle.std.specs.FinMap.{get, contains_key}
@@ -10,12 +8,10 @@ use Rattle.std.specs.Option.{option_map_or, option_and_then}
 use Rattle.ns_types.specs.declared.evaluation.Evaluation.{Evaluation}
 use Rattle.ns_types.specs.declared.job.Job.{Job}
 use Rattle.ns_types.specs.declared.job.JobKind.{JobKind}
-use Rattle.ns_types.specs.declared.job.JobKind.TheVariants as JobKind
 use Rattle.ns_types.specs.declared.reply.Content.TheVariants as Content
 use Rattle.ns_types.specs.declared.snapshot.QuotaSeen.{QuotaSeen}
 use Rattle.ns_types.specs.declared.snapshot.Snapshot.{Snapshot}
 use Rattle.ns_types.specs.declared.worker.Phase.{Phase}
-use Rattle.ns_types.specs.declared.worker.Phase.TheVariants as Phase
 use Rattle.ns_types.specs.declared.worker.Worker.{Worker}
 use Rattle.ns_types.specs.Working.Commit.{Applied, commit, tries_after, phase_after, applied_worker, applied, apply_for, apply}
 use Rattle.ns_types.specs.Settling.Making.{put_tenant}
@@ -28,16 +24,14 @@ use Rattle.ns_types.specs.State.Rows.{World, Tenant, PoolRows, QuotaRows, is_ope
 use Rattle.ns_types.specs.Working.Snapshot.{namespaces_naming, quota_seen, pool_for, snapshot_of}
 use Rattle.ns_types.specs.State.Sums.{quota_use}
 use Rattle.ns_types.specs.Validity.{IsSound, IsSoundTenant, keeps, least_tries, is_fit}
-use Rattle.ns_types.specs.Working.Work.{
-    with_worker, without_key, workers_end, is_idle, tries_for, new_worker, taken, dequeue_in, dequeue, may_snap,
-    with_snapshot, snap_for, snap, is_snapped, may_submit, submitted, submit_for, submit, is_submitted
-}
+use Rattle.ns_types.specs.Working.Work.{with_worker, without_key, workers_end, is_idle, tries_for, new_worker, taken, dequeue_in, dequeue, may_snap}
+use Rattle.ns_types.specs.Working.Work.{with_snapshot, snap_for, snap, is_snapped, may_submit, submitted, submit_for, submit, is_submitted}
 use Rattle.ns_types.proofs.Lists.{not_both}
 use Rattle.ns_types.proofs.Named.{names, one_name, numbers as numbers_, one_number, same_name_refl, same_number_refl, first_of_both, second_of_both}
 use Rattle.ns_types.proofs.Tables.{none_of_any}
+use Rattle.ns_types.proofs.Tests.{not_Some, same_Some, is_no}
+use Rattle.ns_types.proofs.TableRows.{row_of_insert}
 use Rattle.ns_audit.specs.Orderly.{IsReadyIn}
-use Rattle.ns_audit.proofs.Alone.Chosen.{no_path, same_Some, off}
-use Rattle.ns_audit.proofs.Every.{row_of_insert}
 use Rattle.ns_audit.proofs.Steady.Keeping.{at_inserted, elsewhere, has_key_filter}
 use Rattle.ns_audit.proofs.Steady.Workers.{at_tenant, in_ready}
 use Rattle.ns_audit.proofs.Outcomes.{leads_there, leads_if}
@@ -49,10 +43,8 @@ use Rattle.ns_audit.proofs.ValidWorkers.Busy.{HasWorker, IsBusyIn, IsQueuedIn, I
 use Rattle.ns_audit.proofs.ValidWorkers.Change.{row_apart, IsMine, reworked, was_here, free_here, working_staff, keeping_staff}
 use Rattle.ns_audit.proofs.ValidWorkers.Once.{is_once, once_append, once_filter, has_key_last, has_key_other, without_it, without_other}
 use Rattle.ns_audit.proofs.ValidWorkers.Quiet.{Grows, Quiet, quiet_stays, held_at_first, stays_held}
-use Rattle.ns_audit.proofs.ValidWorkers.Staff.{
-    IsAbleSnapshot, IsAbleWorker, IsStaffed, Stays, IsHeldAt, IsHeldFrom, sound_staffed, looks_same, staffed_stays,
-    snapshot_still
-}
+use Rattle.ns_audit.proofs.ValidWorkers.Staff.{IsAbleSnapshot, IsAbleWorker, IsStaffed, Stays, IsHeldAt, IsHeldFrom, sound_staffed, looks_same, staffed_stays}
+use Rattle.ns_audit.proofs.ValidWorkers.Staff.{snapshot_still}
 use Rattle.std.proofs.Math.Nat.{le_refl}
 
 -- ---- a worker's row becomes another of the same evaluation
@@ -113,7 +105,7 @@ module _ (w b : World) (s : IsStaffed b) (q : IsQueued b) (h : IsHeldFrom w b) (
 
   updated : IsAbleNew b t new → has_key plans (ns, worker.evaluation) ≡ is_submitted new.phase
       → ((key : Key) → same_key key (ns, worker.evaluation) ≡ false → has_key plans key ≡ has_key b.plans key) → is_once same_key plans ≡ true →
-          IsWell w world_after
+      IsWell w world_after
   updated a mine others once = reworked w b world_after ns number worker.evaluation t tenant_after s h (record {
     is_tenant = is;
     put = refl;
@@ -202,7 +194,8 @@ module _ (w : World) (s : IsSound w) (q : IsQueued w) (ns : Name) (number n : �
   ready = at_tenant w IsReadyIn ns n t is ((orderly w s).ready ns n listed)
 
   nobody : (k : Name) (u : Tenant) (v : Worker) → get w.tenants k ≡ Some u → get u.workers number ≡ Some v → ⊥
-  nobody k u v k_is v_has = not_both (ap is_some v_has) (none_of_any one_name (λ _ (t : Tenant). contains_key t.workers number) w.tenants k u (off _ idle) k_is)
+  nobody k u v k_is v_has = not_both (ap is_some v_has)
+      (none_of_any one_name (λ _ (t : Tenant). contains_key t.workers number) w.tenants k u (is_no _ idle) k_is)
 
   unplanned : (b : Bool) → has_key w.plans (ns, n) ≡ b → b ≡ false
   unplanned true has =
@@ -216,7 +209,7 @@ module _ (w : World) (s : IsSound w) (q : IsQueued w) (ns : Name) (number n : �
   able_taken : (m : ℕ) → m ≡ number → IsAbleWorker world_taken ns tenant_taken m (new_worker n e)
   able_taken m m_is = record {
     below = subst (λ m. m < workers_end) (sym m_is) (ltb-true number workers_end few);
-    snapshot = λ kept k_is. absurd (no_path k_is);
+    snapshot = λ kept k_is. absurd (not_Some _ k_is);
     keeps_one = refl;
     fit = refl;
     least = some_tries e.kind;
@@ -275,8 +268,15 @@ module _ (w : World) (s : IsSound w) (q : IsQueued w) (ns : Name) (number n : �
         its_number = same.0;
         its_evaluation = refl;
         able = able_taken m same.0;
-        held = record { tenant = t; is_tenant = is; row = ready.pending.row; was_row = ready.pending.is_row; is_row = ready.pending.is_row; is_pending =
-            ready.pending.is_pending };
+        held = record {
+          tenant = t;
+          is_tenant = is;
+          row = ready.pending.row;
+          was_row = ready.pending.is_row;
+          is_row = ready.pending.is_row;
+          is_pending =
+              ready.pending.is_pending;
+        };
       }))
 
 module _ (w : World) (s : IsSound w) (q : IsQueued w) (ns : Name) (number : ℕ) where
@@ -316,13 +316,19 @@ module _ (w : World) (s : IsSound w) (ns : Name) (number : ℕ) (t : Tenant) (wo
 
   quota_seen_by : (o : Option Name) (q : QuotaSeen) (rows : QuotaRows) → option_and_then (quota_seen w) o ≡ Some q → get w.quotas q.name ≡ Some rows →
       q.release ≤ rows.release
-  quota_seen_by None q rows named is = absurd (no_path named)
+  quota_seen_by None q rows named is = absurd (not_Some _ named)
   quota_seen_by (Some name) q rows named is = here (get w.quotas name) refl named
     where
       here : (o : Option QuotaRows) → get w.quotas name ≡ o →
-          option_map (λ q. record { name = name; limits = limits_in q.quota.limits; used = quota_use w name; release = q.release; namespaces =
-          namespaces_naming w name }) o ≡ Some q → q.release ≤ rows.release
-      here None _ named = absurd (no_path named)
+          option_map (λ q. record {
+            name = name;
+            limits = limits_in q.quota.limits;
+            used = quota_use w name;
+            release = q.release;
+            namespaces =
+                namespaces_naming w name;
+          }) o ≡ Some q → q.release ≤ rows.release
+      here None _ named = absurd (not_Some _ named)
       here (Some r) r_is named =
           let same = same_Some _ _ named in
           let one = same_Some _ _ (sym r_is ∙ ap (λ (q : QuotaSeen). get w.quotas q.name) same ∙ is) in
@@ -345,14 +351,14 @@ module _ (w : World) (s : IsSound w) where
       worker.evaluation ≡ new.evaluation → worker.kept ≡ new.kept → (kept : Snapshot) → new.kept ≡ Some kept → IsAbleSnapshot w t new kept
   able_kept ns number t worker new is has same keeps kept k_is = let y = ((sound_staffed w s).worker ns t number worker is has).snapshot kept (keeps ∙ k_is) in
       record {
-    number = y.number ∙ same;
-    row = ap (get t.evaluations) (sym same) ∙ y.row;
-    exists = y.exists;
-    job_good = y.job_good;
-    nodes_once = y.nodes_once;
-    seen = y.seen;
-    quota_seen = y.quota_seen;
-  }
+        number = y.number ∙ same;
+        row = ap (get t.evaluations) (sym same) ∙ y.row;
+        exists = y.exists;
+        job_good = y.job_good;
+        nodes_once = y.nodes_once;
+        seen = y.seen;
+        quota_seen = y.quota_seen;
+      }
 
 module _ (w : World) (s : IsSound w) (q : IsQueued w) (ns : Name) (number : ℕ) where
   pub snap_well : KeepsStaff w (snap number ns w)
@@ -361,7 +367,7 @@ module _ (w : World) (s : IsSound w) (q : IsQueued w) (ns : Name) (number : ℕ)
       let kept = snapshot_of w ns t worker.evaluation e in
       let old = (sound_staffed w s).worker ns t number worker is has in
       leads_if (IsWell w) (may_snap worker.tries worker.phase)
-          (Done (Content.Snapped worker.evaluation) (put_tenant ns (with_worker number (with_snapshot kept worker) t) w)) NotEnabled
+      (Done (Content.Snapped worker.evaluation) (put_tenant ns (with_worker number (with_snapshot kept worker) t) w)) NotEnabled
       (λ may. updated w w (sound_staffed w s) q (held_at_first w (orderly w s)) ns number t worker (with_snapshot kept worker) is has refl w.plans (record {
         snapshot = able_seen w s ns number t worker e is has at;
         keeps_one = refl;
@@ -380,7 +386,7 @@ module _ (w : World) (s : IsSound w) (q : IsQueued w) (ns : Name) (number : ℕ)
       (λ may.
       let snapped = first_of_both (is_snapped worker.phase) _ may in
       updated w w (sound_staffed w s) q (held_at_first w (orderly w s)) ns number t worker (record worker { phase = Phase.Submitted }) is has refl
-          (w.plans ++ (ns, worker.evaluation) ∷ []) (record {
+      (w.plans ++ (ns, worker.evaluation) ∷ []) (record {
         snapshot = able_kept w s ns number t worker (record worker { phase = Phase.Submitted }) is has refl refl;
         keeps_one = ap is_some k_is;
         fit = ap (is_fit Phase.Submitted) k_is ∙ second_of_both (is_snapped worker.phase) _ may;
@@ -418,12 +424,12 @@ applied_most a worker e few = by a.has_dropped a.has_committed
 
 module _ (w : World) (s : IsSound w) (q : IsQueued w) (ns : Name) (number : ℕ) (t : Tenant) (worker : Worker) (e : Evaluation) (kept : Snapshot)
     (is : get w.tenants ns ≡ Some t) (has : get t.workers number ≡ Some worker) (at : get t.evaluations worker.evaluation ≡ Some e)
-        (k_is : worker.kept ≡ Some kept) (submitted : is_submitted worker.phase ≡ true) where
+    (k_is : worker.kept ≡ Some kept) (submitted : is_submitted worker.phase ≡ true) where
   applied_well : (a : Applied) → Quiet w a.world → KeepsStaff w (applied number ns worker e a)
   applied_well a quiet = subst (λ o. IsWell w (record (option_map_or (λ x. put_tenant ns (with_worker number new x) a.world) o a.world)
       { plans = without_key (ns, worker.evaluation) a.world.plans })) (sym there.1)
       (updated w a.world staffed (quiet.queued q) (stays_held w a.world stays (orderly w s)) ns number there.0 worker new there.1 its_row refl
-          (without_key (ns, worker.evaluation) a.world.plans) (record {
+      (without_key (ns, worker.evaluation) a.world.plans) (record {
         snapshot = λ k has_k. let y = able.snapshot k has_k in record {
           number = y.number;
           row = y.row;
@@ -439,7 +445,7 @@ module _ (w : World) (s : IsSound w) (q : IsQueued w) (ns : Name) (number : ℕ)
         most = λ d d_at. subst (λ (d : Evaluation). tries_after a worker e ≤ tries_for d.kind) (same_Some _ _ (sym row ∙ d_at))
             (applied_most a worker e (able.most e row));
       }) (without_it a.world.plans (ns, worker.evaluation) ∙ sym (applied_not_submitted a))
-          (λ key differs. without_other a.world.plans (ns, worker.evaluation) key differs)
+      (λ key differs. without_other a.world.plans (ns, worker.evaluation) key differs)
       (once_filter same_key (λ other. not (same_key (ns, worker.evaluation) other)) a.world.plans staffed.plans_once))
     where
       new : Worker
@@ -467,6 +473,6 @@ pub apply_well : (w : World) (s : IsSound w) (q : IsQueued w) (ns : Name) (numbe
 unfolding apply
 apply_well w s q ns number = keeping_staff w number ns (apply_for number ns w) (λ t worker e kept is has at k_is.
     leads_if (IsWell w) (is_submitted worker.phase && is_served w w.plans (ns, worker.evaluation)) (applied number ns worker e (commit kept (plan kept) w t))
-        NotEnabled
+    NotEnabled
     (λ may. applied_well w s q ns number t worker e kept is has at k_is (first_of_both (is_submitted worker.phase) _ may) (commit kept (plan kept) w t)
-        (commit_quiet kept (plan kept) w t)) (λ _. tt))
+    (commit_quiet kept (plan kept) w t)) (λ _. tt))

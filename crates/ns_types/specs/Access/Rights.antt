@@ -1,9 +1,7 @@
 -- Who may do what: the rules of a secret's policies, merged by pattern.
 -- Nomad's page on the ACL policy specification.
-use Rattle.std.specs.Prelude.{
-    ℕ, max, Bool, true, false, not, ◌&&◌, ◌||◌, if◌then◌else◌, List, [], ◌∷◌, Option, Some, None, filter, flat_map,
-    fold, length, codes
-}
+use Rattle.std.specs.Prelude.{ℕ, max, Bool, true, false, not, ◌&&◌, ◌||◌, if◌then◌else◌, List, [], ◌∷◌, Option, Some}
+use Rattle.std.specs.Prelude.{None, filter, flat_map, fold, length, codes}
 use Rattle.std.specs.Option.{option_map_or}
 use Rattle.std.specs.FinMap.{get}
 use Rattle.ns_types.specs.declared.acl.Grants.{Grants}
@@ -11,9 +9,7 @@ use Rattle.ns_types.specs.declared.acl.PoolRights.{PoolRights}
 use Rattle.ns_types.specs.declared.acl.Rights.{Rights}
 use Rattle.ns_types.specs.declared.acl.Rule.{Rule}
 use Rattle.ns_types.specs.declared.acl.RuleKind.{RuleKind}
-use Rattle.ns_types.specs.declared.acl.RuleKind.TheVariants as RuleKind
 use Rattle.ns_types.specs.declared.acl.TokenKind.{TokenKind}
-use Rattle.ns_types.specs.declared.acl.TokenKind.TheVariants as TokenKind
 use Rattle.ns_types.specs.State.Lists.{is_empty}
 use Rattle.ns_types.specs.State.Names.{Name, same_name, same_number, begins_with}
 use Rattle.ns_types.specs.State.Rows.{Acl}
@@ -32,8 +28,8 @@ bearer_with TokenKind.Management policies = Manager
 -- without a secret it is the policy `anonymous`
 abbrev pub bearer : Acl → Option Name → Bearer
 bearer acl None = Holder (codes "anonymous" ∷ [])
-bearer acl (Some secret) = option_map_or (λ token. bearer_with token.kind token.policies) (get acl.tokens secret)
-    Unknown
+bearer acl (Some secret) =
+    option_map_or (λ token. bearer_with token.kind token.policies) (get acl.tokens secret) Unknown
 
 -- ---- what rules give
 
@@ -68,8 +64,15 @@ counting target rules =
     if is_empty exact then longest_match target rules else exact
 
 abbrev pub no_grants : Grants
-no_grants = record { list_jobs = false; read_job = false; submit_job = false; alloc_lifecycle = false; read_pool =
-    false; write_pool = false; deny = false }
+no_grants = record {
+  list_jobs = false;
+  read_job = false;
+  submit_job = false;
+  alloc_lifecycle = false;
+  read_pool = false;
+  write_pool = false;
+  deny = false;
+}
 
 abbrev pub both : Grants → Grants → Grants
 both a b = record {
@@ -95,8 +98,12 @@ granted acl kind policies target = unless_denied (merged (counting target (rules
 -- ---- rights
 
 abbrev pub rights_in : Grants → Rights
-rights_in g = record { list_jobs = g.list_jobs; read_job = g.read_job; submit_job = g.submit_job; alloc_lifecycle =
-    g.alloc_lifecycle }
+rights_in g = record {
+  list_jobs = g.list_jobs;
+  read_job = g.read_job;
+  submit_job = g.submit_job;
+  alloc_lifecycle = g.alloc_lifecycle;
+}
 
 abbrev pub no_rights : Rights
 no_rights = record { list_jobs = false; read_job = false; submit_job = false; alloc_lifecycle = false }

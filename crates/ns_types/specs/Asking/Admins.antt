@@ -10,7 +10,6 @@ use Rattle.ns_types.specs.declared.records.Quota.{Quota}
 use Rattle.ns_types.specs.declared.refusal.Member.TheVariants as Member
 use Rattle.ns_types.specs.declared.refusal.Refusal.TheVariants as Refusal
 use Rattle.ns_types.specs.declared.reply.Content.{Content}
-use Rattle.ns_types.specs.declared.reply.Content.TheVariants as Content
 use Rattle.ns_types.specs.Settling.Making.{put_tenant, put_pool}
 use Rattle.ns_types.specs.State.Names.{Name, ByName, same_name, has_name, default_name}
 use Rattle.ns_types.specs.Settling.Outcome.{Outcome, Done, unless, found, in_tenant, in_pool}

@@ -1,8 +1,7 @@
 -- What is asked in one namespace.
 -- Nomad's page on the jobs HTTP API.
-use Rattle.std.specs.Prelude.{
-    ℕ, ◌+◌, Bool, true, false, not, ◌&&◌, if◌then◌else◌, Option, Some, None, nat_eq, nat_le, unwrap_or
-}
+use Rattle.std.specs.Prelude.{ℕ, ◌+◌, Bool, true, false, not, ◌&&◌, if◌then◌else◌, Option, Some, None, nat_eq, nat_le}
+use Rattle.std.specs.Prelude.{unwrap_or}
 use Rattle.std.specs.Option.{option_map_or}
 use Rattle.std.specs.FinMap.{get, remove, contains_key, len}
 use Rattle.ns_types.specs.declared.acl.Rights.{Rights}
@@ -12,17 +11,15 @@ use Rattle.ns_types.specs.declared.job.Document.{Document}
 use Rattle.ns_types.specs.declared.job.Job.{Job}
 use Rattle.ns_types.specs.declared.job.Registration.{Registration}
 use Rattle.ns_types.specs.declared.refusal.Member.TheVariants as Member
-use Rattle.ns_types.specs.declared.refusal.Refusal.TheVariants as Refusal
+use Rattle.ns_types.specs.declared.refusal.Refusal.{Refusal}
 use Rattle.ns_types.specs.declared.reply.Content.TheVariants as Content
 use Rattle.ns_types.specs.declared.step.AskCommand.{AskCommand}
-use Rattle.ns_types.specs.declared.step.AskCommand.TheVariants as AskCommand
 use Rattle.ns_types.specs.Settling.Making.{with_job, with_desired, evaluation_of, evaluation_for, make_in}
 use Rattle.ns_types.specs.State.Names.{Name, same_number}
-use Rattle.ns_types.specs.Settling.Outcome.{Outcome, Done, unless, found, in_tenant}
-use Rattle.ns_types.specs.Asking.Reads.{
-    list_jobs, read_job, job_allocations, job_evaluations, list_evaluations, read_evaluation, list_allocations,
-    read_allocation, read_namespace, quota_usage, events_from
-}
+use Rattle.ns_types.specs.Settling.Outcome.{Outcome, Done, unless, refused_by, found, in_tenant}
+use Rattle.ns_types.specs.Asking.Reads.{list_jobs, read_job, job_allocations, job_evaluations, list_evaluations}
+use Rattle.ns_types.specs.Asking.Reads.{read_evaluation, list_allocations, read_allocation, read_namespace, quota_usage}
+use Rattle.ns_types.specs.Asking.Reads.{events_from}
 use Rattle.ns_types.specs.Access.Rights.{has_any}
 use Rattle.ns_types.specs.State.Rows.{World, Tenant, is_live}
 use Rattle.ns_types.specs.Settling.Same.{same_document}
@@ -35,8 +32,13 @@ abbrev pub pool_of : Tenant → Registration → Name
 pool_of t r = unwrap_or r.pool t.namespace.default_pool
 
 abbrev pub document_of : Tenant → Registration → Document
-document_of t r = record { kind = r.kind; priority = r.priority; pool = pool_of t r; constraints =
-    r.constraints; groups = r.groups }
+document_of t r = record {
+  kind = r.kind;
+  priority = r.priority;
+  pool = pool_of t r;
+  constraints = r.constraints;
+  groups = r.groups;
+}
 
 -- the stored job has the demanded index; zero demands that there is none, stopped or not
 abbrev pub meets : Option Job → ℕ → Bool
@@ -49,11 +51,33 @@ registered_job index document None =
     record { document = document; stop = false; version = 0; create_index = index; modify_index = index }
 registered_job index document (Some job) =
     if same_document document job.document && not job.stop then job
-    else record { document = document; stop = false; version = job.version + 1; create_index =
-        job.create_index; modify_index = index }
+    else record {
+      document = document;
+      stop = false;
+      version = job.version + 1;
+      create_index = job.create_index;
+      modify_index = index;
+    }
+
+-- the demanded index is not the job's
+abbrev pub is_outdated : Registration → Tenant → Bool
+is_outdated r t = option_map_or (λ index. not (meets (get t.jobs r.id) index)) r.enforced false
 
 abbrev pub most_jobs : ℕ
 most_jobs = 1000
+
+-- the job is new, and the namespace has as many as it may
+abbrev pub has_no_room : Registration → Tenant → Bool
+has_no_room r t = not (contains_key t.jobs r.id) && nat_le most_jobs (len t.jobs)
+
+-- what refuses a registration first, if anything does. That a counter would pass its bound comes after all of it
+abbrev pub first_refusal : World → Tenant → Registration → Option Refusal
+first_refusal w t r =
+    if not (permits t.namespace (pool_of t r)) then Some Refusal.PoolNotPermitted
+    else if not (contains_key w.pools (pool_of t r)) then Some (Refusal.BadField Member.NodePool)
+    else if is_outdated r t then Some Refusal.Conflict
+    else if has_no_room r t then Some Refusal.Full
+    else None
 
 -- the evaluation is the namespace's next, and so is the index
 abbrev pub registered_with : Name → Registration → World → Tenant → Job → Outcome World
@@ -62,12 +86,8 @@ registered_with ns r w t job =
     (make_in ns (evaluation_of r.id job.document Trigger.JobRegister) w (with_job r.id job t))
 
 abbrev pub register : Name → Registration → World → Tenant → Outcome World
-register ns r w t =
-    unless (not (permits t.namespace (pool_of t r))) Refusal.PoolNotPermitted (
-    unless (not (contains_key w.pools (pool_of t r))) (Refusal.BadField Member.NodePool) (
-    unless (option_map_or (λ index. not (meets (get t.jobs r.id) index)) r.enforced false) Refusal.Conflict (
-    unless (not (contains_key t.jobs r.id) && nat_le most_jobs (len t.jobs)) Refusal.Full (
-    registered_with ns r w t (registered_job (t.index + 1) (document_of t r) (get t.jobs r.id))))))
+register ns r w t = refused_by (first_refusal w t r)
+    (registered_with ns r w t (registered_job (t.index + 1) (document_of t r) (get t.jobs r.id)))
 
 -- ---- deregistration
 

@@ -1,24 +1,19 @@
--- What is told of the nodes of one pool.
+-- What is asked of one pool and its nodes.
 -- Nomad's page on the nodes HTTP API.
-use Rattle.std.specs.Prelude.{
-    ℕ, Bool, true, false, not, ◌&&◌, if◌then◌else◌, List, Option, Some, None, filter, map, flat_map, fold, nat_le
-}
+use Rattle.std.specs.Prelude.{ℕ, Bool, true, false, not, ◌&&◌, if◌then◌else◌, List, Option, Some, None, filter, map}
+use Rattle.std.specs.Prelude.{flat_map, fold, nat_le}
 use Rattle.std.specs.Option.{option_map_or}
 use Rattle.std.specs.FinMap.{get, remove, contains_key, len, entries, values, from_entries}
 use Rattle.ns_types.specs.declared.acl.PoolRights.{PoolRights}
 use Rattle.ns_types.specs.declared.allocation.Allocation.{Allocation}
 use Rattle.ns_types.specs.declared.allocation.ClientStatus.{ClientStatus}
-use Rattle.ns_types.specs.declared.allocation.ClientStatus.TheVariants as ClientStatus
 use Rattle.ns_types.specs.declared.evaluation.Trigger.TheVariants as Trigger
 use Rattle.ns_types.specs.declared.node.Node.{Node}
 use Rattle.ns_types.specs.declared.node.NodeStatus.{NodeStatus}
-use Rattle.ns_types.specs.declared.node.NodeStatus.TheVariants as NodeStatus
 use Rattle.ns_types.specs.declared.node.Offer.{Offer}
 use Rattle.ns_types.specs.declared.refusal.Refusal.TheVariants as Refusal
 use Rattle.ns_types.specs.declared.reply.Content.{Content}
-use Rattle.ns_types.specs.declared.reply.Content.TheVariants as Content
 use Rattle.ns_types.specs.declared.step.NodeCommand.{NodeCommand}
-use Rattle.ns_types.specs.declared.step.NodeCommand.TheVariants as NodeCommand
 use Rattle.ns_types.specs.declared.step.Report.{Report}
 use Rattle.ns_types.specs.Settling.Making.{put_pool, with_node, change_tenant, with_client, evaluation_for, make}
 use Rattle.ns_types.specs.State.Names.{Name, name_cmp, same_name}
@@ -77,8 +72,9 @@ abbrev pub lost : Name → Name → Allocation → Allocation
 lost pool node a = if is_live_on pool node a then record a { client = ClientStatus.Lost } else a
 
 abbrev pub lose : Name → Name → World → World
-lose pool node w = record w { tenants =
-    map_rows (λ _ t. record t { allocations = map_rows (λ _ a. lost pool node a) t.allocations }) w.tenants }
+lose pool node w = record w {
+  tenants = map_rows (λ _ t. record t { allocations = map_rows (λ _ a. lost pool node a) t.allocations }) w.tenants;
+}
 
 -- and each job that had one gets an evaluation
 unfoldable pub go_down : Name → Name → World → World
@@ -137,7 +133,7 @@ abbrev pub report : Name → Name → Report → World → PoolRows → Outcome 
 report pool name r w p = found (get p.nodes name) (λ node. found (allocation_at w (r.namespace, r.number)) (λ a.
     unless (not (is_on pool name a)) Refusal.NotFound (report_of r w a)))
 
--- ---- all that is told
+-- ---- all that is asked of a pool
 
 abbrev pub asked_in_pool : Name → NodeCommand → World → PoolRows → Outcome World
 asked_in_pool pool NodeCommand.ReadPool w p = Done (read_pool pool p) w

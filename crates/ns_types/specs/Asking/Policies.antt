@@ -7,12 +7,10 @@ use Rattle.ns_types.specs.declared.acl.Token.{Token}
 use Rattle.ns_types.specs.declared.refusal.Refusal.TheVariants as Refusal
 use Rattle.ns_types.specs.declared.reply.Content.TheVariants as Content
 use Rattle.ns_types.specs.declared.step.AdminCommand.{AdminCommand}
-use Rattle.ns_types.specs.declared.step.AdminCommand.TheVariants as AdminCommand
 use Rattle.ns_types.specs.declared.step.NewToken.{NewToken}
-use Rattle.ns_types.specs.Asking.Admins.{
-    is_full, most_rows, put_namespace, delete_namespace, list_namespaces, list_quotas, read_quota, put_quota,
-    delete_quota, list_pools, put_pool_record, delete_pool
-}
+use Rattle.ns_types.specs.Asking.Admins.{is_full, most_rows, put_namespace, delete_namespace, list_namespaces}
+use Rattle.ns_types.specs.Asking.Admins.{list_quotas, read_quota, put_quota, delete_quota, list_pools, put_pool_record}
+use Rattle.ns_types.specs.Asking.Admins.{delete_pool}
 use Rattle.ns_types.specs.State.Names.{Name, same_name}
 use Rattle.ns_types.specs.Settling.Outcome.{Outcome, Done, unless, found, lift}
 use Rattle.ns_types.specs.Access.Rights.{rights_of, pool_rights_of, has_any, is_known, is_manager}
@@ -51,8 +49,13 @@ abbrev pub create_token : NewToken → Acl → Outcome Acl
 create_token new acl =
     unless (contains_key acl.tokens new.secret || has_accessor acl new.accessor) Refusal.Conflict (
     unless (nat_le most_rows (len acl.tokens)) Refusal.Full (
-    Done (Content.Token (record { accessor = new.accessor; secret = new.secret; name = new.name; kind =
-        new.kind; policies = new.policies }))
+    Done (Content.Token (record {
+      accessor = new.accessor;
+      secret = new.secret;
+      name = new.name;
+      kind = new.kind;
+      policies = new.policies;
+    }))
     (record acl { tokens = insert acl.tokens new.secret (token_of new) })))
 
 abbrev pub secret_of : Acl → Name → Option Name
@@ -86,8 +89,8 @@ administer secret AdminCommand.ListQuotas s = Done (list_quotas s.world) s
 administer secret (AdminCommand.ReadQuota name) s = in_world s (read_quota name)
 administer secret (AdminCommand.PutQuota name quota) s = in_world s (put_quota name quota)
 administer secret (AdminCommand.DeleteQuota name) s = in_world s (delete_quota name)
-administer secret AdminCommand.ListPools s = Done (list_pools (λ pool. (pool_rights_of s.acl secret pool).read) s.world)
-    s
+administer secret AdminCommand.ListPools s =
+    Done (list_pools (λ pool. (pool_rights_of s.acl secret pool).read) s.world) s
 administer secret (AdminCommand.PutPool name pool) s = in_world s (put_pool_record name pool)
 administer secret (AdminCommand.DeletePool name) s = in_world s (delete_pool name)
 administer secret (AdminCommand.ReadPolicy name) s = in_acl s (read_policy name)

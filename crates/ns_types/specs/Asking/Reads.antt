@@ -7,11 +7,9 @@ use Rattle.ns_types.specs.declared.job.Job.{Job}
 use Rattle.ns_types.specs.declared.refusal.Refusal.TheVariants as Refusal
 use Rattle.ns_types.specs.declared.reply.AllocationShown.{AllocationShown}
 use Rattle.ns_types.specs.declared.reply.Content.{Content}
-use Rattle.ns_types.specs.declared.reply.Content.TheVariants as Content
 use Rattle.ns_types.specs.declared.reply.EvaluationShown.{EvaluationShown}
 use Rattle.ns_types.specs.declared.reply.JobShown.{JobShown}
 use Rattle.ns_types.specs.declared.reply.JobStatus.{JobStatus}
-use Rattle.ns_types.specs.declared.reply.JobStatus.TheVariants as JobStatus
 use Rattle.ns_types.specs.State.Id.{id_text}
 use Rattle.ns_types.specs.State.Names.{Name, same_name, begins_with}
 use Rattle.ns_types.specs.Settling.Outcome.{Outcome, Refused, Done, found}

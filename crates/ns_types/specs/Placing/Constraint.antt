@@ -5,9 +5,7 @@ use Rattle.std.specs.List.{list_all, list_any}
 use Rattle.std.specs.Str.{bytes_eq}
 use Rattle.ns_types.specs.declared.job.Constraint.{Constraint}
 use Rattle.ns_types.specs.declared.job.Operand.{Operand}
-use Rattle.ns_types.specs.declared.job.Operand.TheVariants as Operand
 use Rattle.ns_types.specs.declared.job.Target.{Target}
-use Rattle.ns_types.specs.declared.job.Target.TheVariants as Target
 use Rattle.ns_types.specs.declared.node.Node.{Node}
 use Rattle.ns_types.specs.State.Names.{Name}
 use Rattle.ns_types.specs.State.Rows.{is_free, is_unique}

@@ -88,5 +88,5 @@ any_escapes s = list_any escapes (constraints_of s.job)
 abbrev pub infeasible_classes : Snapshot → List Class
 infeasible_classes s =
     keys (from_entries {R = class_cmp}
-        (map (λ p. (class_of p.row, p.name))
-        (filter (λ p. is_class_infeasible (constraints_of s.job) p.name p.row) s.nodes)))
+    (map (λ p. (class_of p.row, p.name))
+    (filter (λ p. is_class_infeasible (constraints_of s.job) p.name p.row) s.nodes)))

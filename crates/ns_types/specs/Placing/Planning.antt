@@ -1,9 +1,7 @@
 -- What a plan places: the missing allocations one by one, each in the state that the ones before it leave.
 -- Nomad's page "Scheduling in Nomad".
-use Rattle.std.specs.Prelude.{
-    ℕ, zero, suc, Bool, true, false, not, List, [], ◌∷◌, Option, Some, if◌then◌else◌, drop, filter, length, map,
-    slice_get
-}
+use Rattle.std.specs.Prelude.{ℕ, zero, suc, Bool, true, false, not, List, [], ◌∷◌, Option, Some, if◌then◌else◌, drop}
+use Rattle.std.specs.Prelude.{filter, length, map, slice_get}
 use Rattle.std.specs.List.{list_any}
 use Rattle.std.specs.Option.{option_map, option_and_then, option_map_or}
 use Rattle.std.specs.Str.{bytes_eq}
@@ -31,7 +29,7 @@ pub record Choice : Type 0 where
 abbrev pub preempt : Resources → List Candidate → Option Choice
 preempt size cs =
     option_and_then (λ k. option_map (λ v. record { node = k; victims = v })
-        (option_and_then (victims size) (slice_get cs k))) (best_victims size cs)
+    (option_and_then (victims size) (slice_get cs k))) (best_victims size cs)
 
 -- the best node with room, else the node whose victims are cheapest
 abbrev pub choice : Resources → List Candidate → Option Choice

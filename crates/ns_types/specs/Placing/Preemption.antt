@@ -1,8 +1,7 @@
 -- The choice of victims where no node has room.
 -- Nomad's page "Preemption".
-use Rattle.std.specs.Prelude.{
-    ℕ, ◌-◌, ◌==◌, max, Bool, List, [], Option, None, if◌then◌else◌, filter, fold, length, reverse, unwrap_or, is_some
-}
+use Rattle.std.specs.Prelude.{ℕ, ◌-◌, ◌==◌, max, Bool, List, [], Option, None, if◌then◌else◌, filter, fold, length}
+use Rattle.std.specs.Prelude.{reverse, unwrap_or, is_some}
 use Rattle.std.specs.Cmp.Lexicographic.{slice_cmp}
 use Rattle.std.specs.List.{flat_map, range_with_len}
 use Rattle.std.specs.Ordering.{is_lt, nat_cmp, on, then_cmp}

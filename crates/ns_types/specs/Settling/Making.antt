@@ -9,12 +9,10 @@ use Rattle.ns_types.specs.declared.allocation.ClientStatus.{ClientStatus}
 use Rattle.ns_types.specs.declared.allocation.DesiredStatus.{DesiredStatus}
 use Rattle.ns_types.specs.declared.evaluation.Evaluation.{Evaluation}
 use Rattle.ns_types.specs.declared.evaluation.Status.{Status}
-use Rattle.ns_types.specs.declared.evaluation.Status.TheVariants as Status
 use Rattle.ns_types.specs.declared.evaluation.Trigger.{Trigger}
 use Rattle.ns_types.specs.declared.job.Document.{Document}
 use Rattle.ns_types.specs.declared.job.Job.{Job}
 use Rattle.ns_types.specs.declared.job.JobKind.{JobKind}
-use Rattle.ns_types.specs.declared.job.JobKind.TheVariants as JobKind
 use Rattle.ns_types.specs.declared.node.Node.{Node}
 use Rattle.ns_types.specs.State.Names.{Name}
 use Rattle.ns_types.specs.State.Rows.{World, Tenant, PoolRows}
@@ -82,8 +80,10 @@ evaluation_for t ended trigger =
 
 -- the evaluation gets the namespace's next number
 abbrev pub with_evaluation : Evaluation → Tenant → Tenant
-with_evaluation e t = record t { evaluation_number = t.evaluation_number + 1; evaluations =
-    insert t.evaluations (t.evaluation_number + 1) e }
+with_evaluation e t = record t {
+  evaluation_number = t.evaluation_number + 1;
+  evaluations = insert t.evaluations (t.evaluation_number + 1) e;
+}
 
 -- and is ready, or waits for another of its job
 abbrev pub make_in : Name → Evaluation → World → Tenant → World

@@ -1,9 +1,8 @@
 -- What a step makes of a state, before its releases, wakes, indexes and events.
-use Rattle.std.specs.Prelude.{◌≡◌, Bool, if◌then◌else◌, Option, Result, Ok, Err}
+use Rattle.std.specs.Prelude.{◌≡◌, Bool, true, false, if◌then◌else◌, Option, Some, None, Result, Ok, Err}
 use Rattle.std.specs.Option.{option_map_or}
 use Rattle.std.specs.FinMap.{get}
 use Rattle.ns_types.specs.declared.refusal.Refusal.{Refusal}
-use Rattle.ns_types.specs.declared.refusal.Refusal.TheVariants as Refusal
 use Rattle.ns_types.specs.declared.reply.Content.{Content}
 use Rattle.ns_types.specs.State.Names.{Name}
 use Rattle.ns_types.specs.State.Rows.{World, Tenant, PoolRows}
@@ -18,6 +17,11 @@ pub data Outcome (S : Type 0) : Type 0 where
 -- a refusal that comes before all that follows it
 unfoldable pub unless : {S : Type 0} → Bool → Refusal → Outcome S → Outcome S
 unless refuses refusal rest = if refuses then Refused refusal else rest
+
+-- refused by what was found against it, if anything was
+abbrev pub refused_by : {S : Type 0} → Option Refusal → Outcome S → Outcome S
+refused_by None rest = rest
+refused_by (Some refusal) rest = Refused refusal
 
 -- the change of a part, as one of the whole
 abbrev pub lift : {A B : Type 0} → (A → B) → Outcome A → Outcome B
@@ -35,8 +39,17 @@ in_tenant w ns go = found (get w.tenants ns) go
 abbrev pub in_pool : World → Name → (PoolRows → Outcome World) → Outcome World
 in_pool w pool go = found (get w.pools pool) go
 
--- What a call that makes this change of a part answers, and the part that it leaves. Want of memory changes nothing.
+-- the change is made: it is in turn, and not refused
+abbrev pub is_done : {S : Type 0} → Outcome S → Bool
+is_done NotEnabled = false
+is_done (Refused refusal) = false
+is_done (Done content s) = true
+
+-- What a call that makes this change of a part answers, and the part that it leaves. Want of memory comes last, where
+-- the change would have been made, and it changes nothing.
 abbrev pub Changes : {S : Type 0} → Outcome S → S → Result Content Refusal → S → Type 0
 Changes outcome s (Ok content) s' = outcome ≡ Done content s'
-Changes outcome s (Err Refusal.Memory) s' = s' ≡ s
+Changes outcome s (Err Refusal.Memory) s' = (is_done outcome ≡ true) × (s' ≡ s)
 Changes outcome s (Err refusal) s' = (outcome ≡ Refused refusal) × (s' ≡ s)
+
+-- Neither the headline nor the wire rests on `Changes` and `is_done`: this is the contract of calls that change a part.

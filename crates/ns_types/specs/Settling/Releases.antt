@@ -15,9 +15,8 @@ use Rattle.ns_types.specs.declared.records.Namespace.{Namespace}
 use Rattle.ns_types.specs.declared.snapshot.Snapshot.{Snapshot}
 use Rattle.ns_types.specs.State.Names.{Name, Key, same_name, has_key, has_class, attribute_cmp}
 use Rattle.ns_types.specs.State.Resources.{same_resources, same_limits, limits_in}
-use Rattle.ns_types.specs.State.Rows.{
-    World, PoolRows, QuotaRows, is_live, is_free, class_of, allocation_at, node_at, evaluation_at
-}
+use Rattle.ns_types.specs.State.Rows.{World, PoolRows, QuotaRows, is_live, is_free, class_of, allocation_at, node_at}
+use Rattle.ns_types.specs.State.Rows.{evaluation_at}
 use Rattle.ns_types.specs.State.Sums.{names_quota}
 use Rattle.ns_types.specs.State.Tables.{any_row}
 
@@ -86,9 +85,9 @@ woken w w' = filter (λ key. has_key w'.blocked key && option_map_or (wakes w w'
 abbrev pub missed_by : World → Snapshot → Evaluation → Option Name → Bool
 missed_by w kept e (Some quota) = nat_lt (option_map_or (λ q. q.release) kept.quota 0)
     (option_map_or (λ q. q.release) (get w.quotas quota) 0)
-missed_by w kept e None = option_map_or
-    (λ pool. any_row (λ class number. nat_lt kept.release number && can_use e class) pool.classes) (get w.pools e.pool)
-    false
+missed_by w kept e None =
+    option_map_or (λ pool. any_row (λ class number. nat_lt kept.release number && can_use e class) pool.classes)
+    (get w.pools e.pool) false
 
 unfoldable pub missed : World → Snapshot → Evaluation → Bool
 missed w kept e = missed_by w kept e e.quota

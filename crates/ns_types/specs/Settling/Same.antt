@@ -12,9 +12,8 @@ use Rattle.ns_types.specs.declared.job.Job.{Job}
 use Rattle.ns_types.specs.declared.job.Task.{Task}
 use Rattle.ns_types.specs.State.Names.{same_name, same_number}
 use Rattle.ns_types.specs.State.Resources.{same_resources}
-use Rattle.ns_types.specs.Wire.Words.{
-    kind_text, operand_text, target_text, status_text, trigger_text, desired_text, client_text
-}
+use Rattle.ns_types.specs.Wire.Words.{kind_text, operand_text, target_text, status_text, trigger_text, desired_text}
+use Rattle.ns_types.specs.Wire.Words.{client_text}
 
 abbrev pub same_flag : Bool → Bool → Bool
 same_flag = eq_by_cmp bool_cmp
@@ -44,9 +43,9 @@ same_job a b =
 unfoldable pub same_evaluation : Evaluation → Evaluation → Bool
 same_evaluation a b =
     same_name a.job b.job && same_name (kind_text a.kind) (kind_text b.kind) && same_number a.priority b.priority
-        && same_name a.pool b.pool
+    && same_name a.pool b.pool
     && same_name (trigger_text a.trigger) (trigger_text b.trigger)
-        && same_name (status_text a.status) (status_text b.status)
+    && same_name (status_text a.status) (status_text b.status)
     && option_eq same_number a.previous b.previous && option_eq same_number a.follower b.follower
     && option_eq same_name a.quota b.quota && same_flag a.escapes b.escapes
 
@@ -55,7 +54,7 @@ unfoldable pub same_allocation : Allocation → Allocation → Bool
 same_allocation a b =
     same_name a.job b.job && same_name a.group b.group && same_number a.evaluation b.evaluation
     && same_name a.pool b.pool && same_name a.node b.node && same_resources a.size b.size
-        && same_number a.priority b.priority
+    && same_number a.priority b.priority
     && same_number a.job_modify_index b.job_modify_index
     && same_name (desired_text a.desired) (desired_text b.desired)
-        && same_name (client_text a.client) (client_text b.client)
+    && same_name (client_text a.client) (client_text b.client)

@@ -1,9 +1,8 @@
 -- What every step does at its end: blocked evaluations wake, releases are numbered,
 -- changed rows get their namespace's next index, and each of them gives an event.
 -- Nomad's page on the event stream HTTP API.
-use Rattle.std.specs.Prelude.{
-    ℕ, ◌+◌, Bool, true, not, ◌||◌, if◌then◌else◌, List, [], ◌∷◌, ◌++◌, Option, fold, filter, map
-}
+use Rattle.std.specs.Prelude.{ℕ, ◌+◌, Bool, true, not, ◌||◌, if◌then◌else◌, List, [], ◌∷◌, ◌++◌, Option, fold, filter}
+use Rattle.std.specs.Prelude.{map}
 use Rattle.std.specs.Option.{option_map_or}
 use Rattle.std.specs.FinMap.{get, insert, entries, contains_key, keys, from_entries}
 use Rattle.ns_types.specs.declared.allocation.Allocation.{Allocation}
@@ -11,7 +10,6 @@ use Rattle.ns_types.specs.declared.evaluation.Evaluation.{Evaluation}
 use Rattle.ns_types.specs.declared.evaluation.Status.TheVariants as Status
 use Rattle.ns_types.specs.declared.event.Event.{Event}
 use Rattle.ns_types.specs.declared.event.Topic.{Topic}
-use Rattle.ns_types.specs.declared.event.Topic.TheVariants as Topic
 use Rattle.ns_types.specs.declared.node.Class.{Class}
 use Rattle.ns_types.specs.State.Lists.{last}
 use Rattle.ns_types.specs.State.Names.{Name, Key, name_cmp, has_key}
@@ -27,8 +25,9 @@ abbrev pub pending : Evaluation → Evaluation
 pending e = record e { status = Status.Pending }
 
 abbrev pub unblocked_in : List Key → Name → Tenant → Tenant
-unblocked_in keys ns t = record t { evaluations = map_rows (λ n e. if has_key keys (ns, n) then pending e else e)
-    t.evaluations }
+unblocked_in keys ns t = record t {
+  evaluations = map_rows (λ n e. if has_key keys (ns, n) then pending e else e) t.evaluations;
+}
 
 -- the evaluations are no longer blocked, and each is ready or waits
 unfoldable pub wake : List Key → World → World
@@ -106,15 +105,19 @@ created_at index old created = option_map_or created old index
 abbrev pub stamped_evaluation : ℕ → Tenant → ℕ → Evaluation → Evaluation
 stamped_evaluation index old n e =
     if changes_evaluation old n e
-    then record e { create_index = created_at index (get old.evaluations n) (λ o. o.create_index); modify_index =
-        index }
+    then record e {
+      create_index = created_at index (get old.evaluations n) (λ o. o.create_index);
+      modify_index = index;
+    }
     else e
 
 abbrev pub stamped_allocation : ℕ → Tenant → ℕ → Allocation → Allocation
 stamped_allocation index old n a =
     if changes_allocation old n a
-    then record a { create_index = created_at index (get old.allocations n) (λ o. o.create_index); modify_index =
-        index }
+    then record a {
+      create_index = created_at index (get old.allocations n) (λ o. o.create_index);
+      modify_index = index;
+    }
     else a
 
 -- a changed job has the index already

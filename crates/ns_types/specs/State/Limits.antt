@@ -16,7 +16,6 @@ use Rattle.ns_types.specs.declared.node.Offer.{Offer}
 use Rattle.ns_types.specs.declared.records.Namespace.{Namespace}
 use Rattle.ns_types.specs.declared.records.Quota.{Quota}
 use Rattle.ns_types.specs.declared.resources.Limit.{Limit}
-use Rattle.ns_types.specs.declared.resources.Limit.TheVariants as Limit
 use Rattle.ns_types.specs.declared.resources.Resources.{Resources}
 use Rattle.ns_types.specs.State.Lists.{is_empty, first_each}
 use Rattle.ns_types.specs.State.Name.{is_name}
@@ -61,15 +60,16 @@ abbrev pub is_good_document : Document → Bool
 is_good_document d = is_between 1 100 d.priority && is_pool_name d.pool
     && nat_le (length d.constraints) 16 && list_all is_good_constraint d.constraints
     && is_between 1 16 (length d.groups) && list_all is_good_group d.groups
-        && is_distinct same_name (map (λ g. g.name) d.groups)
+    && is_distinct same_name (map (λ g. g.name) d.groups)
 
+-- Neither the headline nor the wire rests on this: it is for `Within`.
 -- a pool need not be named
 abbrev pub is_good_registration : Registration → Bool
 is_good_registration r = is_name NameKind.Job r.id && is_between 1 100 r.priority
     && option_map_or is_pool_name r.pool true
     && nat_le (length r.constraints) 16 && list_all is_good_constraint r.constraints
     && is_between 1 16 (length r.groups) && list_all is_good_group r.groups
-        && is_distinct same_name (map (λ g. g.name) r.groups)
+    && is_distinct same_name (map (λ g. g.name) r.groups)
 
 -- ---- nodes
 

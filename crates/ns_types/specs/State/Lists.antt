@@ -24,6 +24,7 @@ sorted_names names = keys (from_entries {R = name_cmp} (map (λ n. (n, n)) names
 abbrev pub by_number : {X : Type 0} → (X → ℕ) → List X → List X
 by_number number xs = values (from_entries {R = nat_cmp} (map (λ x. (number x, x)) xs))
 
+-- Neither the headline nor the wire rests on this: laws of lists use it.
 -- each element is so
 abbrev pub Each : {X : Type 0} → (X → Type 0) → List X → Type 0
 Each P [] = Unit {0}

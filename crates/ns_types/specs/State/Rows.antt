@@ -7,18 +7,14 @@ use Rattle.ns_types.specs.declared.acl.Policy.{Policy}
 use Rattle.ns_types.specs.declared.acl.Token.{Token}
 use Rattle.ns_types.specs.declared.allocation.Allocation.{Allocation}
 use Rattle.ns_types.specs.declared.allocation.ClientStatus.{ClientStatus}
-use Rattle.ns_types.specs.declared.allocation.ClientStatus.TheVariants as ClientStatus
 use Rattle.ns_types.specs.declared.allocation.DesiredStatus.{DesiredStatus}
-use Rattle.ns_types.specs.declared.allocation.DesiredStatus.TheVariants as DesiredStatus
 use Rattle.ns_types.specs.declared.evaluation.Evaluation.{Evaluation}
 use Rattle.ns_types.specs.declared.evaluation.Status.{Status}
-use Rattle.ns_types.specs.declared.evaluation.Status.TheVariants as Status
 use Rattle.ns_types.specs.declared.event.Event.{Event}
 use Rattle.ns_types.specs.declared.job.Job.{Job}
 use Rattle.ns_types.specs.declared.node.Class.{Class}
 use Rattle.ns_types.specs.declared.node.Node.{Node}
 use Rattle.ns_types.specs.declared.node.NodeStatus.{NodeStatus}
-use Rattle.ns_types.specs.declared.node.NodeStatus.TheVariants as NodeStatus
 use Rattle.ns_types.specs.declared.records.Namespace.{Namespace}
 use Rattle.ns_types.specs.declared.records.Pool.{Pool}
 use Rattle.ns_types.specs.declared.records.Quota.{Quota}
@@ -125,8 +121,10 @@ is_unique key = begins_with (codes "unique.") key
 
 -- the class of a node, with all attributes that are not unique
 abbrev pub class_of : Node → Class
-class_of node = record { name = node.offer.class; attributes =
-    filter (λ a. not (is_unique a.key)) node.offer.attributes }
+class_of node = record {
+  name = node.offer.class;
+  attributes = filter (λ a. not (is_unique a.key)) node.offer.attributes;
+}
 
 -- ---- look-ups
 

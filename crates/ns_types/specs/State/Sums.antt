@@ -29,5 +29,7 @@ unfoldable pub node_sum : World → Name → Name → (Resources → ℕ) → �
 node_sum w pool node amount = sum_by (λ e. tenant_sum (is_live_on pool node) amount e.1) (entries w.tenants)
 
 abbrev pub node_load : World → Name → Name → Resources
-node_load w pool node = record { cpu = node_sum w pool node (λ r. r.cpu); memory =
-    node_sum w pool node (λ r. r.memory) }
+node_load w pool node = record {
+  cpu = node_sum w pool node (λ r. r.cpu);
+  memory = node_sum w pool node (λ r. r.memory);
+}

@@ -1,15 +1,13 @@
 -- Requests of HTTP/1.1 (RFC 9112) over whole byte strings: no buffer and no reads.
-use Rattle.std.specs.Prelude.{
-    ◌≡◌, ℕ, ◌<◌, ◌≤◌, ◌⊎◌, Bool, true, false, ◌&&◌, ◌||◌, List, [], ◌∷◌, ◌++◌, map, length, take, Option, Some, None,
-    Result, Ok, Err, if◌then◌else◌, nat_lt, nat_le, ◌==◌, codes, bytes_eq, MatchBool, ⊤
-}
+use Rattle.std.specs.Prelude.{◌≡◌, ℕ, ◌<◌, ◌≤◌, ◌⊎◌, Bool, true, false, ◌&&◌, ◌||◌, List, [], ◌∷◌, ◌++◌, map, length}
+use Rattle.std.specs.Prelude.{take, Option, Some, None, Result, Ok, Err, if◌then◌else◌, nat_lt, nat_le, ◌==◌, codes}
+use Rattle.std.specs.Prelude.{bytes_eq, MatchBool, ⊤}
 use Rattle.std.specs.List.{list_all, list_any, slice_split}
 use Rattle.std.specs.Char.{is_ascii_digit, to_ascii_lowercase}
 use Rattle.std.specs.Str.Parse.{digits_value}
 use Rattle.httparse.specs.Ascii.{comma}
-use Rattle.httparse.specs.Grammar.{
-    trim_ows, RequestHead, print_request, IsRequestHead, HasNoRequest, NeverHasRequest, MayBecomeRequest
-}
+use Rattle.httparse.specs.Grammar.{trim_ows, RequestHead, print_request, IsRequestHead, HasNoRequest, NeverHasRequest}
+use Rattle.httparse.specs.Grammar.{MayBecomeRequest}
 use Rattle.httparse.specs.Spans.{name_and_value, RequestExceeds, RequestOverflows}
 use Rattle.ns_types.specs.declared.reply.HeadFault.{HeadFault}
 use Rattle.ns_types.specs.declared.reply.HeadFault.TheVariants.{BadHead, NeedLength, TooLarge}
@@ -72,8 +70,8 @@ lists_close value = list_any (λ piece. eq_ignore_case (trim_ows piece) (codes "
 
 -- HTTP/1.0, or a `Connection` header that lists `close`
 unfoldable pub asks_close : ℕ → List Header → Bool
-asks_close minor headers = (minor == 0) || list_any (λ h. eq_ignore_case h.0 (codes "connection") && lists_close h.1)
-    headers
+asks_close minor headers = (minor == 0)
+    || list_any (λ h. eq_ignore_case h.0 (codes "connection") && lists_close h.1) headers
 
 -- the first `X-Nomad-Token`
 unfoldable pub token_of : List Header → Option (List ℕ)
@@ -168,6 +166,7 @@ IsRest Closed rest = ⊤
 abbrev pub Requests : List ℕ → List Received → End → Type 0
 Requests bytes received end = (rest : List ℕ) × Takes bytes received (is_closed end) rest × IsRest end rest
 
+-- Neither the headline nor the wire rests on this and the next: they are for a law of readings.
 -- the head is both faulty and over a limit
 pub data IsFaultyAndOver (bytes : List ℕ) : Type 0 where
   faulty_long : NeverHasRequest bytes → HasNoRequest (take max_head_len bytes) → max_head_len ≤ length bytes →
@@ -175,8 +174,7 @@ pub data IsFaultyAndOver (bytes : List ℕ) : Type 0 where
   faulty_many : NeverHasRequest bytes → RequestExceeds max_headers bytes → IsFaultyAndOver bytes
 
 -- Two readings of the same bytes agree, but for two freedoms: a head that is both faulty and over a limit may be
--- refused as
--- either, and a head without its end, where the bytes end, may be refused or not.
+-- refused as either, and a head without its end, where the bytes end, may be refused or not.
 abbrev pub ReadAlike : List ℕ → List Received → End → List Received → End → Type 0
 ReadAlike bytes [] e [] f = e ≡ f
 ReadAlike bytes [] e (Refused b ∷ ys) f = HasNoRequest bytes × (is_closed e ≡ false)

@@ -1,7 +1,6 @@
 -- The members of documents, and parameters, by their names.
 use Rattle.std.specs.Prelude.{ℕ, List, codes}
 use Rattle.ns_types.specs.declared.refusal.Member.{Member}
-use Rattle.ns_types.specs.declared.refusal.Member.TheVariants as Member
 
 abbrev pub member_name : Member → List ℕ
 member_name Member.Allowed = codes "Allowed"

@@ -2,7 +2,6 @@
 use Rattle.std.specs.Prelude.{ℕ, [], ◌++◌, None, codes}
 use Rattle.ns_types.specs.declared.refusal.Member.{Member}
 use Rattle.ns_types.specs.declared.refusal.Refusal.{Refusal}
-use Rattle.ns_types.specs.declared.refusal.Refusal.TheVariants as Refusal
 use Rattle.ns_types.specs.declared.reply.Rendered.{Rendered}
 use Rattle.ns_types.specs.Wire.Member.{member_name}
 use Rattle.ns_types.specs.State.Names.{Name}

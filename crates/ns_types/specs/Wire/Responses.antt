@@ -1,19 +1,16 @@
 -- Responses as bytes, and a conversation of requests and responses.
 -- RFC 9112, section 4, and RFC 9110, section 15.
-use Rattle.std.specs.Prelude.{
-    ◌≡◌, ℕ, Bool, true, false, List, [], ◌∷◌, ◌++◌, length, Option, Some, None, if◌then◌else◌, ◌==◌, codes, decimal,
-    string_bytes
-}
+use Rattle.std.specs.Prelude.{◌≡◌, ℕ, Bool, true, false, List, [], ◌∷◌, ◌++◌, length, Option, Some, None, if◌then◌else◌}
+use Rattle.std.specs.Prelude.{◌==◌, codes, decimal, string_bytes}
 use Rattle.ns_types.specs.declared.reply.HeadFault.{HeadFault}
 use Rattle.ns_types.specs.declared.reply.HeadFault.TheVariants.{BadHead, NeedLength, TooLarge}
 use Rattle.ns_types.specs.declared.refusal.Refusal.{Refusal}
-use Rattle.ns_types.specs.declared.refusal.Refusal.TheVariants as Refusal
 use Rattle.ns_types.specs.declared.reply.Rendered.{Rendered}
 use Rattle.ns_types.specs.declared.reply.Response.{Response}
-use Rattle.ns_types.specs.declared.reply.Response.TheVariants as Response
 use Rattle.ns_types.specs.Wire.Refused.{refused}
 use Rattle.ns_types.specs.Wire.Http.{Asked, asked_by, Received, Whole, Refused, is_last}
 
+-- Neither the headline nor the wire rests on this: contracts of the code that renders use it.
 -- a response as bytes show it
 abbrev pub rendered_of : {A : Type 0} → Response A → Rendered
 rendered_of (Response.Done index body) = record { status = 200; index = index; body = string_bytes body }

@@ -1,25 +1,15 @@
 -- The words by which replies and documents call things.
 use Rattle.std.specs.Prelude.{◌++◌, codes, Bool, true, false}
 use Rattle.ns_types.specs.declared.job.JobKind.{JobKind}
-use Rattle.ns_types.specs.declared.job.JobKind.TheVariants as JobKind
 use Rattle.ns_types.specs.declared.job.Operand.{Operand}
-use Rattle.ns_types.specs.declared.job.Operand.TheVariants as Operand
 use Rattle.ns_types.specs.declared.job.Target.{Target}
-use Rattle.ns_types.specs.declared.job.Target.TheVariants as Target
 use Rattle.ns_types.specs.declared.node.NodeStatus.{NodeStatus}
-use Rattle.ns_types.specs.declared.node.NodeStatus.TheVariants as NodeStatus
 use Rattle.ns_types.specs.declared.evaluation.Status.{Status}
-use Rattle.ns_types.specs.declared.evaluation.Status.TheVariants as Status
 use Rattle.ns_types.specs.declared.evaluation.Trigger.{Trigger}
-use Rattle.ns_types.specs.declared.evaluation.Trigger.TheVariants as Trigger
 use Rattle.ns_types.specs.declared.allocation.DesiredStatus.{DesiredStatus}
-use Rattle.ns_types.specs.declared.allocation.DesiredStatus.TheVariants as DesiredStatus
 use Rattle.ns_types.specs.declared.allocation.ClientStatus.{ClientStatus}
-use Rattle.ns_types.specs.declared.allocation.ClientStatus.TheVariants as ClientStatus
 use Rattle.ns_types.specs.declared.acl.TokenKind.{TokenKind}
-use Rattle.ns_types.specs.declared.acl.TokenKind.TheVariants as TokenKind
 use Rattle.ns_types.specs.declared.reply.JobStatus.{JobStatus}
-use Rattle.ns_types.specs.declared.reply.JobStatus.TheVariants as JobStatus
 use Rattle.ns_types.specs.State.Names.{Name}
 
 abbrev pub kind_text : JobKind → Name

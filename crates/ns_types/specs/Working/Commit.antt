@@ -1,9 +1,7 @@
 -- Apply: what of a plan is done in the present state. Each node does its whole part or none of it.
 -- Nomad's page "Scheduling in Nomad", of the plan queue.
-use Rattle.std.specs.Prelude.{
-    ℕ, ◌+◌, ◌-◌, Bool, true, false, not, ◌&&◌, ◌||◌, if◌then◌else◌, List, [], ◌∷◌, ◌++◌, Option, Some, None, filter,
-    filter_map, flat_map, fold, map, slice_get, option_map
-}
+use Rattle.std.specs.Prelude.{ℕ, ◌+◌, ◌-◌, Bool, true, false, not, ◌&&◌, ◌||◌, if◌then◌else◌, List, [], ◌∷◌, ◌++◌}
+use Rattle.std.specs.Prelude.{Option, Some, None, filter, filter_map, flat_map, fold, map, slice_get, option_map}
 use Rattle.std.specs.Option.{option_map_or, option_and_then}
 use Rattle.std.specs.FinMap.{get, insert}
 use Rattle.ns_types.specs.declared.allocation.Allocation.{Allocation}
@@ -20,13 +18,11 @@ use Rattle.ns_types.specs.declared.reply.Content.TheVariants as Content
 use Rattle.ns_types.specs.declared.resources.Resources.{Resources}
 use Rattle.ns_types.specs.declared.snapshot.Snapshot.{Snapshot}
 use Rattle.ns_types.specs.declared.worker.Phase.{Phase}
-use Rattle.ns_types.specs.declared.worker.Phase.TheVariants as Phase
 use Rattle.ns_types.specs.declared.worker.Worker.{Worker}
 use Rattle.ns_types.specs.Placing.Constraint.{is_feasible}
 use Rattle.ns_types.specs.State.Lists.{is_empty, first_each, sorted_names}
-use Rattle.ns_types.specs.Settling.Making.{
-    change_tenant, put_pool, with_node, with_desired, evaluation_for, make, least
-}
+use Rattle.ns_types.specs.Settling.Making.{change_tenant, put_pool, with_node, with_desired, evaluation_for, make}
+use Rattle.ns_types.specs.Settling.Making.{least}
 use Rattle.ns_types.specs.State.Names.{Name, same_name, same_number, has_number}
 use Rattle.ns_types.specs.Settling.Outcome.{Outcome, NotEnabled, Done}
 use Rattle.ns_types.specs.Placing.Plan.{plan, constraints_of}
@@ -49,8 +45,9 @@ same_version _ _ = false
 -- one for an unstopped job wants it unstopped, with the same index; one for a job that was gone or stopped wants it so
 -- still
 abbrev pub still_stands : Option Job → Option Job → Bool
-still_stands planned present = if has_ended planned then has_ended present else not (has_ended present)
-    && same_version planned present
+still_stands planned present =
+    if has_ended planned then has_ended present
+    else not (has_ended present) && same_version planned present
 
 -- ---- stops
 
@@ -101,7 +98,7 @@ quota_named w ns = option_and_then (λ t. t.namespace.quota) (get w.tenants ns)
 abbrev pub quota_allows : World → Name → Resources → Bool
 quota_allows w ns amount = option_map_or (λ q.
     limits_allow (option_map_or (λ rows. limits_in rows.quota.limits) (get w.quotas q) unlimited)
-        (plus (quota_use w q) amount)) (quota_named w ns) true
+    (plus (quota_use w q) amount)) (quota_named w ns) true
 
 -- ---- node by node
 
@@ -131,8 +128,12 @@ decide kept placements c k =
     let part = part_of k placements in
     let w = evict_all c.world (victims_of c.world kept part) in
     if accepts_at kept w (node_name kept k) part c.placed
-    then record { world = w; placed = plus c.placed (size_of part); committed = c.committed ++ k ∷ []; dropped =
-        c.dropped }
+    then record {
+      world = w;
+      placed = plus c.placed (size_of part);
+      committed = c.committed ++ k ∷ [];
+      dropped = c.dropped;
+    }
     else record c { dropped = c.dropped ++ k ∷ [] }
 
 -- ---- placements, in the order of the plan
@@ -159,8 +160,10 @@ new_allocation kept job p node = record {
 }
 
 abbrev pub with_allocation : Allocation → Tenant → Tenant
-with_allocation a t = record t { allocation_number = t.allocation_number + 1; allocations =
-    insert t.allocations (t.allocation_number + 1) a }
+with_allocation a t = record t {
+  allocation_number = t.allocation_number + 1;
+  allocations = insert t.allocations (t.allocation_number + 1) a;
+}
 
 abbrev pub with_place : Name → Node → PoolRows → PoolRows
 with_place name node pool = with_node name (record node { places = node.places + 1 }) pool
@@ -176,7 +179,7 @@ place_with kept p w job node = counted kept.pool (node_name kept p.node) node
 unfoldable pub place_one : Snapshot → World → Placement → World
 place_one kept w p =
     option_map_or (λ job. option_map_or (place_with kept p w job) (node_at w kept.pool (node_name kept p.node)) w)
-        kept.job w
+    kept.job w
 
 abbrev pub committed_placements : Commit → List Placement → List Placement
 committed_placements c placements = filter (λ p. has_number c.committed p.node) placements
@@ -208,7 +211,7 @@ least_of_job victims v = option_map_or (λ a. a) (least (map (λ x. x.1) (filter
 unfoldable pub make_up : List Victim → World → World
 make_up victims w =
     fold (λ x v. make v.0 (λ t. evaluation_for t (least_of_job victims v) Trigger.Preemption) x) w
-        (first_each same_victim_job victims)
+    (first_each same_victim_job victims)
 
 -- ---- Apply
 
@@ -225,8 +228,13 @@ names_in kept nodes = sorted_names (map (node_name kept) nodes)
 
 -- a plan that no longer stands commits nothing and drops all
 abbrev pub refused_whole : Snapshot → Plan → World → Applied
-refused_whole kept p w = record { world = w; made = []; dropped =
-    names_in kept (nodes_in p.placing.placements); has_dropped = true; has_committed = false }
+refused_whole kept p w = record {
+  world = w;
+  made = [];
+  dropped = names_in kept (nodes_in p.placing.placements);
+  has_dropped = true;
+  has_committed = false;
+}
 
 -- the numbers of as many new allocations
 abbrev pub numbers_after : {X : Type 0} → ℕ → List X → List ℕ
@@ -253,7 +261,8 @@ done kept p w t =
     done_with kept t stops placements stopped (fold (decide kept placements) (begun stopped) (nodes_in placements))
 
 unfoldable pub commit : Snapshot → Plan → World → Tenant → Applied
-commit kept p w t = if still_stands kept.job (get t.jobs kept.evaluation.job) then done kept p w t
+commit kept p w t =
+    if still_stands kept.job (get t.jobs kept.evaluation.job) then done kept p w t
     else refused_whole kept p w
 
 -- a commit resets the tries, and a drop without one uses a try
@@ -273,7 +282,7 @@ abbrev pub applied : ℕ → Name → Worker → Evaluation → Applied → Outc
 applied number ns worker e a =
     Done (Content.Applied a.made a.dropped)
     (record (change_tenant ns (with_worker number (applied_worker a worker e)) a.world)
-        { plans = without_key (ns, worker.evaluation) a.world.plans })
+    { plans = without_key (ns, worker.evaluation) a.world.plans })
 
 -- the worker's plan is the one served
 abbrev pub apply_for : ℕ → Name → World → Tenant → Worker → Evaluation → Snapshot → Outcome World

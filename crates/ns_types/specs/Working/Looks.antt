@@ -1,10 +1,10 @@
+-- Neither the headline nor the wire rests on this: the queue and the plans that come later are to cite it.
 -- What can be looked at without a step, and what a worker's hand-in answers.
 use Rattle.std.specs.Prelude.{◌≡◌, ◌≢◌, ℕ, true, false, Option, Some, None, find, option_map}
 use Rattle.std.specs.FinMap.{get, entries, contains_key}
 use Rattle.std.specs.Option.{option_and_then}
 use Rattle.ns_types.specs.declared.plan.Plan.{Plan}
 use Rattle.ns_types.specs.declared.refusal.Refusal.{Refusal}
-use Rattle.ns_types.specs.declared.refusal.Refusal.TheVariants as Refusal
 use Rattle.ns_types.specs.declared.snapshot.Snapshot.{Snapshot}
 use Rattle.ns_types.specs.declared.worker.Worker.{Worker}
 use Rattle.ns_types.specs.State.Names.{Name, Key}

@@ -1,8 +1,7 @@
 -- The lists of evaluations: which one is served, and which waits for another of its job.
 -- Nomad's page "Scheduling in Nomad", of the evaluation broker.
-use Rattle.std.specs.Prelude.{
-    ℕ, Bool, false, ◌&&◌, ◌||◌, if◌then◌else◌, List, [], ◌∷◌, ◌++◌, Option, Some, None, nat_le, option_map, find
-}
+use Rattle.std.specs.Prelude.{ℕ, Bool, false, ◌&&◌, ◌||◌, if◌then◌else◌, List, [], ◌∷◌, ◌++◌, Option, Some, None}
+use Rattle.std.specs.Prelude.{nat_le, option_map, find}
 use Rattle.std.specs.Option.{option_map_or}
 use Rattle.std.specs.FinMap.{get, entries}
 use Rattle.std.specs.List.{list_any, list_all}
@@ -18,7 +17,7 @@ is_of_job w ns job key = same_name ns key.0 && option_map_or (λ e. same_name jo
 abbrev pub is_busy : World → Name → Name → Bool
 is_busy w ns job = list_any (is_of_job w ns job) w.ready
     || option_map_or (λ t. any_row (λ _ worker. is_of_job w ns job (ns, worker.evaluation)) t.workers)
-        (get w.tenants ns) false
+    (get w.tenants ns) false
 
 -- a pending evaluation is ready, or it waits for another one of its job
 unfoldable pub queue : World → Key → World
@@ -35,7 +34,7 @@ unfoldable pub promote : Name → Name → World → World
 promote ns job w =
     if is_busy w ns job then w
     else option_map_or (λ t. option_map_or (λ n. record w { ready = w.ready ++ (ns, n) ∷ [] }) (first_waiting job t) w)
-        (get w.tenants ns) w
+    (get w.tenants ns) w
 
 -- ---- the one that is served
 
@@ -45,8 +44,9 @@ priority_at w key = option_map_or (λ e. e.priority) (evaluation_at w key) 0
 -- of the keys with the greatest priority the first
 abbrev pub first_of_greatest : (Key → ℕ) → List Key → Option Key
 first_of_greatest priority [] = None
-first_of_greatest priority (key ∷ keys) = if list_all (λ other. nat_le (priority other) (priority key)) keys
-    then Some key else first_of_greatest priority keys
+first_of_greatest priority (key ∷ keys) =
+    if list_all (λ other. nat_le (priority other) (priority key)) keys then Some key
+    else first_of_greatest priority keys
 
 abbrev pub served : World → List Key → Option Key
 served w keys = first_of_greatest (priority_at w) keys

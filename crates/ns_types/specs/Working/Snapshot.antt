@@ -1,8 +1,7 @@
 -- What a worker looks at: one evaluation's part of the state.
 -- Nomad's page "Scheduling in Nomad".
-use Rattle.std.specs.Prelude.{
-    ℕ, Bool, false, ◌&&◌, ◌||◌, List, [], Option, Some, None, filter, map, flat_map, option_map
-}
+use Rattle.std.specs.Prelude.{ℕ, Bool, false, ◌&&◌, ◌||◌, List, [], Option, Some, None, filter, map, flat_map}
+use Rattle.std.specs.Prelude.{option_map}
 use Rattle.std.specs.Option.{option_map_or, option_and_then}
 use Rattle.std.specs.FinMap.{get, entries}
 use Rattle.ns_types.specs.declared.allocation.Allocation.{Allocation}
@@ -51,8 +50,13 @@ unfoldable pub namespaces_naming : World → Name → List Name
 namespaces_naming w quota = map (λ t. t.0) (filter (λ t. names_quota quota t.1.namespace) (entries w.tenants))
 
 abbrev pub quota_seen : World → Name → Option QuotaSeen
-quota_seen w name = option_map (λ q. record { name = name; limits = limits_in q.quota.limits; used =
-    quota_use w name; release = q.release; namespaces = namespaces_naming w name }) (get w.quotas name)
+quota_seen w name = option_map (λ q. record {
+  name = name;
+  limits = limits_in q.quota.limits;
+  used = quota_use w name;
+  release = q.release;
+  namespaces = namespaces_naming w name;
+}) (get w.quotas name)
 
 -- the job's pool, or its evaluation's where the job is gone
 abbrev pub pool_for : Evaluation → Option Job → Name

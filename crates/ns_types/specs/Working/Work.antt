@@ -1,21 +1,16 @@
 -- A worker's steps, but for Apply: it takes an evaluation, looks, hands in its plan, and finishes or gives up.
 -- Nomad's page "Scheduling in Nomad", of workers.
-use Rattle.std.specs.Prelude.{
-    ℕ, ◌+◌, Bool, true, false, not, ◌&&◌, ◌||◌, if◌then◌else◌, List, [], ◌∷◌, ◌++◌, Option, Some, None, nat_eq, nat_lt,
-    nat_le, filter, option_map, find
-}
+use Rattle.std.specs.Prelude.{ℕ, ◌+◌, Bool, true, false, not, ◌&&◌, ◌||◌, if◌then◌else◌, List, [], ◌∷◌, ◌++◌, Option}
+use Rattle.std.specs.Prelude.{Some, None, nat_eq, nat_lt, nat_le, filter, option_map, find}
 use Rattle.std.specs.Option.{option_map_or}
 use Rattle.std.specs.FinMap.{get, insert, remove, contains_key, entries}
 use Rattle.ns_types.specs.declared.evaluation.Evaluation.{Evaluation}
 use Rattle.ns_types.specs.declared.evaluation.Status.{Status}
-use Rattle.ns_types.specs.declared.evaluation.Status.TheVariants as Status
 use Rattle.ns_types.specs.declared.evaluation.Trigger.TheVariants as Trigger
 use Rattle.ns_types.specs.declared.job.JobKind.{JobKind}
-use Rattle.ns_types.specs.declared.job.JobKind.TheVariants as JobKind
 use Rattle.ns_types.specs.declared.reply.Content.TheVariants as Content
 use Rattle.ns_types.specs.declared.snapshot.Snapshot.{Snapshot}
 use Rattle.ns_types.specs.declared.worker.Phase.{Phase}
-use Rattle.ns_types.specs.declared.worker.Phase.TheVariants as Phase
 use Rattle.ns_types.specs.declared.worker.Worker.{Worker}
 use Rattle.ns_types.specs.Settling.Making.{put_tenant, with_status}
 use Rattle.ns_types.specs.State.Names.{Name, Key, same_name, same_key}
@@ -42,8 +37,8 @@ without_key key keys = filter (λ other. not (same_key key other)) keys
 abbrev pub at_work : ℕ → Name → World → (Tenant → Worker → Evaluation → Outcome World) → Outcome World
 at_work number ns w act =
     option_map_or (λ t. option_map_or
-        (λ worker. option_map_or (act t worker) (get t.evaluations worker.evaluation) NotEnabled) (get t.workers number)
-        NotEnabled) (get w.tenants ns) NotEnabled
+    (λ worker. option_map_or (act t worker) (get t.evaluations worker.evaluation) NotEnabled) (get t.workers number)
+    NotEnabled) (get w.tenants ns) NotEnabled
 
 -- ---- Dequeue
 
@@ -91,7 +86,7 @@ abbrev pub snap_for : ℕ → Name → World → Tenant → Worker → Evaluatio
 snap_for number ns w t worker e =
     if may_snap worker.tries worker.phase
     then Done (Content.Snapped worker.evaluation)
-        (put_tenant ns (with_worker number (with_snapshot (snapshot_of w ns t worker.evaluation e) worker) t) w)
+    (put_tenant ns (with_worker number (with_snapshot (snapshot_of w ns t worker.evaluation e) worker) t) w)
     else NotEnabled
 
 unfoldable pub snap : ℕ → Name → World → Outcome World
@@ -115,7 +110,7 @@ submitted number ns w t worker = record
 abbrev pub submit_for : ℕ → Name → World → Tenant → Worker → Snapshot → Outcome World
 submit_for number ns w t worker kept =
     if may_submit worker kept then Done (Content.Queued worker.evaluation) (submitted number ns w t worker)
-        else NotEnabled
+    else NotEnabled
 
 unfoldable pub submit : ℕ → Name → World → Outcome World
 submit number ns w = at_work number ns w
@@ -191,8 +186,10 @@ tied_to n follower t = option_map_or (λ e. record t
 abbrev pub with_follower : ℕ → Evaluation → Tenant → Tenant
 with_follower n follower t =
     let number = t.evaluation_number + 1 in
-    record (tied_to n number t) { evaluation_number = number; evaluations =
-        insert (tied_to n number t).evaluations number follower }
+    record (tied_to n number t) {
+      evaluation_number = number;
+      evaluations = insert (tied_to n number t).evaluations number follower;
+    }
 
 -- a follower that missed a release is pending and waits; else it is blocked
 abbrev pub followed : Name → Worker → Evaluation → Tenant → Bool → World → World
@@ -200,7 +197,7 @@ followed ns worker follower t true w =
     put_tenant ns (with_follower worker.evaluation (record follower { status = Status.Pending }) t) w
 followed ns worker follower t false w =
     record (put_tenant ns (with_follower worker.evaluation follower t) w)
-        { blocked = w.blocked ++ (ns, t.evaluation_number + 1) ∷ [] }
+    { blocked = w.blocked ++ (ns, t.evaluation_number + 1) ∷ [] }
 
 abbrev pub finished : ℕ → Name → World → Tenant → Worker → Evaluation → Snapshot → Outcome World
 finished number ns w t worker e kept =
@@ -213,7 +210,8 @@ finished number ns w t worker e kept =
     else Done (Content.Finished (end_of worker) None) (promote ns e.job (put_tenant ns t' w'))
 
 abbrev pub finish_for : ℕ → Name → World → Tenant → Worker → Evaluation → Snapshot → Outcome World
-finish_for number ns w t worker e kept = if may_finish worker kept then finished number ns w t worker e kept
+finish_for number ns w t worker e kept =
+    if may_finish worker kept then finished number ns w t worker e kept
     else NotEnabled
 
 unfoldable pub finish : ℕ → Name → World → Outcome World
@@ -236,13 +234,13 @@ with_nack n e t = record t { evaluations = insert t.evaluations n (record e { na
 abbrev pub given_back : ℕ → Name → World → Tenant → Worker → Outcome World
 given_back number ns w t worker =
     Done (Content.Nacked Status.Pending)
-        (record (put_tenant ns (without_worker number t) w) { ready = w.ready ++ (ns, worker.evaluation) ∷ [] })
+    (record (put_tenant ns (without_worker number t) w) { ready = w.ready ++ (ns, worker.evaluation) ∷ [] })
 
 -- it ends, without a follower, and the next one of its job is ready
 abbrev pub given_up : ℕ → Name → World → Tenant → Worker → Evaluation → Outcome World
 given_up number ns w t worker e =
     Done (Content.Nacked Status.Failed)
-        (promote ns e.job (put_tenant ns (with_status worker.evaluation Status.Failed (without_worker number t)) w))
+    (promote ns e.job (put_tenant ns (with_status worker.evaluation Status.Failed (without_worker number t)) w))
 
 abbrev pub nack_for : ℕ → Name → World → Tenant → Worker → Evaluation → Outcome World
 nack_for number ns w t worker e =

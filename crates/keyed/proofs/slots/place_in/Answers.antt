@@ -34,4 +34,4 @@ pub returns : goal.returns
 returns g c =
     let at : c.loop-low.low ≡ c.loop-low.high = omega arith in
     belongs g.K.Ord.cmp g.met.K.Ord.total c.args.key.now c.args.slots.now c.loop-low.low c.requires (omega arith) c.loop-low.invariant.passed
-        (λ j d le lt. c.loop-low.invariant.ahead j d (omega arith) lt)
+    (λ j d le lt. c.loop-low.invariant.ahead j d (omega arith) lt)

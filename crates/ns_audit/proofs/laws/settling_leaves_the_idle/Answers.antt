@@ -1,5 +1,5 @@
-use Rattle.ns_audit.proofs.Alone.Idle.{settle_idle}
+use Rattle.ns_types.proofs.Settling.{settle_same}
 use Rattle.ns_audit.proofs.laws.settling_leaves_the_idle.Goals as goal
 
 pub returns : goal.returns
-returns c = settle_idle
+returns c = settle_same

@@ -23,4 +23,4 @@ pub returns-clause-written : goal.returns-clause-written
 returns-clause-written c =
     let number : uuid_number c.args.text.now ≡ Some (from_be_bytes w128 c.in-Ok.id) = ap (option_map (from_be_bytes w128)) (sym c.in-Ok.ensures.bytes) in
     rw c.then_some.ensures (written_at _ c.args.kind c.args.text.now _ _ number (rw (← c.number.ensures, c.as_u64_pair-high.ensures.high) refl)
-        c.as_u64_pair-high.ensures.low)
+    c.as_u64_pair-high.ensures.low)

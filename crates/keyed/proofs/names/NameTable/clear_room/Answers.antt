@@ -20,4 +20,4 @@ returns-clause-rows g c = ap (λ es. rows (table.from_sorted es)) c.clear_room.e
 pub returns-clause-slots : goal.returns-clause-slots
 returns-clause-slots g c k =
     ap (λ es. has_slot (table.from_sorted {R = name_cmp} es) k) c.clear_room.ensures ∙ has_slot-filled names _ c.self.invariant k ∙
-        ap (λ m. is_some (row_at m k)) c.self.view_is
+    ap (λ m. is_some (row_at m k)) c.self.view_is

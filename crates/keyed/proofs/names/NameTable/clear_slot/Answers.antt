@@ -13,4 +13,4 @@ invariant_of-self g c = subst (λ es. T (is_sorted name_cmp es)) (sym c.clear_sl
 pub returns : goal.returns
 returns g c =
     ap table.from_sorted c.clear_slot.ensures ∙ from_sorted-without_vacant names one_name c.args.key.now _ c.self.invariant ∙
-        ap (λ m. without_vacant m c.args.key.now) c.self.view_is
+    ap (λ m. without_vacant m c.args.key.now) c.self.view_is

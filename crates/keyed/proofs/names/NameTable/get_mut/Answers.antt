@@ -15,7 +15,7 @@ invariant_of-self-lent g c r = ((λ w. is_sorted-put name_cmp names c.args.key.n
 pub returns : goal.returns
 returns g c =
     let written = λ (w : g.row.V.Denot). from_sorted-put names c.args.key.now (Some w) c.self.inside.slots c.self.invariant ∙
-        ap (λ m. table.insert m c.args.key.now (Some w)) c.self.view_is in (
+    ap (λ m. table.insert m c.args.key.now (Some w)) c.self.view_is in (
       λ t. read_of (ghost_name_of c.get_mut.result) (λ (w : g.row.V.Denot). written w t) (c.self.view_is t),
       record {
         writes_back = tt;

@@ -12,7 +12,7 @@ use Rattle.keyed.proofs.names.NameTable.remove.Goals as goal
 pub invariant_of-self : goal.invariant_of-self
 invariant_of-self g c =
     subst (λ es. T (is_sorted name_cmp es)) (sym c.remove.ensures)
-        (is_sorted-filter name_cmp (λ e. not (eq_by_cmp name_cmp c.args.key.now e.0)) c.self.inside.slots c.self.invariant)
+    (is_sorted-filter name_cmp (λ e. not (eq_by_cmp name_cmp c.args.key.now e.0)) c.self.inside.slots c.self.invariant)
 
 pub returns : goal.returns
 returns g c =

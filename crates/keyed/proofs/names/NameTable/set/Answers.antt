@@ -10,7 +10,7 @@ use Rattle.keyed.proofs.names.NameTable.set.Goals as goal
 pub set-requires : goal.set-requires
 set-requires g c =
     subst (λ x. IsTrue (is_some x)) (sym (ap (λ m. table.get m c.args.key.now) c.self.view_is) ∙
-        table.get-from_sorted name_cmp _ c.args.key.now c.self.invariant) c.requires
+    table.get-from_sorted name_cmp _ c.args.key.now c.self.invariant) c.requires
 
 pub invariant_of-self : goal.invariant_of-self
 invariant_of-self g c =

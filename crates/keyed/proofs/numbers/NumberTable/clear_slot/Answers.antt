@@ -13,4 +13,4 @@ invariant_of-self g c = subst (λ es. T (is_sorted nat_cmp es)) (sym c.clear_slo
 pub returns : goal.returns
 returns g c =
     ap table.from_sorted c.clear_slot.ensures ∙ from_sorted-without_vacant numbers one_number c.args.key _ c.self.invariant ∙
-        ap (λ m. without_vacant m c.args.key) c.self.view_is
+    ap (λ m. without_vacant m c.args.key) c.self.view_is

@@ -13,4 +13,4 @@ invariant_of-self-2 g c = subst (λ es. T (is_sorted nat_cmp es)) (sym c.in_ok-r
 pub returns-clause-ok : goal.returns-clause-ok
 returns-clause-ok g c =
     ap table.from_sorted c.in_ok-reserve.ensures.ok ∙ from_sorted-with_slot numbers c.args.key _ c.self.invariant ∙
-        ap (λ m. with_slot m c.args.key) c.self.view_is
+    ap (λ m. with_slot m c.args.key) c.self.view_is

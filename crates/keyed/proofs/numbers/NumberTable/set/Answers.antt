@@ -10,7 +10,7 @@ use Rattle.keyed.proofs.numbers.NumberTable.set.Goals as goal
 pub set-requires : goal.set-requires
 set-requires g c =
     subst (λ x. IsTrue (is_some x)) (sym (ap (λ m. table.get m c.args.key) c.self.view_is) ∙ table.get-from_sorted nat_cmp _ c.args.key c.self.invariant)
-        c.requires
+    c.requires
 
 pub invariant_of-self : goal.invariant_of-self
 invariant_of-self g c =

@@ -6,27 +6,33 @@ use Rattle.keyed.proofs.slots.Slots.remove.Goals as goal
 pub overflow_sub-self : goal.overflow_sub-self
 overflow_sub-self g c =
     let law = left_counted g.K.Ord.cmp g.met.K.Ord.total c.args.key.now c.self.inside.slots.items c.in-Ok.i
-        (inside_stands g.K.Ord.cmp c.args.key.now _ _ c.in-Ok.i c.self.view_is c.in-Ok.ensures)
-        c.remove-slot.result c.remove-slot.ensures.value c.self.inside.filled c.self.invariant.0 c.self.invariant.1 in
+    (inside_stands g.K.Ord.cmp c.args.key.now _ _ c.in-Ok.i c.self.view_is c.in-Ok.ensures)
+    c.remove-slot.result c.remove-slot.ensures.value c.self.inside.filled c.self.invariant.0 c.self.invariant.1 in
     let held : size c.remove-slot.result.1 ≡ 1 = size_some _ (sym c.if-is_some.ensures) in
     omega arith
 
 pub invariant_of-self : goal.invariant_of-self
 invariant_of-self g c =
     let law = left_counted g.K.Ord.cmp g.met.K.Ord.total c.args.key.now c.self.inside.slots.items c.in-Ok.i
-        (inside_stands g.K.Ord.cmp c.args.key.now _ _ c.in-Ok.i c.self.view_is c.in-Ok.ensures)
-        c.remove-slot.result c.remove-slot.ensures.value c.self.inside.filled c.self.invariant.0 c.self.invariant.1 in
+    (inside_stands g.K.Ord.cmp c.args.key.now _ _ c.in-Ok.i c.self.view_is c.in-Ok.ensures)
+    c.remove-slot.result c.remove-slot.ensures.value c.self.inside.filled c.self.invariant.0 c.self.invariant.1 in
     let held : size c.remove-slot.result.1 ≡ 1 = size_some _ (sym c.if-is_some.ensures) in
-    rw c.remove-slot.ensures.items (left_sorted g.K.Ord.cmp g.met.K.Ord.total c.args.key.now c.self.inside.slots.items c.in-Ok.i
-        (inside_stands g.K.Ord.cmp c.args.key.now _ _ c.in-Ok.i c.self.view_is c.in-Ok.ensures)
-        c.remove-slot.result c.remove-slot.ensures.value c.self.inside.filled c.self.invariant.0 c.self.invariant.1, omega arith)
+    rw c.remove-slot.ensures.items (
+      left_sorted g.K.Ord.cmp g.met.K.Ord.total c.args.key.now c.self.inside.slots.items c.in-Ok.i
+          (inside_stands g.K.Ord.cmp c.args.key.now _ _ c.in-Ok.i c.self.view_is c.in-Ok.ensures)
+          c.remove-slot.result c.remove-slot.ensures.value c.self.inside.filled c.self.invariant.0 c.self.invariant.1,
+      omega arith,
+    )
 
 pub invariant_of-self-else-is_some : goal.invariant_of-self-else-is_some
 invariant_of-self-else-is_some g c =
     let law = left_counted g.K.Ord.cmp g.met.K.Ord.total c.args.key.now c.self.inside.slots.items c.in-Ok.i
-        (inside_stands g.K.Ord.cmp c.args.key.now _ _ c.in-Ok.i c.self.view_is c.in-Ok.ensures)
-        c.remove-slot.result c.remove-slot.ensures.value c.self.inside.filled c.self.invariant.0 c.self.invariant.1 in
+    (inside_stands g.K.Ord.cmp c.args.key.now _ _ c.in-Ok.i c.self.view_is c.in-Ok.ensures)
+    c.remove-slot.result c.remove-slot.ensures.value c.self.inside.filled c.self.invariant.0 c.self.invariant.1 in
     let held : size c.remove-slot.result.1 ≡ 0 = size_none _ (sym c.if-is_some.ensures) in
-    rw c.remove-slot.ensures.items (left_sorted g.K.Ord.cmp g.met.K.Ord.total c.args.key.now c.self.inside.slots.items c.in-Ok.i
-        (inside_stands g.K.Ord.cmp c.args.key.now _ _ c.in-Ok.i c.self.view_is c.in-Ok.ensures)
-        c.remove-slot.result c.remove-slot.ensures.value c.self.inside.filled c.self.invariant.0 c.self.invariant.1, omega arith)
+    rw c.remove-slot.ensures.items (
+      left_sorted g.K.Ord.cmp g.met.K.Ord.total c.args.key.now c.self.inside.slots.items c.in-Ok.i
+          (inside_stands g.K.Ord.cmp c.args.key.now _ _ c.in-Ok.i c.self.view_is c.in-Ok.ensures)
+          c.remove-slot.result c.remove-slot.ensures.value c.self.inside.filled c.self.invariant.0 c.self.invariant.1,
+      omega arith,
+    )

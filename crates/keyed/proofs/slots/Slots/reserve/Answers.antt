@@ -15,9 +15,9 @@ pub invariant_of-self : goal.invariant_of-self
 invariant_of-self g c =
     let p = inside_belongs g.K.Ord.cmp c.args.key _ _ c.in-Err.i c.self.view_is c.in-Err.ensures in
     let sorted = inserted_sorted g.K.Ord.cmp g.met.K.Ord.total c.args.key c.self.inside.slots.items c.in-Err.i p c.self.inside.filled c.self.invariant.0
-        c.self.invariant.1 in
+    c.self.invariant.1 in
     let counted = inserted_counted g.K.Ord.cmp g.met.K.Ord.total c.args.key c.self.inside.slots.items c.in-Err.i p c.self.inside.filled c.self.invariant.0
-        c.self.invariant.1 in
+    c.self.invariant.1 in
     rw c.in_ok-insert.ensures.items (sorted, counted)
 
 pub returns-in_ok-insert-clause-ok : goal.returns-in_ok-insert-clause-ok

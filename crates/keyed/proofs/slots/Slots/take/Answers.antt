@@ -8,36 +8,42 @@ use Rattle.keyed.proofs.slots.Slots.take.Goals as goal
 pub overflow_sub-self : goal.overflow_sub-self
 overflow_sub-self g c =
     let law = set_counted g.K.Ord.cmp g.met.K.Ord.total c.args.key.now c.self.inside.slots.items c.in-Ok.i
-        (inside_stands g.K.Ord.cmp c.args.key.now _ _ c.in-Ok.i c.self.view_is c.in-Ok.ensures)
-        c.index_mut.result.now c.index_mut.ensures.value c.self.inside.filled c.self.invariant.0 c.self.invariant.1 None in
+    (inside_stands g.K.Ord.cmp c.args.key.now _ _ c.in-Ok.i c.self.view_is c.in-Ok.ensures)
+    c.index_mut.result.now c.index_mut.ensures.value c.self.inside.filled c.self.invariant.0 c.self.invariant.1 None in
     let held : size c.index_mut.result.now.1 ≡ 1 = ap size (sym c.take-row.ensures.value) ∙ size_some _ (sym c.if-is_some.ensures) in
     omega arith
 
 pub invariant_of-self : goal.invariant_of-self
 invariant_of-self g c =
     let law = set_counted g.K.Ord.cmp g.met.K.Ord.total c.args.key.now c.self.inside.slots.items c.in-Ok.i
-        (inside_stands g.K.Ord.cmp c.args.key.now _ _ c.in-Ok.i c.self.view_is c.in-Ok.ensures)
-        c.index_mut.result.now c.index_mut.ensures.value c.self.inside.filled c.self.invariant.0 c.self.invariant.1 None in
+    (inside_stands g.K.Ord.cmp c.args.key.now _ _ c.in-Ok.i c.self.view_is c.in-Ok.ensures)
+    c.index_mut.result.now c.index_mut.ensures.value c.self.inside.filled c.self.invariant.0 c.self.invariant.1 None in
     let held : size c.index_mut.result.now.1 ≡ 1 = ap size (sym c.take-row.ensures.value) ∙ size_some _ (sym c.if-is_some.ensures) in
-    rw c.take-row.ensures.after (set_sorted g.K.Ord.cmp g.met.K.Ord.total c.args.key.now c.self.inside.slots.items c.in-Ok.i
-        (inside_stands g.K.Ord.cmp c.args.key.now _ _ c.in-Ok.i c.self.view_is c.in-Ok.ensures)
-        c.index_mut.result.now c.index_mut.ensures.value c.self.inside.filled c.self.invariant.0 c.self.invariant.1 None, omega arith)
+    rw c.take-row.ensures.after (
+      set_sorted g.K.Ord.cmp g.met.K.Ord.total c.args.key.now c.self.inside.slots.items c.in-Ok.i
+          (inside_stands g.K.Ord.cmp c.args.key.now _ _ c.in-Ok.i c.self.view_is c.in-Ok.ensures)
+          c.index_mut.result.now c.index_mut.ensures.value c.self.inside.filled c.self.invariant.0 c.self.invariant.1 None,
+      omega arith,
+    )
 
 pub invariant_of-self-else-is_some : goal.invariant_of-self-else-is_some
 invariant_of-self-else-is_some g c =
     let law = set_counted g.K.Ord.cmp g.met.K.Ord.total c.args.key.now c.self.inside.slots.items c.in-Ok.i
-        (inside_stands g.K.Ord.cmp c.args.key.now _ _ c.in-Ok.i c.self.view_is c.in-Ok.ensures)
-        c.index_mut.result.now c.index_mut.ensures.value c.self.inside.filled c.self.invariant.0 c.self.invariant.1 None in
+    (inside_stands g.K.Ord.cmp c.args.key.now _ _ c.in-Ok.i c.self.view_is c.in-Ok.ensures)
+    c.index_mut.result.now c.index_mut.ensures.value c.self.inside.filled c.self.invariant.0 c.self.invariant.1 None in
     let held : size c.index_mut.result.now.1 ≡ 0 = ap size (sym c.take-row.ensures.value) ∙ size_none _ (sym c.if-is_some.ensures) in
-    rw c.take-row.ensures.after (set_sorted g.K.Ord.cmp g.met.K.Ord.total c.args.key.now c.self.inside.slots.items c.in-Ok.i
-        (inside_stands g.K.Ord.cmp c.args.key.now _ _ c.in-Ok.i c.self.view_is c.in-Ok.ensures)
-        c.index_mut.result.now c.index_mut.ensures.value c.self.inside.filled c.self.invariant.0 c.self.invariant.1 None, omega arith)
+    rw c.take-row.ensures.after (
+      set_sorted g.K.Ord.cmp g.met.K.Ord.total c.args.key.now c.self.inside.slots.items c.in-Ok.i
+          (inside_stands g.K.Ord.cmp c.args.key.now _ _ c.in-Ok.i c.self.view_is c.in-Ok.ensures)
+          c.index_mut.result.now c.index_mut.ensures.value c.self.inside.filled c.self.invariant.0 c.self.invariant.1 None,
+      omega arith,
+    )
 
 pub returns-then-is_some-clause-slots : goal.returns-then-is_some-clause-slots
 returns-then-is_some-clause-slots g c =
     ap (λ x. set c.self.inside.slots.items c.in-Ok.i (c.index_mut.result.now.0, x)) c.take-row.ensures.after
     ∙ set_is_put g.K.Ord.cmp g.met.K.Ord.total c.args.key.now c.self.inside.slots.items c.in-Ok.i
-        (inside_stands g.K.Ord.cmp c.args.key.now _ _ c.in-Ok.i c.self.view_is c.in-Ok.ensures)
-        c.index_mut.result.now c.index_mut.ensures.value c.self.inside.filled c.self.invariant.0 c.self.invariant.1 None ∙
-        ap (put g.K.Ord.cmp c.args.key.now None) c.self.view_is
+    (inside_stands g.K.Ord.cmp c.args.key.now _ _ c.in-Ok.i c.self.view_is c.in-Ok.ensures)
+    c.index_mut.result.now c.index_mut.ensures.value c.self.inside.filled c.self.invariant.0 c.self.invariant.1 None ∙
+    ap (put g.K.Ord.cmp c.args.key.now None) c.self.view_is
     ∙ sym (ap (λ x. cond (is_some x) (put g.K.Ord.cmp c.args.key.now None c.args.self.now) c.args.self.now) (c.in-Ok.ensures.find_is c.index_mut.result.now))

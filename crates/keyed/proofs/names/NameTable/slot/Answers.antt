@@ -1,0 +1,7 @@
+use Rattle.ns_types.specs.State.Names.{name_cmp}
+use Rattle.std.proofs.Common.{◌∙◌, sym, ap}
+use Rattle.std.specs.FinMap as table
+use Rattle.keyed.proofs.names.NameTable.slot.Goals as goal
+
+pub returns : goal.returns
+returns g c = c.slot.ensures ∙ sym (table.get-from_sorted name_cmp _ c.args.key.now c.self.invariant) ∙ ap (λ m. table.get m c.args.key.now) c.self.view_is

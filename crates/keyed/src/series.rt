@@ -1,0 +1,90 @@
+// Rows in their order.
+ghost use Rattle.std.specs.Prelude.{◌≡◌, ◌+◌, ◌<◌, ◌≤◌, ◌++◌, ◌∷◌, [], OnErr, OnOk, length};
+ghost use Rattle.ns_types.specs.State.Lists.{last};
+
+use ns_types::rows::Rows;
+use std::alloc::{AllocError, Global};
+use std::marker::Model;
+
+/// Rows in their order, with room for more, which is made before it is needed.
+#[derive(Drop)]
+pub struct Series<T> {
+    rows: Vec<T>,
+}
+
+impl<T> Model for Series<T> {
+    ghost use Rattle.keyed.specs.Series.{Series as Listed, series_of};
+
+    ghost Value = { Listed T };
+
+    ghost view = { λ s. series_of s.rows };
+}
+
+impl<T: Drop> Series<T> {
+    ghost use Rattle.std.specs.Fn.{CalledAt};
+    ghost use Rattle.std.specs.List.Retain.{IsFiltered};
+
+    /// No rows. It takes no memory.
+    pub fn new(alloc: Global) -> Series<T>
+        ensures { result.items ≡ [] }
+    {
+        Series {
+            rows: Vec::new(alloc),
+        }
+    }
+
+    pub fn as_slice(&self) -> &[T]
+        ensures { result.now ≡ self.now.items }
+    {
+        self.rows.as_slice()
+    }
+
+    /// Makes room for `count` more rows. Want of memory is the only error.
+    pub fn reserve(&mut self, count: usize) -> Result<(), AllocError>
+        ensures items { self.new.items ≡ self.old.items }
+        ensures ok { OnOk result (count ≤ self.new.room) }
+        ensures kept { self.old.room ≤ self.new.room }
+        ensures err { OnErr result (self.new.room ≡ self.old.room) }
+    {
+        self.rows.reserve(count)
+    }
+
+    /// Puts a row at the end. It takes no memory.
+    pub fn push(&mut self, row: T)
+        requires { 0 < self.old.room }
+        ensures items { self.new.items ≡ self.old.items ++ row ∷ [] }
+        ensures room { self.old.room ≤ self.new.room + 1 }
+    {
+        self.rows.push_reserved(row);
+    }
+
+    /// Puts those rows at the end. It takes no memory.
+    pub fn append(&mut self, rows: Rows<T>)
+        requires { length rows ≤ self.old.room }
+        ensures { self.new.items ≡ self.old.items ++ rows }
+    {
+        for row in rows.into_vec() {
+            self.push(row);
+        }
+    }
+
+    /// Only the rows stay for which the closure answers true, in their order. It takes no memory.
+    pub fn retain<F: FnMut(&T) -> bool>(&mut self, keeps: F)
+        requires { F.IsAlwaysCallable keeps }
+        ensures items { IsFiltered (CalledAt F.FnMut) keeps self.old.items self.new.items }
+        ensures room { self.old.room ≤ self.new.room }
+    {
+        self.rows.retain(keeps);
+    }
+
+    /// Only the last `count` rows stay.
+    pub fn keep_last(&mut self, count: usize)
+        ensures items { self.new.items ≡ last count self.old.items }
+        ensures room { self.old.room ≤ self.new.room }
+    {
+        if self.rows.len() > count {
+            let others = self.rows.len() - count;
+            self.rows.drain(..others);
+        }
+    }
+}
