@@ -1,20 +1,18 @@
 -- What each change of policies and tokens answers.
-use Rattle.std.specs.Prelude.{◌≡◌, ◌||◌, Bool, true, false, Option, Some, None, is_some, nat_le}
+use Rattle.std.specs.Prelude.{◌≡◌, ◌||◌, Bool, true, false, Option, Some, None, is_some, nat_le, Result, Ok, Err}
 use Rattle.std.proofs.Common.{refl, sym, ap, subst, ◌∙◌, T}
 use Rattle.std.specs.FinMap.{contains_key, get, insert, len, remove}
+use Rattle.std.specs.Result.{IsErrAnd}
 use Rattle.ns_types.specs.declared.acl.Policy.{Policy}
 use Rattle.ns_types.specs.declared.acl.Token.{Token}
-use Rattle.ns_types.specs.declared.refusal.Refusal.TheVariants as Refusal
+use Rattle.ns_types.specs.declared.refusal.Refusal.{Refusal}
 use Rattle.ns_types.specs.declared.reply.Content.{Content}
-use Rattle.ns_types.specs.declared.reply.Content.TheVariants as Content
 use Rattle.ns_types.specs.declared.step.NewToken.{NewToken}
-use Rattle.ns_types.specs.Asking.Policies.{
-    bootstrap_accessor, create_token, delete_policy, delete_token, has_accessor, put_policy, read_policy, secret_of,
-    token_of
-}
+use Rattle.ns_types.specs.Asking.Policies.{bootstrap_accessor, create_token, delete_policy, delete_token, has_accessor, put_policy, read_policy, secret_of}
+use Rattle.ns_types.specs.Asking.Policies.{token_of}
 use Rattle.ns_types.specs.Asking.Admins.{is_full, most_rows}
 use Rattle.ns_types.specs.State.Names.{Name, same_name}
-use Rattle.ns_types.specs.Settling.Outcome.{Outcome, Done, Refused, found, unless}
+use Rattle.ns_types.specs.Settling.Outcome.{Changes, Outcome, Done, Refused, found, is_done, unless}
 use Rattle.ns_types.specs.State.Rows.{Acl}
 
 found_none : {S A : Type 0} (x : Option A) (go : A → Outcome S) → is_some x ≡ false → found x go ≡ Refused Refusal.NotFound
@@ -26,6 +24,12 @@ found_some None o e = absurd (subst T (sym e) tt)
 found_some (Some x) o e = refl
 
 module _ {S : Type 0} where
+  -- want of memory, where the change would have been made
+  pub memory_last : (o : Outcome S) (s s' : S) (result : Result Content Refusal) → IsErrAnd result (λ refusal. refusal ≡ Refusal.Memory)
+      → is_done o ≡ true → s' ≡ s → Changes o s result s'
+  memory_last o s s' (Ok content) e done same = absurd e
+  memory_last o s s' (Err refusal) e done same = subst (λ refusal. Changes o s (Err refusal) s') (sym e) (done, same)
+
   refuses : {b : Bool} → b ≡ true → (rest : Outcome S) (refusal : _) → unless b refusal rest ≡ Refused refusal
   unfolding unless
   refuses e rest refusal = ap (λ b. unless b refusal rest) e

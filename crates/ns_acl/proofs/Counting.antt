@@ -1,8 +1,6 @@
 -- What is kept of rules, as more rules come.
-use Rattle.std.specs.Prelude.{
-    ◌≡◌, ℕ, max, ◌<◌, ◌≤◌, Bool, true, false, not, ◌&&◌, cond, List, [], ◌∷◌, ◌++◌, Option, Some, None, filter,
-    flat_map, fold, length, unwrap_or, ◌+◌
-}
+use Rattle.std.specs.Prelude.{◌≡◌, ℕ, max, ◌<◌, ◌≤◌, Bool, true, false, not, ◌&&◌, cond, List, [], ◌∷◌, ◌++◌, Option, Some, None, filter, flat_map, fold}
+use Rattle.std.specs.Prelude.{length, unwrap_or, ◌+◌}
 use Rattle.std.proofs.Common.{refl, sym, ap, subst, ◌∙◌, arith, T, append_assoc, get_or, take}
 use Rattle.std.proofs.lemmas.List.{append-nil, flat_map_more, take_more}
 use Rattle.std.proofs.lemmas.List.Sums.{fold-append}
@@ -99,7 +97,7 @@ one_of_them false x y e = refl
 module _ (target : Name) (before : List Rule) (rule : Rule) where
   pub exact-more : is_exact target rule ≡ true
       → gathered target (before ++ rule ∷ []) ≡ record (gathered target before)
-          { exact = Some (both (unwrap_or (gathered target before).exact no_grants) rule.grants) }
+      { exact = Some (both (unwrap_or (gathered target before).exact no_grants) rule.grants) }
   exact-more e =
       let matching = filter-passed (is_match target) before rule (one_of_them rule.pattern.is_prefix _ _ e) in
       λ i. record {

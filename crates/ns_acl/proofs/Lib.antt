@@ -2,4 +2,3 @@ pub mod Answering
 pub mod Counting
 pub mod Slotted
 pub mod Standing
-pub mod Texts

@@ -1,28 +1,15 @@
--- Rows of tables with room for more: a row that is written, and rows that are looked for.
-use Rattle.std.specs.Prelude.{◌≡◌, Bool, true, false, cond, IsTrue, List, [], ◌∷◌, Option, Some, None, option_map, is_some, find}
-use Rattle.std.proofs.Common.{refl, sym, ap, subst, ◌∙◌}
+-- Rows that are looked for.
+use Rattle.std.specs.Prelude.{◌≡◌, Bool, true, false, cond, List, [], ◌∷◌, Option, Some, None, option_map, is_some, find}
+use Rattle.std.proofs.Common.{refl, sym, ap, ◌∙◌}
 use Rattle.std.specs.List.{list_any}
-use Rattle.std.specs.FinMap.{FinMap, contains_key, entries, get, insert}
-use Rattle.keyed.specs.Table.{at_slot, has_slot, row_at, row_list, rows, with_slot}
-use Rattle.keyed.proofs.Tables.{any-at_slot, entries-rows, get-rows, has_slot-with_slot_here, rows-set, rows-with_slot}
-use Rattle.ns_types.proofs.Named.{names, one_name}
+use Rattle.std.specs.FinMap.{FinMap, contains_key, entries, get}
+use Rattle.keyed.specs.Table.{at_slot, row_at, row_list, rows}
+use Rattle.keyed.proofs.Tables.{any-at_slot, entries-rows, get-rows}
+use Rattle.ns_types.proofs.Named.{names}
 use Rattle.ns_types.specs.State.Names.{Name, name_cmp}
 use Rattle.ns_types.specs.State.Tables.{any_row}
 
-pub some_mapped : {A B : Type 0} (f : A → B) (x : Option A) → is_some (option_map f x) ≡ is_some x
-some_mapped f None = refl
-some_mapped f (Some x) = refl
-
 module _ {V : Type 0} where
-  pub slot_made : (old made : FinMap name_cmp (Option V)) (key : Name) → made ≡ with_slot old key → IsTrue (has_slot made key)
-  slot_made old made key e = subst (λ m. IsTrue (has_slot m key)) (sym e) (has_slot-with_slot_here names old key)
-
-  pub row_put : (old made new : FinMap name_cmp (Option V)) (key : Name) (row : V) → made ≡ with_slot old key → new ≡ insert made key (Some row) →
-      rows new ≡ insert (rows old) key row
-  row_put old made new key row e f =
-      ap (λ m. rows m) f ∙ rows-set names one_name made key row ∙ ap (λ m. insert (rows m) key row) e ∙
-          ap (λ m. insert m key row) (rows-with_slot names one_name old key)
-
   -- what a look-up finds is the row
   pub has_row : (m : FinMap name_cmp (Option V)) (key : Name) (row : Option V) (b : Bool) → row_at m key ≡ row → b ≡ is_some row → b ≡ contains_key (rows m) key
   has_row m key row b e f = f ∙ sym (ap is_some (get-rows names m key ∙ e))
@@ -37,7 +24,7 @@ find-at_slot p [] = refl
 find-at_slot p ((k, None) ∷ es) = find-at_slot p es
 find-at_slot p ((k, Some v) ∷ es) =
     elim (p (k, v)) as (λ b. option_map (λ e. e.0) (cond b (Some (k, Some v)) (find (at_slot p) es)) ≡ option_map (λ e. e.0)
-        (cond b (Some (k, v)) (find p (row_list es)))) [
+    (cond b (Some (k, v)) (find p (row_list es)))) [
       | true ↦ refl
       | false ↦ find-at_slot p es
     ]

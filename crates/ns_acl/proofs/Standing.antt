@@ -3,10 +3,8 @@ use Rattle.std.specs.Prelude.{◌≡◌, List, Option}
 use Rattle.std.proofs.Common.{refl, ap}
 use Rattle.ns_types.specs.declared.acl.RuleKind.{RuleKind}
 use Rattle.ns_types.specs.State.Names.{Name}
-use Rattle.ns_types.specs.Access.Rights.{
-    Bearer, bearer, counting, granted, merged, pool_rights_for, pool_rights_of, rights_for, rights_of, rules_of,
-    unless_denied
-}
+use Rattle.ns_types.specs.Access.Rights.{Bearer, bearer, counting, granted, merged, pool_rights_for, pool_rights_of, rights_for, rights_of, rules_of}
+use Rattle.ns_types.specs.Access.Rights.{unless_denied}
 use Rattle.ns_types.specs.State.Rows.{Acl}
 
 module _ (acl : Acl) (secret : Option Name) (target : Name) (b : Bearer) (stands : b ≡ bearer acl secret) where

@@ -4,7 +4,7 @@ use Rattle.ns_types.specs.declared.acl.Grants.{Grants}
 use Rattle.ns_types.specs.declared.acl.Rule.{Rule}
 use Rattle.ns_types.specs.State.Lists.{is_empty}
 use Rattle.ns_types.specs.State.Names.{Name}
-use Rattle.ns_types.specs.Access.Rights.{is_exact, is_match, longest, longest_match, merged}
+use Rattle.ns_types.specs.Access.Rights.{counting, is_exact, is_match, longest, longest_match, merged, unless_denied}
 use Rattle.ns_acl.specs.declared.gathering.Gathered.{Gathered}
 
 abbrev pub merged_if_any : List Rule → Option Grants
@@ -17,6 +17,11 @@ gathered target rules = record {
   longest = longest (filter (is_match target) rules);
   matching = merged (longest_match target rules);
 }
+
+-- what counts of the rules of which this was gathered
+abbrev pub Counts : Gathered → Grants → Type 0
+Counts all grants = (target : Name) (rules : List Rule) → all ≡ gathered target rules →
+    grants ≡ unless_denied (merged (counting target rules))
 
 -- what was of some rules is then of these too
 abbrev pub Adds : Name → List Rule → Gathered → Gathered → Type 0

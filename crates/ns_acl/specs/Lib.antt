@@ -1,2 +1,3 @@
 pub mod Bearers
 pub mod Gathered
+pub mod Tokens

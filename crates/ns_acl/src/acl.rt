@@ -1,17 +1,17 @@
 //! Policies by name and tokens by secret.
 
-ghost use Rattle.std.specs.Prelude.{◌≡◌, ◌||◌, IfOk, option_copied};
-ghost use Rattle.std.specs.FinMap.{contains_key};
+ghost use Rattle.std.specs.Prelude.{◌≡◌, IfOk, option_copied};
 ghost use Rattle.ns_types.specs.Asking.Policies.{create_token, delete_policy, delete_token, has_accessor, put_policy, read_policy, secret_of};
 ghost use Rattle.ns_types.specs.Settling.Outcome.{Changes};
-ghost use Rattle.ns_types.specs.Access.Rights.{bearer, granted, is_known, is_manager, pool_rights_of, rights_in as rights_given, rights_of};
+ghost use Rattle.ns_types.specs.Access.Rights.{bearer, granted, is_known, is_manager, pool_rights_of, rights_in, rights_of};
 ghost use Rattle.ns_types.specs.Steps.{opening_acl};
 ghost use Rattle.ns_acl.specs.Bearers.{bearer_of};
+ghost use Rattle.ns_acl.specs.Tokens.{is_taken};
 
 use crate::bearer::{Bearer, of_token};
 use crate::gathering::Gathered;
-use crate::shown::{policy_content, token_shown};
-use crate::tables::{has_no_room, has_row, is_full, put};
+use crate::shown::policy_content;
+use crate::tables::{has_no_room, has_row, is_full, put, write_policy};
 use crate::tokens::{self, add_token};
 use keyed::NameTable;
 use ns_types::acl::{Grants, Policy, PoolRights, Rights, RuleKind, Token};
@@ -67,7 +67,7 @@ impl Model for Acl {
 }
 
 fn rights_in(grants: Grants) -> Rights
-    ensures { result ≡ rights_given grants }
+    ensures { result ≡ rights_in grants }
 {
     Rights {
         list_jobs: grants.list_jobs,
@@ -187,13 +187,13 @@ impl Acl {
     }
 
     /// Writes the policy, over the one that is there. `Full` where it is new and has no room.
-    pub fn put_policy(&mut self, name: &Text, policy: Policy) -> Result<Content, Refusal>
-        ensures { Changes (put_policy name.now policy self.old) self.old result self.new }
+    pub fn put_policy(&mut self, name: &Text, policy: &Policy) -> Result<Content, Refusal>
+        ensures { Changes (put_policy name.now policy.now self.old) self.old result self.new }
     {
         if is_full(&self.policies, name) {
             return Err(Refusal::Full);
         }
-        put(&mut self.policies, name, policy)?;
+        write_policy(&mut self.policies, name, policy)?;
         Ok(Content::Written)
     }
 
@@ -223,7 +223,7 @@ impl Acl {
     }
 
     fn is_taken(&self, new: &NewToken) -> bool
-        ensures { result ≡ (contains_key self.now.tokens new.now.secret || has_accessor self.now new.now.accessor) }
+        ensures { result ≡ is_taken new.now self.now }
     {
         has_row(&self.tokens, &new.secret) || self.has_accessor(&new.accessor)
     }
@@ -238,8 +238,7 @@ impl Acl {
         if has_no_room(&self.tokens) {
             return Err(Refusal::Full);
         }
-        let shown = token_shown(new)?;
-        add_token(&mut self.tokens, new)?;
+        let shown = add_token(&mut self.tokens, new)?;
         Ok(Content::Token(shown))
     }
 

@@ -1,13 +1,12 @@
 //! What the rules of policies give for one name.
 
-ghost use Rattle.std.specs.Prelude.{◌≡◌, ◌∷◌, [], List, filter};
+ghost use Rattle.std.specs.Prelude.{◌≡◌, ◌∷◌, [], filter};
 ghost use Rattle.ns_types.specs.State.Names.{Name};
-ghost use Rattle.ns_types.specs.declared.acl.Rule.{Rule as RuleValue};
-ghost use Rattle.ns_types.specs.Access.Rights.{both as both_of, counting, is_exact as has_exact_name, is_match as has_matching_star, is_of_kind as has_kind, merged, unless_denied as grants_unless_denied};
-ghost use Rattle.ns_acl.specs.Gathered.{Adds, gathered};
+ghost use Rattle.ns_types.specs.Access.Rights.{both, is_exact, is_match, is_of_kind, unless_denied};
+ghost use Rattle.ns_acl.specs.Gathered.{Adds, Counts, gathered};
 
 use ns_types::acl::{Grants, Rule, RuleKind};
-use ns_types::text::Text;
+use ns_types::text::{Text, same_text};
 
 const NO_GRANTS: Grants = Grants {
     list_jobs: false,
@@ -31,7 +30,7 @@ pub(crate) struct Gathered {
 }
 
 fn both(a: Grants, b: Grants) -> Grants
-    ensures { result ≡ both_of a b }
+    ensures { result ≡ both a b }
 {
     Grants {
         list_jobs: a.list_jobs || b.list_jobs,
@@ -45,13 +44,13 @@ fn both(a: Grants, b: Grants) -> Grants
 }
 
 fn unless_denied(grants: Grants) -> Grants
-    ensures { result ≡ grants_unless_denied grants }
+    ensures { result ≡ unless_denied grants }
 {
     if grants.deny { NO_GRANTS } else { grants }
 }
 
 fn is_of_kind(kind: RuleKind, rule: &Rule) -> bool
-    ensures { result ≡ has_kind kind rule.now }
+    ensures { result ≡ is_of_kind kind rule.now }
 {
     match kind {
         RuleKind::Namespace => matches!(rule.kind, RuleKind::Namespace),
@@ -59,15 +58,14 @@ fn is_of_kind(kind: RuleKind, rule: &Rule) -> bool
     }
 }
 
-#[tactic(auto, using(crate::proofs::Texts::text_ties))]
 fn is_exact(target: &Text, rule: &Rule) -> bool
-    ensures { result ≡ has_exact_name target.now rule.now }
+    ensures { result ≡ is_exact target.now rule.now }
 {
-    !rule.pattern.is_prefix && rule.pattern.text == *target
+    !rule.pattern.is_prefix && same_text(&rule.pattern.text, target)
 }
 
 fn is_match(target: &Text, rule: &Rule) -> bool
-    ensures { result ≡ has_matching_star target.now rule.now }
+    ensures { result ≡ is_match target.now rule.now }
 {
     let prefix = rule.pattern.text.as_str().as_bytes();
     rule.pattern.is_prefix && target.as_str().as_bytes().starts_with(prefix)
@@ -117,7 +115,7 @@ impl Gathered {
 
     /// With the rules of that kind.
     pub(crate) fn with_rules(self, kind: RuleKind, target: &Text, rules: &[Rule]) -> Gathered
-        ensures { Adds target.now (filter (has_kind kind) rules.now) self result }
+        ensures { Adds target.now (filter (is_of_kind kind) rules.now) self result }
     {
         let mut all = self;
         for rule in rules {
@@ -130,8 +128,7 @@ impl Gathered {
 
     /// What counts of it.
     pub(crate) fn grants(self) -> Grants
-        ensures { (target : Name) (rules : List RuleValue) → self ≡ gathered target rules
-            → result ≡ grants_unless_denied (merged (counting target rules)) }
+        ensures { Counts self result }
     {
         unless_denied(self.exact.unwrap_or(self.matching))
     }

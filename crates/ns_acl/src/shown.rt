@@ -1,8 +1,8 @@
 //! What is answered of policies and tokens, and the token that is stored.
 
 ghost use Rattle.std.specs.Prelude.{◌≡◌, IfOk};
-ghost use Rattle.ns_types.specs.declared.reply.Content.TheVariants as Content;
 ghost use Rattle.ns_types.specs.Asking.Policies.{token_of};
+ghost use Rattle.ns_acl.specs.Tokens.{policy_content, token_shown};
 
 use ns_types::acl::{Policy, Token};
 use ns_types::reply::{Content, PolicyShown, TokenShown};
@@ -11,7 +11,7 @@ use ns_types::text::Text;
 use std::alloc::AllocError;
 
 pub(crate) fn policy_content(name: &Text, policy: &Policy) -> Result<Content, AllocError>
-    ensures { IfOk result (λ content. content ≡ Content.Policy (record { name = name.now; row = policy.now })) }
+    ensures { IfOk result (λ content. content ≡ policy_content name.now policy.now) }
 {
     Ok(Content::Policy(PolicyShown {
         name: name.clone()?,
@@ -21,7 +21,7 @@ pub(crate) fn policy_content(name: &Text, policy: &Policy) -> Result<Content, Al
 
 /// What is answered of a new token: all of it, with its secret.
 pub(crate) fn token_shown(new: &NewToken) -> Result<TokenShown, AllocError>
-    ensures { IfOk result (λ shown. shown ≡ record { accessor = new.now.accessor; secret = new.now.secret; name = new.now.name; kind = new.now.kind; policies = new.now.policies }) }
+    ensures { IfOk result (λ shown. shown ≡ token_shown new.now) }
 {
     Ok(TokenShown {
         accessor: new.accessor.clone()?,

@@ -3,9 +3,10 @@
 ghost use Rattle.std.specs.Prelude.{◌≡◌, OnOk, OnErr, nat_le};
 ghost use Rattle.std.specs.FinMap.{contains_key, insert, len};
 ghost use Rattle.keyed.specs.Table.{rows};
-ghost use Rattle.ns_types.specs.Asking.Admins.{is_full as is_full_for, most_rows};
+ghost use Rattle.ns_types.specs.Asking.Admins.{is_full, most_rows};
 
 use keyed::NameTable;
+use ns_types::acl::Policy;
 use ns_types::text::Text;
 use std::alloc::AllocError;
 
@@ -27,7 +28,7 @@ pub(crate) fn has_no_room<V: Drop>(table: &NameTable<V>) -> bool
 
 /// Whether there is no room for a row at `key`.
 pub(crate) fn is_full<V: Drop>(table: &NameTable<V>, key: &Text) -> bool
-    ensures { result ≡ is_full_for (rows table.now) key.now }
+    ensures { result ≡ is_full (rows table.now) key.now }
 {
     !has_row(table, key) && has_no_room(table)
 }
@@ -40,4 +41,17 @@ pub(crate) fn put<V: Drop>(table: &mut NameTable<V>, key: &Text, row: V) -> Resu
     table.reserve(key)?;
     table.set(key, row);
     Ok(())
+}
+
+/// Writes a copy of the policy, or leaves the rows as they are.
+pub(crate) fn write_policy(
+    policies: &mut NameTable<Policy>,
+    name: &Text,
+    policy: &Policy,
+) -> Result<(), AllocError>
+    ensures ok { OnOk result (rows policies.new ≡ insert (rows policies.old) name.now policy.now) }
+    ensures err { OnErr result (rows policies.new ≡ rows policies.old) }
+{
+    let copy = policy.clone()?;
+    put(policies, name, copy)
 }

@@ -1,20 +1,20 @@
 //! Tokens by their accessors, and the bootstrap token.
 
-ghost use Rattle.std.specs.Prelude.{◌≡◌, IfOk, OnOk, OnErr, find, option_copied, option_map};
-ghost use Rattle.std.specs.FinMap.{insert};
+ghost use Rattle.std.specs.Prelude.{◌≡◌, IfOk, OnOk, OnErr, option_copied};
 ghost use Rattle.std.specs.List.{list_any};
-ghost use Rattle.keyed.specs.Table.{at_slot, rows};
-ghost use Rattle.ns_types.specs.Asking.Policies.{bootstrap_accessor, token_of};
+ghost use Rattle.keyed.specs.Table.{rows};
+ghost use Rattle.ns_types.specs.Asking.Policies.{bootstrap_accessor};
 ghost use Rattle.ns_types.specs.State.Names.{same_name};
-ghost use Rattle.ns_acl.specs.Bearers.{first_token};
+ghost use Rattle.ns_acl.specs.Tokens.{bootstrap_token, is_of, secret_in, token_shown, with_token};
 
-use crate::shown::new_row;
+use crate::shown::{new_row, token_shown};
 use crate::tables::put;
 use keyed::NameTable;
 use ns_types::acl::{Token, TokenKind};
+use ns_types::reply::TokenShown;
 use ns_types::rows::Rows;
 use ns_types::step::NewToken;
-use ns_types::text::Text;
+use ns_types::text::{Text, same_text};
 use std::alloc::{AllocError, Global};
 
 /// The accessor of the bootstrap token.
@@ -25,7 +25,7 @@ type Slot = (Text, Option<Token>);
 
 /// The bootstrap token: a manager's.
 pub(crate) fn bootstrap_token(alloc: Global) -> Result<Token, AllocError>
-    ensures { IfOk result (λ token. token ≡ first_token) }
+    ensures { IfOk result (λ token. token ≡ bootstrap_token) }
 {
     Ok(Token {
         accessor: Text::from_str(alloc, BOOTSTRAP_ACCESSOR)?,
@@ -35,33 +35,32 @@ pub(crate) fn bootstrap_token(alloc: Global) -> Result<Token, AllocError>
     })
 }
 
-#[tactic(auto, using(crate::proofs::Texts::text_ties))]
+#[tactic(auto, using(ns_types::proofs::Named::text_ties))]
 pub(crate) fn is_bootstrap(accessor: &Text) -> bool
     ensures { result ≡ same_name accessor.now bootstrap_accessor }
 {
     accessor.as_str() == BOOTSTRAP_ACCESSOR
 }
 
-#[tactic(auto, using(crate::proofs::Texts::text_ties))]
 fn is_of(slot: &Slot, accessor: &Text) -> bool
-    ensures { result ≡ at_slot (λ e. same_name accessor.now e.1.accessor) slot.now }
+    ensures { result ≡ is_of accessor.now slot.now }
 {
     match &slot.1 {
-        Some(token) => *accessor == token.accessor,
+        Some(token) => same_text(accessor, &token.accessor),
         None => false,
     }
 }
 
 /// Whether a token has that accessor.
 pub(crate) fn has_accessor(slots: &[Slot], accessor: &Text) -> bool
-    ensures { result ≡ list_any (at_slot (λ e. same_name accessor.now e.1.accessor)) slots.now }
+    ensures { result ≡ list_any (is_of accessor.now) slots.now }
 {
     slots.iter().any(|slot| is_of(slot, accessor))
 }
 
 /// The secret of the first token with that accessor.
 pub(crate) fn secret_of<'a>(slots: &'a [Slot], accessor: &Text) -> Option<&'a Text>
-    ensures { option_copied result ≡ option_map (λ e. e.0) (find (at_slot (λ e. same_name accessor.now e.1.accessor)) slots.now) }
+    ensures { option_copied result ≡ secret_in accessor.now slots.now }
 {
     slots
         .iter()
@@ -69,11 +68,17 @@ pub(crate) fn secret_of<'a>(slots: &'a [Slot], accessor: &Text) -> Option<&'a Te
         .map(|slot| &slot.0)
 }
 
-/// Writes the row of a new token, or leaves the rows as they are.
-pub(crate) fn add_token(tokens: &mut NameTable<Token>, new: &NewToken) -> Result<(), AllocError>
-    ensures ok { OnOk result (rows tokens.new ≡ insert (rows tokens.old) new.now.secret (token_of new.now)) }
+/// Writes the row of a new token, and answers what is shown of it, or leaves the rows as they are.
+pub(crate) fn add_token(
+    tokens: &mut NameTable<Token>,
+    new: &NewToken,
+) -> Result<TokenShown, AllocError>
+    ensures ok { OnOk result (rows tokens.new ≡ with_token new.now (rows tokens.old)) }
+    ensures shown { IfOk result (λ shown. shown ≡ token_shown new.now) }
     ensures err { OnErr result (rows tokens.new ≡ rows tokens.old) }
 {
+    let shown = token_shown(new)?;
     let token = new_row(new)?;
-    put(tokens, &new.secret, token)
+    put(tokens, &new.secret, token)?;
+    Ok(shown)
 }

@@ -1,11 +1,12 @@
 -- Totals found, set and dropped, as the slots tell them.
-use Rattle.std.specs.Prelude.{◌≡◌, ◌-◌, ℕ, Bool, true, false, cond, IsTrue, if◌then◌else◌, Option, Some, None}
-use Rattle.std.proofs.Common.{refl, sym, ap, subst, ◌∙◌, arith}
+use Rattle.std.specs.Prelude.{◌≡◌, ◌-◌, ℕ, Bool, true, false, cond, if◌then◌else◌, Option, Some, None}
+use Rattle.std.proofs.Common.{refl, sym, ap, ◌∙◌, arith}
 use Rattle.std.specs.Option.{unwrap_or}
-use Rattle.std.specs.Ordering.{eq_by_cmp}
+use Rattle.std.specs.Cmp.{tied_itself}
+use Rattle.std.specs.Ordering.{eq_by_cmp, is_eq}
 use Rattle.std.specs.FinMap.{FinMap, get, get-insert, get-remove, insert, remove}
-use Rattle.keyed.specs.Table.{has_slot, row_at, rows, with_slot}
-use Rattle.keyed.proofs.Tables.{get-rows, has_slot-with_slot_here, rows-remove, rows-set, rows-with_slot}
+use Rattle.keyed.specs.Table.{flat, row_at, rows, with_slot}
+use Rattle.keyed.proofs.Tables.{get-rows, row_put, rows-remove, rows-set}
 use Rattle.ns_types.proofs.Named.{names, one_name}
 use Rattle.ns_types.proofs.Tables.{tied}
 use Rattle.ns_types.specs.declared.resources.Resources.{Resources}
@@ -34,8 +35,7 @@ module _ (m : FinMap name_cmp (Option Resources)) (v : ByName Resources) (view :
 
   -- a total in a slot that was made for it
   pub set_new : (l n : FinMap name_cmp (Option Resources)) (x : Resources) → l ≡ with_slot m k → n ≡ insert l k (Some x) → SetsTotal k x v (rows n)
-  set_new l n x d e = written n x (ap (λ n. rows n) (e ∙ ap (λ l. insert l k (Some x)) d) ∙ rows-set names one_name (with_slot m k) k x
-      ∙ ap (λ r. insert r k x) (rows-with_slot names one_name m k ∙ view))
+  set_new l n x d e = written n x (row_put names one_name m l n k x d e ∙ ap (λ r. insert r k x) view)
 
   pub set_over : (n : FinMap name_cmp (Option Resources)) (x : Resources) → n ≡ insert m k (Some x) → SetsTotal k x v (rows n)
   set_over n x e = written n x (ap (λ n. rows n) e ∙ rows-set names one_name m k x ∙ ap (λ r. insert r k x) view)
@@ -44,6 +44,16 @@ module _ (m : FinMap name_cmp (Option Resources)) (v : ByName Resources) (view :
   dropped n x e nothing other = ap (λ r. unwrap_or (get r other) none) (ap (λ n. rows n) e ∙ rows-remove names one_name m k ∙ ap (λ r. remove r k) view)
       ∙ ap (λ r. unwrap_or r none) (get-remove names v k other) ∙ dropped_by (eq_by_cmp name_cmp other k) (get v other)
       ∙ ap (λ x. if eq_by_cmp name_cmp other k then x else total_of v other) (sym nothing)
+
+  -- no total is left at its name
+  pub dropped_here : (n : FinMap name_cmp (Option Resources)) → n ≡ remove m k → get (rows n) k ≡ None
+  dropped_here n e = get-rows names n k ∙ ap (λ n. row_at n k) e ∙ ap flat (get-remove names m k k)
+      ∙ ap (λ r. flat (cond (is_eq r) None (get m k))) (tied_itself names k)
+
+  -- the total that was set stands at its name
+  pub set_here : (n : FinMap name_cmp (Option Resources)) (x : Resources) → n ≡ insert m k (Some x) → total_of (rows n) k ≡ x
+  set_here n x e = ap (λ o. unwrap_or o none) (get-rows names n k ∙ ap (λ n. row_at n k) e ∙ ap flat (get-insert names m k (Some x) k)
+      ∙ ap (λ r. flat (cond (is_eq r) (Some (Some x)) (get m k))) (tied_itself names k))
 
   -- nothing is taken off no total
   pub unchanged : (amount : Resources) → row_at m k ≡ None → SetsTotal k (minus (total_of v k) amount) v (rows m)
@@ -55,6 +65,3 @@ module _ (m : FinMap name_cmp (Option Resources)) (v : ByName Resources) (view :
       by : (b : Bool) → eq_by_cmp name_cmp other k ≡ b → total_of v other ≡ (if b then minus (total_of v k) amount else total_of v other)
       by true same = ap (total_of v) (tied one_name other k same) ∙ total_at None at ∙ sym nothing
       by false apart = refl
-
-pub slot_made : (m n : FinMap name_cmp (Option Resources)) (k : Name) → n ≡ with_slot m k → IsTrue (has_slot n k)
-slot_made m n k e = subst (λ m. IsTrue (has_slot m k)) (sym e) (has_slot-with_slot_here names m k)

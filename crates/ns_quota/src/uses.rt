@@ -1,8 +1,8 @@
 // Running totals by the names of quotas.
 ghost use Rattle.std.specs.Prelude.{◌≡◌, ◌+◌, ◌<◌, ◌^◌, IsTrue, OnOk, OnErr};
-ghost use Rattle.std.specs.FinMap.{empty};
-ghost use Rattle.ns_types.specs.State.Resources.{is_within, limit_allows as limit_admits, limits_allow, minus, plus};
-ghost use Rattle.ns_quota.specs.Totals.{SetsTotal, total_of};
+ghost use Rattle.std.specs.FinMap.{empty, get};
+ghost use Rattle.ns_types.specs.State.Resources.{is_within, limit_allows, limits_allow, none, plus};
+ghost use Rattle.ns_quota.specs.Totals.{Charges, Releases, total_of};
 
 use keyed::NameTable;
 use ns_types::resources::{Limit, Limits, Resources};
@@ -11,7 +11,7 @@ use std::alloc::{AllocError, Global};
 use std::marker::Model;
 
 fn limit_allows(limit: Limit, used: u64, more: u64) -> bool
-    ensures { result ≡ limit_admits limit (used + more) }
+    ensures { result ≡ limit_allows limit (used + more) }
 {
     match limit {
         Limit::Unlimited => true,
@@ -72,7 +72,7 @@ impl Uses {
     pub fn charge(&mut self, quota: &Text, amount: Resources) -> Result<(), AllocError>
         requires cpu { (total_of self.old quota.now).cpu + amount.cpu < 2 ^ 64 }
         requires memory { (total_of self.old quota.now).memory + amount.memory < 2 ^ 64 }
-        ensures ok { OnOk result (SetsTotal quota.now (plus (total_of self.old quota.now) amount) self.old self.new) }
+        ensures ok { OnOk result (Charges quota.now amount self.old self.new) }
         ensures err { OnErr result (self.new ≡ self.old) }
     {
         let used = self.use_of(quota);
@@ -85,10 +85,12 @@ impl Uses {
         Ok(())
     }
 
-    /// Takes the amount off the quota's total. It takes no memory, and keeps no total of nothing.
+    /// Takes the amount off the quota's total. It takes no memory.
+    /// Where nothing is left there is no total.
     pub fn release(&mut self, quota: &Text, amount: Resources)
         requires { IsTrue (is_within amount (total_of self.old quota.now)) }
-        ensures { SetsTotal quota.now (minus (total_of self.old quota.now) amount) self.old self.new }
+        ensures total { Releases quota.now amount self.old self.new }
+        ensures nothing_kept { total_of self.new quota.now ≡ none → get self.new quota.now ≡ None }
     {
         let used = self.use_of(quota);
         let left = Resources {

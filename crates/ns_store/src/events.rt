@@ -1,5 +1,5 @@
 // The last events, the newest last.
-ghost use Rattle.std.specs.Prelude.{◌≡◌, ◌+◌, ◌<◌, ◌≤◌, ◌++◌, ◌∷◌, [], OnOk, length};
+ghost use Rattle.std.specs.Prelude.{◌≡◌, ◌+◌, ◌<◌, ◌≤◌, ◌++◌, ◌∷◌, [], OnOk, OnErr, length};
 ghost use Rattle.ns_types.specs.State.Lists.{last};
 
 use ns_types::event::Event;
@@ -47,6 +47,7 @@ impl Events {
         ensures events { self.new.events ≡ self.old.events }
         ensures room { OnOk result (count ≤ self.new.room) }
         ensures kept { self.old.room ≤ self.new.room }
+        ensures refused { OnErr result (self.new ≡ self.old) }
     {
         self.events.reserve(count)
     }

@@ -1,11 +1,11 @@
 // Looks at the slots of evaluations.
-ghost use Rattle.std.specs.Prelude.{◌≡◌, IfOk, map};
-ghost use Rattle.std.specs.List.{filter, list_any};
+ghost use Rattle.std.specs.Prelude.{◌≡◌, IfOk};
+ghost use Rattle.std.specs.List.{list_any};
 ghost use Rattle.keyed.specs.Table.{at_slot};
-ghost use Rattle.ns_store.specs.Stored.{is_of, has_status, is_unfinished, is_waiting};
+ghost use Rattle.ns_store.specs.Stored.{has_status, is_of, is_unfinished, is_waiting, numbers_where};
 
 use ns_types::evaluation::{Evaluation, Status};
-use ns_types::text::Text;
+use ns_types::text::{Text, same_text};
 use std::alloc::{AllocError, Global};
 
 /// A number with its evaluation, or with room for one.
@@ -15,7 +15,7 @@ fn is_of_job(slot: &Slot, job: &Text) -> bool
     ensures { result ≡ at_slot (is_of job.now) slot.now }
 {
     match &slot.1 {
-        Some(evaluation) => *job == evaluation.job,
+        Some(evaluation) => same_text(job, &evaluation.job),
         None => false,
     }
 }
@@ -49,7 +49,7 @@ pub(crate) fn numbers_of_job(
     slots: &[Slot],
     job: &Text,
 ) -> Result<Vec<u64>, AllocError>
-    ensures { IfOk result (λ numbers. numbers.items ≡ map (λ slot. slot.0) (filter (at_slot (is_of job.now)) slots.now)) }
+    ensures { IfOk result (λ numbers. numbers.items ≡ numbers_where (is_of job.now) slots.now) }
 {
     slots
         .iter()
@@ -63,7 +63,7 @@ pub(crate) fn numbers_of_status(
     slots: &[Slot],
     status: Status,
 ) -> Result<Vec<u64>, AllocError>
-    ensures { IfOk result (λ numbers. numbers.items ≡ map (λ slot. slot.0) (filter (at_slot (has_status status)) slots.now)) }
+    ensures { IfOk result (λ numbers. numbers.items ≡ numbers_where (has_status status) slots.now) }
 {
     slots
         .iter()

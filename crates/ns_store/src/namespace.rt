@@ -1,9 +1,9 @@
 // The rows of one namespace.
-ghost use Rattle.std.specs.Prelude.{◌≡◌, ◌+◌, ◌^◌, ◌<◌, ◌≤◌, ◌++◌, ◌∷◌, [], IsTrue, OnOk, IfOk, length, option_copied};
+ghost use Rattle.std.specs.Prelude.{◌≡◌, ◌+◌, ◌^◌, ◌<◌, ◌≤◌, ◌++◌, ◌∷◌, [], IsTrue, OnOk, OnErr, IfOk, length, option_copied};
 ghost use Rattle.std.specs.FinMap as table;
-ghost use Rattle.keyed.specs.Table.{rows, has_slot, without_vacant, KeepsSlots};
+ghost use Rattle.keyed.specs.Table.{rows, has_slot, KeepsSlots};
 ghost use Rattle.ns_types.specs.State.Lists.{last};
-ghost use Rattle.ns_store.specs.Stored.{nothing_stored, numbers_of_job, numbers_of_status, has_open, has_pending};
+ghost use Rattle.ns_store.specs.Stored.{ChangesEvaluations, ChangesEvents, GainsSlot, GainsSlots, nothing_stored, numbers_of_job, numbers_of_status, has_open, has_pending, with_next};
 
 use crate::events::Events;
 use crate::looked_up;
@@ -36,7 +36,15 @@ impl Model for NamespaceRows {
 
     ghost coded = { Prim.hlevel (codes, table.code) };
 
-    ghost view = { λ s. record { index = s.index; evaluation_number = s.evaluation_number; allocation_number = s.allocation_number; jobs = s.jobs; evaluations = s.evaluations; events = s.events.events; room = s.events.room } };
+    ghost view = { λ s. record {
+      index = s.index;
+      evaluation_number = s.evaluation_number;
+      allocation_number = s.allocation_number;
+      jobs = s.jobs;
+      evaluations = s.evaluations;
+      events = s.events.events;
+      room = s.events.room;
+    } };
 }
 
 impl NamespaceRows {
@@ -97,14 +105,14 @@ impl NamespaceRows {
 
     /// The numbers of the job's evaluations, rising.
     pub fn by_job(&self, id: &Text) -> Result<Vec<u64>, AllocError>
-        ensures { IfOk result (λ numbers. numbers.items ≡ numbers_of_job (rows self.now.evaluations) id.now) }
+        ensures { IfOk result (λ numbers. numbers.items ≡ numbers_of_job self.now id.now) }
     {
         looked_up::numbers_of_job(self.alloc, self.evaluations.as_slice(), id)
     }
 
     /// The numbers of the evaluations with that status, rising.
     pub fn by_status(&self, status: Status) -> Result<Vec<u64>, AllocError>
-        ensures { IfOk result (λ numbers. numbers.items ≡ numbers_of_status (rows self.now.evaluations) status) }
+        ensures { IfOk result (λ numbers. numbers.items ≡ numbers_of_status self.now status) }
     {
         looked_up::numbers_of_status(self.alloc, self.evaluations.as_slice(), status)
     }
@@ -145,35 +153,44 @@ impl NamespaceRows {
         self.events.as_slice()
     }
 
-    /// Makes room for a job.
-    pub fn reserve_job(&mut self, id: &Text) -> Result<(), AllocError>
-        ensures rows { rows self.new.jobs ≡ rows self.old.jobs }
-        ensures slot { OnOk result (IsTrue (has_slot self.new.jobs id.now)) }
-        ensures kept { KeepsSlots self.old.jobs self.new.jobs }
-        ensures others { self.new ≡ record self.old { jobs = self.new.jobs } }
-    {
-        self.jobs.reserve(id)?;
-        Ok(())
-    }
-
-    /// Makes room for an evaluation.
-    pub fn reserve_evaluation(&mut self, number: u64) -> Result<(), AllocError>
-        ensures rows { rows self.new.evaluations ≡ rows self.old.evaluations }
-        ensures slot { OnOk result (IsTrue (has_slot self.new.evaluations number)) }
-        ensures kept { KeepsSlots self.old.evaluations self.new.evaluations }
-        ensures others { self.new ≡ record self.old { evaluations = self.new.evaluations } }
-    {
-        self.evaluations.reserve(number)?;
-        Ok(())
-    }
-
-    /// Makes room for that many more events.
-    pub fn reserve_events(&mut self, count: usize) -> Result<(), AllocError>
-        ensures room { OnOk result (count ≤ self.new.room) }
+    /// Makes room for an evaluation and for that many more events, or for neither.
+    pub fn reserve_evaluation(&mut self, number: u64, events: usize) -> Result<(), AllocError>
+        ensures slot { OnOk result (GainsSlot number self.old self.new) }
+        ensures room { OnOk result (events ≤ self.new.room) }
         ensures kept { self.old.room ≤ self.new.room }
-        ensures others { self.new ≡ record self.old { room = self.new.room } }
+        ensures refused { OnErr result (self.new ≡ self.old) }
     {
-        self.events.reserve(count)?;
+        let was_there = self.evaluations.has_slot(number);
+        self.evaluations.reserve(number)?;
+        if let Err(refused) = self.events.reserve(events) {
+            if !was_there {
+                self.evaluations.remove(number);
+            }
+            return Err(refused);
+        }
+        Ok(())
+    }
+
+    /// Makes room for a job, for an evaluation and for that many more events, or for none of them.
+    pub fn reserve_registration(
+        &mut self,
+        id: &Text,
+        number: u64,
+        events: usize,
+    ) -> Result<(), AllocError>
+        ensures slots { OnOk result (GainsSlots id.now number self.old self.new) }
+        ensures room { OnOk result (events ≤ self.new.room) }
+        ensures kept { self.old.room ≤ self.new.room }
+        ensures refused { OnErr result (self.new ≡ self.old) }
+    {
+        let was_there = self.jobs.has_slot(id);
+        self.jobs.reserve(id)?;
+        if let Err(refused) = self.reserve_evaluation(number, events) {
+            if !was_there {
+                self.jobs.remove(id);
+            }
+            return Err(refused);
+        }
         Ok(())
     }
 
@@ -192,9 +209,9 @@ impl NamespaceRows {
         requires slot { IsTrue (has_slot self.old.evaluations (self.old.evaluation_number + 1)) }
         requires number { self.old.evaluation_number + 1 < 2 ^ 64 }
         ensures number { self.new.evaluation_number ≡ self.old.evaluation_number + 1 }
-        ensures rows { rows self.new.evaluations ≡ table.insert (rows self.old.evaluations) (self.old.evaluation_number + 1) evaluation }
+        ensures rows { rows self.new.evaluations ≡ with_next evaluation self.old }
         ensures kept { KeepsSlots self.old.evaluations self.new.evaluations }
-        ensures others { self.new ≡ record self.old { evaluation_number = self.new.evaluation_number; evaluations = self.new.evaluations } }
+        ensures others { ChangesEvaluations self.old self.new }
     {
         self.evaluation_number += 1;
         self.evaluations.set(self.evaluation_number, evaluation);
@@ -211,20 +228,8 @@ impl NamespaceRows {
         requires { 0 < self.old.room }
         ensures events { self.new.events ≡ last 100 (self.old.events ++ event ∷ []) }
         ensures room { self.old.room ≤ self.new.room + 1 }
-        ensures others { self.new ≡ record self.old { events = self.new.events; room = self.new.room } }
+        ensures others { ChangesEvents self.old self.new }
     {
         self.events.push(event);
-    }
-
-    /// Takes the slots of a job and of an evaluation out, where they are vacant.
-    pub fn clear_room(&mut self, id: &Text, number: u64)
-        ensures jobs { rows self.new.jobs ≡ rows self.old.jobs }
-        ensures job_slots { self.new.jobs ≡ without_vacant self.old.jobs id.now }
-        ensures evaluations { rows self.new.evaluations ≡ rows self.old.evaluations }
-        ensures evaluation_slots { self.new.evaluations ≡ without_vacant self.old.evaluations number }
-        ensures others { self.new ≡ record self.old { jobs = self.new.jobs; evaluations = self.new.evaluations } }
-    {
-        self.jobs.clear_slot(id);
-        self.evaluations.clear_slot(number);
     }
 }

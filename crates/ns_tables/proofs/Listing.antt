@@ -18,12 +18,12 @@ module _ {K V S : Type 0} (show : K × V → S) (passes : K → Bool) where
       by false = refl
 
   module _ (done whole : List S) (k : K) (v : V) (rest others : List (K × Option V)) (is : rest ≡ (k, Some v) ∷ others) (before : done ++ shown_of rest ≡ whole)
-      where
-    -- the row passes, and is added
-    pub row_added : (after : List S) → after ≡ done ++ show (k, v) ∷ [] → passes k ≡ true → after ++ shown_of others ≡ whole
-    row_added after added e = ap (λ xs. xs ++ shown_of others) added ∙ append_assoc done (show (k, v) ∷ []) (shown_of others)
-        ∙ ap (λ xs. done ++ xs) (sym (ap shown_of is ∙ at_row k v others true e)) ∙ before
+    where
+      -- the row passes, and is added
+      pub row_added : (after : List S) → after ≡ done ++ show (k, v) ∷ [] → passes k ≡ true → after ++ shown_of others ≡ whole
+      row_added after added e = ap (λ xs. xs ++ shown_of others) added ∙ append_assoc done (show (k, v) ∷ []) (shown_of others)
+          ∙ ap (λ xs. done ++ xs) (sym (ap shown_of is ∙ at_row k v others true e)) ∙ before
 
-    -- the row does not pass, and is left out
-    pub row_left_out : passes k ≡ false → done ++ shown_of others ≡ whole
-    row_left_out e = ap (λ xs. done ++ xs) (sym (ap shown_of is ∙ at_row k v others false e)) ∙ before
+      -- the row does not pass, and is left out
+      pub row_left_out : passes k ≡ false → done ++ shown_of others ≡ whole
+      row_left_out e = ap (λ xs. done ++ xs) (sym (ap shown_of is ∙ at_row k v others false e)) ∙ before

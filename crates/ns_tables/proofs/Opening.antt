@@ -14,12 +14,12 @@ use Rattle.ns_types.specs.State.Tables.{table_of}
 use Rattle.ns_tables.specs.declared.tables.Tables.{Tables}
 use Rattle.ns_tables.specs.declared.tables.TenantRows.{TenantRows}
 use Rattle.ns_tables.specs.Viewed.{quota_of, tenant_of, world_of}
-use Rattle.ns_tables.proofs.Viewing.{table_of-empty, table_of-insert}
+use Rattle.ns_types.proofs.Tables.{table_of-empty, table_of-insert}
 
 pub opening_rows : (description : Name) (pool : Name) (denied : List Name) (s : Stored) → description ≡ [] → pool ≡ default_name → denied ≡ []
     → s ≡ record nothing_stored { room = s.room }
     → tenant_of (record { namespace = record { description = description; quota = None; default_pool = pool; allowed = None; denied = denied }; rows = s })
-        ≡ opening_tenant
+    ≡ opening_tenant
 opening_rows description pool denied s d p n e = λ i. record {
   namespace = record { description = d i; quota = None; default_pool = p i; allowed = None; denied = n i };
   index = ap (λ s. s.index) e i;

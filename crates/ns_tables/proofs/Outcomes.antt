@@ -1,12 +1,22 @@
 -- What a step comes to, test by test.
-use Rattle.std.specs.Prelude.{◌≡◌, Bool, true, false, T, Option, Some, None, is_some, if◌then◌else◌}
-use Rattle.std.proofs.Common.{refl, sym, ap, subst}
+use Rattle.std.specs.Prelude.{◌≡◌, ℕ, ◌+◌, ◌-◌, ◌^◌, ◌<◌, ◌≤◌, nat_le, nat_lt, Bool, true, false, T, Option, Some, None, is_some, if◌then◌else◌, Result, Ok}
+use Rattle.std.specs.Prelude.{Err}
+use Rattle.std.proofs.Common.{arith, inl, inr, refl, sym, ap, subst, ◌∙◌}
+use Rattle.std.proofs.lemmas.Bool.Decides.{leb_tells}
 use Rattle.std.specs.Option.{option_map_or}
+use Rattle.std.specs.Result.{IsErrAnd}
 use Rattle.ns_types.specs.declared.refusal.Refusal.{Refusal}
-use Rattle.ns_types.specs.declared.refusal.Refusal.TheVariants as Refusal
-use Rattle.ns_types.specs.Settling.Outcome.{Outcome, Refused, found, unless}
+use Rattle.ns_types.specs.declared.reply.Content.{Content}
+use Rattle.ns_types.specs.Settling.Outcome.{Changes, Outcome, Refused, found, is_done, unless}
+use Rattle.ns_types.specs.Steps.{greatest}
 
 module _ {S : Type 0} where
+  -- want of memory, where the change would have been made
+  pub memory_last : (o : Outcome S) (s s' : S) (result : Result Content Refusal) → IsErrAnd result (λ refusal. refusal ≡ Refusal.Memory)
+      → is_done o ≡ true → s' ≡ s → Changes o s result s'
+  memory_last o s s' (Ok content) e done same = absurd e
+  memory_last o s s' (Err refusal) e done same = subst (λ refusal. Changes o s (Err refusal) s') (sym e) (done, same)
+
   pub unless_so : (b : Bool) (r : Refusal) (rest : Outcome S) → b ≡ true → unless b r rest ≡ Refused r
   unfolding unless
   unless_so b r rest e = ap (λ b. if b then Refused r else rest) e
@@ -29,3 +39,17 @@ module _ {S : Type 0} where
   pub found_there : {A : Type 0} (thing : Option A) (next : Outcome S) → is_some thing ≡ true → found thing (λ _. next) ≡ next
   found_there None next e = absurd (subst T (sym e) tt)
   found_there (Some x) next e = refl
+
+-- the last number is the greatest
+pub last_release : (n : ℕ) → nat_le (2 ^ 64 - 1) n ≡ nat_lt greatest (n + 1)
+last_release n = elim (leb_tells greatest n) [
+  | inl is ↦ elim (leb_tells (2 ^ 64) (n + 1)) [
+    | inl more ↦ is.0 ∙ sym more.0
+    | inr less ↦ let a : greatest ≤ n = is.1 in let b : n + 1 < 2 ^ 64 = less.1 in
+        absurd (omega arith)
+  ]
+  | inr not ↦ elim (leb_tells (2 ^ 64) (n + 1)) [
+    | inl more ↦ let a : n < greatest = not.1 in let b : 2 ^ 64 ≤ n + 1 = more.1 in absurd (omega arith)
+    | inr less ↦ not.0 ∙ sym less.0
+  ]
+]

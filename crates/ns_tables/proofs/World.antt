@@ -17,11 +17,12 @@ use Rattle.ns_types.specs.State.Names.{Name, Key, default_name, name_cmp, same_n
 use Rattle.ns_types.specs.Settling.Outcome.{Outcome, Refused, in_pool, unless}
 use Rattle.ns_types.specs.State.Rows.{World, PoolRows}
 use Rattle.ns_types.specs.State.Tables.{any_row}
-use Rattle.ns_tables.specs.declared.tables.QuotaRows.{QuotaRows as StoredQuota}
+use Rattle.ns_tables.specs.declared.tables.StoredQuota.{StoredQuota}
 use Rattle.ns_tables.specs.declared.tables.Tables.{Tables}
 use Rattle.ns_tables.specs.declared.tables.TenantRows.{TenantRows}
 use Rattle.ns_tables.specs.Viewed.{after_release, quota_of, tenant_of, with_quota_written, with_release, world_of}
-use Rattle.ns_tables.proofs.Viewing.{any_row-empty, get_mapped}
+use Rattle.ns_types.proofs.TableRows.{any_row-empty}
+use Rattle.ns_types.proofs.Tables.{get_mapped}
 use Rattle.ns_tables.proofs.Outcomes.{found_absent, found_some}
 use Rattle.ns_tables.proofs.Written.{found_at, shown-remove, shown-set, shown-written}
 
@@ -102,18 +103,18 @@ module _ (t : Tables) (ready : List Key) (name : Name) where
   -- to delete a pool that is there, which has no nodes
   pub found_pool : (used : Bool) (done : Outcome World) → contains_key (rows t.pools) name ≡ true
       → in_pool (world_of ready t) name (λ pool. unless (same_name name default_name) Refusal.InUse
-          (unless (any_row (λ _ node. true) pool.nodes || used) Refusal.InUse done))
+      (unless (any_row (λ _ node. true) pool.nodes || used) Refusal.InUse done))
       ≡ unless (same_name name default_name) Refusal.InUse (unless used Refusal.InUse done)
   found_pool used done there = by (row_at t.pools name) refl
     where
       by : (x : Option Pool) → row_at t.pools name ≡ x
           → in_pool (world_of ready t) name (λ pool. unless (same_name name default_name) Refusal.InUse
-              (unless (any_row (λ _ node. true) pool.nodes || used) Refusal.InUse done))
+          (unless (any_row (λ _ node. true) pool.nodes || used) Refusal.InUse done))
           ≡ unless (same_name name default_name) Refusal.InUse (unless used Refusal.InUse done)
       by None e = absurd (subst T (sym (sym (ap is_some (get-rows names t.pools name ∙ e)) ∙ there)) tt)
       by (Some x) e = found_some _ _ (with_pool x None) (pool_at (Some x) e)
           ∙ ap (λ b. unless (same_name name default_name) Refusal.InUse (unless (b || used) Refusal.InUse done))
-              (any_row-empty names one_name (λ _ (node : Node). true))
+          (any_row-empty names one_name (λ _ (node : Node). true))
 
   pub no_pool : (go : PoolRows → Outcome World) → contains_key (rows t.pools) name ≡ false → in_pool (world_of ready t) name go ≡ Refused Refusal.NotFound
   no_pool go absent = found_absent _ go (pool_there ∙ absent)

@@ -1,26 +1,22 @@
 -- Rows by name, found, written and taken out, as the state shows them.
-use Rattle.std.specs.Prelude.{◌≡◌, not, ◌&&◌, nat_le, Option, Some, None, option_map, is_some, IsTrue}
-use Rattle.std.proofs.Common.{refl, sym, ap, subst, ◌∙◌}
+use Rattle.std.specs.Prelude.{◌≡◌, not, ◌&&◌, nat_le, Option, Some, None, option_map, is_some}
+use Rattle.std.proofs.Common.{refl, ap, ◌∙◌}
 use Rattle.std.proofs.Common.{Bor}
 use Rattle.std.specs.Option.{option_copied}
 use Rattle.std.specs.FinMap.{FinMap, contains_key, empty, get, insert, len, remove}
-use Rattle.keyed.specs.Table.{has_slot, row_at, rows, with_slot}
-use Rattle.keyed.proofs.Tables.{get-rows, has_slot-with_slot_here, rows-empty, rows-remove, rows-set, rows-with_slot}
+use Rattle.keyed.specs.Table.{row_at, rows, with_slot}
+use Rattle.keyed.proofs.Tables.{get-rows, row_put, rows-empty, rows-remove, rows-set}
 use Rattle.ns_types.proofs.Named.{names, one_name}
-use Rattle.ns_types.proofs.Tables.{get-table_of}
+use Rattle.ns_types.proofs.Tables.{get-table_of, get_mapped, len-table_of, table_of-insert, table_of-remove}
 use Rattle.ns_types.specs.Asking.Admins.{is_full}
 use Rattle.ns_types.specs.State.Names.{Name, name_cmp}
 use Rattle.ns_types.specs.State.Tables.{table_of}
-use Rattle.ns_tables.proofs.Viewing.{get_mapped, len-table_of, table_of-insert, table_of-remove}
 
 module _ {X : Type 0} where
   -- a row that is lent is there
   pub is_lent : (x : Option (Bor X)) → is_some x ≡ is_some (option_copied x)
   is_lent None = refl
   is_lent (Some x) = refl
-
-  pub slot_made : (m n : FinMap name_cmp (Option X)) (k : Name) → n ≡ with_slot m k → IsTrue (has_slot n k)
-  slot_made m n k e = subst (λ m. IsTrue (has_slot m k)) (sym e) (has_slot-with_slot_here names m k)
 
   -- a table without room for a new row, by what is found at the key
   pub full_by : (m : FinMap name_cmp (Option X)) (k : Name) (x : Option X) → row_at m k ≡ x →
@@ -29,8 +25,7 @@ module _ {X : Type 0} where
 
   pub rows_single : (l m n : FinMap name_cmp (Option X)) (k : Name) (x : X) → l ≡ empty → m ≡ with_slot l k → n ≡ insert m k (Some x) →
       rows n ≡ insert (empty {R = name_cmp}) k x
-  rows_single l m n k x e f g = ap (λ n. rows n) (g ∙ ap (λ m. insert m k (Some x)) (f ∙ ap (λ l. with_slot l k) e))
-      ∙ rows-set names one_name (with_slot empty k) k x ∙ ap (λ m. insert m k x) (rows-with_slot names one_name empty k ∙ rows-empty)
+  rows_single l m n k x e f g = row_put names one_name l m n k x f g ∙ ap (λ m. insert m k x) (ap (λ l. rows l) e ∙ rows-empty)
 
 -- ---- as the state shows them
 
@@ -52,8 +47,7 @@ module _ {X Y : Type 0} (f : X → Y) where
 
   -- a row set in a slot that was made for it
   pub shown-set : (l m n : FinMap name_cmp (Option X)) (k : Name) (x : X) → m ≡ with_slot l k → n ≡ insert m k (Some x) → shown n ≡ insert (shown l) k (f x)
-  shown-set l m n k x e g = shown-insert l n k x (ap (λ n. rows n) (g ∙ ap (λ m. insert m k (Some x)) e) ∙ rows-set names one_name (with_slot l k) k x ∙
-      ap (λ r. insert r k x) (rows-with_slot names one_name l k))
+  shown-set l m n k x e g = shown-insert l n k x (row_put names one_name l m n k x e g)
 
   pub shown-remove : (m n : FinMap name_cmp (Option X)) (k : Name) → n ≡ remove m k → shown n ≡ remove (shown m) k
   shown-remove m n k e = ap shown e ∙ ap (table_of (λ _ x. f x)) (rows-remove names one_name m k) ∙ table_of-remove names one_name (λ _ x. f x) (rows m) k

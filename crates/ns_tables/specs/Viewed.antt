@@ -1,22 +1,28 @@
 -- The part of the state that the tables hold: their rows, without vacant slots and room.
-use Rattle.std.specs.Prelude.{ℕ, ◌+◌, List, [], Bool, not, ◌&&◌, ◌||◌, None}
+use Rattle.std.specs.Prelude.{ℕ, ◌+◌, List, [], Bool, true, false, not, ◌&&◌, ◌||◌, nat_lt, Some, None}
 use Rattle.std.specs.FinMap.{empty, get, insert}
 use Rattle.std.specs.Option.{option_map_or}
 use Rattle.keyed.specs.Table.{rows}
+use Rattle.ns_types.specs.declared.reply.Content.{Content}
 use Rattle.ns_types.specs.declared.reply.NamespaceShown.{NamespaceShown}
 use Rattle.ns_types.specs.declared.reply.PoolShown.{PoolShown}
 use Rattle.ns_types.specs.declared.reply.QuotaShown.{QuotaShown}
 use Rattle.ns_types.specs.declared.records.Namespace.{Namespace}
 use Rattle.ns_types.specs.declared.records.Pool.{Pool}
+use Rattle.ns_types.specs.declared.records.Quota.{Quota}
 use Rattle.ns_types.specs.declared.evaluation.Evaluation.{Evaluation}
 use Rattle.ns_types.specs.declared.job.Job.{Job}
-use Rattle.ns_types.specs.Asking.Admins.{looks_to_pool, names_pool, with_pool}
+use Rattle.ns_types.specs.Asking.Admins.{forbids_put, has_live, has_open, is_withdrawn, looks_to_pool, names_pool}
+use Rattle.ns_types.specs.Asking.Admins.{uses_pool, with_namespace, with_pool, with_quota}
 use Rattle.ns_types.specs.State.Names.{Name, Key, same_name}
 use Rattle.ns_types.specs.State.Rows.{World, Tenant, QuotaRows, is_open}
-use Rattle.ns_types.specs.Access.Sharing.{overlaps}
+use Rattle.ns_types.specs.Access.Sharing.{is_confined, overlaps, permits}
+use Rattle.ns_types.specs.Settling.Making.{put_pool, put_tenant}
+use Rattle.ns_types.specs.Settling.Releases.{changes_limits}
 use Rattle.ns_types.specs.State.Sums.{names_quota}
-use Rattle.ns_types.specs.State.Tables.{table_of}
-use Rattle.ns_tables.specs.declared.tables.QuotaRows.{QuotaRows as StoredQuota}
+use Rattle.ns_types.specs.State.Tables.{any_row, table_of}
+use Rattle.ns_types.specs.Steps.{greatest}
+use Rattle.ns_tables.specs.declared.tables.StoredQuota.{StoredQuota}
 use Rattle.ns_tables.specs.declared.tables.Tables.{Tables}
 use Rattle.ns_tables.specs.declared.tables.TenantRows.{TenantRows}
 
@@ -50,8 +56,18 @@ world_of ready t = record {
 
 -- ---- changes of a row
 
+abbrev pub with_namespace_put : Name → Namespace → World → World
+with_namespace_put name namespace w = put_tenant name (with_namespace namespace (get w.tenants name)) w
+
+abbrev pub with_pool_put : Name → Pool → World → World
+with_pool_put name pool w = put_pool name (with_pool pool (get w.pools name)) w
+
 abbrev pub with_quota_written : Name → QuotaRows → World → World
 with_quota_written name q w = record w { quotas = insert w.quotas name q }
+
+-- its release number stays
+abbrev pub with_quota_put : Name → Quota → World → World
+with_quota_put name quota w = with_quota_written name (with_quota quota (get w.quotas name)) w
 
 abbrev pub after_release : QuotaRows → QuotaRows
 after_release q = record q { release = q.release + 1 }
@@ -59,6 +75,42 @@ after_release q = record q { release = q.release + 1 }
 -- the quota's release number is one more
 abbrev pub with_release : Name → World → World
 with_release name w = option_map_or (λ q. with_quota_written name (after_release q) w) (get w.quotas name) w
+
+-- ---- what is found by name
+
+abbrev pub permits_in : Name → Name → World → Bool
+permits_in name pool w = option_map_or (λ t. permits t.namespace pool) (get w.tenants name) false
+
+abbrev pub is_confined_in : Name → World → Bool
+is_confined_in name w = option_map_or (λ t. is_confined t.namespace) (get w.tenants name) false
+
+-- what the namespace has forbids the record
+abbrev pub forbids_in : Name → Namespace → World → Bool
+forbids_in name namespace w = option_map_or (forbids_put namespace) (get w.tenants name) false
+
+-- the number of the last release, or 0
+abbrev pub release_in : Name → World → ℕ
+release_in name w = option_map_or (λ q. q.release) (get w.quotas name) 0
+
+-- the put would change the limits of a quota that is there
+abbrev pub is_relimited_in : Name → Quota → World → Bool
+is_relimited_in name quota w = option_map_or (λ old. changes_limits old (with_quota quota (Some old)))
+    (get w.quotas name)
+    false
+
+-- one more release of the quota would pass the bound of its number
+abbrev pub is_exhausted : World → Name → Bool
+is_exhausted w name = option_map_or (λ q. nat_lt greatest (q.release + 1)) (get w.quotas name) false
+
+-- ---- what a namespace has
+
+-- a job, an open evaluation or a live allocation of it names a pool that the new record no longer permits
+abbrev pub has_withdrawn : Namespace → Tenant → Bool
+has_withdrawn new t = uses_pool (is_withdrawn t.namespace new) t
+
+-- a job, an open evaluation or a live allocation
+abbrev pub has_work : Tenant → Bool
+has_work t = any_row (λ _ job. true) t.jobs || has_open t || has_live t
 
 -- ---- tests of a row with its key
 
@@ -78,6 +130,10 @@ tenant_uses_pool pool e = names_pool pool e.1.namespace || looks_to_pool (same_n
 abbrev pub overlaps_other : Name → Namespace → Name × TenantRows → Bool
 overlaps_other ns namespace e = not (same_name e.0 ns) && overlaps namespace e.1.namespace
 
+-- the other names the quota of the namespace
+abbrev pub shares_quota : Namespace → Namespace → Bool
+shares_quota namespace other = option_map_or (λ quota. names_quota quota other) namespace.quota false
+
 -- ---- what lists show
 
 abbrev pub namespace_shown : Name × TenantRows → NamespaceShown
@@ -85,6 +141,9 @@ namespace_shown e = record { name = e.0; row = e.1.namespace }
 
 abbrev pub quota_shown : Name × StoredQuota → QuotaShown
 quota_shown e = record { name = e.0; row = e.1.quota }
+
+abbrev pub content_of_quota : Name → Quota → Content
+content_of_quota name quota = Content.Quota (record { name = name; row = quota })
 
 abbrev pub pool_shown : Name × Pool → PoolShown
 pool_shown e = record { name = e.0; row = e.1 }

@@ -9,5 +9,5 @@ mod quotas;
 mod sharing;
 mod tables;
 
-pub use sharing::{names_quota, overlaps, permits, same_quota, same_text};
-pub use tables::{QuotaRows, Tables, TenantRows};
+pub use sharing::{names_quota, overlaps, permits, same_quota};
+pub use tables::{StoredQuota, Tables, TenantRows};

@@ -1,20 +1,19 @@
 //! Lists by name: of all quotas, and of the namespaces and pools that a secret may see.
 
-ghost use Rattle.std.specs.Prelude.{◌≡◌, Bool, List, IfOk, map, filter};
-ghost use Rattle.std.specs.Fn.{FnReturnsAt};
+ghost use Rattle.std.specs.Prelude.{◌≡◌, IfOk, map};
 ghost use Rattle.keyed.specs.Table.{row_list};
 ghost use Rattle.ns_types.specs.Asking.Admins.{list_namespaces, list_pools, list_quotas};
-ghost use Rattle.ns_types.specs.State.Names.{Key, Name};
-ghost use Rattle.ns_tables.specs.Viewed.{namespace_shown, pool_shown, quota_shown, world_of};
+ghost use Rattle.ns_tables.specs.Calls.{FindsIn, ListsPassing, ShowsPassing};
+ghost use Rattle.ns_tables.specs.Viewed.{namespace_shown, pool_shown, quota_shown};
 
-use crate::tables::{QuotaRows, Slot, Tables, TenantRows};
+use crate::tables::{Slot, StoredQuota, Tables, TenantRows};
 use ns_types::records::Pool;
 use ns_types::reply::{Content, NamespaceShown, PoolShown, QuotaShown};
 use ns_types::rows::Rows;
 use ns_types::text::Text;
 use std::alloc::{AllocError, Global};
 
-fn show_quotas(alloc: Global, slots: &[Slot<QuotaRows>]) -> Result<Rows<QuotaShown>, AllocError>
+fn show_quotas(alloc: Global, slots: &[Slot<StoredQuota>]) -> Result<Rows<QuotaShown>, AllocError>
     ensures { IfOk result (λ shown. shown ≡ map quota_shown (row_list slots.now)) }
 {
     let mut shown = Rows::new(alloc);
@@ -37,7 +36,7 @@ fn show_namespaces<F: Fn(&Text) -> bool>(
     shows: F,
 ) -> Result<Rows<NamespaceShown>, AllocError>
     requires { F.IsAlwaysCallable shows }
-    ensures { (passes : Name → Bool) → ((name : Name) (b : Bool) → FnReturnsAt F.Fn shows name b → b ≡ passes name) → IfOk result (λ shown. shown ≡ map namespace_shown (filter (λ t. passes t.0) (row_list slots.now))) }
+    ensures { ShowsPassing F.Fn shows namespace_shown slots.now result }
 {
     let mut shown = Rows::new(alloc);
     let mut rest = slots;
@@ -61,7 +60,7 @@ fn show_pools<F: Fn(&Text) -> bool>(
     shows: F,
 ) -> Result<Rows<PoolShown>, AllocError>
     requires { F.IsAlwaysCallable shows }
-    ensures { (passes : Name → Bool) → ((name : Name) (b : Bool) → FnReturnsAt F.Fn shows name b → b ≡ passes name) → IfOk result (λ shown. shown ≡ map pool_shown (filter (λ p. passes p.0) (row_list slots.now))) }
+    ensures { ShowsPassing F.Fn shows pool_shown slots.now result }
 {
     let mut shown = Rows::new(alloc);
     let mut rest = slots;
@@ -82,7 +81,7 @@ fn show_pools<F: Fn(&Text) -> bool>(
 impl Tables {
     /// All quotas, by name. Want of memory is the only error.
     pub fn list_quotas(&self) -> Result<Content, AllocError>
-        ensures { (ready : List Key) → IfOk result (λ content. content ≡ list_quotas (world_of ready self.now)) }
+        ensures { IfOk result (FindsIn list_quotas self.now) }
     {
         let shown = show_quotas(self.alloc, self.quotas.as_slice())?;
         Ok(Content::Quotas(shown))
@@ -91,7 +90,7 @@ impl Tables {
     /// The namespaces whose names pass, by name. Want of memory is the only error.
     pub fn list_namespaces<F: Fn(&Text) -> bool>(&self, shows: F) -> Result<Content, AllocError>
         requires { F.IsAlwaysCallable shows }
-        ensures { (passes : Name → Bool) → ((name : Name) (b : Bool) → FnReturnsAt F.Fn shows name b → b ≡ passes name) → (ready : List Key) → IfOk result (λ content. content ≡ list_namespaces passes (world_of ready self.now)) }
+        ensures { ListsPassing F.Fn shows list_namespaces self.now result }
     {
         let shown = show_namespaces(self.alloc, self.tenants.as_slice(), shows)?;
         Ok(Content::Namespaces(shown))
@@ -100,7 +99,7 @@ impl Tables {
     /// The pools whose names pass, by name. Want of memory is the only error.
     pub fn list_pools<F: Fn(&Text) -> bool>(&self, shows: F) -> Result<Content, AllocError>
         requires { F.IsAlwaysCallable shows }
-        ensures { (passes : Name → Bool) → ((name : Name) (b : Bool) → FnReturnsAt F.Fn shows name b → b ≡ passes name) → (ready : List Key) → IfOk result (λ content. content ≡ list_pools passes (world_of ready self.now)) }
+        ensures { ListsPassing F.Fn shows list_pools self.now result }
     {
         let shown = show_pools(self.alloc, self.pools.as_slice(), shows)?;
         Ok(Content::Pools(shown))

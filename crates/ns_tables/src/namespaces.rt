@@ -1,15 +1,12 @@
 //! What administrators ask of namespaces.
 
-ghost use Rattle.std.specs.Prelude.{◌≡◌, List, OnOk, OnErr, false};
+ghost use Rattle.std.specs.Prelude.{◌≡◌, OnErr};
 ghost use Rattle.std.specs.List.{list_all};
-ghost use Rattle.std.specs.FinMap.{contains_key, get};
-ghost use Rattle.std.specs.Option.{option_map_or};
+ghost use Rattle.std.specs.FinMap.{contains_key};
 ghost use Rattle.keyed.specs.Table.{rows};
-ghost use Rattle.ns_types.specs.Asking.Admins.{delete_namespace, forbids_put as forbids, lacks_allowed, lacks_quota, put_namespace, with_namespace};
-ghost use Rattle.ns_types.specs.Settling.Making.{put_tenant};
-ghost use Rattle.ns_types.specs.State.Names.{Key};
-ghost use Rattle.ns_types.specs.Settling.Outcome.{Changes};
-ghost use Rattle.ns_tables.specs.Viewed.{world_of};
+ghost use Rattle.ns_types.specs.Asking.Admins.{delete_namespace, lacks_allowed, lacks_quota, put_namespace};
+ghost use Rattle.ns_tables.specs.Calls.{ChangesTables, FindsIn, Writes};
+ghost use Rattle.ns_tables.specs.Viewed.{forbids_in, with_namespace_put};
 
 use crate::held::{forbids_put, has_work};
 use crate::tables::{Tables, TenantRows, is_default, is_full};
@@ -23,7 +20,7 @@ use std::alloc::AllocError;
 impl Tables {
     /// Whether the namespace names a quota that is not there.
     fn lacks_quota(&self, namespace: &Namespace) -> bool
-        ensures { (ready : List Key) → result ≡ lacks_quota (world_of ready self.now) namespace.now }
+        ensures { FindsIn (λ w. lacks_quota w namespace.now) self.now result }
     {
         match &namespace.quota {
             Some(quota) => !self.has_quota(quota),
@@ -39,7 +36,7 @@ impl Tables {
 
     /// Whether the namespace lists a pool that is not there.
     fn lacks_allowed(&self, namespace: &Namespace) -> bool
-        ensures { (ready : List Key) → result ≡ lacks_allowed (world_of ready self.now) namespace.now }
+        ensures { FindsIn (λ w. lacks_allowed w namespace.now) self.now result }
     {
         match &namespace.allowed {
             Some(allowed) => !self.has_pools(allowed.as_slice()),
@@ -49,7 +46,7 @@ impl Tables {
 
     /// Whether what the namespace of that name has forbids the new record.
     fn forbids(&self, name: &Text, namespace: &Namespace) -> bool
-        ensures { (ready : List Key) → result ≡ option_map_or (forbids namespace.now) (get (world_of ready self.now).tenants name.now) false }
+        ensures { FindsIn (forbids_in name.now namespace.now) self.now result }
     {
         match self.tenants.get(name) {
             Some(tenant) => forbids_put(tenant, namespace),
@@ -58,10 +55,11 @@ impl Tables {
     }
 
     /// Writes the record, over what the namespace of that name has, or over nothing.
-    fn write_namespace(&mut self, name: &Text, namespace: Namespace) -> Result<(), AllocError>
-        ensures done { (ready : List Key) → OnOk result (world_of ready self.new ≡ put_tenant name.now (with_namespace namespace (get (world_of ready self.old).tenants name.now)) (world_of ready self.old)) }
+    fn write_namespace(&mut self, name: &Text, namespace: &Namespace) -> Result<(), AllocError>
+        ensures done { Writes (with_namespace_put name.now namespace.now) self.old result self.new }
         ensures refused { OnErr result (self.new ≡ self.old) }
     {
+        let namespace = namespace.clone()?;
         if let Some(tenant) = self.tenants.get_mut(name) {
             tenant.namespace = namespace;
             return Ok(());
@@ -74,20 +72,21 @@ impl Tables {
 
     /// Makes the namespace, or writes its record in place of the old one.
     /// The first refusal is `BadField` for a quota, a default pool or an allowed pool that is not there, then `InUse`
-    /// where what the namespace has forbids the new record, then `Full`. A refusal changes nothing.
-    pub fn put_namespace(&mut self, name: &Text, namespace: Namespace) -> Result<Content, Refusal>
-        ensures { (ready : List Key) → Changes (put_namespace name.now namespace (world_of ready self.old)) (world_of ready self.old) result (world_of ready self.new) }
+    /// where what the namespace has forbids the new record, then `Full`. Want of memory comes last. A refusal
+    /// changes nothing.
+    pub fn put_namespace(&mut self, name: &Text, namespace: &Namespace) -> Result<Content, Refusal>
+        ensures { ChangesTables (put_namespace name.now namespace.now) self.old result self.new }
     {
-        if self.lacks_quota(&namespace) {
+        if self.lacks_quota(namespace) {
             return Err(Refusal::BadField(Member::Quota));
         }
         if !self.has_pool(&namespace.default_pool) {
             return Err(Refusal::BadField(Member::Default));
         }
-        if self.lacks_allowed(&namespace) {
+        if self.lacks_allowed(namespace) {
             return Err(Refusal::BadField(Member::Allowed));
         }
-        if self.forbids(name, &namespace) {
+        if self.forbids(name, namespace) {
             return Err(Refusal::InUse);
         }
         if is_full(&self.tenants, name) {
@@ -100,7 +99,7 @@ impl Tables {
     /// Deletes the namespace with all that it owns. One that is not there is `NotFound`, and `default` and one that
     /// has a job or an open evaluation are `InUse`.
     pub fn delete_namespace(&mut self, name: &Text) -> Result<Content, Refusal>
-        ensures { (ready : List Key) → Changes (delete_namespace name.now (world_of ready self.old)) (world_of ready self.old) result (world_of ready self.new) }
+        ensures { ChangesTables (delete_namespace name.now) self.old result self.new }
     {
         let Some(tenant) = self.tenants.get(name) else {
             return Err(Refusal::NotFound);

@@ -1,33 +1,25 @@
 //! What a namespace's record permits, names and shares. Nothing here takes memory.
 
-ghost use Rattle.std.specs.Prelude.{◌≡◌, false};
+ghost use Rattle.std.specs.Prelude.{◌≡◌};
 ghost use Rattle.std.specs.List.{list_any};
-ghost use Rattle.std.specs.Option.{option_map_or};
-ghost use Rattle.ns_types.specs.Asking.Admins.{is_withdrawn as withdraws, names_pool as pool_is_named, same_quota as quota_is};
-ghost use Rattle.ns_types.specs.State.Names.{has_name as is_listed, same_name};
-ghost use Rattle.ns_types.specs.Access.Sharing.{is_confined as confines, overlaps as is_overlap, permits as permits_pool, pools_of};
-ghost use Rattle.ns_types.specs.State.Sums.{names_quota as quota_is_named};
+ghost use Rattle.ns_types.specs.Asking.Admins.{is_withdrawn, names_pool, same_quota};
+ghost use Rattle.ns_types.specs.State.Names.{has_name, same_name};
+ghost use Rattle.ns_types.specs.Access.Sharing.{is_confined, overlaps, permits, pools_of};
+ghost use Rattle.ns_types.specs.State.Sums.{names_quota};
+ghost use Rattle.ns_tables.specs.Viewed.{shares_quota};
 
 use ns_types::records::Namespace;
-use ns_types::text::Text;
-
-/// Whether the texts have the same bytes.
-#[tactic(auto, using(crate::proofs::Ties::text_ties))]
-pub fn same_text(a: &Text, b: &Text) -> bool
-    ensures { result ≡ same_name a.now b.now }
-{
-    a == b
-}
+use ns_types::text::{Text, same_text};
 
 fn has_name(names: &[Text], name: &Text) -> bool
-    ensures { result ≡ is_listed names.now name.now }
+    ensures { result ≡ has_name names.now name.now }
 {
     names.iter().any(|other| same_text(name, other))
 }
 
 /// Whether the namespace may use the pool, which need not exist.
 pub fn permits(namespace: &Namespace, pool: &Text) -> bool
-    ensures { result ≡ permits_pool namespace.now pool.now }
+    ensures { result ≡ permits namespace.now pool.now }
 {
     match &namespace.allowed {
         Some(allowed) => {
@@ -39,21 +31,21 @@ pub fn permits(namespace: &Namespace, pool: &Text) -> bool
 
 /// Whether the namespace has a list of the pools that it may use.
 pub(crate) fn is_confined(namespace: &Namespace) -> bool
-    ensures { result ≡ confines namespace.now }
+    ensures { result ≡ is_confined namespace.now }
 {
     namespace.allowed.is_some()
 }
 
 /// Whether the pool is permitted by the old record, and not by the new one.
 pub(crate) fn is_withdrawn(old: &Namespace, new: &Namespace, pool: &Text) -> bool
-    ensures { result ≡ withdraws old.now new.now pool.now }
+    ensures { result ≡ is_withdrawn old.now new.now pool.now }
 {
     permits(old, pool) && !permits(new, pool)
 }
 
 /// Whether both name the same quota, or neither names one.
 pub fn same_quota(a: &Namespace, b: &Namespace) -> bool
-    ensures { result ≡ quota_is a.now b.now }
+    ensures { result ≡ same_quota a.now b.now }
 {
     match (&a.quota, &b.quota) {
         (None, None) => true,
@@ -64,7 +56,7 @@ pub fn same_quota(a: &Namespace, b: &Namespace) -> bool
 
 /// Whether the namespace names the quota.
 pub fn names_quota(quota: &Text, namespace: &Namespace) -> bool
-    ensures { result ≡ quota_is_named quota.now namespace.now }
+    ensures { result ≡ names_quota quota.now namespace.now }
 {
     match &namespace.quota {
         Some(named) => same_text(quota, named),
@@ -74,7 +66,7 @@ pub fn names_quota(quota: &Text, namespace: &Namespace) -> bool
 
 /// Whether the pool is the namespace's default, or on its list of allowed pools.
 pub(crate) fn names_pool(pool: &Text, namespace: &Namespace) -> bool
-    ensures { result ≡ pool_is_named pool.now namespace.now }
+    ensures { result ≡ names_pool pool.now namespace.now }
 {
     if same_text(pool, &namespace.default_pool) {
         return true;
@@ -86,14 +78,14 @@ pub(crate) fn names_pool(pool: &Text, namespace: &Namespace) -> bool
 }
 
 fn permits_any(namespace: &Namespace, pools: &[Text]) -> bool
-    ensures { result ≡ list_any (permits_pool namespace.now) pools.now }
+    ensures { result ≡ list_any (permits namespace.now) pools.now }
 {
     pools.iter().any(|pool| permits(namespace, pool))
 }
 
 /// Whether the other may use a pool of the namespace, if that is confined.
 fn shares_pool(namespace: &Namespace, other: &Namespace) -> bool
-    ensures { result ≡ list_any (permits_pool other.now) (pools_of namespace.now) }
+    ensures { result ≡ list_any (permits other.now) (pools_of namespace.now) }
 {
     match &namespace.allowed {
         Some(allowed) => {
@@ -104,7 +96,7 @@ fn shares_pool(namespace: &Namespace, other: &Namespace) -> bool
 }
 
 fn shares_quota(namespace: &Namespace, other: &Namespace) -> bool
-    ensures { result ≡ option_map_or (λ quota. quota_is_named quota other.now) namespace.now.quota false }
+    ensures { result ≡ shares_quota namespace.now other.now }
 {
     match &namespace.quota {
         Some(quota) => names_quota(quota, other),
@@ -114,7 +106,7 @@ fn shares_quota(namespace: &Namespace, other: &Namespace) -> bool
 
 /// Whether a pool or the quota of the confined namespace is the other's too.
 pub fn overlaps(namespace: &Namespace, other: &Namespace) -> bool
-    ensures { result ≡ is_overlap namespace.now other.now }
+    ensures { result ≡ overlaps namespace.now other.now }
 {
     shares_pool(namespace, other) || shares_quota(namespace, other)
 }

@@ -1,22 +1,22 @@
 //! The tables of namespaces, pools and quotas.
 
-ghost use Rattle.std.specs.Prelude.{◌≡◌, List, IfOk, false};
-ghost use Rattle.std.specs.FinMap.{contains_key, get, insert, empty};
+ghost use Rattle.std.specs.Prelude.{◌≡◌, List, IfOk};
+ghost use Rattle.std.specs.FinMap.{contains_key, insert, empty};
 ghost use Rattle.std.specs.List.{list_any};
-ghost use Rattle.std.specs.Option.{option_map_or};
 ghost use Rattle.keyed.specs.Table.{at_slot, rows};
-ghost use Rattle.ns_types.specs.Asking.Admins.{is_full as is_full_table};
+ghost use Rattle.ns_types.specs.Asking.Admins.{is_full};
 ghost use Rattle.ns_types.specs.State.Names.{Key, default_name, same_name};
-ghost use Rattle.ns_types.specs.Access.Sharing.{is_confined as confines, permits as permits_pool, shares};
-ghost use Rattle.ns_types.specs.Steps.{opening_tenant, opening_world};
-ghost use Rattle.ns_tables.specs.Viewed.{overlaps_other, tenant_of, world_of};
+ghost use Rattle.ns_types.specs.Access.Sharing.{shares};
+ghost use Rattle.ns_types.specs.Steps.{opening_tenant};
+ghost use Rattle.ns_tables.specs.Calls.{FindsIn, IsOpening};
+ghost use Rattle.ns_tables.specs.Viewed.{is_confined_in, overlaps_other, permits_in, tenant_of, world_of};
 
-use crate::sharing::{is_confined, overlaps, permits, same_text};
+use crate::sharing::{is_confined, overlaps, permits};
 use keyed::NameTable;
 use ns_store::NamespaceRows;
 use ns_types::records::{Namespace, Pool, Quota};
 use ns_types::rows::Rows;
-use ns_types::text::Text;
+use ns_types::text::{Text, same_text};
 use std::alloc::{AllocError, Global};
 
 /// The name of the namespace and of the pool that are there from the start.
@@ -37,7 +37,7 @@ pub struct TenantRows {
 
 /// What a quota owns.
 #[derive(Drop)]
-pub struct QuotaRows {
+pub struct StoredQuota {
     pub quota: Quota,
     /// The number of its last release.
     pub release: u64,
@@ -49,11 +49,11 @@ pub struct Tables {
     pub alloc: Global,
     pub tenants: NameTable<TenantRows>,
     pub pools: NameTable<Pool>,
-    pub quotas: NameTable<QuotaRows>,
+    pub quotas: NameTable<StoredQuota>,
 }
 
 /// Whether it is the name of what is there from the start, and is not deleted.
-#[tactic(auto, using(crate::proofs::Ties::text_ties))]
+#[tactic(auto, using(ns_types::proofs::Named::text_ties))]
 pub(crate) fn is_default(name: &Text) -> bool
     ensures { result ≡ same_name name.now default_name }
 {
@@ -62,7 +62,7 @@ pub(crate) fn is_default(name: &Text) -> bool
 
 /// Whether the table has no room for a new row of that name.
 pub(crate) fn is_full<V: Drop>(table: &NameTable<V>, name: &Text) -> bool
-    ensures { result ≡ is_full_table (rows table.now) name.now }
+    ensures { result ≡ is_full (rows table.now) name.now }
 {
     match table.get(name) {
         Some(_) => false,
@@ -116,7 +116,7 @@ fn overlaps_any(slots: &[Slot<TenantRows>], name: &Text, namespace: &Namespace) 
 impl Tables {
     /// The tables of a server that has just begun: the namespace and the pool `default`, and no quota.
     pub fn opening(alloc: Global) -> Result<Tables, AllocError>
-        ensures { (ready : List Key) → IfOk result (λ tables. world_of ready tables ≡ record opening_world { ready = ready }) }
+        ensures { IfOk result IsOpening }
     {
         let default = Text::from_str(alloc, DEFAULT)?;
         let pool = Pool {
@@ -132,7 +132,7 @@ impl Tables {
 
     /// Whether the namespace may use the pool, which need not exist. A namespace that is not there may use none.
     pub fn permits(&self, name: &Text, pool: &Text) -> bool
-        ensures { (ready : List Key) → result ≡ option_map_or (λ tenant. permits_pool tenant.namespace pool.now) (get (world_of ready self.now).tenants name.now) false }
+        ensures { FindsIn (permits_in name.now pool.now) self.now result }
     {
         match self.tenants.get(name) {
             Some(tenant) => permits(&tenant.namespace, pool),
@@ -142,7 +142,7 @@ impl Tables {
 
     /// Whether the namespace has a list of the pools that it may use. One that is not there has none.
     pub fn confined(&self, name: &Text) -> bool
-        ensures { (ready : List Key) → result ≡ option_map_or (λ tenant. confines tenant.namespace) (get (world_of ready self.now).tenants name.now) false }
+        ensures { FindsIn (is_confined_in name.now) self.now result }
     {
         match self.tenants.get(name) {
             Some(tenant) => is_confined(&tenant.namespace),

@@ -1,5 +1,6 @@
 use Rattle.std.proofs.Common.{sym, ◌∙◌}
-use Rattle.ns_acl.proofs.Slotted.{has_row, some_mapped}
+use Rattle.ns_types.proofs.Tests.{some_mapped}
+use Rattle.ns_acl.proofs.Slotted.{has_row}
 use Rattle.ns_acl.proofs.tables.has_row.Goals as goal
 
 pub returns : goal.returns

@@ -1,13 +1,13 @@
 use Rattle.std.proofs.Common.{◌≡◌, ◌++◌, Bool, length}
 use Rattle.std.specs.Prelude.{filter, map}
-use Rattle.std.specs.Fn.{FnReturnsAt}
 use Rattle.keyed.specs.Table.{row_list}
 use Rattle.ns_types.specs.State.Names.{Name}
+use Rattle.ns_tables.specs.Calls.{Tests}
 use Rattle.ns_tables.specs.Viewed.{namespace_shown}
 use Rattle.ns_tables.proofs.lists.show_namespaces.Given as goal
 
 abbrev pub invariant-loop-name : goal.invariant-loop-name
-invariant-loop-name g l = (passes : Name → Bool) → ((name : Name) (b : Bool) → FnReturnsAt g.F.Fn l.shows name b → b ≡ passes name)
+invariant-loop-name g l = (passes : Name → Bool) → Tests g.F.Fn l.shows passes
     → l.shown ++ map namespace_shown (filter (λ e. passes e.0) (row_list l.rest)) ≡ map namespace_shown (filter (λ e. passes e.0) (row_list l.fn.slots))
 
 abbrev pub decreases-loop-name : goal.decreases-loop-name

@@ -25,15 +25,15 @@ loop-name-preserved c =
           let at = ap (λ acl. get acl.policies name) (sym c.self.view_is) ∙ row_found _ _ _ (sym c.get.ensures ∙ ap option_copied w.in-Some.is) in
           w.gathered-is ∙ w.with_rules-gathered.ensures (rules_of acl kind before) c.loop-name.invariant
           ∙ ap (gathered c.args.target.now) (ap (λ rules. rules_of acl kind before ++ filter (is_of_kind kind) rules) w.as_slice.ensures ∙
-              sym (rules-there acl kind before name w.in-Some.policy.now at) ∙ ap (rules_of acl kind) (sym more))
+          sym (rules-there acl kind before name w.in-Some.policy.now at) ∙ ap (rules_of acl kind) (sym more))
       | in_default w ↦
           let at = ap (λ acl. get acl.policies name) (sym c.self.view_is) ∙ row_found _ _ _ (sym c.get.ensures ∙ ap option_copied w.in_default.is) in
           w.gathered-is ∙ c.loop-name.invariant ∙
-              ap (gathered c.args.target.now) (sym (rules-absent acl kind before name at) ∙ ap (rules_of acl kind) (sym more))
+          ap (gathered c.args.target.now) (sym (rules-absent acl kind before name at) ∙ ap (rules_of acl kind) (sym more))
     ]
 
 pub returns : goal.returns
 returns c = c.grants.ensures c.args.target.now (rules_of c.args.self.now c.args.kind c.args.policies.now)
     (c.loop-name.invariant ∙ ap (λ names. gathered c.args.target.now (rules_of c.args.self.now c.args.kind names))
-        (take_all c.loop-name.name-index c.args.policies.now c.loop-name-test.false))
+    (take_all c.loop-name.name-index c.args.policies.now c.loop-name-test.false))
     ∙ granted_is c.args.self.now c.args.kind c.args.policies.now c.args.target.now

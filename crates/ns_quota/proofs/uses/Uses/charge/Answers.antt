@@ -3,11 +3,13 @@ use Rattle.std.proofs.Common.{ap, ◌∙◌}
 use Rattle.std.specs.FinMap.{insert}
 use Rattle.ns_types.specs.State.Resources.{plus}
 use Rattle.ns_quota.specs.Totals.{total_of}
-use Rattle.ns_quota.proofs.Changes.{set_new, slot_made}
+use Rattle.keyed.proofs.Tables.{slot_made}
+use Rattle.ns_types.proofs.Named.{names}
+use Rattle.ns_quota.proofs.Changes.{set_new}
 use Rattle.ns_quota.proofs.uses.Uses.charge.Goals as goal
 
 pub set-requires : goal.set-requires
-set-requires c = slot_made _ _ _ c.in_ok-reserve.ensures.ok
+set-requires c = slot_made names _ _ _ c.in_ok-reserve.ensures.ok
 
 pub returns-clause-ok : goal.returns-clause-ok
 returns-clause-ok c = set_new c.self.inside.totals c.args.self.now c.self.view_is c.args.quota.now c.reserve.new.self c.set.new.self

@@ -12,4 +12,4 @@ returns-clause-rows c = ap rows c.set.ensures ∙ rows-set numbers one_number _ 
 pub returns-clause-kept : goal.returns-clause-kept
 returns-clause-kept c q h =
     subst (λ m. IsTrue (has_slot m q)) (sym (c.set.ensures ∙ ap (λ s. table.insert s.evaluations (s.evaluation_number + 1) (Some c.args.evaluation))
-        c.self.view_is)) (has_slot-insert numbers _ _ _ q h)
+    c.self.view_is)) (has_slot-insert numbers _ _ _ q h)

@@ -14,4 +14,4 @@ unfolding any_row
 returns c =
     c.any_open.ensures ∙ ap (list_any (at_slot is_unfinished)) (c.as_slice.ensures ∙ ap (λ s. table.entries s.evaluations) c.self.view_is)
     ∙ any-at_slot nat_cmp is_unfinished (table.entries c.args.self.now.evaluations) ∙
-        ap (list_any is_unfinished) (sym (entries-rows c.args.self.now.evaluations))
+    ap (list_any is_unfinished) (sym (entries-rows c.args.self.now.evaluations))

@@ -15,4 +15,4 @@ returns c =
     let job = c.args.id.now in
     c.any_pending.ensures ∙ ap (list_any (at_slot (is_waiting job))) (c.as_slice.ensures ∙ ap (λ s. table.entries s.evaluations) c.self.view_is)
     ∙ any-at_slot nat_cmp (is_waiting job) (table.entries c.args.self.now.evaluations) ∙
-        ap (list_any (is_waiting job)) (sym (entries-rows c.args.self.now.evaluations))
+    ap (list_any (is_waiting job)) (sym (entries-rows c.args.self.now.evaluations))

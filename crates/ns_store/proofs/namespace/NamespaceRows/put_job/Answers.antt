@@ -11,4 +11,4 @@ returns-clause-rows c = ap rows c.set.ensures ∙ rows-set names one_name _ _ _ 
 pub returns-clause-kept : goal.returns-clause-kept
 returns-clause-kept c q h =
     subst (λ m. IsTrue (has_slot m q)) (sym (c.set.ensures ∙ ap (λ s. table.insert s.jobs c.args.id.now (Some c.args.job)) c.self.view_is))
-        (has_slot-insert names _ _ _ q h)
+    (has_slot-insert names _ _ _ q h)

@@ -1,16 +1,20 @@
-use Rattle.std.proofs.Common.{◌∙◌, IsTrue, sym, ap, subst}
+use Rattle.std.proofs.Common.{◌≡◌, ◌∙◌, sym, ap}
+use Rattle.std.specs.FinMap.{remove}
 use Rattle.ns_types.proofs.Named.{numbers, one_number}
-use Rattle.keyed.specs.Table.{rows, has_slot, with_slot}
-use Rattle.keyed.proofs.Tables.{rows-with_slot, has_slot-with_slot, has_slot-with_slot_here}
+use Rattle.keyed.proofs.Tables.{remove-with_slot}
 use Rattle.ns_store.proofs.namespace.NamespaceRows.reserve_evaluation.Goals as goal
 
-pub returns-clause-rows : goal.returns-clause-rows
-returns-clause-rows c = ap rows c.in_ok-reserve.ensures.ok ∙ rows-with_slot numbers one_number _ _ ∙ ap (λ s. rows s.evaluations) c.self.view_is
-
-pub returns-clause-slot : goal.returns-clause-slot
-returns-clause-slot c = subst (λ m. IsTrue (has_slot m c.args.number)) (sym c.in_ok-reserve.ensures.ok) (has_slot-with_slot_here numbers _ _)
-
-pub returns-clause-kept : goal.returns-clause-kept
-returns-clause-kept c q h =
-    subst (λ m. IsTrue (has_slot m q)) (sym (c.in_ok-reserve.ensures.ok ∙ ap (λ s. with_slot s.evaluations c.args.number) c.self.view_is))
-        (has_slot-with_slot numbers _ _ q h)
+pub returns-then-not-was_there-clause-refused : goal.returns-then-not-was_there-clause-refused
+returns-then-not-was_there-clause-refused c =
+    let gone : c.remove.new.self ≡ c.self.inside.evaluations =
+    c.remove.ensures ∙ ap (λ m. remove m c.args.number) c.in_ok-reserve.ensures.ok
+    ∙ remove-with_slot numbers one_number _ _ (sym c.has_slot-was_there.ensures ∙ c.if-not-was_there.true) in
+    (λ i. record {
+      index = c.self.inside.index;
+      evaluation_number = c.self.inside.evaluation_number;
+      allocation_number = c.self.inside.allocation_number;
+      jobs = c.self.inside.jobs;
+      evaluations = gone i;
+      events = ap (λ e. e.events) c.in-Err.ensures.refused i;
+      room = ap (λ e. e.room) c.in-Err.ensures.refused i;
+    }) ∙ c.self.view_is

@@ -10,7 +10,7 @@ use Rattle.ns_tables.proofs.tables.Tables.changes_limits.Goals as goal
 pub returns-in-Some : goal.returns-in-Some
 returns-in-Some c ready = ap not (c.same_limits.ensures ∙ (λ i. same_limits (c.limits_in.ensures i) (c.limits_in-in-Some.ensures i)))
     ∙ sym (ap (λ x. option_map_or (λ old. changes_limits old (with_quota c.args.quota.now (Some old))) x false)
-        (quota_at c.args.self.now ready c.args.name.now (Some c.in-Some.old.now) (sym c.get.ensures ∙ ap option_copied c.in-Some.is)))
+    (quota_at c.args.self.now ready c.args.name.now (Some c.in-Some.old.now) (sym c.get.ensures ∙ ap option_copied c.in-Some.is)))
 
 pub returns-in-None : goal.returns-in-None
 returns-in-None c ready = sym (ap (λ x. option_map_or (λ old. changes_limits old (with_quota c.args.quota.now (Some old))) x false)

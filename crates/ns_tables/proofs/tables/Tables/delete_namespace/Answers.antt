@@ -10,8 +10,10 @@ use Rattle.ns_tables.proofs.tables.Tables.delete_namespace.Goals as goal
 
 pub returns-in_default : goal.returns-in_default
 unfolding delete_namespace
-returns-in_default c ready = (found_none _ _ (tenant_at c.args.self.now ready c.args.name.now None (sym c.get.ensures ∙ ap option_copied c.in_default.is)),
-    refl)
+returns-in_default c ready = (
+  found_none _ _ (tenant_at c.args.self.now ready c.args.name.now None (sym c.get.ensures ∙ ap option_copied c.in_default.is)),
+  refl,
+)
 
 pub returns-then-is_default : goal.returns-then-is_default
 unfolding delete_namespace

@@ -13,8 +13,10 @@ use Rattle.ns_tables.proofs.tables.Tables.delete_quota.Goals as goal
 
 pub returns-then-not-has_quota : goal.returns-then-not-has_quota
 unfolding delete_quota
-returns-then-not-has_quota c ready = (found_absent _ _ (quota_there c.args.self.now ready c.args.name.now ∙ sym c.has_quota.ensures ∙ c.if-not-has_quota.true),
-    refl)
+returns-then-not-has_quota c ready = (
+  found_absent _ _ (quota_there c.args.self.now ready c.args.name.now ∙ sym c.has_quota.ensures ∙ c.if-not-has_quota.true),
+  refl,
+)
 
 pub returns-then-any_names_quota : goal.returns-then-any_names_quota
 unfolding delete_quota

@@ -1,9 +1,9 @@
 use Rattle.std.proofs.Common.{refl, sym, ap, ◌∙◌}
 use Rattle.ns_types.specs.declared.reply.Content.TheVariants as Content
 use Rattle.ns_types.specs.Asking.Admins.{put_quota}
-use Rattle.ns_types.specs.Settling.Outcome.{Done}
-use Rattle.ns_tables.specs.Viewed.{quota_of}
-use Rattle.ns_tables.proofs.Outcomes.{unless_not, unless_so}
+use Rattle.ns_types.specs.Settling.Outcome.{Done, is_done}
+use Rattle.ns_tables.specs.Viewed.{quota_of, world_of}
+use Rattle.ns_tables.proofs.Outcomes.{memory_last, unless_not, unless_so}
 use Rattle.ns_tables.proofs.Written.{full_at}
 use Rattle.ns_tables.proofs.tables.Tables.put_quota.Goals as goal
 
@@ -15,3 +15,9 @@ pub returns : goal.returns
 unfolding put_quota
 returns c ready = unless_not _ _ _ (full_at quota_of c.args.self.now.quotas c.args.name.now ∙ sym c.is_full.ensures ∙ c.if-is_full.false)
     ∙ ap (Done Content.Written) (sym (c.in_ok-write_quota.ensures.done ready))
+
+pub returns-in_err-write_quota : goal.returns-in_err-write_quota
+unfolding put_quota
+returns-in_err-write_quota c ready = memory_last _ _ _ c.from_residual.result c.from_residual.ensures.1
+    (ap is_done (unless_not _ _ _ (full_at quota_of c.args.self.now.quotas c.args.name.now ∙ sym c.is_full.ensures ∙ c.if-is_full.false)))
+    (ap (world_of ready) c.in_err-write_quota.ensures.refused)

@@ -1,10 +1,9 @@
 use Rattle.std.specs.Prelude.{Some, None}
 use Rattle.std.proofs.Common.{refl, sym, ap, ◌∙◌}
 use Rattle.std.specs.Option.{option_copied}
-use Rattle.ns_types.specs.declared.reply.Content.TheVariants as Content
-use Rattle.ns_types.specs.Settling.Outcome.{Done}
+use Rattle.ns_types.specs.Settling.Outcome.{Done, is_done}
 use Rattle.ns_tables.specs.Viewed.{world_of}
-use Rattle.ns_tables.proofs.Outcomes.{found_none, found_some}
+use Rattle.ns_tables.proofs.Outcomes.{found_none, found_some, memory_last}
 use Rattle.ns_tables.proofs.World.{quota_at}
 use Rattle.ns_tables.proofs.tables.Tables.read_quota.Goals as goal
 
@@ -13,5 +12,10 @@ returns-in_default c ready = (found_none _ _ (quota_at c.args.self.now ready c.a
 
 pub returns : goal.returns
 returns c ready = found_some _ _ _ (quota_at c.args.self.now ready c.args.name.now (Some c.in-Some.row.now) (sym c.get.ensures ∙ ap option_copied c.in-Some.is))
-    ∙ (λ i. Done (Content.Quota (record { name = sym c.in_ok-clone.ensures.cases i; row = sym c.in_ok-clone-2.ensures.cases i }))
-        (world_of ready c.args.self.now))
+    ∙ ap (λ content. Done content (world_of ready c.args.self.now)) (sym c.in_ok-content.ensures)
+
+pub returns-in_err-content : goal.returns-in_err-content
+returns-in_err-content c ready = memory_last _ _ _ c.from_residual.result c.from_residual.ensures.1
+    (ap is_done (found_some _ _ _ (quota_at c.args.self.now ready c.args.name.now (Some c.in-Some.row.now)
+    (sym c.get.ensures ∙ ap option_copied c.in-Some.is))))
+    refl

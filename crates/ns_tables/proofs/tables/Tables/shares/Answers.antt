@@ -16,7 +16,7 @@ unfolding shares
 returns-in_default c ready =
     let w = world_of ready c.args.self.now in
     sym (ap (λ x. option_map_or (shares_with_any w c.args.name.now) x true)
-        (tenant_at c.args.self.now ready c.args.name.now None (sym c.get.ensures ∙ ap option_copied c.in_default.is)))
+    (tenant_at c.args.self.now ready c.args.name.now None (sym c.get.ensures ∙ ap option_copied c.in_default.is)))
 
 pub returns-then-not-is_confined : goal.returns-then-not-is_confined
 unfolding shares
@@ -27,7 +27,7 @@ returns-then-not-is_confined c ready =
     let others = any_row (λ name other. not (same_name name ns) && overlaps x.namespace other.namespace) w.tenants in
     ap not c.if-not-is_confined.true ∙ sym (ap (λ b. not b || others) (sym c.is_confined.ensures ∙ c.if-not-is_confined.true))
     ∙ sym (ap (λ x. option_map_or (shares_with_any w ns) x true)
-        (tenant_at c.args.self.now ready ns (Some x) (sym c.get.ensures ∙ ap option_copied c.in-Some.is)))
+    (tenant_at c.args.self.now ready ns (Some x) (sym c.get.ensures ∙ ap option_copied c.in-Some.is)))
 
 pub returns-else-not-is_confined : goal.returns-else-not-is_confined
 unfolding shares
@@ -40,4 +40,4 @@ returns-else-not-is_confined c ready =
     ∙ sym (any_row-table_of (λ _ x. tenant_of x) (λ name other. not (same_name name ns) && overlaps x.namespace other.namespace) c.args.self.now.tenants)
     ∙ sym (ap (λ b. not b || others) (sym c.is_confined.ensures ∙ c.if-not-is_confined.false))
     ∙ sym (ap (λ x. option_map_or (shares_with_any w ns) x true)
-        (tenant_at c.args.self.now ready ns (Some x) (sym c.get.ensures ∙ ap option_copied c.in-Some.is)))
+    (tenant_at c.args.self.now ready ns (Some x) (sym c.get.ensures ∙ ap option_copied c.in-Some.is)))
