@@ -1,61 +1,94 @@
--- What a registration answers, by its first refusal.
-use Rattle.std.specs.Prelude.{◌≡◌, Bool, true, false, not, ◌||◌, nat_lt, Option, Some, None, Ok, Err, if◌then◌else◌}
+-- What the calls answer: a registration by its first refusal, and what memory is wanted for.
+use Rattle.std.specs.Prelude.{◌≡◌, ◌≢◌, Bool, true, false, not, cond, Option, Some, None, Result, Ok, Err}
 use Rattle.std.proofs.Common.{refl, sym, ap, subst, ◌∙◌}
-use Rattle.std.specs.FinMap.{get, contains_key}
+use Rattle.std.specs.FinMap.{get}
+use Rattle.std.specs.Result.{IsErrAnd}
 use Rattle.ns_types.specs.declared.job.Registration.{Registration}
 use Rattle.ns_types.specs.declared.refusal.Member.TheVariants as Member
 use Rattle.ns_types.specs.declared.refusal.Refusal.{Refusal}
 use Rattle.ns_types.specs.declared.refusal.Refusal.TheVariants as Refusal
+use Rattle.ns_types.specs.declared.reply.Reply.{Reply}
+use Rattle.ns_types.specs.declared.step.AskCommand.{AskCommand}
 use Rattle.ns_types.specs.declared.step.AskCommand.TheVariants as AskCommand
+use Rattle.ns_types.specs.declared.step.Step.{Step}
 use Rattle.ns_types.specs.declared.step.Step.TheVariants as Step
-use Rattle.ns_types.specs.Asking.Asks.{pool_of}
+use Rattle.ns_types.specs.Asking.Asks.{first_refusal, has_no_room, is_outdated, pool_of}
 use Rattle.ns_types.specs.State.Names.{Name}
 use Rattle.ns_types.specs.Access.Rights.{rights_of}
-use Rattle.ns_types.specs.State.Rows.{State, Tenant}
+use Rattle.ns_types.specs.State.Rows.{State, Tenant, World}
 use Rattle.ns_types.specs.Access.Sharing.{permits}
-use Rattle.ns_types.specs.Steps.{Answer, Makes, after, said, is_past_bound, greatest}
+use Rattle.ns_types.specs.Steps.{Answer, Makes, after, is_made, said}
+use Rattle.ns_types.proofs.Lists.{not_both}
+use Rattle.ns_types.proofs.Registrations.{by_tests}
+use Rattle.ns_types.proofs.Tests.{same_Some}
+use Rattle.std.specs.FinMap.{contains_key}
 use Rattle.ns_steps.specs.Early.{IsEarly}
-use Rattle.ns_steps.specs.Registered.{IsRegistrable, has_no_room, is_outdated, next_index, next_number, registered_reply, registered_state}
+use Rattle.ns_steps.specs.Registered.{passes_bound, registered_reply, registered_state}
+use Rattle.ns_steps.specs.Served.{IsServedAsk, only_reads, served_ask}
 use Rattle.ns_steps.proofs.Early.{fresh}
-use Rattle.ns_steps.proofs.Steps.{register_not_permitted, register_no_pool, register_outdated, register_no_room, register_over, register_done}
-use Rattle.ns_core.specs.Refusing.{passes_bound, refusal_of}
+use Rattle.ns_steps.proofs.Steps.{register_tested, register_over, register_done}
 
--- what follows the first refusal, or that there is none
-abbrev pub Concludes : State → Name → Option Name → Registration → Tenant → Option Refusal → Type 0
-Concludes s ns secret r t (Some refusal) = Makes (Step.Ask ns secret (AskCommand.Register r)) s (Err refusal) s
-Concludes s ns secret r t None = (passes_bound t ≡ false)
-    × (after (Step.Ask ns secret (AskCommand.Register r)) s ≡ said (Ok (registered_reply r t)) (registered_state ns r s t))
+-- ---- want of memory
 
+-- a step that would have been made, and that memory was refused for
+pub memory_made : (step : Step) (s s' : State) (result : Answer) → IsErrAnd result (λ refusal. refusal ≡ Refusal.Memory)
+    → is_made (after step s) ≡ true → s' ≡ s → Makes step s result s'
+memory_made step s s' (Ok reply) e made same = absurd e
+memory_made step s s' (Err refusal) e made same = subst (λ refusal. Makes step s (Err refusal) s') (sym e) (made, same)
+
+-- ---- a registration
+
+-- its first refusal can be no want of memory, and it is never out of turn
 module _ (s : State) (ns : Name) (secret : Option Name) (r : Registration) (t : Tenant)
     (allowed : (rights_of s.acl secret ns).submit_job ≡ true) (tenant : get s.world.tenants ns ≡ Some t) (early : IsEarly s.world) where
-  can : permits t.namespace (pool_of t r) ≡ true → contains_key s.world.pools (pool_of t r) ≡ true → is_outdated r t ≡ false → has_no_room r t ≡ false →
-      IsRegistrable s ns secret r t
-  can p q c m = record { allowed = allowed; tenant = tenant; permitted = p; pool = q; current = c; room = m }
+  answers_so : (refusal : Refusal) → first_refusal s.world t r ≡ Some refusal → (permitted there outdated full : Bool)
+      → by_tests permitted there outdated full ≡ Some refusal → Makes (Step.Ask ns secret (AskCommand.Register r)) s (Err refusal) s
+  answers_so refusal is permitted there outdated full e =
+      by permitted there outdated full e
+    where
+      says : (x : Refusal) → Some x ≡ Some refusal
+          → (after (Step.Ask ns secret (AskCommand.Register r)) s ≡ said (Err x) s → Makes (Step.Ask ns secret (AskCommand.Register r)) s (Err x) s)
+          → Makes (Step.Ask ns secret (AskCommand.Register r)) s (Err refusal) s
+      says x e made = subst (λ y. Makes (Step.Ask ns secret (AskCommand.Register r)) s (Err y) s) (same_Some x refusal e)
+          (made (register_tested s ns secret r t allowed tenant x (is ∙ sym e)))
 
-  after_all : permits t.namespace (pool_of t r) ≡ true → contains_key s.world.pools (pool_of t r) ≡ true → is_outdated r t ≡ false → (a b : Bool) →
-      has_no_room r t ≡ a → passes_bound t ≡ b
-      → Concludes s ns secret r t (if a || b then Some Refusal.Full else None)
-  after_all p q k true b m i = (register_no_room s ns secret r t allowed tenant p q k m, refl)
-  after_all p q k false true m i = (register_over s ns secret r t (can p q k m) (fresh s.world ns t early tenant) early.within i, refl)
-  after_all p q k false false m i = (i, register_done s ns secret r t (can p q k m) (fresh s.world ns t early tenant) early.within i)
+      by : (permitted there outdated full : Bool) → by_tests permitted there outdated full ≡ Some refusal
+          → Makes (Step.Ask ns secret (AskCommand.Register r)) s (Err refusal) s
+      by false b c d e = says Refusal.PoolNotPermitted e (λ h. (h, refl))
+      by true false c d e = says (Refusal.BadField Member.NodePool) e (λ h. (h, refl))
+      by true true true d e = says Refusal.Conflict e (λ h. (h, refl))
+      by true true false true e = says Refusal.Full e (λ h. (h, refl))
+      by true true false false e = not_both refl (ap is_none e)
+        where
+          is_none : Option Refusal → Bool
+          is_none None = true
+          is_none (Some x) = false
 
-  after_pool : permits t.namespace (pool_of t r) ≡ true → contains_key s.world.pools (pool_of t r) ≡ true → (k : Bool) → is_outdated r t ≡ k
-      → Concludes s ns secret r t (if k then Some Refusal.Conflict else if has_no_room r t || passes_bound t then Some Refusal.Full else None)
-  after_pool p q true k = (register_outdated s ns secret r t allowed tenant p q k, refl)
-  after_pool p q false k = after_all p q k (has_no_room r t) (passes_bound t) refl refl
+  pub register_refuses : (refusal : Refusal) → first_refusal s.world t r ≡ Some refusal
+      → Makes (Step.Ask ns secret (AskCommand.Register r)) s (Err refusal) s
+  register_refuses refusal is = answers_so refusal is (permits t.namespace (pool_of t r)) (contains_key s.world.pools (pool_of t r)) (is_outdated r t)
+      (has_no_room r t) is
 
-  after_permit : permits t.namespace (pool_of t r) ≡ true → (q : Bool) → contains_key s.world.pools (pool_of t r) ≡ q
-      → Concludes s ns secret r t (if not q then Some (Refusal.BadField Member.NodePool) else if is_outdated r t then Some Refusal.Conflict
-          else if has_no_room r t || passes_bound t then Some Refusal.Full else None)
-  after_permit p false q = (register_no_pool s ns secret r t allowed tenant p q, refl)
-  after_permit p true q = after_pool p q (is_outdated r t) refl
+  module _ (none : first_refusal s.world t r ≡ None) where
+    pub register_exhausted : passes_bound t ≡ true → Makes (Step.Ask ns secret (AskCommand.Register r)) s (Err Refusal.Full) s
+    register_exhausted over = (register_over s ns secret r t allowed tenant none (fresh s.world ns t early tenant) early.within over, refl)
 
-  from_permit : (p : Bool) → permits t.namespace (pool_of t r) ≡ p
-      → Concludes s ns secret r t (if not p then Some Refusal.PoolNotPermitted else if not (contains_key s.world.pools (pool_of t r))
-          then Some (Refusal.BadField Member.NodePool) else if is_outdated r t then Some Refusal.Conflict else if has_no_room r t || passes_bound t
-          then Some Refusal.Full else None)
-  from_permit false p = (register_not_permitted s ns secret r t allowed tenant p, refl)
-  from_permit true p = after_permit p (contains_key s.world.pools (pool_of t r)) refl
+    pub register_leads : passes_bound t ≡ false
+        → after (Step.Ask ns secret (AskCommand.Register r)) s ≡ said (Ok (registered_reply r t)) (registered_state ns r s t)
+    register_leads fits = register_done s ns secret r t allowed tenant none (fresh s.world ns t early tenant) early.within fits
 
-  pub concludes : Concludes s ns secret r t (refusal_of s.world t r)
-  concludes = from_permit (permits t.namespace (pool_of t r)) refl
+    -- so where memory is wanted for it, it would have been made
+    pub register_wants : passes_bound t ≡ false → is_made (after (Step.Ask ns secret (AskCommand.Register r)) s) ≡ true
+    register_wants fits = ap is_made (register_leads fits)
+
+-- ---- other commands in a namespace
+
+-- of the commands that are served, all but a registration only read
+pub only_reads_else : (command : AskCommand) → IsServedAsk command → ((r : Registration) → command ≡ AskCommand.Register r → ⊥) →
+    only_reads (served_ask command) ≡ true
+only_reads_else (AskCommand.Register r) served other = absurd (other r refl)
+only_reads_else (AskCommand.ReadJob id) served other = refl
+only_reads_else (AskCommand.ListJobs prefix) served other = refl
+only_reads_else AskCommand.ReadNamespace served other = refl
+only_reads_else (AskCommand.QuotaUsage quota) served other = refl
+only_reads_else _ served other = not_both served refl

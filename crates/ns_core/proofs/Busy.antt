@@ -16,7 +16,7 @@ use Rattle.ns_types.specs.Working.Queue.{is_busy, is_of_job}
 use Rattle.ns_types.specs.State.Rows.{World, Tenant, evaluation_at}
 use Rattle.ns_tables.specs.declared.tables.TenantRows.{TenantRows}
 use Rattle.ns_tables.specs.Viewed.{tenant_of}
-use Rattle.ns_tables.proofs.Viewing.{any_row-empty}
+use Rattle.ns_types.proofs.TableRows.{any_row-empty}
 use Rattle.ns_tables.proofs.World.{pool_at as pool_at_name, tenant_at as tenant_at_name}
 use Rattle.ns_core.specs.declared.parts.Parts.{Parts}
 use Rattle.ns_core.specs.Viewed.{entry_of_job, world_of}

@@ -27,24 +27,14 @@ use Rattle.ns_steps.specs.Early.{IsEarly}
 use Rattle.ns_steps.proofs.Registering.{all_within}
 use Rattle.ns_steps.proofs.Resting.{Rests}
 use Rattle.ns_core.specs.Held.{HasFewVersions, IsHeld}
-use Rattle.ns_core.specs.Viewed.{is_exhausted}
-
--- ---- a change of a part is one of the whole
-
-module _ {A B : Type 0} (whole : A → B) where
-  pub changes_lift : (o : Outcome A) (a a' : A) (result : Result Content Refusal) → Changes o a result a' → Changes (lift whole o) (whole a) result (whole a')
-  changes_lift o a a' (Ok content) h = ap (lift whole) h
-  changes_lift o a a' (Err refusal) h = by refusal h
-    where
-      by : (r : Refusal) → Changes o a (Err r) a' → Changes (lift whole o) (whole a) (Err r) (whole a')
-      by Refusal.Memory h = ap whole h
-      by r h = (ap (lift whole) h.0, ap whole h.1)
+use Rattle.ns_tables.specs.Viewed.{is_exhausted}
+use Rattle.ns_core.specs.Viewed.{exhausts}
 
 -- ---- a quota's release number
 
 module _ (w : World) (name : Name) (quota : Quota) (early : IsEarly w) where
   -- it passes its bound exactly where the limits change and it is the last
-  pub release_passes : nat_lt greatest (relimited w name quota).release ≡ (is_relimited w name quota && is_exhausted w name)
+  pub release_passes : nat_lt greatest (relimited w name quota).release ≡ exhausts w name quota
   release_passes = by (get w.quotas name) refl (is_relimited w name quota)
     where
       fits : (old : QuotaRows) → get w.quotas name ≡ Some old → nat_lt greatest old.release ≡ false
@@ -58,19 +48,6 @@ module _ (w : World) (name : Name) (quota : Quota) (early : IsEarly w) where
       by (Some old) is true = ap (λ o. nat_lt greatest (option_map_or (λ q. q.release) o 0 + 1)) is ∙
           sym (ap (λ o. option_map_or (λ q. nat_lt greatest (q.release + 1)) o false) is)
       by (Some old) is false = ap (λ o. nat_lt greatest (option_map_or (λ q. q.release) o 0)) is ∙ fits old is
-
--- the last number is the greatest
-pub last_release : (n : ℕ) → nat_le (2 ^ 64 - 1) n ≡ nat_lt greatest (n + 1)
-last_release n = elim (leb_tells greatest n) [
-  | inl is ↦ elim (leb_tells (2 ^ 64) (n + 1)) [ inl more ↦ is.0 ∙ sym more.0 | inr less ↦ let a : greatest ≤ n = is.1 in let b : n + 1 < 2 ^ 64 = less.1 in
-      absurd (omega arith) ]
-  | inr not ↦ elim (leb_tells (2 ^ 64) (n + 1)) [ inl more ↦ let a : n < greatest = not.1 in let b : 2 ^ 64 ≤ n + 1 = more.1 in absurd (omega arith)
-      | inr less ↦ not.0 ∙ sym less.0 ]
-]
-
-pub not-not : (b : Bool) → not (not b) ≡ b
-not-not true = refl
-not-not false = refl
 
 -- a row put twice is put once
 pub put_twice : {X : Type 0} (m : ByName X) (k : Name) (u v : X) → insert (insert m k u) k v ≡ insert m k v

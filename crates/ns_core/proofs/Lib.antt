@@ -4,6 +4,6 @@ pub mod Busy
 pub mod Lists
 pub mod Opening
 pub mod Putting
-pub mod Ties
+pub mod Texts
 pub mod Changing
 pub mod Quotas

@@ -15,4 +15,4 @@ module _ {X : Type 0} where
       ap (λ zs. drop (length zs - n) zs) (sym (drop-append-le k xs ys (omega arith)))
       ∙ drop-drop (length (drop k (xs ++ ys)) - n) k (xs ++ ys)
       ∙ ap (λ m. drop m (xs ++ ys)) (ap (λ m. k + (m - n)) (length-drop k (xs ++ ys) ∙ ap (λ m. m - k) (length-append xs ys)) ∙ seam n (length xs) (length ys) ∙
-          sym (ap (λ m. m - n) (length-append xs ys)))
+      sym (ap (λ m. m - n) (length-append xs ys)))

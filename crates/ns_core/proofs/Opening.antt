@@ -8,7 +8,7 @@ use Rattle.ns_types.specs.State.Names.{Key, Name, name_cmp, default_name}
 use Rattle.ns_types.specs.State.Rows.{Acl, Tenant}
 use Rattle.ns_types.specs.Steps.{opening, opening_acl, opening_tenant, opening_world}
 use Rattle.ns_steps.proofs.Early.{opening_early}
-use Rattle.ns_steps.proofs.Rows.{same_Some}
+use Rattle.ns_types.proofs.Tests.{same_Some}
 use Rattle.ns_tables.specs.declared.tables.Tables.{Tables}
 use Rattle.ns_tables.specs.Viewed.{world_of as world_of_tables}
 use Rattle.ns_core.specs.Held.{HasFewVersions, IsHeld}

@@ -1,20 +1,19 @@
 -- A namespace's rows, taken out of the tables, changed and set back.
-use Rattle.std.specs.Prelude.{
-    ◌≡◌, ℕ, ◌+◌, ◌≤◌, ◌<◌, ◌^◌, ◌-◌, ◌||◌, ◌&&◌, not, Bool, true, false, cond, if◌then◌else◌, List, [], ◌∷◌, ◌++◌, map,
-    nat_lt, Option, Some, None, Ok, IsTrue, option_map
-}
+use Rattle.std.specs.Prelude.{◌≡◌, ℕ, ◌+◌, ◌≤◌, ◌<◌, ◌^◌, ◌-◌, ◌||◌, ◌&&◌, not, Bool, true, false, cond, if◌then◌else◌, List, [], ◌∷◌, ◌++◌, map, nat_lt}
+use Rattle.std.specs.Prelude.{Option, Some, None, Ok, IsTrue, option_map}
 use Rattle.std.proofs.Common.{refl, sym, ap, subst, ◌∙◌, arith}
-use Rattle.std.specs.FinMap.{FinMap, get, get-insert, insert}
+use Rattle.std.specs.FinMap.{FinMap, empty, get, get-insert, insert}
 use Rattle.std.specs.Ordering.{eq_by_cmp}
-use Rattle.keyed.specs.Table.{emptied, has_slot, row_at, rows}
-use Rattle.keyed.proofs.Tables.{has_slot-insert_here, has_slot-row, rows-put_back}
+use Rattle.keyed.specs.Table.{emptied, flat, has_slot, row_at, rows}
+use Rattle.keyed.proofs.Tables.{has_slot-insert_here, has_slot-row, insert-emptied, rows-put_back, rows-with_slot, slot_made}
 use Rattle.ns_types.specs.declared.event.Event.{Event}
 use Rattle.ns_types.specs.declared.event.Topic.TheVariants as Topic
 use Rattle.ns_types.specs.declared.job.Document.{Document}
 use Rattle.ns_types.specs.declared.job.Job.{Job}
 use Rattle.ns_types.specs.declared.job.Registration.{Registration}
-use Rattle.ns_types.proofs.Named.{names, one_name}
-use Rattle.ns_types.proofs.Tables.{insert_same, tied}
+use Rattle.ns_types.proofs.Named.{names, numbers, one_name, one_number}
+use Rattle.ns_store.specs.Stored.{GainsSlots, Stored}
+use Rattle.ns_types.proofs.Tables.{insert_same, table_of-insert, tied}
 use Rattle.ns_types.specs.Asking.Asks.{document_of, registered_job}
 use Rattle.ns_types.specs.State.Lists.{last}
 use Rattle.ns_types.specs.State.Names.{Name, name_cmp}
@@ -23,21 +22,18 @@ use Rattle.ns_types.specs.State.Rows.{World, Tenant}
 use Rattle.ns_types.specs.Settling.Same.{same_document}
 use Rattle.ns_types.specs.State.Tables.{table_of}
 use Rattle.ns_steps.specs.Early.{IsEarly}
-use Rattle.ns_steps.specs.Registered.{
-    is_news, job_of, made_events, next_index, next_number, registered_reply, registered_state, registered_tenant,
-    registered_world
-}
+use Rattle.ns_steps.specs.Registered.{is_news, job_of, made_events, next_index, next_number, passes_bound, registered_reply, registered_state}
+use Rattle.ns_steps.specs.Registered.{registered_tenant, registered_world}
 use Rattle.ns_steps.proofs.Early.{registered_early}
-use Rattle.ns_steps.proofs.Rows.{same_Some}
-use Rattle.ns_core.specs.declared.registering.Made.{Made}
-use Rattle.ns_tables.specs.Viewed.{tenant_of}
-use Rattle.ns_tables.proofs.Viewing.{table_of-insert}
+use Rattle.ns_types.proofs.Tests.{not_Some, same_Some}
+use Rattle.ns_core.specs.declared.registration.Made.{Made}
+use Rattle.ns_tables.specs.Viewed.{tenant_of, world_of as world_of_tables}
 use Rattle.ns_core.specs.declared.parts.Parts.{Parts}
 use Rattle.ns_tables.specs.declared.tables.TenantRows.{TenantRows}
 use Rattle.ns_core.specs.Held.{HasFewVersions, IsHeld}
-use Rattle.ns_core.specs.Making.{IsMade, events_made, job_event_of, with_made}
-use Rattle.ns_core.specs.Puts.{PutsMade, PutsRows, reply_with}
-use Rattle.ns_core.specs.Refusing.{passes_bound}
+use Rattle.ns_core.specs.Making.{IsMade, events_made, job_event_of, numbers_of, reply_with, with_made}
+use Rattle.ns_core.specs.declared.registration.TheConstants.{MADE_EVENTS}
+use Rattle.ns_core.specs.Puts.{HasBounds, HasRoomFor, KeepsAll, PutsMade, PutsRows}
 use Rattle.ns_core.specs.Viewed.{state_of, world_of}
 use Rattle.ns_core.proofs.Busy.{tenant_at}
 
@@ -53,42 +49,69 @@ module _ (t : Parts) (ns : Name) (x y : TenantRows) (at : row_at t.tables.tenant
       ∙ ap (λ m. table_of (λ _ x. tenant_of x) m) (rows-put_back names one_name t.tables.tenants ns y)
       ∙ table_of-insert names one_name (λ _ x. tenant_of x) (rows t.tables.tenants) ns y
 
-  pub put_same : (m n : FinMap name_cmp (Option TenantRows)) → m ≡ emptied t.tables.tenants ns → n ≡ insert m ns (Some y) → tenant_of y ≡ tenant_of x
-      → table_of (λ _ x. tenant_of x) (rows n) ≡ (world_of t).tenants
-  put_same m n e f same = put_back m n e f ∙ insert_same names one_name (world_of t).tenants ns (tenant_of y) (tenant_at t ns x at ∙ ap Some (sym same))
+  slot_of : (o : Option (Option TenantRows)) → flat o ≡ Some x → o ≡ Some (Some x)
+  slot_of None e = absurd (not_Some x e)
+  slot_of (Some None) e = absurd (not_Some x e)
+  slot_of (Some (Some z)) e = ap Some e
 
--- rows set back as they were leave the state
-pub kept_state : (old new : Parts) → (world_of new).tenants ≡ (world_of old).tenants → new.ready.items ≡ old.ready.items → new.tables.pools ≡ old.tables.pools →
-    new.tables.quotas ≡ old.tables.quotas → new.acl ≡ old.acl
-    → state_of new ≡ state_of old
-kept_state old new tenants ready pools quotas acl = λ i. record {
-  acl = acl i;
-  world = record (world_of old) {
-    tenants = tenants i;
-    pools = (world_of (record old { tables = record old.tables { pools = pools i } })).pools;
-    quotas = (world_of (record old { tables = record old.tables { quotas = quotas i } })).quotas;
-    ready = ready i;
-  };
-}
+  -- rows set back as they were leave rows and slots
+  pub put_kept : (m n : FinMap name_cmp (Option TenantRows)) → m ≡ emptied t.tables.tenants ns → n ≡ insert m ns (Some y) → y ≡ x → n ≡ t.tables.tenants
+  put_kept m n e f same = f ∙ ap (λ m. insert m ns (Some y)) e ∙ insert-emptied names one_name t.tables.tenants ns (Some y)
+      ∙ ap (λ z. insert t.tables.tenants ns (Some z)) same
+      ∙ insert_same names one_name t.tables.tenants ns (Some x) (slot_of (get t.tables.tenants ns) at)
+
+-- ---- room for a registration
+
+module _ (x : TenantRows) (s : Stored) (id : Name) (number : ℕ) (e : GainsSlots id number x.rows s) where
+  pub reserved_same : tenant_of (record x { rows = s }) ≡ tenant_of x
+  reserved_same = λ i. record {
+    namespace = x.namespace;
+    index = (e i).index;
+    evaluation_number = (e i).evaluation_number;
+    allocation_number = (e i).allocation_number;
+    jobs = (ap (λ s. rows s.jobs) e ∙ rows-with_slot names one_name x.rows.jobs id) i;
+    evaluations = (ap (λ s. rows s.evaluations) e ∙ rows-with_slot numbers one_number x.rows.evaluations number) i;
+    allocations = empty;
+    workers = empty;
+    events = (e i).events;
+  }
+
+  pub reserved_bounds : HasBounds x → HasBounds (record x { rows = s })
+  reserved_bounds h = record {
+    index = subst (λ s. s.index + 1 < 2 ^ 64) (sym e) h.index;
+    number = subst (λ s. s.evaluation_number + 1 < 2 ^ 64) (sym e) h.number;
+  }
+
+  pub reserved_room : number ≡ x.rows.evaluation_number + 1 → MADE_EVENTS ≤ s.room → HasRoomFor id (record x { rows = s })
+  reserved_room is fits = record {
+    job = slot_made names x.rows.jobs s.jobs id (ap (λ s. s.jobs) e);
+    evaluation = subst (λ n. IsTrue (has_slot s.evaluations n)) (is ∙ ap (λ s. s.evaluation_number + 1) (sym e))
+        (slot_made numbers x.rows.evaluations s.evaluations number (ap (λ s. s.evaluations) e));
+    events = fits;
+  }
+
+-- where all is as it was, so is the state
+pub kept_state : (old new : Parts) → KeepsAll old new → state_of new ≡ state_of old
+kept_state old new kept = λ i. record { acl = kept.acl i; world = world_of_tables (kept.ready i) (kept.tables i) }
 
 -- the tables afterwards, where nothing else was changed
 pub puts_rows : (old new : Parts) (ns id : Name) (made : Made) (waits : Bool) (x y : TenantRows) (m : FinMap name_cmp (Option TenantRows))
     → row_at old.tables.tenants ns ≡ Some x → m ≡ emptied old.tables.tenants ns → new.tables.tenants ≡ insert m ns (Some y)
-    → tenant_of y ≡ with_made id (x.rows.index + 1) made (tenant_of x)
+    → tenant_of y ≡ with_made id made (tenant_of x)
     → new.ready.items ≡ (if waits then old.ready.items else old.ready.items ++ made.key ∷ [])
     → new.tables.pools ≡ old.tables.pools → new.tables.quotas ≡ old.tables.quotas → new.acl ≡ old.acl → PutsMade old ns id made waits new
 puts_rows old new ns id made waits x y m at e f tenant ready pools quotas acl =
     λ z is. subst (PutsRows old ns id made waits new) (same_Some _ _ (sym at ∙ is)) (record {
-  tenants = put_back old ns x y at m new.tables.tenants e f ∙ ap (λ t. insert (world_of old).tenants ns t) tenant;
-  ready = ready;
-  pools = pools;
-  quotas = quotas;
-  acl = acl;
-})
+      tenants = put_back old ns x y at m new.tables.tenants e f ∙ ap (λ t. insert (world_of old).tenants ns t) tenant;
+      ready = ready;
+      pools = pools;
+      quotas = quotas;
+      acl = acl;
+    })
 
 -- ---- what was made is the registration's
 
-module _ (made : Made) (ns : Name) (r : Registration) (t : Tenant) (is : IsMade made ns r t) where
+module _ (made : Made) (ns : Name) (r : Registration) (t : Tenant) (is : IsMade ns r t made) where
   events_by : (b : Bool) → is_news (document_of t r) (get t.jobs r.id) ≡ b
       → events_made (job_event_of b r.id (next_index t)) (record { index = next_index t; topic = Topic.EvaluationUpdated (next_number t) }) ≡ made_events r t
   events_by true e = ap (λ b. map (λ topic. record { index = next_index t; topic = topic }) ((if b then Topic.JobRegistered r.id ∷ [] else []) ++
@@ -99,7 +122,7 @@ module _ (made : Made) (ns : Name) (r : Registration) (t : Tenant) (is : IsMade 
   events_are : events_made made.job_event made.evaluation_event ≡ made_events r t
   events_are = (λ i. events_made (is.job_event i) (is.evaluation_event i)) ∙ events_by (is_news (document_of t r) (get t.jobs r.id)) refl
 
-  pub tenant_made : with_made r.id (t.index + 1) made t ≡ registered_tenant r t
+  pub tenant_made : with_made r.id made t ≡ registered_tenant r t
   unfolding registered_tenant
   tenant_made = λ i. record t {
     index = t.index + 1;
@@ -109,13 +132,13 @@ module _ (made : Made) (ns : Name) (r : Registration) (t : Tenant) (is : IsMade 
     events = last 100 (t.events ++ events_are i);
   }
 
-  pub reply_made : reply_with made t ≡ registered_reply r t
-  reply_made = ap (λ job. reply_with (record made { job = job }) t) is.job
+  pub reply_made : reply_with (numbers_of made t) ≡ registered_reply r t
+  reply_made = ap (λ job. reply_with (numbers_of (record made { job = job }) t)) is.job
 
 -- ---- the state afterwards
 
 module _ (old new : Parts) (ns : Name) (r : Registration) (made : Made) (x : TenantRows)
-    (is : IsMade made ns r (tenant_of x)) (puts : PutsRows old ns r.id made (is_busy (world_of old) ns r.id) new x) where
+    (is : IsMade ns r (tenant_of x) made) (puts : PutsRows old ns r.id made (is_busy (world_of old) ns r.id) new x) where
   pub world_made : world_of new ≡ registered_world ns r (world_of old) (tenant_of x)
   unfolding registered_world
   world_made = λ i. record (world_of old) {
@@ -137,8 +160,14 @@ few r t h = by (get t.jobs r.id) refl
     by None e = omega arith
     by (Some job) e = at (same_document (document_of t r) job.document && not job.stop)
       where
-        at : (b : Bool) → (if b then job else record { document = document_of t r; stop = false; version = job.version + 1; create_index =
-            job.create_index; modify_index = next_index t }).version ≤ t.index + 1
+        at : (b : Bool) → (if b then job else record {
+          document = document_of t r;
+          stop = false;
+          version = job.version + 1;
+          create_index =
+              job.create_index;
+          modify_index = next_index t;
+        }).version ≤ t.index + 1
         at true = let v : job.version ≤ t.index = h r.id job e in omega (arith, v)
         at false = let v : job.version ≤ t.index = h r.id job e in omega (arith, v)
 

@@ -1,5 +1,5 @@
 -- A put of a quota, and the release after it.
-use Rattle.std.specs.Prelude.{◌≡◌, ℕ, ◌+◌, ◌-◌, ◌<◌, ◌≤◌, ◌^◌, Bool, true, false, cond, if◌then◌else◌, Option, Some, None, Result, Ok, Err, nat_lt}
+use Rattle.std.specs.Prelude.{◌≡◌, ℕ, ◌+◌, ◌-◌, ◌<◌, ◌≤◌, ◌^◌, Bool, true, false, cond, ◌&&◌, if◌then◌else◌, Option, Some, None, Result, Ok, Err, nat_lt}
 use Rattle.std.proofs.Common.{arith, inl, inr, refl, sym, ap, subst, ◌∙◌}
 use Rattle.std.proofs.lemmas.Bool.Decides.{leb_tells}
 use Rattle.std.specs.Option.{option_map_or}
@@ -23,10 +23,10 @@ use Rattle.ns_types.proofs.Lists.{not_both}
 use Rattle.ns_types.proofs.Named.{names, one_name}
 use Rattle.ns_steps.specs.Administered.{is_relimited, relimited, relimited_state}
 use Rattle.ns_steps.specs.Early.{IsEarly}
-use Rattle.ns_steps.proofs.Concluding.{quota_refused}
-use Rattle.ns_steps.proofs.Rows.{get_put, same_Some}
-use Rattle.ns_tables.specs.Viewed.{with_release}
-use Rattle.ns_core.specs.Viewed.{is_exhausted}
+use Rattle.ns_types.proofs.TableRows.{get_put}
+use Rattle.ns_types.proofs.Tests.{same_Some}
+use Rattle.ns_tables.specs.Viewed.{is_exhausted, with_release}
+use Rattle.ns_core.specs.Viewed.{exhausts}
 use Rattle.ns_core.proofs.Changing.{put_twice}
 
 -- ---- what a put that is done leaves
@@ -69,8 +69,11 @@ module _ (w w' : World) (name : Name) (quota : Quota) (content : Content) (done 
       by (Some old) there =
           let number : q.release ≡ old.release = ap (λ x. x.release) same ∙ ap (λ o. option_map_or (λ x. x.release) o 0) there in
           let fits : nat_lt greatest (old.release + 1) ≡ false = sym (ap (λ o. option_map_or (λ x. nat_lt greatest (x.release + 1)) o false) there) ∙ room in
-          elim (leb_tells (2 ^ 64) (old.release + 1)) [ inl more ↦ not_both more.0 fits | inr less ↦ let b : old.release + 1 < 2 ^ 64 = less.1 in
-              omega (arith, number) ]
+          elim (leb_tells (2 ^ 64) (old.release + 1)) [
+            | inl more ↦ not_both more.0 fits
+            | inr less ↦ let b : old.release + 1 < 2 ^ 64 = less.1 in
+                omega (arith, number)
+          ]
 
   pub release_settles : (b : Bool) → is_relimited w name quota ≡ b →
       (if b then with_release name w' else w') ≡ record w { quotas = insert w.quotas name (relimited w name quota) }
@@ -78,28 +81,26 @@ module _ (w w' : World) (name : Name) (quota : Quota) (content : Content) (done 
       { quotas = insert w.quotas name (after_quota_release (sym is i) (with_quota quota (get w.quotas name))) })
   release_settles true is = ap {A = Option QuotaRows}
       (λ o. option_map_or (λ q. record w' { quotas = insert w'.quotas name (record q { release = q.release + 1 }) }) o w') found
-      ∙ ap {A = World} (λ x. record x { quotas = insert x.quotas name
-          (record (with_quota quota (get w.quotas name)) { release = (with_quota quota (get w.quotas name)).release + 1 }) }) world_left
-      ∙ (λ i. record w { quotas = put_twice w.quotas name (with_quota quota (get w.quotas name))
-          (after_quota_release true (with_quota quota (get w.quotas name))) i })
+      ∙ ap {A = World} (λ x. record x {
+        quotas = insert x.quotas name
+            (record (with_quota quota (get w.quotas name)) { release = (with_quota quota (get w.quotas name)).release + 1 });
+      }) world_left
+      ∙ (λ i. record w {
+        quotas = put_twice w.quotas name (with_quota quota (get w.quotas name))
+            (after_quota_release true (with_quota quota (get w.quotas name))) i;
+      })
       ∙ (λ i. record w { quotas = insert w.quotas name (after_quota_release (sym is i) (with_quota quota (get w.quotas name))) })
 
 -- ---- a put that is refused
 
-module _ (s : State) (name : Name) (quota : Quota) (early : IsEarly s.world) (secret : Option Name)
-    (allowed : may_administer s.acl secret (AdminCommand.PutQuota name quota) ≡ true) where
-  pub put_refused : (refusal : Refusal) (w' : World) → Changes (put_quota name quota s.world) s.world (Err refusal) w' →
-      Makes (Step.Admin secret (AdminCommand.PutQuota name quota)) s (Err refusal) (record s { world = w' })
-  put_refused refusal w' h = by refusal h
-    where
-      by : (r : Refusal) → Changes (put_quota name quota s.world) s.world (Err r) w' →
-          Makes (Step.Admin secret (AdminCommand.PutQuota name quota)) s (Err r) (record s { world = w' })
-      by Refusal.Memory h = λ i. record s { world = h i }
-      by r h = quota_refused s name quota early secret allowed r h.0 (record s { world = w' }) (λ i. record s { world = h.1 i })
+-- it leaves the world as it is
+pub put_keeps : (name : Name) (quota : Quota) (w w' : World) (refusal : Refusal) → Changes (put_quota name quota w) w (Err refusal) w' → w' ≡ w
+put_keeps name quota w w' refusal h = by refusal h
+  where
+    by : (r : Refusal) → Changes (put_quota name quota w) w (Err r) w' → w' ≡ w
+    by Refusal.Memory h = h.1
+    by r h = h.1
 
-  pub put_keeps : (refusal : Refusal) (w' : World) → Changes (put_quota name quota s.world) s.world (Err refusal) w' → w' ≡ s.world
-  put_keeps refusal w' h = by refusal h
-    where
-      by : (r : Refusal) → Changes (put_quota name quota s.world) s.world (Err r) w' → w' ≡ s.world
-      by Refusal.Memory h = h
-      by r h = h.1
+-- its release number would not pass its bound
+pub release_fits : (w : World) (name : Name) (quota : Quota) → exhausts w name quota ≡ false → is_relimited w name quota ≡ true → is_exhausted w name ≡ false
+release_fits w name quota fits other = ap (λ b. b && is_exhausted w name) (sym other) ∙ fits

@@ -1,5 +1,5 @@
+pub mod Answering
 pub mod Held
 pub mod Making
 pub mod Puts
-pub mod Refusing
 pub mod Viewed

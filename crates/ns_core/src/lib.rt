@@ -1,13 +1,13 @@
 //! The server as one value: each call is a step of the model.
 #![tactic(auto)]
 
-mod administering;
-mod alike;
-mod asking;
+mod administration;
+mod asks;
+mod documents;
 mod parts;
-mod reading;
-mod registering;
+mod pool;
+mod reads;
+mod registration;
 mod server;
-mod telling;
 
 pub use server::Core;

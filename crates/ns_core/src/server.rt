@@ -3,7 +3,7 @@
 ghost use Rattle.std.specs.Prelude.{◌≡◌, IfOk, option_copied};
 ghost use Rattle.ns_types.specs.declared.step.Step.TheVariants as Step;
 ghost use Rattle.ns_types.specs.Steps.{Makes, opening};
-ghost use Rattle.ns_steps.specs.Served.{IsServedAsk, IsServedTelling};
+ghost use Rattle.ns_steps.specs.Served.{IsServedAsk, IsServedNode};
 
 use crate::parts::Parts;
 use ns_types::refusal::Refusal;
@@ -53,7 +53,8 @@ impl Core {
         command: &AskCommand,
     ) -> Result<Reply, Refusal>
         requires { IsServedAsk command.now }
-        ensures { Makes (Step.Ask namespace.now (option_copied secret.entry) command.now) self.old result self.new }
+        ensures { let step = Step.Ask namespace.now (option_copied secret.entry) command.now in
+            Makes step self.old result self.new }
     {
         let parts = &mut self.parts;
         parts.ask(namespace, secret, command)
@@ -61,7 +62,8 @@ impl Core {
 
     /// Makes the step that an administrator asks with a secret.
     pub fn admin(&mut self, secret: Option<&Text>, command: &AdminCommand) -> Result<Reply, Refusal>
-        ensures { Makes (Step.Admin (option_copied secret.entry) command.now) self.old result self.new }
+        ensures { let step = Step.Admin (option_copied secret.entry) command.now in
+            Makes step self.old result self.new }
     {
         let parts = &mut self.parts;
         parts.admin(secret, command)
@@ -74,8 +76,9 @@ impl Core {
         secret: Option<&Text>,
         command: &NodeCommand,
     ) -> Result<Reply, Refusal>
-        requires { IsServedTelling command.now }
-        ensures { Makes (Step.Node pool.now (option_copied secret.entry) command.now) self.old result self.new }
+        requires { IsServedNode command.now }
+        ensures { let step = Step.Node pool.now (option_copied secret.entry) command.now in
+            Makes step self.old result self.new }
     {
         let parts = &mut self.parts;
         match command {

@@ -1,8 +1,9 @@
 use Rattle.std.proofs.Common.{refl, sym, ap, ◌∙◌}
 use Rattle.ns_types.specs.Asking.Policies.{administer, with_acl, with_world}
 use Rattle.ns_types.specs.Settling.Outcome.{Done}
+use Rattle.ns_tables.proofs.Outcomes.{memory_last}
 use Rattle.ns_core.specs.Viewed.{state_of, world_of}
-use Rattle.ns_core.proofs.Changing.{changes_lift}
+use Rattle.ns_steps.proofs.Reading.{changes_lift}
 use Rattle.ns_core.proofs.parts.Parts.administer.Goals as goal
 
 pub returns-in-DeleteNamespace : goal.returns-in-DeleteNamespace
@@ -51,3 +52,22 @@ pub returns-in-DeleteToken : goal.returns-in-DeleteToken
 unfolding administer
 returns-in-DeleteToken c = rw c.in-DeleteToken.is
     (changes_lift (with_acl (world_of c.args.self.now)) _ _ c.delete_token.new.self c.delete_token.result c.delete_token.ensures)
+
+pub returns-in_err-list_quotas-in-ListQuotas : goal.returns-in_err-list_quotas-in-ListQuotas
+unfolding administer
+returns-in_err-list_quotas-in-ListQuotas c = rw c.in-ListQuotas.is (memory_last _ _ _ c.from_residual.result c.from_residual.ensures.1 refl refl)
+
+pub returns-in-PutNamespace : goal.returns-in-PutNamespace
+unfolding administer
+returns-in-PutNamespace c = rw c.in-PutNamespace.is (changes_lift (with_world c.args.self.now.acl) _ _
+    (world_of (record c.args.self.now { tables = c.put_namespace.new.self })) c.put_namespace.result (c.put_namespace.ensures c.args.self.now.ready.items))
+
+pub returns-in-PutPool : goal.returns-in-PutPool
+unfolding administer
+returns-in-PutPool c = rw c.in-PutPool.is (changes_lift (with_world c.args.self.now.acl) _ _
+    (world_of (record c.args.self.now { tables = c.put_pool.new.self })) c.put_pool.result (c.put_pool.ensures c.args.self.now.ready.items))
+
+pub returns-in-PutPolicy : goal.returns-in-PutPolicy
+unfolding administer
+returns-in-PutPolicy c = rw c.in-PutPolicy.is
+    (changes_lift (with_acl (world_of c.args.self.now)) _ _ c.put_policy.new.self c.put_policy.result c.put_policy.ensures)

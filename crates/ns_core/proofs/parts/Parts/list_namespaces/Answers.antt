@@ -3,6 +3,7 @@ use Rattle.std.specs.Option.{option_copied}
 use Rattle.ns_types.specs.Asking.Policies.{administer}
 use Rattle.ns_types.specs.Settling.Outcome.{Done}
 use Rattle.ns_types.specs.Access.Rights.{has_any, rights_of}
+use Rattle.ns_tables.proofs.Outcomes.{memory_last}
 use Rattle.ns_core.specs.Viewed.{state_of}
 use Rattle.ns_core.proofs.parts.Parts.list_namespaces.Goals as goal
 
@@ -12,3 +13,7 @@ returns c = ap (λ content. Done content (state_of c.args.self.now))
     (sym (c.in_ok-list_namespaces.ensures (λ ns. has_any (rights_of c.args.self.now.acl (option_copied c.args.secret) ns))
     (λ name b returned. returned.says.met ∙ ap (λ ns. has_any (rights_of c.args.self.now.acl (option_copied c.args.secret) ns)) returned.shows)
     c.args.self.now.ready.items))
+
+pub returns-in_err-list_namespaces : goal.returns-in_err-list_namespaces
+unfolding administer
+returns-in_err-list_namespaces c = memory_last _ _ _ c.from_residual.result c.from_residual.ensures.1 refl refl

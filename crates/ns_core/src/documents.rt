@@ -1,0 +1,123 @@
+//! Whether two documents of jobs say the same, member by member.
+
+ghost use Rattle.std.specs.Prelude.{◌≡◌};
+ghost use Rattle.std.specs.Cmp.Lexicographic.{pointwise};
+ghost use Rattle.ns_types.specs.State.Names.{same_name, same_number};
+ghost use Rattle.ns_types.specs.State.Resources.{same_resources};
+ghost use Rattle.ns_types.specs.Settling.Same.{same_constraint, same_task, same_group, same_document};
+ghost use Rattle.ns_types.specs.Wire.Words.{kind_text, operand_text, target_text};
+
+use ns_types::job::{Constraint, Document, Group, JobKind, Operand, Target, Task};
+use ns_types::resources::Resources;
+use ns_types::text::same_text;
+
+/// Whether the numbers are equal.
+#[tactic(auto, using(ns_types::proofs::Named::number_ties))]
+pub fn same_number(a: u64, b: u64) -> bool
+    ensures { result ≡ same_number a b }
+{
+    a == b
+}
+
+fn same_resources(a: Resources, b: Resources) -> bool
+    ensures { result ≡ same_resources a b }
+{
+    same_number(a.cpu, b.cpu) && same_number(a.memory, b.memory)
+}
+
+fn same_kind(a: JobKind, b: JobKind) -> bool
+    ensures { result ≡ same_name (kind_text a) (kind_text b) }
+{
+    match a {
+        JobKind::Service => matches!(b, JobKind::Service),
+        JobKind::Batch => matches!(b, JobKind::Batch),
+    }
+}
+
+fn same_operand(a: Operand, b: Operand) -> bool
+    ensures { result ≡ same_name (operand_text a) (operand_text b) }
+{
+    match a {
+        Operand::Equal => matches!(b, Operand::Equal),
+        Operand::NotEqual => matches!(b, Operand::NotEqual),
+    }
+}
+
+fn same_target(a: &Target, b: &Target) -> bool
+    ensures { result ≡ same_name (target_text a.now) (target_text b.now) }
+{
+    match (a, b) {
+        (Target::NodeClass, Target::NodeClass) | (Target::NodeName, Target::NodeName) => true,
+        (Target::Attribute(key), Target::Attribute(other)) => same_text(key, other),
+        _ => false,
+    }
+}
+
+fn same_constraint(a: &Constraint, b: &Constraint) -> bool
+    ensures { result ≡ same_constraint a.now b.now }
+{
+    same_target(&a.target, &b.target)
+        && same_operand(a.operand, b.operand)
+        && same_text(&a.value, &b.value)
+}
+
+fn same_task(a: &Task, b: &Task) -> bool
+    ensures { result ≡ same_task a.now b.now }
+{
+    same_text(&a.name, &b.name) && same_resources(a.resources, b.resources)
+}
+
+fn same_tasks(a: &[Task], b: &[Task]) -> bool
+    ensures { result ≡ pointwise same_task a.now b.now }
+{
+    match (a, b) {
+        ([], []) => true,
+        ([first, others @ ..], [second, more @ ..]) => {
+            same_task(first, second) && same_tasks(others, more)
+        }
+        _ => false,
+    }
+}
+
+fn same_group(a: &Group, b: &Group) -> bool
+    ensures { result ≡ same_group a.now b.now }
+{
+    same_text(&a.name, &b.name)
+        && same_number(a.count, b.count)
+        && same_tasks(a.tasks.as_slice(), b.tasks.as_slice())
+}
+
+fn same_groups(a: &[Group], b: &[Group]) -> bool
+    ensures { result ≡ pointwise same_group a.now b.now }
+{
+    match (a, b) {
+        ([], []) => true,
+        ([first, others @ ..], [second, more @ ..]) => {
+            same_group(first, second) && same_groups(others, more)
+        }
+        _ => false,
+    }
+}
+
+fn same_constraints(a: &[Constraint], b: &[Constraint]) -> bool
+    ensures { result ≡ pointwise same_constraint a.now b.now }
+{
+    match (a, b) {
+        ([], []) => true,
+        ([first, others @ ..], [second, more @ ..]) => {
+            same_constraint(first, second) && same_constraints(others, more)
+        }
+        _ => false,
+    }
+}
+
+/// Whether the documents are equal in every member.
+pub fn same_document(a: &Document, b: &Document) -> bool
+    ensures { result ≡ same_document a.now b.now }
+{
+    same_kind(a.kind, b.kind)
+        && same_number(a.priority, b.priority)
+        && same_text(&a.pool, &b.pool)
+        && same_constraints(a.constraints.as_slice(), b.constraints.as_slice())
+        && same_groups(a.groups.as_slice(), b.groups.as_slice())
+}
