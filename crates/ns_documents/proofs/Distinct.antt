@@ -18,9 +18,6 @@ abbrev pub Distinct : List Name → Type 0
 Distinct [] = Unit {0}
 Distinct (x ∷ xs) = (list_any (same_name x) xs ≡ false) × Distinct xs
 
-both_none : (a b : Bool) → a ≡ false → b ≡ false → (a || b) ≡ false
-both_none a b h k = rw (h, k) refl
-
 last_other : (x y : Name) (ys : List Name) → list_any (same_name y) ys ≡ false → bytes_eq y x ≡ false → list_any (same_name y) (ys ++ x ∷ []) ≡ false
 last_other x y ys h other =
     let same : same_name y x ≡ false = is_eq-slice_cmp y x ∙ other in
@@ -29,9 +26,11 @@ last_other x y ys h other =
 -- one more name that is none of them
 pub distinct_more : (xs : List Name) (x : Name) → Distinct xs → list_any (λ y. bytes_eq y x) xs ≡ false → Distinct (xs ++ x ∷ [])
 distinct_more [] x h new = (refl, tt)
-distinct_more (y ∷ ys) x h new =
-    (last_other x y ys h.0 (left_none (bytes_eq y x) (list_any (λ z. bytes_eq z x) ys) new), distinct_more ys x h.1
-        (right_none (bytes_eq y x) (list_any (λ z. bytes_eq z x) ys) new))
+distinct_more (y ∷ ys) x h new = (
+  last_other x y ys h.0 (left_none (bytes_eq y x) (list_any (λ z. bytes_eq z x) ys) new),
+  distinct_more ys x h.1
+      (right_none (bytes_eq y x) (list_any (λ z. bytes_eq z x) ys) new),
+)
 
 filter_other : (p : Name → Bool) (xs : List Name) → list_any p xs ≡ false → filter (λ y. not (p y)) xs ≡ xs
 filter_other p [] h = refl
@@ -59,5 +58,5 @@ pools_without_all (x ∷ xs) h none =
     let here : is_name NameKind.Pool x ≡ true = first_of_both (is_name NameKind.Pool x) (list_all (is_name NameKind.Pool) xs) h in
     let other : bytes_eq x (codes "all") ≡ false = left_none (bytes_eq x (codes "all")) (list_any (λ y. bytes_eq y (codes "all")) xs) none in
     let more : list_all is_pool_name xs ≡ true = pools_without_all xs (second_of_both (is_name NameKind.Pool x) (list_all (is_name NameKind.Pool) xs) h)
-        (right_none (bytes_eq x (codes "all")) (list_any (λ y. bytes_eq y (codes "all")) xs) none) in
+    (right_none (bytes_eq x (codes "all")) (list_any (λ y. bytes_eq y (codes "all")) xs) none) in
     rw (here, other, more) refl

@@ -1,9 +1,6 @@
 -- What is read is within the limits.
-use Rattle.std.proofs.Common.{
-    ◌≡◌, ℕ, ◌+◌, ◌≤◌, ◌==◌, ℤ, pos, negsuc, List, [], ◌∷◌, ◌++◌, length, Bool, true, false, not, ◌&&◌, ◌||◌, nat_le,
-    Option, Some, None, is_some, Ok, Err, IfOk, codes, if◌then◌else◌, refl, sym, ◌∙◌, subst, true≢false, arith,
-    length-append, option_and_then
-}
+use Rattle.std.proofs.Common.{◌≡◌, ℕ, ◌+◌, ◌≤◌, ◌==◌, ℤ, pos, negsuc, List, [], ◌∷◌, ◌++◌, length, Bool, true, false, not, ◌&&◌, ◌||◌, nat_le, Option, Some}
+use Rattle.std.proofs.Common.{None, is_some, Ok, Err, IfOk, codes, if◌then◌else◌, refl, sym, ◌∙◌, subst, true≢false, arith, length-append, option_and_then}
 use Rattle.std.specs.Bool.{IsTrue}
 use Rattle.std.specs.List.{list_all}
 use Rattle.std.specs.Option.{option_map_or, is_none}
@@ -33,10 +30,8 @@ use Rattle.ns_types.specs.State.Names as names
 use Rattle.ns_types.specs.State.Resources.{limits_in, unlimited}
 use Rattle.ns_types.proofs.Lists.{left_none, right_none}
 use Rattle.ns_types.proofs.Named.{same_name_is}
-use Rattle.ns_json.specs.Reading.{
-    ◌>>=◌, Read, Gives, same, top, present, demanded, or_else, or_refuse, some, an_object, a_text, a_name, has_name,
-    unless, a_list, each
-}
+use Rattle.ns_json.specs.Reading.{◌>>=◌, Read, Gives, same, top, present, demanded, or_else, or_refuse, some, an_object, a_text, a_name, has_name, unless}
+use Rattle.ns_json.specs.Reading.{a_list, each}
 use Rattle.ns_json.specs.Registration.{name_if_any}
 use Rattle.ns_policy.specs.Json.{rules_of}
 use Rattle.ns_documents.specs.declared.namespace.NamedNamespace.{NamedNamespace}
@@ -45,10 +40,8 @@ use Rattle.ns_documents.specs.declared.quota.NamedQuota.{NamedQuota}
 use Rattle.ns_documents.specs.declared.pool.NamedPool.{NamedPool}
 use Rattle.ns_documents.specs.declared.token.TokenDocument.{TokenDocument}
 use Rattle.ns_documents.specs.Members.{is_path_name, repeated, named, description_in, listed_name, names_in}
-use Rattle.ns_documents.specs.Records.{
-    is_all, pool_or_default, default_pool_in, pools_in, configuration_in, every_pool, namespace_in, max_limit, limit_of,
-    limit_in, region_limit_in, region_in, entry_in, first_entry, entries_in, quota_in, pool_in
-}
+use Rattle.ns_documents.specs.Records.{is_all, pool_or_default, default_pool_in, pools_in, configuration_in, every_pool, namespace_in, max_limit, limit_of}
+use Rattle.ns_documents.specs.Records.{limit_in, region_limit_in, region_in, entry_in, first_entry, entries_in, quota_in, pool_in}
 use Rattle.ns_documents.specs.Access.{with_accessor, rules_text_in, or_bad_rules, policy_in, token_kind_in, token_in}
 use Rattle.ns_documents.proofs.Distinct.{Distinct, distinct_more, distinct_is, pools_without_all}
 
@@ -146,7 +139,7 @@ unfolding each
 each_length read done no_items = omega arith
 each_length read done (item d ds) =
     post_any (read done d) _ _ (λ x. post_map (each read (done ++ x ∷ []) ds) (λ xs. length xs ≡ length (done ++ x ∷ []) + items_len ds) _
-        (λ xs e. omega (arith, e, length-append done (x ∷ []))) (each_length read (done ++ x ∷ []) ds))
+    (λ xs e. omega (arith, e, length-append done (x ∷ []))) (each_length read (done ++ x ∷ []) ds))
 
 abbrev AllNamed : NameKind → List Name → Type 0
 AllNamed kind xs = IsTrue (list_all (is_name kind) xs) × Distinct xs
@@ -161,7 +154,7 @@ unfolding listed_name
 listed_good m kind before d h =
     post_then (a_name m kind d) _ _ (name_good m kind d)
     (λ x k. post_unless (has_name same before x) m x (λ y. AllNamed kind (before ++ y ∷ []))
-        (λ new. (all_more kind before x h.0 k, distinct_more before x h.1 new)))
+    (λ new. (all_more kind before x h.0 k, distinct_more before x h.1 new)))
 
 list_good : (m : Member) (most : ℕ) (d : Data) → Post (a_list m 0 most d) (λ ds. items_len ds ≤ most)
 unfolding a_list
@@ -176,7 +169,7 @@ unfolding names_in
 names_good m kind most d =
     post_then (a_list m 0 most d) _ _ (list_good m most d)
     (λ ds fits. post_map (each (listed_name m kind) [] ds) _ (Listed kind most)
-        (λ xs (k : AllNamed kind xs × (length xs ≡ 0 + items_len ds)). (k.0, omega arith))
+    (λ xs (k : AllNamed kind xs × (length xs ≡ 0 + items_len ds)). (k.0, omega arith))
     (post_both (each (listed_name m kind) [] ds) (AllNamed kind) (λ xs. length xs ≡ 0 + items_len ds)
     (each_good (listed_name m kind) (AllNamed kind) [] ds (listed_good m kind) (refl, tt)) (each_length (listed_name m kind) [] ds)))
 
@@ -234,12 +227,12 @@ unfolding configuration_in
 configuration_good d =
     post_any (an_object Member.NodePoolConfiguration d) _ _ (λ c.
     post_then (or_else default_name default_pool_in (present Member.Default c)) _ _
-        (post_else default_name default_pool_in (λ s. IsTrue (is_pool_name s)) (present Member.Default c) refl default_pool_good) (λ default h.
+    (post_else default_name default_pool_in (λ s. IsTrue (is_pool_name s)) (present Member.Default c) refl default_pool_good) (λ default h.
     post_then (or_else None (λ a. some (pools_in Member.Allowed a)) (present Member.Allowed c)) _ _
-        (post_else None (λ a. some (pools_in Member.Allowed a)) (λ o. IsTrue (option_map_or is_pool_list o true)) (present Member.Allowed c) refl
-        (λ a. post_some (pools_in Member.Allowed a) (λ xs. IsTrue (is_pool_list xs)) _ (λ xs k. k) (pools_good Member.Allowed a))) (λ allowed k.
+    (post_else None (λ a. some (pools_in Member.Allowed a)) (λ o. IsTrue (option_map_or is_pool_list o true)) (present Member.Allowed c) refl
+    (λ a. post_some (pools_in Member.Allowed a) (λ xs. IsTrue (is_pool_list xs)) _ (λ xs k. k) (pools_good Member.Allowed a))) (λ allowed k.
     post_then (or_else [] (pools_in Member.Denied) (present Member.Denied c)) _ _
-        (post_else [] (pools_in Member.Denied) (λ xs. IsTrue (is_pool_list xs)) (present Member.Denied c) refl (pools_good Member.Denied)) (λ denied l.
+    (post_else [] (pools_in Member.Denied) (λ xs. IsTrue (is_pool_list xs)) (present Member.Denied c) refl (pools_good Member.Denied)) (λ denied l.
     post_unless ((is_some allowed && not (is_empty denied)) || has_name same denied default) Member.Denied _ IsGood
     (λ n. (
       h,
@@ -260,10 +253,10 @@ namespace_post path d =
     post_any (top d) _ _ (λ t. post_any (named NameKind.Namespace path t) _ _ (λ name.
     post_then (description_in t) _ _ (description_good t) (λ description h.
     post_then (or_else None (name_if_any Member.Quota NameKind.Quota) (present Member.Quota t)) _ _
-        (post_else None (name_if_any Member.Quota NameKind.Quota) (λ o. IsTrue (option_map_or (is_name NameKind.Quota) o true)) (present Member.Quota t) refl
-        (name_if_any_good Member.Quota NameKind.Quota)) (λ quota k.
+    (post_else None (name_if_any Member.Quota NameKind.Quota) (λ o. IsTrue (option_map_or (is_name NameKind.Quota) o true)) (present Member.Quota t) refl
+    (name_if_any_good Member.Quota NameKind.Quota)) (λ quota k.
     post_then (or_else every_pool configuration_in (present Member.NodePoolConfiguration t)) _ _
-        (post_else every_pool configuration_in IsGood (present Member.NodePoolConfiguration t) (refl, refl, refl, refl, refl) configuration_good) (λ c g.
+    (post_else every_pool configuration_in IsGood (present Member.NodePoolConfiguration t) (refl, refl, refl, refl, refl) configuration_good) (λ c g.
     namespace_from description quota c h k g)))))
 
 -- ---- quotas
@@ -309,7 +302,7 @@ region_limit_good d =
     post_any (an_object Member.RegionLimit d) _ _ (λ r.
     post_then (or_else Limit.Unlimited (limit_in Member.Cpu) (present Member.Cpu r)) _ _ (limit_or_unlimited_good Member.Cpu (present Member.Cpu r)) (λ cpu h.
     post_then (or_else Limit.Unlimited (limit_in Member.MemoryMb) (present Member.MemoryMb r)) _ _
-        (limit_or_unlimited_good Member.MemoryMb (present Member.MemoryMb r)) (λ memory k. (h, k))))
+    (limit_or_unlimited_good Member.MemoryMb (present Member.MemoryMb r)) (λ memory k. (h, k))))
 
 entry_good : (d : Data) → Post (entry_in d) AreLimits
 unfolding entry_in
@@ -339,7 +332,7 @@ quota_post path d =
     post_any (top d) _ _ (λ t. post_any (named NameKind.Quota path t) _ _ (λ name.
     post_then (description_in t) _ _ (description_good t) (λ description h.
     post_then (or_else None entries_in (present Member.Limits t)) _ _
-        (post_else None entries_in AreLimitsIn (present Member.Limits t) (refl, refl) entries_good) (λ limits k.
+    (post_else None entries_in AreLimitsIn (present Member.Limits t) (refl, refl) entries_good) (λ limits k.
     quota_from description limits h k))))
 
 -- ---- pools
@@ -381,11 +374,11 @@ token_post : (d : Data) → Post (token_in d) (λ t. (accessor : Name) → IsTru
 unfolding token_in
 token_post d =
     post_any (top d) _ _ (λ t. post_then (or_else [] (a_text Member.Name) (present Member.Name t)) _ _
-        (post_else [] (a_text Member.Name) (λ s. IsTrue (is_text s)) (present Member.Name t) refl (text_good Member.Name)) (λ name h.
+    (post_else [] (a_text Member.Name) (λ s. IsTrue (is_text s)) (present Member.Name t) refl (text_good Member.Name)) (λ name h.
     post_any (or_else TokenKind.Client token_kind_in (present Member.Type t)) _ _ (λ kind.
     post_then (or_else [] (names_in Member.Policies NameKind.Policy 64) (present Member.Policies t)) _ _
-        (post_else [] (names_in Member.Policies NameKind.Policy 64) (Listed NameKind.Policy 64) (present Member.Policies t) ((refl, tt), omega arith)
-        (names_good Member.Policies NameKind.Policy 64)) (λ policies k.
+    (post_else [] (names_in Member.Policies NameKind.Policy 64) (Listed NameKind.Policy 64) (present Member.Policies t) ((refl, tt), omega arith)
+    (names_good Member.Policies NameKind.Policy 64)) (λ policies k.
     λ accessor. token_from accessor (record { name = name; kind = kind; policies = policies }) h k))))
 
 -- ---- names
@@ -409,7 +402,7 @@ unfolding pool_in
 pool_named path d h =
     post_any (top d) _ _ (λ t. post_then (named NameKind.Pool path t) _ _ (named_good NameKind.Pool path t h) (λ name k.
     post_then (unless (is_all name) Member.Name name) _ _
-        (post_unless (is_all name) Member.Name name (λ s. IsTrue (is_pool_name s)) (λ other. pool_name name k other)) (λ checked l.
+    (post_unless (is_all name) Member.Name name (λ s. IsTrue (is_pool_name s)) (λ other. pool_name name k other)) (λ checked l.
     post_any (description_in t) _ _ (λ description. l))))
 
 -- ---- what is read

@@ -1,7 +1,6 @@
 -- The documents of policies and tokens.
-use Rattle.std.specs.Prelude.{
-    ℕ, nat_le, not, List, [], length, Option, Some, None, Result, Ok, Err, codes, if◌then◌else◌
-}
+use Rattle.std.specs.Prelude.{ℕ, nat_le, not, List, [], length, Option, Some, None, Result, Ok, Err, codes}
+use Rattle.std.specs.Prelude.{if◌then◌else◌}
 use Rattle.std.specs.Str.{bytes_eq}
 use Rattle.serde_json.specs.Data.{Data}
 use Rattle.serde_json.specs.Find.{as_str}

@@ -1,20 +1,28 @@
 -- Members that several documents have.
-use Rattle.std.specs.Prelude.{ℕ, List, [], Bool, true, Option, Some, None, not}
+use Rattle.std.specs.Prelude.{ℕ, List, [], Bool, true, Option, Some, None, IsTrue, not}
 use Rattle.std.specs.Option.{option_map_or}
 use Rattle.std.specs.Str.{bytes_eq}
 use Rattle.serde_json.specs.Data.{Data}
 use Rattle.serde_json.specs.Find.{as_str}
 use Rattle.ns_types.specs.declared.name.NameKind.{NameKind}
+use Rattle.ns_types.specs.declared.name.NameKind.TheVariants as NameKind
 use Rattle.ns_types.specs.declared.refusal.Member.{Member}
 use Rattle.ns_types.specs.declared.refusal.Member.TheVariants as Member
+use Rattle.ns_types.specs.State.Limits.{is_pool_name}
 use Rattle.ns_types.specs.State.Name.{is_name}
-use Rattle.ns_json.specs.Reading.{
-    ◌>>=◌, Read, same, present, demanded, or_else, or_refuse, a_text, a_name, has_name, unless, a_list, each
-}
+use Rattle.ns_json.specs.Reading.{◌>>=◌, Read, same, present, demanded, or_else, or_refuse, a_text, a_name, has_name}
+use Rattle.ns_json.specs.Reading.{unless, a_list, each}
 
 -- the path holds no name, or one of that kind
 abbrev pub is_path_name : NameKind → Option (List ℕ) → Bool
 is_path_name kind path = option_map_or (is_name kind) path true
+
+-- if the path holds a good name of that kind or none, then what was read has a good one
+abbrev pub IsNamedWell : NameKind → Option (List ℕ) → List ℕ → Type 0
+IsNamedWell kind path name = IsTrue (is_path_name kind path) → IsTrue (is_name kind name)
+
+abbrev pub IsPoolNamedWell : Option (List ℕ) → List ℕ → Type 0
+IsPoolNamedWell path name = IsTrue (is_path_name NameKind.Pool path) → IsTrue (is_pool_name name)
 
 -- the name that the path holds, where the document repeats it
 unfoldable pub repeated : List ℕ → Data → Read (List ℕ)

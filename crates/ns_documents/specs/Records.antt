@@ -1,8 +1,6 @@
 -- The documents of namespaces, quotas and pools.
-use Rattle.std.specs.Prelude.{
-    ℕ, ◌^◌, ◌==◌, ℤ, pos, negsuc, ◌&&◌, ◌||◌, nat_le, not, List, [], Bool, Option, Some, None, is_some, option_and_then,
-    Ok, codes, if◌then◌else◌
-}
+use Rattle.std.specs.Prelude.{ℕ, ◌^◌, ◌==◌, ℤ, pos, negsuc, ◌&&◌, ◌||◌, nat_le, not, List, [], Bool, Option, Some, None}
+use Rattle.std.specs.Prelude.{is_some, option_and_then, Ok, codes, if◌then◌else◌}
 use Rattle.std.specs.Str.{bytes_eq}
 use Rattle.serde_json.specs.Data.{Data, Items, no_items, item}
 use Rattle.serde_json.specs.Find.{as_number, as_i64}
@@ -15,9 +13,8 @@ use Rattle.ns_types.specs.declared.resources.Limits.{Limits}
 use Rattle.ns_types.specs.State.Lists.{is_empty}
 use Rattle.ns_types.specs.State.Names.{default_name}
 use Rattle.ns_types.specs.State.Resources.{unlimited}
-use Rattle.ns_json.specs.Reading.{
-    ◌>>=◌, Read, same, top, present, or_else, or_refuse, some, an_object, a_text, has_name, unless, a_list
-}
+use Rattle.ns_json.specs.Reading.{◌>>=◌, Read, same, top, present, or_else, or_refuse, some, an_object, a_text}
+use Rattle.ns_json.specs.Reading.{has_name, unless, a_list}
 use Rattle.ns_json.specs.Registration.{name_if_any}
 use Rattle.ns_documents.specs.declared.namespace.NamedNamespace.{NamedNamespace}
 use Rattle.ns_documents.specs.declared.pools.PoolConfiguration.{PoolConfiguration}
@@ -66,8 +63,14 @@ namespace_in path d = do
   pools ← or_else every_pool configuration_in (present Member.NodePoolConfiguration top)
   Ok (record {
     name = name;
-    namespace = record { description = description; quota = quota; default_pool = pools.default_pool; allowed =
-        pools.allowed; denied = pools.denied };
+    namespace = record {
+      description = description;
+      quota = quota;
+      default_pool = pools.default_pool;
+      allowed =
+          pools.allowed;
+      denied = pools.denied;
+    };
   })
 
 -- ---- quotas

@@ -3,10 +3,9 @@
 ghost use Rattle.std.specs.Prelude.{◌≡◌, None, IfOk, IfErr, IsTrue, option_copied};
 ghost use Rattle.serde_json.specs.View.{view};
 ghost use Rattle.ns_types.specs.State.Limits.{is_good_namespace};
-ghost use Rattle.ns_types.specs.State.Name.{is_name};
 ghost use Rattle.ns_json.specs.Reading.{Gives, same, present as present_in, or_else, body_in, IsOfDocument};
 ghost use Rattle.ns_json.specs.Registration.{name_if_any as name_if_any_in};
-ghost use Rattle.ns_documents.specs.Members.{is_path_name};
+ghost use Rattle.ns_documents.specs.Members.{IsNamedWell};
 ghost use Rattle.ns_documents.specs.Records.{namespace_in};
 
 use crate::members::{description, named};
@@ -61,7 +60,8 @@ fn namespace(
     })
 }
 
-/// The namespace that a body says, or the first refusal. Its name is the path's, where that holds one.
+/// The namespace that a body says, or the first refusal. Its name is the path's, where that holds
+/// one.
 #[tactic(auto, unfolding(ns_json::specs::Reading::body_in))]
 pub fn read_namespace(
     alloc: Global,
@@ -73,7 +73,7 @@ pub fn read_namespace(
     // What is read is within the limits, and the name too where the path's is.
     ensures good { IfOk result (λ d. IsTrue (is_good_namespace d.namespace)) }
     ensures name { IfOk result (λ d.
-        IsTrue (is_path_name NameKind.Namespace (option_copied path_name.entry)) → IsTrue (is_name NameKind.Namespace d.name)) }
+        IsNamedWell NameKind.Namespace (option_copied path_name.entry) d.name) }
     // What the refusal can be.
     ensures kinds { IfErr result IsOfDocument }
 {

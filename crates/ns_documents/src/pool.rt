@@ -2,9 +2,9 @@
 
 ghost use Rattle.std.specs.Prelude.{◌≡◌, IfOk, IfErr, IsTrue, option_copied};
 ghost use Rattle.serde_json.specs.View.{view};
-ghost use Rattle.ns_types.specs.State.Limits.{is_text, is_pool_name};
+ghost use Rattle.ns_types.specs.State.Limits.{is_text};
 ghost use Rattle.ns_json.specs.Reading.{Gives, same, body_in, IsOfDocument};
-ghost use Rattle.ns_documents.specs.Members.{is_path_name};
+ghost use Rattle.ns_documents.specs.Members.{IsPoolNamedWell};
 ghost use Rattle.ns_documents.specs.Records.{pool_in};
 
 use crate::members::{description, named};
@@ -46,7 +46,7 @@ pub fn read_pool(alloc: Global, path_name: Option<&Text>, body: &[u8]) -> Result
     // What is read is within the limits, and the name too where the path's is.
     ensures good { IfOk result (λ d. IsTrue (is_text d.pool.description)) }
     ensures name { IfOk result (λ d.
-        IsTrue (is_path_name NameKind.Pool (option_copied path_name.entry)) → IsTrue (is_pool_name d.name)) }
+        IsPoolNamedWell (option_copied path_name.entry) d.name) }
     // What the refusal can be.
     ensures kinds { IfErr result IsOfDocument }
 {

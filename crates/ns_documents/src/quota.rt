@@ -4,10 +4,9 @@ ghost use Rattle.std.specs.Prelude.{◌≡◌, None, IfOk, IfErr, IsTrue, option
 ghost use Rattle.serde_json.specs.View.{view};
 ghost use Rattle.ns_types.specs.declared.resources.Limit.TheVariants.{Unlimited};
 ghost use Rattle.ns_types.specs.State.Limits.{is_good_quota};
-ghost use Rattle.ns_types.specs.State.Name.{is_name};
 ghost use Rattle.ns_types.specs.State.Resources.{unlimited};
 ghost use Rattle.ns_json.specs.Reading.{Gives, same, present as present_in, or_else, body_in, IsOfDocument};
-ghost use Rattle.ns_documents.specs.Members.{is_path_name};
+ghost use Rattle.ns_documents.specs.Members.{IsNamedWell};
 ghost use Rattle.ns_documents.specs.Records.{limit_of as limit_of_number, limit_in, region_limit_in, region_in, entry_in, entries_in, quota_in};
 
 use crate::members::{description, named};
@@ -168,7 +167,7 @@ pub fn read_quota(
     // What is read is within the limits, and the name too where the path's is.
     ensures good { IfOk result (λ d. IsTrue (is_good_quota d.quota)) }
     ensures name { IfOk result (λ d.
-        IsTrue (is_path_name NameKind.Quota (option_copied path_name.entry)) → IsTrue (is_name NameKind.Quota d.name)) }
+        IsNamedWell NameKind.Quota (option_copied path_name.entry) d.name) }
     // What the refusal can be.
     ensures kinds { IfErr result IsOfDocument }
 {

@@ -5,10 +5,8 @@ use Rattle.std.specs.Io.KnownBytes.{Appends}
 use Rattle.std.proofs.lemmas.Bool.{false≢true}
 use Rattle.std.proofs.lemmas.List.{map-append, append-nil, length-append}
 use Rattle.ns_types.specs.declared.reply.HeadFault.{HeadFault}
-use Rattle.ns_types.specs.Wire.Http.{
-    Message, print_message, IsMessage, closes, RefusesHead, Received, Whole, Refused, Takes, is_last, Asked, IsPartial,
-    End, Clean, Partial, is_closed, IsRest
-}
+use Rattle.ns_types.specs.Wire.Http.{Message, print_message, IsMessage, closes, RefusesHead, Received, Whole, Refused, Takes, is_last, Asked, IsPartial, End}
+use Rattle.ns_types.specs.Wire.Http.{Clean, Partial, is_closed, IsRest}
 use Rattle.ns_types.specs.declared.reply.Rendered.{Rendered}
 use Rattle.ns_types.specs.Wire.Responses.{refusal_of, wire, Exchange, wires, Answers}
 use Rattle.ns_http.specs.declared.head.Request.{Request}
@@ -36,9 +34,13 @@ Takes-then bytes (Whole m ∷ xs) ys middle rest closed t u =
 pub Takes-more : (bytes : List ℕ) (xs : List Received) (rest more : List ℕ) → Takes bytes xs false rest → Takes (bytes ++ more) xs false (rest ++ more)
 Takes-more bytes [] rest more t = (refl, ap (λ l. l ++ more) t.1)
 Takes-more bytes (Refused fault ∷ xs) rest more t = absurd (false≢true t.2)
-Takes-more bytes (Whole m ∷ xs) rest more t =
-    (t.0, t.1 ++ more, ap (λ l. l ++ more) t.2 ∙ append_assoc (print_message m) t.1 more, MatchBool-map (closes m) (λ x. absurd (false≢true x.1))
-        (λ x. Takes-more t.1 xs rest more x) t.3)
+Takes-more bytes (Whole m ∷ xs) rest more t = (
+  t.0,
+  t.1 ++ more,
+  ap (λ l. l ++ more) t.2 ∙ append_assoc (print_message m) t.1 more,
+  MatchBool-map (closes m) (λ x. absurd (false≢true x.1))
+      (λ x. Takes-more t.1 xs rest more x) t.3,
+)
 
 one_closed : (none : List Received) (b : Bool) (rest : List ℕ) → MatchBool b ((none ≡ none) × (b ≡ true) × (rest ≡ rest)) ((b ≡ false) × (rest ≡ rest))
 one_closed none true rest = (refl, refl, refl)
@@ -67,9 +69,12 @@ Serves-then answers old middle new bytes xs ys between rest closed a b = record 
 }
 
 pub Queues-then : (u v w : Option (List ℕ)) (p q r a b : List ℕ) → Queues u v p q a → Queues v w q r b → Queues u w p r (a ++ b)
-Queues-then u v w p q r a b x y =
-    (x.0 ++ y.0, Appends-then u v w x.0 y.0 x.1 y.1, sym (append_assoc p a b) ∙ ap (λ l. l ++ b) x.2 ∙ append_assoc x.0 q b ∙ ap (λ l. x.0 ++ l) y.2 ∙
-        sym (append_assoc x.0 y.0 r))
+Queues-then u v w p q r a b x y = (
+  x.0 ++ y.0,
+  Appends-then u v w x.0 y.0 x.1 y.1,
+  sym (append_assoc p a b) ∙ ap (λ l. l ++ b) x.2 ∙ append_assoc x.0 q b ∙ ap (λ l. x.0 ++ l) y.2 ∙
+      sym (append_assoc x.0 y.0 r),
+)
 
 pub Queued-then : {S : Type 0} (answers : S → Asked → Rendered → S → Type 0) (old middle new : S) (bytes : List ℕ) (xs ys : List Exchange)
     (between rest : List ℕ) (closed : Bool) (u v w : Option (List ℕ)) (p q r : List ℕ) (n o m : ℕ) →
@@ -84,8 +89,12 @@ Queued-then answers old middle new bytes xs ys between rest closed u v w p q r n
 -- nothing was made yet
 pub queued_none : {S : Type 0} (answers : S → Asked → Rendered → S → Type 0) (s : S) (bytes : List ℕ) (u : Option (List ℕ)) (p : List ℕ) (n : ℕ) →
     Queued answers s s bytes bytes u u p p n n [] false
-queued_none answers s bytes u p n = record { serves = record { takes = (refl, refl); answered = refl }; writes = ([], Appends-none u, append-nil p); count =
-    omega arith }
+queued_none answers s bytes u p n = record {
+  serves = record { takes = (refl, refl); answered = refl };
+  writes = ([], Appends-none u, append-nil p);
+  count =
+      omega arith;
+}
 
 -- once what waited is written, all is written
 pub queued_done : {S : Type 0} (answers : S → Asked → Rendered → S → Type 0) (old new : S) (bytes rest : List ℕ) (u v w : Option (List ℕ)) (p : List ℕ)
@@ -125,9 +134,14 @@ queued_whole answers old new input request len close f reply u v p q n a w = rec
 pub cut_whole : {S : Type 0} (answers : S → Asked → Rendered → S → Type 0) (old new : S) (input : List ℕ) (request : Request) (len : ℕ) (close : Bool)
     (f : FindsWhole input request len close) (reply : Rendered) (u v : Option (List ℕ)) (p : List ℕ) → answers old (asked request) reply new →
     WritesSome u v (p ++ wire reply close) → CutsShort answers old new input u v p
-cut_whole answers old new input request len close f reply u v p a w =
-    ((Whole f.message, reply) ∷ [], close, drop len input, serves_whole answers old new input request len close f reply a, subst (λ l. WritesSome u v (p ++ l))
-        (ap (wire reply) f.close_is ∙ sym (append-nil _)) w)
+cut_whole answers old new input request len close f reply u v p a w = (
+  (Whole f.message, reply) ∷ [],
+  close,
+  drop len input,
+  serves_whole answers old new input request len close f reply a,
+  subst (λ l. WritesSome u v (p ++ l))
+      (ap (wire reply) f.close_is ∙ sym (append-nil _)) w,
+)
 
 -- a refused head
 serves_refused : {S : Type 0} (answers : S → Asked → Rendered → S → Type 0) (s : S) (input : List ℕ) (fault : HeadFault) → RefusesHead input fault →
@@ -150,9 +164,11 @@ cut_refused answers s input fault u v p r w =
 
 -- a whole request takes some bytes, and they are there
 pub length-whole : (input : List ℕ) (request : Request) (len : ℕ) (close : Bool) (f : FindsWhole input request len close) → (0 < len) × (len ≤ length input)
-length-whole input request len close f =
-    (omega (arith, f.len_is, length-append (print_request f.message.head) f.message.body, length-print_request f.message.head f.is_message.head), omega
-        (arith, ap length f.reads, length-append (print_message f.message) (drop len input), f.len_is))
+length-whole input request len close f = (
+  omega (arith, f.len_is, length-append (print_request f.message.head) f.message.body, length-print_request f.message.head f.is_message.head),
+  omega
+      (arith, ap length f.reads, length-append (print_message f.message) (drop len input), f.len_is),
+)
 
 -- exchanges, and then a cut
 pub CutsShort-then : {S : Type 0} (answers : S → Asked → Rendered → S → Type 0) (old middle new : S) (bytes : List ℕ) (xs : List Exchange) (between : List ℕ)
@@ -161,9 +177,14 @@ pub CutsShort-then : {S : Type 0} (answers : S → Asked → Rendered → S → 
 CutsShort-then answers old middle new bytes xs between u v w p q n o a b =
     let text : p ++ wires (xs ++ b.0) ≡ a.writes.0 ++ (q ++ wires b.0) =
     ap (λ l. p ++ l) (wires-append xs b.0) ∙ sym (append_assoc p (wires xs) (wires b.0)) ∙ ap (λ l. l ++ wires b.0) a.writes.2 ∙
-        append_assoc a.writes.0 q (wires b.0) in
-    (xs ++ b.0, b.1, b.2, Serves-then answers old middle new bytes xs b.0 between b.2 b.1 a.serves b.3, subst (WritesSome u w) (sym text)
-        (WritesSome-then u v w a.writes.0 (q ++ wires b.0) a.writes.1 b.4))
+    append_assoc a.writes.0 q (wires b.0) in (
+      xs ++ b.0,
+      b.1,
+      b.2,
+      Serves-then answers old middle new bytes xs b.0 between b.2 b.1 a.serves b.3,
+      subst (WritesSome u w) (sym text)
+          (WritesSome-then u v w a.writes.0 (q ++ wires b.0) a.writes.1 b.4),
+    )
 
 -- more bytes come behind what was taken
 pub Serves-more : {S : Type 0} (answers : S → Asked → Rendered → S → Type 0) (old new : S) (bytes : List ℕ) (xs : List Exchange) (rest more : List ℕ) →

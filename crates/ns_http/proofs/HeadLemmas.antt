@@ -1,8 +1,6 @@
 -- What the front of some bytes says of all of them.
-use Rattle.std.proofs.Common.{
-    ◌≡◌, ℕ, ◌+◌, ◌<◌, ◌≤◌, min, Bool, inl, inr, List, [], ◌∷◌, ◌++◌, map, length, take, drop, sym, ap, ◌∙◌, subst,
-    append_assoc, arith
-}
+use Rattle.std.proofs.Common.{◌≡◌, ℕ, ◌+◌, ◌<◌, ◌≤◌, min, Bool, inl, inr, List, [], ◌∷◌, ◌++◌, map, length, take, drop, sym, ap, ◌∙◌, subst, append_assoc}
+use Rattle.std.proofs.Common.{arith}
 use Rattle.std.specs.Prelude.{Ok}
 use Rattle.std.proofs.lemmas.List.Elements.{All-weaker}
 use Rattle.std.proofs.lemmas.List.{take-append-drop, take_all, drop_at, drop-drop, length-map, length-take-le, length-append, length-take, length-drop}
@@ -13,10 +11,8 @@ use Rattle.httparse.specs.declared.spans.RequestSpans.{RequestSpans}
 use Rattle.httparse.specs.Grammar.{RequestHead, print_request, ReadsRequest, HasNoRequest, NeverHasRequest, MayBecomeRequest}
 use Rattle.httparse.specs.Spans.{IsRequestAt, IsRequestWithin, IsHeaderWithin, RequestExceeds, RequestOverflows, name_and_value, header_bytes, span_bytes}
 use Rattle.ns_types.specs.declared.reply.HeadFault.TheVariants.{BadHead, TooLarge}
-use Rattle.ns_types.specs.Wire.Http.{
-    Header, IsHead, RefusesHead, malformed, too_long, too_many, in_head, in_body, token_of, asks_close, length_of,
-    is_length, body_len_of, body_len
-}
+use Rattle.ns_types.specs.Wire.Http.{Header, IsHead, RefusesHead, malformed, too_long, too_many, in_head, in_body, token_of, asks_close, length_of, is_length}
+use Rattle.ns_types.specs.Wire.Http.{body_len_of, body_len}
 use Rattle.std.specs.Option.{option_copied}
 use Rattle.ns_http.specs.HeadStands.{HeadStands}
 use Rattle.ns_http.specs.Head.{Waits, FindsWhole}
@@ -43,34 +39,28 @@ long_front bytes full none may =
     let k : min (length bytes) 16384 ≡ 16384 = omega arith in
     too_long long (subst (λ n. HasNoRequest (take n bytes)) k none) (subst (λ n. MayBecomeRequest (take n bytes)) k may)
 
-pub short_front : (bytes : List ℕ) → (length (take (min (length bytes) 16384) bytes) ≡ 16384 → ⊥) → length bytes < 16384
-short_front bytes short = elim (cases_lt (length bytes) 16384)
-    [ inl below ↦ below | inr above ↦ absurd (short (omega (arith, length-take (min (length bytes) 16384) bytes))) ]
-
-pub partial_front : (bytes : List ℕ) → length bytes < 16384 → HasNoRequest (take (min (length bytes) 16384) bytes) →
-    MayBecomeRequest (take (min (length bytes) 16384) bytes) → Waits bytes 0
-partial_front bytes short none may =
-    let whole : take (min (length bytes) 16384) bytes ≡ bytes = take_all _ bytes (omega arith) in
-    record {
-      partial = in_head (subst HasNoRequest whole none) (subst MayBecomeRequest whole may);
-      room = omega (arith, short);
-      stays = λ more small. absurd (omega (arith, small));
-      wanted_fits = omega arith;
-    }
-
 -- a head that was found in the front stands there
 pub stands_front : (k : ℕ) (bytes : List ℕ) (headers : List HeaderSpan) (r : RequestSpans) (h : RequestHead) → k ≤ 16384 → length headers ≡ 64 →
     IsRequestAt (take k bytes) headers r h → IsRequestWithin (take k bytes) headers r → HeadStands bytes (take k bytes) (take r.headers headers) r
 stands_front k bytes headers r h small room at within =
     let split : bytes ≡ print_request h ++ (drop r.len (take k bytes) ++ drop k bytes) = sym (take-append-drop k bytes) ∙ ap (λ l. l ++ drop k bytes) at.reads.1
-        ∙ append_assoc (print_request h) _ _ in
+    ∙ append_assoc (print_request h) _ _ in
     let rest : drop r.len bytes ≡ drop r.len (take k bytes) ++ drop k bytes = ap (drop r.len) split ∙ drop_at (print_request h) _ r.len (sym at.len) in
     let fits : r.len ≤ length (take k bytes) = within.section.len_fits in
     record {
       head = h;
-      is_head = record { grammar = at.reads.0; len = omega (arith, length-take k bytes, at.len); headers =
-          omega (arith, ap length at.fields, length-map (take r.headers headers) (header_bytes (take k bytes)), length-map h.fields name_and_value,
-          length-take r.headers headers) };
+      is_head = record {
+        grammar = at.reads.0;
+        len = omega (arith, length-take k bytes, at.len);
+        headers =
+            omega (
+              arith,
+              ap length at.fields,
+              length-map (take r.headers headers) (header_bytes (take k bytes)),
+              length-map h.fields name_and_value,
+              length-take r.headers headers,
+            );
+      };
       reads = split ∙ ap (λ l. print_request h ++ l) (sym rest);
       len = at.len;
       len_fits = omega (arith, length-take k bytes);

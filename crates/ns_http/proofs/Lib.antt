@@ -1,9 +1,9 @@
 pub mod TextLemmas
 pub mod ValuesLemmas
+pub mod CountsLemmas
 pub mod StreamLemmas
 pub mod InputLemmas
 pub mod HeadLemmas
 pub mod EngineLemmas
 pub mod Progress
-pub mod CountsLemmas
 pub mod ServeLemmas

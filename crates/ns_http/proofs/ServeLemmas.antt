@@ -1,8 +1,6 @@
 -- What follows from how far a connection has come.
-use Rattle.std.proofs.Common.{
-    ◌≡◌, ℕ, ◌+◌, ◌-◌, ◌^◌, min, ◌<◌, ◌≤◌, ◌⊎◌, inl, inr, true, false, List, [], ◌∷◌, ◌++◌, length, sym, refl, ap, ◌∙◌,
-    subst, append_assoc, arith
-}
+use Rattle.std.proofs.Common.{◌≡◌, ℕ, ◌+◌, ◌-◌, ◌^◌, min, ◌<◌, ◌≤◌, ◌⊎◌, inl, inr, true, false, List, [], ◌∷◌, ◌++◌, length, sym, refl, ap, ◌∙◌, subst}
+use Rattle.std.proofs.Common.{append_assoc, arith}
 use Rattle.std.specs.Prelude.{Option, Some, None}
 use Rattle.std.specs.Io.KnownBytes.{Consumes, Appends, Keeps}
 use Rattle.std.proofs.lemmas.Bool.{cases_lt}
@@ -11,11 +9,12 @@ use Rattle.ns_types.specs.Wire.Http.{Asked, IsPartial, Takes, End, Clean, Partia
 use Rattle.ns_types.specs.declared.reply.Rendered.{Rendered}
 use Rattle.ns_types.specs.Wire.Responses.{wires}
 use Rattle.ns_http.specs.declared.counting.Counts.{Counts}
-use Rattle.ns_http.specs.Counts.{IsOpen}
+use Rattle.ns_http.specs.Counts.{IsOpen, HasGrown}
 use Rattle.ns_http.specs.Output.{WritesSome}
 use Rattle.ns_http.specs.Conversation.{requests_of, Serves, streams_of, Conversation, CutShort}
 use Rattle.ns_http.specs.Steps.{Advances, CutsShort}
 use Rattle.ns_http.proofs.Progress.{Progress}
+use Rattle.ns_http.proofs.CountsLemmas.{HasGrown-none, HasGrown-then}
 use Rattle.ns_http.proofs.StreamLemmas.{Appends-then, Consumes-then, Consumes-kept, Consumes-none, Appends-none, WritesSome-then}
 use Rattle.ns_http.proofs.EngineLemmas.{Serves-then, Serves-more, wires-append, end_of}
 
@@ -37,7 +36,8 @@ progress_first answers s r c unread k w e = record {
   calls_most = omega arith;
   calls_least = inl (omega arith);
   read_faults = omega arith;
-  write_faults = omega arith;
+  room_given = omega arith;
+  writer_grows = HasGrown-none w;
   keeps_open = λ o. o;
   writer_keeps_open = λ o. o;
 }
@@ -49,11 +49,12 @@ calls_more k i a b (inr most) e = inr (omega arith)
 -- it goes on after a read whose requests were answered
 pub progress_more : {S : Type 0} {answers : S → Asked → Rendered → S → Type 0} {s t : S} {r0 r1 c0 c1 : Option (List ℕ)} {unread : List ℕ} {wanted n i : ℕ}
     {k0 k1 w0 w1 : Counts} (p : Progress answers s t r0 r1 c0 c1 unread wanted n i k0 k1 w0 w1) (u : S) (r2 c2 : Option (List ℕ))
-    (more unread' unread'' : List ℕ) (wanted' n' : ℕ) (k2 w2 : Counts) → Consumes r1 r2 more → unread' ≡ unread ++ more → length unread' ≤ 1064960 →
+    (more unread' unread'' : List ℕ) (wanted' n' : ℕ) (k2 w2 : Counts) → Consumes r1 r2 more → unread' ≡ unread ++ more → length unread' ≤ 1130496 →
     Advances answers t u unread' unread'' c1 c2 n n' (Some wanted') → k2.calls ≡ min (k1.calls + 1) (2 ^ 64 - 1) → k1.faults ≤ k2.faults →
-    w1.faults ≤ w2.faults → (IsOpen k1 → IsOpen k2) → (IsOpen w1 → IsOpen w2) → Progress answers s u r0 r2 c0 c2 unread'' wanted' n' (i + 1) k0 k2 w0 w2
+    min k1.least_room 65536 ≤ k2.least_room →
+    HasGrown w1 w2 → (IsOpen k1 → IsOpen k2) → (IsOpen w1 → IsOpen w2) → Progress answers s u r0 r2 c0 c2 unread'' wanted' n' (i + 1) k0 k2 w0 w2
 progress_more {S} {answers} {s} {t} {r0} {r1} {c0} {c1} {unread} {wanted} {n} {i} {k0} {k1} {w0} {w1}
-    p u r2 c2 more unread' unread'' wanted' n' k2 w2 consumes joined fits a calls read_faults write_faults stays writer_stays =
+    p u r2 c2 more unread' unread'' wanted' n' k2 w2 consumes joined fits a calls read_faults room write_grows stays writer_stays =
     let all = Serves-more answers s t p.read p.exchanges unread more p.serves in record {
       read = p.read ++ more;
       exchanges = p.exchanges ++ a.0;
@@ -70,7 +71,8 @@ progress_more {S} {answers} {s} {t} {r0} {r1} {c0} {c1} {unread} {wanted} {n} {i
       calls_most = omega (arith, p.calls_most);
       calls_least = calls_more k0.calls i k1.calls k2.calls p.calls_least calls;
       read_faults = omega (arith, p.read_faults);
-      write_faults = omega (arith, p.write_faults);
+      room_given = omega (arith, p.room_given, room);
+      writer_grows = HasGrown-then w0 w1 w2 p.writer_grows write_grows;
       keeps_open = λ o. stays (p.keeps_open o);
       writer_keeps_open = λ o. writer_stays (p.writer_keeps_open o);
     }
@@ -78,36 +80,39 @@ progress_more {S} {answers} {s} {t} {r0} {r1} {c0} {c1} {unread} {wanted} {n} {i
 -- it goes on after a read that leaves the request short
 pub progress_short : {S : Type 0} {answers : S → Asked → Rendered → S → Type 0} {s t : S} {r0 r1 c0 c1 : Option (List ℕ)} {unread : List ℕ} {wanted n i : ℕ}
     {k0 k1 w0 w1 : Counts} (p : Progress answers s t r0 r1 c0 c1 unread wanted n i k0 k1 w0 w1) (r2 : Option (List ℕ)) (more unread' : List ℕ) (k2 : Counts) →
-    Consumes r1 r2 more → unread' ≡ unread ++ more → length unread' < wanted → k2.calls ≡ min (k1.calls + 1) (2 ^ 64 - 1) → k1.faults ≤ k2.faults →
+    Consumes r1 r2 more → unread' ≡ unread ++ more → length unread' < wanted → k2.calls ≡ min (k1.calls + 1) (2 ^ 64 - 1) →
+    k1.faults ≤ k2.faults → min k1.least_room 65536 ≤ k2.least_room →
     (IsOpen k1 → IsOpen k2) → Progress answers s t r0 r2 c0 c1 unread' wanted n (i + 1) k0 k2 w0 w1
 progress_short {S} {answers} {s} {t} {r0} {r1} {c0} {c1} {unread} {wanted} {n} {i} {k0} {k1} {w0} {w1}
-    p r2 more unread' k2 consumes joined short calls read_faults stays = record {
-  read = p.read ++ more;
-  exchanges = p.exchanges;
-  consumes = Consumes-then r0 r1 r2 p.read more p.consumes consumes;
-  serves = subst (Serves answers s t (p.read ++ more) p.exchanges false) (sym joined) (Serves-more answers s t p.read p.exchanges unread more p.serves);
-  writes = p.writes;
-  count = p.count;
-  few = omega (arith, p.few);
-  partial = λ _. subst IsPartial (sym joined) (p.stays more (omega (arith, short, ap length joined)));
-  room = omega (arith, short, p.wanted_fits);
-  stays = λ after small. let text : unread' ++ after ≡ unread ++ (more ++ after) = ap (λ l. l ++ after) joined ∙ append_assoc unread more after in
-      subst IsPartial (sym text) (p.stays (more ++ after) (omega (arith, small, ap length text)));
-  wanted_fits = p.wanted_fits;
-  calls_most = omega (arith, p.calls_most);
-  calls_least = calls_more k0.calls i k1.calls k2.calls p.calls_least calls;
-  read_faults = omega (arith, p.read_faults);
-  write_faults = p.write_faults;
-  keeps_open = λ o. stays (p.keeps_open o);
-  writer_keeps_open = p.writer_keeps_open;
-}
+    p r2 more unread' k2 consumes joined short calls read_faults room stays = record {
+      read = p.read ++ more;
+      exchanges = p.exchanges;
+      consumes = Consumes-then r0 r1 r2 p.read more p.consumes consumes;
+      serves = subst (Serves answers s t (p.read ++ more) p.exchanges false) (sym joined) (Serves-more answers s t p.read p.exchanges unread more p.serves);
+      writes = p.writes;
+      count = p.count;
+      few = omega (arith, p.few);
+      partial = λ _. subst IsPartial (sym joined) (p.stays more (omega (arith, short, ap length joined)));
+      room = omega (arith, short, p.wanted_fits);
+      stays = λ after small. let text : unread' ++ after ≡ unread ++ (more ++ after) = ap (λ l. l ++ after) joined ∙ append_assoc unread more after in
+          subst IsPartial (sym text) (p.stays (more ++ after) (omega (arith, small, ap length text)));
+      wanted_fits = p.wanted_fits;
+      calls_most = omega (arith, p.calls_most);
+      calls_least = calls_more k0.calls i k1.calls k2.calls p.calls_least calls;
+      read_faults = omega (arith, p.read_faults);
+      room_given = omega (arith, p.room_given, room);
+      writer_grows = p.writer_grows;
+      keeps_open = λ o. stays (p.keeps_open o);
+      writer_keeps_open = p.writer_keeps_open;
+    }
 
 -- it goes on after a read that gave nothing
 pub progress_kept : {S : Type 0} {answers : S → Asked → Rendered → S → Type 0} {s t : S} {r0 r1 c0 c1 : Option (List ℕ)} {unread : List ℕ} {wanted n i : ℕ}
     {k0 k1 w0 w1 : Counts} (p : Progress answers s t r0 r1 c0 c1 unread wanted n i k0 k1 w0 w1) (r2 : Option (List ℕ)) (unread' : List ℕ) (k2 : Counts) →
-    Keeps r1 r2 → unread' ≡ unread → k2.calls ≡ min (k1.calls + 1) (2 ^ 64 - 1) → k1.faults ≤ k2.faults → (IsOpen k1 → IsOpen k2) →
+    Keeps r1 r2 → unread' ≡ unread → k2.calls ≡ min (k1.calls + 1) (2 ^ 64 - 1) → k1.faults ≤ k2.faults →
+    min k1.least_room 65536 ≤ k2.least_room → (IsOpen k1 → IsOpen k2) →
     Progress answers s t r0 r2 c0 c1 unread' wanted n (i + 1) k0 k2 w0 w1
-progress_kept {S} {answers} {s} {t} {r0} {r1} {c0} {c1} {unread} {wanted} {n} {i} {k0} {k1} {w0} {w1} p r2 unread' k2 keeps same calls read_faults stays =
+progress_kept {S} {answers} {s} {t} {r0} {r1} {c0} {c1} {unread} {wanted} {n} {i} {k0} {k1} {w0} {w1} p r2 unread' k2 keeps same calls read_faults room stays =
     subst (λ l. Progress answers s t r0 r2 c0 c1 l wanted n (i + 1) k0 k2 w0 w1) (sym same) (record {
       read = p.read;
       exchanges = p.exchanges;
@@ -123,7 +128,8 @@ progress_kept {S} {answers} {s} {t} {r0} {r1} {c0} {c1} {unread} {wanted} {n} {i
       calls_most = omega (arith, p.calls_most);
       calls_least = calls_more k0.calls i k1.calls k2.calls p.calls_least calls;
       read_faults = omega (arith, p.read_faults);
-      write_faults = p.write_faults;
+      room_given = omega (arith, p.room_given, room);
+      writer_grows = p.writer_grows;
       keeps_open = λ o. stays (p.keeps_open o);
       writer_keeps_open = p.writer_keeps_open;
     })
@@ -169,7 +175,7 @@ pub ends_closed : {S : Type 0} {answers : S → Asked → Rendered → S → Typ
 ends_closed {S} {answers} {s} {t} {r0} {r1} {c0} {c1} {unread} p u r2 c2 more unread' unread'' n' consumes joined a =
     let all = Serves-more answers s t p.read p.exchanges unread more p.serves in
     let served = Serves-then answers s t u (p.read ++ more) p.exchanges a.0 unread' a.1 true
-        (subst (Serves answers s t (p.read ++ more) p.exchanges false) (sym joined) all) a.2.serves in (
+    (subst (Serves answers s t (p.read ++ more) p.exchanges false) (sym joined) all) a.2.serves in (
       record {
         read = p.read ++ more;
         exchanges = p.exchanges ++ a.0;

@@ -1,8 +1,6 @@
 -- Facts on numbers that digits write, and on the values of a name.
-use Rattle.std.proofs.Common.{
-    ◌≡◌, ℕ, zero, suc, ◌+◌, ◌-◌, ◌*◌, ◌<◌, ◌≤◌, Bool, true, false, cond, ◌&&◌, List, [], ◌∷◌, ◌++◌, map, length, get_or,
-    take, drop, sym, refl, ap, ◌∙◌, arith
-}
+use Rattle.std.proofs.Common.{◌≡◌, ℕ, zero, suc, ◌+◌, ◌-◌, ◌*◌, ◌<◌, ◌≤◌, Bool, true, false, cond, ◌&&◌, List, [], ◌∷◌, ◌++◌, map, length, get_or, take, drop}
+use Rattle.std.proofs.Common.{sym, refl, ap, ◌∙◌, arith}
 use Rattle.std.specs.Prelude.{codes, Ok, Err}
 use Rattle.std.specs.List.{list_all, list_any}
 use Rattle.std.proofs.lemmas.Bool.{and_parts, or_left, or_right, cond-true, cond-false, lt-leb, le-leb}

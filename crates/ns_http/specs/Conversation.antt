@@ -4,6 +4,7 @@ use Rattle.std.specs.Io.KnownBytes.{Consumes, Appends, IsAtEnd}
 use Rattle.ns_types.specs.Wire.Http.{Asked, Received, Takes, End, Clean, Partial, Closed, is_closed, Requests}
 use Rattle.ns_types.specs.declared.reply.Rendered.{Rendered}
 use Rattle.ns_types.specs.Wire.Responses.{Exchange, wires, Answers}
+use Rattle.ns_http.specs.declared.counting.Counted.{Counted}
 use Rattle.ns_http.specs.declared.counting.Counts.{Counts}
 use Rattle.ns_http.specs.Counts.{HasFailed, IsReadOut}
 use Rattle.ns_http.specs.Output.{WritesSome}
@@ -27,6 +28,13 @@ pub record Streams : Type 0 where
 
 abbrev pub streams_of : Option (List ℕ) → Option (List ℕ) → Option (List ℕ) → Option (List ℕ) → Streams
 streams_of r s w v = record { remaining_old = r; remaining_new = s; contents_old = w; contents_new = v }
+
+-- what is known of the bytes of a counted reader and a counted writer, before and after
+abbrev pub streams_between :
+    {R W : Type 0} → (R → Option (List ℕ)) → (W → Option (List ℕ))
+    → Counted R → Counted R → Counted W → Counted W → Streams
+streams_between remaining contents reader reader' writer writer' =
+    streams_of (remaining reader.inner) (remaining reader'.inner) (contents writer.inner) (contents writer'.inner)
 
 -- What was read is the requests of these exchanges with that end, and what was written is their replies.
 pub record Conversation
@@ -62,7 +70,7 @@ EndsInside Clean remaining counts = ⊥
 EndsInside Partial remaining counts = IsAtEnd remaining × IsTrue counts.ended
 EndsInside Closed remaining counts = ⊥
 
--- the reader failed, ended inside a request, or may not be read further
+-- the reader failed otherwise than by interruption, ended inside a request, or may not be read further
 abbrev pub IsReadFault : End → Option (List ℕ) → Counts → Counts → Type 0
 IsReadFault end remaining old new =
     (is_closed end ≡ false) × (HasFailed old new ⊎ EndsInside end remaining new ⊎ IsReadOut old new)

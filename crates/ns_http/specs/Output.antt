@@ -1,18 +1,34 @@
 -- What the output writes.
-use Rattle.std.specs.Prelude.{◌≡◌, ℕ, List, ◌++◌, Option}
-use Rattle.std.specs.Io.KnownBytes.{Appends}
+use Rattle.std.specs.Prelude.{◌≡◌, ℕ, Bool, List, ◌++◌, Option, Result}
+use Rattle.std.specs.Io.KnownBytes.{Appends, WriteAppends}
 use Rattle.ns_types.specs.declared.reply.Rendered.{Rendered}
+use Rattle.ns_types.specs.Wire.Responses.{wire}
+use Rattle.ns_http.specs.declared.counting.Counted.{Counted}
 use Rattle.ns_http.specs.declared.response.Outgoing.{Outgoing}
 
 -- the bytes that a response shows
 abbrev pub rendered_by : Outgoing → Rendered
 rendered_by r = record { status = r.status; index = r.index; body = r.body.now }
 
+abbrev pub wire_of : Outgoing → Bool → List ℕ
+wire_of r close = wire (rendered_by r) close
+
 -- a first part of the bytes was written
 abbrev pub WritesSome : Option (List ℕ) → Option (List ℕ) → List ℕ → Type 0
-WritesSome old new bytes = (written : List ℕ) × (lost : List ℕ) × (bytes ≡ written ++ lost) × Appends old new written
+WritesSome old new bytes =
+    (written : List ℕ) × (lost : List ℕ) × (bytes ≡ written ++ lost) × Appends old new written
 
 -- The bytes came behind those that waited. Some were written, and the others wait.
 abbrev pub Queues : Option (List ℕ) → Option (List ℕ) → List ℕ → List ℕ → List ℕ → Type 0
 Queues old new waiting waiting' bytes = (written : List ℕ) × Appends old new written ×
     (waiting ++ bytes ≡ written ++ waiting')
+
+-- the same of a counted writer: one write of these bytes, all of them, and a first part
+abbrev pub WritesTo : {W E : Type 0} → (W → Option (List ℕ)) → Counted W → Counted W → Result ℕ E → List ℕ → Type 0
+WritesTo contents old new result bytes = WriteAppends (contents old.inner) (contents new.inner) result bytes
+
+abbrev pub WritesAll : {W : Type 0} → (W → Option (List ℕ)) → Counted W → Counted W → List ℕ → Type 0
+WritesAll contents old new bytes = Appends (contents old.inner) (contents new.inner) bytes
+
+abbrev pub WritesPart : {W : Type 0} → (W → Option (List ℕ)) → Counted W → Counted W → List ℕ → Type 0
+WritesPart contents old new bytes = WritesSome (contents old.inner) (contents new.inner) bytes

@@ -53,7 +53,7 @@ Steps answers old new input input' before after waiting waiting' answered answer
     × Queued answers old new input rest before after waiting waiting' answered answered' (x ∷ []) true
 Steps answers old new input input' before after waiting waiting' answered answered' (Step.Waits wanted) =
     (new ≡ old) × (input' ≡ input) × (after ≡ before) × (waiting' ≡ waiting) × (answered' ≡ answered) ×
-        Waits input wanted
+    Waits input wanted
 
 -- the writer failed while the last of these exchanges was made, or after it
 abbrev pub CutsShort :

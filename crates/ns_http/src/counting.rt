@@ -1,8 +1,7 @@
 //! Readers and writers that count their faults.
-ghost use Rattle.std.specs.Prelude.{◌≡◌, ◌<◌, ◌≤◌, nat_lt, length, OnErr, IsTrue};
+ghost use Rattle.std.specs.Prelude.{◌≡◌, ◌<◌, nat_lt, length};
 ghost use Rattle.std.specs.Io.{ReadsAtMost, WritesAtMost};
-ghost use Rattle.std.specs.Io.KnownBytes.{ReadConsumes, WriteAppends};
-ghost use Rattle.ns_http.specs.Counts.{HasFailed, more, no_counts, is_interruption, after_read, after_write};
+ghost use Rattle.ns_http.specs.Counts.{HasGrown, no_counts, is_interruption, after_call, after_read, after_write};
 
 use std::io::{self, ErrorKind, Read, Write};
 
@@ -11,6 +10,8 @@ use std::io::{self, ErrorKind, Read, Write};
 pub struct Counts {
     calls: u64,
     faults: u64,
+    interruptions: u64,
+    least_room: u64,
     // A read that had room gave no byte.
     ended: bool,
     // A call failed otherwise than by interruption, or a write took no byte of some.
@@ -27,11 +28,26 @@ impl Counts {
         self.calls
     }
 
-    /// How many calls failed. A write that took no byte of some is one of them.
+    /// How many calls failed otherwise than by interruption. A write that took no byte of some is
+    /// one of them.
     pub fn faults(self) -> u64
         ensures { result ≡ self.faults }
     {
         self.faults
+    }
+
+    /// How many calls were interrupted.
+    pub fn interruptions(self) -> u64
+        ensures { result ≡ self.interruptions }
+    {
+        self.interruptions
+    }
+
+    /// The least room that a read was given, in bytes: the greatest number where there was no read.
+    pub fn least_room(self) -> u64
+        ensures { result ≡ self.least_room }
+    {
+        self.least_room
     }
 
     /// Whether a read that had room gave no byte.
@@ -48,11 +64,26 @@ impl Counts {
         self.broken
     }
 
-    /// Whether a read came after the end, or a call after one that failed otherwise than by interruption.
+    /// Whether a read came after the end, or a call after one that failed otherwise than by
+    /// interruption.
     pub fn went_on(self) -> bool
         ensures { result ≡ self.went_on }
     {
         self.went_on
+    }
+
+    /// Counts one call.
+    fn add_call(&mut self, is_interrupted: bool, is_fault: bool)
+        ensures counts { self.new ≡ after_call self.old is_interrupted is_fault }
+        ensures grows { HasGrown self.old self.new }
+    {
+        *self = Counts {
+            calls: self.calls.saturating_add(1),
+            faults: self.faults.saturating_add(u64::from(is_fault)),
+            interruptions: self.interruptions.saturating_add(u64::from(is_interrupted)),
+            broken: self.broken || is_fault,
+            ..*self
+        };
     }
 }
 
@@ -79,6 +110,8 @@ impl<T> Counted<T> {
         let counts = Counts {
             calls: 0,
             faults: 0,
+            interruptions: 0,
+            least_room: u64::MAX,
             ended: false,
             broken: false,
             went_on: false,
@@ -103,54 +136,46 @@ impl<T> Counted<T> {
 }
 
 impl<R: Read> Counted<R> {
+    ghost use Rattle.ns_http.specs.Reading.{ReadsFrom};
+
     /// One read.
     pub(crate) fn read(&mut self, buf: &mut [u8]) -> io::Result<usize>
         ensures bound { ReadsAtMost result buf.new }
-        ensures bytes { ReadConsumes (R.remaining self.old.inner) (R.remaining self.new.inner) result buf.new }
-        ensures counts { self.new.counts ≡ after_read self.old.counts (nat_lt 0 (length buf.old)) result }
-        ensures ended { result ≡ Ok 0 → 0 < length buf.old → IsTrue self.new.counts.ended }
-        ensures err { OnErr result (HasFailed self.old.counts self.new.counts) }
-        ensures faults { self.old.counts.faults ≤ self.new.counts.faults }
-        ensures calls { self.new.counts.calls ≡ more self.old.counts.calls 1 }
+        ensures bytes { ReadsFrom R.remaining self.old self.new result buf.new }
+        ensures counts { self.new.counts ≡ after_read self.old.counts (length buf.old) result }
+        ensures grows { HasGrown self.old.counts self.new.counts }
     {
         let result = self.inner.read(buf);
+        let (is_end, is_interrupted, is_fault) = match &result {
+            Ok(count) => (*count == 0 && !buf.is_empty(), false, false),
+            Err(error) => (false, is_interruption(error), !is_interruption(error)),
+        };
         self.counts.went_on |= self.counts.ended || self.counts.broken;
-        self.counts.calls = self.counts.calls.saturating_add(1);
-        match &result {
-            Ok(count) => self.counts.ended |= *count == 0 && !buf.is_empty(),
-            Err(error) => {
-                self.counts.faults = self.counts.faults.saturating_add(1);
-                self.counts.broken |= !is_interruption(error);
-            }
-        }
+        self.counts.add_call(is_interrupted, is_fault);
+        self.counts.ended |= is_end;
+        self.counts.least_room = self.counts.least_room.min(buf.len() as u64);
         result
     }
 }
 
 impl<W: Write> Counted<W> {
+    ghost use Rattle.ns_http.specs.Output.{WritesTo};
+
     /// One write. To take no byte of some is a fault.
     pub(crate) fn write(&mut self, buf: &[u8]) -> io::Result<usize>
         ensures bound { WritesAtMost result buf.now }
-        ensures bytes { WriteAppends (W.contents self.old.inner) (W.contents self.new.inner) result buf.now }
-        ensures counts { self.new.counts ≡ after_write self.old.counts (nat_lt 0 (length buf.now)) result }
-        ensures stuck { result ≡ Ok 0 → 0 < length buf.now → HasFailed self.old.counts self.new.counts }
-        ensures err { OnErr result (HasFailed self.old.counts self.new.counts) }
-        ensures faults { self.old.counts.faults ≤ self.new.counts.faults }
+        ensures bytes { WritesTo W.contents self.old self.new result buf.now }
+        ensures counts { self.new.counts
+            ≡ after_write self.old.counts (nat_lt 0 (length buf.now)) result }
+        ensures grows { HasGrown self.old.counts self.new.counts }
     {
         let result = self.inner.write(buf);
-        self.counts.went_on |= self.counts.broken;
-        self.counts.calls = self.counts.calls.saturating_add(1);
-        let (is_fault, is_break) = match &result {
-            Ok(count) => {
-                let is_stuck = *count == 0 && !buf.is_empty();
-                (is_stuck, is_stuck)
-            }
-            Err(error) => (true, !is_interruption(error)),
+        let (is_interrupted, is_fault) = match &result {
+            Ok(count) => (false, *count == 0 && !buf.is_empty()),
+            Err(error) => (is_interruption(error), !is_interruption(error)),
         };
-        if is_fault {
-            self.counts.faults = self.counts.faults.saturating_add(1);
-        }
-        self.counts.broken |= is_break;
+        self.counts.went_on |= self.counts.broken;
+        self.counts.add_call(is_interrupted, is_fault);
         result
     }
 }

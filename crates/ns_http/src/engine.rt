@@ -1,29 +1,33 @@
 //! One connection, from its first byte to its end.
-ghost use Rattle.std.specs.Prelude.{◌≡◌, ℕ, ◌+◌, ◌-◌, ◌^◌, ◌<◌, ◌≤◌, [], length, IfOk, OnOk, OnErr, IsErrOf, IsTrue, false};
+ghost use Rattle.std.specs.Prelude.{◌≡◌, ℕ, ◌+◌, ◌-◌, ◌^◌, ◌<◌, ◌≤◌, min, [], length, IfOk, OnOk, OnErr, IsErrOf, IsTrue, false};
 ghost use Rattle.ns_types.specs.Wire.Http.{End};
-ghost use Rattle.ns_http.specs.Conversation.{streams_of, Conversation, CutShort, EndsWell, IsReadFault};
-ghost use Rattle.ns_http.specs.Counts.{HasFailed, IsOpen};
+ghost use Rattle.ns_http.specs.Conversation.{streams_between, Conversation, CutShort, EndsWell, IsReadFault};
+ghost use Rattle.ns_http.specs.Counts.{HasGrown, IsOpen, IsWriteFault};
 
 use crate::counting::{Counted, is_interruption};
 use crate::head::{Front, Request, read_front};
-use crate::input::Input;
+use crate::input::{Input, READ_ROOM};
 use crate::output::{Output, WriteFault};
 use crate::response::Outgoing;
 use ns_types::reply::Response;
 use std::alloc::{AllocError, Allocator};
 use std::io::{Read, Write};
+use thiserror::Error;
 
 /// How many reads one connection may make.
 pub const READ_LIMIT: u64 = 16_777_216;
 
 /// Why a connection was given up.
-#[derive(Clone, Copy, Debug, PartialEq, Eq)]
+#[derive(Clone, Copy, Debug, PartialEq, Eq, Error)]
 pub enum ConnFault {
     /// The reader failed, or ended inside a request, or the reads ran out.
+    #[error("read fault")]
     Read,
-    /// The writer failed, or took no byte of some.
+    /// The writer failed, took no byte of some, or was interrupted too often.
+    #[error("write fault")]
     Write,
     /// There is no memory for the buffers. Nothing was read, asked or written.
+    #[error("out of memory")]
     Memory,
 }
 
@@ -49,7 +53,8 @@ impl From<WriteFault> for ConnFault {
     }
 }
 
-/// What answers requests: a state, and a relation between a request, its reply and the states before and after.
+/// What answers requests: a state, and a relation between a request, its reply and the states before
+/// and after.
 pub trait Answer {
     ghost use Rattle.ns_types.specs.Wire.Http.{Asked};
     ghost use Rattle.ns_types.specs.declared.reply.Rendered.{Rendered};
@@ -89,7 +94,7 @@ struct Connection<A: Allocator> {
 impl<A: Allocator> Connection<A> {
     ghost use Rattle.ns_http.specs.Input.{unread};
     ghost use Rattle.ns_http.specs.Waiting.{waiting};
-    ghost use Rattle.ns_http.specs.Steps.{Steps, Advances, CutsShort};
+    ghost use Rattle.ns_http.specs.Connection.{MakesStep, CutsStepShort, AnswersAll, CutsAnswersShort};
 
     /// Answers the request at the front, if it is whole.
     fn step<W: Write, H: Answer>(
@@ -98,13 +103,12 @@ impl<A: Allocator> Connection<A> {
         handler: &mut H,
     ) -> Result<Step, WriteFault>
         requires { self.old.answered + length (unread self.old.input) < 2 ^ 64 - 1 }
-        ensures ok { IfOk result (λ step. Steps H.answers handler.old handler.new (unread self.old.input) (unread self.new.input)
-            (W.contents writer.old.inner) (W.contents writer.new.inner) (waiting self.old.output) (waiting self.new.output)
-            self.old.answered self.new.answered step) }
-        ensures err { OnErr result (CutsShort H.answers handler.old handler.new (unread self.old.input)
-            (W.contents writer.old.inner) (W.contents writer.new.inner) (waiting self.old.output)) }
-        ensures failed { OnErr result (HasFailed writer.old.counts writer.new.counts) }
-        ensures faults { writer.old.counts.faults ≤ writer.new.counts.faults }
+        ensures ok { IfOk result (λ step. MakesStep H.answers W.contents
+            handler.old handler.new writer.old writer.new self.old self.new step) }
+        ensures err { OnErr result
+            (CutsStepShort H.answers W.contents handler.old handler.new writer.old writer.new self.old) }
+        ensures failed { OnErr result (IsWriteFault writer.old.counts writer.new.counts) }
+        ensures grows { HasGrown writer.old.counts writer.new.counts }
         ensures open { OnOk result (IsOpen writer.old.counts → IsOpen writer.new.counts) }
         ensures stops { IsOpen writer.old.counts → writer.new.counts.went_on ≡ false }
     {
@@ -132,8 +136,8 @@ impl<A: Allocator> Connection<A> {
         }
     }
 
-    /// Answers each whole request that was read, sends the replies, and says how many bytes the next
-    /// one takes at least. It says nothing once the connection closes.
+    /// Answers each whole request that was read, sends the replies, and says how many bytes the
+    /// next one takes at least. It says nothing once the connection closes.
     fn advance<W: Write, H: Answer>(
         &mut self,
         writer: &mut Counted<W>,
@@ -142,12 +146,12 @@ impl<A: Allocator> Connection<A> {
         requires count { self.old.answered + length (unread self.old.input) < 2 ^ 64 - 1 }
         requires sent { waiting self.old.output ≡ [] }
         ensures sent { OnOk result (waiting self.new.output ≡ []) }
-        ensures ok { IfOk result (λ wanted. Advances H.answers handler.old handler.new (unread self.old.input) (unread self.new.input)
-            (W.contents writer.old.inner) (W.contents writer.new.inner) self.old.answered self.new.answered wanted) }
-        ensures err { OnErr result (CutsShort H.answers handler.old handler.new (unread self.old.input)
-            (W.contents writer.old.inner) (W.contents writer.new.inner) []) }
-        ensures failed { OnErr result (HasFailed writer.old.counts writer.new.counts) }
-        ensures faults { writer.old.counts.faults ≤ writer.new.counts.faults }
+        ensures ok { IfOk result (λ wanted. AnswersAll H.answers W.contents
+            handler.old handler.new writer.old writer.new self.old self.new wanted) }
+        ensures err { OnErr result
+            (CutsAnswersShort H.answers W.contents handler.old handler.new writer.old writer.new self.old) }
+        ensures failed { OnErr result (IsWriteFault writer.old.counts writer.new.counts) }
+        ensures grows { HasGrown writer.old.counts writer.new.counts }
         ensures open { OnOk result (IsOpen writer.old.counts → IsOpen writer.new.counts) }
         ensures stops { IsOpen writer.old.counts → writer.new.counts.went_on ≡ false }
     {
@@ -167,17 +171,20 @@ impl<A: Allocator> Connection<A> {
     }
 }
 
-/// Answers the requests of a connection, one after the other and in order, and says how many there were.
+/// Answers the requests of a connection, one after the other and in order, and says how many there
+/// were.
 ///
-/// It reads at most `READ_LIMIT` times and takes memory only before the first read. It ends well where the input ends
-/// between two requests, or after a request that closes the connection. Heads that are refused it answers itself. An
-/// interrupted read or write is made again.
+/// It reads at most `READ_LIMIT` times, with room for `READ_ROOM` bytes each time, and takes memory
+/// only before the first read. It ends well where the input ends between two requests, or after a
+/// request that closes the connection. Heads that are refused it answers itself. An interrupted read
+/// is made again, and so are `INTERRUPTION_LIMIT` interrupted writes of one text.
 ///
 /// # Errors
 ///
-/// `Read` where the reader failed, the input ended inside a request, or the reads ran out: the whole requests before
-/// it are answered. `Write` where the writer failed: a first part of the replies is written. `Memory` where there is
-/// none for the buffers.
+/// `Read` where the reader failed, the input ended inside a request, or the reads ran out: the whole
+/// requests before it are answered. `Write` where the writer failed, or was interrupted more than
+/// `INTERRUPTION_LIMIT` times: a first part of the replies is written. `Memory` where there is none
+/// for the buffers. A call that was interrupted did not fail.
 pub fn serve<A: Allocator + Copy, R: Read, W: Write, H: Answer>(
     alloc: A,
     reader: &mut Counted<R>,
@@ -186,28 +193,30 @@ pub fn serve<A: Allocator + Copy, R: Read, W: Write, H: Answer>(
 ) -> Result<u64, ConnFault>
     ensures ok { IfOk result (λ count. (end : End)
         × (c : Conversation H.answers handler.old handler.new
-        (streams_of (R.remaining reader.old.inner) (R.remaining reader.new.inner)
-        (W.contents writer.old.inner) (W.contents writer.new.inner)) end)
-        × EndsWell end (R.remaining reader.new.inner) reader.new.counts × (count ≡ length c.exchanges)) }
+        (streams_between R.remaining W.contents reader.old reader.new writer.old writer.new) end)
+        × EndsWell end (R.remaining reader.new.inner) reader.new.counts
+        × (count ≡ length c.exchanges)) }
     ensures read { IsErrOf result ConnFault.Read → (end : End)
         × Conversation H.answers handler.old handler.new
-        (streams_of (R.remaining reader.old.inner) (R.remaining reader.new.inner)
-        (W.contents writer.old.inner) (W.contents writer.new.inner)) end
+        (streams_between R.remaining W.contents reader.old reader.new writer.old writer.new) end
         × IsReadFault end (R.remaining reader.new.inner) reader.old.counts reader.new.counts }
     ensures write { IsErrOf result ConnFault.Write
         → CutShort H.answers handler.old handler.new
-        (streams_of (R.remaining reader.old.inner) (R.remaining reader.new.inner)
-        (W.contents writer.old.inner) (W.contents writer.new.inner))
-        × HasFailed writer.old.counts writer.new.counts }
+        (streams_between R.remaining W.contents reader.old reader.new writer.old writer.new)
+        × IsWriteFault writer.old.counts writer.new.counts }
     ensures memory { IsErrOf result ConnFault.Memory
         → (reader.new ≡ reader.old) × (writer.new ≡ writer.old) × (handler.new ≡ handler.old) }
-    // No read follows one that found the end, or that failed otherwise than by interruption, and no write one that failed so.
+    // No read follows one that found the end, or that failed otherwise than by interruption, and
+    // no write one that failed so.
     ensures stops { IsOpen reader.old.counts → reader.new.counts.went_on ≡ false }
     ensures write_stops { IsOpen writer.old.counts → writer.new.counts.went_on ≡ false }
     // And such a failure is the fault that is named.
-    ensures broken { IsOpen reader.old.counts → IsTrue reader.new.counts.broken → result ≡ Err ConnFault.Read }
-    ensures write_broken { IsOpen writer.old.counts → IsTrue writer.new.counts.broken → result ≡ Err ConnFault.Write }
+    ensures broken { IsOpen reader.old.counts → IsTrue reader.new.counts.broken
+        → result ≡ Err ConnFault.Read }
+    ensures write_broken { IsOpen writer.old.counts → IsTrue writer.new.counts.broken
+        → result ≡ Err ConnFault.Write }
     ensures reads { reader.new.counts.calls ≤ reader.old.counts.calls + READ_LIMIT }
+    ensures room { min reader.old.counts.least_room READ_ROOM ≤ reader.new.counts.least_room }
 {
     let mut connection = Connection {
         input: Input::new(alloc)?,

@@ -1,7 +1,8 @@
 //! The bytes that were read and not yet used.
-ghost use Rattle.std.specs.Prelude.{◌≡◌, ◌+◌, ◌<◌, ◌≤◌, ℕ, List, [], ◌++◌, length, take, drop, vec_len, vec_capacity, IfOk, OnErr, IsTrue, true};
-ghost use Rattle.std.specs.Io.KnownBytes.{Consumes, Keeps, IsAtEnd};
-ghost use Rattle.ns_http.specs.Counts.{HasFailed, more, after_read};
+ghost use Rattle.std.specs.Prelude.{◌≡◌, ◌+◌, ◌-◌, ◌<◌, ◌≤◌, [], length, take, drop, vec_len, vec_capacity, IfOk, OnErr};
+ghost use Rattle.std.specs.Io.KnownBytes.{IsAtEnd};
+ghost use Rattle.ns_http.specs.Counts.{CountsRead, HasGrown, after_read};
+ghost use Rattle.ns_http.specs.Reading.{Gains, GainsNothing};
 
 use crate::counting::Counted;
 use std::alloc::{AllocError, Allocator};
@@ -10,24 +11,25 @@ use std::io::{self, Read};
 /// Room for the longest request.
 pub(crate) const INPUT_LEN: usize = 16_384 + 1_048_576;
 
-/// What is there to read into at first.
-const FIRST_LEN: usize = 65_536;
+/// What each read has room for at least, in bytes.
+pub const READ_ROOM: usize = 65_536;
+
+/// Room for the longest request, and behind all of it but a byte still for a read.
+const BUFFER_LEN: usize = INPUT_LEN + READ_ROOM;
 
 /// Reads once into the bytes from `end` on.
 fn read_at<R: Read>(bytes: &mut [u8], end: usize, reader: &mut Counted<R>) -> io::Result<usize>
     requires { end < length bytes.old }
     ensures bound { IfOk result (λ n. end + n ≤ length bytes.new) }
     ensures front { take end bytes.new ≡ take end bytes.old }
-    ensures more { IfOk result (λ n. (more : List ℕ) × (length more ≡ n)
-        × (take (end + n) bytes.new ≡ take end bytes.old ++ more)
-        × Consumes (R.remaining reader.old.inner) (R.remaining reader.new.inner) more) }
+    ensures more { IfOk result (λ n.
+        Gains R.remaining reader.old reader.new (take end bytes.old) (take (end + n) bytes.new) n) }
     ensures none { result ≡ Ok 0 → IsAtEnd (R.remaining reader.new.inner) }
-    ensures err { OnErr result (Keeps (R.remaining reader.old.inner) (R.remaining reader.new.inner)) }
-    ensures counts { reader.new.counts ≡ after_read reader.old.counts true result }
-    ensures calls { reader.new.counts.calls ≡ more reader.old.counts.calls 1 }
-    ensures ended { result ≡ Ok 0 → IsTrue reader.new.counts.ended }
-    ensures failed { OnErr result (HasFailed reader.old.counts reader.new.counts) }
-    ensures faults { reader.old.counts.faults ≤ reader.new.counts.faults }
+    ensures err { OnErr result
+        (GainsNothing R.remaining reader.old reader.new (take end bytes.old) (take end bytes.new)) }
+    ensures counts { reader.new.counts
+        ≡ after_read reader.old.counts (length bytes.old - end) result }
+    ensures grows { HasGrown reader.old.counts reader.new.counts }
 {
     let count = reader.read(&mut bytes[end..])?;
     Ok(count)
@@ -41,8 +43,8 @@ pub(crate) struct Input<A: Allocator> {
     end: usize,
     ghost ordered: { start ≤ end },
     ghost in_range: { end ≤ vec_len bytes },
-    ghost size: { vec_len bytes ≤ 1064960 },
-    ghost capacity: { 1064960 ≤ vec_capacity bytes },
+    ghost size: { vec_len bytes ≤ 1130496 },
+    ghost capacity: { 1130496 ≤ vec_capacity bytes },
 }
 
 impl<A: Allocator> Input<A> {
@@ -51,7 +53,7 @@ impl<A: Allocator> Input<A> {
     pub(crate) fn new(alloc: A) -> Result<Input<A>, AllocError>
         ensures { IfOk result (λ input. unread input ≡ []) }
     {
-        let bytes = Vec::with_capacity(alloc, INPUT_LEN)?;
+        let bytes = Vec::with_capacity(alloc, BUFFER_LEN)?;
         Ok(Input {
             bytes,
             start: 0,
@@ -61,7 +63,7 @@ impl<A: Allocator> Input<A> {
 
     pub(crate) fn unread(&self) -> &[u8]
         ensures value { result.now ≡ unread self.now }
-        ensures len { length (unread self.now) ≤ INPUT_LEN }
+        ensures len { length (unread self.now) ≤ BUFFER_LEN }
     {
         &self.bytes[self.start..self.end]
     }
@@ -90,11 +92,12 @@ impl<A: Allocator> Input<A> {
         requires { length (unread self.old) < INPUT_LEN }
         ensures start { self.new.start ≡ 0 }
         ensures unread { unread self.new ≡ unread self.old }
-        ensures room { self.new.end < vec_len self.new.bytes }
+        ensures room { self.new.end + READ_ROOM ≤ vec_len self.new.bytes }
     {
         self.move_to_front();
-        if self.end == self.bytes.len() {
-            let len = (2 * self.end).clamp(FIRST_LEN, INPUT_LEN);
+        let least = self.end + READ_ROOM;
+        if self.bytes.len() < least {
+            let len = (2 * self.end).clamp(least, BUFFER_LEN);
             let _ = self.bytes.resize(len, 0);
         }
     }
@@ -102,18 +105,14 @@ impl<A: Allocator> Input<A> {
     /// Reads once, behind the unread bytes.
     pub(crate) fn fill<R: Read>(&mut self, reader: &mut Counted<R>) -> io::Result<usize>
         requires { length (unread self.old) < INPUT_LEN }
-        ensures ok { IfOk result (λ n. (more : List ℕ) × (length more ≡ n)
-            × (unread self.new ≡ unread self.old ++ more)
-            × Consumes (R.remaining reader.old.inner) (R.remaining reader.new.inner) more) }
-        ensures len { length (unread self.new) ≤ INPUT_LEN }
+        ensures ok { IfOk result (λ n.
+            Gains R.remaining reader.old reader.new (unread self.old) (unread self.new) n) }
+        ensures len { length (unread self.new) ≤ BUFFER_LEN }
         ensures end { result ≡ Ok 0 → IsAtEnd (R.remaining reader.new.inner) }
-        ensures err { OnErr result ((unread self.new ≡ unread self.old)
-            × Keeps (R.remaining reader.old.inner) (R.remaining reader.new.inner)) }
-        ensures counts { reader.new.counts ≡ after_read reader.old.counts true result }
-        ensures calls { reader.new.counts.calls ≡ more reader.old.counts.calls 1 }
-        ensures ended { result ≡ Ok 0 → IsTrue reader.new.counts.ended }
-        ensures failed { OnErr result (HasFailed reader.old.counts reader.new.counts) }
-        ensures faults { reader.old.counts.faults ≤ reader.new.counts.faults }
+        ensures err { OnErr result
+            (GainsNothing R.remaining reader.old reader.new (unread self.old) (unread self.new)) }
+        ensures counts { CountsRead reader.old.counts reader.new.counts result }
+        ensures grows { HasGrown reader.old.counts reader.new.counts }
     {
         self.make_room();
         let end = self.end;

@@ -9,6 +9,8 @@ mod input;
 mod output;
 mod response;
 
-pub use crate::counting::Counted;
-pub use crate::engine::{Answer, ConnFault, serve};
+pub use crate::counting::{Counted, Counts};
+pub use crate::engine::{Answer, ConnFault, READ_LIMIT, serve};
 pub use crate::head::Request;
+pub use crate::input::READ_ROOM;
+pub use crate::output::INTERRUPTION_LIMIT;

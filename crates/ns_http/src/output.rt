@@ -1,9 +1,8 @@
 //! Responses as bytes.
 ghost use Rattle.std.specs.Prelude.{◌≡◌, ◌<◌, ◌≤◌, ◌+◌, ℕ, List, [], ◌++◌, length, IfOk, OnOk, OnErr, vec_len, vec_capacity, decimal, false};
-ghost use Rattle.std.specs.Io.KnownBytes.{Appends};
-ghost use Rattle.ns_types.specs.Wire.Responses.{index_line, close_line, response_head, wire};
-ghost use Rattle.ns_http.specs.Counts.{HasFailed, IsOpen};
-ghost use Rattle.ns_http.specs.Output.{rendered_by, WritesSome, Queues};
+ghost use Rattle.ns_types.specs.Wire.Responses.{index_line, close_line, response_head};
+ghost use Rattle.ns_http.specs.Counts.{HasGrown, IsOpen, IsWriteFault};
+ghost use Rattle.ns_http.specs.Output.{wire_of, WritesAll, WritesPart};
 
 use crate::counting::{Counted, is_interruption};
 use crate::response::{Outgoing, content_type, phrase};
@@ -17,25 +16,30 @@ pub(crate) const OUTPUT_LEN: usize = 65_536;
 /// What a head of a response takes at most.
 const MAX_RESPONSE_HEAD: usize = 512;
 
-/// How many interrupted writes of one text are tried again.
-const WRITE_TRIES: u32 = 1_024;
+/// How many interrupted writes of one text are made again.
+pub const INTERRUPTION_LIMIT: u64 = 65_536;
 
 /// Writes all the bytes.
 fn write_all<W: Write>(writer: &mut Counted<W>, bytes: &[u8]) -> Result<(), WriteFault>
-    ensures ok { OnOk result (Appends (W.contents writer.old.inner) (W.contents writer.new.inner) bytes.now) }
-    ensures err { OnErr result (WritesSome (W.contents writer.old.inner) (W.contents writer.new.inner) bytes.now) }
-    ensures failed { OnErr result (HasFailed writer.old.counts writer.new.counts) }
-    ensures faults { writer.old.counts.faults ≤ writer.new.counts.faults }
+    ensures ok { OnOk result (WritesAll W.contents writer.old writer.new bytes.now) }
+    ensures err { OnErr result (WritesPart W.contents writer.old writer.new bytes.now) }
+    ensures failed { OnErr result (IsWriteFault writer.old.counts writer.new.counts) }
+    ensures grows { HasGrown writer.old.counts writer.new.counts }
     ensures open { OnOk result (IsOpen writer.old.counts → IsOpen writer.new.counts) }
     ensures stops { IsOpen writer.old.counts → writer.new.counts.went_on ≡ false }
 {
     let mut rest = bytes;
-    let mut tries = WRITE_TRIES;
+    let mut tries = INTERRUPTION_LIMIT;
     while !rest.is_empty() {
         match writer.write(rest) {
-            Ok(count) if count > 0 => rest = &rest[count..],
-            Err(error) if is_interruption(&error) && tries > 0 => tries -= 1,
-            _ => return Err(WriteFault),
+            Ok(0) => return Err(WriteFault),
+            Ok(count) => rest = &rest[count..],
+            Err(error) => {
+                if !is_interruption(&error) || tries == 0 {
+                    return Err(WriteFault);
+                }
+                tries -= 1;
+            }
         }
     }
     Ok(())
@@ -54,7 +58,7 @@ pub(crate) struct Output<A: Allocator> {
 }
 
 impl<A: Allocator> Output<A> {
-    ghost use Rattle.ns_http.specs.Waiting.{waiting};
+    ghost use Rattle.ns_http.specs.Waiting.{waiting, Sends};
 
     pub(crate) fn new(alloc: A) -> Result<Output<A>, AllocError>
         ensures { IfOk result (λ output. waiting output ≡ []) }
@@ -123,10 +127,10 @@ impl<A: Allocator> Output<A> {
     /// Sends what waits.
     pub(crate) fn flush<W: Write>(&mut self, writer: &mut Counted<W>) -> Result<(), WriteFault>
         ensures empty { OnOk result (waiting self.new ≡ []) }
-        ensures ok { OnOk result (Appends (W.contents writer.old.inner) (W.contents writer.new.inner) (waiting self.old)) }
-        ensures err { OnErr result (WritesSome (W.contents writer.old.inner) (W.contents writer.new.inner) (waiting self.old)) }
-        ensures failed { OnErr result (HasFailed writer.old.counts writer.new.counts) }
-        ensures faults { writer.old.counts.faults ≤ writer.new.counts.faults }
+        ensures ok { OnOk result (WritesAll W.contents writer.old writer.new (waiting self.old)) }
+        ensures err { OnErr result (WritesPart W.contents writer.old writer.new (waiting self.old)) }
+        ensures failed { OnErr result (IsWriteFault writer.old.counts writer.new.counts) }
+        ensures grows { HasGrown writer.old.counts writer.new.counts }
         ensures open { OnOk result (IsOpen writer.old.counts → IsOpen writer.new.counts) }
         ensures stops { IsOpen writer.old.counts → writer.new.counts.went_on ≡ false }
     {
@@ -142,10 +146,10 @@ impl<A: Allocator> Output<A> {
         body_len: usize,
     ) -> Result<(), WriteFault>
         ensures room { OnOk result (vec_len self.new.bytes + 512 ≤ OUTPUT_LEN) }
-        ensures ok { OnOk result (Queues (W.contents writer.old.inner) (W.contents writer.new.inner) (waiting self.old) (waiting self.new) []) }
-        ensures err { OnErr result (WritesSome (W.contents writer.old.inner) (W.contents writer.new.inner) (waiting self.old)) }
-        ensures failed { OnErr result (HasFailed writer.old.counts writer.new.counts) }
-        ensures faults { writer.old.counts.faults ≤ writer.new.counts.faults }
+        ensures ok { OnOk result (Sends W.contents writer.old writer.new self.old self.new []) }
+        ensures err { OnErr result (WritesPart W.contents writer.old writer.new (waiting self.old)) }
+        ensures failed { OnErr result (IsWriteFault writer.old.counts writer.new.counts) }
+        ensures grows { HasGrown writer.old.counts writer.new.counts }
         ensures open { OnOk result (IsOpen writer.old.counts → IsOpen writer.new.counts) }
         ensures stops { IsOpen writer.old.counts → writer.new.counts.went_on ≡ false }
     {
@@ -163,12 +167,12 @@ impl<A: Allocator> Output<A> {
         reply: &Outgoing<'_>,
         close: bool,
     ) -> Result<(), WriteFault>
-        ensures ok { OnOk result (Queues (W.contents writer.old.inner) (W.contents writer.new.inner)
-            (waiting self.old) (waiting self.new) (wire (rendered_by reply.now) close)) }
-        ensures err { OnErr result (WritesSome (W.contents writer.old.inner) (W.contents writer.new.inner)
-            (waiting self.old ++ wire (rendered_by reply.now) close)) }
-        ensures failed { OnErr result (HasFailed writer.old.counts writer.new.counts) }
-        ensures faults { writer.old.counts.faults ≤ writer.new.counts.faults }
+        ensures ok { OnOk result
+            (Sends W.contents writer.old writer.new self.old self.new (wire_of reply.now close)) }
+        ensures err { OnErr result
+            (WritesPart W.contents writer.old writer.new (waiting self.old ++ wire_of reply.now close)) }
+        ensures failed { OnErr result (IsWriteFault writer.old.counts writer.new.counts) }
+        ensures grows { HasGrown writer.old.counts writer.new.counts }
         ensures open { OnOk result (IsOpen writer.old.counts → IsOpen writer.new.counts) }
         ensures stops { IsOpen writer.old.counts → writer.new.counts.went_on ≡ false }
     {

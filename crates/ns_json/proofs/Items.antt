@@ -50,7 +50,7 @@ pub ends : {A : Type 0} (read : List A → Data → Read A) (e : Refusal) (done 
 unfolding each
 ends read e done vs i v total lt is one so_far =
     let step : each read done (items_view (drop i vs)) ≡ (read done (view v) >>= λ x. each read (done ++ x ∷ []) (items_view (drop (i + 1) vs))) =
-        rw (next vs i v lt is) refl in
+    rw (next vs i v lt is) refl in
     subst (Fails e) (sym step ∙ so_far) (fails_on e (read done (view v)) _ one)
 
 pub is_done : {A : Type 0} (read : List A → Data → Read A) (done : List A) (vs : List Value) (i : ℕ) (total : Read (List A)) → length vs ≤ i →

@@ -18,9 +18,9 @@ use Rattle.ns_json.proofs.Parts.{list_tokens}
 pub with_texts : (j : JobShown) (id namespace pool status : List ℕ) → id ≡ j.id → namespace ≡ j.namespace → pool ≡ j.row.document.pool →
     status ≡ job_status_text j.status
     → end_array ∷ key (codes "CreateIndex") ∷ number (decimal j.row.create_index) ∷ key (codes "ID") ∷ string id ∷ key (codes "JobModifyIndex") ∷ number
-        (decimal j.row.modify_index) ∷ key (codes "Namespace")
+    (decimal j.row.modify_index) ∷ key (codes "Namespace")
     ∷ string namespace ∷ key (codes "NodePool") ∷ string pool ∷ key (codes "Priority") ∷ number (decimal j.row.document.priority) ∷ key (codes "Status")
-        ∷ string status ∷ key (codes "Stop") ∷ boolean j.row.stop
+    ∷ string status ∷ key (codes "Stop") ∷ boolean j.row.stop
     ∷ key (codes "TaskGroups") ∷ begin_array ∷ [] ≡ member_tokens j
 unfolding member_tokens
 with_texts j id namespace pool status e1 e2 e3 e4 = rw (e1, e2, e3, e4) refl

@@ -23,14 +23,15 @@ pub room-append : (ts us : List Token) → room (ts ++ us) ≡ room ts + room us
 room-append [] us = omega arith
 room-append (t ∷ ts) us = omega (arith, room-append ts us)
 
-pub nothing_added : (w : Written) → Adds added w w []
-nothing_added w = record { ok = sym (append-nil w.tokens); before = refl; room = omega arith }
-
 -- what is written after the first tokens
 pub adds_more : {r : Result (Unit {0}) AllocError} (a b c : Written) (ts us : List Token) → Adds added a b ts → Adds r b c us → Adds r a c (ts ++ us)
 adds_more {r = Ok u} a b c ts us first second =
-    record { ok = second.ok ∙ ap (λ x. x ++ us) first.ok ∙ append_assoc a.tokens ts us; before = second.before ∙ first.before; room =
-        omega (arith, room-append ts us, first.room, second.room) }
+    record {
+      ok = second.ok ∙ ap (λ x. x ++ us) first.ok ∙ append_assoc a.tokens ts us;
+      before = second.before ∙ first.before;
+      room =
+          omega (arith, room-append ts us, first.room, second.room);
+    }
 adds_more {r = Err e} a b c ts us first second =
     record { ok = tt; before = second.before ∙ first.before; room = omega (arith, room-append ts us, first.room, second.room) }
 
@@ -44,7 +45,7 @@ pub adds_part : (a b c : Written) (ps : List Part) (i : ℕ) (d : Part) → i < 
     → Adds added a c (map token_of (take (i + 1) ps))
 adds_part a b c ps i d lt first second =
     let e : map token_of (take (i + 1) ps) ≡ map token_of (take i ps) ++ token_of (get_or ps i d) ∷ [] = ap (map token_of) (take_more ps i d lt) ∙
-        map-append token_of (take i ps) (get_or ps i d ∷ []) in
+    map-append token_of (take i ps) (get_or ps i d ∷ []) in
     rw e (adds_more a b c (map token_of (take i ps)) (token_of (get_or ps i d) ∷ []) first second)
 
 pub adds_no_part : (e : AllocError) (a b c : Written) (ps : List Part) (i : ℕ) (d : Part) → i < length ps → Adds added a b (map token_of (take i ps)) →
@@ -54,10 +55,10 @@ adds_no_part e a b c ps i d lt first second =
     let x = get_or ps i d in
     let parts : map token_of ps ≡ (map token_of (take i ps) ++ token_of x ∷ []) ++ map token_of (drop (i + 1) ps) =
     ap (map token_of) (sym (take-append-drop (i + 1) ps) ∙ ap (λ y. y ++ drop (i + 1) ps) (take_more ps i d lt)) ∙
-        map-append token_of (take i ps ++ x ∷ []) (drop (i + 1) ps) ∙ ap (λ y. y ++ map token_of (drop (i + 1) ps)) (map-append token_of (take i ps) (x ∷ []))
-        in
+    map-append token_of (take i ps ++ x ∷ []) (drop (i + 1) ps) ∙ ap (λ y. y ++ map token_of (drop (i + 1) ps)) (map-append token_of (take i ps) (x ∷ []))
+    in
     rw parts (adds_no_more e a c (map token_of (take i ps) ++ token_of x ∷ []) (map token_of (drop (i + 1) ps))
-        (adds_more a b c (map token_of (take i ps)) (token_of x ∷ []) first second))
+    (adds_more a b c (map token_of (take i ps)) (token_of x ∷ []) first second))
 
 -- ---- where nothing is said of a failure
 
@@ -68,16 +69,13 @@ follows (Err x) a b ts us e h = tt
 pub follows_more : (a b c : Written) (ts us : List Token) → Follows a b ts → Follows b c us → Follows a c (ts ++ us)
 follows_more a b c ts us p q = record { tokens = q.tokens ∙ ap (λ x. x ++ us) p.tokens ∙ append_assoc a.tokens ts us; before = q.before ∙ p.before }
 
-pub follows_none : (w : Written) → Follows w w []
-follows_none w = record { tokens = sym (append-nil w.tokens); before = refl }
-
 -- one more item of a list
 pub follows_item : {X : Type 0} (f : X → List Token) (a b c : Written) (xs : List X) (i : ℕ) (x : X) → i < length xs → x ≡ get_or xs i x →
     Follows a b (flat_map f (take i xs)) → Follows b c (f x)
     → Follows a c (flat_map f (take (i + 1) xs))
 follows_item f a b c xs i x lt is p q =
     let e : flat_map f (take (i + 1) xs) ≡ flat_map f (take i xs) ++ f x = ap (flat_map f) (take_more xs i x lt ∙ rw (← is) refl) ∙
-        flat_map-append f (take i xs) (x ∷ []) ∙ ap (λ y. flat_map f (take i xs) ++ y) (flat_map-cons f x [] ∙ append-nil (f x)) in
+    flat_map-append f (take i xs) (x ∷ []) ∙ ap (λ y. flat_map f (take i xs) ++ y) (flat_map-cons f x [] ∙ append-nil (f x)) in
     rw e (follows_more a b c (flat_map f (take i xs)) (f x) p q)
 
 -- the tokens of a list
@@ -86,7 +84,7 @@ pub list_tokens : {X : Type 0} (json : X → Data) (xs : List X) → items_token
 list_tokens json [] = refl
 list_tokens json (x ∷ xs) =
     ap (λ t. tokens_of (json x) ++ t) (list_tokens json xs) ∙ sym (append_assoc (tokens_of (json x)) (flat_map (λ y. tokens_of (json y)) xs) (end_array ∷ [])) ∙
-        ap (λ t. t ++ end_array ∷ []) (sym (flat_map-cons (λ y. tokens_of (json y)) x xs))
+    ap (λ t. t ++ end_array ∷ []) (sym (flat_map-cons (λ y. tokens_of (json y)) x xs))
 
 pub follows_last : {E : Type 0} (r : Result (Unit {0}) E) (a b c : Written) (ts us all : List Token) → ts ++ us ≡ all → Follows a b ts → Adds r b c us →
     OnOk r (Follows a c all)

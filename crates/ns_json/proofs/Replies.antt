@@ -1,8 +1,6 @@
 -- What replies take, and their texts.
-use Rattle.std.proofs.Common.{
-    ◌≡◌, ◌≢◌, ℕ, zero, suc, if◌then◌else◌, ◌+◌, ◌*◌, ◌/◌, ◌%◌, ◌^◌, nat_lt, ◌<◌, ◌≤◌, Bool, true, false, cond, List, [],
-    ◌∷◌, ◌++◌, length, Result, Ok, Err, refl, ap, ◌∙◌, arith, codes, decimal, length-append
-}
+use Rattle.std.proofs.Common.{◌≡◌, ◌≢◌, ℕ, zero, suc, if◌then◌else◌, ◌+◌, ◌*◌, ◌/◌, ◌%◌, ◌^◌, nat_lt, ◌<◌, ◌≤◌, Bool, true, false, cond, List, [], ◌∷◌, ◌++◌}
+use Rattle.std.proofs.Common.{length, Result, Ok, Err, refl, ap, ◌∙◌, arith, codes, decimal, length-append}
 use Rattle.std.specs.Prelude.{is_ok}
 use Rattle.std.specs.Char.{digit_char}
 use Rattle.json.specs.Written.{Written}
@@ -51,14 +49,14 @@ length-number n h = length-decimal-le 20 n (omega arith) (omega arith) h
 
 pub registered_tokens : (evaluation index job_index : ℕ) (id : List ℕ) → id ≡ id_text Evaluation evaluation
     → begin_object ∷ key (codes "EvalCreateIndex") ∷ number (decimal index) ∷ key (codes "EvalID") ∷ string id ∷ key (codes "JobModifyIndex") ∷ number
-        (decimal job_index) ∷ end_object ∷ []
+    (decimal job_index) ∷ end_object ∷ []
     ≡ tokens_of (registered_json evaluation index job_index)
 unfolding registered_json
 registered_tokens evaluation index job_index id e = rw (← e) refl
 
 room_of : (a b : ℕ) (id : List ℕ) → a < 2 ^ 64 → b < 2 ^ 64 → length id ≡ 36
     → room (begin_object ∷ key (codes "EvalCreateIndex") ∷ number (decimal a) ∷ key (codes "EvalID") ∷ string id ∷ key (codes "JobModifyIndex") ∷ number
-        (decimal b) ∷ end_object ∷ []) ≤ 320
+    (decimal b) ∷ end_object ∷ []) ≤ 320
 unfolding escape_byte
 room_of a b id p q r = omega (arith, length-number a p, length-number b q, length-quoted id, r)
 
@@ -66,7 +64,7 @@ pub registered_room : (evaluation index job_index : ℕ) → index < 2 ^ 64 → 
     room (tokens_of (registered_json evaluation index job_index)) ≤ 320
 registered_room evaluation index job_index p q =
     rw (← registered_tokens evaluation index job_index (id_text Evaluation evaluation) refl)
-        (room_of index job_index (id_text Evaluation evaluation) p q (length-id Evaluation evaluation))
+    (room_of index job_index (id_text Evaluation evaluation) p q (length-id Evaluation evaluation))
 
 plain_one : (x : ℕ) → 44 < x → x < 103 → x ≢ 92 → length (escape_byte x) ≡ 1
 unfolding escape_byte

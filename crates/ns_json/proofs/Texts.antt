@@ -24,9 +24,6 @@ bad_at body false e h = rw e refl
 pub json_bad : (body : List ℕ) → (IsUtf8 body → read body ≡ None) → json_in body ≡ Err BadJson
 json_bad body h = bad_at body (is_utf8 body) refl h
 
-pub no_prefix : (p s : List ℕ) → FindsTextPrefix p s None → without_prefix p s ≡ None
-no_prefix p s h = rw (← starts_text false p s h) refl
-
 pub has_prefix : (p s x : List ℕ) → StripsPrefix (FindsTextPrefix p) s x → without_prefix p s ≡ Some x
 has_prefix p s x (k, finds, is, len) =
     let yes : true ≡ starts_with eqb s p = starts_text true p s (k, finds, rw finds.0 finds.2) in

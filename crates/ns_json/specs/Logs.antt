@@ -15,10 +15,8 @@ use Rattle.ns_types.specs.declared.step.Report.{Report}
 use Rattle.ns_types.specs.declared.step.Step.{Step}
 use Rattle.ns_types.specs.declared.step.Step.TheVariants as Step
 use Rattle.ns_types.specs.State.Names.{Name}
-use Rattle.ns_json.specs.Rendering.{
-    number_of, object_of, list_of, text_or_empty, constraint_json, group_json, namespace_json, quota_json, pool_json,
-    attributes_json, policy_json, token_json
-}
+use Rattle.ns_json.specs.Rendering.{number_of, object_of, list_of, text_or_empty, constraint_json, group_json}
+use Rattle.ns_json.specs.Rendering.{namespace_json, quota_json, pool_json, attributes_json, policy_json, token_json}
 use Rattle.ns_json.specs.Replies.{Entry}
 use Rattle.ns_types.specs.Wire.Words.{kind_text, node_status_text, eligibility_text, client_text}
 
@@ -68,20 +66,29 @@ offer_json o = object_of (
     (codes "NodeClass", string o.class) ∷ [])
 
 abbrev pub new_token_json : NewToken → Data
-new_token_json t = token_json (record { accessor = t.accessor; secret = t.secret; name = t.name; kind =
-    t.kind; policies = t.policies })
+new_token_json t = token_json (record {
+  accessor = t.accessor;
+  secret = t.secret;
+  name = t.name;
+  kind =
+      t.kind;
+  policies = t.policies;
+})
 
 abbrev pub report_members : Name → Report → List (Name × Data)
 report_members name r =
     (codes "ClientStatus", string (client_text r.client)) ∷ named name ∷ (codes "Namespace", string r.namespace)
-        ∷ numbered r.number ∷ []
+    ∷ numbered r.number ∷ []
 
 -- ---- commands
 
 unfoldable pub asked : AskCommand → Call
 asked (AskCommand.ListJobs prefix) = (codes "ListJobs", with_prefix prefix ∷ [])
-asked (AskCommand.Register r) = (codes "Register", documented (registration_json r) ∷
-    (codes "Enforce", number_or_null r.enforced) ∷ [])
+asked (AskCommand.Register r) = (
+  codes "Register",
+  documented (registration_json r) ∷
+      (codes "Enforce", number_or_null r.enforced) ∷ [],
+)
 asked (AskCommand.ReadJob id) = (codes "ReadJob", with_id id ∷ [])
 asked (AskCommand.Deregister id purge) = (codes "Deregister", with_id id ∷ (codes "Purge", boolean purge) ∷ [])
 asked (AskCommand.JobAllocations id) = (codes "JobAllocations", with_id id ∷ [])

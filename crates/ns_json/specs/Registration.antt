@@ -1,8 +1,6 @@
 -- The document of a registration.
-use Rattle.std.specs.Prelude.{
-    ℕ, ◌^◌, ◌-◌, ◌==◌, eqb, List, [], length, take, drop, codes, Bool, true, false, Option, Some, None, option_and_then,
-    Ok, Err, if◌then◌else◌
-}
+use Rattle.std.specs.Prelude.{ℕ, ◌^◌, ◌-◌, ◌==◌, eqb, List, [], length, take, drop, codes, Bool, true, false, Option}
+use Rattle.std.specs.Prelude.{Some, None, option_and_then, Ok, Err, if◌then◌else◌}
 use Rattle.std.specs.List.{starts_with, ends_with}
 use Rattle.std.specs.Str.{bytes_eq}
 use Rattle.serde_json.specs.Data.{Data}
@@ -23,10 +21,8 @@ use Rattle.ns_types.specs.declared.job.Group.{Group}
 use Rattle.ns_types.specs.declared.job.Constraint.{Constraint}
 use Rattle.ns_types.specs.declared.job.Registration.{Registration}
 use Rattle.ns_json.specs.declared.registration.RegistrationDocument.{RegistrationDocument}
-use Rattle.ns_json.specs.Reading.{
-    ◌>>=◌, Read, top, present, demanded, or_else, some, or_refuse, an_object, a_flag, a_number, a_text, a_name,
-    has_name, unless, a_list, each
-}
+use Rattle.ns_json.specs.Reading.{◌>>=◌, Read, top, present, demanded, or_else, some, or_refuse, an_object, a_flag}
+use Rattle.ns_json.specs.Reading.{a_number, a_text, a_name, has_name, unless, a_list, each}
 
 abbrev pub max_quantity : ℕ
 max_quantity = 2147483647
@@ -172,8 +168,16 @@ job_in d = do
   groups ← groups_in groups
   Ok (record {
     namespace = namespace;
-    registration = record { id = id; kind = kind; priority = priority; pool = pool; constraints = constraints; groups =
-        groups; enforced = None };
+    registration = record {
+      id = id;
+      kind = kind;
+      priority = priority;
+      pool = pool;
+      constraints = constraints;
+      groups =
+          groups;
+      enforced = None;
+    };
   })
 
 -- the index that is demanded, where one is

@@ -14,11 +14,9 @@ use Rattle.ns_types.specs.declared.step.Step.{Step}
 use Rattle.ns_types.specs.State.Id.{id_text}
 use Rattle.ns_types.specs.Wire.Refused.{refused}
 use Rattle.ns_types.specs.State.Names.{Name}
-use Rattle.ns_json.specs.Rendering.{
-    number_of, object_of, list_of, texts_of, id_or_empty, registered_json, stopped_json, job_json, listed_job_json,
-    evaluation_json, allocation_json, namespace_json, quota_json, usage_json, pool_json, node_json, policy_json,
-    token_json
-}
+use Rattle.ns_json.specs.Rendering.{number_of, object_of, list_of, texts_of, id_or_empty, registered_json, stopped_json}
+use Rattle.ns_json.specs.Rendering.{job_json, listed_job_json, evaluation_json, allocation_json, namespace_json}
+use Rattle.ns_json.specs.Rendering.{quota_json, usage_json, pool_json, node_json, policy_json, token_json}
 use Rattle.ns_types.specs.State.Rows.{State}
 use Rattle.ns_types.specs.Steps.{Answer, Run}
 use Rattle.ns_types.specs.Wire.Words.{status_text}

@@ -1,8 +1,6 @@
 -- Both ways between trees and what is read.
-use Rattle.std.proofs.Common.{
-    ◌≡◌, ℕ, ◌+◌, ◌≤◌, List, [], ◌∷◌, length, is_some, Bool, true, false, Ok, Err, refl, sym, ap, ◌∙◌, subst, arith,
-    append-nil, nat_lt, nat_le, ◌==◌, ◌&&◌, if◌then◌else◌, true≢false
-}
+use Rattle.std.proofs.Common.{◌≡◌, ℕ, ◌+◌, ◌≤◌, List, [], ◌∷◌, length, is_some, Bool, true, false, Ok, Err, refl, sym, ap, ◌∙◌, subst, arith, append-nil}
+use Rattle.std.proofs.Common.{nat_lt, nat_le, ◌==◌, ◌&&◌, if◌then◌else◌, true≢false}
 use Rattle.std.proofs.lemmas.Bool.{eqb-true, ltb-false}
 use Rattle.ns_policy.specs.declared.fault.RuleFault.TheVariants.{Syntax}
 use Rattle.ns_types.specs.declared.acl.RuleKind.{RuleKind}
@@ -13,14 +11,10 @@ use Rattle.ns_policy.specs.declared.parser.Place.{Place}
 use Rattle.ns_policy.specs.declared.parser.Place.TheVariants as Place
 use Rattle.ns_policy.specs.declared.parser.State.{State}
 use Rattle.ns_policy.specs.Rules.{Read, ◌>>=◌, with_policy, with_capability, pattern_of}
-use Rattle.ns_policy.specs.Grammar.{
-    role_of, draft_of, unless, enter, leave, named, set_policy, begin_capabilities, add_capability, is_item, max_lists,
-    blocks, start, finish
-}
-use Rattle.ns_policy.specs.Tree.{
-    Tree, text, flag, digits, list, Trees, none, one, Item, block, attribute, Items, no_items, item, capability_in,
-    capabilities_in, attribute_in, opened, item_in, items_in, items_tokens, read_tokens, run
-}
+use Rattle.ns_policy.specs.Grammar.{role_of, draft_of, unless, enter, leave, named, set_policy, begin_capabilities, add_capability, is_item, max_lists, blocks}
+use Rattle.ns_policy.specs.Grammar.{start, finish}
+use Rattle.ns_policy.specs.Tree.{Tree, text, flag, digits, list, Trees, none, one, Item, block, attribute, Items, no_items, item, capability_in}
+use Rattle.ns_policy.specs.Tree.{capabilities_in, attribute_in, opened, item_in, items_in, items_tokens, read_tokens, run}
 use Rattle.ns_policy.specs.Laws.{SpelledTokensAreRead, ReadTokensAreSpelled, SpelledIsRead, ReadIsSpelled}
 use Rattle.ns_policy.specs.Lex.{skip}
 use Rattle.ns_policy.specs.Grammar.{read_on}
@@ -142,7 +136,7 @@ done a rules h =
 pub tokens_are_read : SpelledTokensAreRead
 tokens_are_read is fits =
     let read : run start (items_tokens is) ≡ items_in start is = ap (run start) (sym (append-nil (items_tokens is))) ∙ items_read is start [] fits ∙
-        bind_run (items_in start is) in
+    bind_run (items_in start is) in
     ap (λ r. r >>= finish) read ∙ all_finished (items_in start is) (items_placed start is refl) (items_deep is 0 start refl)
 
 finish_ok : (r : Read State) (rules : List Rule) → (r >>= finish) ≡ Ok rules → (a : State) × (r ≡ Ok a) × (a.place ≡ Place.Item) × (a.depth ≡ 0)

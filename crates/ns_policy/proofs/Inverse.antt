@@ -1,8 +1,6 @@
 -- What the machine takes is spelled by a tree.
-use Rattle.std.proofs.Common.{
-    ◌≡◌, ℕ, zero, suc, ◌+◌, ◌-◌, ◌<◌, ◌≤◌, List, [], ◌∷◌, ◌++◌, map, Bool, true, false, Ok, Err, refl, sym, ap, ◌∙◌,
-    subst, arith, append_assoc, add-one, nat_lt, nat_le, ◌==◌, if◌then◌else◌, ◌⊎◌, inl, inr, codes, ◌||◌, true≢false
-}
+use Rattle.std.proofs.Common.{◌≡◌, ℕ, zero, suc, ◌+◌, ◌-◌, ◌<◌, ◌≤◌, List, [], ◌∷◌, ◌++◌, map, Bool, true, false, Ok, Err, refl, sym, ap, ◌∙◌, subst, arith}
+use Rattle.std.proofs.Common.{append_assoc, add-one, nat_lt, nat_le, ◌==◌, if◌then◌else◌, ◌⊎◌, inl, inr, codes, ◌||◌, true≢false}
 use Rattle.std.specs.Str.{bytes_eq}
 use Rattle.std.proofs.lemmas.Slice.Eq.{bytes_eq-Decides}
 use Rattle.std.specs.Bool.{Decides}
@@ -14,14 +12,10 @@ use Rattle.ns_policy.specs.declared.parser.Place.TheVariants as Place
 use Rattle.ns_policy.specs.declared.parser.State.{State}
 use Rattle.ns_policy.specs.Lex.{Token, open_block, close_block, begin_list, end_list, comma, equals, word, string, number}
 use Rattle.ns_policy.specs.Rules.{Read, ◌>>=◌, with_policy, with_capability, pattern_of}
-use Rattle.ns_policy.specs.Grammar.{
-    is_flag, draft_of, unless, enter, leave, named, set_policy, begin_capabilities, add_capability, plain, in_list,
-    step, step_at, step_item, step_name, step_label, step_value, step_before, step_after, is_plain, max_lists
-}
-use Rattle.ns_policy.specs.Tree.{
-    Tree, text, flag, digits, list, Trees, none, one, Item, block, attribute, Items, no_items, item, flag_word,
-    tree_tokens, list_tokens, more_tokens, item_tokens, items_tokens, run
-}
+use Rattle.ns_policy.specs.Grammar.{is_flag, draft_of, unless, enter, leave, named, set_policy, begin_capabilities, add_capability, plain, in_list, step}
+use Rattle.ns_policy.specs.Grammar.{step_at, step_item, step_name, step_label, step_value, step_before, step_after, is_plain, max_lists}
+use Rattle.ns_policy.specs.Tree.{Tree, text, flag, digits, list, Trees, none, one, Item, block, attribute, Items, no_items, item, flag_word, tree_tokens}
+use Rattle.ns_policy.specs.Tree.{list_tokens, more_tokens, item_tokens, items_tokens, run}
 use Rattle.ns_policy.proofs.Steps.{Post, post_bind, post_if, post_if_is, post_map}
 
 -- the tokens left where so many blocks are open: items, and after them what closes each

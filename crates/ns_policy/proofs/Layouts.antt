@@ -1,17 +1,13 @@
 -- The tokens of a layout are read one after the other.
-use Rattle.std.proofs.Common.{
-    ◌≡◌, ℕ, zero, suc, ◌<◌, ◌≤◌, List, [], ◌∷◌, ◌++◌, length, take, drop, Bool, true, false, not, ◌&&◌, ◌==◌, Option,
-    Ok, Err, Some, refl, sym, ap, ◌∙◌, arith, append_assoc, length-append, true≢false
-}
+use Rattle.std.proofs.Common.{◌≡◌, ℕ, zero, suc, ◌<◌, ◌≤◌, List, [], ◌∷◌, ◌++◌, length, take, drop, Bool, true, false, not, ◌&&◌, ◌==◌, Option, Ok, Err, Some}
+use Rattle.std.proofs.Common.{refl, sym, ap, ◌∙◌, arith, append_assoc, length-append, true≢false}
 use Rattle.std.specs.List.{prefix_len, list_all}
 use Rattle.std.proofs.Math.Seq.{take-append_seam, drop-append_seam}
 use Rattle.std.proofs.lemmas.Bool.{eqb-true}
 use Rattle.std.proofs.lemmas.Bool.Decides.{nat_tests}
 use Rattle.ns_policy.specs.declared.parser.State.{State}
-use Rattle.ns_policy.specs.Lex.{
-    Token, open_block, close_block, begin_list, end_list, comma, equals, word, string, number, is_blank, is_digit,
-    begins_word, is_word_byte, is_string_byte, has_template, skip, front, after, string_at, token_at
-}
+use Rattle.ns_policy.specs.Lex.{Token, open_block, close_block, begin_list, end_list, comma, equals, word, string, number, is_blank, is_digit, begins_word}
+use Rattle.ns_policy.specs.Lex.{is_word_byte, is_string_byte, has_template, skip, front, after, string_at, token_at}
 use Rattle.ns_policy.specs.Rules.{Read, ◌>>=◌}
 use Rattle.ns_policy.specs.Grammar.{step, next, read_on}
 use Rattle.ns_policy.specs.Tree.{run}
@@ -54,8 +50,16 @@ same_number c d q = rw q refl
 pub word_at : (x : ℕ) (xs : List ℕ) → begins_word x ≡ true → token_at (x ∷ xs) ≡ Some (word (front is_word_byte (x ∷ xs)), after is_word_byte (x ∷ xs))
 unfolding token_at
 word_at x xs holds =
-    rw (differs begins_word x 123 holds refl, differs begins_word x 125 holds refl, differs begins_word x 91 holds refl, differs begins_word x 93 holds refl,
-        differs begins_word x 44 holds refl, differs begins_word x 61 holds refl, differs begins_word x 34 holds refl, holds) refl
+    rw (
+      differs begins_word x 123 holds refl,
+      differs begins_word x 125 holds refl,
+      differs begins_word x 91 holds refl,
+      differs begins_word x 93 holds refl,
+      differs begins_word x 44 holds refl,
+      differs begins_word x 61 holds refl,
+      differs begins_word x 34 holds refl,
+      holds,
+    ) refl
 
 pub digit_no_word : (x : ℕ) → is_digit x ≡ true → begins_word x ≡ false
 digit_no_word x holds = grind (arith, nat_tests)
@@ -63,8 +67,17 @@ digit_no_word x holds = grind (arith, nat_tests)
 pub number_at : (x : ℕ) (xs : List ℕ) → is_digit x ≡ true → token_at (x ∷ xs) ≡ Some (number, after is_digit (x ∷ xs))
 unfolding token_at
 number_at x xs holds =
-    rw (differs is_digit x 123 holds refl, differs is_digit x 125 holds refl, differs is_digit x 91 holds refl, differs is_digit x 93 holds refl,
-        differs is_digit x 44 holds refl, differs is_digit x 61 holds refl, differs is_digit x 34 holds refl, digit_no_word x holds, holds) refl
+    rw (
+      differs is_digit x 123 holds refl,
+      differs is_digit x 125 holds refl,
+      differs is_digit x 91 holds refl,
+      differs is_digit x 93 holds refl,
+      differs is_digit x 44 holds refl,
+      differs is_digit x 61 holds refl,
+      differs is_digit x 34 holds refl,
+      digit_no_word x holds,
+      holds,
+    ) refl
 
 a_word : (w rest : List ℕ) → first_is begins_word w ≡ true → list_all is_word_byte w ≡ true → first_is is_word_byte rest ≡ false →
     token_at (w ++ rest) ≡ Some (word w, rest)
@@ -85,7 +98,7 @@ a_string : (w rest : List ℕ) → list_all is_string_byte w ≡ true → has_te
 unfolding token_at
 a_string w rest all h =
     ap string_at (append_assoc w (34 ∷ []) rest) ∙ string_is (w ++ 34 ∷ rest) w rest (front_is is_string_byte w (34 ∷ rest) all refl)
-        (after_is is_string_byte w (34 ∷ rest) all refl) h
+    (after_is is_string_byte w (34 ∷ rest) all refl) h
 
 -- ---- what a token's spelling gives
 
@@ -104,8 +117,14 @@ token_is number s rest h apart = a_number s rest h.0 h.1 apart
 stays : (test : ℕ → Bool) (x : ℕ) (xs : List ℕ) → test x ≡ true → test 35 ≡ false → test 47 ≡ false → test 32 ≡ false → test 9 ≡ false → test 13 ≡ false →
     test 10 ≡ false → skip false (x ∷ xs) ≡ x ∷ xs
 unfolding skip
-stays test x xs holds a b c d e f = rw (differs test x 35 holds a, differs test x 47 holds b, differs test x 32 holds c, differs test x 9 holds d,
-    differs test x 13 holds e, differs test x 10 holds f) refl
+stays test x xs holds a b c d e f = rw (
+  differs test x 35 holds a,
+  differs test x 47 holds b,
+  differs test x 32 holds c,
+  differs test x 9 holds d,
+  differs test x 13 holds e,
+  differs test x 10 holds f,
+) refl
 
 starts : (test : ℕ → Bool) (s rest : List ℕ) → first_is test s ≡ true → test 35 ≡ false → test 47 ≡ false → test 32 ≡ false → test 9 ≡ false → test 13 ≡ false →
     test 10 ≡ false → skip false (s ++ rest) ≡ s ++ rest
@@ -194,7 +213,7 @@ laid_read [] n s laid fits = refl
 laid_read (blank b ∷ ps) n s laid fits = ap (read_on n s) (skip_blank b (text_of ps) laid.0) ∙ laid_read ps n s laid.1 (omega arith)
 laid_read (comment slashes line ∷ ps) n s laid fits =
     ap (read_on n s) (skip_comment slashes line (text_of ps) laid.0.0 laid.0.1) ∙
-        laid_read ps n s laid.1 (omega (arith, length-append (mark slashes ++ line) (text_of ps)))
+    laid_read ps n s laid.1 (omega (arith, length-append (mark slashes ++ line) (text_of ps)))
 laid_read (part t sp ∷ ps) zero s laid fits =
     let some = spelled_some t sp laid.0.0 in
     absurd (omega (arith, some, length-append sp (text_of ps)))

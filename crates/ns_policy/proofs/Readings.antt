@@ -18,8 +18,13 @@ use Rattle.ns_policy.proofs.Layouts.{differs}
 begins_item : (w rest : List ℕ) → first_is begins_word w ≡ true → is_json (w ++ rest) ≡ false
 begins_item [] rest first = absurd (true≢false (sym first))
 begins_item (x ∷ w) rest first =
-    rw (differs begins_word x 32 first refl, differs begins_word x 9 first refl, differs begins_word x 13 first refl, differs begins_word x 10 first refl,
-        differs begins_word x 123 first refl) refl
+    rw (
+      differs begins_word x 32 first refl,
+      differs begins_word x 9 first refl,
+      differs begins_word x 13 first refl,
+      differs begins_word x 10 first refl,
+      differs begins_word x 123 first refl,
+    ) refl
 
 a_word : (is : Items) (t : Token) (ts : List Token) (s rest : List ℕ) → t ∷ ts ≡ items_tokens is → Spells t s → is_json (s ++ rest) ≡ false
 a_word no_items t ts s rest h spells = cc

@@ -1,16 +1,12 @@
 -- A text whose tokens are read has a layout.
-use Rattle.std.proofs.Common.{
-    ◌≡◌, ℕ, zero, suc, ◌+◌, List, [], ◌∷◌, ◌++◌, drop, Bool, true, false, not, ◌&&◌, ◌||◌, ◌==◌, Option, Ok, Err, Some,
-    None, refl, sym, ap, ◌∙◌, subst, arith, append_assoc, true≢false, if◌then◌else◌, codes
-}
+use Rattle.std.proofs.Common.{◌≡◌, ℕ, zero, suc, ◌+◌, List, [], ◌∷◌, ◌++◌, drop, Bool, true, false, not, ◌&&◌, ◌||◌, ◌==◌, Option, Ok, Err, Some, None, refl}
+use Rattle.std.proofs.Common.{sym, ap, ◌∙◌, subst, arith, append_assoc, true≢false, if◌then◌else◌, codes}
 use Rattle.std.specs.List.{prefix_len, list_all}
 use Rattle.std.proofs.lemmas.List.{take-append-drop}
 use Rattle.std.proofs.lemmas.Bool.{eqb-true}
 use Rattle.ns_policy.specs.declared.parser.State.{State}
-use Rattle.ns_policy.specs.Lex.{
-    Token, word, number, is_blank, is_letter, is_digit, begins_word, is_word_byte, is_string_byte, begins_with,
-    has_template, skip, front, after, string_at, token_at
-}
+use Rattle.ns_policy.specs.Lex.{Token, word, number, is_blank, is_letter, is_digit, begins_word, is_word_byte, is_string_byte, begins_with, has_template, skip}
+use Rattle.ns_policy.specs.Lex.{front, after, string_at, token_at}
 use Rattle.ns_policy.specs.Rules.{Read, ◌>>=◌}
 use Rattle.ns_policy.specs.Grammar.{step, next, or_syntax, read_on}
 use Rattle.ns_policy.specs.Layout.{Piece, blank, comment, part, text_of, tokens_of, first_is, in_line, Spells, Apart, Layout}
@@ -95,19 +91,30 @@ string_backs x s e =
     let w = front is_string_byte s in
     let rest = drop 1 (after is_string_byte s) in
     let tail : s ≡ (w ++ 34 ∷ []) ++ rest = parts is_string_byte s ∙ ap (λ us. w ++ us) (quoted (after is_string_byte s) p.0) ∙
-        sym (append_assoc w (34 ∷ []) rest) in
+    sym (append_assoc w (34 ∷ []) rest) in
     (34 ∷ (w ++ 34 ∷ []), first_byte x 34 s e ∙ ap (λ us. 34 ∷ us) tail, (refl, front_all is_string_byte s, not_true (has_template w) p.1), tt))
     (λ c. tt)
 
 word_backs : (x : ℕ) (xs : List ℕ) → begins_word x ≡ true → Backs (x ∷ xs) (Some (word (front is_word_byte (x ∷ xs)), after is_word_byte (x ∷ xs)))
-word_backs x xs e =
-    (front is_word_byte (x ∷ xs), parts is_word_byte (x ∷ xs), (refl, ap (first_is begins_word) (front_step is_word_byte x xs (begins_is_word x e)) ∙
-        e, front_all is_word_byte (x ∷ xs)), after_stops is_word_byte (x ∷ xs))
+word_backs x xs e = (
+  front is_word_byte (x ∷ xs),
+  parts is_word_byte (x ∷ xs),
+  (
+    refl,
+    ap (first_is begins_word) (front_step is_word_byte x xs (begins_is_word x e)) ∙
+        e,
+    front_all is_word_byte (x ∷ xs),
+  ),
+  after_stops is_word_byte (x ∷ xs),
+)
 
 number_backs : (x : ℕ) (xs : List ℕ) → is_digit x ≡ true → Backs (x ∷ xs) (Some (number, after is_digit (x ∷ xs)))
-number_backs x xs e =
-    (front is_digit (x ∷ xs), parts is_digit (x ∷ xs), (ap (first_is is_digit) (front_step is_digit x xs e) ∙ e, front_all is_digit (x ∷ xs)),
-        after_stops is_digit (x ∷ xs))
+number_backs x xs e = (
+  front is_digit (x ∷ xs),
+  parts is_digit (x ∷ xs),
+  (ap (first_is is_digit) (front_step is_digit x xs e) ∙ e, front_all is_digit (x ∷ xs)),
+  after_stops is_digit (x ∷ xs),
+)
 
 token_backs : (xs : List ℕ) → Backs xs (token_at xs)
 unfolding token_at

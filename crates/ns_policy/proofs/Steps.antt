@@ -40,10 +40,6 @@ pub bind_assoc : {A B C : Type 0} (r : Read A) (f : A → Read B) (g : B → Rea
 bind_assoc (Ok x) f g = refl
 bind_assoc (Err e) f g = refl
 
-pub bind_ok : {A : Type 0} (r : Read A) → (r >>= λ x. Ok x) ≡ r
-bind_ok (Ok x) = refl
-bind_ok (Err e) = refl
-
 -- what follows a state may be compared at the state's place
 abbrev pub Left : State → Place → Read State → Type 0
 Left s p r = Post r (λ a. (a.place ≡ p) × (a.depth ≡ s.depth))
@@ -89,5 +85,8 @@ pub pattern_fault : {A : Type 0} (s : State) (kind : RuleKind) (l : List ℕ) (f
     ((a : State) → f (at a (Place.Label (Role.Block kind))) ≡ Err Value) → (named s kind l >>= f) ≡ Err Value
 unfolding named pattern_of
 pattern_fault s kind l f h = broken _ _ _ f (λ p. h
-    (record s { draft = Some (record { kind = kind; pattern = p; grants = no_grants; has_policy = false; has_capabilities = false }); place =
-    Place.Label (Role.Block kind) }))
+    (record s {
+      draft = Some (record { kind = kind; pattern = p; grants = no_grants; has_policy = false; has_capabilities = false });
+      place =
+          Place.Label (Role.Block kind);
+    }))

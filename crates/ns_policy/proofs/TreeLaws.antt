@@ -1,8 +1,6 @@
 -- What a tree spells is read as the tree's meaning.
-use Rattle.std.proofs.Common.{
-    ◌≡◌, ℕ, ◌+◌, ◌-◌, ◌<◌, ◌≤◌, List, [], ◌∷◌, ◌++◌, length, map, is_some, Bool, true, false, refl, sym, ap, ◌∙◌, arith,
-    append_assoc, length-append, nat_lt, true≢false, if◌then◌else◌
-}
+use Rattle.std.proofs.Common.{◌≡◌, ℕ, ◌+◌, ◌-◌, ◌<◌, ◌≤◌, List, [], ◌∷◌, ◌++◌, length, map, is_some, Bool, true, false, refl, sym, ap, ◌∙◌, arith, append_assoc}
+use Rattle.std.proofs.Common.{length-append, nat_lt, true≢false, if◌then◌else◌}
 use Rattle.std.proofs.lemmas.Bool.{lt-ltb}
 use Rattle.ns_policy.specs.declared.parser.Role.{Role}
 use Rattle.ns_policy.specs.declared.parser.Role.TheVariants as Role
@@ -11,19 +9,12 @@ use Rattle.ns_policy.specs.declared.parser.Place.TheVariants as Place
 use Rattle.ns_policy.specs.declared.parser.State.{State}
 use Rattle.ns_policy.specs.Lex.{Token, open_block, close_block, begin_list, string, number}
 use Rattle.ns_policy.specs.Rules.{◌>>=◌}
-use Rattle.ns_policy.specs.Grammar.{
-    at, role_of, enter, leave, named, set_policy, begin_capabilities, add_capability, is_plain, step, step_item,
-    step_name, step_label, step_before, step_after, step_value, close_list, max_lists
-}
-use Rattle.ns_policy.specs.Tree.{
-    Tree, text, flag, digits, list, Trees, none, one, Item, block, attribute, Items, no_items, item, tree_tokens,
-    list_tokens, more_tokens, item_tokens, items_tokens, capability_in, capabilities_in, attribute_in, opened, item_in,
-    items_in, run
-}
-use Rattle.ns_policy.proofs.Steps.{
-    Placed, post_bind, post_then, bind_assoc, along, enter_placed, leave_placed, named_placed, policy_placed,
-    begin_placed, add_placed, pattern_fault
-}
+use Rattle.ns_policy.specs.Grammar.{at, role_of, enter, leave, named, set_policy, begin_capabilities, add_capability, is_plain, step, step_item, step_name}
+use Rattle.ns_policy.specs.Grammar.{step_label, step_before, step_after, step_value, close_list, max_lists}
+use Rattle.ns_policy.specs.Tree.{Tree, text, flag, digits, list, Trees, none, one, Item, block, attribute, Items, no_items, item, tree_tokens, list_tokens}
+use Rattle.ns_policy.specs.Tree.{more_tokens, item_tokens, items_tokens, capability_in, capabilities_in, attribute_in, opened, item_in, items_in, run}
+use Rattle.ns_policy.proofs.Steps.{Placed, post_bind, post_then, bind_assoc, along, enter_placed, leave_placed, named_placed, policy_placed, begin_placed}
+use Rattle.ns_policy.proofs.Steps.{add_placed, pattern_fault}
 
 closes_at : (role : Role) (n : ℕ) → 0 < n → (if nat_lt 1 (n + 1) then Place.After role (n + 1 - 1) else Place.Item) ≡ Place.After role n
 closes_at role n some =
@@ -79,7 +70,7 @@ mutual
   in_list digits s role n ts plain some fits = a_number s role n ts plain
   in_list (list vs trailing) s role n ts plain some fits =
       opens s role n (list_tokens vs trailing ++ ts) plain (omega arith) ∙ in_values vs trailing s role (n + 1) ts plain (omega arith) (omega arith) ∙
-          ap (λ a. run a ts) (closes s role n some)
+      ap (λ a. run a ts) (closes s role n some)
 
   in_values : (vs : Trees) (trailing : Bool) (s : State) (role : Role) (n : ℕ) (ts : List Token) → is_plain role ≡ true → 0 < n →
       n + length (list_tokens vs trailing) < max_lists + 1
@@ -90,7 +81,7 @@ mutual
       let more = a_rest vs trailing in
       ap (run (at s (Place.Before role n))) (append_assoc (tree_tokens v) (more_tokens vs trailing) ts)
       ∙ in_list v s role n (more_tokens vs trailing ++ ts) plain some (omega (arith, all, more)) ∙
-          in_rest vs trailing s role n ts plain some (omega (arith, all))
+      in_rest vs trailing s role n ts plain some (omega (arith, all))
 
   in_rest : (vs : Trees) (trailing : Bool) (s : State) (role : Role) (n : ℕ) (ts : List Token) → is_plain role ≡ true → 0 < n →
       n + length (more_tokens vs trailing) < max_lists + 1
@@ -142,19 +133,19 @@ capability_placed s (list vs trailing) = tt
 
 one_capability : (v : Tree) (vs : Trees) (trailing : Bool) (s : State) (p : Place) (ts : List Token)
     → ((a : State) → run (at a (Place.After Role.Capabilities 1)) (more_tokens vs trailing ++ ts) ≡
-        (capabilities_in (at a (Place.After Role.Capabilities 1)) vs >>= λ b. run b ts))
+    (capabilities_in (at a (Place.After Role.Capabilities 1)) vs >>= λ b. run b ts))
     → run (at s (Place.Before Role.Capabilities 1)) ((tree_tokens v ++ more_tokens vs trailing) ++ ts) ≡ (capabilities_in (at s p) (one v vs) >>= λ a. run a ts)
 one_capability v vs trailing s p ts rest =
     ap (run (at s (Place.Before Role.Capabilities 1))) (append_assoc (tree_tokens v) (more_tokens vs trailing) ts)
     ∙ a_capability v s p (more_tokens vs trailing ++ ts)
     ∙ along (Place.After Role.Capabilities 1) (capability_in (at s p) v) (λ a. run a (more_tokens vs trailing ++ ts))
-        (λ a. capabilities_in a vs >>= λ b. run b ts) (capability_placed (at s p) v) rest
+    (λ a. capabilities_in a vs >>= λ b. run b ts) (capability_placed (at s p) v) rest
     ∙ sym (bind_assoc (capability_in (at s p) v) (λ a. capabilities_in a vs) (λ b. run b ts))
 
 -- after a capability
 more_capabilities : (vs : Trees) (trailing : Bool) (s : State) (ts : List Token)
     → run (at s (Place.After Role.Capabilities 1)) (more_tokens vs trailing ++ ts) ≡
-        (capabilities_in (at s (Place.After Role.Capabilities 1)) vs >>= λ a. run a ts)
+    (capabilities_in (at s (Place.After Role.Capabilities 1)) vs >>= λ a. run a ts)
 unfolding run step step_before step_after
 more_capabilities none true s ts = refl
 more_capabilities none false s ts = refl
@@ -162,7 +153,7 @@ more_capabilities (one v vs) trailing s ts = one_capability v vs trailing s (Pla
 
 capabilities : (vs : Trees) (trailing : Bool) (s : State) (ts : List Token)
     → run (at s (Place.Before Role.Capabilities 1)) (list_tokens vs trailing ++ ts) ≡
-        (capabilities_in (at s (Place.Before Role.Capabilities 1)) vs >>= λ a. run a ts)
+    (capabilities_in (at s (Place.Before Role.Capabilities 1)) vs >>= λ a. run a ts)
 unfolding run step step_before
 capabilities none trailing s ts = refl
 capabilities (one v vs) trailing s ts = one_capability v vs trailing s (Place.Before Role.Capabilities 1) ts (λ a. more_capabilities vs trailing a ts)
@@ -184,7 +175,7 @@ value_read (flag false) s Role.Capabilities ts fits = refl
 value_read digits s Role.Capabilities ts fits = refl
 value_read (list vs trailing) s Role.Capabilities ts fits =
     along (Place.Before Role.Capabilities 1) (begin_capabilities (at s Place.Item)) (λ a. run a (list_tokens vs trailing ++ ts))
-        (λ a. capabilities_in a vs >>= λ b. run b ts) (begin_placed (at s Place.Item)) (λ a. capabilities vs trailing a ts)
+    (λ a. capabilities_in a vs >>= λ b. run b ts) (begin_placed (at s Place.Item)) (λ a. capabilities vs trailing a ts)
     ∙ sym (bind_assoc (begin_capabilities (at s Place.Item)) (λ a. capabilities_in a vs) (λ b. run b ts))
 
 -- the labels of a block that says nothing
@@ -201,7 +192,7 @@ unfolding run step step_name step_label enter named
 labels_read [] s (Role.Block kind) ts = refl
 labels_read (l ∷ []) s (Role.Block kind) ts =
     along (Place.Label (Role.Block kind)) (named (at s Place.Item) kind l) (λ a. run a (open_block ∷ ts)) (λ a. enter a >>= λ b. run b ts)
-        (named_placed (at s Place.Item) kind l) (λ a. refl)
+    (named_placed (at s Place.Item) kind l) (λ a. refl)
     ∙ sym (bind_assoc (named (at s Place.Item) kind l) enter (λ b. run b ts))
 labels_read (l ∷ m ∷ ls) s (Role.Block kind) ts = pattern_fault (at s Place.Item) kind l (λ a. run a (string m ∷ (map string ls ++ open_block ∷ ts)))
     (λ a. refl)
@@ -251,8 +242,12 @@ items_placed s (item i is) here = post_then (item_in s i) (λ a. items_in a is) 
 
 inside : (ls : List (List ℕ)) (is : Items) (n : ℕ) → length (map string ls ++ open_block ∷ (items_tokens is ++ close_block ∷ [])) ≤ n →
     length (items_tokens is) ≤ n
-inside ls is n fits = omega (arith, length-append (map string ls) (open_block ∷ (items_tokens is ++ close_block ∷ [])), length-append (items_tokens is)
-    (close_block ∷ []))
+inside ls is n fits = omega (
+  arith,
+  length-append (map string ls) (open_block ∷ (items_tokens is ++ close_block ∷ [])),
+  length-append (items_tokens is)
+      (close_block ∷ []),
+)
 
 mutual
   unfolding run step step_item step_name leave
@@ -265,13 +260,13 @@ mutual
       let role = role_of s.depth (is_some s.draft) w in
       let inner : length (items_tokens is) ≤ max_lists = inside ls is _ (omega arith) in
       ap (λ us. run (at s (Place.Name role)) us) (append_assoc (map string ls) (open_block ∷ (items_tokens is ++ close_block ∷ [])) ts ∙
-          ap (λ us. map string ls ++ open_block ∷ us) (append_assoc (items_tokens is) (close_block ∷ []) ts))
+      ap (λ us. map string ls ++ open_block ∷ us) (append_assoc (items_tokens is) (close_block ∷ []) ts))
       ∙ labels_read ls s role (items_tokens is ++ close_block ∷ ts)
       ∙ along Place.Item (opened here role ls) (λ a. run a (items_tokens is ++ close_block ∷ ts)) (λ a. (items_in a is >>= leave) >>= λ b. run b ts)
-          (opened_placed here role ls)
+      (opened_placed here role ls)
       (λ a. items_read is a (close_block ∷ ts) inner
       ∙ along Place.Item (items_in (at a Place.Item) is) (λ b. run b (close_block ∷ ts)) (λ b. leave b >>= λ c. run c ts)
-          (items_placed (at a Place.Item) is refl) (λ b. refl)
+      (items_placed (at a Place.Item) is refl) (λ b. refl)
       ∙ sym (bind_assoc (items_in (at a Place.Item) is) leave (λ b. run b ts)))
       ∙ sym (bind_assoc (opened here role ls) (λ a. items_in a is >>= leave) (λ b. run b ts))
 
@@ -284,5 +279,5 @@ mutual
       ap (run here) (append_assoc (item_tokens i) (items_tokens is) ts)
       ∙ item_read i s (items_tokens is ++ ts) (omega (arith, all))
       ∙ along Place.Item (item_in here i) (λ a. run a (items_tokens is ++ ts)) (λ a. items_in a is >>= λ b. run b ts) (item_placed here i)
-          (λ a. items_read is a ts (omega (arith, all)))
+      (λ a. items_read is a ts (omega (arith, all)))
       ∙ sym (bind_assoc (item_in here i) (λ a. items_in a is) (λ b. run b ts))

@@ -1,8 +1,6 @@
 -- Reading rules: one token after the other.
-use Rattle.std.specs.Prelude.{
-    ℕ, zero, suc, ◌+◌, ◌-◌, ◌^◌, ◌==◌, ◌&&◌, ◌||◌, nat_lt, nat_le, List, [], ◌∷◌, ◌++◌, length, Bool, true, false,
-    Option, Some, None, is_some, Ok, Err, codes, if◌then◌else◌
-}
+use Rattle.std.specs.Prelude.{ℕ, zero, suc, ◌+◌, ◌-◌, ◌^◌, ◌==◌, ◌&&◌, ◌||◌, nat_lt, nat_le, List, [], ◌∷◌, ◌++◌}
+use Rattle.std.specs.Prelude.{length, Bool, true, false, Option, Some, None, is_some, Ok, Err, codes, if◌then◌else◌}
 use Rattle.std.specs.Str.{bytes_eq}
 use Rattle.ns_policy.specs.declared.fault.RuleFault.TheVariants.{Syntax, Value}
 use Rattle.ns_types.specs.declared.acl.RuleKind.{RuleKind}
@@ -14,9 +12,8 @@ use Rattle.ns_policy.specs.declared.parser.Place.{Place}
 use Rattle.ns_policy.specs.declared.parser.Place.TheVariants as Place
 use Rattle.ns_policy.specs.declared.parser.Draft.{Draft}
 use Rattle.ns_policy.specs.declared.parser.State.{State}
-use Rattle.ns_policy.specs.Lex.{
-    Token, open_block, close_block, begin_list, end_list, comma, equals, word, string, number, skip, token_at
-}
+use Rattle.ns_policy.specs.Lex.{Token, open_block, close_block, begin_list, end_list, comma, equals, word, string}
+use Rattle.ns_policy.specs.Lex.{number, skip, token_at}
 use Rattle.ns_types.specs.Access.Rights.{no_grants}
 use Rattle.ns_policy.specs.Rules.{Read, ◌>>=◌, with_policy, with_capability, pattern_of}
 
@@ -27,9 +24,9 @@ max_depth = 16
 unfoldable pub role_of : ℕ → Bool → List ℕ → Role
 role_of depth in_rule w =
     if depth == 0 then (if bytes_eq w (codes "namespace") then Role.Block Namespace
-        else if bytes_eq w (codes "node_pool") then Role.Block Pool else Role.Other)
+    else if bytes_eq w (codes "node_pool") then Role.Block Pool else Role.Other)
     else if (depth == 1) && in_rule then (if bytes_eq w (codes "policy") then Role.Policy
-        else if bytes_eq w (codes "capabilities") then Role.Capabilities else Role.Other)
+    else if bytes_eq w (codes "capabilities") then Role.Capabilities else Role.Other)
     else Role.Other
 
 abbrev pub is_flag : List ℕ → Bool
@@ -60,8 +57,17 @@ step_item s _ = Err Syntax
 unfoldable pub named : State → RuleKind → List ℕ → Read State
 named s kind label = do
   pattern ← pattern_of kind label
-  Ok (record s { draft = Some (record { kind = kind; pattern = pattern; grants = no_grants; has_policy =
-      false; has_capabilities = false }); place = Place.Label (Role.Block kind) })
+  Ok (record s {
+    draft = Some (record {
+      kind = kind;
+      pattern = pattern;
+      grants = no_grants;
+      has_policy =
+          false;
+      has_capabilities = false;
+    });
+    place = Place.Label (Role.Block kind);
+  })
 
 unfoldable pub step_name : State → Role → Token → Read State
 step_name s role equals = Ok (at s (Place.Value role))

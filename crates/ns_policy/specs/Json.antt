@@ -1,10 +1,8 @@
 -- Rules as JSON, and the rules of a text of either form.
-use Rattle.std.specs.Prelude.{
-    ℕ, List, [], ◌∷◌, ◌++◌, Option, Some, None, option_and_then, Ok, Err, codes, if◌then◌else◌
-}
-use Rattle.serde_json.specs.Data.{
-    Data, null, boolean, number, string, array, object, Items, no_items, item, Members, no_members, member
-}
+use Rattle.std.specs.Prelude.{ℕ, List, [], ◌∷◌, ◌++◌, Option, Some, None, option_and_then, Ok, Err, codes}
+use Rattle.std.specs.Prelude.{if◌then◌else◌}
+use Rattle.serde_json.specs.Data.{Data, null, boolean, number, string, array, object, Items, no_items, item, Members}
+use Rattle.serde_json.specs.Data.{no_members, member}
 use Rattle.serde_json.specs.Find.{get, as_str, as_array, as_object}
 use Rattle.serde_json.specs.Read.{read}
 use Rattle.ns_policy.specs.declared.fault.RuleFault.TheVariants.{Syntax, Value}

@@ -1,10 +1,8 @@
 -- How tokens lie in a text, between blanks and comments.
 use Rattle.std.specs.Prelude.{◌≡◌, ℕ, ◌==◌, List, [], ◌∷◌, ◌++◌, Bool, true, false, not, codes}
 use Rattle.std.specs.List.{list_all}
-use Rattle.ns_policy.specs.Lex.{
-    Token, open_block, close_block, begin_list, end_list, comma, equals, word, string, number, is_blank, is_digit,
-    begins_word, is_word_byte, is_string_byte, has_template
-}
+use Rattle.ns_policy.specs.Lex.{Token, open_block, close_block, begin_list, end_list, comma, equals, word, string}
+use Rattle.ns_policy.specs.Lex.{number, is_blank, is_digit, begins_word, is_word_byte, is_string_byte, has_template}
 
 pub data Piece : Type 0 where
   blank : ℕ → Piece

@@ -1,7 +1,6 @@
 -- The tokens of a rules text.
-use Rattle.std.specs.Prelude.{
-    ℕ, ◌==◌, ◌&&◌, ◌||◌, nat_le, not, List, [], ◌∷◌, take, drop, Bool, true, false, Option, Some, None, if◌then◌else◌
-}
+use Rattle.std.specs.Prelude.{ℕ, ◌==◌, ◌&&◌, ◌||◌, nat_le, not, List, [], ◌∷◌, take, drop, Bool, true, false, Option}
+use Rattle.std.specs.Prelude.{Some, None, if◌then◌else◌}
 use Rattle.std.specs.List.{prefix_len}
 
 pub data Token : Type 0 where

@@ -1,8 +1,6 @@
 -- Rules, and what a word adds to them.
-use Rattle.std.specs.Prelude.{
-    ◌≡◌, ℕ, ◌==◌, ◌-◌, ◌&&◌, nat_lt, nat_le, List, length, take, slice_index, Bool, true, Result, Ok, Err, codes,
-    if◌then◌else◌
-}
+use Rattle.std.specs.Prelude.{◌≡◌, ℕ, ◌==◌, ◌-◌, ◌&&◌, nat_lt, nat_le, List, length, take, slice_index, Bool, true}
+use Rattle.std.specs.Prelude.{Result, Ok, Err, codes, if◌then◌else◌}
 use Rattle.std.specs.List.{list_all}
 use Rattle.std.specs.Str.{bytes_eq}
 use Rattle.ns_types.specs.declared.name.NameKind.{NameKind}
@@ -45,7 +43,7 @@ namespace_policy w g =
     if bytes_eq w (codes "deny") then Ok (record g { deny = true })
     else if bytes_eq w (codes "read") then Ok (record g { list_jobs = true; read_job = true })
     else if bytes_eq w (codes "write")
-        then Ok (record g { list_jobs = true; read_job = true; submit_job = true; alloc_lifecycle = true })
+    then Ok (record g { list_jobs = true; read_job = true; submit_job = true; alloc_lifecycle = true })
     else if bytes_eq w (codes "scale") then Ok g
     else Err Value
 

@@ -6,13 +6,11 @@ use Rattle.ns_policy.specs.declared.parser.Role.{Role}
 use Rattle.ns_policy.specs.declared.parser.Role.TheVariants as Role
 use Rattle.ns_policy.specs.declared.parser.Place.TheVariants as Place
 use Rattle.ns_policy.specs.declared.parser.State.{State}
-use Rattle.ns_policy.specs.Lex.{
-    Token, open_block, close_block, begin_list, end_list, comma, equals, word, string, number
-}
+use Rattle.ns_policy.specs.Lex.{Token, open_block, close_block, begin_list, end_list, comma, equals, word, string}
+use Rattle.ns_policy.specs.Lex.{number}
 use Rattle.ns_policy.specs.Rules.{Read, ◌>>=◌}
-use Rattle.ns_policy.specs.Grammar.{
-    at, role_of, enter, leave, named, set_policy, begin_capabilities, add_capability, step, start, finish
-}
+use Rattle.ns_policy.specs.Grammar.{at, role_of, enter, leave, named, set_policy, begin_capabilities, add_capability}
+use Rattle.ns_policy.specs.Grammar.{step, start, finish}
 
 mutual
   pub data Tree : Type 0 where

@@ -4,13 +4,17 @@ ghost use Rattle.std.specs.Prelude.{◌≡◌};
 ghost use Rattle.ns_policy.specs.declared.fault.RuleFault.TheVariants.{Memory};
 
 use std::alloc::AllocError;
+use thiserror::Error;
 
-#[derive(Clone, Copy, Debug, PartialEq, Eq)]
+#[derive(Clone, Copy, Debug, PartialEq, Eq, Error)]
 pub enum RuleFault {
     /// The text is not of the grammar.
+    #[error("the text is not a list of rules")]
     Syntax,
     /// A pattern, a policy or a capability is none.
+    #[error("a pattern, a policy or a capability is not valid")]
     Value,
+    #[error("out of memory")]
     Memory,
 }
 

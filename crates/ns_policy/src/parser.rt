@@ -221,16 +221,13 @@ fn set_policy(state: State, word: &[u8]) -> Result<State, RuleFault>
     }
     let grants = with_policy(draft.kind, draft.grants, word)?;
     Ok(State {
-        rules: state.rules,
         draft: Some(Draft {
-            kind: draft.kind,
-            pattern: draft.pattern,
             grants,
             has_policy: true,
-            has_capabilities: draft.has_capabilities,
+            ..draft
         }),
-        depth: state.depth,
         place: Place::Item,
+        ..state
     })
 }
 
@@ -244,16 +241,12 @@ fn begin_capabilities(state: State) -> Result<State, RuleFault>
         return Err(RuleFault::Value);
     }
     Ok(State {
-        rules: state.rules,
         draft: Some(Draft {
-            kind: draft.kind,
-            pattern: draft.pattern,
-            grants: draft.grants,
-            has_policy: draft.has_policy,
             has_capabilities: true,
+            ..draft
         }),
-        depth: state.depth,
         place: Place::Before(Role::Capabilities, 1),
+        ..state
     })
 }
 
@@ -265,16 +258,9 @@ fn add_capability(state: State, word: &[u8]) -> Result<State, RuleFault>
     let draft = state.draft.ok_or(RuleFault::Value)?;
     let grants = with_capability(draft.kind, draft.grants, word)?;
     Ok(State {
-        rules: state.rules,
-        draft: Some(Draft {
-            kind: draft.kind,
-            pattern: draft.pattern,
-            grants,
-            has_policy: draft.has_policy,
-            has_capabilities: draft.has_capabilities,
-        }),
-        depth: state.depth,
+        draft: Some(Draft { grants, ..draft }),
         place: Place::After(Role::Capabilities, 1),
+        ..state
     })
 }
 

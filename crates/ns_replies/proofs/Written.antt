@@ -34,12 +34,12 @@ array_tokens json xs = ap (λ ts. begin_array ∷ ts) (sym (list_tokens json xs)
 
 attribute_members : (attributes : List Attribute)
     → members_tokens (members_outline (members_of (map (λ a. (a.key, string_json a.value)) attributes))) ≡ flat_map (λ a. key a.key ∷ string a.value ∷ [])
-        attributes ++ end_object ∷ []
+    attributes ++ end_object ∷ []
 attribute_members [] = refl
 attribute_members (a ∷ attributes) =
     let f = λ (x : Attribute). key x.key ∷ string x.value ∷ [] in
     ap (λ ts. f a ++ ts) (attribute_members attributes) ∙ sym (append_assoc (f a) (flat_map f attributes) (end_object ∷ [])) ∙
-        ap (λ ts. ts ++ end_object ∷ []) (sym (flat_map-cons f a attributes))
+    ap (λ ts. ts ++ end_object ∷ []) (sym (flat_map-cons f a attributes))
 
 -- the tokens of a node's attributes
 pub attribute_tokens : (attributes : List Attribute) → begin_object ∷ (flat_map (λ a. key a.key ∷ string a.value ∷ []) attributes ++ end_object ∷ [])
@@ -52,13 +52,13 @@ regrouped a b c d = append_assoc (a ++ b) c d ∙ append_assoc a b (c ++ d)
 -- the tokens of a namespace's pools, as they are written
 pub pools_tokens : (n : Namespace) (default : List ℕ) → default ≡ n.default_pool
     → begin_object ∷ key (codes "Allowed") ∷ (((tokens_of (allowed_json n.allowed) ++ key (codes "Default") ∷ string default ∷ key (codes "Denied") ∷ []) ++
-        tokens_of (texts_of n.denied)) ++ end_object ∷ [])
+    tokens_of (texts_of n.denied)) ++ end_object ∷ [])
     ≡ tokens_of (pools_json n)
 unfolding pools_json
 pools_tokens n default e =
     ap (λ ts. begin_object ∷ key (codes "Allowed") ∷ ts)
-        (regrouped (tokens_of (allowed_json n.allowed)) (key (codes "Default") ∷ string default ∷ key (codes "Denied") ∷ []) (tokens_of (texts_of n.denied))
-        (end_object ∷ []) ∙ rw e refl)
+    (regrouped (tokens_of (allowed_json n.allowed)) (key (codes "Default") ∷ string default ∷ key (codes "Denied") ∷ []) (tokens_of (texts_of n.denied))
+    (end_object ∷ []) ∙ rw e refl)
 
 -- the tokens of a node, as they are written
 pub node_tokens : (n : NodeShown) (eligibility name class pool status : List ℕ) (attributes : List Attribute) → attributes ≡ n.row.offer.attributes →
@@ -66,7 +66,7 @@ pub node_tokens : (n : NodeShown) (eligibility name class pool status : List ℕ
     → class ≡ n.row.offer.class → pool ≡ n.pool → status ≡ node_status_text n.row.status
     → begin_object ∷ key (codes "Attributes") ∷ (((tokens_of (attributes_json attributes)
     ++ key (codes "CPU") ∷ number (decimal n.row.offer.capacity.cpu) ∷ key (codes "Eligibility") ∷ string eligibility ∷ key (codes "MemoryMB") ∷ number
-        (decimal n.row.offer.capacity.memory) ∷ key (codes "Name") ∷ string name
+    (decimal n.row.offer.capacity.memory) ∷ key (codes "Name") ∷ string name
     ∷ key (codes "NodeClass") ∷ string class ∷ key (codes "NodePool") ∷ string pool ∷ key (codes "Status") ∷ string status ∷ key (codes "Used") ∷ [])
     ++ tokens_of (resources_json n.used)) ++ end_object ∷ [])
     ≡ tokens_of (node_json n)
@@ -87,13 +87,13 @@ nothing_text items is = is ∙ print-outline (object no_members)
 
 pub stopped_tokens : (evaluation index : ℕ) (id : List ℕ) → id ≡ id_text IdKind.Evaluation evaluation
     → begin_object ∷ key (codes "EvalID") ∷ string id ∷ key (codes "Index") ∷ number (decimal index) ∷ end_object ∷ [] ≡ tokens_of
-        (stopped_json evaluation index)
+    (stopped_json evaluation index)
 unfolding stopped_json
 stopped_tokens evaluation index id e = rw (← e) refl
 
 pub stopped_text : (evaluation index : ℕ) (id items : List ℕ) → id ≡ id_text IdKind.Evaluation evaluation
     → items ≡ print (begin_object ∷ key (codes "EvalID") ∷ string id ∷ key (codes "Index") ∷ number (decimal index) ∷ end_object ∷ []) →
-        items ≡ compact_text (stopped_json evaluation index)
+    items ≡ compact_text (stopped_json evaluation index)
 stopped_text evaluation index id items e is = is ∙ rw (stopped_tokens evaluation index id e) (print-outline (stopped_json evaluation index))
 
 room_with : (index : ℕ) (id : List ℕ) → index < 2 ^ 64 → length id ≡ 36

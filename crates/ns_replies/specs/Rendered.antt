@@ -1,8 +1,9 @@
 -- Which replies are rendered, and in which room.
-use Rattle.std.specs.Prelude.{◌≡◌, Option, Some}
+use Rattle.std.specs.Prelude.{◌≡◌, ℕ, ◌≤◌, List, length, Option, Some}
 use Rattle.ns_types.specs.declared.reply.Content.{Content}
 use Rattle.ns_types.specs.declared.reply.Content.TheVariants as Content
 use Rattle.ns_types.specs.State.Names.{Name}
+use Rattle.ns_json.specs.Rendered.{IsRegistered, longest_registered}
 use Rattle.ns_json.specs.Replies.{body_of}
 
 abbrev pub IsRendered : Content → Type 0
@@ -53,3 +54,7 @@ HasRoom room (Content.Stopped evaluation index) = Unit {0}
 HasRoom room Content.Written = Unit {0}
 HasRoom room (Content.Token t) = room ≡ Some (body_of (Content.Token t))
 HasRoom room _ = ⊥
+
+-- a body that answers a registration has a length that is known beforehand
+abbrev pub IsShort : Content → List ℕ → Type 0
+IsShort content body = IsRegistered content → length body ≤ longest_registered

@@ -6,10 +6,9 @@ ghost use Rattle.json.specs.Tree as tree;
 ghost use Rattle.ns_types.specs.declared.reply.Content.TheVariants as Content;
 ghost use Rattle.ns_types.specs.Wire.Responses.{rendered_of};
 ghost use Rattle.ns_json.specs.Part.{token_of};
-ghost use Rattle.ns_json.specs.Rendered.{IsRegistered, longest_registered};
 ghost use Rattle.ns_json.specs.Replies.{body_of, rendered};
 ghost use Rattle.ns_replies.specs.Made.{made_token};
-ghost use Rattle.ns_replies.specs.Rendered.{HasRoom};
+ghost use Rattle.ns_replies.specs.Rendered.{HasRoom, IsShort};
 
 use crate::shown::{text_of, written_text};
 use json::Writer;
@@ -66,7 +65,7 @@ impl Room {
     pub fn render(self, reply: &Reply) -> Response
         requires { HasRoom self reply.now.content }
         ensures bytes { rendered_of result ≡ rendered (Ok reply.now) }
-        ensures short { IsRegistered reply.now.content → length (rendered_of result).body ≤ longest_registered }
+        ensures short { IsShort reply.now.content (rendered_of result).body }
     {
         let Room { numbers, token } = self;
         match &reply.content {

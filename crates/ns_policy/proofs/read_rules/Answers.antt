@@ -18,5 +18,5 @@ returns-else-is_json c =
     let fits : length c.args.text.now ≤ max_lists = omega (arith, c.as_bytes.ensures.len) in
     let other : is_json c.args.text.now ≡ false = rw (← c.as_bytes.ensures.value) (sym c.is_json.ensures ∙ c.if-is_json.false) in
     let value : Gives same c.read_blocks.result (rules_of c.args.text.now) =
-        rw (of_blocks c.args.text.now other) (rw (← c.as_bytes-else-is_json.ensures.value) c.read_blocks.ensures) in
+    rw (of_blocks c.args.text.now other) (rw (← c.as_bytes-else-is_json.ensures.value) c.read_blocks.ensures) in
     record { value = value; meaning = reads _ _ fits value }

@@ -9,4 +9,4 @@ returns c =
     let head = follows_ok _ _ _ _ c.in_ok-write_parts.ensures in
     let tasks = follows_more _ _ _ _ _ head c.in_ok-write_tasks.ensures in
     follows_last _ _ _ _ _ _ _ (rw (c.as_str.ensures, c.as_slice.ensures, list_tokens task_json c.args.group.now.tasks, append_assoc) refl)
-        tasks c.write_parts-2.ensures
+    tasks c.write_parts-2.ensures

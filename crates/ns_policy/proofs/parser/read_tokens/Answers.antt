@@ -10,18 +10,18 @@ pub returns-in_err-token : goal.returns-in_err-token
 returns-in_err-token c =
     let p = err_from_is_err_and c.from_residual.result c.from_residual.ensures.1 in
     rw (p.1, p.2) (fails_at _ c.args.turns c.loop.counter c.loop.state c.loop.rest.now _ c.loop-test.true (sym c.is_empty.ensures ∙ c.if-is_empty.false)
-        c.in_err-token.ensures c.loop.invariant)
+    c.in_err-token.ensures c.loop.invariant)
 
 pub returns-in_err-state : goal.returns-in_err-state
 returns-in_err-state c =
     let p = err_from_is_err_and c.from_residual-in_err-state.result c.from_residual-in_err-state.ensures.1 in
     rw (p.1, p.2) (fails_then _ c.args.turns c.loop.counter c.loop.state c.loop.rest.now _ _ c.loop-test.true (sym c.is_empty.ensures ∙ c.if-is_empty.false)
-        c.in_ok-token.ensures c.in_err-state.ensures c.loop.invariant)
+    c.in_ok-token.ensures c.in_err-state.ensures c.loop.invariant)
 
 pub loop-preserved : goal.loop-preserved
 loop-preserved c =
     rw c.skip_blanks-rest.ensures (goes_on c.args.turns c.loop.counter c.loop.state c.in_ok-state.state c.loop.rest.now _ _ c.loop-test.true
-        (sym c.is_empty.ensures ∙ c.if-is_empty.false) c.in_ok-token.ensures c.in_ok-state.ensures c.loop.invariant)
+    (sym c.is_empty.ensures ∙ c.if-is_empty.false) c.in_ok-token.ensures c.in_ok-state.ensures c.loop.invariant)
 
 pub returns-then-is_empty-2 : goal.returns-then-is_empty-2
 returns-then-is_empty-2 c = ended _ c.loop.state c.loop.rest.now _ (sym c.is_empty-2.ensures ∙ c.if-is_empty-2.true) c.loop.invariant

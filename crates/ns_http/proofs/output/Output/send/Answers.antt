@@ -15,7 +15,7 @@ returns-in_err-flush-clause-err g c =
     let text = waited_text _ _ _ _ c.args.reply.now.body.now room.0 room.2 c.put_head.ensures.value in
     let cut = WritesSome-then _ _ _ _ _ room.1 c.in_err-flush.ensures.err in
     OnErr_always _ (subst (WritesSome (g.W.Write.contents c.args.writer.now.inner) (g.W.Write.contents c.flush.new.writer.inner)) text
-        (WritesSome-front _ _ _ c.args.reply.now.body.now cut))
+    (WritesSome-front _ _ _ c.args.reply.now.body.now cut))
 
 pub returns-clause-ok : goal.returns-clause-ok
 returns-clause-ok g c =
@@ -23,7 +23,7 @@ returns-clause-ok g c =
     let text = waited_text _ _ _ _ c.args.reply.now.body.now room.0 room.2 c.put_head.ensures.value in
     let head = Appends-then _ _ _ _ _ room.1 c.in_ok-flush.ensures.ok in
     OnOk_map c.write_all.result (λ body. let all = (room.0 ++ c.put_head.new.self.bytes.items) ++ c.args.reply.now.body.now in
-        (all, Appends-then _ _ _ _ _ head body, sym text ∙ sym (append-nil all) ∙ ap (λ l. all ++ l) (sym c.in_ok-flush.ensures.empty))) c.write_all.ensures.ok
+    (all, Appends-then _ _ _ _ _ head body, sym text ∙ sym (append-nil all) ∙ ap (λ l. all ++ l) (sym c.in_ok-flush.ensures.empty))) c.write_all.ensures.ok
 
 pub returns-clause-err : goal.returns-clause-err
 returns-clause-err g c =
@@ -31,4 +31,4 @@ returns-clause-err g c =
     let text = waited_text _ _ _ _ c.args.reply.now.body.now room.0 room.2 c.put_head.ensures.value in
     let head = Appends-then _ _ _ _ _ room.1 c.in_ok-flush.ensures.ok in
     OnErr_map c.write_all.result (λ err. subst (WritesSome (g.W.Write.contents c.args.writer.now.inner) (g.W.Write.contents c.write_all.new.writer.inner)) text
-        (WritesSome-then _ _ _ _ _ head err)) c.write_all.ensures.err
+    (WritesSome-then _ _ _ _ _ head err)) c.write_all.ensures.err

@@ -10,5 +10,5 @@ returns c =
     let used = follows_more _ _ _ _ _ members c.in_ok-write_json.ensures in
     follows_last _ _ _ _ _ _ _
     (node_tokens c.args.self.now _ _ _ _ _ _ c.as_slice.ensures c.eligibility_text.ensures c.as_str.ensures c.as_str-2.ensures c.as_str-3.ensures
-        c.node_status_text.ensures)
+    c.node_status_text.ensures)
     used c.write_parts-3.ensures
