@@ -1,28 +1,26 @@
 -- Answers of steps.
-use Rattle.std.proofs.Common.{◌≡◌, inl, inr, Option, Some, None, Result, Ok, Err, Bool, true, false, refl, sym, subst, ◌∙◌, IfOk}
+use Rattle.std.proofs.Common.{◌≡◌, inl, inr, Option, Some, None, Ok, Err, true, false, refl, sym, subst, ◌∙◌, IfOk}
+use Rattle.std.specs.Prelude.{IsSomeAnd}
 use Rattle.ns_types.specs.declared.refusal.Refusal.{Refusal}
-use Rattle.ns_types.specs.declared.refusal.Refusal.TheVariants as Refusal
 use Rattle.ns_types.specs.declared.reply.Content.{Content}
-use Rattle.ns_types.specs.declared.reply.Content.TheVariants as Content
 use Rattle.ns_types.specs.declared.reply.Rendered.{Rendered}
-use Rattle.ns_types.specs.declared.reply.Reply.{Reply}
 use Rattle.ns_types.specs.declared.step.AdminCommand.TheVariants as AdminCommand
 use Rattle.ns_types.specs.declared.step.AskCommand.TheVariants as AskCommand
 use Rattle.ns_types.specs.declared.step.NodeCommand.TheVariants as NodeCommand
 use Rattle.ns_types.specs.declared.step.Step.{Step}
-use Rattle.ns_types.specs.declared.step.Step.TheVariants as Step
 use Rattle.ns_types.specs.State.Names.{Name}
 use Rattle.ns_types.specs.Wire.Refused.{refused}
 use Rattle.ns_types.specs.State.Rows.{State}
 use Rattle.ns_types.specs.Steps.{Answer, after, said, Makes}
 use Rattle.ns_types.proofs.Lists.{not_both}
-use Rattle.ns_json.specs.Replies.{body_of, rendered}
+use Rattle.ns_json.specs.Replies.{rendered}
 use Rattle.ns_replies.specs.Rendered.{HasRoom, IsRendered}
-use Rattle.ns_steps.specs.Served.{IsReading, IsServed, IsToldBy}
-use Rattle.ns_steps.specs.Told as Told
+use Rattle.ns_types.proofs.Tests.{is_no}
+use Rattle.ns_steps.specs.Served.{IsServed, IsToldBy, is_reading, only_reads, served}
+use Rattle.ns_steps.specs.Told.{Holds, Shape, is_of_write}
 use Rattle.ns_steps.proofs.Telling.{reading_rests, served_decides, served_tells}
 use Rattle.ns_api.specs.Answering.{AnswersOrWants, ShowsOrWants}
-use Rattle.ns_api.specs.Rooms.{is_reading, room_of}
+use Rattle.ns_api.specs.Rooms.{room_of}
 
 -- ---- refusals
 
@@ -36,7 +34,7 @@ refused_so step s s' refusal m = inl (Err refusal, subst (λ x. after step s ≡
 
 refused_answer : (step : Step) (s s' : State) (refusal : Refusal) → (after step s ≡ None → ⊥) → Makes step s (Err refusal) s' →
     AnswersOrWants step s (refused refusal) s'
-refused_answer step s s' Refusal.Memory enabled m = inr (refl, m)
+refused_answer step s s' Refusal.Memory enabled m = inr (refl, m.1)
 refused_answer step s s' Refusal.NotEnabled enabled m = absurd (enabled m.0)
 refused_answer step s s' (Refusal.BadField member) enabled m = refused_so step s s' (Refusal.BadField member) m
 refused_answer step s s' Refusal.BadHead enabled m = refused_so step s s' Refusal.BadHead m
@@ -55,105 +53,63 @@ refused_answer step s s' Refusal.LogFull enabled m = refused_so step s s' Refusa
 refused_answer step s s' Refusal.Foreign enabled m = refused_so step s s' Refusal.Foreign m
 
 -- a step that was refused, or was not made for want of memory
-pub answers_refused : (step : Step) (s s' : State) (refusal : Refusal) → IsServed step → Makes step s (Err refusal) s' →
-    AnswersOrWants step s (refused refusal) s'
-answers_refused step s s' refusal served m = refused_answer step s s' refusal (served_decides step s served) m
+answers_refused : (step : Step) (s s' : State) (refusal : Refusal) (reply : Rendered) → IsServed step → Makes step s (Err refusal) s' →
+    reply ≡ refused refusal → AnswersOrWants step s reply s'
+answers_refused step s s' refusal reply served m e =
+    subst (λ r. AnswersOrWants step s r s') (sym e) (refused_answer step s s' refusal (served_decides step s served) m)
 
 -- ---- reads
-
-reads : (step : Step) → IsServed step → is_reading step ≡ true → IsReading step
-reads (Step.Ask ns secret (AskCommand.Register r)) served e = not_both e refl
-reads (Step.Ask ns secret (AskCommand.ReadJob id)) served e = tt
-reads (Step.Ask ns secret (AskCommand.ListJobs prefix)) served e = tt
-reads (Step.Ask ns secret AskCommand.ReadNamespace) served e = tt
-reads (Step.Ask ns secret (AskCommand.QuotaUsage quota)) served e = tt
-reads (Step.Ask ns secret _) served e = absurd served
-reads (Step.Admin secret AdminCommand.ListNamespaces) served e = tt
-reads (Step.Admin secret AdminCommand.ListQuotas) served e = tt
-reads (Step.Admin secret (AdminCommand.ReadQuota name)) served e = tt
-reads (Step.Admin secret AdminCommand.ListPools) served e = tt
-reads (Step.Admin secret (AdminCommand.ReadPolicy name)) served e = tt
-reads (Step.Admin secret _) served e = not_both e refl
-reads (Step.Node pool secret NodeCommand.ReadPool) served e = tt
-reads (Step.Node pool secret _) served e = absurd served
-reads _ served e = absurd served
 
 -- a read may find no memory for its reply
 pub answers_read : (step : Step) (s s' : State) (answer : Answer) (reply : Rendered) → IsServed step → is_reading step ≡ true → Makes step s answer s' →
     ShowsOrWants answer reply → AnswersOrWants step s reply s'
 answers_read step s s' (Ok told) reply served reading m (inl e) = inl (Ok told, m, e)
-answers_read step s s' (Ok told) reply served reading m (inr e) = inr (e, reading_rests step s s' (Ok told) (reads step served reading) m)
-answers_read step s s' (Err refusal) reply served reading m e = subst (λ r. AnswersOrWants step s r s') (sym e) (answers_refused step s s' refusal served m)
+answers_read step s s' (Ok told) reply served reading m (inr e) = inr (e, reading_rests step s s' (Ok told) served reading m)
+answers_read step s s' (Err refusal) reply served reading m e = answers_refused step s s' refusal reply served m e
 
-rendered_jobs : (content : Content) → Told.IsJobs content → IsRendered content
-rendered_jobs (Content.Jobs jobs) t = tt
-rendered_jobs _ t = absurd t
+-- what a read tells is rendered
+rendered_shape : (shape : Shape) (content : Content) → is_of_write shape ≡ false → Holds shape content → IsRendered content
+rendered_shape Shape.Job (Content.Job shown) reads t = tt
+rendered_shape Shape.Job _ reads t = absurd t
+rendered_shape Shape.Jobs (Content.Jobs shown) reads t = tt
+rendered_shape Shape.Jobs _ reads t = absurd t
+rendered_shape Shape.Namespace (Content.Namespace shown) reads t = tt
+rendered_shape Shape.Namespace _ reads t = absurd t
+rendered_shape Shape.Namespaces (Content.Namespaces shown) reads t = tt
+rendered_shape Shape.Namespaces _ reads t = absurd t
+rendered_shape Shape.Quota (Content.Quota shown) reads t = tt
+rendered_shape Shape.Quota _ reads t = absurd t
+rendered_shape Shape.Quotas (Content.Quotas shown) reads t = tt
+rendered_shape Shape.Quotas _ reads t = absurd t
+rendered_shape Shape.Pool (Content.Pool shown) reads t = tt
+rendered_shape Shape.Pool _ reads t = absurd t
+rendered_shape Shape.Pools (Content.Pools shown) reads t = tt
+rendered_shape Shape.Pools _ reads t = absurd t
+rendered_shape Shape.Policy (Content.Policy shown) reads t = tt
+rendered_shape Shape.Policy _ reads t = absurd t
+rendered_shape Shape.Usage (Content.Usage name used) reads t = tt
+rendered_shape Shape.Usage _ reads t = absurd t
+rendered_shape Shape.Registered _ reads t = not_both refl reads
+rendered_shape Shape.Written _ reads t = not_both refl reads
+rendered_shape (Shape.TokenOf new) _ reads t = not_both refl reads
 
-rendered_job : (content : Content) → Told.IsJob content → IsRendered content
-rendered_job (Content.Job job) t = tt
-rendered_job _ t = absurd t
-
-rendered_namespace : (content : Content) → Told.IsNamespace content → IsRendered content
-rendered_namespace (Content.Namespace namespace) t = tt
-rendered_namespace _ t = absurd t
-
-rendered_usage : (content : Content) → Told.IsUsage content → IsRendered content
-rendered_usage (Content.Usage name used) t = tt
-rendered_usage _ t = absurd t
-
-rendered_namespaces : (content : Content) → Told.IsNamespaces content → IsRendered content
-rendered_namespaces (Content.Namespaces namespaces) t = tt
-rendered_namespaces _ t = absurd t
-
-rendered_quota : (content : Content) → Told.IsQuota content → IsRendered content
-rendered_quota (Content.Quota quota) t = tt
-rendered_quota _ t = absurd t
-
-rendered_quotas : (content : Content) → Told.IsQuotas content → IsRendered content
-rendered_quotas (Content.Quotas quotas) t = tt
-rendered_quotas _ t = absurd t
-
-rendered_pool : (content : Content) → Told.IsPool content → IsRendered content
-rendered_pool (Content.Pool pool) t = tt
-rendered_pool _ t = absurd t
-
-rendered_pools : (content : Content) → Told.IsPools content → IsRendered content
-rendered_pools (Content.Pools pools) t = tt
-rendered_pools _ t = absurd t
-
-rendered_policy : (content : Content) → Told.IsPolicy content → IsRendered content
-rendered_policy (Content.Policy policy) t = tt
-rendered_policy _ t = absurd t
-
-read_rendered : (step : Step) (content : Content) → IsReading step → IsToldBy step content → IsRendered content
-read_rendered (Step.Ask ns secret (AskCommand.ReadJob id)) content reading t = rendered_job content t
-read_rendered (Step.Ask ns secret (AskCommand.ListJobs prefix)) content reading t = rendered_jobs content t
-read_rendered (Step.Ask ns secret AskCommand.ReadNamespace) content reading t = rendered_namespace content t
-read_rendered (Step.Ask ns secret (AskCommand.QuotaUsage quota)) content reading t = rendered_usage content t
-read_rendered (Step.Ask ns secret _) content reading t = absurd reading
-read_rendered (Step.Admin secret AdminCommand.ListNamespaces) content reading t = rendered_namespaces content t
-read_rendered (Step.Admin secret AdminCommand.ListQuotas) content reading t = rendered_quotas content t
-read_rendered (Step.Admin secret (AdminCommand.ReadQuota name)) content reading t = rendered_quota content t
-read_rendered (Step.Admin secret AdminCommand.ListPools) content reading t = rendered_pools content t
-read_rendered (Step.Admin secret (AdminCommand.ReadPolicy name)) content reading t = rendered_policy content t
-read_rendered (Step.Admin secret _) content reading t = absurd reading
-read_rendered (Step.Node pool secret NodeCommand.ReadPool) content reading t = rendered_pool content t
-read_rendered (Step.Node pool secret _) content reading t = absurd reading
-read_rendered _ content reading t = absurd reading
+read_rendered : (line : Option Shape) (content : Content) → only_reads line ≡ true → IsSomeAnd line (λ shape. Holds shape content) → IsRendered content
+read_rendered None content reads t = absurd t
+read_rendered (Some shape) content reads t = rendered_shape shape content (is_no (is_of_write shape) reads) t
 
 -- what a read answers can be rendered
 pub shows : (step : Step) (s s' : State) (answer : Answer) → IsServed step → is_reading step ≡ true → Makes step s answer s' →
     IfOk answer (λ reply. IsRendered reply.content)
-shows step s s' (Ok reply) served reading m = read_rendered step reply.content (reads step served reading) (served_tells step s s' reply served m)
+shows step s s' (Ok reply) is reading m = read_rendered (served step) reply.content reading (served_tells step s s' reply is m)
 shows step s s' (Err refusal) served reading m = tt
 
 -- ---- writes
 
-room_of_written : (room : Option Name) (content : Content) → Told.IsWritten content → HasRoom room content
+room_of_written : (room : Option Name) (content : Content) → Holds Shape.Written content → HasRoom room content
 room_of_written room Content.Written t = tt
 room_of_written room _ t = absurd t
 
-room_of_registered : (room : Option Name) (content : Content) → Told.IsRegistered content → HasRoom room content
+room_of_registered : (room : Option Name) (content : Content) → Holds Shape.Registered content → HasRoom room content
 room_of_registered room (Content.Registered evaluation index modified) t = tt
 room_of_registered room _ t = absurd t
 
@@ -172,6 +128,8 @@ write_fits (Step.Admin secret (AdminCommand.CreateToken new)) content served e t
     subst (λ c. HasRoom (room_of (Step.Admin secret (AdminCommand.CreateToken new))) c) (sym t) refl
 write_fits (Step.Admin secret (AdminCommand.DeleteToken accessor)) content served e t = room_of_written None content t
 write_fits (Step.Admin secret _) content served e t = not_both refl e
+write_fits (Step.Node pool secret NodeCommand.ReadPool) content served e t = not_both refl e
+write_fits (Step.Node pool secret _) content served e t = not_both refl e
 write_fits _ content served e t = not_both refl e
 
 -- what a write answers fits in the room of its step
@@ -184,5 +142,4 @@ fits step s s' (Err refusal) room is served writing m = tt
 pub answers_write : (step : Step) (s s' : State) (answer : Answer) (reply : Rendered) → IsServed step → Makes step s answer s' → reply ≡ rendered answer →
     AnswersOrWants step s reply s'
 answers_write step s s' (Ok told) reply served m e = inl (Ok told, m, e)
-answers_write step s s' (Err refusal) reply served m e =
-    subst (λ r. AnswersOrWants step s r s') (sym (e ∙ rendered_refusal refusal)) (answers_refused step s s' refusal served m)
+answers_write step s s' (Err refusal) reply served m e = answers_refused step s s' refusal reply served m (e ∙ rendered_refusal refusal)

@@ -1,5 +1,5 @@
--- From the answers of a handler to those of its state.
-use Rattle.std.proofs.Common.{List, [], ◌∷◌, Result, Ok, Err, ap}
+-- From the answers of a handler to those of its state and what it draws from.
+use Rattle.std.proofs.Common.{ℕ, List, [], ◌∷◌, Result, Ok, Err, ap}
 use Rattle.std.specs.Prelude.{IfOk}
 use Rattle.ns_types.specs.declared.reply.Rendered.{Rendered}
 use Rattle.ns_types.specs.Wire.Http.{Asked, End, Whole, Refused}
@@ -10,24 +10,27 @@ use Rattle.ns_api.specs.Answering.{Answers}
 use Rattle.ns_api.specs.Serving.{Served, ServedInPart}
 use Rattle.ns_api.proofs.Runs.{runs}
 
-module _ {S : Type 0} (state : S → State) where
+module _ {S D : Type 0} (draws : D → List ℕ → D → Type 0) (held : S → State × D) where
   abbrev Answering : S → Asked → Rendered → S → Type 0
-  Answering old asks reply new = Answers (state old) asks reply (state new)
+  Answering old asks reply new = Answers draws (held old) asks reply (held new)
 
-  pub chain : (old : S) (exchanges : List Exchange) (new : S) → Chain Answering old exchanges new → Chain Answers (state old) exchanges (state new)
-  chain old [] new c = ap state c
-  chain old ((Whole m, reply) ∷ exchanges) new c = (state c.0, c.1, chain c.0 exchanges new c.2)
+  pub chain : (old : S) (exchanges : List Exchange) (new : S) → Chain Answering old exchanges new →
+      Chain (Answers draws) (held old) exchanges (held new)
+  chain old [] new c = ap held c
+  chain old ((Whole m, reply) ∷ exchanges) new c = (held c.0, c.1, chain c.0 exchanges new c.2)
   chain old ((Refused fault, reply) ∷ exchanges) new c = (c.0, chain old exchanges new c.1)
 
-  abbrev pub served : (old new : S) (streams : Streams) (end : End) → Conversation Answering old new streams end → Served (state old) (state new) streams end
+  abbrev pub served : (old new : S) (streams : Streams) (end : End) → Conversation Answering old new streams end →
+      Served draws (held old) (held new) streams end
   served old new streams end c =
       let answered = chain old c.exchanges new c.answered in
       record {
         conversation = record { read = c.read; exchanges = c.exchanges; consumes = c.consumes; requests = c.requests; answered = answered; writes = c.writes };
-        run = runs (state old) c.exchanges (state new) answered;
+        run = runs draws (held old) c.exchanges (held new) answered;
       }
 
-  pub served_in_part : (old new : S) (streams : Streams) → CutShort Answering old new streams → ServedInPart (state old) (state new) streams
+  pub served_in_part : (old new : S) (streams : Streams) → CutShort Answering old new streams →
+      ServedInPart draws (held old) (held new) streams
   served_in_part old new streams c =
       let answered = chain old c.exchanges new c.serves.answered in
       record {
@@ -40,7 +43,7 @@ module _ {S : Type 0} (state : S → State) where
           serves = record { takes = c.serves.takes; answered = answered };
           writes = c.writes;
         };
-        run = runs (state old) c.exchanges (state new) answered;
+        run = runs draws (held old) c.exchanges (held new) answered;
       }
 
 pub if_ok : {T E : Type 0} (r : Result T E) (P Q : T → Type 0) → ((x : T) → P x → Q x) → IfOk r P → IfOk r Q

@@ -13,7 +13,7 @@ first_value : (wanted name value key : List ℕ) (rest : Pairs) (b : Bool) → D
 first_value wanted name value key rest b decodes e =
     let named : bytes_eq (text_of name) wanted ≡ b = ap (λ x. bytes_eq x wanted) (sym decodes.2) ∙ e in
     ap (λ v. option_map (λ (pair : List ℕ × List ℕ). text_of pair.1) (cond v (Some (name, value)) (find (λ pair. bytes_eq (text_of pair.0) wanted) rest))) named
-        ∙ by b
+    ∙ by b
   where
     by : (v : Bool) → option_map (λ (pair : List ℕ × List ℕ). text_of pair.1)
         (cond v (Some (name, value)) (find (λ pair. bytes_eq (text_of pair.0) wanted) rest))

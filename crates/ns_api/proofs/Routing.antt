@@ -1,8 +1,6 @@
 -- What the router of the table finds.
-use Rattle.std.proofs.Common.{
-    ◌≡◌, ◌⊎◌, inl, inr, ℕ, zero, suc, ◌+◌, ◌≤◌, ◌<◌, List, [], ◌∷◌, ◌++◌, length, take, get_or, Option, Some, None,
-    Result, Ok, Err, Bool, true, false, ◌&&◌, cond, refl, sym, ap, subst, ◌∙◌, arith, add-one
-}
+use Rattle.std.proofs.Common.{◌≡◌, ◌⊎◌, inl, inr, ℕ, zero, suc, ◌+◌, ◌≤◌, ◌<◌, List, [], ◌∷◌, ◌++◌, length, take, get_or, Option, Some, None, Result, Ok, Err}
+use Rattle.std.proofs.Common.{Bool, true, false, ◌&&◌, cond, refl, sym, ap, subst, ◌∙◌, arith, add-one}
 use Rattle.std.proofs.Math.Seq.{take-suc}
 use Rattle.std.specs.Prelude.{find, option_map}
 use Rattle.std.specs.Cmp.Lexicographic.{pointwise}
@@ -16,15 +14,12 @@ use Rattle.matchit.specs.Seek.{first}
 use Rattle.matchit.specs.declared.error.InsertError.{InsertError}
 use Rattle.matchit.proofs.OnLiterals.{matchit_on_literals}
 use Rattle.ns_api.specs.declared.endpoint.Endpoint.{Endpoint}
-use Rattle.ns_api.specs.declared.endpoint.Endpoint.TheVariants as Endpoint
 use Rattle.ns_api.specs.Parts.{segments_of}
 use Rattle.ns_api.specs.Endpoints.{pattern_of, every_endpoint, is_spelled, endpoint_of, fits}
 use Rattle.ns_api.specs.Routes.{Serves}
 use Rattle.ns_api.proofs.Seeking.{In, AreWhole, IsWhole, Matches, sound, complete}
-use Rattle.ns_api.proofs.Spelling.{
-    tokens_of, are_plain, spelled-matches, matches-spelled, IsWhole-tokens, differ, differ-spelled, segments_some,
-    and_true, true_false
-}
+use Rattle.ns_api.proofs.Spelling.{tokens_of, are_plain, spelled-matches, matches-spelled, IsWhole-tokens, differ, differ-spelled, segments_some, and_true}
+use Rattle.ns_api.proofs.Spelling.{true_false}
 
 -- ---- the table's patterns
 
@@ -131,7 +126,7 @@ find-spelled e [] path a h p = absurd h
 find-spelled e (f ∷ others) path a h p =
     let b = and_true (apart_from f others) (all_apart others) a in
     elim (is_spelled (pattern_of f) path) as (λ v. is_spelled (pattern_of f) path ≡ v →
-        cond v (Some f) (find (λ g. is_spelled (pattern_of g) path) others) ≡ Some e) [
+    cond v (Some f) (find (λ g. is_spelled (pattern_of g) path) others) ≡ Some e) [
       | true ↦ λ q. elim h [
         | inl same ↦ ap (λ x. let o : Option Endpoint = Some x in o) (sym same)
         | inr later ↦ absurd (apart-spelled f e others path b.0 later q p)
@@ -147,7 +142,7 @@ spelled-find : (e : Endpoint) (list : List Endpoint) (path : List ℕ) → find 
 spelled-find e [] path h = let bad : ⊥ = cc in absurd bad
 spelled-find e (f ∷ others) path h =
     elim (is_spelled (pattern_of f) path) as (λ v. is_spelled (pattern_of f) path ≡ v →
-        cond v (Some f) (find (λ g. is_spelled (pattern_of g) path) others) ≡ Some e
+    cond v (Some f) (find (λ g. is_spelled (pattern_of g) path) others) ≡ Some e
     → Has e (f ∷ others) × (is_spelled (pattern_of e) path ≡ true)) [
       | true ↦ λ q g. let same : f ≡ e = cc in (inl (sym same), subst (λ x. is_spelled (pattern_of x) path ≡ true) same q)
       | false ↦ λ q g. let r = spelled-find e others path g in (inr r.0, r.1)
@@ -169,7 +164,7 @@ in_placed : (p : List ℕ) (r : Row) (rows : RowsOf Row) (t : List ℕ) (s : Row
 in_placed p r [] t s i = i
 in_placed p r ((u, key) ∷ rest) t s i =
     elim (comes_before p u) as (λ v. In t s (cond v ((p, r) ∷ (u, key) ∷ rest) ((u, key) ∷ placed (p, r) rest)) → ((p ≡ t) × (r ≡ s))
-        ⊎ In t s ((u, key) ∷ rest)) [
+    ⊎ In t s ((u, key) ∷ rest)) [
       | true ↦ λ j. j
       | false ↦ λ j. elim j [
         | inl here ↦ inr (inl here)

@@ -1,8 +1,6 @@
 -- Which route a router finds, where each parameter takes a whole segment.
-use Rattle.std.proofs.Common.{
-    ◌≡◌, ◌≢◌, ◌⊎◌, inl, inr, ℕ, zero, suc, ◌-◌, ◌<◌, List, [], ◌∷◌, ◌++◌, length, drop, Option, Some, None, Bool, true,
-    false, ◌&&◌, cond, ltb, eqb, MatchBool, refl, sym, ap, subst, ◌∙◌, arith, length-append
-}
+use Rattle.std.proofs.Common.{◌≡◌, ◌≢◌, ◌⊎◌, inl, inr, ℕ, zero, suc, ◌-◌, ◌<◌, List, [], ◌∷◌, ◌++◌, length, drop, Option, Some, None, Bool, true, false, ◌&&◌}
+use Rattle.std.proofs.Common.{cond, ltb, eqb, MatchBool, refl, sym, ap, subst, ◌∙◌, arith, length-append}
 use Rattle.std.proofs.Math.Seq.{drop-append_seam}
 use Rattle.std.proofs.lemmas.Bool.{eqb-true, eqb-false}
 use Rattle.std.proofs.lemmas.Bool.Decides.{nat_tests}
@@ -234,9 +232,9 @@ longest-cases seg [] o = inl refl
 longest-cases seg (([], key) ∷ rest) o = longest-cases seg rest o.1
 longest-cases seg ((x ∷ u, key) ∷ rest) o =
     subst (λ y. (longest_from seg (better seg [] (segment (y ∷ u))) rest ≡ []) ⊎ (longest_from seg (better seg [] (segment (y ∷ u))) rest ≡ slash ∷ []))
-        (sym o.0)
+    (sym o.0)
     (elim (cuts seg (slash ∷ [])) as (λ v. (longest_from seg (cond v (slash ∷ []) []) rest ≡ [])
-        ⊎ (longest_from seg (cond v (slash ∷ []) []) rest ≡ slash ∷ [])) [
+    ⊎ (longest_from seg (cond v (slash ∷ []) []) rest ≡ slash ∷ [])) [
       | true ↦ inr (longest-kept seg rest o.1)
       | false ↦ longest-cases seg rest o.1
     ])
@@ -257,9 +255,9 @@ with_in ((u, key) ∷ rest) t k h =
           (with_suffix (slash ∷ []) rest))) (sym p.0) (inl (refl, p.1))
       | inr q ↦ elim (same_text (segment u) (slash ∷ [])) as
           (λ v. In (slash ∷ t) k (cond v ((u, key) ∷ with_suffix (slash ∷ []) rest) (with_suffix (slash ∷ []) rest))) [
-        | true ↦ inr (with_in rest t k q)
-        | false ↦ with_in rest t k q
-      ]
+            | true ↦ inr (with_in rest t k q)
+            | false ↦ with_in rest t k q
+          ]
     ]
 
 AreWhole-with : {K : Type 0} (s : List ℕ) (rs : RowsOf K) → AreWhole rs → AreWhole (with_suffix s rs)

@@ -1,8 +1,6 @@
 -- What a path spells, by its segments and by the tokens of a route.
-use Rattle.std.proofs.Common.{
-    ◌≡◌, ◌⊎◌, inl, inr, ℕ, ◌<◌, List, [], ◌∷◌, ◌++◌, length, Bool, true, false, ◌&&◌, ◌||◌, not, cond, ltb, eqb,
-    MatchBool, refl, sym, ap, subst, ◌∙◌, arith
-}
+use Rattle.std.proofs.Common.{◌≡◌, ◌⊎◌, inl, inr, ℕ, ◌<◌, List, [], ◌∷◌, ◌++◌, length, Bool, true, false, ◌&&◌, ◌||◌, not, cond, ltb, eqb, MatchBool, refl, sym}
+use Rattle.std.proofs.Common.{ap, subst, ◌∙◌, arith}
 use Rattle.std.proofs.lemmas.Bool.{eqb-true}
 use Rattle.std.proofs.lemmas.Bool.Decides.{nat_tests}
 use Rattle.std.proofs.lemmas.Slice.Eq.{bytes_eq-Decides}
@@ -86,7 +84,7 @@ fits-matches : (word part t rest : List ℕ) → fits word part ≡ true → has
 fits-matches [] part t rest f h m = subst (λ x. Matches t (x ++ rest)) (sym (nil_from_zero part f)) m
 fits-matches (b ∷ word) part t rest f h m =
     elim (eqb b 123) as (λ v. cond v (ltb 0 (length part)) (bytes_eq part (b ∷ word)) ≡ true →
-        Matches (cond v (param_token ∷ []) (b ∷ word) ++ t) (part ++ rest)) [
+    Matches (cond v (param_token ∷ []) (b ∷ word) ++ t) (part ++ rest)) [
       | true ↦ λ g. let some : 0 < length part = grind (arith, nat_tests) in matches-part part rest t (part ++ rest) refl some h m
       | false ↦ λ g. subst (λ x. Matches ((b ∷ word) ++ t) (x ++ rest)) (sym ((bytes_eq-Decides part (b ∷ word)).0 g)) (matches-word (b ∷ word) t rest m)
     ] f
@@ -96,7 +94,7 @@ matches-fits : (word t path : List ℕ) → is_plain word ≡ true → Matches (
 matches-fits [] t path h m = ([], path, refl, refl, refl, m)
 matches-fits (b ∷ word) t path h m =
     elim (eqb b 123) as (λ v. Matches (cond v (param_token ∷ []) (b ∷ word) ++ t) path → (part : List ℕ) × (rest : List ℕ) × (path ≡ part ++ rest) ×
-        (has_slash part ≡ false)
+    (has_slash part ≡ false)
     × (cond v (ltb 0 (length part)) (bytes_eq part (b ∷ word)) ≡ true) × Matches t rest) [
       | true ↦ λ n. let some = n.3 in let long : ltb 0 (length n.0) ≡ true = grind (arith, nat_tests) in (n.0, n.1, n.2, n.4, long, n.5)
       | false ↦ λ n.

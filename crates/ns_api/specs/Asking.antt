@@ -1,32 +1,24 @@
 -- What a request asks for: a step, or the refusal that needs no state.
-use Rattle.std.specs.Prelude.{[], Option, Some, None, option_map, unwrap_or, Result, Ok, Err, if◌then◌else◌, not, codes}
+use Rattle.std.specs.Prelude.{ℕ, List, [], Option, Some, None, option_map, unwrap_or, Result, Ok, Err, codes}
 use Rattle.uuid.specs.Text.{hyphenated_text, lower, parsed}
 use Rattle.ns_types.specs.declared.refusal.Refusal.{Refusal}
-use Rattle.ns_types.specs.declared.refusal.Refusal.TheVariants as Refusal
 use Rattle.ns_types.specs.declared.step.AdminCommand.{AdminCommand}
-use Rattle.ns_types.specs.declared.step.AdminCommand.TheVariants as AdminCommand
 use Rattle.ns_types.specs.declared.step.AskCommand.{AskCommand}
-use Rattle.ns_types.specs.declared.step.AskCommand.TheVariants as AskCommand
 use Rattle.ns_types.specs.declared.step.NodeCommand.TheVariants as NodeCommand
 use Rattle.ns_types.specs.declared.step.Step.{Step}
-use Rattle.ns_types.specs.declared.step.Step.TheVariants as Step
 use Rattle.ns_types.specs.Wire.Http.{Asked}
 use Rattle.ns_types.specs.State.Names.{Name, default_name}
 use Rattle.ns_documents.specs.Access.{policy_in, token_in}
-use Rattle.ns_documents.specs.Records.{
-    namespace_in as namespace_document, pool_in as pool_document, quota_in as quota_document
-}
+use Rattle.ns_documents.specs.Records.{namespace_in as namespace_document, pool_in as pool_document}
+use Rattle.ns_documents.specs.Records.{quota_in as quota_document}
 use Rattle.ns_json.specs.Reading.{◌>>=◌, body_in}
 use Rattle.ns_json.specs.Registration.{registration_in}
 use Rattle.ns_api.specs.declared.endpoint.Endpoint.{Endpoint}
-use Rattle.ns_api.specs.declared.endpoint.Endpoint.TheVariants as Endpoint
 use Rattle.ns_api.specs.declared.method.Method.{Method}
-use Rattle.ns_api.specs.declared.method.Method.TheVariants as Method
-use Rattle.ns_api.specs.Endpoints.{endpoint_of, methods_of}
-use Rattle.ns_api.specs.Methods.{method_of, has_method}
-use Rattle.ns_api.specs.Queries.{is_unserved, namespace_in, parameter}
+use Rattle.ns_api.specs.Finding.{found}
+use Rattle.ns_api.specs.Queries.{namespace_in, parameter}
 use Rattle.ns_api.specs.Secrets.{secret_of}
-use Rattle.ns_api.specs.Targets.{path_in, query_in, text_at, has_good_parts, names_every_pool}
+use Rattle.ns_api.specs.Targets.{path_in, query_in, text_at}
 
 -- ---- who asks, and where
 
@@ -58,8 +50,11 @@ third_part a = text_at 3 (path_in a.target)
 abbrev pub fourth_part : Asked → Name
 fourth_part a = text_at 4 (path_in a.target)
 
+abbrev pub prefix_of : List ℕ → Name
+prefix_of query = unwrap_or (parameter (codes "prefix") query) []
+
 abbrev pub prefix_in : Asked → Name
-prefix_in a = unwrap_or (parameter (codes "prefix") (query_in a.target)) []
+prefix_in a = prefix_of (query_in a.target)
 
 -- the text of the UUID that a text is, in lower case with hyphens
 abbrev pub canonical : Name → Name
@@ -98,8 +93,14 @@ policy_put a = do
 unfoldable pub token_asked : Asked → Result Step Refusal
 token_asked a = do
   document ← body_in token_in a.body
-  admin_of (AdminCommand.CreateToken (record { accessor = []; secret = []; name = document.name; kind =
-      document.kind; policies = document.policies })) a
+  admin_of (AdminCommand.CreateToken (record {
+    accessor = [];
+    secret = [];
+    name = document.name;
+    kind =
+        document.kind;
+    policies = document.policies;
+  })) a
 
 -- ---- reads that name their place in the path
 
@@ -148,17 +149,7 @@ asked_of Endpoint.Token method a = by_kind method not_served not_served
     (admin_of (AdminCommand.DeleteToken (canonical (fourth_part a))) a)
 asked_of _ method a = not_served
 
-abbrev pub asked_by_method : Endpoint → Option Method → Asked → Result Step Refusal
-asked_by_method endpoint None a = Err Refusal.BadMethod
-asked_by_method endpoint (Some method) a =
-    if has_method (methods_of endpoint) method then asked_of endpoint method a else Err Refusal.BadMethod
-
-unfoldable pub asked_at : Endpoint → Asked → Result Step Refusal
-asked_at endpoint a =
-    if not (has_good_parts endpoint (path_in a.target)) then Err Refusal.NotFound
-    else if names_every_pool endpoint (path_in a.target) then Err Refusal.NotServed
-    else if is_unserved endpoint (method_of a.method) (query_in a.target) then Err Refusal.NotServed
-    else asked_by_method endpoint (method_of a.method) a
-
 unfoldable pub asked : Asked → Result Step Refusal
-asked a = elim (endpoint_of (path_in a.target)) [ None ↦ Err Refusal.NotFound | Some endpoint ↦ asked_at endpoint a ]
+asked a = do
+  place ← found a
+  asked_of place.0 place.1 a

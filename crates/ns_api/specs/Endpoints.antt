@@ -1,12 +1,10 @@
 -- The paths that the server knows, with their methods and their parts.
-use Rattle.std.specs.Prelude.{
-    ℕ, ◌==◌, Bool, true, false, List, [], ◌∷◌, Option, length, nat_lt, codes, bytes_eq, find, if◌then◌else◌
-}
+use Rattle.std.specs.Prelude.{ℕ, ◌==◌, Bool, true, false, List, [], ◌∷◌, Option, length, nat_lt, codes, bytes_eq, find}
+use Rattle.std.specs.Prelude.{if◌then◌else◌}
 use Rattle.std.specs.Cmp.Lexicographic.{pointwise}
 use Rattle.ns_types.specs.declared.id.IdKind.TheVariants as IdKind
 use Rattle.ns_types.specs.declared.name.NameKind.TheVariants as NameKind
 use Rattle.ns_api.specs.declared.endpoint.Endpoint.{Endpoint}
-use Rattle.ns_api.specs.declared.endpoint.Endpoint.TheVariants as Endpoint
 use Rattle.ns_api.specs.declared.endpoint.Placed.{Placed}
 use Rattle.ns_api.specs.declared.method.Methods.{Methods}
 use Rattle.ns_api.specs.declared.part.Part.TheVariants as Part
@@ -47,12 +45,12 @@ pattern_of Endpoint.Token = codes "/v1/acl/token/{accessor}"
 abbrev pub every_endpoint : List Endpoint
 every_endpoint =
     Endpoint.Jobs ∷ Endpoint.Job ∷ Endpoint.JobAllocations ∷ Endpoint.JobEvaluations ∷ Endpoint.Evaluations ∷
-        Endpoint.Evaluation ∷
+    Endpoint.Evaluation ∷
     Endpoint.Allocations ∷ Endpoint.Allocation ∷ Endpoint.AllocationStop ∷ Endpoint.Namespaces ∷ Endpoint.NewNamespace ∷
-        Endpoint.Namespace ∷
+    Endpoint.Namespace ∷
     Endpoint.Quotas ∷ Endpoint.NewQuota ∷ Endpoint.Quota ∷ Endpoint.QuotaUsage ∷ Endpoint.EventStream ∷ Endpoint.Pools ∷
     Endpoint.Pool ∷ Endpoint.PoolNodes ∷ Endpoint.Node ∷ Endpoint.NodeStatus ∷ Endpoint.NodeEligibility ∷
-        Endpoint.NodeReport ∷
+    Endpoint.NodeReport ∷
     Endpoint.Policy ∷ Endpoint.NewToken ∷ Endpoint.Token ∷ []
 
 abbrev pub read : Methods

@@ -6,7 +6,9 @@ pub mod Targets
 pub mod Queries
 pub mod Secrets
 pub mod Gives
+pub mod Finding
 pub mod Asking
+pub mod Wanted
 pub mod Drawing
 pub mod Rooms
 pub mod Answering

@@ -1,8 +1,6 @@
 -- The parts of a path.
-use Rattle.std.specs.Prelude.{
-    ℕ, ◌/◌, ◌%◌, ◌^◌, ◌==◌, Bool, ◌&&◌, List, [], Option, Some, None, option_and_then, is_some, if◌then◌else◌,
-    unwrap_or, slice_get
-}
+use Rattle.std.specs.Prelude.{ℕ, ◌/◌, ◌%◌, ◌^◌, ◌==◌, Bool, ◌&&◌, List, [], Option, Some, None, option_and_then}
+use Rattle.std.specs.Prelude.{is_some, if◌then◌else◌, unwrap_or, slice_get}
 use Rattle.std.specs.List.{slice_split}
 use Rattle.std.specs.Str.{is_utf8}
 use Rattle.percent_encoding.specs.Percent.{percent_decode}
@@ -10,7 +8,6 @@ use Rattle.ns_types.specs.declared.id.IdKind.{IdKind}
 use Rattle.ns_types.specs.State.Id.{kind_number, uuid_number}
 use Rattle.ns_types.specs.State.Name.{is_name}
 use Rattle.ns_api.specs.declared.part.Part.{Part}
-use Rattle.ns_api.specs.declared.part.Part.TheVariants as Part
 
 abbrev pub slash : ℕ
 slash = 47

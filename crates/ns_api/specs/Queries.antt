@@ -1,8 +1,6 @@
 -- Queries, as form data.
-use Rattle.std.specs.Prelude.{
-    ℕ, ◌==◌, Bool, true, false, not, ◌&&◌, ◌||◌, List, length, find, Option, Some, None, option_map, Result, Ok, Err,
-    if◌then◌else◌, nat_lt, bytes_eq, codes
-}
+use Rattle.std.specs.Prelude.{ℕ, ◌==◌, Bool, true, false, not, ◌&&◌, ◌||◌, List, length, find, Option, Some, None}
+use Rattle.std.specs.Prelude.{option_map, Result, Ok, Err, if◌then◌else◌, nat_lt, bytes_eq, codes}
 use Rattle.std.specs.Option.{option_map_or}
 use Rattle.std.specs.Str.Lossy.{utf8_lossy}
 use Rattle.form_urlencoded.specs.Form.{raw_pairs, decode}

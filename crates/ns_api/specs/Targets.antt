@@ -1,12 +1,11 @@
 -- Targets.
-use Rattle.std.specs.Prelude.{ℕ, ◌==◌, Bool, true, false, ◌&&◌, List, codes, bytes_eq}
+use Rattle.std.specs.Prelude.{ℕ, ◌==◌, Bool, true, false, ◌&&◌, List, [], ◌∷◌, codes, bytes_eq}
 use Rattle.std.specs.List.{list_all, list_any, before_first, after_first}
 use Rattle.percent_encoding.specs.Percent.{percent_decode}
 use Rattle.ns_types.specs.declared.name.NameKind.TheVariants as NameKind
 use Rattle.ns_api.specs.declared.endpoint.Endpoint.{Endpoint}
 use Rattle.ns_api.specs.declared.endpoint.Placed.{Placed}
 use Rattle.ns_api.specs.declared.part.Part.{Part}
-use Rattle.ns_api.specs.declared.part.Part.TheVariants as Part
 use Rattle.ns_api.specs.Parts.{is_part, segment_at}
 use Rattle.ns_api.specs.Endpoints.{parts_of}
 
@@ -41,3 +40,11 @@ is_every_pool path placed = is_pool placed.part && bytes_eq (text_at placed.plac
 -- the path names the pool `all`, which is none
 abbrev pub names_every_pool : Endpoint → List ℕ → Bool
 names_every_pool endpoint path = list_any (is_every_pool path) (parts_of endpoint)
+
+abbrev pub first_text_in : List Placed → List ℕ → List ℕ
+first_text_in [] path = []
+first_text_in (placed ∷ rest) path = text_at placed.place path
+
+-- the text of the first part that the path names, or none
+abbrev pub first_text : Endpoint → List ℕ → List ℕ
+first_text endpoint path = first_text_in (parts_of endpoint) path

@@ -1,13 +1,14 @@
 //! Answers requests, over anything that takes the steps which they ask for.
 
-ghost use Rattle.std.specs.Prelude.{◌≡◌, ◌⊎◌, Ok, IfOk, true, false};
+ghost use Rattle.std.specs.Prelude.{◌≡◌, Ok, IfOk, true, false};
 ghost use Rattle.ns_types.specs.Steps.{Makes};
 ghost use Rattle.ns_types.specs.Wire.Responses.{rendered_of};
-ghost use Rattle.ns_steps.specs.Served.{IsServed};
+ghost use Rattle.ns_steps.specs.Served.{IsServed, is_reading};
 ghost use Rattle.ns_json.specs.Replies.{rendered};
 ghost use Rattle.ns_replies.specs.Rendered.{HasRoom, IsRendered};
-ghost use Rattle.ns_api.specs.Answering.{AnswersAsked, AnswersOrWants, ShowsOrWants, WantsMemory};
-ghost use Rattle.ns_api.specs.Rooms.{is_reading, room_of};
+ghost use Rattle.ns_api.specs.Answering.{AnswersAsked, AnswersOrWants, ShowsOrWants};
+ghost use Rattle.ns_api.specs.Rooms.{room_of};
+ghost use Rattle.ns_api.specs.Serving.{held};
 
 use crate::asking::asked;
 use crate::drawing::{Draws, drawn};
@@ -101,7 +102,8 @@ impl<T: Takes, D: Draws> Api<T, D> {
     where
         T: Drop,
         D: Drop,
-        ensures { IfOk result (λ api. api.taker ≡ taker) }
+        ensures taker { IfOk result (λ api. api.taker ≡ taker) }
+        ensures drawer { IfOk result (λ api. api.draws ≡ draws) }
     {
         let routes = Routes::new(alloc)?;
         Ok(Api {
@@ -116,7 +118,9 @@ impl<T: Takes, D: Draws> Api<T, D> {
     fn write(&mut self, step: &Step) -> Response
         requires served { IsServed step.now }
         requires writes { is_reading step.now ≡ false }
-        ensures { AnswersOrWants step.now (T.state self.old.taker) (rendered_of result) (T.state self.new.taker) }
+        ensures answered { AnswersOrWants step.now
+            (T.state self.old.taker) (rendered_of result) (T.state self.new.taker) }
+        ensures draws_none { self.new.draws ≡ self.old.draws }
     {
         let Ok(room) = room_for(self.alloc, step) else {
             return Response::Refused(Refusal::Memory);
@@ -131,7 +135,9 @@ impl<T: Takes, D: Draws> Api<T, D> {
     fn read(&mut self, step: &Step) -> Response
         requires served { IsServed step.now }
         requires reads { is_reading step.now ≡ true }
-        ensures { AnswersOrWants step.now (T.state self.old.taker) (rendered_of result) (T.state self.new.taker) }
+        ensures answered { AnswersOrWants step.now
+            (T.state self.old.taker) (rendered_of result) (T.state self.new.taker) }
+        ensures draws_none { self.new.draws ≡ self.old.draws }
     {
         let answer = self.taker.take(step);
         let response = shown(self.alloc, &answer);
@@ -142,7 +148,9 @@ impl<T: Takes, D: Draws> Api<T, D> {
     /// Takes the step, by the way that it needs.
     fn step(&mut self, step: &Step) -> Response
         requires { IsServed step.now }
-        ensures { AnswersOrWants step.now (T.state self.old.taker) (rendered_of result) (T.state self.new.taker) }
+        ensures answered { AnswersOrWants step.now
+            (T.state self.old.taker) (rendered_of result) (T.state self.new.taker) }
+        ensures draws_none { self.new.draws ≡ self.old.draws }
     {
         if is_read(step) {
             self.read(step)
@@ -154,7 +162,8 @@ impl<T: Takes, D: Draws> Api<T, D> {
     /// Draws what the step lacks, and takes it.
     fn make(&mut self, wanted: Step) -> Response
         requires { IsServed wanted }
-        ensures { AnswersAsked (Ok wanted) (T.state self.old.taker) (rendered_of result) (T.state self.new.taker) ⊎ WantsMemory (T.state self.old.taker) (rendered_of result) (T.state self.new.taker) }
+        ensures { AnswersAsked D.draws (Ok wanted)
+            (held T.state self.old) (rendered_of result) (held T.state self.new) }
     {
         match drawn(self.alloc, &mut self.draws, wanted) {
             Ok(step) => {
@@ -169,8 +178,10 @@ impl<T: Takes, D: Draws> Api<T, D> {
 
 impl<T: Takes, D: Draws> Answer for Api<T, D> {
     ghost use Rattle.ns_api.specs.Answering.{Answers};
+    ghost use Rattle.ns_api.specs.Serving.{held};
 
-    ghost answers = { λ old asks reply new. Answers (T.state old.taker) asks reply (T.state new.taker) };
+    ghost answers = { λ old a reply new.
+        Answers D.draws (held T.state old) a reply (held T.state new) };
 
     type A = Global;
 

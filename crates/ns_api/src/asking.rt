@@ -5,60 +5,83 @@ ghost use Rattle.ns_http.specs.Head.{asked as shown};
 ghost use Rattle.ns_json.specs.Reading.{same};
 ghost use Rattle.ns_steps.specs.Served.{IsServed};
 ghost use Rattle.ns_api.specs.Gives.{Gives};
-ghost use Rattle.ns_api.specs.Asking.{asked, asked_at};
-ghost use Rattle.ns_api.specs.Targets.{path_in, query_in};
+ghost use Rattle.ns_api.specs.Asking.{asked, namespace_of};
+ghost use Rattle.ns_api.specs.Wanted.{bearer_of, IsServedWanted, step_by};
 
-use crate::endpoint::Endpoint;
-use crate::method::Method;
-use crate::methods::by_method;
-use crate::query::is_unserved;
+use crate::finding::Target;
+use crate::query::namespace;
 use crate::routes::Routes;
-use crate::target::{has_good_parts, names_every_pool, split_target};
+use crate::tables::wanted;
+use crate::token::secret;
+use crate::wanted::{Bearer, Wanted};
 use ns_http::Request;
 use ns_types::refusal::Refusal;
 use ns_types::step::Step;
-use std::alloc::Global;
+use ns_types::text::Text;
+use std::alloc::{AllocError, Global};
 
-#[tactic(auto, unfolding(crate::specs::Asking::asked_at))]
-fn at_endpoint(
+/// The parameter's namespace, else the document's, else `default`.
+fn namespace_or_default(
     alloc: Global,
-    endpoint: Endpoint,
-    request: &Request<'_>,
-    path: &str,
-    query: &str,
-) -> Result<Step, Refusal>
-    requires path { path.now ≡ path_in (shown request.now).target }
-    requires query { query.now ≡ query_in (shown request.now).target }
-    ensures step { Gives same result (asked_at endpoint (shown request.now)) }
+    parameter: Option<Text>,
+    document: Option<Text>,
+) -> Result<Text, AllocError>
+    ensures { IfOk result (λ name. name ≡ namespace_of parameter document) }
+{
+    match parameter {
+        Some(name) => Ok(name),
+        None => match document {
+            Some(name) => Ok(name),
+            None => Text::from_str(alloc, "default"),
+        },
+    }
+}
+
+/// Who asks, and the namespace that the query names. One that is no namespace's name is a fault of every step.
+fn bearer(alloc: Global, target: &Target<'_>) -> Result<Bearer, Refusal>
+    ensures { Gives same result (bearer_of (shown target.now.request)) }
+{
+    let namespace = namespace(alloc, target.query)?;
+    let secret = secret(alloc, target.request.token)?;
+    Ok(Bearer { namespace, secret })
+}
+
+/// The step that is wanted, of who asks.
+fn step(alloc: Global, bearer: Bearer, wanted: Wanted) -> Result<Step, AllocError>
+    requires { IsServedWanted wanted }
+    ensures step { IfOk result (λ step. step ≡ step_by bearer wanted) }
     ensures served { IfOk result IsServed }
 {
-    if !has_good_parts(alloc, endpoint, path)? {
-        return Err(Refusal::NotFound);
-    }
-    if names_every_pool(alloc, endpoint, path)? {
-        return Err(Refusal::NotServed);
-    }
-    let method = Method::read(request.method);
-    if is_unserved(alloc, endpoint, method, query)? {
-        return Err(Refusal::NotServed);
-    }
-    match method {
-        Some(method) if endpoint.methods().has(method) => {
-            by_method(alloc, endpoint, method, request, path, query)
+    let Bearer { namespace, secret } = bearer;
+    match wanted {
+        Wanted::Ask(document, command) => {
+            match namespace_or_default(alloc, namespace, document) {
+                Ok(namespace) => Ok(Step::Ask(namespace, secret, command)),
+                Err(error) => {
+                    drop(command);
+                    Err(error)
+                }
+            }
         }
-        _ => Err(Refusal::BadMethod),
+        Wanted::AskIn(namespace, command) => Ok(Step::Ask(namespace, secret, command)),
+        Wanted::Admin(command) => Ok(Step::Admin(secret, command)),
+        Wanted::Node(pool, command) => Ok(Step::Node(pool, secret, command)),
     }
 }
 
 /// The step that a request asks for, or the refusal that needs no state. Of a new token the two texts are empty.
-#[tactic(auto, unfolding(crate::specs::Asking::asked))]
+#[tactic(auto, unfolding(crate::specs::Asking::asked, crate::specs::Wanted::step_of))]
 pub fn asked(alloc: Global, routes: &Routes, request: &Request<'_>) -> Result<Step, Refusal>
     ensures step { Gives same result (asked (shown request.now)) }
     ensures served { IfOk result IsServed }
 {
-    let (path, query) = split_target(request.target);
-    match routes.find(path) {
-        Some(endpoint) => at_endpoint(alloc, endpoint, request, path, query),
-        None => Err(Refusal::NotFound),
+    let target = Target::find(alloc, routes, request)?;
+    let wanted = wanted(alloc, &target)?;
+    match bearer(alloc, &target) {
+        Ok(bearer) => Ok(step(alloc, bearer, wanted)?),
+        Err(refusal) => {
+            drop(wanted);
+            Err(refusal)
+        }
     }
 }

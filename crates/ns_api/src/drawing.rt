@@ -4,7 +4,7 @@ ghost use Rattle.std.specs.Prelude.{◌≡◌, IfOk};
 ghost use Rattle.ns_types.specs.declared.step.Step.TheVariants as Step;
 ghost use Rattle.ns_types.specs.declared.step.AdminCommand.TheVariants as AdminCommand;
 ghost use Rattle.ns_steps.specs.Served.{IsServed};
-ghost use Rattle.ns_api.specs.Drawing.{Draws as IsDrawnFor, IsRandomId};
+ghost use Rattle.ns_api.specs.Drawing.{GivesDrawn, random_id};
 
 use ns_types::step::{AdminCommand, NewToken, Step};
 use ns_types::text::Text;
@@ -13,39 +13,48 @@ use uuid::Builder;
 
 /// Hands in random bits.
 pub trait Draws {
+    ghost use Rattle.std.specs.Prelude.{ℕ, List};
+
+    // What a draw gives, between what draws before it and after it.
+    ghost draws: { Self → List ℕ → Self → Type 0 };
+
     /// 128 random bits, new ones at each call.
-    fn draw(&mut self) -> [u8; 16];
+    fn draw(&mut self) -> [u8; 16]
+        ensures { draws self.old result self.new };
 }
 
-/// The text of a UUID of version 4.
-fn random_id<D: Draws>(alloc: Global, draws: &mut D) -> Result<Text, AllocError>
-    ensures { IfOk result IsRandomId }
+/// The text of the UUID of version 4 with these bits.
+fn random_id(alloc: Global, bytes: [u8; 16]) -> Result<Text, AllocError>
+    ensures { IfOk result (λ text. text ≡ random_id bytes) }
 {
-    let id = Builder::from_random_bytes(draws.draw()).into_uuid();
+    let id = Builder::from_random_bytes(bytes).into_uuid();
     let mut buffer = [0; 36];
     Text::from_str(alloc, id.hyphenated().encode_lower(&mut buffer))
 }
 
-/// The new token with its two texts drawn.
+/// The new token with its two texts drawn, the accessor first.
 fn drawn_token<D: Draws>(
     alloc: Global,
     draws: &mut D,
-    secret: Option<Text>,
-    new: NewToken,
+    bearer: Option<Text>,
+    token: NewToken,
 ) -> Result<Step, AllocError>
-    ensures drawn { IfOk result (λ made. IsDrawnFor (Step.Admin secret (AdminCommand.CreateToken new)) made) }
+    ensures drawn { let wanted = Step.Admin bearer (AdminCommand.CreateToken token) in
+        GivesDrawn D.draws wanted draws.old result draws.new }
     ensures served { IfOk result IsServed }
 {
-    let accessor = random_id(alloc, draws)?;
-    let drawn = random_id(alloc, draws)?;
+    let first = draws.draw();
+    let second = draws.draw();
+    let accessor = random_id(alloc, first)?;
+    let secret = random_id(alloc, second)?;
     Ok(Step::Admin(
-        secret,
+        bearer,
         AdminCommand::CreateToken(NewToken {
             accessor,
-            secret: drawn,
-            name: new.name,
-            kind: new.kind,
-            policies: new.policies,
+            secret,
+            name: token.name,
+            kind: token.kind,
+            policies: token.policies,
         }),
     ))
 }
@@ -54,26 +63,26 @@ fn drawn_token<D: Draws>(
 fn drawn_command<D: Draws>(
     alloc: Global,
     draws: &mut D,
-    secret: Option<Text>,
+    bearer: Option<Text>,
     command: AdminCommand,
 ) -> Result<Step, AllocError>
-    ensures drawn { IfOk result (λ made. IsDrawnFor (Step.Admin secret command) made) }
+    ensures drawn { GivesDrawn D.draws (Step.Admin bearer command) draws.old result draws.new }
     ensures served { IfOk result IsServed }
 {
     match command {
-        AdminCommand::CreateToken(new) => drawn_token(alloc, draws, secret, new),
-        command => Ok(Step::Admin(secret, command)),
+        AdminCommand::CreateToken(token) => drawn_token(alloc, draws, bearer, token),
+        command => Ok(Step::Admin(bearer, command)),
     }
 }
 
-/// The step that is made where this one is asked for.
-pub fn drawn<D: Draws>(alloc: Global, draws: &mut D, step: Step) -> Result<Step, AllocError>
-    requires { IsServed step }
-    ensures drawn { IfOk result (λ made. IsDrawnFor step made) }
+/// The step that is made where this one is asked for. Want of memory comes after the draws.
+pub fn drawn<D: Draws>(alloc: Global, draws: &mut D, wanted: Step) -> Result<Step, AllocError>
+    requires { IsServed wanted }
+    ensures drawn { GivesDrawn D.draws wanted draws.old result draws.new }
     ensures served { IfOk result IsServed }
 {
-    match step {
-        Step::Admin(secret, command) => drawn_command(alloc, draws, secret, command),
+    match wanted {
+        Step::Admin(bearer, command) => drawn_command(alloc, draws, bearer, command),
         step => Ok(step),
     }
 }

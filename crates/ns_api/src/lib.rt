@@ -1,24 +1,23 @@
 //! From a request to the step that it asks for, and from the step's answer to the response.
 #![tactic(auto)]
 
-mod access;
 mod answering;
 mod asking;
-mod bearer;
 mod cores;
+mod documents;
 mod drawing;
 mod endpoint;
-mod jobs;
+mod finding;
 pub mod laws;
 mod method;
-mod methods;
 mod part;
 mod query;
-mod records;
 mod routes;
 mod serving;
+mod tables;
 mod target;
 mod token;
+mod wanted;
 
 pub use answering::{Api, Takes};
 pub use asking::asked;

@@ -1,14 +1,14 @@
 //! One connection, answered over what takes the steps.
 
-ghost use Rattle.std.specs.Prelude.{◌≡◌, ℕ, ◌+◌, ◌≤◌, length, IfOk, IsErrOf, IsTrue, false, Err};
+ghost use Rattle.std.specs.Prelude.{◌≡◌, ℕ, ◌+◌, ◌≤◌, min, length, IfOk, IsErrOf, IsTrue, false, Err};
 ghost use Rattle.ns_types.specs.Wire.Http.{End};
-ghost use Rattle.ns_http.specs.Conversation.{streams_of, EndsWell, IsReadFault};
-ghost use Rattle.ns_http.specs.Counts.{HasFailed, IsOpen};
-ghost use Rattle.ns_api.specs.Serving.{Served, ServedInPart};
+ghost use Rattle.ns_http.specs.Conversation.{streams_between, EndsWell, IsReadFault};
+ghost use Rattle.ns_http.specs.Counts.{IsOpen, IsWriteFault};
+ghost use Rattle.ns_api.specs.Serving.{held, Served, ServedInPart};
 
 use crate::answering::{Api, Takes};
 use crate::drawing::Draws;
-use ns_http::{ConnFault, Counted};
+use ns_http::{ConnFault, Counted, READ_LIMIT, READ_ROOM};
 use std::alloc::Allocator;
 use std::io::{Read, Write};
 
@@ -20,29 +20,32 @@ pub fn serve<A: Allocator + Copy, R: Read, W: Write, T: Takes, D: Draws>(
     api: &mut Api<T, D>,
 ) -> Result<u64, ConnFault>
     ensures ok { IfOk result (λ count. (end : End)
-        × (c : Served (T.state api.old.taker) (T.state api.new.taker)
-        (streams_of (R.remaining reader.old.inner) (R.remaining reader.new.inner)
-        (W.contents writer.old.inner) (W.contents writer.new.inner)) end)
-        × EndsWell end (R.remaining reader.new.inner) reader.new.counts × (count ≡ length c.conversation.exchanges)) }
+        × (c : Served D.draws (held T.state api.old) (held T.state api.new)
+        (streams_between R.remaining W.contents reader.old reader.new writer.old writer.new) end)
+        × EndsWell end (R.remaining reader.new.inner) reader.new.counts
+        × (count ≡ length c.conversation.exchanges)) }
     ensures read { IsErrOf result ConnFault.Read → (end : End)
-        × Served (T.state api.old.taker) (T.state api.new.taker)
-        (streams_of (R.remaining reader.old.inner) (R.remaining reader.new.inner)
-        (W.contents writer.old.inner) (W.contents writer.new.inner)) end
+        × Served D.draws (held T.state api.old) (held T.state api.new)
+        (streams_between R.remaining W.contents reader.old reader.new writer.old writer.new) end
         × IsReadFault end (R.remaining reader.new.inner) reader.old.counts reader.new.counts }
     ensures write { IsErrOf result ConnFault.Write
-        → ServedInPart (T.state api.old.taker) (T.state api.new.taker)
-        (streams_of (R.remaining reader.old.inner) (R.remaining reader.new.inner)
-        (W.contents writer.old.inner) (W.contents writer.new.inner))
-        × HasFailed writer.old.counts writer.new.counts }
+        → ServedInPart D.draws (held T.state api.old) (held T.state api.new)
+        (streams_between R.remaining W.contents reader.old reader.new writer.old writer.new)
+        × IsWriteFault writer.old.counts writer.new.counts }
     ensures memory { IsErrOf result ConnFault.Memory
         → (reader.new ≡ reader.old) × (writer.new ≡ writer.old) × (api.new ≡ api.old) }
-    // No read follows one that found the end, or that failed otherwise than by interruption, and no write one that failed so.
+    // No read follows one that found the end, or that failed otherwise than by interruption, and
+    // no write one that failed so.
     ensures stops { IsOpen reader.old.counts → reader.new.counts.went_on ≡ false }
     ensures write_stops { IsOpen writer.old.counts → writer.new.counts.went_on ≡ false }
     // And such a failure is the fault that is named.
-    ensures broken { IsOpen reader.old.counts → IsTrue reader.new.counts.broken → result ≡ Err ConnFault.Read }
-    ensures write_broken { IsOpen writer.old.counts → IsTrue writer.new.counts.broken → result ≡ Err ConnFault.Write }
-    ensures reads { reader.new.counts.calls ≤ reader.old.counts.calls + 16777216 }
+    ensures broken { IsOpen reader.old.counts → IsTrue reader.new.counts.broken
+        → result ≡ Err ConnFault.Read }
+    ensures write_broken { IsOpen writer.old.counts → IsTrue writer.new.counts.broken
+        → result ≡ Err ConnFault.Write }
+    ensures reads { reader.new.counts.calls ≤ reader.old.counts.calls + READ_LIMIT }
+    // Each read has room for so many bytes.
+    ensures room { min reader.old.counts.least_room READ_ROOM ≤ reader.new.counts.least_room }
 {
     ns_http::serve(alloc, reader, writer, api)
 }

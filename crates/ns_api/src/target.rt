@@ -1,8 +1,17 @@
 //! The parts of a target.
 
-ghost use Rattle.std.specs.Prelude.{◌≡◌, IfOk, IsUtf8};
+ghost use Rattle.std.specs.Prelude.{◌≡◌, IfOk, IsUtf8, true};
 ghost use Rattle.ns_api.specs.Parts.{is_part, segment_at};
-ghost use Rattle.ns_api.specs.Targets.{path_in, query_in, has_good_parts, is_placed_part, is_every_pool, names_every_pool, text_at};
+ghost use Rattle.ns_api.specs.Targets.{
+  path_in,
+  query_in,
+  first_text,
+  has_good_parts,
+  is_placed_part,
+  is_every_pool,
+  names_every_pool,
+  text_at,
+};
 
 use crate::endpoint::{Endpoint, Placed};
 use crate::part::Part;
@@ -58,7 +67,7 @@ pub fn has_good_parts(alloc: Global, endpoint: Endpoint, path: &str) -> Result<b
 }
 
 /// The text of the part at that place.
-pub fn part_at(alloc: Global, path: &str, place: usize) -> Result<Text, AllocError>
+fn part_at(alloc: Global, path: &str, place: usize) -> Result<Text, AllocError>
     requires { IsUtf8 (text_at place path.now) }
     ensures { IfOk result (λ text. text ≡ text_at place path.now) }
 {
@@ -68,6 +77,17 @@ pub fn part_at(alloc: Global, path: &str, place: usize) -> Result<Text, AllocErr
             DecodeError::Utf8(_) => unreachable!(),
             DecodeError::OutOfMemory => Err(AllocError),
         },
+    }
+}
+
+/// The text of the first part, empty where there is none.
+pub fn first_part(alloc: Global, endpoint: Endpoint, path: &str) -> Result<Text, AllocError>
+    requires { has_good_parts endpoint path.now ≡ true }
+    ensures { IfOk result (λ text. text ≡ first_text endpoint path.now) }
+{
+    match endpoint.parts() {
+        [placed, ..] => part_at(alloc, path, placed.place),
+        [] => Text::from_str(alloc, ""),
     }
 }
 

@@ -1,0 +1,44 @@
+-- What is wanted of a path: a step, but for who asks.
+use Rattle.std.specs.Prelude.{◌≡◌, Result, Ok, Err}
+use Rattle.ns_types.specs.declared.refusal.Refusal.{Refusal}
+use Rattle.ns_types.specs.declared.step.Step.{Step}
+use Rattle.ns_types.specs.Wire.Http.{Asked}
+use Rattle.ns_http.specs.declared.head.Request.{Request}
+use Rattle.ns_http.specs.Head.{asked as shown}
+use Rattle.ns_json.specs.Reading.{◌>>=◌}
+use Rattle.ns_steps.specs.Served.{IsServedAsk, IsServedNode}
+use Rattle.ns_api.specs.declared.wanted.Bearer.{Bearer}
+use Rattle.ns_api.specs.declared.wanted.Wanted.{Wanted}
+use Rattle.ns_api.specs.Asking.{namespace_of}
+use Rattle.ns_api.specs.Gives.{Refuses}
+use Rattle.ns_api.specs.Queries.{namespace_in}
+use Rattle.ns_api.specs.Secrets.{secret_of}
+use Rattle.ns_api.specs.Targets.{query_in}
+
+abbrev pub bearer_of : Asked → Result Bearer Refusal
+bearer_of a = do
+  parameter ← namespace_in (query_in a.target)
+  Ok (record { namespace = parameter; secret = secret_of a.token })
+
+abbrev pub step_by : Bearer → Wanted → Step
+step_by bearer (Wanted.Ask document command) = Step.Ask (namespace_of bearer.namespace document) bearer.secret command
+step_by bearer (Wanted.AskIn namespace command) = Step.Ask namespace bearer.secret command
+step_by bearer (Wanted.Admin command) = Step.Admin bearer.secret command
+step_by bearer (Wanted.Node pool command) = Step.Node pool bearer.secret command
+
+-- the step that is wanted, of who asks
+unfoldable pub step_of : Wanted → Asked → Result Step Refusal
+step_of wanted a = do
+  bearer ← bearer_of a
+  Ok (step_by bearer wanted)
+
+abbrev pub IsServedWanted : Wanted → Type 0
+IsServedWanted (Wanted.Ask document command) = IsServedAsk command
+IsServedWanted (Wanted.AskIn namespace command) = IsServedAsk command
+IsServedWanted (Wanted.Admin command) = Unit {0}
+IsServedWanted (Wanted.Node pool command) = IsServedNode command
+
+-- the request asks what is wanted, or is refused so; want of memory says nothing
+abbrev pub Wants : Request → Result Wanted Refusal → (Asked → Result Step Refusal) → Type 0
+Wants request (Ok wanted) asks = asks (shown request) ≡ step_of wanted (shown request)
+Wants request (Err refusal) asks = Refuses refusal (asks (shown request))
