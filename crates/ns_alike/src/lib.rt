@@ -1,0 +1,13 @@
+//! Whether rows say the same, member by member, as the model asks it: keys, what nodes offer, documents of jobs,
+//! and what replies show of jobs, evaluations and allocations.
+#![tactic(auto)]
+
+mod documents;
+mod keys;
+mod offers;
+mod rows;
+
+pub use documents::same_document;
+pub use keys::{has_key, has_name, same_key, same_number, same_text};
+pub use offers::{can_use, class_of, is_free, same_class, same_offer, same_resources};
+pub use rows::{same_allocation, same_evaluation, same_job};

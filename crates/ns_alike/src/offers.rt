@@ -1,0 +1,112 @@
+//! What nodes offer: classes, attributes and amounts.
+
+ghost use Rattle.std.specs.Prelude.{◌≡◌, not, filter, IfOk};
+ghost use Rattle.std.specs.Cmp.Lexicographic.{pointwise};
+ghost use Rattle.std.specs.List.{list_any};
+ghost use Rattle.std.specs.Ordering.{eq_by_cmp};
+ghost use Rattle.ns_types.specs.State.Names.{attribute_cmp, has_class as has_entry, same_class as class_is};
+ghost use Rattle.ns_types.specs.Settling.Releases.{can_use as can_use_it, same_offer as offer_is};
+ghost use Rattle.ns_types.specs.State.Resources.{same_resources as resources_are};
+ghost use Rattle.ns_types.specs.State.Rows.{class_of as class_is_of, is_free as takes, is_unique as is_unique_key};
+
+use crate::keys::{same_number, same_text};
+use ns_types::evaluation::Evaluation;
+use ns_types::node::{Attribute, Class, Node, NodeStatus, Offer};
+use ns_types::resources::Resources;
+use ns_types::rows::Rows;
+use ns_types::text::Text;
+use std::alloc::{AllocError, Global};
+
+/// Whether the amounts are equal.
+pub fn same_resources(a: Resources, b: Resources) -> bool
+    ensures { result ≡ resources_are a b }
+{
+    same_number(a.cpu, b.cpu) && same_number(a.memory, b.memory)
+}
+
+#[tactic(auto, using(crate::proofs::Equal::attribute_ties))]
+fn same_attribute(a: &Attribute, b: &Attribute) -> bool
+    ensures { result ≡ eq_by_cmp attribute_cmp a.now b.now }
+{
+    same_text(&a.key, &b.key) && same_text(&a.value, &b.value)
+}
+
+fn same_attributes(a: &[Attribute], b: &[Attribute]) -> bool
+    ensures { result ≡ pointwise (eq_by_cmp attribute_cmp) a.now b.now }
+{
+    match (a, b) {
+        ([], []) => true,
+        ([first, others @ ..], [second, more @ ..]) => {
+            same_attribute(first, second) && same_attributes(others, more)
+        }
+        _ => false,
+    }
+}
+
+/// Whether the classes are equal.
+#[tactic(auto, using(crate::proofs::Equal::class_ties))]
+pub fn same_class(a: &Class, b: &Class) -> bool
+    ensures { result ≡ class_is a.now b.now }
+{
+    same_text(&a.name, &b.name) && same_attributes(a.attributes.as_slice(), b.attributes.as_slice())
+}
+
+fn has_class(classes: &[Class], class: &Class) -> bool
+    ensures { result ≡ has_entry classes.now class.now }
+{
+    classes.iter().any(|other| same_class(class, other))
+}
+
+/// Whether room on such a node may serve the evaluation.
+pub fn can_use(evaluation: &Evaluation, class: &Class) -> bool
+    ensures { result ≡ can_use_it evaluation.now class.now }
+{
+    evaluation.escapes || !has_class(evaluation.infeasible.as_slice(), class)
+}
+
+/// Whether the offers are equal.
+pub fn same_offer(a: &Offer, b: &Offer) -> bool
+    ensures { result ≡ offer_is a.now b.now }
+{
+    same_text(&a.class, &b.class)
+        && same_attributes(a.attributes.as_slice(), b.attributes.as_slice())
+        && same_resources(a.capacity, b.capacity)
+}
+
+/// Whether the node may take allocations.
+pub fn is_free(node: &Node) -> bool
+    ensures { result ≡ takes node.now }
+{
+    match node.status {
+        NodeStatus::Ready => node.eligible,
+        NodeStatus::Down => false,
+    }
+}
+
+fn is_unique(key: &Text) -> bool
+    ensures { result ≡ is_unique_key key.now }
+{
+    key.as_str().as_bytes().starts_with(b"unique.")
+}
+
+fn shared_attributes(alloc: Global, attributes: &[Attribute]) -> Result<Rows<Attribute>, AllocError>
+    ensures { IfOk result (λ rows. rows ≡ filter (λ a. not (is_unique_key a.key)) attributes.now) }
+{
+    let mut rows = Rows::new(alloc);
+    for attribute in attributes {
+        if !is_unique(&attribute.key) {
+            rows.push(attribute.clone()?)?;
+        }
+    }
+    Ok(rows)
+}
+
+/// The class of a node, with all attributes that are not unique.
+pub fn class_of(alloc: Global, node: &Node) -> Result<Class, AllocError>
+    ensures { IfOk result (λ class. class ≡ class_is_of node.now) }
+{
+    Ok(Class {
+        name: node.offer.class.clone()?,
+        attributes: shared_attributes(alloc, node.offer.attributes.as_slice())?,
+    })
+}

@@ -1,0 +1,8 @@
+pub mod Allocations
+pub mod Any
+pub mod Listed
+pub mod Opening
+pub mod Pools
+pub mod Seen
+pub mod Waiting
+pub mod Waking

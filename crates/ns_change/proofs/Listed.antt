@@ -1,0 +1,179 @@
+-- The lists over a change, who is busy, and waking.
+use Rattle.std.specs.Prelude.{◌≡◌, ℕ, ◌+◌, ◌<◌, ◌≤◌, Bool, true, false, cond, not, List, [], ◌∷◌, ◌++◌, ◌&&◌, ◌||◌, Option, Some, None, filter, fold, length}
+use Rattle.std.proofs.Common.{refl, sym, ap, ◌∙◌, arith, length-drop, append_assoc, get_or, drop, drop-cons, add-one}
+use Rattle.std.specs.Option.{option_map_or}
+use Rattle.std.specs.List.{list_any}
+use Rattle.std.specs.Ordering.{nat_cmp}
+use Rattle.std.specs.FinMap.{FinMap, contains_key, entries, get}
+use Rattle.keyed.specs.Table.{rows, row_at, at_slot}
+use Rattle.keyed.proofs.Tables.{any-at_slot, entries-rows}
+use Rattle.ns_types.specs.declared.evaluation.Evaluation.{Evaluation}
+use Rattle.ns_types.specs.declared.worker.Worker.{Worker}
+use Rattle.ns_types.specs.State.Names.{Name, Key, has_key, same_key}
+use Rattle.ns_types.specs.Working.Queue.{is_busy, queue}
+use Rattle.ns_types.specs.State.Rows.{World, Tenant, evaluation_at}
+use Rattle.ns_types.specs.State.Tables.{any_row}
+use Rattle.ns_types.proofs.Lists.{any_alike, each, filter-append}
+use Rattle.ns_types.proofs.Named.{numbers, one_number}
+use Rattle.ns_change.specs.declared.change.Change.{Change}
+use Rattle.ns_change.specs.declared.change.ListChange.{ListChange}
+use Rattle.ns_change.specs.declared.change.TenantChange.{TenantChange}
+use Rattle.ns_world.specs.declared.tables.Tables.{Tables}
+use Rattle.ns_world.specs.declared.tables.TenantRows.{TenantRows}
+use Rattle.ns_change.specs.Changed.{changed, changed_list}
+use Rattle.ns_change.specs.Changed.{view}
+use Rattle.ns_world.specs.World.{world_of}
+use Rattle.ns_change.proofs.Any.{any_append}
+use Rattle.keyed.proofs.Applying.{empty_by}
+use Rattle.keyed.proofs.Over.{any_row-both}
+use Rattle.ns_change.proofs.Waking.{unblock_one, wake_is, without_keys}
+use Rattle.ns_types.specs.Settling.Settle.{wake}
+use Rattle.ns_change.proofs.Seen.{changed_seen, kept_seen, none_seen}
+
+any_filter : {A : Type 0} (f p : A → Bool) (xs : List A) → list_any f (filter p xs) ≡ list_any (λ x. p x && f x) xs
+any_filter f p [] = refl
+any_filter f p (x ∷ xs) = elim (p x) as (λ b. list_any f (cond b (x ∷ filter p xs) (filter p xs)) ≡ ((b && f x) || list_any (λ x. p x && f x) xs)) [
+  | true ↦ ap (λ b. f x || b) (any_filter f p xs)
+  | false ↦ any_filter f p xs
+]
+
+-- what a changed list has
+pub any_listed : (f : Key → Bool) (base : List Key) (x : ListChange) →
+    list_any f (changed_list base x) ≡ (list_any (λ key. not (has_key x.taken key) && f key) base || list_any f x.added)
+any_listed f base x = any_append f (filter (λ key. not (has_key x.taken key)) base) x.added ∙
+    ap (λ b. b || list_any f x.added) (any_filter f (λ key. not (has_key x.taken key)) base)
+
+-- ---- workers
+
+module _ (t : Tables) (c : Change) (ns : Name) (f : Worker → Bool) where
+  abbrev works : Option Tenant → Bool
+  works tenant = option_map_or (λ t. any_row (λ _ worker. f worker) t.workers) tenant false
+
+  pub works_nowhere : row_at t.tenants ns ≡ None → works (get (view t c).tenants ns) ≡ false
+  works_nowhere is = ap works (none_seen t c ns is)
+
+  scanned : (m : FinMap nat_cmp (Option Worker)) (g : ℕ → Worker → Bool) → any_row g (rows m) ≡ list_any (at_slot (λ e. g e.0 e.1)) (entries m)
+  unfolding any_row
+  scanned m g = ap (list_any (λ e. g e.0 e.1)) (entries-rows m) ∙ sym (any-at_slot nat_cmp (λ e. g e.0 e.1) (entries m))
+
+  pub works_kept : (x : TenantRows) → row_at t.tenants ns ≡ Some x → row_at c.tenants ns ≡ None →
+      works (get (view t c).tenants ns) ≡ list_any (at_slot (λ e. f e.1)) (entries x.workers)
+  works_kept x is none = ap works (kept_seen t c ns x is none) ∙ scanned x.workers (λ _. f)
+
+  pub works_changed : (x : TenantRows) (y : TenantChange) → row_at t.tenants ns ≡ Some x → row_at c.tenants ns ≡ Some y → works (get (view t c).tenants ns)
+      ≡ (list_any (at_slot (λ e. f e.1)) (entries y.workers) || list_any (λ slot. not (contains_key y.workers slot.0) && at_slot (λ e. f e.1) slot)
+      (entries x.workers))
+  works_changed x y is some = ap works (changed_seen t c ns x y is some) ∙ any_row-both numbers one_number (λ _. f) y.workers (rows x.workers)
+      ∙ ap (λ b. list_any (at_slot (λ e. f e.1)) (entries y.workers) || b) (scanned x.workers (λ n worker. not (contains_key y.workers n) && f worker)
+      ∙ any_alike _ (λ slot. not (contains_key y.workers slot.0) && at_slot (λ e. f e.1) slot) (entries x.workers) (each _ by (entries x.workers)))
+    where
+      none : (b : Bool) → false ≡ (b && false)
+      none true = refl
+      none false = refl
+
+      by : (slot : ℕ × Option Worker) → at_slot (λ e. not (contains_key y.workers e.0) && f e.1) slot ≡
+          (not (contains_key y.workers slot.0) && at_slot (λ e. f e.1) slot)
+      by (n, None) = none (not (contains_key y.workers n))
+      by (n, Some worker) = refl
+
+-- ---- the queue
+
+module _ (w : World) (key : Key) where
+  pub queue_nothing : evaluation_at w key ≡ None → w ≡ queue w key
+  unfolding queue
+  queue_nothing is = sym (ap (λ e. option_map_or (λ e. cond (is_busy w key.0 e.job) w (record w { ready = w.ready ++ key ∷ [] })) e w) is)
+
+  pub queue_waits : (e : Evaluation) → evaluation_at w key ≡ Some e → is_busy w key.0 e.job ≡ true → w ≡ queue w key
+  unfolding queue
+  queue_waits e is busy = sym (ap (λ e. option_map_or (λ e. cond (is_busy w key.0 e.job) w (record w { ready = w.ready ++ key ∷ [] })) e w) is ∙
+      ap (λ b. cond b w (record w { ready = w.ready ++ key ∷ [] })) busy)
+
+  pub queue_ready : (e : Evaluation) → evaluation_at w key ≡ Some e → is_busy w key.0 e.job ≡ false → record w { ready = w.ready ++ key ∷ [] } ≡ queue w key
+  unfolding queue
+  queue_ready e is free = sym (ap (λ e. option_map_or (λ e. cond (is_busy w key.0 e.job) w (record w { ready = w.ready ++ key ∷ [] })) e w) is ∙
+      ap (λ b. cond b w (record w { ready = w.ready ++ key ∷ [] })) free)
+
+-- an entry more of `ready`
+pub ready_more : (t : Tables) (c : Change) (key : Key) → view t (record c { ready = record c.ready { added = c.ready.added ++ key ∷ [] } }) ≡ record (view t c)
+    { ready = (view t c).ready ++ key ∷ [] }
+unfolding changed
+ready_more t c key = λ i. record (view t c) {
+  ready =
+      sym (append_assoc (filter (λ k. not (has_key c.ready.taken k)) (world_of t).ready) c.ready.added (key ∷ [])) i;
+}
+
+pub ready_seen : (t : Tables) (c : Change) → (view t c).ready ≡ changed_list t.ready.items c.ready
+unfolding changed world_of
+ready_seen t c = refl
+
+-- ---- what goes out of a list
+
+module _ (keys : List Key) where
+  abbrev pub stays : Key → Bool
+  stays key = not (has_key keys key)
+
+  pub filter_kept : (xs done : List Key) (i : ℕ) (x : Key) → i < length xs → x ≡ get_or xs i x → stays x ≡ true → (all : List Key) → done ++
+      filter stays (drop i xs) ≡ all → (done ++ x ∷ []) ++ filter stays (drop (i + 1) xs) ≡ all
+  filter_kept xs done i x lt is stay all h = append_assoc done (x ∷ []) (filter stays (drop (i + 1) xs)) ∙
+      ap (λ b. done ++ cond b (x ∷ filter stays (drop (i + 1) xs)) (filter stays (drop (i + 1) xs))) (sym stay)
+      ∙ ap (λ l. done ++ filter stays l) (sym (from_here xs i x lt is)) ∙ h
+    where
+      from_here : (xs : List Key) (i : ℕ) (x : Key) → i < length xs → x ≡ get_or xs i x → drop i xs ≡ x ∷ drop (i + 1) xs
+      from_here xs i x lt is = drop-cons xs i x lt ∙ (λ j. sym is j ∷ drop (sym (add-one i) j) xs)
+
+  pub filter_gone : (xs done : List Key) (i : ℕ) (x : Key) → i < length xs → x ≡ get_or xs i x → stays x ≡ false → (all : List Key) → done ++
+      filter stays (drop i xs) ≡ all → done ++ filter stays (drop (i + 1) xs) ≡ all
+  filter_gone xs done i x lt is gone all h = ap (λ b. done ++ cond b (x ∷ filter stays (drop (i + 1) xs)) (filter stays (drop (i + 1) xs))) (sym gone)
+      ∙ ap (λ l. done ++ filter stays l) (sym (drop-cons xs i x lt ∙ (λ j. sym is j ∷ drop (sym (add-one i) j) xs))) ∙ h
+
+pub fold_more : {S : Type 0} (f : S → Key → S) (xs : List Key) (i : ℕ) (x : Key) (s : S) (all : S) → i < length xs → x ≡ get_or xs i x →
+    fold f s (drop i xs) ≡ all → fold f (f s x) (drop (i + 1) xs) ≡ all
+fold_more f xs i x s all lt is h = ap (fold f s) (sym (drop-cons xs i x lt ∙ (λ j. sym is j ∷ drop (sym (add-one i) j) xs))) ∙ h
+
+pub taken_more : (xs done : List Key) (i : ℕ) (x : Key) (all : List Key) → i < length xs → x ≡ get_or xs i x → done ++ drop i xs ≡ all → (done ++ x ∷ []) ++
+    drop (i + 1) xs ≡ all
+taken_more xs done i x all lt is h = append_assoc done (x ∷ []) (drop (i + 1) xs) ∙
+    ap (λ l. done ++ l) (sym (drop-cons xs i x lt ∙ (λ j. sym is j ∷ drop (sym (add-one i) j) xs))) ∙ h
+
+filter_twice : {A : Type 0} (p q r : A → Bool) (xs : List A) → ((x : A) → p x ≡ (r x && q x)) → filter p xs ≡ filter q (filter r xs)
+filter_twice p q r [] e = refl
+filter_twice p q r (x ∷ xs) e = ap (λ b. cond b (x ∷ filter p xs) (filter p xs)) (e x) ∙
+    elim (r x) as (λ b. cond (b && q x) (x ∷ filter p xs) (filter p xs) ≡ filter q (cond b (x ∷ filter r xs) (filter r xs))) [
+      | true ↦ ap (λ l. cond (q x) (x ∷ l) l) (filter_twice p q r xs e)
+      | false ↦ filter_twice p q r xs e
+    ]
+
+pub taken_out : (keys base : List Key) (old new : ListChange) → new.taken ≡ old.taken ++ keys → new.added ≡ filter (stays keys) old.added →
+    changed_list base new ≡ filter (stays keys) (changed_list base old)
+taken_out keys base old new taken added = (λ i. filter (λ key. not (has_key (taken i) key)) base ++ added i)
+    ∙ ap (λ l. l ++ filter (stays keys) old.added)
+    (filter_twice (λ key. not (has_key (old.taken ++ keys) key)) (stays keys) (λ key. not (has_key old.taken key)) base
+    (λ key. ap not (any_append (same_key key) old.taken keys) ∙ by (has_key old.taken key) (has_key keys key)))
+    ∙ sym (filter-append (stays keys) (filter (λ key. not (has_key old.taken key)) base) old.added)
+  where
+    by : (a b : Bool) → not (a || b) ≡ (not a && not b)
+    by true b = refl
+    by false b = refl
+
+-- ---- waking
+
+-- nothing is left at the end of a loop
+pub at_end : (xs : List Key) (i : ℕ) → length xs ≤ i → drop i xs ≡ []
+at_end xs i le = empty_by (drop i xs) (simp length-drop (omega arith))
+
+module _ (t : Tables) (keys : List Key) where
+  blocked_left : (c : Change) (x : ListChange) → ((base : List Key) → changed_list base x ≡ filter (stays keys) (changed_list base c.blocked)) →
+      view t (record c { blocked = x }) ≡ without_keys keys (view t c)
+  unfolding changed
+  blocked_left c x h = λ i. record (view t c) { blocked = h (world_of t).blocked i }
+
+  pub woken_all : (c pending awake : Change) (x : ListChange) (i j : ℕ) → length keys ≤ i → length keys ≤ j
+      → fold unblock_one (view t pending) (drop i keys) ≡ fold unblock_one (view t c) keys
+      → ((base : List Key) → changed_list base x ≡ filter (stays keys) (changed_list base pending.blocked))
+      → fold queue (view t awake) (drop j keys) ≡ fold queue (view t (record pending { blocked = x })) keys
+      → view t awake ≡ wake keys (view t c)
+  woken_all c pending awake x i j ie je marked left queued =
+      ap (fold queue (view t awake)) (sym (at_end keys j je)) ∙ queued
+      ∙ ap (λ w. fold queue w keys) (blocked_left pending x left ∙
+      ap (without_keys keys) (ap (fold unblock_one (view t pending)) (sym (at_end keys i ie)) ∙ marked))
+      ∙ sym (wake_is keys (view t c))

@@ -1,0 +1,166 @@
+-- A namespace's change that is taken out and put again.
+use Rattle.std.specs.Prelude.{◌≡◌, ℕ, ◌+◌, Bool, true, false, cond, Option, Some, None, option_map, IsTrue}
+use Rattle.std.proofs.Common.{refl, sym, ap, ◌∙◌, Ordering}
+use Rattle.std.specs.Option.{option_map_or, option_and_then}
+use Rattle.std.specs.Ordering.{eq_by_cmp, nat_cmp}
+use Rattle.std.specs.Cmp.{IsTotalOrder}
+use Rattle.std.specs.FinMap.{FinMap, IsAntisymmetric, get, get-insert, get-remove, insert, same_map}
+use Rattle.keyed.specs.Table.{flat, rows, row_at, has_slot, emptied, with_slot, KeepsSlots}
+use Rattle.keyed.proofs.Tables.{get-rows, has_slot-insert, rows-emptied, rows-with_slot}
+use Rattle.ns_types.specs.declared.evaluation.Evaluation.{Evaluation}
+use Rattle.ns_types.specs.declared.evaluation.Status.{Status}
+use Rattle.ns_types.specs.Settling.Making.{change_tenant, put_tenant, with_evaluation, with_status}
+use Rattle.ns_types.specs.State.Names.{Name, name_cmp}
+use Rattle.ns_types.specs.State.Rows.{World, Tenant, evaluation_at}
+use Rattle.ns_types.specs.State.Tables.{map_rows}
+use Rattle.ns_types.proofs.Named.{names, one_name, numbers, one_number}
+use Rattle.ns_types.proofs.Tables.{get-map_rows, insert_same, tied}
+use Rattle.ns_types.proofs.Tests.{same_Some}
+use Rattle.ns_change.specs.declared.change.Change.{Change}
+use Rattle.ns_change.specs.declared.change.TenantChange.{TenantChange}
+use Rattle.ns_world.specs.declared.tables.Tables.{Tables}
+use Rattle.ns_world.specs.declared.tables.TenantRows.{TenantRows}
+use Rattle.ns_change.specs.Changed.{changed, changed_tenant, perhaps, unchanged}
+use Rattle.keyed.specs.Over.{over}
+use Rattle.ns_change.specs.Opened.{IsOpen, Opened, with_tenant}
+use Rattle.ns_world.specs.World.{tenant_of, world_of}
+use Rattle.ns_change.specs.Changed.{view}
+use Rattle.keyed.proofs.Over.{over-empty, over-put}
+use Rattle.ns_world.proofs.World.{tenant_at}
+use Rattle.ns_change.proofs.Seen.{tenant_seen}
+
+module _ {K X : Type 0} {R : K → K → Ordering} (o : IsTotalOrder R) (same : IsAntisymmetric R) where
+  pub row_set : (m : FinMap R (Option X)) (k : K) (x : X) (q : K) → row_at (insert m k (Some x)) q ≡ cond (eq_by_cmp R q k) (Some x) (row_at m q)
+  row_set m k x q = ap flat (get-insert o m k (Some x) q) ∙ by (eq_by_cmp R q k)
+    where
+      by : (b : Bool) → flat (cond b (Some (Some x)) (get m q)) ≡ cond b (Some x) (row_at m q)
+      by true = refl
+      by false = refl
+
+  pub row_emptied : (m : FinMap R (Option X)) (k q : K) → row_at (emptied m k) q ≡ cond (eq_by_cmp R q k) None (row_at m q)
+  row_emptied m k q = sym (get-rows o (emptied m k) q) ∙ ap (λ n. get n q) (rows-emptied o same m k) ∙ get-remove o (rows m) k q ∙
+      ap (cond (eq_by_cmp R q k) None) (get-rows o m q)
+
+  pub emptied_keeps : (m : FinMap R (Option X)) (k : K) → KeepsSlots m (emptied m k)
+  emptied_keeps m k q has = by (has_slot m k)
+    where
+      by : (b : Bool) → IsTrue (has_slot (cond b (insert m k None) m) q)
+      by true = has_slot-insert o m k None q has
+      by false = has
+
+  pub row_with_slot : (m : FinMap R (Option X)) (k q : K) → row_at (with_slot m k) q ≡ row_at m q
+  row_with_slot m k q = sym (get-rows o (with_slot m k) q) ∙ ap (λ n. get n q) (rows-with_slot o same m k) ∙ get-rows o m q
+
+pub unchanged_is : (t : Tenant) → changed_tenant t (unchanged t) ≡ t
+unchanged_is t = λ i. record t {
+  jobs = over-empty names one_name t.jobs i;
+  evaluations = over-empty numbers one_number t.evaluations i;
+  allocations =
+      over-empty numbers one_number t.allocations i;
+  workers = over-empty numbers one_number t.workers i;
+}
+
+module _ (t : Tables) (c left : Change) (ns : Name) (x : TenantRows) (y : TenantChange) (at : row_at t.tenants ns ≡ Some x)
+    (was : perhaps changed_tenant (row_at c.tenants ns) (tenant_of x) ≡ changed_tenant (tenant_of x) y)
+    (others : (q : Name) → eq_by_cmp name_cmp q ns ≡ false → row_at left.tenants q ≡ row_at c.tenants q) (rest : left ≡ record c { tenants = left.tenants })
+    (slot : IsTrue (has_slot left.tenants ns)) where
+  tenants_closed : (z : TenantChange) → map_rows (λ q t. perhaps changed_tenant (row_at (insert left.tenants ns (Some z)) q) t) (world_of t).tenants
+      ≡ insert (map_rows (λ q t. perhaps changed_tenant (row_at c.tenants q) t) (world_of t).tenants) ns (changed_tenant (tenant_of x) z)
+  tenants_closed z = same_map names one_name _ _ (λ q. get-map_rows names one_name _ (world_of t).tenants q ∙ by q (eq_by_cmp name_cmp q ns) refl
+      ∙ sym (get-insert names (map_rows (λ q t. perhaps changed_tenant (row_at c.tenants q) t) (world_of t).tenants) ns (changed_tenant (tenant_of x) z) q ∙
+      ap (cond (eq_by_cmp name_cmp q ns) (Some (changed_tenant (tenant_of x) z))) (get-map_rows names one_name _ (world_of t).tenants q)))
+    where
+      by : (q : Name) (b : Bool) → eq_by_cmp name_cmp q ns ≡ b → option_map (perhaps changed_tenant (row_at (insert left.tenants ns (Some z)) q))
+          (get (world_of t).tenants q)
+          ≡ cond b (Some (changed_tenant (tenant_of x) z)) (option_map (perhaps changed_tenant (row_at c.tenants q)) (get (world_of t).tenants q))
+      by q true e = (λ i. option_map (perhaps changed_tenant
+          ((row_set names one_name left.tenants ns z q ∙ ap (λ b. cond b (Some z) (row_at left.tenants q)) e) i))
+          ((ap (get (world_of t).tenants) (tied one_name q ns e) ∙ tenant_at t ns ∙ ap (option_map tenant_of) at) i))
+      by q false e = ap (λ r. option_map (perhaps changed_tenant r) (get (world_of t).tenants q)) (row_set names one_name left.tenants ns z q ∙
+          ap (λ b. cond b (Some z) (row_at left.tenants q)) e ∙ others q e)
+
+  pub opened : IsOpen t c ns y left
+  unfolding changed
+  opened = record {
+    base = tenant_of x;
+    seen = tenant_seen t c ns ∙ ap (option_map (λ x. perhaps changed_tenant (row_at c.tenants ns) (tenant_of x))) at ∙ ap Some was;
+    slot = slot;
+    closes = λ z. ap (λ l. changed (world_of t) (with_tenant ns z l)) rest ∙ (λ i. record (changed (world_of t) c) { tenants = tenants_closed z i });
+  }
+
+-- ---- what is put in its place
+
+module _ (t : Tables) (c left : Change) (ns : Name) (f : Tenant → Tenant) where
+  pub put_open : (x y : TenantChange) → Opened t c ns (Some x) left → ((base : Tenant) → changed_tenant base y ≡ f (changed_tenant base x)) →
+      view t (with_tenant ns y left) ≡ change_tenant ns f (view t c)
+  put_open x y is law = is.closes y ∙ ap (λ z. put_tenant ns z (view t c)) (law is.base) ∙
+      sym (ap (λ o. option_map_or (λ z. put_tenant ns (f z) (view t c)) o (view t c)) is.seen)
+
+  pub put_nowhere : Opened t c ns None left → view t left ≡ change_tenant ns f (view t c)
+  put_nowhere is = ap (view t) is.1 ∙ sym (ap (λ o. option_map_or (λ z. put_tenant ns (f z) (view t c)) o (view t c)) is.0)
+
+module _ {K X : Type 0} {R : K → K → Ordering} (o : IsTotalOrder R) (same : IsAntisymmetric R) where
+  pub insert_twice : (m : FinMap R X) (k : K) (u v : X) → insert (insert m k u) k v ≡ insert m k v
+  insert_twice m k u v = same_map o same _ _ (λ q. get-insert o (insert m k u) k v q ∙ ap (cond (eq_by_cmp R q k) (Some v)) (get-insert o m k u q) ∙
+      by (eq_by_cmp R q k) (get m q) ∙ sym (get-insert o m k v q))
+    where
+      by : (b : Bool) (r : Option X) → cond b (Some v) (cond b (Some u) r) ≡ cond b (Some v) r
+      by true r = refl
+      by false r = refl
+
+module _ {K X : Type 0} {R : K → K → Ordering} (o : IsTotalOrder R) (same : IsAntisymmetric R) where
+  -- a row put into a slot made for it
+  pub over-slot : (m : FinMap R X) (c : FinMap R (Option X)) (k : K) (x : X) → over m (insert (with_slot c k) k (Some x)) ≡ insert (over m c) k x
+  over-slot m c k x = ap (over m) (by (has_slot c k)) ∙ over-put o same m c k x
+    where
+      by : (b : Bool) → insert (cond b c (insert c k None)) k (Some x) ≡ insert c k (Some x)
+      by true = refl
+      by false = insert_twice o same c k None (Some x)
+
+-- ---- statuses
+
+module _ (n : ℕ) (status : Status) where
+  no_status : (t : Tenant) → get t.evaluations n ≡ None → with_status n status t ≡ t
+  no_status t is = ap (λ r. option_map_or (λ e. record t { evaluations = insert t.evaluations n (record e { status = status }) }) r t) is
+
+  pub status_nowhere : (w : World) (ns : Name) → evaluation_at w (ns, n) ≡ None → w ≡ change_tenant ns (with_status n status) w
+  status_nowhere w ns is = by (get w.tenants ns) refl is
+    where
+      by : (r : Option Tenant) → get w.tenants ns ≡ r → option_and_then (λ t. get t.evaluations n) r ≡ None →
+          w ≡ option_map_or (λ t. put_tenant ns (with_status n status t) w) r w
+      by None at is = refl
+      by (Some t) at is = (λ i. record w { tenants = sym (insert_same names one_name w.tenants ns t at) i }) ∙
+          ap (λ t. put_tenant ns t w) (sym (no_status t is))
+
+  pub status_there : (w : World) (ns : Name) (e : Evaluation) → evaluation_at w (ns, n) ≡ Some e
+      → change_tenant ns (λ t. record t { evaluations = insert t.evaluations n (record e { status = status }) }) w ≡ change_tenant ns (with_status n status) w
+  status_there w ns e is = by (get w.tenants ns) is
+    where
+      by : (r : Option Tenant) → option_and_then (λ t. get t.evaluations n) r ≡ Some e →
+          option_map_or (λ t. put_tenant ns (record t { evaluations = insert t.evaluations n (record e { status = status }) }) w) r w ≡ option_map_or
+          (λ t. put_tenant ns (with_status n status t) w) r w
+      by None is = refl
+      by (Some t) is = ap (λ t. put_tenant ns t w)
+          (sym (ap (λ r. option_map_or (λ e. record t { evaluations = insert t.evaluations n (record e { status = status }) }) r t) is))
+
+-- ---- a new evaluation
+
+module _ (t : Tables) (c left : Change) (ns : Name) (x : TenantChange) (opened : Opened t c ns (Some x) left) (z : Tenant)
+    (at : get (view t c).tenants ns ≡ Some z) where
+  base_is : changed_tenant opened.base x ≡ z
+  base_is = same_Some _ _ (sym opened.seen ∙ at)
+
+  pub made_open : (e : Evaluation) (m : FinMap nat_cmp (Option Evaluation)) →
+      m ≡ insert (with_slot x.evaluations (x.evaluation_number + 1)) (x.evaluation_number + 1) (Some e)
+      → view t (with_tenant ns (record x { evaluation_number = x.evaluation_number + 1; evaluations = m }) left) ≡ put_tenant ns (with_evaluation e z)
+      (view t c)
+  made_open e m is = opened.closes _ ∙ ap (λ y. put_tenant ns y (view t c))
+      ((λ i. record (changed_tenant opened.base x) {
+        evaluation_number = x.evaluation_number + 1;
+        evaluations =
+            (ap (over opened.base.evaluations) is ∙ over-slot numbers one_number opened.base.evaluations x.evaluations (x.evaluation_number + 1) e) i;
+      })
+      ∙ ap (with_evaluation e) base_is)
+
+  pub number_is : x.evaluation_number ≡ z.evaluation_number
+  number_is = ap (λ y. y.evaluation_number) base_is

@@ -1,0 +1,84 @@
+-- A pool's change that is taken out and put again, and placements.
+use Rattle.std.specs.Prelude.{◌≡◌, ◌+◌, Bool, true, false, cond, Option, Some, None, option_map, IsTrue}
+use Rattle.std.proofs.Common.{refl, sym, ap, ◌∙◌}
+use Rattle.std.specs.Option.{option_map_or, option_and_then}
+use Rattle.std.specs.Ordering.{eq_by_cmp, nat_cmp}
+use Rattle.std.specs.FinMap.{FinMap, get, get-insert, insert, same_map}
+use Rattle.keyed.specs.Table.{has_slot, row_at, rows, with_slot}
+use Rattle.keyed.proofs.Tables.{get-rows}
+use Rattle.ns_types.specs.declared.allocation.Allocation.{Allocation}
+use Rattle.ns_types.specs.Working.Commit.{with_allocation}
+use Rattle.ns_types.specs.Settling.Making.{change_tenant, put_pool}
+use Rattle.ns_types.specs.State.Names.{Name, name_cmp}
+use Rattle.ns_types.specs.State.Rows.{PoolRows, node_at}
+use Rattle.ns_types.specs.State.Tables.{map_rows}
+use Rattle.ns_types.proofs.Named.{names, one_name, numbers, one_number}
+use Rattle.ns_types.proofs.Tables.{get-map_rows, tied}
+use Rattle.ns_change.specs.declared.change.Change.{Change}
+use Rattle.ns_change.specs.declared.change.PoolChange.{PoolChange}
+use Rattle.ns_change.specs.declared.change.TenantChange.{TenantChange}
+use Rattle.ns_world.specs.declared.tables.PoolRows.{PoolRows as StoredPool}
+use Rattle.ns_world.specs.declared.tables.Tables.{Tables}
+use Rattle.ns_change.specs.Changed.{changed, changed_pool, changed_tenant, perhaps, unchanged_pool}
+use Rattle.ns_change.specs.Opened.{IsOpenPool, Opened, OpenedPool, with_pool, with_tenant}
+use Rattle.keyed.specs.Over.{over}
+use Rattle.ns_world.specs.World.{pool_of, world_of}
+use Rattle.ns_change.specs.Changed.{view}
+use Rattle.ns_change.specs.Changed.{change_pool}
+use Rattle.ns_change.proofs.Opening.{over-slot, put_open, row_set}
+use Rattle.ns_change.proofs.Seen.{pool_seen, seen_as}
+use Rattle.ns_world.proofs.World.{pool_at}
+use Rattle.keyed.proofs.Over.{over-empty}
+
+pub pool_unchanged : (p : PoolRows) → changed_pool p (unchanged_pool p) ≡ p
+pool_unchanged p = λ i. record p { nodes = over-empty names one_name p.nodes i }
+
+module _ (t : Tables) (c left : Change) (name : Name) (x : StoredPool) (y : PoolChange) (at : row_at t.pools name ≡ Some x)
+    (was : perhaps changed_pool (row_at c.pools name) (pool_of x) ≡ changed_pool (pool_of x) y)
+    (others : (q : Name) → eq_by_cmp name_cmp q name ≡ false → row_at left.pools q ≡ row_at c.pools q) (rest : left ≡ record c { pools = left.pools })
+    (slot : IsTrue (has_slot left.pools name)) where
+  pools_closed : (z : PoolChange) → map_rows (λ q p. perhaps changed_pool (row_at (insert left.pools name (Some z)) q) p) (world_of t).pools
+      ≡ insert (map_rows (λ q p. perhaps changed_pool (row_at c.pools q) p) (world_of t).pools) name (changed_pool (pool_of x) z)
+  pools_closed z = same_map names one_name _ _ (λ q. get-map_rows names one_name _ (world_of t).pools q ∙ by q (eq_by_cmp name_cmp q name) refl
+      ∙ sym (get-insert names (map_rows (λ q p. perhaps changed_pool (row_at c.pools q) p) (world_of t).pools) name (changed_pool (pool_of x) z) q ∙
+      ap (cond (eq_by_cmp name_cmp q name) (Some (changed_pool (pool_of x) z))) (get-map_rows names one_name _ (world_of t).pools q)))
+    where
+      by : (q : Name) (b : Bool) → eq_by_cmp name_cmp q name ≡ b →
+          option_map (perhaps changed_pool (row_at (insert left.pools name (Some z)) q)) (get (world_of t).pools q)
+          ≡ cond b (Some (changed_pool (pool_of x) z)) (option_map (perhaps changed_pool (row_at c.pools q)) (get (world_of t).pools q))
+      by q true e = (λ i. option_map (perhaps changed_pool ((row_set names one_name left.pools name z q ∙ ap (λ b. cond b (Some z) (row_at left.pools q)) e) i))
+          ((ap (get (world_of t).pools) (tied one_name q name e) ∙ pool_at t name ∙ ap (option_map pool_of) at) i))
+      by q false e = ap (λ r. option_map (perhaps changed_pool r) (get (world_of t).pools q)) (row_set names one_name left.pools name z q ∙
+          ap (λ b. cond b (Some z) (row_at left.pools q)) e ∙ others q e)
+
+  pub opened_pool : IsOpenPool t c name y left
+  unfolding changed
+  opened_pool = record {
+    base = pool_of x;
+    seen = pool_seen t c name ∙ ap (λ p. seen_as t c name p (row_at c.pools name)) at ∙ ap Some was;
+    slot = slot;
+    closes = λ z. ap (λ l. changed (world_of t) (with_pool name z l)) rest ∙ (λ i. record (changed (world_of t) c) { pools = pools_closed z i });
+  }
+
+module _ (t : Tables) (c left : Change) (name : Name) (f : PoolRows → PoolRows) where
+  pub put_open_pool : (x y : PoolChange) → OpenedPool t c name (Some x) left → ((base : PoolRows) → changed_pool base y ≡ f (changed_pool base x)) →
+      view t (with_pool name y left) ≡ change_pool name f (view t c)
+  put_open_pool x y is law = is.closes y ∙ ap (λ z. put_pool name z (view t c)) (law is.base) ∙
+      sym (ap (λ o. option_map_or (λ z. put_pool name (f z) (view t c)) o (view t c)) is.seen)
+
+  pub put_no_pool : OpenedPool t c name None left → view t left ≡ change_pool name f (view t c)
+  put_no_pool is = ap (view t) is.1 ∙ sym (ap (λ o. option_map_or (λ z. put_pool name (f z) (view t c)) o (view t c)) is.0)
+
+-- ---- a new allocation
+
+module _ (t : Tables) (c left : Change) (ns : Name) (x : TenantChange) (opened : Opened t c ns (Some x) left) where
+  pub placed_open : (a : Allocation) (m : FinMap nat_cmp (Option Allocation)) →
+      m ≡ insert (with_slot x.allocations (x.allocation_number + 1)) (x.allocation_number + 1) (Some a)
+      → view t (with_tenant ns (record x { allocation_number = x.allocation_number + 1; allocations = m }) left) ≡ change_tenant ns (with_allocation a)
+      (view t c)
+  placed_open a m is = put_open t c left ns (with_allocation a) x (record x { allocation_number = x.allocation_number + 1; allocations = m }) opened
+      (λ base i. record (changed_tenant base x) {
+        allocation_number = x.allocation_number + 1;
+        allocations =
+            (ap (over base.allocations) is ∙ over-slot numbers one_number base.allocations x.allocations (x.allocation_number + 1) a) i;
+      })

@@ -1,0 +1,74 @@
+-- The world as a change leaves it.
+use Rattle.std.specs.Prelude.{ℕ, List, ◌++◌, not, filter, Option}
+use Rattle.std.specs.Option.{option_map_or}
+use Rattle.std.specs.FinMap.{empty, get, insert}
+use Rattle.keyed.specs.Table.{row_at}
+use Rattle.ns_types.specs.declared.allocation.Allocation.{Allocation}
+use Rattle.ns_types.specs.Settling.Making.{put_pool}
+use Rattle.ns_types.specs.State.Names.{Name, Key, has_key}
+use Rattle.ns_types.specs.State.Rows.{World, Tenant, PoolRows}
+use Rattle.ns_types.specs.State.Tables.{map_rows}
+use Rattle.ns_change.specs.declared.change.Change.{Change}
+use Rattle.ns_change.specs.declared.change.ListChange.{ListChange}
+use Rattle.ns_change.specs.declared.change.PoolChange.{PoolChange}
+use Rattle.ns_change.specs.declared.change.TenantChange.{TenantChange}
+use Rattle.keyed.specs.Over.{over}
+use Rattle.ns_world.specs.declared.tables.Tables.{Tables}
+use Rattle.ns_world.specs.World.{world_of}
+
+abbrev pub changed_tenant : Tenant → TenantChange → Tenant
+changed_tenant t x = record t {
+  evaluation_number = x.evaluation_number;
+  allocation_number = x.allocation_number;
+  jobs = over t.jobs x.jobs;
+  evaluations = over t.evaluations x.evaluations;
+  allocations = over t.allocations x.allocations;
+  workers = over t.workers x.workers;
+}
+
+abbrev pub changed_pool : PoolRows → PoolChange → PoolRows
+changed_pool p x = record p { nodes = over p.nodes x.nodes }
+
+-- a row with the change of it, where there is one
+abbrev pub perhaps : {A B : Type 0} → (A → B → A) → Option B → A → A
+perhaps change x a = option_map_or (change a) x a
+
+abbrev pub changed_list : List Key → ListChange → List Key
+changed_list keys x = filter (λ key. not (has_key x.taken key)) keys ++ x.added
+
+unfoldable pub changed : World → Change → World
+changed w c = record w {
+  tenants = map_rows (λ ns t. perhaps changed_tenant (row_at c.tenants ns) t) w.tenants;
+  pools = map_rows (λ name p. perhaps changed_pool (row_at c.pools name) p) w.pools;
+  ready = changed_list w.ready c.ready;
+  plans = changed_list w.plans c.plans;
+  blocked = changed_list w.blocked c.blocked;
+}
+
+-- a change of nothing
+abbrev pub unchanged : Tenant → TenantChange
+unchanged t = record {
+  evaluation_number = t.evaluation_number;
+  allocation_number = t.allocation_number;
+  jobs =
+      empty;
+  evaluations = empty;
+  allocations = empty;
+  workers = empty;
+}
+
+abbrev pub unchanged_pool : PoolRows → PoolChange
+unchanged_pool p = record { nodes = empty }
+
+-- the world that the tables hold, as a change leaves it
+abbrev pub view : Tables → Change → World
+view t c = changed (world_of t) c
+
+-- ---- the same, of one pool and of one allocation
+
+abbrev pub change_pool : Name → (PoolRows → PoolRows) → World → World
+change_pool name f w = option_map_or (λ p. put_pool name (f p) w) (get w.pools name) w
+
+abbrev pub with_allocation_row : ℕ → (Allocation → Allocation) → Tenant → Tenant
+with_allocation_row n g t = option_map_or (λ a. record t { allocations = insert t.allocations n (g a) })
+    (get t.allocations n) t

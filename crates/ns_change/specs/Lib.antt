@@ -1,0 +1,4 @@
+pub mod Changed
+pub mod Opened
+pub mod Settled
+pub mod Waiting

@@ -1,0 +1,68 @@
+//! Changed rows, by owner. A slot with a row is the row's new value; a vacant one takes the row away.
+
+use keyed::{NameTable, NumberTable};
+use ns_types::allocation::Allocation;
+use ns_types::evaluation::Evaluation;
+use ns_types::event::Event;
+use ns_types::job::Job;
+use ns_types::key::EvalKey;
+use ns_types::node::{Class, Node};
+use ns_types::rows::Rows;
+use ns_types::text::Text;
+use ns_types::worker::Worker;
+
+/// What a step changes of one namespace. The numbers are those after the step.
+#[derive(Drop)]
+pub struct TenantChange {
+    pub evaluation_number: u64,
+    pub allocation_number: u64,
+    pub jobs: NameTable<Job>,
+    pub evaluations: NumberTable<Evaluation>,
+    pub allocations: NumberTable<Allocation>,
+    pub workers: NumberTable<Worker>,
+}
+
+/// What a step changes of one pool.
+#[derive(Drop)]
+pub struct PoolChange {
+    pub nodes: NameTable<Node>,
+}
+
+/// What goes out of a list, and what is put at its end.
+#[derive(Drop)]
+pub struct ListChange {
+    pub taken: Rows<EvalKey>,
+    pub added: Rows<EvalKey>,
+}
+
+/// All that a step itself changes, before its end. A vacant slot of an owner is of no change.
+#[derive(Drop)]
+pub struct Change {
+    pub tenants: NameTable<TenantChange>,
+    pub pools: NameTable<PoolChange>,
+    pub ready: ListChange,
+    pub plans: ListChange,
+    pub blocked: ListChange,
+}
+
+/// What a step changes of one namespace. The changed rows have their indexes.
+#[derive(Drop)]
+pub struct SettledTenant {
+    pub rows: TenantChange,
+    /// An event of each changed row. None: no row changed that replies show, and the index stays.
+    pub events: Option<Rows<Event>>,
+}
+
+/// All that a step changes, with what its end adds.
+#[derive(Drop)]
+pub struct Settled {
+    pub tenants: NameTable<SettledTenant>,
+    pub pools: NameTable<PoolChange>,
+    pub ready: ListChange,
+    pub plans: ListChange,
+    pub blocked: ListChange,
+    /// Released classes, each with its pool, in no order and perhaps twice.
+    pub rooms: Rows<(Text, Class)>,
+    /// Quotas of namespaces of which a live allocation ended, perhaps twice.
+    pub quotas: Rows<Text>,
+}

@@ -1,0 +1,24 @@
+//! What a step changes, as one value: by owner the rows that it writes or takes away, the numbers that it gives, and
+//! what leaves each of the three lists and what is put at its end. Its meaning is `changed`, from the world before to
+//! the world that the step itself makes. The tables are read and never written here. So a step that is refused, or
+//! finds no memory, lets its change go, and nothing has happened.
+//!
+//! Each method is one function of the model, over the world as the change leaves it: it looks at the change's own rows
+//! first, then at the tables'. A change has no index, event or release; settling makes a second value that has them.
+#![tactic(auto)]
+
+mod change;
+mod editing;
+mod evicting;
+mod looking;
+mod placing;
+mod promoting;
+mod queueing;
+
+pub use change::{Change, ListChange, PoolChange, Settled, SettledTenant, TenantChange};
+pub use editing::{put_evaluation, set_status};
+pub use evicting::{put_allocation, set_client, set_desired};
+pub use looking::{allocation, evaluation, node};
+pub use placing::{add_allocation, count_place, put_node};
+pub use promoting::{cancel_blocked, promote};
+pub use queueing::{make, queue, wake};

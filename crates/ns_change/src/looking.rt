@@ -1,0 +1,66 @@
+//! Rows as a change leaves them: the change's own first.
+
+ghost use Rattle.std.specs.Prelude.{◌≡◌, option_copied};
+ghost use Rattle.ns_types.specs.State.Rows.{allocation_at, evaluation_at, node_at};
+ghost use Rattle.ns_change.specs.Changed.{view};
+
+use crate::change::Change;
+use ns_types::allocation::Allocation;
+use ns_types::evaluation::Evaluation;
+use ns_types::node::Node;
+use ns_types::text::Text;
+use ns_world::Tables;
+
+/// The evaluation after the change.
+pub fn evaluation<'a>(
+    tables: &'a Tables,
+    change: &'a Change,
+    namespace: &Text,
+    number: u64,
+) -> Option<&'a Evaluation>
+    ensures { option_copied result ≡ evaluation_at (view tables.now change.now) (namespace.now, number) }
+{
+    let Some(tenant) = tables.tenants.get(namespace) else {
+        return None;
+    };
+    match change.tenants.get(namespace) {
+        Some(changed) => tenant.evaluations.get_over(&changed.evaluations, number),
+        None => tenant.evaluations.get(number),
+    }
+}
+
+/// The node after the change.
+pub fn node<'a>(
+    tables: &'a Tables,
+    change: &'a Change,
+    pool: &Text,
+    name: &Text,
+) -> Option<&'a Node>
+    ensures { option_copied result ≡ node_at (view tables.now change.now) pool.now name.now }
+{
+    let Some(rows) = tables.pools.get(pool) else {
+        return None;
+    };
+    match change.pools.get(pool) {
+        Some(changed) => rows.nodes.get_over(&changed.nodes, name),
+        None => rows.nodes.get(name),
+    }
+}
+
+/// The allocation after the change.
+pub fn allocation<'a>(
+    tables: &'a Tables,
+    change: &'a Change,
+    namespace: &Text,
+    number: u64,
+) -> Option<&'a Allocation>
+    ensures { option_copied result ≡ allocation_at (view tables.now change.now) (namespace.now, number) }
+{
+    let Some(tenant) = tables.tenants.get(namespace) else {
+        return None;
+    };
+    match change.tenants.get(namespace) {
+        Some(changed) => tenant.allocations.get_over(&changed.allocations, number),
+        None => tenant.allocations.get(number),
+    }
+}

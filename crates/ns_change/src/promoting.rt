@@ -1,0 +1,148 @@
+//! The first evaluation of a job that waits, and the one that is blocked.
+
+ghost use Rattle.std.specs.Prelude.{◌≡◌, ◌&&◌, OnOk, find, not, option_map};
+ghost use Rattle.std.specs.FinMap as table;
+ghost use Rattle.std.specs.Option.{option_and_then};
+ghost use Rattle.keyed.specs.Table.{at_slot};
+ghost use Rattle.ns_types.specs.Settling.Making.{change_tenant};
+ghost use Rattle.ns_types.specs.Working.Queue.{promote as promoted};
+ghost use Rattle.ns_types.specs.Working.Work.{cancel_blocked as canceled};
+ghost use Rattle.ns_change.specs.Changed.{view};
+ghost use Rattle.ns_change.specs.Waiting.{first, lesser as lesser_of, of_job, stands as stands_as, standing};
+
+use crate::change::Change;
+use crate::editing::set_status;
+use crate::queueing::is_busy;
+use keyed::NumberTable;
+use ns_alike::same_text;
+use ns_types::evaluation::{Evaluation, Status};
+use ns_types::key::EvalKey;
+use ns_types::text::Text;
+use ns_world::Tables;
+use std::alloc::AllocError;
+
+/// An evaluation with its number, or a vacant slot.
+type EvaluationSlot = (u64, Option<Evaluation>);
+
+fn stands(wanted: Status, status: Status) -> bool
+    ensures { result ≡ stands_as wanted status }
+{
+    match wanted {
+        Status::Pending => matches!(status, Status::Pending),
+        Status::Blocked => matches!(status, Status::Blocked),
+        _ => false,
+    }
+}
+
+fn is_of(slot: &EvaluationSlot, job: &Text, wanted: Status) -> bool
+    ensures { result ≡ at_slot (standing wanted job.now) slot.now }
+{
+    match &slot.1 {
+        Some(evaluation) => same_text(job, &evaluation.job) && stands(wanted, evaluation.status),
+        None => false,
+    }
+}
+
+fn first_in(slots: &[EvaluationSlot], job: &Text, wanted: Status) -> Option<u64>
+    ensures { result ≡ option_map (λ e. e.0) (find (at_slot (standing wanted job.now)) slots.now) }
+{
+    slots
+        .iter()
+        .find(|slot| is_of(slot, job, wanted))
+        .map(|slot| slot.0)
+}
+
+fn is_changed(changed: &NumberTable<Evaluation>, number: u64) -> bool
+    ensures { result ≡ table.contains_key changed.now number }
+{
+    match changed.slot(number) {
+        Some(_) => true,
+        None => false,
+    }
+}
+
+/// Of those that are not changed the first.
+fn first_left(
+    slots: &[EvaluationSlot],
+    changed: &NumberTable<Evaluation>,
+    job: &Text,
+    wanted: Status,
+) -> Option<u64>
+    ensures { result ≡ option_map (λ e. e.0) (find (λ slot. not (table.contains_key changed.now slot.0) && at_slot (standing wanted job.now) slot) slots.now) }
+{
+    slots
+        .iter()
+        .find(|slot| !is_changed(changed, slot.0) && is_of(slot, job, wanted))
+        .map(|slot| slot.0)
+}
+
+fn lesser(a: Option<u64>, b: Option<u64>) -> Option<u64>
+    ensures { result ≡ lesser_of a b }
+{
+    match (a, b) {
+        (Some(a), Some(b)) => { if a <= b { Some(a) } else { Some(b) } }
+        (Some(a), None) => Some(a),
+        (None, b) => b,
+    }
+}
+
+/// The first evaluation of the job that is pending, or blocked.
+fn first_of_job(
+    tables: &Tables,
+    change: &Change,
+    namespace: &Text,
+    job: &Text,
+    wanted: Status,
+) -> Option<u64>
+    ensures { result ≡ option_and_then (λ t. first (of_job (stands_as wanted) job.now) t.evaluations) (table.get (view tables.now change.now).tenants namespace.now) }
+{
+    let Some(tenant) = tables.tenants.get(namespace) else {
+        return None;
+    };
+    let slots = tenant.evaluations.as_slice();
+    let Some(changed) = change.tenants.get(namespace) else {
+        return first_in(slots, job, wanted);
+    };
+    lesser(
+        first_in(changed.evaluations.as_slice(), job, wanted),
+        first_left(slots, &changed.evaluations, job, wanted),
+    )
+}
+
+/// Where none of the job is ready or with a worker, the first waiting one is ready.
+pub fn promote(
+    tables: &Tables,
+    change: &mut Change,
+    namespace: &Text,
+    job: &Text,
+) -> Result<(), AllocError>
+    ensures { OnOk result (view tables.now change.new ≡ promoted namespace.now job.now (view tables.now change.old)) }
+{
+    if is_busy(tables, change, namespace, job) {
+        return Ok(());
+    }
+    let Some(number) = first_of_job(tables, change, namespace, job, Status::Pending) else {
+        return Ok(());
+    };
+    change
+        .ready
+        .added
+        .push(EvalKey::new(namespace.clone()?, number))?;
+    Ok(())
+}
+
+/// The job's blocked evaluation is canceled.
+pub fn cancel_blocked(
+    tables: &Tables,
+    change: &mut Change,
+    namespace: &Text,
+    job: &Text,
+) -> Result<(), AllocError>
+    ensures { OnOk result (view tables.now change.new ≡ change_tenant namespace.now (canceled job.now) (view tables.now change.old)) }
+{
+    let Some(number) = first_of_job(tables, change, namespace, job, Status::Blocked) else {
+        return Ok(());
+    };
+    let key = EvalKey::new(namespace.clone()?, number);
+    set_status(tables, change, &key, Status::Canceled)
+}

@@ -1,0 +1,19 @@
+//! What changed of the three lists goes into them.
+
+ghost use Rattle.std.specs.Prelude.{◌≡◌, ◌≤◌, length};
+ghost use Rattle.ns_change.specs.Changed.{changed_list};
+
+use keyed::Series;
+use ns_alike::has_key;
+use ns_change::ListChange;
+use ns_types::key::EvalKey;
+
+/// Takes the entries out that leave, and puts the new ones at the end. It takes no memory.
+pub fn commit_list(list: &mut Series<EvalKey>, change: ListChange)
+    requires { length change.added ≤ list.old.room }
+    ensures { list.new.items ≡ changed_list list.old.items change }
+{
+    let ListChange { taken, added } = change;
+    list.retain(|key| !has_key(taken.as_slice(), key));
+    list.append(added);
+}

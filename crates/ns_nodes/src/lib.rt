@@ -1,0 +1,7 @@
+//! Commands on nodes, as changes. A command is checked over the tables and a change, which then says what the step
+//! itself changes; settling and committing it come after, the same for every step.
+#![tactic(auto)]
+
+mod eligible;
+
+pub use eligible::set_eligible;

@@ -1,0 +1,11 @@
+pub mod Bounded
+pub mod Classes
+pub mod Concluded
+pub mod Ending
+pub mod Finished
+pub mod Offered
+pub mod Released
+pub mod Rooms
+pub mod Settling
+pub mod Stamped
+pub mod Woken

@@ -1,0 +1,216 @@
+-- A change that has settled leaves what the step's end makes of the world.
+use Rattle.std.specs.Prelude.{◌≡◌, Bool, true, false, cond, not, if◌then◌else◌, List, [], ◌∷◌, ◌++◌, filter, fold, Option, Some, None, ◌&&◌, ◌||◌, option_map}
+use Rattle.std.specs.Prelude.{is_some}
+use Rattle.std.proofs.Common.{refl, sym, ap, ◌∙◌, Ordering}
+use Rattle.std.specs.Option.{option_map_or}
+use Rattle.std.specs.List.{list_any}
+use Rattle.std.specs.Cmp.{IsTotalOrder}
+use Rattle.std.specs.FinMap.{FinMap, IsAntisymmetric, get, contains_key, same_map}
+use Rattle.keyed.specs.Table.{flat, row_at}
+use Rattle.ns_types.specs.declared.allocation.Allocation.{Allocation}
+use Rattle.ns_types.specs.declared.evaluation.Evaluation.{Evaluation}
+use Rattle.ns_types.specs.declared.records.Namespace.{Namespace}
+use Rattle.ns_types.specs.State.Names.{Name, Key, name_cmp, same_name, has_name, has_key}
+use Rattle.ns_types.specs.Working.Queue.{queue, is_busy}
+use Rattle.ns_types.specs.Settling.Releases.{changes_limits, counts_in, ends, is_released_quota, released_classes, releases_quota, wakes, wakes_by, woken}
+use Rattle.ns_types.specs.Settling.Releases.{can_use}
+use Rattle.ns_types.specs.State.Resources.{limits_in}
+use Rattle.ns_types.specs.State.Rows.{World, Tenant, PoolRows, QuotaRows, evaluation_at}
+use Rattle.ns_types.specs.Settling.Settle.{after_release, after_quota_release, number_releases, settle, stamp, stamp_tenant, wake}
+use Rattle.ns_types.specs.State.Tables.{map_rows, table_of}
+use Rattle.ns_types.proofs.Named.{names, one_name}
+use Rattle.ns_types.proofs.Lists.{any_alike, each}
+use Rattle.ns_types.proofs.Tables.{get-map_rows, get-table_of}
+use Rattle.ns_types.proofs.Alike.{same_limits_refl}
+use Rattle.ns_types.proofs.Settling.{stamp_same}
+use Rattle.ns_change.specs.declared.change.Change.{Change}
+use Rattle.ns_change.specs.declared.change.Settled.{Settled}
+use Rattle.ns_change.specs.declared.change.TenantChange.{TenantChange}
+use Rattle.ns_change.specs.Changed.{changed, changed_list, changed_pool, changed_tenant, perhaps}
+use Rattle.ns_settle.specs.Released.{at_ended, ended_rows, quota_left, quotas_of, rooms, woken_by, woken_keys}
+use Rattle.ns_change.specs.Settled.{classes_in, settled_tenant, settled_world, tell}
+use Rattle.ns_settle.specs.Settles.{IsSettled, IsTold, settled_by, settled_slot, shown_if, unshown}
+use Rattle.ns_settle.specs.Stamped.{changed_events, stamped_rows, stamped_tenant, touches}
+use Rattle.ns_settle.proofs.Classes.{release_alike}
+use Rattle.ns_change.proofs.Any.{any_flat}
+use Rattle.ns_settle.proofs.Ending.{ends_is}
+use Rattle.ns_settle.proofs.Rooms.{any_image, rooms_are}
+use Rattle.ns_settle.proofs.Stamped.{stamped_is}
+
+or_none : (b : Bool) → (b || false) ≡ b
+or_none true = refl
+or_none false = refl
+
+module _ {K X : Type 0} {R : K → K → Ordering} (o : IsTotalOrder R) (same : IsAntisymmetric R) where
+  -- rows that are changed alike
+  pub map_rows-alike : (f g : K → X → X) (m : FinMap R X) → ((k : K) (x : X) → get m k ≡ Some x → f k x ≡ g k x) → map_rows f m ≡ map_rows g m
+  map_rows-alike f g m alike = same_map o same _ _ (λ q. get-map_rows o same f m q ∙ by q (get m q) refl ∙ sym (get-map_rows o same g m q))
+    where
+      by : (q : K) (x : Option X) → get m q ≡ x → option_map (f q) x ≡ option_map (g q) x
+      by q None is = refl
+      by q (Some x) is = ap Some (alike q x is)
+
+  -- a change of each row after another
+  pub map_rows-twice : (f g : K → X → X) (m : FinMap R X) → map_rows f (map_rows g m) ≡ map_rows (λ k x. f k (g k x)) m
+  map_rows-twice f g m = same_map o same _ _ (λ q. get-map_rows o same f (map_rows g m) q ∙ ap (option_map (f q)) (get-map_rows o same g m q)
+      ∙ by q (get m q) ∙ sym (get-map_rows o same (λ k x. f k (g k x)) m q))
+    where
+      by : (q : K) (x : Option X) → option_map (f q) (option_map (g q) x) ≡ option_map (λ x. f q (g q x)) x
+      by q None = refl
+      by q (Some x) = refl
+
+-- ---- what waking leaves
+
+module _ {A : Type 0} (part : World → A) (kept : (w : World) (keys : List Key) → part (record w { ready = keys }) ≡ part w) where
+  queue_keeps : (w : World) (key : Key) → part (queue w key) ≡ part w
+  unfolding queue
+  queue_keeps w key = by (evaluation_at w key)
+    where
+      or : (b : Bool) → part (cond b w (record w { ready = w.ready ++ key ∷ [] })) ≡ part w
+      or true = refl
+      or false = kept w (w.ready ++ key ∷ [])
+
+      by : (e : Option Evaluation) → part (option_map_or (λ e. cond (is_busy w key.0 e.job) w (record w { ready = w.ready ++ key ∷ [] })) e w) ≡ part w
+      by None = refl
+      by (Some e) = or (is_busy w key.0 e.job)
+
+  pub queues_keep : (keys : List Key) (w : World) → part (fold queue w keys) ≡ part w
+  queues_keep [] w = refl
+  queues_keep (key ∷ keys) w = queues_keep keys (queue w key) ∙ queue_keeps w key
+
+pub wake_pools : (keys : List Key) (w : World) → (wake keys w).pools ≡ w.pools
+unfolding wake
+wake_pools keys w = queues_keep (λ w. w.pools) (λ w keys. refl) keys _
+
+module _ (w : World) (c : Change) where
+  abbrev middle : World
+  middle = changed w c
+
+  -- ---- quotas
+
+  quotas_here : (name : Name) → has_name (quotas_of w c) name ≡ ends w middle (counts_in name)
+  quotas_here name = any_flat (same_name name) (λ (e : Namespace × Allocation). quota_left e.0) (ended_rows w c) ∙
+      any_alike _ (at_ended (counts_in name)) (ended_rows w c) (each _ (λ e. by e.0.quota) (ended_rows w c)) ∙ sym (ends_is w c (counts_in name))
+    where
+      by : (q : Option Name) → list_any (same_name name) (option_map_or (λ quota. quota ∷ []) q []) ≡ option_map_or (same_name name) q false
+      by None = refl
+      by (Some q) = or_none (same_name name q)
+
+  quota_is : (name : Name) (q : QuotaRows) → get w.quotas name ≡ Some q → releases_quota w middle name q ≡ has_name (quotas_of w c) name
+  unfolding releases_quota
+  quota_is name q is = (λ i. option_map_or (λ old. changes_limits old q) (is i) false || sym (quotas_here name) i)
+      ∙ ap (λ b. not b || has_name (quotas_of w c) name) (same_limits_refl (limits_in q.quota.limits))
+
+  released_is : (name : Name) → is_released_quota w middle name ≡ (contains_key w.quotas name && has_name (quotas_of w c) name)
+  unfolding changed
+  released_is name = by (get w.quotas name) refl
+    where
+      by : (q : Option QuotaRows) → get w.quotas name ≡ q → option_map_or (releases_quota w middle name) q false ≡ (is_some q && has_name (quotas_of w c) name)
+      by None is = refl
+      by (Some q) is = quota_is name q is
+
+  -- ---- wakes
+
+  wakes_is : (e : Evaluation) → wakes w middle e ≡ woken_by w (rooms w c) (quotas_of w c) e e.quota
+  unfolding wakes
+  wakes_is e = by e.quota
+    where
+      by : (q : Option Name) → wakes_by w middle e q ≡ woken_by w (rooms w c) (quotas_of w c) e q
+      by (Some q) = released_is q
+      by None = sym (rooms_are w c e.pool (can_use e))
+
+  pub woken_is : woken w middle ≡ woken_keys w c
+  unfolding woken
+  woken_is = λ i. filter (λ key. has_key middle.blocked key && option_map_or (λ e. wakes_is e i) (evaluation_at w key) false) w.blocked
+
+  -- ---- release numbers
+
+  pool_is : (name : Name) (p : PoolRows) → get middle.pools name ≡ Some p →
+      after_release (released_classes w middle name p) p ≡ after_release (classes_in name (rooms w c)) p
+  pool_is name p is = release_alike (released_classes w middle name p) (classes_in name (rooms w c)) p (λ passes.
+      ap (λ q. list_any passes (option_map_or (released_classes w middle name) q [])) (sym is) ∙ sym (rooms_are w c name passes)
+      ∙ sym (any_image passes (λ r. r.1) (λ r. same_name name r.0) (rooms w c)))
+
+module _ (w : World) (c awake : Change) (s : Settled) (is : IsSettled w c awake s) where
+  same_pools : (changed w awake).pools ≡ (changed w c).pools
+  same_pools = ap (λ x. x.pools) is.woke ∙ wake_pools (woken_keys w c) (changed w c)
+
+  -- ---- stamps
+
+  stamp_is : (ns : Name) (t : Tenant) (x : Option TenantChange) → stamp_tenant (Some t) (perhaps changed_tenant x t) ≡ perhaps stamped_tenant x t
+  stamp_is ns t None = stamp_same t
+  stamp_is ns t (Some x) = stamped_is t x
+
+  tenants_are : map_rows (λ ns t. stamp_tenant (get w.tenants ns) t) (changed w awake).tenants ≡
+      map_rows (λ ns t. perhaps settled_tenant (row_at s.tenants ns) t) w.tenants
+  unfolding changed
+  tenants_are = same_map names one_name _ _ (λ ns. get-map_rows names one_name _ _ ns ∙ ap (option_map _) (get-map_rows names one_name _ w.tenants ns)
+      ∙ by ns (get w.tenants ns) refl ∙ sym (get-map_rows names one_name _ w.tenants ns))
+    where
+      by : (ns : Name) (t : Option Tenant) → get w.tenants ns ≡ t →
+          option_map (stamp_tenant (get w.tenants ns)) (option_map (perhaps changed_tenant (row_at awake.tenants ns)) t)
+          ≡ option_map (perhaps settled_tenant (row_at s.tenants ns)) t
+      by ns None at = refl
+      by ns (Some t) at = ap Some (ap (λ o. stamp_tenant o (perhaps changed_tenant (row_at awake.tenants ns) t)) at ∙ stamp_is ns t (row_at awake.tenants ns) ∙
+          sym (is.told ns t at))
+
+  pools_are : map_rows (λ name p. after_release (released_classes w (changed w c) name p) p) (changed w awake).pools ≡
+      map_rows (λ name p. after_release (classes_in name s.rooms) (perhaps changed_pool (row_at s.pools name) p)) w.pools
+  unfolding changed
+  pools_are = map_rows-alike names one_name _ (λ name p. after_release (classes_in name (rooms w c)) p) (changed w awake).pools
+      (λ name p at. pool_is w c name p (ap (λ m. get m name) (sym same_pools) ∙ at))
+      ∙ map_rows-twice names one_name (λ name p. after_release (classes_in name (rooms w c)) p) (λ name p. perhaps changed_pool (row_at awake.pools name) p)
+      w.pools
+      ∙ (λ i. map_rows (λ name p. after_release (classes_in name (sym is.rooms i)) (perhaps changed_pool (row_at (sym is.pools i) name) p)) w.pools)
+
+  quotas_are : map_rows (λ name q. after_quota_release (releases_quota w (changed w c) name q) q) w.quotas ≡ map_rows
+      (λ name q. after_quota_release (has_name s.quotas name) q) w.quotas
+  quotas_are = map_rows-alike names one_name _ _ w.quotas
+      (λ name q at. ap (λ b. after_quota_release b q) (quota_is w c name q at ∙ ap (λ r. has_name r name) (sym is.quotas)))
+
+  stamped_are : stamp w (number_releases w (changed w c) (changed w awake)) ≡ settled_world w s
+  unfolding stamp number_releases settled_world changed
+  stamped_are = λ i. record w {
+    tenants = tenants_are i;
+    pools = pools_are i;
+    quotas = quotas_are i;
+    ready = changed_list w.ready (sym is.ready i);
+    plans = changed_list w.plans (sym is.plans i);
+    blocked = changed_list w.blocked (sym is.blocked i);
+  }
+
+  pub settle_is : settle w (changed w c) ≡ settled_world w s
+  unfolding settle
+  settle_is = ap (λ keys. stamp w (number_releases w (changed w c) (wake keys (changed w c)))) (woken_is w c)
+      ∙ ap (λ x. stamp w (number_releases w (changed w c) x)) (sym is.woke) ∙ stamped_are
+
+-- ---- there is one such for each change
+
+module _ (w : World) (c awake : Change) where
+  row_of : {X Y : Type 0} (f : Name → Option X → Option Y) → ((ns : Name) → f ns None ≡ None) → (m : FinMap name_cmp (Option X)) (ns : Name) →
+      row_at (table_of f m) ns ≡ f ns (row_at m ns)
+  row_of {X = X} f none m ns = ap flat (get-table_of names one_name f m ns) ∙ by (get m ns)
+    where
+      by : (r : Option (Option X)) → flat (option_map (f ns) r) ≡ f ns (flat r)
+      by None = sym (none ns)
+      by (Some x) = refl
+
+  told_by : IsTold w awake (settled_by w c awake)
+  unfolding stamped_tenant
+  told_by ns t is = ap (λ x. perhaps settled_tenant x t) (row_of (settled_slot w) (λ _. refl) awake.tenants ns) ∙ by (row_at awake.tenants ns)
+    where
+      slots : (b : Bool) (x : TenantChange) → settled_tenant t (shown_if b t x) ≡
+          (if b then tell (changed_tenant t (stamped_rows t x)) (changed_events t x) else changed_tenant t x)
+      slots true x = refl
+      slots false x = refl
+
+      by : (x : Option TenantChange) → perhaps settled_tenant (settled_slot w ns x) t ≡ perhaps stamped_tenant x t
+      by None = refl
+      by (Some x) = ap (λ o. settled_tenant t (option_map_or (λ t. shown_if (touches t x) t x) o (unshown x))) is ∙ slots (touches t x) x
+
+  pub settles : changed w awake ≡ wake (woken_keys w c) (changed w c) → IsSettled w c awake (settled_by w c awake)
+  settles woke = record { woke = woke; told = told_by; pools = refl; ready = refl; plans = refl; blocked = refl; rooms = refl; quotas = refl }
+
+  -- the end of a step, as one value made of the change
+  pub settled_is : changed w awake ≡ wake (woken_keys w c) (changed w c) → settle w (changed w c) ≡ settled_world w (settled_by w c awake)
+  settled_is woke = settle_is w c awake (settled_by w c awake) (settles woke)

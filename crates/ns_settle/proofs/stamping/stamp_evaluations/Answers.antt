@@ -1,0 +1,35 @@
+use Rattle.std.proofs.Common.{ap, sym, ◌∙◌, ℕ, Option, length, map, set}
+use Rattle.std.proofs.lemmas.List.Edits.{map_over_more}
+use Rattle.std.specs.Prelude.{option_map}
+use Rattle.ns_types.specs.declared.evaluation.Evaluation.{Evaluation}
+use Rattle.ns_types.specs.Settling.Settle.{stamped_evaluation}
+use Rattle.ns_world.specs.World.{tenant_of}
+use Rattle.keyed.proofs.Mapped.{mapped_end, mapped_rows, mapped_sorted, refilled}
+use Rattle.ns_settle.proofs.stamping.stamp_evaluations.Goals as goal
+
+pub loop-slot-preserved : goal.loop-slot-preserved
+loop-slot-preserved c =
+    let f : ℕ × Option Evaluation → ℕ × Option Evaluation = λ e. (e.0, option_map (stamped_evaluation c.args.index (tenant_of c.args.tenant.now) e.0) e.1) in
+    ap (λ x. set c.loop-slot.slot-items c.loop-slot.slot-index x) c.stamp_slot.ensures
+    ∙ ap (λ e. set c.loop-slot.slot-items c.loop-slot.slot-index (f e)) (sym c.slot-item.is)
+    ∙ map_over_more f c.deref_mut-slot-items.result.now c.loop-slot.slot-items c.loop-slot.slot-index c.slot-item.result c.loop-slot-test.true
+    c.loop-slot.invariant c.slot-item.is
+
+pub from_slots-requires : goal.from_slots-requires
+from_slots-requires c =
+    let f = λ (n : ℕ) (row : Option Evaluation). option_map (stamped_evaluation c.args.index (tenant_of c.args.tenant.now) n) row in
+    let end = mapped_end (λ (e : ℕ × Option Evaluation). (e.0, f e.0 e.1))
+    c.deref_mut-slot-items.result.now c.loop-slot.slot-items c.loop-slot.slot-index c.loop-slot-test.false c.loop-slot.invariant in
+    mapped_sorted f c.args.changes _ (refilled _ c.into_slots-slots.result.items c.loop-slot.slot-items
+    (c.loop-slot.auto.slot-items ∙ ap length c.deref_mut-slot-items.ensures.value) c.into_slots-slots.result.ok.0
+    ∙ end ∙ ap (map (λ e. (e.0, f e.0 e.1))) (c.deref_mut-slot-items.ensures.value ∙ c.into_slots-slots.ensures))
+
+pub returns : goal.returns
+returns c =
+    let f = λ (n : ℕ) (row : Option Evaluation). option_map (stamped_evaluation c.args.index (tenant_of c.args.tenant.now) n) row in
+    let end = mapped_end (λ (e : ℕ × Option Evaluation). (e.0, f e.0 e.1))
+    c.deref_mut-slot-items.result.now c.loop-slot.slot-items c.loop-slot.slot-index c.loop-slot-test.false c.loop-slot.invariant in
+    c.from_slots.ensures ∙ mapped_rows f c.args.changes _
+    (refilled _ c.into_slots-slots.result.items c.loop-slot.slot-items (c.loop-slot.auto.slot-items ∙ ap length c.deref_mut-slot-items.ensures.value)
+    c.into_slots-slots.result.ok.0
+    ∙ end ∙ ap (map (λ e. (e.0, f e.0 e.1))) (c.deref_mut-slot-items.ensures.value ∙ c.into_slots-slots.ensures))

@@ -1,0 +1,4 @@
+pub mod Bounds
+pub mod Released
+pub mod Settles
+pub mod Stamped

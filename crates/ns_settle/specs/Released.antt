@@ -1,0 +1,105 @@
+-- What a step releases, said by its change alone.
+use Rattle.std.specs.Prelude.{ℕ, Bool, true, false, not, ◌&&◌, ◌||◌, if◌then◌else◌, List, [], ◌∷◌, ◌++◌, Option, Some}
+use Rattle.std.specs.Prelude.{None, flat_map, filter, map}
+use Rattle.std.specs.Option.{option_map_or}
+use Rattle.std.specs.FinMap.{get, entries, contains_key}
+use Rattle.std.specs.List.{list_any}
+use Rattle.ns_types.specs.declared.allocation.Allocation.{Allocation}
+use Rattle.ns_types.specs.declared.evaluation.Evaluation.{Evaluation}
+use Rattle.ns_types.specs.declared.node.Class.{Class}
+use Rattle.ns_types.specs.declared.node.Node.{Node}
+use Rattle.ns_types.specs.declared.records.Namespace.{Namespace}
+use Rattle.keyed.specs.Table.{row_list}
+use Rattle.ns_types.specs.State.Names.{Name, Key, same_name, has_name, has_key}
+use Rattle.ns_types.specs.Settling.Releases.{same_offer, can_use}
+use Rattle.ns_types.specs.State.Rows.{World, Tenant, PoolRows, is_live, is_free, class_of, node_at, evaluation_at}
+use Rattle.ns_change.specs.declared.change.Change.{Change}
+use Rattle.ns_change.specs.declared.change.ListChange.{ListChange}
+use Rattle.ns_change.specs.declared.change.PoolChange.{PoolChange}
+use Rattle.ns_change.specs.declared.change.TenantChange.{TenantChange}
+use Rattle.ns_change.specs.Changed.{changed}
+
+-- an allocation that was live, with its namespace's record, where it is gone or not live after the change
+abbrev pub ended_one : Tenant → ℕ → Option Allocation → List (Namespace × Allocation)
+ended_one t n row = option_map_or (λ a. if is_live a && not (option_map_or is_live row false) then (t.namespace, a) ∷ []
+    else []) (get t.allocations n) []
+
+abbrev pub ended_in : Tenant → TenantChange → List (Namespace × Allocation)
+ended_in t x = flat_map (λ e. ended_one t e.0 e.1) (entries x.allocations)
+
+abbrev pub ended_of : World → Name → Option TenantChange → List (Namespace × Allocation)
+ended_of w ns x = option_map_or (λ t. option_map_or (ended_in t) x []) (get w.tenants ns) []
+
+abbrev pub ended_rows : World → Change → List (Namespace × Allocation)
+ended_rows w c = flat_map (λ e. ended_of w e.0 e.1) (entries c.tenants)
+
+-- a test of an allocation with its namespace's record
+abbrev pub at_ended : (Namespace → Allocation → Bool) → Namespace × Allocation → Bool
+at_ended passes e = passes e.0 e.1
+
+-- ---- room on nodes
+
+-- a changed node gives room itself, where it is free, and is new, became free or offers otherwise
+abbrev pub gives_itself : PoolRows → Name → Node → Bool
+gives_itself p n node = is_free node && option_map_or
+    (λ old. not (is_free old) || not (same_offer old.offer node.offer)) (get p.nodes n) true
+
+abbrev pub changed_classes : World → Name → Option PoolChange → List Class
+changed_classes w name x = option_map_or
+    (λ p. option_map_or (λ x. map (λ e. class_of e.1)
+    (filter (λ e. gives_itself p e.0 e.1) (row_list (entries x.nodes)))) x []) (get w.pools name) []
+
+-- a free node from which an allocation went gives room
+abbrev pub room_left : Option Node → List Class
+room_left node = option_map_or (λ node. if is_free node then class_of node ∷ [] else []) node []
+
+abbrev pub in_pool : Name → List Class → List (Name × Class)
+in_pool name classes = map (λ class. (name, class)) classes
+
+-- a slot of a node, changed or vacant
+abbrev pub rooms_at : Name → PoolRows → Name × Option Node → List (Name × Class)
+rooms_at name p e = option_map_or (λ node. if gives_itself p e.0 node then (name, class_of node) ∷ [] else []) e.1 []
+
+-- the room that an ended allocation leaves, in the world after the change
+abbrev pub rooms_left : World → Namespace × Allocation → List (Name × Class)
+rooms_left w e = in_pool e.1.pool (room_left (node_at w e.1.pool e.1.node))
+
+-- the released classes, each with its pool, in no order and perhaps twice
+abbrev pub rooms : World → Change → List (Name × Class)
+rooms w c = flat_map (λ e. in_pool e.0 (changed_classes w e.0 e.1)) (entries c.pools)
+    ++ flat_map (rooms_left (changed w c)) (ended_rows w c)
+
+-- a test of a class of that pool
+abbrev pub at_room : Name → (Class → Bool) → Name × Class → Bool
+at_room name passes r = same_name name r.0 && passes r.1
+
+-- ---- quotas
+
+abbrev pub quota_left : Namespace → List Name
+quota_left namespace = option_map_or (λ quota. quota ∷ []) namespace.quota []
+
+-- the quotas of namespaces that lost a live allocation, perhaps twice
+abbrev pub quotas_of : World → Change → List Name
+quotas_of w c = flat_map (λ e. quota_left e.0) (ended_rows w c)
+
+-- ---- whom that wakes
+
+abbrev pub woken_by : World → List (Name × Class) → List Name → Evaluation → Option Name → Bool
+woken_by w rooms quotas e (Some quota) = contains_key w.quotas quota && has_name quotas quota
+woken_by w rooms quotas e None = list_any (at_room e.pool (can_use e)) rooms
+
+-- the entries of `blocked` that such releases wake
+abbrev pub woken_from : World → Change → List (Name × Class) → List Name → List Key
+woken_from w c rooms quotas = filter (λ key. has_key (changed w c).blocked key
+    && option_map_or (λ e. woken_by w rooms quotas e e.quota) (evaluation_at w key) false) w.blocked
+
+abbrev pub woken_keys : World → Change → List Key
+woken_keys w c = woken_from w c (rooms w c) (quotas_of w c)
+
+-- the test of an entry, by what goes out of the list and what comes in
+abbrev pub is_woken : World → ListChange → List (Name × Class) → List Name → Key → Bool
+is_woken w x rooms quotas key = (not (has_key x.taken key) || has_key x.added key)
+    && option_map_or (λ e. woken_by w rooms quotas e e.quota) (evaluation_at w key) false
+
+abbrev pub ended_list : Tenant → Option Allocation → List (Namespace × Allocation)
+ended_list t a = option_map_or (λ a. (t.namespace, a) ∷ []) a []

@@ -1,0 +1,185 @@
+//! The end of a step: blocked evaluations wake, and changed rows get their indexes and events.
+
+ghost use Rattle.std.specs.Prelude.{◌≡◌, ◌+◌, ◌<◌, ◌^◌, false, map, nat_lt, option_map, IfOk, Some};
+ghost use Rattle.std.specs.FinMap as table;
+ghost use Rattle.std.specs.List.{list_any};
+ghost use Rattle.ns_types.specs.Settling.Settle.{stamped_allocation, stamped_evaluation};
+ghost use Rattle.ns_types.specs.Steps.{greatest};
+ghost use Rattle.ns_types.specs.State.Tables.{map_rows, table_of};
+ghost use Rattle.ns_change.specs.Changed.{view};
+ghost use Rattle.ns_settle.specs.Settles.{SettlesTo, is_last as is_last_in, settled_slot};
+ghost use Rattle.ns_settle.specs.Stamped.{changed_topics};
+ghost use Rattle.ns_world.specs.World.{tenant_of, world_of};
+
+use crate::blocked::woken_keys;
+use crate::giving::released_rooms;
+use crate::releasing::released_quotas;
+use crate::stamping::{
+    stamp_allocations, stamp_evaluations, tell_allocations, tell_evaluations, tell_jobs, touches,
+};
+use keyed::NameTable;
+use ns_change::{Change, Settled, SettledTenant, TenantChange, wake};
+use ns_types::event::Event;
+use ns_types::rows::Rows;
+use ns_types::text::Text;
+use ns_world::{Tables, TenantRows};
+use std::alloc::{AllocError, Global};
+
+/// A changed namespace with its name.
+type TenantSlot = (Text, Option<TenantChange>);
+
+/// The events of a namespace, by that index.
+fn events_at(
+    alloc: Global,
+    tenant: &TenantRows,
+    index: u64,
+    change: &TenantChange,
+) -> Result<Rows<Event>, AllocError>
+    ensures { IfOk result (λ events. events ≡ map (λ topic. record { index = index; topic = topic }) (changed_topics (tenant_of tenant.now) change.now)) }
+{
+    let mut events = Rows::new(alloc);
+    tell_jobs(&mut events, tenant, index, change.jobs.as_slice())?;
+    tell_evaluations(&mut events, tenant, index, change.evaluations.as_slice())?;
+    tell_allocations(&mut events, tenant, index, change.allocations.as_slice())?;
+    Ok(events)
+}
+
+/// Whether the index can not rise any more.
+fn is_at_bound(index: u64) -> bool
+    ensures { result ≡ nat_lt greatest (index + 1) }
+{
+    index == u64::MAX
+}
+
+/// Whether a row of the namespace changed, and its index can not rise any more.
+fn is_last(tables: &Tables, slot: &TenantSlot) -> bool
+    ensures { result ≡ is_last_in (world_of tables.now) slot.now.0 slot.now.1 }
+{
+    let Some(change) = &slot.1 else {
+        return false;
+    };
+    match tables.tenants.get(&slot.0) {
+        Some(tenant) => touches(tenant, change) && is_at_bound(tenant.index),
+        None => false,
+    }
+}
+
+fn any_last(tables: &Tables, slots: &[TenantSlot]) -> bool
+    ensures { result ≡ list_any (λ e. is_last_in (world_of tables.now) e.0 e.1) slots.now }
+{
+    slots.iter().any(|slot| is_last(tables, slot))
+}
+
+/// The changed rows of a namespace with the index.
+fn stamp_rows(tenant: &TenantRows, index: u64, change: TenantChange) -> TenantChange
+    ensures { result ≡ record change {
+      evaluations = map_rows (λ n row. option_map (stamped_evaluation index (tenant_of tenant.now) n) row) change.evaluations;
+      allocations = map_rows (λ n row. option_map (stamped_allocation index (tenant_of tenant.now) n) row) change.allocations;
+    } }
+{
+    let TenantChange {
+        evaluation_number,
+        allocation_number,
+        jobs,
+        evaluations,
+        allocations,
+        workers,
+    } = change;
+    TenantChange {
+        evaluation_number,
+        allocation_number,
+        jobs,
+        evaluations: stamp_evaluations(tenant, index, evaluations),
+        allocations: stamp_allocations(tenant, index, allocations),
+        workers,
+    }
+}
+
+/// What changes of the namespace. Where a row changed that replies show, it has its index and events.
+fn settle_tenant(
+    tables: &Tables,
+    namespace: &Text,
+    change: TenantChange,
+) -> Result<SettledTenant, AllocError>
+    requires { is_last_in (world_of tables.now) namespace.now (Some change) ≡ false }
+    ensures { IfOk result (λ settled. Some settled ≡ settled_slot (world_of tables.now) namespace.now (Some change)) }
+{
+    let Some(tenant) = tables.tenants.get(namespace) else {
+        return Ok(SettledTenant {
+            rows: change,
+            events: None,
+        });
+    };
+    if !touches(tenant, &change) {
+        return Ok(SettledTenant {
+            rows: change,
+            events: None,
+        });
+    }
+    let index = tenant.index + 1;
+    let events = events_at(tables.alloc, tenant, index, &change)?;
+    Ok(SettledTenant {
+        rows: stamp_rows(tenant, index, change),
+        events: Some(events),
+    })
+}
+
+fn settle_slot(
+    tables: &Tables,
+    namespace: &Text,
+    slot: Option<TenantChange>,
+) -> Result<Option<SettledTenant>, AllocError>
+    requires { is_last_in (world_of tables.now) namespace.now slot ≡ false }
+    ensures { IfOk result (λ settled. settled ≡ settled_slot (world_of tables.now) namespace.now slot) }
+{
+    match slot {
+        Some(change) => Ok(Some(settle_tenant(tables, namespace, change)?)),
+        None => Ok(None),
+    }
+}
+
+/// What changes of all namespaces.
+fn settle_tenants(
+    tables: &Tables,
+    tenants: NameTable<TenantChange>,
+) -> Result<NameTable<SettledTenant>, AllocError>
+    requires { list_any (λ e. is_last_in (world_of tables.now) e.0 e.1) (table.entries tenants) ≡ false }
+    ensures { IfOk result (λ settled. settled ≡ table_of (settled_slot (world_of tables.now)) tenants) }
+{
+    let mut rows = Vec::new(tables.alloc);
+    for (namespace, slot) in tenants.into_slots() {
+        let settled = settle_slot(tables, &namespace, slot)?;
+        rows.push((namespace, settled))?;
+    }
+    Ok(NameTable::from_slots(rows))
+}
+
+/// All that a step changes, by what it changes itself. None: an index passes its bound, and the step is refused.
+pub fn settle(tables: &Tables, mut change: Change) -> Result<Option<Settled>, AllocError>
+    ensures { IfOk result (λ settled. SettlesTo (world_of tables.now) (view tables.now change) settled) }
+{
+    let rooms = released_rooms(tables, &change)?;
+    let quotas = released_quotas(tables, &change)?;
+    let keys = woken_keys(tables, &change, rooms.as_slice(), quotas.as_slice())?;
+    wake(tables, &mut change, keys.as_slice())?;
+    if any_last(tables, change.tenants.as_slice()) {
+        return Ok(None);
+    }
+    let Change {
+        tenants,
+        pools,
+        ready,
+        plans,
+        blocked,
+    } = change;
+    let tenants = settle_tenants(tables, tenants)?;
+    Ok(Some(Settled {
+        tenants,
+        pools,
+        ready,
+        plans,
+        blocked,
+        rooms,
+        quotas,
+    }))
+}

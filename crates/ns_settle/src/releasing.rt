@@ -1,0 +1,114 @@
+//! What a step releases, by its change.
+
+ghost use Rattle.std.specs.Prelude.{◌≡◌, ◌++◌, false, flat_map, IfOk, OnOk, option_copied};
+ghost use Rattle.std.specs.Option.{option_map_or};
+ghost use Rattle.ns_types.specs.State.Rows.{is_live as lives};
+ghost use Rattle.ns_settle.specs.Released.{ended_list, ended_of, ended_one, quota_left, quotas_of};
+ghost use Rattle.ns_world.specs.World.{tenant_of, world_of};
+
+use ns_change::{Change, TenantChange};
+use ns_types::allocation::{Allocation, ClientStatus, DesiredStatus};
+use ns_types::rows::Rows;
+use ns_types::text::Text;
+use ns_world::{Tables, TenantRows};
+use std::alloc::AllocError;
+
+/// A changed allocation with its number, or one that is gone.
+type AllocationSlot = (u64, Option<Allocation>);
+
+/// A changed namespace with its name.
+type TenantSlot = (Text, Option<TenantChange>);
+
+fn is_live(allocation: &Allocation) -> bool
+    ensures { result ≡ lives allocation.now }
+{
+    let runs = match allocation.desired {
+        DesiredStatus::Run => true,
+        DesiredStatus::Stop => false,
+        DesiredStatus::Evict => false,
+    };
+    let held = match allocation.client {
+        ClientStatus::Pending => true,
+        ClientStatus::Running => true,
+        ClientStatus::Complete => false,
+        ClientStatus::Failed => false,
+        ClientStatus::Lost => false,
+    };
+    runs & held
+}
+
+fn lives_on(row: Option<&Allocation>) -> bool
+    ensures { result ≡ option_map_or lives (option_copied row.entry) false }
+{
+    match row {
+        Some(row) => is_live(row),
+        None => false,
+    }
+}
+
+/// The allocation as it was, if it was live and is not live any more.
+pub fn ended<'a>(tenant: &'a TenantRows, slot: &AllocationSlot) -> Option<&'a Allocation>
+    ensures { ended_one (tenant_of tenant.now) slot.now.0 slot.now.1 ≡ ended_list (tenant_of tenant.now) (option_copied result) }
+{
+    let Some(old) = tenant.allocations.get(slot.0) else {
+        return None;
+    };
+    let ends = is_live(old) & !lives_on(slot.1.as_ref());
+    if ends { Some(old) } else { None }
+}
+
+/// The quota of a namespace that lost an allocation.
+fn add_quota(
+    quotas: &mut Rows<Text>,
+    tenant: &TenantRows,
+    slot: &AllocationSlot,
+) -> Result<(), AllocError>
+    ensures { OnOk result (quotas.new ≡ quotas.old ++ flat_map (λ e. quota_left e.0) (ended_one (tenant_of tenant.now) slot.now.0 slot.now.1)) }
+{
+    if ended(tenant, slot).is_none() {
+        return Ok(());
+    }
+    if let Some(quota) = &tenant.namespace.quota {
+        quotas.push(quota.clone()?)?;
+    }
+    Ok(())
+}
+
+fn add_quotas(
+    quotas: &mut Rows<Text>,
+    tenant: &TenantRows,
+    slots: &[AllocationSlot],
+) -> Result<(), AllocError>
+    ensures { OnOk result (quotas.new ≡ quotas.old ++ flat_map (λ s. flat_map (λ e. quota_left e.0) (ended_one (tenant_of tenant.now) s.0 s.1)) slots.now) }
+{
+    for slot in slots {
+        add_quota(quotas, tenant, slot)?;
+    }
+    Ok(())
+}
+
+fn add_quotas_of(
+    quotas: &mut Rows<Text>,
+    tables: &Tables,
+    slot: &TenantSlot,
+) -> Result<(), AllocError>
+    ensures { OnOk result (quotas.new ≡ quotas.old ++ flat_map (λ e. quota_left e.0) (ended_of (world_of tables.now) slot.now.0 slot.now.1)) }
+{
+    if let Some(change) = &slot.1 {
+        if let Some(tenant) = tables.tenants.get(&slot.0) {
+            add_quotas(quotas, tenant, change.allocations.as_slice())?;
+        }
+    }
+    Ok(())
+}
+
+/// The quotas of all namespaces that lost a live allocation.
+pub fn released_quotas(tables: &Tables, change: &Change) -> Result<Rows<Text>, AllocError>
+    ensures { IfOk result (λ quotas. quotas ≡ quotas_of (world_of tables.now) change.now) }
+{
+    let mut quotas = Rows::new(tables.alloc);
+    for slot in change.tenants.as_slice() {
+        add_quotas_of(&mut quotas, tables, slot)?;
+    }
+    Ok(quotas)
+}

@@ -1,0 +1,86 @@
+//! All rows of the world but the access lists, by owner.
+
+ghost use Rattle.std.specs.Prelude.{◌≡◌, option_copied};
+ghost use Rattle.std.specs.FinMap.{contains_key};
+ghost use Rattle.ns_types.specs.State.Rows.{evaluation_at};
+ghost use Rattle.ns_world.specs.World.{world_of};
+
+use keyed::{NameTable, NumberTable, Series};
+use ns_types::allocation::Allocation;
+use ns_types::evaluation::Evaluation;
+use ns_types::event::Event;
+use ns_types::job::Job;
+use ns_types::key::EvalKey;
+use ns_types::node::{Class, Node};
+use ns_types::records::{Namespace, Pool, Quota};
+use ns_types::text::Text;
+use ns_types::worker::Worker;
+use std::alloc::Global;
+
+/// What a namespace owns.
+#[derive(Drop)]
+pub struct TenantRows {
+    pub namespace: Namespace,
+    pub index: u64,
+    /// The last numbers given.
+    pub evaluation_number: u64,
+    pub allocation_number: u64,
+    pub jobs: NameTable<Job>,
+    pub evaluations: NumberTable<Evaluation>,
+    pub allocations: NumberTable<Allocation>,
+    /// Those that are busy for it.
+    pub workers: NumberTable<Worker>,
+    /// The last hundred, the newest last.
+    pub events: Series<Event>,
+}
+
+/// What a pool owns.
+#[derive(Drop)]
+pub struct PoolRows {
+    pub pool: Pool,
+    /// The number of its last release.
+    pub release: u64,
+    /// The number of each class's last release. Of each class the first entry counts.
+    pub classes: Series<(Class, u64)>,
+    pub nodes: NameTable<Node>,
+}
+
+/// What a quota owns.
+#[derive(Drop)]
+pub struct QuotaRows {
+    pub quota: Quota,
+    /// The number of its last release.
+    pub release: u64,
+}
+
+/// Namespaces, pools and quotas, each by name with what it owns, and the three ordered lists.
+#[derive(Drop)]
+pub struct Tables {
+    pub alloc: Global,
+    pub tenants: NameTable<TenantRows>,
+    pub pools: NameTable<PoolRows>,
+    pub quotas: NameTable<QuotaRows>,
+    pub ready: Series<EvalKey>,
+    pub plans: Series<EvalKey>,
+    pub blocked: Series<EvalKey>,
+}
+
+impl Tables {
+    pub fn evaluation(&self, namespace: &Text, number: u64) -> Option<&Evaluation>
+        ensures { option_copied result ≡ evaluation_at (world_of self.now) (namespace.now, number) }
+    {
+        match self.tenants.get(namespace) {
+            Some(tenant) => tenant.evaluations.get(number),
+            None => None,
+        }
+    }
+
+    pub fn has_quota(&self, name: &Text) -> bool
+        ensures { result ≡ contains_key (world_of self.now).quotas name.now }
+    {
+        match self.quotas.get(name) {
+            Some(_) => true,
+            None => false,
+        }
+    }
+}
