@@ -1,6 +1,8 @@
 //! The program `nsd`.
 #![tactic(auto)]
 
+ghost use Rattle.std.specs.Prelude.{◌≡◌};
+
 mod random;
 mod run;
 #[cfg(test)]
@@ -8,7 +10,9 @@ mod tests;
 mod words;
 
 use crate::random::Random;
-use crate::run::{run_words, tell_memory, tell_no_random, tell_no_words};
+use crate::run::run_words;
+use ns_http::ConnFault;
+use ns_pipe::{tell, tell_no_random, tell_no_words};
 use rand::make_rng;
 use rand::rngs::StdRng;
 use std::alloc::{AllocError, Global};
@@ -28,16 +32,16 @@ fn main(rt: HostRuntime) -> ExitCode {
     };
     let words: Result<Vec<String>, AllocError> = args.collect(rt.alloc());
     let Ok(words) = words else {
-        return ExitCode::from(tell_memory(&mut errors));
+        return ExitCode::from(tell(ConnFault::Memory, &mut errors));
     };
     let Ok(texts) = texts(rt.alloc(), words.as_slice()) else {
-        return ExitCode::from(tell_memory(&mut errors));
+        return ExitCode::from(tell(ConnFault::Memory, &mut errors));
     };
     let generator: StdRng = match make_rng(&rt) {
         Ok(generator) => generator,
         Err(_) => return ExitCode::from(tell_no_random(&mut errors)),
     };
-    let status = run_words(
+    let ended = run_words(
         rt.alloc(),
         texts.as_slice(),
         Random::new(generator),
@@ -45,5 +49,5 @@ fn main(rt: HostRuntime) -> ExitCode {
         rt.stdout(),
         &mut errors,
     );
-    ExitCode::from(status)
+    ExitCode::from(ended.status)
 }

@@ -16,6 +16,12 @@ impl<R: Rng> Random<R> {
 }
 
 impl<R: Rng> Draws for Random<R> {
+    ghost use Rattle.std.specs.Prelude.{◌≡◌};
+    ghost use Rattle.rand_core.specs.Stream.{fill_bytes};
+
+    // All bits of a draw come from the generator.
+    ghost draws = { λ old bytes new. (bytes, R.stream new.generator) ≡ fill_bytes 16 (R.stream old.generator) };
+
     fn draw(&mut self) -> [u8; 16] {
         let mut bytes = [0; 16];
         self.generator.fill_bytes(&mut bytes);

@@ -1,7 +1,15 @@
 //! The words that the program is started with.
 
+ghost use Rattle.std.specs.Prelude.{◌≡◌, ◌≢◌, ◌⊎◌, ℕ, List, IfOk, IfSome, Some, false};
+ghost use Rattle.clap.specs.Words.{app_of, kind_of, subcommand_rows_of};
+ghost use Rattle.clap.specs.declared.builder.command.Command.TheViews.{out-Command as fields_of};
+ghost use Rattle.clap.specs.Walk.{texts};
+ghost use Rattle.ns_pipe.specs.Asking.{IsHelp, IsMistake};
+ghost use Rattle.nsd.specs.Words.{Gives, pipe_words, program_words, secret_among};
+
 use clap::error::ErrorKind;
-use clap::{Arg, Command, Error};
+use clap::{Arg, ArgMatches, Command, Error};
+use ns_pipe::Asked;
 use ns_types::name::{Name, NameKind};
 use std::alloc::{AllocError, Global};
 
@@ -15,14 +23,10 @@ const STATUSES: &str = "Exit statuses:
   4  the output failed
   5  out of memory";
 
-/// What the program is asked to do.
-#[derive(Drop)]
-pub enum Asked<'a> {
-    /// To serve one connection, with that secret as the bootstrap token.
-    Pipe(Name<'a>),
-}
-
-fn pipe<'a>(alloc: Global) -> Result<Command<'a>, AllocError> {
+fn pipe<'a>(alloc: Global) -> Result<Command<'a>, AllocError>
+    ensures shape { IfOk result (λ command. app_of command ≡ pipe_words) }
+    ensures local { IfOk result (λ command. (fields_of command).has_globals ≡ false) }
+{
     let bootstrap = Arg::new(alloc, "bootstrap")
         .long("bootstrap")
         .value_name("SECRET")
@@ -37,7 +41,9 @@ fn pipe<'a>(alloc: Global) -> Result<Command<'a>, AllocError> {
 }
 
 /// The words that the program takes.
-pub fn command<'a>(alloc: Global) -> Result<Command<'a>, AllocError> {
+fn command<'a>(alloc: Global) -> Result<Command<'a>, AllocError>
+    ensures { IfOk result (λ command. app_of command ≡ program_words) }
+{
     Command::new(alloc, "nsd")
         .about("A scheduling server for many tenants")
         .after_help(STATUSES)
@@ -45,19 +51,60 @@ pub fn command<'a>(alloc: Global) -> Result<Command<'a>, AllocError> {
         .subcommand(pipe(alloc)?)
 }
 
-/// What the words ask, or the fault in them. The first word is the program's own name.
-pub fn read<'a>(alloc: Global, words: &'a [&'a str]) -> Result<Asked<'a>, Error> {
+/// The secret that is given to `pipe`.
+fn secret_in<'a>(matches: &ArgMatches<'a>) -> Option<&'a str>
+    ensures { IfSome result (λ secret. secret_among (subcommand_rows_of matches.now) ≡ Some secret.now) }
+{
+    let pipe = matches.subcommand_matches("pipe")?;
+    pipe.get_str("bootstrap")
+}
+
+/// The secret that the words give to `pipe`, or the fault in them. The first word is the program's own name.
+fn secret<'a>(alloc: Global, words: &'a [&'a str]) -> Result<Name<'a>, Error>
+    ensures { IfOk result (Gives (texts words.entry.now)) }
+{
     let mut command = command(alloc)?;
     let matches = command.try_get_matches_from_mut(words)?;
-    let secret = match matches.subcommand_matches("pipe") {
-        Some(pipe) => pipe.get_str("bootstrap").unwrap_or(""),
-        None => "",
-    };
+    let secret = secret_in(&matches).unwrap_or("");
     match Name::read(NameKind::Secret, secret) {
-        Some(secret) => Ok(Asked::Pipe(secret)),
+        Some(secret) => Ok(secret),
         None => Err(command.error(
             ErrorKind::ValueValidation,
             "the bootstrap secret has 1 to 64 printable bytes without a space",
         )?),
+    }
+}
+
+/// What is said of words that give no secret: help where they ask for it, or else what is wrong with them.
+fn told<'a>(alloc: Global, error: &Error) -> Asked<'a>
+    ensures told { (secret : List ℕ) → result ≢ Asked.Pipe secret }
+    ensures memory { kind_of error.now ≡ ErrorKind.OutOfMemory → result ≡ Asked.NoMemory }
+    ensures help { (text : List ℕ) → IsHelp result text
+        → (kind_of error.now ≡ ErrorKind.DisplayHelp)
+        ⊎ (kind_of error.now ≡ ErrorKind.DisplayVersion) }
+    ensures mistake { (text : List ℕ) → IsMistake result text
+        → (kind_of error.now ≢ ErrorKind.DisplayHelp)
+        × (kind_of error.now ≢ ErrorKind.DisplayVersion) }
+{
+    if error.kind() == ErrorKind::OutOfMemory {
+        return Asked::NoMemory;
+    }
+    let Ok(text) = format!(in alloc; "{error}") else {
+        return Asked::NoMemory;
+    };
+    if error.use_stderr() {
+        Asked::Mistake(text)
+    } else {
+        Asked::Help(text)
+    }
+}
+
+/// What the words ask for. The first word is the program's own name.
+pub fn read<'a>(alloc: Global, words: &'a [&'a str]) -> Asked<'a>
+    ensures { (secret : List ℕ) → result ≡ Asked.Pipe secret → Gives (texts words.entry.now) secret }
+{
+    match secret(alloc, words) {
+        Ok(secret) => Asked::Pipe(secret),
+        Err(error) => told(alloc, &error),
     }
 }

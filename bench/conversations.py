@@ -1,0 +1,88 @@
+"""Writes the stored input and output of `crates/conversations` from the exchanges in `bench/conversations/*.txt`.
+
+A conversation begins by `=== SECRET STEP NAME`: the bootstrap secret, by how much each draw is greater than the one
+before, and what the conversation shows. Then come its exchanges:
+
+    > METHOD TARGET [TOKEN]         a request, with its body, if it has one, on the next line
+    + HEADER: VALUE                 headers of its own, which it then has in place of `Content-Length: 0`
+    < STATUS [@INDEX] [close]       the reply, with its body on the next line
+
+Replies are written down by hand, from docs/API.md, and never taken from the program. Lengths are counted here.
+"""
+
+import glob
+import os
+import sys
+
+TOP = os.path.dirname(os.path.dirname(os.path.abspath(__file__)))
+PHRASES = {
+    "200": "OK",
+    "400": "Bad Request",
+    "403": "Forbidden",
+    "404": "Not Found",
+    "405": "Method Not Allowed",
+    "409": "Conflict",
+    "411": "Length Required",
+    "501": "Not Implemented",
+}
+
+
+def request(words, headers, body):
+    method, target = words[:2]
+    lines = [f"{method} {target} HTTP/1.1"]
+    if len(words) > 2:
+        lines.append(f"X-Nomad-Token: {words[2]}")
+    lines += headers
+    if body or not headers:
+        lines.append(f"Content-Length: {len(body.encode())}")
+    return "\r\n".join(lines) + "\r\n\r\n" + body
+
+
+def reply(words, body):
+    status = words[0]
+    kind = "application/json" if status == "200" else "text/plain; charset=utf-8"
+    lines = [f"HTTP/1.1 {status} {PHRASES[status]}", f"Content-Type: {kind}"]
+    lines += [f"X-Nomad-Index: {word[1:]}" for word in words[1:] if word.startswith("@")]
+    lines.append(f"Content-Length: {len(body.encode())}")
+    if "close" in words[1:]:
+        lines.append("Connection: close")
+    return "\r\n".join(lines) + "\r\n\r\n" + body
+
+
+def blocks(text, mark):
+    """The blocks that begin by a line with this mark: the rest of that line, and the lines behind it."""
+    for block in ("\n" + text).split("\n" + mark + " ")[1:]:
+        head, *lines = block.split("\n")
+        yield head, lines
+
+
+def exchange(head, lines):
+    place = next(at for at, line in enumerate(lines) if line.startswith("< "))
+    asked, answered = lines[:place], lines[place + 1 :]
+    headers = [line[2:] for line in asked if line.startswith("+ ")]
+    body = "".join(line for line in asked if not line.startswith("+ "))
+    return request(head.split(), headers, body), reply(lines[place][2:].split(), "".join(answered))
+
+
+def assembled(paths):
+    given, taken = [], []
+    for path in paths:
+        with open(path, encoding="utf-8") as file:
+            text = file.read()
+        for name, lines in blocks(text, "==="):
+            pairs = [exchange(head, rest) for head, rest in blocks("\n".join(lines), ">")]
+            given.append(f"=== {name}\n" + "".join(asked for asked, _ in pairs))
+            taken.append(f"=== {name}\n" + "".join(answered for _, answered in pairs) + "\nstatus 0\n")
+    return {"stdin": "\n".join(given), "stdout": "".join(taken)}
+
+
+def main():
+    paths = sorted(glob.glob(os.path.join(TOP, "bench", "conversations", "*.txt")))
+    for name, text in assembled(paths).items():
+        with open(os.path.join(TOP, "crates", "conversations", name), "w", encoding="utf-8", newline="") as file:
+            file.write(text)
+    return 0
+
+
+if __name__ == "__main__":
+    sys.exit(main())

@@ -1,0 +1,56 @@
+//! One stored conversation.
+
+use crate::same_bytes::SameBytes;
+use ns_http::Counted;
+use ns_pipe::pipe;
+use ns_types::name::{Name, NameKind};
+use std::alloc::Global;
+use std::io::Write;
+
+/// What comes over one connection.
+#[derive(Drop)]
+pub struct Conversation<'a> {
+    /// The first line.
+    head: &'a str,
+    bootstrap: Name<'a>,
+    /// By how much each draw is greater than the one before.
+    step: u8,
+    input: &'a str,
+}
+
+impl<'a> Conversation<'a> {
+    /// Its first line holds the bootstrap secret, the step of the draws and a name. All that follows is the input.
+    pub fn read(text: &'a str) -> Option<Conversation<'a>> {
+        let (head, input) = text.split_once('\n')?;
+        let (secret, rest) = head.split_once(' ')?;
+        let (step, _) = rest.split_once(' ')?;
+        Some(Conversation {
+            head,
+            bootstrap: Name::read(NameKind::Secret, secret)?,
+            step: step.parse().ok()?,
+            input,
+        })
+    }
+
+    /// Serves the input, and writes what was written and the exit status.
+    pub fn serve<W: Write>(&self, alloc: Global, out: &mut W) -> anyhow::Result<()> {
+        let mut errors = Vec::new(alloc);
+        let mut reader = Counted::new(self.input.as_bytes());
+        let mut writer = Counted::new(Vec::new(alloc));
+        let draws = SameBytes::new(self.step);
+        let status = pipe(
+            alloc,
+            &self.bootstrap,
+            draws,
+            &mut reader,
+            &mut writer,
+            &mut errors,
+        );
+        let head = self.head;
+        writeln!(out, "=== {head}")?;
+        out.write_all(writer.into_inner().as_slice())?;
+        writeln!(out, "\nstatus {status}")?;
+        out.write_all(errors.as_slice())?;
+        Ok(())
+    }
+}

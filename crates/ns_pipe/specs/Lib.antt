@@ -1,0 +1,3 @@
+pub mod Asking
+pub mod Lines
+pub mod Ending

@@ -1,0 +1,64 @@
+//! One connection with a new server.
+
+ghost use Rattle.std.specs.Prelude.{◌≡◌, IfOk};
+ghost use Rattle.ns_http.specs.Output.{WritesSome};
+ghost use Rattle.ns_types.specs.Steps.{opening};
+ghost use Rattle.ns_pipe.specs.Ending.{IsEnd, EndsServed, EndsByReader, EndsByWriter};
+ghost use Rattle.ns_pipe.specs.Lines.{status_of, line_of};
+
+use crate::lines::tell;
+use crate::status::{OUT_OF_MEMORY, READ_FAULT, SERVED, WRITE_FAULT};
+use ns_api::{Api, Draws, serve};
+use ns_core::Core;
+use ns_http::{ConnFault, Counted};
+use ns_types::name::Name;
+use ns_types::text::Text;
+use std::alloc::{AllocError, Global};
+use std::io::{Read, Write};
+
+/// A new server.
+fn opened<D: Draws + Drop>(
+    alloc: Global,
+    bootstrap: &Name<'_>,
+    draws: D,
+) -> Result<Api<Core, D>, AllocError>
+    ensures taker { IfOk result (λ api. api.taker ≡ opening bootstrap.now) }
+    ensures drawer { IfOk result (λ api. api.draws ≡ draws) }
+{
+    let secret = Text::from_str(alloc, bootstrap.as_str())?;
+    let core = Core::new(alloc, &secret)?;
+    Api::new(alloc, core, draws)
+}
+
+/// Serves one connection with a new server, and says the exit status.
+pub fn pipe<D: Draws + Drop, R: Read, W: Write, E: Write>(
+    alloc: Global,
+    bootstrap: &Name<'_>,
+    draws: D,
+    reader: &mut Counted<R>,
+    writer: &mut Counted<W>,
+    errors: &mut E,
+) -> u8
+    ensures status { IsEnd result }
+    ensures served { result ≡ SERVED → EndsServed D.draws R.remaining W.contents
+        (opening bootstrap.now, draws) reader.old reader.new writer.old writer.new }
+    ensures read_fault { result ≡ READ_FAULT → EndsByReader D.draws R.remaining W.contents
+        (opening bootstrap.now, draws) reader.old reader.new writer.old writer.new }
+    ensures write_fault { result ≡ WRITE_FAULT → EndsByWriter D.draws R.remaining W.contents
+        (opening bootstrap.now, draws) reader.old reader.new writer.old writer.new }
+    ensures out_of_memory { result ≡ OUT_OF_MEMORY
+        → (reader.new ≡ reader.old) × (writer.new ≡ writer.old) }
+    ensures silent { result ≡ SERVED → errors.new ≡ errors.old }
+    ensures told { (fault : ConnFault) → result ≡ status_of fault
+        → WritesSome (E.contents errors.old) (E.contents errors.new) (line_of fault) }
+{
+    let Ok(mut api) = opened(alloc, bootstrap, draws) else {
+        return tell(ConnFault::Memory, errors);
+    };
+    let ended = serve(alloc, reader, writer, &mut api);
+    drop(api);
+    match ended {
+        Ok(_) => SERVED,
+        Err(fault) => tell(fault, errors),
+    }
+}

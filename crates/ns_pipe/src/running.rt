@@ -1,0 +1,96 @@
+//! What the program does, by what it is asked.
+
+ghost use Rattle.std.specs.Prelude.{◌≡◌, ◌≢◌, ℕ, List, ◌⊎◌};
+ghost use Rattle.std.specs.Io.KnownBytes.{Appends};
+ghost use Rattle.ns_http.specs.Output.{WritesSome};
+ghost use Rattle.ns_types.specs.State.Names.{Name};
+ghost use Rattle.ns_types.specs.Steps.{opening};
+ghost use Rattle.ns_pipe.specs.Asking.{IsHelp, IsMistake};
+ghost use Rattle.ns_pipe.specs.Ending.{Ends, uncounted};
+ghost use Rattle.ns_pipe.specs.Lines.{status_of, line_of};
+
+use crate::asked::Asked;
+use crate::connection::pipe;
+use crate::lines::{say, tell};
+use crate::status::{BAD_WORDS, OUT_OF_MEMORY, SERVED, WRITE_FAULT};
+use ns_api::Draws;
+use ns_http::{ConnFault, Counted};
+use std::alloc::Global;
+use std::io::{Read, Write};
+
+/// How a run ended, with its reader and its writer.
+#[derive(Drop)]
+pub struct Ended<R, W> {
+    pub status: u8,
+    pub reader: Counted<R>,
+    pub writer: Counted<W>,
+}
+
+/// Writes the help, and says the exit status.
+fn show<W: Write, E: Write>(help: &str, writer: &mut W, errors: &mut E) -> u8
+    ensures status { (result ≡ SERVED) ⊎ (result ≡ WRITE_FAULT) }
+    ensures shown { result ≡ SERVED
+        → Appends (W.contents writer.old) (W.contents writer.new) help.now }
+    ensures silent { result ≡ SERVED → errors.new ≡ errors.old }
+    ensures told { result ≡ WRITE_FAULT
+        → WritesSome (E.contents errors.old) (E.contents errors.new) (line_of ConnFault.Write) }
+{
+    match writer.write_all(help.as_bytes()) {
+        Ok(()) => SERVED,
+        Err(_) => tell(ConnFault::Write, errors),
+    }
+}
+
+/// Does what the words ask for, and says how that ended. Only a connection reads input.
+pub fn run<D: Draws + Drop, R: Read + Drop, W: Write + Drop, E: Write>(
+    alloc: Global,
+    asked: &Asked<'_>,
+    draws: D,
+    reader: R,
+    mut writer: W,
+    errors: &mut E,
+) -> Ended<R, W>
+    ensures pipe { (secret : Name) → asked.now ≡ Asked.Pipe secret
+        → Ends D.draws R.remaining W.contents (opening secret, draws) result.status
+        (uncounted reader) result.reader (uncounted writer) result.writer }
+    ensures help { (text : List ℕ) → IsHelp asked.now text
+        → (result.status ≡ SERVED) ⊎ (result.status ≡ WRITE_FAULT) }
+    ensures shown { (text : List ℕ) → IsHelp asked.now text → result.status ≡ SERVED
+        → Appends (W.contents writer) (W.contents result.writer.inner) text }
+    ensures mistake { (text : List ℕ) → IsMistake asked.now text
+        → (result.status ≡ BAD_WORDS) × (result.writer ≡ uncounted writer)
+        × WritesSome (E.contents errors.old) (E.contents errors.new) text }
+    ensures no_memory { asked.now ≡ Asked.NoMemory
+        → (result.status ≡ OUT_OF_MEMORY) × (result.writer ≡ uncounted writer) }
+    ensures unread { ((secret : Name) → asked.now ≢ Asked.Pipe secret)
+        → result.reader ≡ uncounted reader }
+
+    // What is written on the errors goes by the status.
+    ensures silent { result.status ≡ SERVED → errors.new ≡ errors.old }
+    ensures told { (fault : ConnFault) → result.status ≡ status_of fault
+        → WritesSome (E.contents errors.old) (E.contents errors.new) (line_of fault) }
+{
+    let status = match asked {
+        Asked::Pipe(secret) => {
+            let mut reader = Counted::new(reader);
+            let mut writer = Counted::new(writer);
+            let status = pipe(alloc, secret, draws, &mut reader, &mut writer, errors);
+            return Ended {
+                status,
+                reader,
+                writer,
+            };
+        }
+        Asked::Help(text) => show(text.as_str(), &mut writer, errors),
+        Asked::Mistake(text) => {
+            say(errors, text.as_str().as_bytes());
+            BAD_WORDS
+        }
+        Asked::NoMemory => tell(ConnFault::Memory, errors),
+    };
+    Ended {
+        status,
+        reader: Counted::new(reader),
+        writer: Counted::new(writer),
+    }
+}
