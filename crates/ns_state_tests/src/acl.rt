@@ -37,7 +37,7 @@ fn in_short(answer: &Result<Content, Refusal>) -> Said {
     }
 }
 
-fn put_policy(acl: &mut Acl, name: &Text, policy: Policy) -> Said {
+fn put_policy(acl: &mut Acl, name: &Text, policy: &Policy) -> Said {
     seen(acl.put_policy(name, policy), in_short)
 }
 
@@ -134,7 +134,7 @@ fn put(
 ) -> Result<Said, AllocError> {
     let name = Text::from_str(alloc, name)?;
     let policy = policy(alloc, kind, pattern, word)?;
-    Ok(put_policy(acl, &name, policy))
+    Ok(put_policy(acl, &name, &policy))
 }
 
 fn push_name(names: &mut Rows<Text>, alloc: Global, name: &str) -> Result<(), AllocError> {

@@ -49,7 +49,8 @@ fn add_job(
     id: &Text,
     priority: u64,
 ) -> Result<(), AllocError> {
-    rows.reserve_job(id)?;
+    let last = rows.evaluation_number();
+    rows.reserve_registration(id, last, 0)?;
     rows.put_job(id, make_job(alloc, priority)?);
     Ok(())
 }
@@ -63,7 +64,7 @@ fn add_evaluation(
 ) -> Result<(), AllocError> {
     let last = rows.evaluation_number();
     if last < u64::MAX {
-        rows.reserve_evaluation(last + 1)?;
+        rows.reserve_evaluation(last + 1, 0)?;
         rows.add_evaluation(make_evaluation(alloc, job, status)?);
     }
     Ok(())
@@ -77,7 +78,7 @@ fn status_of(rows: &NamespaceRows, number: u64) -> Option<Status> {
     Some(rows.evaluation(number)?.status)
 }
 
-/// Whether one job is there, and of the other not even its slot.
+/// Whether one job is there, and of the other the slot alone.
 fn keeps_one_job(
     rows: &mut NamespaceRows,
     alloc: Global,
@@ -85,8 +86,7 @@ fn keeps_one_job(
     api: &Text,
 ) -> Result<bool, AllocError> {
     add_job(rows, alloc, web, 70)?;
-    rows.reserve_job(api)?;
-    rows.clear_room(api, 1);
+    rows.reserve_registration(api, 1, 0)?;
     rows.set_index(1);
     Ok(
         priority_of(rows, web) == Some(70)
@@ -152,7 +152,7 @@ fn keeps_evaluations(rt: HostRuntime) -> Result<(), Fail> {
 /// Adds the events 1 to 101.
 fn push_events(rows: &mut NamespaceRows) -> Result<(), AllocError> {
     for number in 1..102 {
-        rows.reserve_events(1)?;
+        rows.reserve_evaluation(1, 1)?;
         rows.push_event(Event {
             index: number,
             topic: Topic::EvaluationUpdated(number),

@@ -6,18 +6,18 @@ ghost use Rattle.ns_tables.specs.Viewed.{world_of};
 
 use crate::owned::{holds, seen};
 use ns_store::NamespaceRows;
-use ns_tables::{Tables, overlaps, same_quota, same_text};
+use ns_tables::{Tables, overlaps, same_quota};
 use ns_types::job::{Document, Job, JobKind};
 use ns_types::records::{Namespace, Pool, Quota};
 use ns_types::refusal::{Member, Refusal};
 use ns_types::reply::Content;
 use ns_types::resources::{Limit, Limits};
 use ns_types::rows::Rows;
-use ns_types::text::Text;
+use ns_types::text::{Text, same_text};
 use std::alloc::{AllocError, Global};
 use std::test::Fail;
 
-fn refusal(answer: &Result<Content, Refusal>) -> Option<Refusal> {
+pub(crate) fn refusal(answer: &Result<Content, Refusal>) -> Option<Refusal> {
     match answer {
         Ok(_) => None,
         Err(refusal) => Some(*refusal),
@@ -27,7 +27,8 @@ fn refusal(answer: &Result<Content, Refusal>) -> Option<Refusal> {
 fn put_pool(tables: &mut Tables, name: &str) -> Result<Option<Refusal>, AllocError> {
     let name = Text::from_str(tables.alloc, name)?;
     let description = Text::from_str(tables.alloc, "")?;
-    Ok(seen(tables.put_pool(&name, Pool { description }), refusal))
+    let pool = Pool { description };
+    Ok(seen(tables.put_pool(&name, &pool), refusal))
 }
 
 fn quota(alloc: Global, cpu: Limit) -> Result<Quota, AllocError> {
@@ -44,7 +45,7 @@ fn quota(alloc: Global, cpu: Limit) -> Result<Quota, AllocError> {
 fn put_quota(tables: &mut Tables, name: &str) -> Result<Option<Refusal>, AllocError> {
     let name = Text::from_str(tables.alloc, name)?;
     let quota = quota(tables.alloc, Limit::AtMost(1000))?;
-    Ok(seen(tables.put_quota(&name, quota), refusal))
+    Ok(seen(tables.put_quota(&name, &quota), refusal))
 }
 
 fn one_name(alloc: Global, name: &str) -> Result<Rows<Text>, AllocError> {
@@ -79,7 +80,7 @@ fn put(
     let name = Text::from_str(tables.alloc, name)?;
     let quota = Text::from_str(tables.alloc, quota)?;
     let namespace = confined(tables.alloc, pool, pool, Some(quota))?;
-    Ok(seen(tables.put_namespace(&name, namespace), refusal))
+    Ok(seen(tables.put_namespace(&name, &namespace), refusal))
 }
 
 fn delete_namespace(tables: &mut Tables, name: &str) -> Result<Option<Refusal>, AllocError> {
@@ -125,7 +126,8 @@ fn put_job(
     id: &Text,
     pool: &str,
 ) -> Result<(), AllocError> {
-    rows.reserve_job(id)?;
+    let next = rows.evaluation_number();
+    rows.reserve_registration(id, next, 0)?;
     rows.put_job(id, job(alloc, pool)?);
     Ok(())
 }
@@ -203,7 +205,7 @@ fn refuses_allowed_pool(tables: &mut Tables) -> Result<bool, AllocError> {
     lay_out(tables)?;
     let name = Text::from_str(tables.alloc, "tc")?;
     let namespace = confined(tables.alloc, "east", "north", None)?;
-    let answer = seen(tables.put_namespace(&name, namespace), refusal);
+    let answer = seen(tables.put_namespace(&name, &namespace), refusal);
     Ok(answer == Some(Refusal::BadField(Member::Allowed)))
 }
 
@@ -269,7 +271,8 @@ fn count(listed: &Result<Content, AllocError>) -> Result<usize, AllocError> {
 
 // What a caller of a list learns.
 fn list_one(tables: &Tables, name: &Text) -> Result<Content, AllocError>
-    ensures { (ready : List Key) → IfOk result (λ content. content ≡ list_namespaces (same_name name.now) (world_of ready tables.now)) }
+    ensures { (ready : List Key) → IfOk result (λ content.
+        content ≡ list_namespaces (same_name name.now) (world_of ready tables.now)) }
 {
     tables.list_namespaces(|other| same_text(name, other))
 }

@@ -1,4 +1,5 @@
 // Each call may be refused for want of memory once, and then answers as with ample memory.
+use crate::repeated::repeated;
 use ns_documents::{
     NamedNamespace, NamedPool, NamedQuota, TokenDocument, read_namespace, read_policy, read_pool,
     read_quota, read_token,
@@ -146,36 +147,6 @@ fn text(alloc: Global, text: &str) -> Result<Text, AllocError> {
     match Text::from_str(alloc, text) {
         Ok(text) => Ok(text),
         Err(_) => Text::from_str(alloc, text),
-    }
-}
-
-/// A text between others, so many times.
-fn joined(
-    alloc: Global,
-    before: &str,
-    repeated: &str,
-    times: usize,
-    after: &str,
-) -> Result<String, AllocError> {
-    let mut text = String::from_str(alloc, before)?;
-    for _ in 0..times {
-        text.push_str(repeated)?;
-    }
-    text.push_str(after)?;
-    Ok(text)
-}
-
-/// The same, built again where memory ran out.
-fn repeated(
-    alloc: Global,
-    before: &str,
-    item: &str,
-    times: usize,
-    after: &str,
-) -> Result<String, AllocError> {
-    match joined(alloc, before, item, times, after) {
-        Ok(text) => Ok(text),
-        Err(_) => joined(alloc, before, item, times, after),
     }
 }
 
@@ -438,16 +409,14 @@ fn refuses_faulty_quotas(rt: HostRuntime) -> Result<(), Fail> {
             "{limits}"
         );
     }
-    assert_eq!(rt;
-        quota(
-            alloc,
-            None,
-            "{\"Name\":\"q\",\"Description\":[],\"Limits\":7}"
-        )
-        .err(),
-        Some(Refusal::BadField(Member::Description))
-    );
     Ok(())
+}
+
+#[test]
+fn names_the_first_fault_of_a_quota(rt: HostRuntime) {
+    let body = "{\"Name\":\"q\",\"Description\":[],\"Limits\":7}";
+    let refused = Some(Refusal::BadField(Member::Description));
+    assert_eq!(rt; quota_fault(rt.alloc(), None, body), refused);
 }
 
 fn reads_the_east(alloc: Global, body: &str) -> bool {

@@ -1,5 +1,5 @@
 use linked_list_allocator::LocalHeap;
-use ns_http::{Answer, ConnFault, Counted, Request, serve};
+use ns_http::{Answer, ConnFault, Counted, INTERRUPTION_LIMIT, READ_ROOM, Request, serve};
 use ns_types::refusal::Refusal;
 use ns_types::reply::Response;
 use std::alloc::{AllocError, Allocator, Global};
@@ -96,6 +96,7 @@ struct Outcome {
     result: Result<u64, ConnFault>,
     steps: u64,
     bytes: Vec<u8>,
+    reads: u64,
     writes: u64,
     read_faults: u64,
     write_faults: u64,
@@ -112,6 +113,7 @@ fn talk(alloc: Global, reader: Slow<'_>, writer: Narrow) -> Outcome {
         result,
         steps: handler.steps,
         bytes,
+        reads: reads.calls(),
         writes: writes.calls(),
         read_faults: reads.faults(),
         write_faults: writes.faults(),
@@ -268,9 +270,55 @@ fn interruptions(rt: HostRuntime) -> Result<(), Fail> {
     };
     let result = serve(rt.alloc(), &mut reader, &mut writer, &mut handler);
     assert_eq!(rt; result, Ok(2));
-    assert!(rt; !reader.counts().broken() && !writer.counts().broken());
+    let (reads, writes) = (reader.counts(), writer.counts());
+    assert!(rt; !reads.broken() && !writes.broken());
+    assert_eq!(rt; (reads.faults(), writes.faults()), (0, 0));
+    assert_eq!(rt; reads.interruptions(), reads.calls().div_ceil(2));
+    assert_eq!(rt; writes.interruptions(), writes.calls().div_ceil(2));
     let Narrow { bytes, .. } = writer.into_inner().inner;
     assert_eq!(rt; bytes.as_slice(), OUTPUT);
+    Ok(())
+}
+
+/// Is interrupted at every call.
+#[derive(Drop)]
+struct Hindered;
+
+impl Write for Hindered {
+    fn write(&mut self, _: &[u8]) -> io::Result<usize> {
+        Err(io::Error::from(ErrorKind::Interrupted))
+    }
+
+    fn flush(&mut self) -> io::Result<()> {
+        Ok(())
+    }
+}
+
+#[test]
+fn interrupted_without_end(rt: HostRuntime) {
+    let mut reader = Counted::new(giving(INPUT, 4096));
+    let mut writer = Counted::new(Hindered);
+    let mut handler = Echo {
+        alloc: rt.alloc(),
+        steps: 0,
+    };
+    let result = serve(rt.alloc(), &mut reader, &mut writer, &mut handler);
+    assert_eq!(rt; result, Err(ConnFault::Write));
+    assert_eq!(rt; writer.counts().interruptions(), INTERRUPTION_LIMIT + 1);
+    assert_eq!(rt; writer.counts().faults(), 0);
+}
+
+#[test]
+fn texts_of_faults(rt: HostRuntime) -> Result<(), Fail> {
+    let texts = [
+        (ConnFault::Read, "read fault"),
+        (ConnFault::Write, "write fault"),
+        (ConnFault::Memory, "out of memory"),
+    ];
+    for (fault, text) in texts {
+        let shown = format!(in rt.alloc(); "{fault}")?;
+        assert_eq!(rt; shown.as_str(), text);
+    }
     Ok(())
 }
 
@@ -362,6 +410,9 @@ fn limits(rt: HostRuntime) -> Result<(), Fail> {
     );
     let request = repeated(rt.alloc(), large, 1_048_576)?;
     assert!(rt; serves(rt.alloc(), &request));
+    let out = talk(rt.alloc(), giving(&request, usize::MAX), wide(rt.alloc()));
+    assert_eq!(rt; out.result, Ok(1));
+    assert!(rt; out.reads <= (request.len() / READ_ROOM) as u64 + 2);
     Ok(())
 }
 

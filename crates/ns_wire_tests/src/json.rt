@@ -2,6 +2,7 @@
 ghost use Rattle.std.specs.Prelude.{◌≡◌, IfOk};
 ghost use Rattle.ns_json.specs.Rendered.{IsRegistered, IsRendered};
 
+use crate::repeated::repeated;
 use ns_json::{RegistrationDocument, Room, read_registration, render};
 use ns_types::job::{
     Constraint, Document, Group, Job, JobKind, Operand, Registration, Target, Task,
@@ -17,36 +18,6 @@ fn refusal_of(alloc: Global, body: &[u8]) -> Option<Refusal> {
     match read_registration(alloc, body).err() {
         Some(Refusal::Memory) => read_registration(alloc, body).err(),
         refusal => refusal,
-    }
-}
-
-/// A text between others, where each of the two may be repeated.
-fn joined(
-    alloc: Global,
-    before: &str,
-    repeated: &str,
-    times: usize,
-    after: &str,
-) -> Result<String, AllocError> {
-    let mut text = String::from_str(alloc, before)?;
-    for _ in 0..times {
-        text.push_str(repeated)?;
-    }
-    text.push_str(after)?;
-    Ok(text)
-}
-
-/// The same, built again where memory ran out.
-fn repeated(
-    alloc: Global,
-    before: &str,
-    item: &str,
-    times: usize,
-    after: &str,
-) -> Result<String, AllocError> {
-    match joined(alloc, before, item, times, after) {
-        Ok(text) => Ok(text),
-        Err(_) => joined(alloc, before, item, times, after),
     }
 }
 

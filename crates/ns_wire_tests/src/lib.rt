@@ -12,4 +12,6 @@ mod json;
 #[cfg(test)]
 mod policy;
 #[cfg(test)]
+mod repeated;
+#[cfg(test)]
 mod replies;

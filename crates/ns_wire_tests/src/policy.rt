@@ -196,3 +196,20 @@ fn bounds_patterns(rt: HostRuntime) -> Result<(), Fail> {
     }
     Ok(())
 }
+
+#[test]
+fn texts_of_faults(rt: HostRuntime) -> Result<(), Fail> {
+    let texts = [
+        (RuleFault::Syntax, "the text is not a list of rules"),
+        (
+            RuleFault::Value,
+            "a pattern, a policy or a capability is not valid",
+        ),
+        (RuleFault::Memory, "out of memory"),
+    ];
+    for (fault, text) in texts {
+        let shown = format!(in rt.alloc(); "{fault}")?;
+        assert_eq!(rt; shown.as_str(), text);
+    }
+    Ok(())
+}

@@ -1,0 +1,171 @@
+// Tables with ample memory, filled to their limits: one row more is refused as too many, and not for want of memory.
+
+use crate::owned::{holds, seen};
+use crate::tables::refusal;
+use ns_acl::Acl;
+use ns_tables::Tables;
+use ns_types::acl::{Policy, TokenKind};
+use ns_types::records::{Namespace, Pool, Quota};
+use ns_types::refusal::Refusal;
+use ns_types::rows::Rows;
+use ns_types::step::NewToken;
+use ns_types::text::Text;
+use std::alloc::{AllocError, Global};
+use std::test::Fail;
+
+/// The numbers of which names are made, more than a table has room for. Names of as many digits rise with them.
+const FIRST: u64 = 10_000;
+
+const LAST: u64 = 21_000;
+
+/// The first number whose row was refused, and why.
+type Refused = Option<(u64, Refusal)>;
+
+fn name_of(alloc: Global, number: u64) -> Result<Text, AllocError> {
+    Ok(Text::from_string(format!(in alloc; "{number}")?))
+}
+
+fn described(alloc: Global) -> Result<Text, AllocError> {
+    Text::from_str(alloc, "")
+}
+
+fn fill_namespaces(tables: &mut Tables, namespace: &Namespace) -> Result<Refused, AllocError> {
+    for number in FIRST..LAST {
+        let name = name_of(tables.alloc, number)?;
+        if let Some(refused) = seen(tables.put_namespace(&name, namespace), refusal) {
+            return Ok(Some((number, refused)));
+        }
+    }
+    Ok(None)
+}
+
+fn fill_pools(tables: &mut Tables, pool: &Pool) -> Result<Refused, AllocError> {
+    for number in FIRST..LAST {
+        let name = name_of(tables.alloc, number)?;
+        if let Some(refused) = seen(tables.put_pool(&name, pool), refusal) {
+            return Ok(Some((number, refused)));
+        }
+    }
+    Ok(None)
+}
+
+fn fill_quotas(tables: &mut Tables, quota: &Quota) -> Result<Refused, AllocError> {
+    for number in FIRST..LAST {
+        let name = name_of(tables.alloc, number)?;
+        if let Some(refused) = seen(tables.put_quota(&name, quota), refusal) {
+            return Ok(Some((number, refused)));
+        }
+    }
+    Ok(None)
+}
+
+/// The namespace `default` is there, so 9,999 more have room.
+fn has_ten_thousand_namespaces(tables: &mut Tables) -> Result<bool, AllocError> {
+    let alloc = tables.alloc;
+    let namespace = Namespace {
+        description: described(alloc)?,
+        quota: None,
+        default_pool: Text::from_str(alloc, "default")?,
+        allowed: None,
+        denied: Rows::new(alloc),
+    };
+    Ok(fill_namespaces(tables, &namespace)? == Some((19_999, Refusal::Full)))
+}
+
+#[test]
+fn fills_namespaces(rt: HostRuntime) -> Result<(), Fail> {
+    assert!(rt; holds(Tables::opening(rt.alloc()), has_ten_thousand_namespaces)?);
+    Ok(())
+}
+
+/// The pool `default` is there, so 9,999 more have room.
+fn has_ten_thousand_pools(tables: &mut Tables) -> Result<bool, AllocError> {
+    let pool = Pool {
+        description: described(tables.alloc)?,
+    };
+    Ok(fill_pools(tables, &pool)? == Some((19_999, Refusal::Full)))
+}
+
+#[test]
+fn fills_pools(rt: HostRuntime) -> Result<(), Fail> {
+    assert!(rt; holds(Tables::opening(rt.alloc()), has_ten_thousand_pools)?);
+    Ok(())
+}
+
+fn has_ten_thousand_quotas(tables: &mut Tables) -> Result<bool, AllocError> {
+    let quota = Quota {
+        description: described(tables.alloc)?,
+        limits: None,
+    };
+    Ok(fill_quotas(tables, &quota)? == Some((20_000, Refusal::Full)))
+}
+
+#[test]
+fn fills_quotas(rt: HostRuntime) -> Result<(), Fail> {
+    assert!(rt; holds(Tables::opening(rt.alloc()), has_ten_thousand_quotas)?);
+    Ok(())
+}
+
+fn fill_policies(acl: &mut Acl, alloc: Global, policy: &Policy) -> Result<Refused, AllocError> {
+    for number in FIRST..LAST {
+        let name = name_of(alloc, number)?;
+        if let Some(refused) = seen(acl.put_policy(&name, policy), refusal) {
+            return Ok(Some((number, refused)));
+        }
+    }
+    Ok(None)
+}
+
+fn has_ten_thousand_policies(acl: &mut Acl, alloc: Global) -> Result<bool, AllocError> {
+    let policy = Policy {
+        description: described(alloc)?,
+        text: described(alloc)?,
+        rules: Rows::new(alloc),
+    };
+    Ok(fill_policies(acl, alloc, &policy)? == Some((20_000, Refusal::Full)))
+}
+
+fn opening(alloc: Global) -> Result<Acl, AllocError> {
+    let root = Text::from_str(alloc, "root")?;
+    Acl::new(alloc, &root)
+}
+
+#[test]
+fn fills_policies(rt: HostRuntime) -> Result<(), Fail> {
+    let alloc = rt.alloc();
+    assert!(rt; holds(opening(alloc), |acl| has_ten_thousand_policies(acl, alloc))?);
+    Ok(())
+}
+
+/// A client's token whose accessor is its secret.
+fn numbered_token(alloc: Global, number: u64) -> Result<NewToken, AllocError> {
+    Ok(NewToken {
+        accessor: name_of(alloc, number)?,
+        secret: name_of(alloc, number)?,
+        name: described(alloc)?,
+        kind: TokenKind::Client,
+        policies: Rows::new(alloc),
+    })
+}
+
+fn fill_tokens(acl: &mut Acl, alloc: Global) -> Result<Refused, AllocError> {
+    for number in FIRST..LAST {
+        let new = numbered_token(alloc, number)?;
+        if let Some(refused) = seen(acl.create_token(&new), refusal) {
+            return Ok(Some((number, refused)));
+        }
+    }
+    Ok(None)
+}
+
+/// The bootstrap token is there, so 9,999 more have room.
+fn has_ten_thousand_tokens(acl: &mut Acl, alloc: Global) -> Result<bool, AllocError> {
+    Ok(fill_tokens(acl, alloc)? == Some((19_999, Refusal::Full)))
+}
+
+#[test]
+fn fills_tokens(rt: HostRuntime) -> Result<(), Fail> {
+    let alloc = rt.alloc();
+    assert!(rt; holds(opening(alloc), |acl| has_ten_thousand_tokens(acl, alloc))?);
+    Ok(())
+}
