@@ -6,14 +6,15 @@ use Rattle.std.specs.Ordering.{eq_by_cmp, is_eq}
 use Rattle.std.specs.FinMap.{FinMap, entries, entries_sorted, get, get-entries, get-insert, insert, same_map}
 use Rattle.std.specs.FinMap.Entries.{find, is_sorted, below_all}
 use Rattle.keyed.specs.Table.{flat, rows, row_at, emptied}
-use Rattle.keyed.proofs.Ordered.{absent, first, less, second}
+use Rattle.keyed.proofs.Ordered.{absent}
+use Rattle.ns_types.proofs.Tests.{first, second}
 use Rattle.ns_types.proofs.TableRows.{turned}
 use Rattle.keyed.proofs.Tables.{get-rows}
 use Rattle.ns_types.specs.State.Lists.{Each}
 use Rattle.ns_types.specs.State.Names.{Name, ByName, name_cmp}
 use Rattle.ns_types.specs.State.Rows.{Tenant}
 use Rattle.ns_types.proofs.Named.{names, one_name}
-use Rattle.ns_types.proofs.Tables.{each_row, get-map_rows, get-table_of, tied}
+use Rattle.ns_types.proofs.Tables.{less_by, each_row, get-map_rows, get-table_of, tied}
 use Rattle.ns_change.specs.declared.change.SettledTenant.{SettledTenant}
 use Rattle.ns_world.specs.declared.tables.TenantRows.{TenantRows}
 use Rattle.ns_change.specs.Changed.{perhaps}
@@ -131,7 +132,7 @@ all_ahead c m room = record {
 module _ (k : Name) where
   apart : (es : List Entry) → T (below_all name_cmp k es) → Each (λ e. eq_by_cmp name_cmp e.0 k ≡ false) es
   apart [] h = tt
-  apart (e ∷ es) h = (turned names k e.0 (ap is_eq (less (name_cmp k e.0) (first _ _ h))), apart es (second _ _ h))
+  apart (e ∷ es) h = (turned names k e.0 (ap is_eq (less_by (name_cmp k e.0) (first _ _ h))), apart es (second _ _ h))
 
   stays : (old new : FinMap name_cmp (Option TenantRows)) → ((q : Name) → eq_by_cmp name_cmp q k ≡ false → row_at new q ≡ row_at old q)
       → (es : List Entry) → Each (λ e. eq_by_cmp name_cmp e.0 k ≡ false) es → RoomAhead old es → RoomAhead new es
