@@ -12,27 +12,13 @@ use Rattle.keyed.specs.Table.{flat, rows, row_list}
 use Rattle.keyed.proofs.Tables.{get-rows, entries-rows}
 use Rattle.ns_types.specs.State.Tables.{map_rows, any_row, table_of}
 use Rattle.ns_types.specs.State.Lists.{Each}
-use Rattle.ns_types.proofs.Tables.{each_row, get-map_rows, get-table_of, get-retain, entries-retain, entries-table_of, filter-retain, any_row-retain}
+use Rattle.ns_types.proofs.Tables.{each_row, get-table_of, get-retain, entries-retain, entries-table_of, filter-retain, any_row-retain}
 use Rattle.ns_types.proofs.Lists.{not_both, any_alike, each}
+use Rattle.ns_types.proofs.TableRows.{get_joined}
 use Rattle.std.specs.List.{list_any}
 use Rattle.keyed.specs.Table.{at_slot}
 use Rattle.keyed.proofs.Tables.{any-at_slot}
 use Rattle.keyed.specs.Over.{over}
-
-module _ {K X : Type 0} (R : K → K → Ordering) where
-  find_either : (q : K) (es fs : List (K × X)) → find R q (es ++ fs) ≡ option_or (find R q es) (find R q fs)
-  find_either q [] fs = refl
-  find_either q (e ∷ es) fs = elim (eq_by_cmp R q e.0) as
-      (λ b. cond b (Some e.1) (find R q (es ++ fs)) ≡ option_or (cond b (Some e.1) (find R q es)) (find R q fs)) [
-        | true ↦ refl
-        | false ↦ find_either q es fs
-      ]
-
-module _ {K X : Type 0} {R : K → K → Ordering} (o : IsTotalOrder R) (same : IsAntisymmetric R) where
-  -- of the rows of two tables those of the first come before
-  get_joined : (m n : FinMap R X) (q : K) → get (from_entries {R = R} (entries m ++ entries n)) q ≡ option_or (get m q) (get n q)
-  get_joined m n q = get-from_entries o (entries m ++ entries n) q ∙ find_either R q (entries m) (entries n) ∙
-      (λ i. option_or (sym (get-entries m q) i) (sym (get-entries n q) i))
 
 module _ {K X : Type 0} {R : K → K → Ordering} (o : IsTotalOrder R) (same : IsAntisymmetric R) where
   first_row : (a : Option (Option X)) (b : Option X) → flat (option_or a (option_map (λ x. Some x) b)) ≡ unwrap_or a b
@@ -42,7 +28,7 @@ module _ {K X : Type 0} {R : K → K → Ordering} (o : IsTotalOrder R) (same : 
 
   pub get-over : (m : FinMap R X) (c : FinMap R (Option X)) (q : K) → get (over m c) q ≡ unwrap_or (get c q) (get m q)
   unfolding over
-  get-over m c q = get-rows o _ q ∙ ap flat (get_joined o same c (table_of (λ _ x. Some x) m) q)
+  get-over m c q = get-rows o _ q ∙ ap flat (get_joined o c (table_of (λ _ x. Some x) m) q)
       ∙ ap (λ r. flat (option_or (get c q) r)) (get-table_of o same (λ _ x. Some x) m q) ∙ first_row (get c q) (get m q)
 
   pub over-empty : (m : FinMap R X) → over m empty ≡ m
@@ -75,9 +61,9 @@ module _ {K X : Type 0} {R : K → K → Ordering} (o : IsTotalOrder R) (same : 
 
   pub map_rows-over : (f : K → X → X) (m : FinMap R X) (c : FinMap R (Option X)) → ((k : K) (x : X) → get m k ≡ Some x → contains_key c k ≡ false → f k x ≡ x)
       → map_rows f (over m c) ≡ over m (map_rows (λ k r. option_map (f k) r) c)
-  map_rows-over f m c idle = same_map o same _ _ (λ q. get-map_rows o same f (over m c) q ∙ ap (option_map (f q)) (get-over m c q)
+  map_rows-over f m c idle = same_map o same _ _ (λ q. get-table_of o same f (over m c) q ∙ ap (option_map (f q)) (get-over m c q)
       ∙ by q (get c q) refl (get m q) refl
-      ∙ ap (λ r. unwrap_or r (get m q)) (sym (get-map_rows o same (λ k r. option_map (f k) r) c q)) ∙ sym (get-over m _ q))
+      ∙ ap (λ r. unwrap_or r (get m q)) (sym (get-table_of o same (λ k r. option_map (f k) r) c q)) ∙ sym (get-over m _ q))
     where
       by : (q : K) (r : Option (Option X)) → get c q ≡ r → (a : Option X) → get m q ≡ a →
           option_map (f q) (unwrap_or r a) ≡ unwrap_or (option_map (λ r. option_map (f q) r) r) a

@@ -3,6 +3,7 @@ pub mod Elements
 pub mod Ids
 pub mod Lists
 pub mod Named
+pub mod Outcomes
 pub mod ReadingLemmas
 pub mod Registrations
 pub mod Settling

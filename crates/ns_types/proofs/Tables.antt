@@ -60,9 +60,9 @@ module _ {K X : Type 0} {R : K → K → Ordering} where
   unfolding table_of changed
   entries-table_of f m = entries-from_sorted R (changed f (entries m)) (subst T (sym (is_sorted-changed R f (entries m))) (entries_sorted m))
 
+  -- the same of a change of each row
   pub entries-map_rows : (f : K → X → X) (m : FinMap R X) → entries (map_rows f m) ≡ map (λ e. (e.0, f e.0 e.1)) (entries m)
-  unfolding map_rows changed
-  entries-map_rows f m = entries-from_sorted R (changed f (entries m)) (subst T (sym (is_sorted-changed R f (entries m))) (entries_sorted m))
+  entries-map_rows f m = entries-table_of f m
 
 module _ {K X : Type 0} {R : K → K → Ordering} (o : IsTotalOrder R) (same : IsAntisymmetric R) where
   find-changed : {Y : Type 0} (f : K → X → Y) (q : K) (es : List (K × X)) → find R q (changed f es) ≡ option_map (f q) (find R q es)
@@ -81,9 +81,7 @@ module _ {K X : Type 0} {R : K → K → Ordering} (o : IsTotalOrder R) (same : 
       ap (option_map (f q)) (sym (get-entries m q))
 
   pub get-map_rows : (f : K → X → X) (m : FinMap R X) (q : K) → get (map_rows f m) q ≡ option_map (f q) (get m q)
-  unfolding changed
-  get-map_rows f m q = get-entries (map_rows f m) q ∙ ap (find R q) (entries-map_rows f m) ∙ find-changed f q (entries m) ∙
-      ap (option_map (f q)) (sym (get-entries m q))
+  get-map_rows f m q = get-table_of f m q
 
   pub get-retain : (m : FinMap R X) (p : K → Bool) (q : K) → get (retain_keys m p) q ≡ cond (p q) (get m q) None
   get-retain m p q = get-retain_keys m p q (alike same p q)

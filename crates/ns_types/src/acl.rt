@@ -42,6 +42,16 @@ pub struct Grants {
     pub deny: bool,
 }
 
+pub const NO_GRANTS: Grants = Grants {
+    list_jobs: false,
+    read_job: false,
+    submit_job: false,
+    alloc_lifecycle: false,
+    read_pool: false,
+    write_pool: false,
+    deny: false,
+};
+
 #[derive(Drop)]
 pub struct Rule {
     pub kind: RuleKind,

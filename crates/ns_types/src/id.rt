@@ -1,7 +1,7 @@
 //! Ids of evaluations and allocations: UUID texts that say a kind and a number.
 
 ghost use Rattle.std.specs.Prelude.{◌≡◌, ◌<◌, ◌^◌, ℕ, Some, IfSome, IfNone, IfOk, ◌≤◌, length};
-ghost use Rattle.ns_types.specs.State.Id.{IsNoId, id_text as text_of, id_number, kind_number, uuid_number};
+ghost use Rattle.ns_types.specs.State.Id.{IsNoId, id_text, id_number, kind_number, uuid_number};
 
 use crate::text::Text;
 use std::alloc::{AllocError, Global};
@@ -28,7 +28,7 @@ impl IdKind {
 /// The text of the id of that kind and number, in a buffer that has room for it.
 pub fn id_str(kind: IdKind, number: u64, buffer: &mut [u8]) -> &str
     requires { 36 ≤ length buffer.old }
-    ensures { result.now ≡ text_of kind number }
+    ensures { result.now ≡ id_text kind number }
 {
     Uuid::from_u64_pair(kind.number(), number)
         .hyphenated()
@@ -37,7 +37,7 @@ pub fn id_str(kind: IdKind, number: u64, buffer: &mut [u8]) -> &str
 
 /// The text of the id of that kind and number.
 pub fn id_text(alloc: Global, kind: IdKind, number: u64) -> Result<Text, AllocError>
-    ensures { IfOk result (λ text. text ≡ text_of kind number) }
+    ensures { IfOk result (λ text. text ≡ id_text kind number) }
 {
     let mut buffer = [0; 36];
     Text::from_str(alloc, id_str(kind, number, &mut buffer))
@@ -49,7 +49,7 @@ pub fn id_read(kind: IdKind, text: &str) -> Option<u64>
     ensures found { IfSome result (λ n. uuid_number text.now ≡ Some (id_number kind n)) }
     ensures none { IfNone result (IsNoId kind text.now) }
     // What `id_text` writes is read again.
-    ensures written { (n : ℕ) → n < 2 ^ 64 → text.now ≡ text_of kind n → result ≡ Some n }
+    ensures written { (n : ℕ) → n < 2 ^ 64 → text.now ≡ id_text kind n → result ≡ Some n }
 {
     let Ok(id) = Uuid::parse_str(text) else {
         return None;

@@ -5,7 +5,7 @@ ghost use Rattle.std.specs.Ordering.{nat_cmp};
 ghost use Rattle.std.specs.Cmp.{partial_equiv_from_equiv};
 ghost use Rattle.std.specs.Cmp.Lexicographic.{pointwise, slice_cmp, nat_list_eq_equiv, nat_list_cmp_total, texts_po, texts_ties};
 ghost use Rattle.std.specs.Cmp.Rules.{hashing};
-ghost use Rattle.std.specs.Hash as fed;
+ghost use Rattle.std.specs.Hash;
 ghost use Rattle.std.specs.Prelude.{nat_eq};
 ghost use Rattle.std.specs.String.{string_bytes};
 ghost use Rattle.ns_types.specs.State.Names.{same_name};
@@ -107,7 +107,7 @@ impl Ord for Text {
 }
 
 impl Hash for Text {
-    ghost hash_input = { fed.str };
+    ghost hash_input = { Hash.str };
 
     ghost respects_eq = { Prim.search (hashing, rules) };
 

@@ -11,6 +11,7 @@ use Rattle.ns_types.specs.declared.refusal.Member.TheVariants as Member
 use Rattle.ns_types.specs.declared.refusal.Refusal.TheVariants as Refusal
 use Rattle.ns_types.specs.declared.reply.Content.{Content}
 use Rattle.ns_types.specs.Settling.Making.{put_tenant, put_pool}
+use Rattle.ns_types.specs.Settling.Releases.{changes_limits}
 use Rattle.ns_types.specs.State.Names.{Name, ByName, same_name, has_name, default_name}
 use Rattle.ns_types.specs.Settling.Outcome.{Outcome, Done, unless, found, in_tenant, in_pool}
 use Rattle.ns_types.specs.State.Rows.{World, Tenant, PoolRows, QuotaRows, is_live, is_open}
@@ -104,6 +105,11 @@ delete_namespace name w = in_tenant w name (λ t.
 
 abbrev pub with_quota : Quota → Option QuotaRows → QuotaRows
 with_quota quota old = record { quota = quota; release = option_map_or (λ q. q.release) old 0 }
+
+-- the put changes the limits of a quota that is there
+abbrev pub is_relimited : Name → Quota → World → Bool
+is_relimited name quota w = option_map_or (λ old. changes_limits old (with_quota quota (Some old)))
+    (get w.quotas name) false
 
 unfoldable pub put_quota : Name → Quota → World → Outcome World
 put_quota name quota w =
