@@ -1,3 +1,4 @@
+pub mod Lends
 pub mod Over
 pub mod Series
 pub mod Slots

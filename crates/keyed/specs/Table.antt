@@ -1,8 +1,7 @@
 -- Words on tables: finite maps from keys to slots. A slot has a row, or is vacant: room for a row.
 use Rattle.std.specs.Prelude.{IsTrue, Bool, false, cond, List, [], ◌∷◌, is_some, Option, Some, None}
 use Rattle.std.specs.declared.cmp.Ordering.{Ordering}
-use Rattle.std.specs.FinMap as table
-use Rattle.std.specs.FinMap.{FinMap}
+use Rattle.std.specs.FinMap.{contains_key, entries, FinMap, from_sorted, get, insert, remove}
 
 -- a row behind a slot
 abbrev pub flat : {X : Type 0} → Option (Option X) → Option X
@@ -27,27 +26,27 @@ module _ {K V : Type 0} where
 module _ {K V : Type 0} {R : K → K → Ordering} where
   -- the rows of a table
   unfoldable pub rows : FinMap R (Option V) → FinMap R V
-  rows m = table.from_sorted (row_list (table.entries m))
+  rows m = from_sorted (row_list (entries m))
 
   -- whether a row at the key needs no memory
   abbrev pub has_slot : FinMap R (Option V) → K → Bool
-  has_slot m k = table.contains_key m k
+  has_slot m k = contains_key m k
 
   -- with a slot for the key
   abbrev pub with_slot : FinMap R (Option V) → K → FinMap R (Option V)
-  with_slot m k = cond (has_slot m k) m (table.insert m k None)
+  with_slot m k = cond (has_slot m k) m (insert m k None)
 
   -- with the slot of the key vacant, where there is one
   abbrev pub emptied : FinMap R (Option V) → K → FinMap R (Option V)
-  emptied m k = cond (has_slot m k) (table.insert m k None) m
+  emptied m k = cond (has_slot m k) (insert m k None) m
 
   -- without the slot of the key, where it is vacant
   abbrev pub without_vacant : FinMap R (Option V) → K → FinMap R (Option V)
-  without_vacant m k = cond (is_some (flat (table.get m k))) m (table.remove m k)
+  without_vacant m k = cond (is_some (flat (get m k))) m (remove m k)
 
   -- the row at the key
   abbrev pub row_at : FinMap R (Option V) → K → Option V
-  row_at m k = flat (table.get m k)
+  row_at m k = flat (get m k)
 
   -- no room is lost
   abbrev pub KeepsSlots : FinMap R (Option V) → FinMap R (Option V) → Type 0

@@ -1,6 +1,6 @@
 // Tables by name.
 ghost use Rattle.std.specs.Prelude.{◌≡◌, IsTrue, T, OnOk, OnErr, is_some, option_copied};
-ghost use Rattle.std.specs.FinMap as table;
+ghost use Rattle.std.specs.FinMap.{empty, entries, from_sorted, get, insert, len, remove};
 ghost use Rattle.std.specs.FinMap.Entries.{is_sorted};
 ghost use Rattle.keyed.specs.Table.{rows, row_at, has_slot, with_slot, emptied, without_vacant};
 ghost use Rattle.keyed.specs.Over.{HasRoomFor, over};
@@ -20,27 +20,27 @@ pub struct NameTable<V> {
 impl<V> Model for NameTable<V> {
     ghost use Rattle.std.specs.Prelude.{Option, T};
     ghost use Rattle.std.specs.Coded.{codes};
-    ghost use Rattle.std.specs.FinMap as table;
+    ghost use Rattle.std.specs.FinMap.{FinMap, code, from_sorted};
     ghost use Rattle.std.specs.FinMap.Entries.{is_sorted};
     ghost use Rattle.ns_types.specs.State.Names.{name_cmp};
 
-    ghost Value = { table.FinMap name_cmp (Option V) };
+    ghost Value = { FinMap name_cmp (Option V) };
 
-    ghost coded = { Prim.hlevel (codes, table.code, V.code) };
+    ghost coded = { Prim.hlevel (codes, code, V.code) };
 
-    ghost view = { λ t. table.from_sorted t.slots };
+    ghost view = { λ t. from_sorted t.slots };
 
     ghost invariant = { λ t. T (is_sorted name_cmp t.slots) };
 }
 
 impl<V: Drop> NameTable<V> {
-    ghost use Rattle.std.specs.Borrow.{LendsIf, sem};
+    ghost use Rattle.std.specs.Borrow.{sem};
     ghost use Rattle.std.specs.Option.{option_copied_mut};
-    ghost use Rattle.keyed.specs.contracts.names.NameTable.{the_row};
+    ghost use Rattle.keyed.specs.Lends.{lends_at_name};
 
     /// No slots. It takes no memory.
     pub fn new(alloc: Global) -> NameTable<V>
-        ensures { result ≡ table.empty }
+        ensures { result ≡ empty }
     {
         NameTable {
             slots: Slots::new(alloc),
@@ -49,7 +49,7 @@ impl<V: Drop> NameTable<V> {
 
     /// The slots with their keys, which rise.
     pub fn as_slice(&self) -> &[(Text, Option<V>)]
-        ensures { result.now ≡ table.entries self.now }
+        ensures { result.now ≡ entries self.now }
     {
         self.slots.as_slice()
     }
@@ -57,7 +57,7 @@ impl<V: Drop> NameTable<V> {
     /// A table of slots whose keys rise. It takes no memory.
     pub fn from_slots(slots: Vec<(Text, Option<V>)>) -> NameTable<V>
         requires { T (is_sorted name_cmp slots.items) }
-        ensures { result ≡ table.from_sorted slots.items }
+        ensures { result ≡ from_sorted slots.items }
     {
         NameTable {
             slots: Slots::from_slots(slots),
@@ -66,7 +66,7 @@ impl<V: Drop> NameTable<V> {
 
     /// The slots with their keys, which rise.
     pub fn into_slots(self) -> Vec<(Text, Option<V>)>
-        ensures { result.items ≡ table.entries self }
+        ensures { result.items ≡ entries self }
     {
         let NameTable { slots } = self;
         slots.into_slots()
@@ -74,7 +74,7 @@ impl<V: Drop> NameTable<V> {
 
     /// The number of rows.
     pub fn len(&self) -> usize
-        ensures { result ≡ table.len (rows self.now) }
+        ensures { result ≡ len (rows self.now) }
     {
         self.slots.len()
     }
@@ -88,14 +88,14 @@ impl<V: Drop> NameTable<V> {
 
     /// The slot of `key`, with its row or vacant.
     pub fn slot(&self, key: &Text) -> Option<&Option<V>>
-        ensures { option_copied result ≡ table.get self.now key.now }
+        ensures { option_copied result ≡ get self.now key.now }
     {
         self.slots.slot(key)
     }
 
     /// The row at `key`, to be changed where it stands.
     pub fn get_mut(&mut self, key: &Text) -> Option<&mut V>
-        ensures* writes_back { sem 𝓛 (LendsIf (the_row V.row) V.row self.entry result (λ w. table.insert self.old key.now (Some w)) self.old) }
+        ensures* writes_back { sem 𝓛 (lends_at_name V.row self.entry key.now result) }
         ensures value { option_copied_mut result ≡ row_at self.old key.now }
     {
         self.slots.get_mut(key)
@@ -125,7 +125,7 @@ impl<V: Drop> NameTable<V> {
     /// Writes the row at `key`. It takes no memory.
     pub fn set(&mut self, key: &Text, row: V)
         requires { IsTrue (has_slot self.old key.now) }
-        ensures { self.new ≡ table.insert self.old key.now (Some row) }
+        ensures { self.new ≡ insert self.old key.now (Some row) }
     {
         self.slots.set(key, row);
     }
@@ -140,7 +140,7 @@ impl<V: Drop> NameTable<V> {
 
     /// Takes the slot at `key` out, with its row.
     pub fn remove(&mut self, key: &Text)
-        ensures { self.new ≡ table.remove self.old key.now }
+        ensures { self.new ≡ remove self.old key.now }
     {
         self.slots.remove(key);
     }
@@ -164,7 +164,7 @@ impl<V: Drop> NameTable<V> {
 
     /// The row at `key` with those changes.
     pub fn get_over<'a>(&'a self, changes: &'a NameTable<V>, key: &Text) -> Option<&'a V>
-        ensures { option_copied result ≡ table.get (over (rows self.now) changes.now) key.now }
+        ensures { option_copied result ≡ get (over (rows self.now) changes.now) key.now }
     {
         match changes.slot(key) {
             Some(slot) => slot.as_ref(),

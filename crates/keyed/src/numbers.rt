@@ -1,6 +1,6 @@
 // Tables by number.
 ghost use Rattle.std.specs.Prelude.{◌≡◌, ℕ, IsTrue, T, OnOk, OnErr, is_some, option_copied};
-ghost use Rattle.std.specs.FinMap as table;
+ghost use Rattle.std.specs.FinMap.{empty, entries, from_sorted, get, insert, len, remove};
 ghost use Rattle.std.specs.FinMap.Entries.{is_sorted};
 ghost use Rattle.std.specs.Ordering.{nat_cmp};
 ghost use Rattle.keyed.specs.Table.{rows, row_at, has_slot, with_slot, emptied, without_vacant};
@@ -19,27 +19,27 @@ pub struct NumberTable<V> {
 impl<V> Model for NumberTable<V> {
     ghost use Rattle.std.specs.Prelude.{Option, T};
     ghost use Rattle.std.specs.Coded.{codes};
-    ghost use Rattle.std.specs.FinMap as table;
+    ghost use Rattle.std.specs.FinMap.{FinMap, code, from_sorted};
     ghost use Rattle.std.specs.FinMap.Entries.{is_sorted};
     ghost use Rattle.std.specs.Ordering.{nat_cmp};
 
-    ghost Value = { table.FinMap nat_cmp (Option V) };
+    ghost Value = { FinMap nat_cmp (Option V) };
 
-    ghost coded = { Prim.hlevel (codes, table.code, V.code) };
+    ghost coded = { Prim.hlevel (codes, code, V.code) };
 
-    ghost view = { λ t. table.from_sorted t.slots };
+    ghost view = { λ t. from_sorted t.slots };
 
     ghost invariant = { λ t. T (is_sorted nat_cmp t.slots) };
 }
 
 impl<V: Drop> NumberTable<V> {
-    ghost use Rattle.std.specs.Borrow.{LendsIf, sem};
+    ghost use Rattle.std.specs.Borrow.{sem};
     ghost use Rattle.std.specs.Option.{option_copied_mut};
-    ghost use Rattle.keyed.specs.contracts.numbers.NumberTable.{the_row};
+    ghost use Rattle.keyed.specs.Lends.{lends_at_number};
 
     /// No slots. It takes no memory.
     pub fn new(alloc: Global) -> NumberTable<V>
-        ensures { result ≡ table.empty }
+        ensures { result ≡ empty }
     {
         NumberTable {
             slots: Slots::new(alloc),
@@ -48,7 +48,7 @@ impl<V: Drop> NumberTable<V> {
 
     /// The slots with their keys, which rise.
     pub fn as_slice(&self) -> &[(u64, Option<V>)]
-        ensures { result.now ≡ table.entries self.now }
+        ensures { result.now ≡ entries self.now }
     {
         self.slots.as_slice()
     }
@@ -56,7 +56,7 @@ impl<V: Drop> NumberTable<V> {
     /// A table of slots whose keys rise. It takes no memory.
     pub fn from_slots(slots: Vec<(u64, Option<V>)>) -> NumberTable<V>
         requires { T (is_sorted nat_cmp slots.items) }
-        ensures { result ≡ table.from_sorted slots.items }
+        ensures { result ≡ from_sorted slots.items }
     {
         NumberTable {
             slots: Slots::from_slots(slots),
@@ -65,7 +65,7 @@ impl<V: Drop> NumberTable<V> {
 
     /// The slots with their keys, which rise.
     pub fn into_slots(self) -> Vec<(u64, Option<V>)>
-        ensures { result.items ≡ table.entries self }
+        ensures { result.items ≡ entries self }
     {
         let NumberTable { slots } = self;
         slots.into_slots()
@@ -73,7 +73,7 @@ impl<V: Drop> NumberTable<V> {
 
     /// The number of rows.
     pub fn len(&self) -> usize
-        ensures { result ≡ table.len (rows self.now) }
+        ensures { result ≡ len (rows self.now) }
     {
         self.slots.len()
     }
@@ -87,14 +87,14 @@ impl<V: Drop> NumberTable<V> {
 
     /// The slot of `key`, with its row or vacant.
     pub fn slot(&self, key: u64) -> Option<&Option<V>>
-        ensures { option_copied result ≡ table.get self.now key }
+        ensures { option_copied result ≡ get self.now key }
     {
         self.slots.slot(&key)
     }
 
     /// The row at `key`, to be changed where it stands.
     pub fn get_mut(&mut self, key: u64) -> Option<&mut V>
-        ensures* writes_back { sem 𝓛 (LendsIf (the_row V.row) V.row self.entry result (λ w. table.insert self.old key (Some w)) self.old) }
+        ensures* writes_back { sem 𝓛 (lends_at_number V.row self.entry key result) }
         ensures value { option_copied_mut result ≡ row_at self.old key }
     {
         self.slots.get_mut(&key)
@@ -119,7 +119,7 @@ impl<V: Drop> NumberTable<V> {
     /// Writes the row at `key`. It takes no memory.
     pub fn set(&mut self, key: u64, row: V)
         requires { IsTrue (has_slot self.old key) }
-        ensures { self.new ≡ table.insert self.old key (Some row) }
+        ensures { self.new ≡ insert self.old key (Some row) }
     {
         self.slots.set(&key, row);
     }
@@ -134,7 +134,7 @@ impl<V: Drop> NumberTable<V> {
 
     /// Takes the slot at `key` out, with its row.
     pub fn remove(&mut self, key: u64)
-        ensures { self.new ≡ table.remove self.old key }
+        ensures { self.new ≡ remove self.old key }
     {
         self.slots.remove(&key);
     }
@@ -158,7 +158,7 @@ impl<V: Drop> NumberTable<V> {
 
     /// The row at `key` with those changes.
     pub fn get_over<'a>(&'a self, changes: &'a NumberTable<V>, key: u64) -> Option<&'a V>
-        ensures { option_copied result ≡ table.get (over (rows self.now) changes.now) key }
+        ensures { option_copied result ≡ get (over (rows self.now) changes.now) key }
     {
         match changes.slot(key) {
             Some(slot) => slot.as_ref(),

@@ -13,9 +13,9 @@ pub struct Series<T> {
 }
 
 impl<T> Model for Series<T> {
-    ghost use Rattle.keyed.specs.Series.{Series as Listed, series_of};
+    ghost use Rattle.keyed.specs.Series.{Series, series_of};
 
-    ghost Value = { Listed T };
+    ghost Value = { Series T };
 
     ghost view = { λ s. series_of s.rows };
 }

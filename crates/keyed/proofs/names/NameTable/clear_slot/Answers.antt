@@ -1,5 +1,5 @@
 use Rattle.std.proofs.Common.{◌∙◌, T, sym, ap, subst}
-use Rattle.std.specs.FinMap as table
+use Rattle.std.specs.FinMap.{from_sorted}
 use Rattle.std.specs.FinMap.Entries.{is_sorted}
 use Rattle.ns_types.specs.State.Names.{name_cmp}
 use Rattle.ns_types.proofs.Named.{names, one_name}
@@ -12,5 +12,5 @@ invariant_of-self g c = subst (λ es. T (is_sorted name_cmp es)) (sym c.clear_sl
 
 pub returns : goal.returns
 returns g c =
-    ap table.from_sorted c.clear_slot.ensures ∙ from_sorted-without_vacant names one_name c.args.key.now _ c.self.invariant ∙
+    ap from_sorted c.clear_slot.ensures ∙ from_sorted-without_vacant names one_name c.args.key.now _ c.self.invariant ∙
     ap (λ m. without_vacant m c.args.key.now) c.self.view_is

@@ -1,7 +1,7 @@
 use borrow.Follows.Closed.{read_of}
 use Rattle.std.proofs.Common.{◌∙◌, Some, sym, ap}
 use Rattle.std.specs.Option.{ghost_name_of}
-use Rattle.std.specs.FinMap as table
+use Rattle.std.specs.FinMap.{get-from_sorted, insert}
 use Rattle.std.specs.FinMap.Entries.{is_sorted-put}
 use Rattle.ns_types.specs.State.Names.{name_cmp}
 use Rattle.ns_types.proofs.Named.{names}
@@ -15,11 +15,11 @@ invariant_of-self-lent g c r = ((λ w. is_sorted-put name_cmp names c.args.key.n
 pub returns : goal.returns
 returns g c =
     let written = λ (w : g.row.V.Denot). from_sorted-put names c.args.key.now (Some w) c.self.inside.slots c.self.invariant ∙
-    ap (λ m. table.insert m c.args.key.now (Some w)) c.self.view_is in (
+    ap (λ m. insert m c.args.key.now (Some w)) c.self.view_is in (
       λ t. read_of (ghost_name_of c.get_mut.result) (λ (w : g.row.V.Denot). written w t) (c.self.view_is t),
       record {
         writes_back = tt;
-        value = c.get_mut.ensures.value ∙ ap flat (sym (table.get-from_sorted name_cmp c.self.inside.slots c.args.key.now c.self.invariant)) ∙
+        value = c.get_mut.ensures.value ∙ ap flat (sym (get-from_sorted name_cmp c.self.inside.slots c.args.key.now c.self.invariant)) ∙
             ap (λ m. row_at m c.args.key.now) c.self.view_is;
       },
     )

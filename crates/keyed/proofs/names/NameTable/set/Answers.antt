@@ -1,7 +1,7 @@
 use Rattle.ns_types.specs.State.Names.{name_cmp}
 use Rattle.std.proofs.Common.{◌∙◌, T, Some, sym, ap, subst}
 use Rattle.std.specs.Prelude.{IsTrue, is_some}
-use Rattle.std.specs.FinMap as table
+use Rattle.std.specs.FinMap.{from_sorted, get, get-from_sorted, insert}
 use Rattle.std.specs.FinMap.Entries.{is_sorted, is_sorted-put}
 use Rattle.ns_types.proofs.Named.{names}
 use Rattle.keyed.proofs.Tables.{from_sorted-put}
@@ -9,8 +9,8 @@ use Rattle.keyed.proofs.names.NameTable.set.Goals as goal
 
 pub set-requires : goal.set-requires
 set-requires g c =
-    subst (λ x. IsTrue (is_some x)) (sym (ap (λ m. table.get m c.args.key.now) c.self.view_is) ∙
-    table.get-from_sorted name_cmp _ c.args.key.now c.self.invariant) c.requires
+    subst (λ x. IsTrue (is_some x)) (sym (ap (λ m. get m c.args.key.now) c.self.view_is) ∙
+    get-from_sorted name_cmp _ c.args.key.now c.self.invariant) c.requires
 
 pub invariant_of-self : goal.invariant_of-self
 invariant_of-self g c =
@@ -18,4 +18,4 @@ invariant_of-self g c =
 
 pub returns : goal.returns
 returns g c =
-    ap table.from_sorted c.set.ensures ∙ from_sorted-put names _ _ _ c.self.invariant ∙ ap (λ m. table.insert m c.args.key.now (Some c.args.row)) c.self.view_is
+    ap from_sorted c.set.ensures ∙ from_sorted-put names _ _ _ c.self.invariant ∙ ap (λ m. insert m c.args.key.now (Some c.args.row)) c.self.view_is

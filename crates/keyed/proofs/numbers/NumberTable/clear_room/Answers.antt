@@ -2,7 +2,7 @@ use Rattle.std.specs.Ordering.{nat_cmp}
 use Rattle.keyed.specs.Slots.{is_row}
 use Rattle.std.proofs.Common.{◌∙◌, T, sym, ap, subst}
 use Rattle.std.specs.Prelude.{is_some}
-use Rattle.std.specs.FinMap as table
+use Rattle.std.specs.FinMap.{from_sorted}
 use Rattle.std.specs.FinMap.Entries.{is_sorted}
 use Rattle.ns_types.proofs.Named.{numbers}
 use Rattle.keyed.specs.Table.{rows, has_slot, row_at}
@@ -14,9 +14,9 @@ pub invariant_of-self : goal.invariant_of-self
 invariant_of-self g c = subst (λ es. T (is_sorted nat_cmp es)) (sym c.clear_room.ensures) (is_sorted-filter nat_cmp is_row c.self.inside.slots c.self.invariant)
 
 pub returns-clause-rows : goal.returns-clause-rows
-returns-clause-rows g c = ap (λ es. rows (table.from_sorted es)) c.clear_room.ensures ∙ rows-filled _ c.self.invariant ∙ ap rows c.self.view_is
+returns-clause-rows g c = ap (λ es. rows (from_sorted es)) c.clear_room.ensures ∙ rows-filled _ c.self.invariant ∙ ap rows c.self.view_is
 
 pub returns-clause-slots : goal.returns-clause-slots
 returns-clause-slots g c k =
-    ap (λ es. has_slot (table.from_sorted {R = nat_cmp} es) k) c.clear_room.ensures ∙ has_slot-filled numbers _ c.self.invariant k ∙
+    ap (λ es. has_slot (from_sorted {R = nat_cmp} es) k) c.clear_room.ensures ∙ has_slot-filled numbers _ c.self.invariant k ∙
     ap (λ m. is_some (row_at m k)) c.self.view_is

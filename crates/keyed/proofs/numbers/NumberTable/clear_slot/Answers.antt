@@ -1,5 +1,5 @@
 use Rattle.std.proofs.Common.{◌∙◌, T, sym, ap, subst}
-use Rattle.std.specs.FinMap as table
+use Rattle.std.specs.FinMap.{from_sorted}
 use Rattle.std.specs.FinMap.Entries.{is_sorted}
 use Rattle.std.specs.Ordering.{nat_cmp}
 use Rattle.ns_types.proofs.Named.{numbers, one_number}
@@ -12,5 +12,5 @@ invariant_of-self g c = subst (λ es. T (is_sorted nat_cmp es)) (sym c.clear_slo
 
 pub returns : goal.returns
 returns g c =
-    ap table.from_sorted c.clear_slot.ensures ∙ from_sorted-without_vacant numbers one_number c.args.key _ c.self.invariant ∙
+    ap from_sorted c.clear_slot.ensures ∙ from_sorted-without_vacant numbers one_number c.args.key _ c.self.invariant ∙
     ap (λ m. without_vacant m c.args.key) c.self.view_is

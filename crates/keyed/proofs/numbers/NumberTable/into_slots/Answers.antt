@@ -1,7 +1,7 @@
 use Rattle.std.specs.Ordering.{nat_cmp}
 use Rattle.std.proofs.Common.{◌∙◌, sym, ap}
-use Rattle.std.specs.FinMap as table
+use Rattle.std.specs.FinMap.{entries, entries-from_sorted}
 use Rattle.keyed.proofs.numbers.NumberTable.into_slots.Goals as goal
 
 pub returns : goal.returns
-returns g c = c.into_slots.ensures ∙ sym (table.entries-from_sorted nat_cmp _ c.self.invariant) ∙ ap table.entries c.self.view_is
+returns g c = c.into_slots.ensures ∙ sym (entries-from_sorted nat_cmp _ c.self.invariant) ∙ ap entries c.self.view_is

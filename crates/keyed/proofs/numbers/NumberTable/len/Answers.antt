@@ -1,9 +1,9 @@
 use Rattle.std.proofs.Common.{◌∙◌, ap}
-use Rattle.std.specs.FinMap as table
+use Rattle.std.specs.FinMap.{len}
 use Rattle.ns_types.proofs.Named.{numbers}
 use Rattle.keyed.specs.Table.{rows}
 use Rattle.keyed.proofs.Tables.{len-rows}
 use Rattle.keyed.proofs.numbers.NumberTable.len.Goals as goal
 
 pub returns : goal.returns
-returns g c = c.len.ensures ∙ len-rows numbers _ c.self.invariant ∙ ap (λ m. table.len (rows m)) c.self.view_is
+returns g c = c.len.ensures ∙ len-rows numbers _ c.self.invariant ∙ ap (λ m. len (rows m)) c.self.view_is

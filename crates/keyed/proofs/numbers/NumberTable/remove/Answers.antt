@@ -2,7 +2,7 @@ use Rattle.std.specs.Ordering.{nat_cmp}
 use Rattle.std.specs.Prelude.{not}
 use Rattle.std.specs.Ordering.{eq_by_cmp}
 use Rattle.std.proofs.Common.{◌∙◌, T, sym, ap, subst}
-use Rattle.std.specs.FinMap as table
+use Rattle.std.specs.FinMap.{from_sorted, remove}
 use Rattle.std.specs.FinMap.Entries.{is_sorted}
 use Rattle.ns_types.proofs.Named.{numbers, one_number}
 use Rattle.keyed.proofs.Tables.{from_sorted-without}
@@ -16,4 +16,4 @@ invariant_of-self g c =
 
 pub returns : goal.returns
 returns g c =
-    ap table.from_sorted c.remove.ensures ∙ from_sorted-without numbers one_number _ _ c.self.invariant ∙ ap (λ m. table.remove m c.args.key) c.self.view_is
+    ap from_sorted c.remove.ensures ∙ from_sorted-without numbers one_number _ _ c.self.invariant ∙ ap (λ m. remove m c.args.key) c.self.view_is

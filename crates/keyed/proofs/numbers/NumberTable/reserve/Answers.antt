@@ -1,5 +1,5 @@
 use Rattle.std.proofs.Common.{◌∙◌, T, sym, ap, subst}
-use Rattle.std.specs.FinMap as table
+use Rattle.std.specs.FinMap.{from_sorted}
 use Rattle.std.specs.FinMap.Entries.{is_sorted}
 use Rattle.std.specs.Ordering.{nat_cmp}
 use Rattle.ns_types.proofs.Named.{numbers}
@@ -12,5 +12,5 @@ invariant_of-self-2 g c = subst (λ es. T (is_sorted nat_cmp es)) (sym c.in_ok-r
 
 pub returns-clause-ok : goal.returns-clause-ok
 returns-clause-ok g c =
-    ap table.from_sorted c.in_ok-reserve.ensures.ok ∙ from_sorted-with_slot numbers c.args.key _ c.self.invariant ∙
+    ap from_sorted c.in_ok-reserve.ensures.ok ∙ from_sorted-with_slot numbers c.args.key _ c.self.invariant ∙
     ap (λ m. with_slot m c.args.key) c.self.view_is

@@ -1,5 +1,5 @@
 use Rattle.std.proofs.Common.{◌∙◌, T, sym, ap, subst}
-use Rattle.std.specs.FinMap as table
+use Rattle.std.specs.FinMap.{from_sorted, get-from_sorted}
 use Rattle.std.specs.FinMap.Entries.{is_sorted}
 use Rattle.std.specs.Ordering.{nat_cmp}
 use Rattle.ns_types.proofs.Named.{numbers}
@@ -11,9 +11,9 @@ pub invariant_of-self : goal.invariant_of-self
 invariant_of-self g c = subst (λ es. T (is_sorted nat_cmp es)) (sym c.take.ensures.slots) (sorted-emptied numbers c.args.key _ c.self.invariant)
 
 pub returns-clause-row : goal.returns-clause-row
-returns-clause-row g c = c.take.ensures.row ∙ ap flat (sym (table.get-from_sorted nat_cmp _ c.args.key c.self.invariant)) ∙
+returns-clause-row g c = c.take.ensures.row ∙ ap flat (sym (get-from_sorted nat_cmp _ c.args.key c.self.invariant)) ∙
     ap (λ m. row_at m c.args.key) c.self.view_is
 
 pub returns-clause-slots : goal.returns-clause-slots
 returns-clause-slots g c =
-    ap table.from_sorted c.take.ensures.slots ∙ from_sorted-emptied numbers c.args.key _ c.self.invariant ∙ ap (λ m. emptied m c.args.key) c.self.view_is
+    ap from_sorted c.take.ensures.slots ∙ from_sorted-emptied numbers c.args.key _ c.self.invariant ∙ ap (λ m. emptied m c.args.key) c.self.view_is
