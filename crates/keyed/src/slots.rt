@@ -58,9 +58,9 @@ fn count_rows<K, V>(slots: &[(K, Option<V>)]) -> usize
 }
 
 impl<K: Ord + Drop, V: Drop> Slots<K, V> {
-    ghost use Rattle.std.specs.Borrow.{LendsIf, sem};
+    ghost use Rattle.std.specs.Borrow.{sem};
     ghost use Rattle.std.specs.Option.{option_copied_mut};
-    ghost use Rattle.keyed.specs.contracts.slots.Slots.{the_row};
+    ghost use Rattle.keyed.specs.Lends.{lends_at_key};
 
     pub(crate) fn new(alloc: Global) -> Slots<K, V>
         ensures { result ≡ [] }
@@ -133,7 +133,7 @@ impl<K: Ord + Drop, V: Drop> Slots<K, V> {
 
     /// The row at `key`, to be changed where it stands.
     pub(crate) fn get_mut(&mut self, key: &K) -> Option<&mut V>
-        ensures* writes_back { sem 𝓛 (LendsIf (the_row K.row V.row (record { cmp = K.cmp }) (record { eq = K.eq }) (record { partial_cmp = K.partial_cmp })) V.row self.entry result (λ w. put K.cmp key.now (Some w) self.old) self.old) }
+        ensures* writes_back { sem 𝓛 (lends_at_key K.row V.row K.Ord self.entry key.now result) }
         ensures value { option_copied_mut result ≡ row K.cmp key.now self.old }
     {
         let Ok(i) = self.place(key) else {

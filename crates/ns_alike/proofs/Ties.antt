@@ -8,12 +8,6 @@ use Rattle.ns_types.specs.State.Names.{same_name, same_number}
 use Rattle.ns_types.proofs.Lists.{not_both}
 use Rattle.ns_types.proofs.Named.{same_name_is, same_name_refl}
 
-pub text_ties : (a b : List ℕ) → pointwise nat_eq a b ≡ same_name a b
-text_ties a b = texts_ties a b
-
-pub number_ties : (a b : ℕ) → (a == b) ≡ same_number a b
-number_ties a b = unsigned_ties a b
-
 -- a text between two others is the same where the whole is
 pub between : (pre post a b : List ℕ) → same_name (pre ++ a ++ post) (pre ++ b ++ post) ≡ same_name a b
 between pre post a b = by (same_name a b) refl

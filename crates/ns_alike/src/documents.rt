@@ -3,13 +3,14 @@
 ghost use Rattle.std.specs.Prelude.{◌≡◌};
 ghost use Rattle.std.specs.Cmp.Lexicographic.{pointwise};
 ghost use Rattle.ns_types.specs.State.Names.{same_name};
-ghost use Rattle.ns_types.specs.Settling.Same.{same_constraint as constraint_is, same_task as task_is, same_group as group_is, same_document as document_is};
+ghost use Rattle.ns_types.specs.Settling.Same.{same_constraint, same_document, same_group, same_task};
 ghost use Rattle.ns_types.specs.Wire.Words.{operand_text, target_text};
 
-use crate::keys::{same_number, same_text};
+use crate::keys::same_number;
 use crate::offers::same_resources;
 use crate::rows::same_kind;
 use ns_types::job::{Constraint, Document, Group, Operand, Target, Task};
+use ns_types::text::same_text;
 
 fn same_operand(a: Operand, b: Operand) -> bool
     ensures { result ≡ same_name (operand_text a) (operand_text b) }
@@ -31,7 +32,7 @@ fn same_target(a: &Target, b: &Target) -> bool
 }
 
 fn same_constraint(a: &Constraint, b: &Constraint) -> bool
-    ensures { result ≡ constraint_is a.now b.now }
+    ensures { result ≡ same_constraint a.now b.now }
 {
     same_target(&a.target, &b.target)
         && same_operand(a.operand, b.operand)
@@ -39,13 +40,13 @@ fn same_constraint(a: &Constraint, b: &Constraint) -> bool
 }
 
 fn same_task(a: &Task, b: &Task) -> bool
-    ensures { result ≡ task_is a.now b.now }
+    ensures { result ≡ same_task a.now b.now }
 {
     same_text(&a.name, &b.name) && same_resources(a.resources, b.resources)
 }
 
 fn same_tasks(a: &[Task], b: &[Task]) -> bool
-    ensures { result ≡ pointwise task_is a.now b.now }
+    ensures { result ≡ pointwise same_task a.now b.now }
 {
     match (a, b) {
         ([], []) => true,
@@ -57,7 +58,7 @@ fn same_tasks(a: &[Task], b: &[Task]) -> bool
 }
 
 fn same_group(a: &Group, b: &Group) -> bool
-    ensures { result ≡ group_is a.now b.now }
+    ensures { result ≡ same_group a.now b.now }
 {
     same_text(&a.name, &b.name)
         && same_number(a.count, b.count)
@@ -65,7 +66,7 @@ fn same_group(a: &Group, b: &Group) -> bool
 }
 
 fn same_groups(a: &[Group], b: &[Group]) -> bool
-    ensures { result ≡ pointwise group_is a.now b.now }
+    ensures { result ≡ pointwise same_group a.now b.now }
 {
     match (a, b) {
         ([], []) => true,
@@ -77,7 +78,7 @@ fn same_groups(a: &[Group], b: &[Group]) -> bool
 }
 
 fn same_constraints(a: &[Constraint], b: &[Constraint]) -> bool
-    ensures { result ≡ pointwise constraint_is a.now b.now }
+    ensures { result ≡ pointwise same_constraint a.now b.now }
 {
     match (a, b) {
         ([], []) => true,
@@ -90,7 +91,7 @@ fn same_constraints(a: &[Constraint], b: &[Constraint]) -> bool
 
 /// Whether the documents are equal in every member.
 pub fn same_document(a: &Document, b: &Document) -> bool
-    ensures { result ≡ document_is a.now b.now }
+    ensures { result ≡ same_document a.now b.now }
 {
     same_kind(a.kind, b.kind)
         && same_number(a.priority, b.priority)

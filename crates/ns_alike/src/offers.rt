@@ -4,22 +4,22 @@ ghost use Rattle.std.specs.Prelude.{◌≡◌, not, filter, IfOk};
 ghost use Rattle.std.specs.Cmp.Lexicographic.{pointwise};
 ghost use Rattle.std.specs.List.{list_any};
 ghost use Rattle.std.specs.Ordering.{eq_by_cmp};
-ghost use Rattle.ns_types.specs.State.Names.{attribute_cmp, has_class as has_entry, same_class as class_is};
-ghost use Rattle.ns_types.specs.Settling.Releases.{can_use as can_use_it, same_offer as offer_is};
-ghost use Rattle.ns_types.specs.State.Resources.{same_resources as resources_are};
-ghost use Rattle.ns_types.specs.State.Rows.{class_of as class_is_of, is_free as takes, is_unique as is_unique_key};
+ghost use Rattle.ns_types.specs.State.Names.{attribute_cmp, has_class, same_class};
+ghost use Rattle.ns_types.specs.Settling.Releases.{can_use, same_offer};
+ghost use Rattle.ns_types.specs.State.Resources.{same_resources};
+ghost use Rattle.ns_types.specs.State.Rows.{class_of, is_free, is_unique};
 
-use crate::keys::{same_number, same_text};
+use crate::keys::same_number;
 use ns_types::evaluation::Evaluation;
 use ns_types::node::{Attribute, Class, Node, NodeStatus, Offer};
 use ns_types::resources::Resources;
 use ns_types::rows::Rows;
-use ns_types::text::Text;
+use ns_types::text::{Text, same_text};
 use std::alloc::{AllocError, Global};
 
 /// Whether the amounts are equal.
 pub fn same_resources(a: Resources, b: Resources) -> bool
-    ensures { result ≡ resources_are a b }
+    ensures { result ≡ same_resources a b }
 {
     same_number(a.cpu, b.cpu) && same_number(a.memory, b.memory)
 }
@@ -46,27 +46,27 @@ fn same_attributes(a: &[Attribute], b: &[Attribute]) -> bool
 /// Whether the classes are equal.
 #[tactic(auto, using(crate::proofs::Equal::class_ties))]
 pub fn same_class(a: &Class, b: &Class) -> bool
-    ensures { result ≡ class_is a.now b.now }
+    ensures { result ≡ same_class a.now b.now }
 {
     same_text(&a.name, &b.name) && same_attributes(a.attributes.as_slice(), b.attributes.as_slice())
 }
 
 fn has_class(classes: &[Class], class: &Class) -> bool
-    ensures { result ≡ has_entry classes.now class.now }
+    ensures { result ≡ has_class classes.now class.now }
 {
     classes.iter().any(|other| same_class(class, other))
 }
 
 /// Whether room on such a node may serve the evaluation.
 pub fn can_use(evaluation: &Evaluation, class: &Class) -> bool
-    ensures { result ≡ can_use_it evaluation.now class.now }
+    ensures { result ≡ can_use evaluation.now class.now }
 {
     evaluation.escapes || !has_class(evaluation.infeasible.as_slice(), class)
 }
 
 /// Whether the offers are equal.
 pub fn same_offer(a: &Offer, b: &Offer) -> bool
-    ensures { result ≡ offer_is a.now b.now }
+    ensures { result ≡ same_offer a.now b.now }
 {
     same_text(&a.class, &b.class)
         && same_attributes(a.attributes.as_slice(), b.attributes.as_slice())
@@ -75,7 +75,7 @@ pub fn same_offer(a: &Offer, b: &Offer) -> bool
 
 /// Whether the node may take allocations.
 pub fn is_free(node: &Node) -> bool
-    ensures { result ≡ takes node.now }
+    ensures { result ≡ is_free node.now }
 {
     match node.status {
         NodeStatus::Ready => node.eligible,
@@ -84,13 +84,13 @@ pub fn is_free(node: &Node) -> bool
 }
 
 fn is_unique(key: &Text) -> bool
-    ensures { result ≡ is_unique_key key.now }
+    ensures { result ≡ is_unique key.now }
 {
     key.as_str().as_bytes().starts_with(b"unique.")
 }
 
 fn shared_attributes(alloc: Global, attributes: &[Attribute]) -> Result<Rows<Attribute>, AllocError>
-    ensures { IfOk result (λ rows. rows ≡ filter (λ a. not (is_unique_key a.key)) attributes.now) }
+    ensures { IfOk result (λ rows. rows ≡ filter (λ a. not (is_unique a.key)) attributes.now) }
 {
     let mut rows = Rows::new(alloc);
     for attribute in attributes {
@@ -103,7 +103,7 @@ fn shared_attributes(alloc: Global, attributes: &[Attribute]) -> Result<Rows<Att
 
 /// The class of a node, with all attributes that are not unique.
 pub fn class_of(alloc: Global, node: &Node) -> Result<Class, AllocError>
-    ensures { IfOk result (λ class. class ≡ class_is_of node.now) }
+    ensures { IfOk result (λ class. class ≡ class_of node.now) }
 {
     Ok(Class {
         name: node.offer.class.clone()?,

@@ -2,18 +2,18 @@
 
 ghost use Rattle.std.specs.Prelude.{◌≡◌, ◌&&◌, option_copied};
 ghost use Rattle.std.specs.Option.{option_eq};
-ghost use Rattle.ns_types.specs.State.Names.{same_name, same_number as number_is};
-ghost use Rattle.ns_types.specs.State.Resources.{same_resources as resources_are};
-ghost use Rattle.ns_types.specs.Settling.Same.{same_allocation as allocation_is, same_document as document_is, same_evaluation as evaluation_is, same_flag as flag_is, same_job as job_is};
+ghost use Rattle.ns_types.specs.State.Names.{same_name, same_number};
+ghost use Rattle.ns_types.specs.State.Resources.{same_resources};
+ghost use Rattle.ns_types.specs.Settling.Same.{same_allocation, same_evaluation, same_flag, same_job};
 ghost use Rattle.ns_types.specs.Wire.Words.{client_text, desired_text, kind_text, status_text, trigger_text};
 
 use crate::documents::same_document;
-use crate::keys::{same_number, same_text};
+use crate::keys::same_number;
 use crate::offers::same_resources;
 use ns_types::allocation::{Allocation, ClientStatus, DesiredStatus};
 use ns_types::evaluation::{Evaluation, Status, Trigger};
 use ns_types::job::{Job, JobKind};
-use ns_types::text::Text;
+use ns_types::text::{Text, same_text};
 
 pub fn same_kind(a: JobKind, b: JobKind) -> bool
     ensures { result ≡ same_name (kind_text a) (kind_text b) }
@@ -25,7 +25,7 @@ pub fn same_kind(a: JobKind, b: JobKind) -> bool
 }
 
 pub fn same_flag(a: bool, b: bool) -> bool
-    ensures { result ≡ flag_is a b }
+    ensures { result ≡ same_flag a b }
 {
     if a { b } else { !b }
 }
@@ -58,7 +58,7 @@ fn same_trigger(a: Trigger, b: Trigger) -> bool
 }
 
 fn same_optional_number(a: Option<u64>, b: Option<u64>) -> bool
-    ensures { result ≡ option_eq number_is a b }
+    ensures { result ≡ option_eq same_number a b }
 {
     match (a, b) {
         (None, None) => true,
@@ -79,7 +79,7 @@ fn same_optional_text(a: Option<&Text>, b: Option<&Text>) -> bool
 
 /// Whether what an evaluation is made for is the same of both.
 fn same_cause(a: &Evaluation, b: &Evaluation) -> bool
-    ensures { result ≡ (same_name a.now.job b.now.job && same_name (kind_text a.now.kind) (kind_text b.now.kind) && number_is a.now.priority b.now.priority && same_name a.now.pool b.now.pool && same_name (trigger_text a.now.trigger) (trigger_text b.now.trigger)) }
+    ensures { result ≡ (same_name a.now.job b.now.job && same_name (kind_text a.now.kind) (kind_text b.now.kind) && same_number a.now.priority b.now.priority && same_name a.now.pool b.now.pool && same_name (trigger_text a.now.trigger) (trigger_text b.now.trigger)) }
 {
     same_text(&a.job, &b.job)
         && same_kind(a.kind, b.kind)
@@ -90,7 +90,7 @@ fn same_cause(a: &Evaluation, b: &Evaluation) -> bool
 
 /// Whether what became of them is the same of both.
 fn same_course(a: &Evaluation, b: &Evaluation) -> bool
-    ensures { result ≡ (same_name (status_text a.now.status) (status_text b.now.status) && option_eq number_is a.now.previous b.now.previous && option_eq number_is a.now.follower b.now.follower && option_eq same_name a.now.quota b.now.quota && flag_is a.now.escapes b.now.escapes) }
+    ensures { result ≡ (same_name (status_text a.now.status) (status_text b.now.status) && option_eq same_number a.now.previous b.now.previous && option_eq same_number a.now.follower b.now.follower && option_eq same_name a.now.quota b.now.quota && same_flag a.now.escapes b.now.escapes) }
 {
     same_status(a.status, b.status)
         && same_optional_number(a.previous, b.previous)
@@ -101,7 +101,7 @@ fn same_course(a: &Evaluation, b: &Evaluation) -> bool
 
 /// Whether replies show the same of both.
 pub fn same_evaluation(a: &Evaluation, b: &Evaluation) -> bool
-    ensures { result ≡ evaluation_is a.now b.now }
+    ensures { result ≡ same_evaluation a.now b.now }
 {
     let cause = same_cause(a, b);
     let course = same_course(a, b);
@@ -111,7 +111,7 @@ pub fn same_evaluation(a: &Evaluation, b: &Evaluation) -> bool
 /// Whether replies show the same of both.
 #[tactic(auto, unfolding(ns_types::specs::Settling::Same::same_job))]
 pub fn same_job(a: &Job, b: &Job) -> bool
-    ensures { result ≡ job_is a.now b.now }
+    ensures { result ≡ same_job a.now b.now }
 {
     same_document(&a.document, &b.document)
         && same_flag(a.stop, b.stop)
@@ -144,7 +144,7 @@ fn same_client(a: ClientStatus, b: ClientStatus) -> bool
 
 /// Whether both are of one place.
 fn same_place(a: &Allocation, b: &Allocation) -> bool
-    ensures { result ≡ (same_name a.now.job b.now.job && same_name a.now.group b.now.group && number_is a.now.evaluation b.now.evaluation && same_name a.now.pool b.now.pool && same_name a.now.node b.now.node) }
+    ensures { result ≡ (same_name a.now.job b.now.job && same_name a.now.group b.now.group && same_number a.now.evaluation b.now.evaluation && same_name a.now.pool b.now.pool && same_name a.now.node b.now.node) }
 {
     same_text(&a.job, &b.job)
         && same_text(&a.group, &b.group)
@@ -155,7 +155,7 @@ fn same_place(a: &Allocation, b: &Allocation) -> bool
 
 /// Whether what they take, and what became of them, is the same of both.
 fn same_fate(a: &Allocation, b: &Allocation) -> bool
-    ensures { result ≡ (resources_are a.now.size b.now.size && number_is a.now.priority b.now.priority && number_is a.now.job_modify_index b.now.job_modify_index && same_name (desired_text a.now.desired) (desired_text b.now.desired) && same_name (client_text a.now.client) (client_text b.now.client)) }
+    ensures { result ≡ (same_resources a.now.size b.now.size && same_number a.now.priority b.now.priority && same_number a.now.job_modify_index b.now.job_modify_index && same_name (desired_text a.now.desired) (desired_text b.now.desired) && same_name (client_text a.now.client) (client_text b.now.client)) }
 {
     same_resources(a.size, b.size)
         && same_number(a.priority, b.priority)
@@ -166,7 +166,7 @@ fn same_fate(a: &Allocation, b: &Allocation) -> bool
 
 /// Whether replies show the same of both.
 pub fn same_allocation(a: &Allocation, b: &Allocation) -> bool
-    ensures { result ≡ allocation_is a.now b.now }
+    ensures { result ≡ same_allocation a.now b.now }
 {
     let place = same_place(a, b);
     let fate = same_fate(a, b);
