@@ -1,6 +1,6 @@
 -- Rows that are changed one by one, where they stand.
 use Rattle.std.specs.Prelude.{◌≡◌, ℕ, ◌≤◌, T, List, ◌++◌, map, length}
-use Rattle.std.proofs.Common.{refl, sym, ap, subst, ◌∙◌, take, drop, Ordering}
+use Rattle.std.proofs.Common.{sym, ap, subst, ◌∙◌, take, drop, Ordering}
 use Rattle.std.proofs.Math.ListN.{drop_of_length-le}
 use Rattle.std.proofs.Math.Seq.{drop-length, take-length}
 use Rattle.std.proofs.lemmas.List.{append-nil, take-append-drop}

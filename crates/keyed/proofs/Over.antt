@@ -1,13 +1,12 @@
 -- What stands in a table with changed rows over it, and that tests and choices of rows ask the changed rows alone.
-use Rattle.std.specs.Prelude.{◌≡◌, Bool, true, false, cond, not, List, [], ◌∷◌, ◌++◌, map, Option, Some, None, ◌&&◌, ◌||◌, option_map, is_some, filter}
+use Rattle.std.specs.Prelude.{◌≡◌, Bool, true, false, cond, not, List, [], ◌∷◌, map, Option, Some, None, ◌&&◌, ◌||◌, option_map, is_some, filter}
 use Rattle.std.specs.Prelude.{unwrap_or}
 use Rattle.std.proofs.Common.{refl, sym, ap, ◌∙◌, Ordering}
 use Rattle.std.specs.Option.{option_or, option_map_or}
 use Rattle.std.specs.Ordering.{eq_by_cmp}
 use Rattle.std.specs.Cmp.{IsTotalOrder}
 use Rattle.std.specs.FinMap.{FinMap, IsAntisymmetric, entries, same_map, get, get-insert, get-remove, get-empty, insert, remove, empty, retain_keys}
-use Rattle.std.specs.FinMap.{contains_key, keys, from_entries, get-entries, get-from_entries}
-use Rattle.std.specs.FinMap.Entries.{find}
+use Rattle.std.specs.FinMap.{contains_key, keys}
 use Rattle.keyed.specs.Table.{flat, rows, row_list}
 use Rattle.keyed.proofs.Tables.{get-rows, entries-rows}
 use Rattle.ns_types.specs.State.Tables.{map_rows, any_row, table_of}

@@ -19,7 +19,7 @@ module _ (V : RattleType) where
 
 -- the order of keys, as a bound on their type gives it
 abbrev pub Order : Type 0 → Type 0
-Order K = record {partial_cmp : K → K → Option Ordering; eq : K → K → Bool; cmp : K → K → Ordering}
+Order K = record { partial_cmp : K → K → Option Ordering; eq : K → K → Bool; cmp : K → K → Ordering }
 
 module _ (K V : RattleType) (order : Order K.Denot) where
   abbrev slots_row : RattleType

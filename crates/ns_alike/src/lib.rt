@@ -9,6 +9,6 @@ mod rows;
 
 pub use documents::same_document;
 pub use keys::{has_key, has_name, same_key, same_number};
-pub use offers::{can_use, class_of, is_free, same_class, same_offer, same_resources};
 pub use ns_types::text::same_text;
+pub use offers::{can_use, class_of, is_free, same_class, same_offer, same_resources};
 pub use rows::{same_allocation, same_evaluation, same_job};

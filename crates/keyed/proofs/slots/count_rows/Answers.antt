@@ -1,5 +1,4 @@
-use Rattle.std.proofs.Common.{◌≡◌, ◌+◌, ◌≤◌, arith, sym, ap, ◌∙◌, length, take}
-use Rattle.keyed.specs.Table.{row_list}
+use Rattle.std.proofs.Common.{◌≡◌, arith, sym, ◌∙◌}
 use Rattle.keyed.proofs.Counted.{counted-more, size, size_none, size_some}
 use Rattle.keyed.proofs.slots.count_rows.Goals as goal
 use Rattle.keyed.proofs.slots.count_rows.Goals.{then-is_some, else-is_some}
