@@ -1,4 +1,5 @@
 pub mod Alike
+pub mod Classes
 pub mod Elements
 pub mod Ids
 pub mod Lists

@@ -31,7 +31,8 @@ use Rattle.ns_types.proofs.TableRows.{row_of_insert, row_of_remove}
 use Rattle.ns_audit.proofs.ValidRecords.Statement.{IsGoodPool}
 use Rattle.ns_audit.proofs.Outcomes.{Leads, leads_unless, leads_found}
 use Rattle.ns_audit.proofs.ValidRecords.Sound.{kept_of, Names, IsFoundRecord, IsGoodKept, IsRecorded, IsNearKept, IsNear, near_first}
-use Rattle.ns_audit.proofs.ValidRecords.Tables.{list_all_of, len_removed, len_room, still_there, there_but, values_pass, by_class, one_class}
+use Rattle.ns_audit.proofs.ValidRecords.Tables.{list_all_of, len_removed, len_room, still_there, there_but, values_pass}
+use Rattle.ns_types.proofs.Classes.{by_class, one_class}
 
 -- what holds of each of a list, but of those that are gone, which it does not name
 all_but : (gone f g : Name → Bool) → ((q : Name) → gone q ≡ false → f q ≡ true → g q ≡ true) → (xs : List Name) → list_any gone xs ≡ false →

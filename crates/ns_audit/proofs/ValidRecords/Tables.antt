@@ -113,25 +113,3 @@ len_room m k v most le room = subst (λ n. n ≤ most) (sym (len-insert names m 
     by : (b : Bool) → (not b && nat_le most (len m)) ≡ false → cond b (len m) (len m + 1) ≤ most
     by true e = le
     by false e = below most (len m) e
-
--- ---- classes
-
--- where one order after another ties, both tie
-both_equal : (r s : Ordering) → ordering_then r s ≡ Equal → (r ≡ Equal) × (s ≡ Equal)
-both_equal Less s e = absurd (subst (λ r. T (is_eq r)) (sym e) tt)
-both_equal Equal s e = (refl, e)
-both_equal Greater s e = absurd (subst (λ r. T (is_eq r)) (sym e) tt)
-
-one_attribute : IsAntisymmetric attribute_cmp
-one_attribute a b e = let t = both_equal (name_cmp a.key b.key) (name_cmp a.value b.value) e in
-    λ i. record { key = one_name a.key b.key t.0 i; value = one_name a.value b.value t.1 i }
-
-pub by_class : IsTotalOrder class_cmp
-by_class = then_total (on_total (λ (c : Class). c.name) names)
-    (on_total (λ (c : Class). c.attributes) (lists_total
-    (then_total (on_total (λ (a : Attribute). a.key) names) (on_total (λ (a : Attribute). a.value) names))))
-
-pub one_class : IsAntisymmetric class_cmp
-one_class a b e =
-    let t = both_equal (name_cmp a.name b.name) (slice_cmp attribute_cmp a.attributes b.attributes) e in
-    λ i. record { name = one_name a.name b.name t.0 i; attributes = slice_cmp-IsAntisymmetric one_attribute a.attributes b.attributes t.1 i }

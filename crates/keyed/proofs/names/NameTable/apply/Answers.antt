@@ -1,7 +1,8 @@
 use Rattle.std.proofs.Common.{sym, ◌∙◌}
 use Rattle.keyed.specs.Table.{rows}
 use Rattle.ns_types.proofs.Named.{names, one_name}
-use Rattle.keyed.proofs.Applying.{all_left, empty_by, next_room, none_left, row_gone, row_put}
+use Rattle.ns_types.proofs.TableRows.{no_entries}
+use Rattle.keyed.proofs.Applying.{all_left, next_room, none_left, row_gone, row_put}
 use Rattle.keyed.proofs.names.NameTable.apply.Goals as goal
 use Rattle.keyed.proofs.names.NameTable.apply.Goals.{in-Some-slot, in-None-slot}
 
@@ -22,4 +23,4 @@ loop-key-preserved g c = elim c.match-slot.branch [
 
 pub returns : goal.returns
 returns g c = none_left names one_name c.loop-key.self _ (rows c.args.self.now) c.args.changes
-    (empty_by _ (sym c.loop-key.key-iterator.rest.ok.0 ∙ c.in-None.ensures.steps.0)) c.loop-key.invariant
+    (no_entries _ (sym c.loop-key.key-iterator.rest.ok.0 ∙ c.in-None.ensures.steps.0)) c.loop-key.invariant

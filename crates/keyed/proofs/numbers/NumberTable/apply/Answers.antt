@@ -1,7 +1,8 @@
 use Rattle.std.proofs.Common.{sym, ◌∙◌}
 use Rattle.keyed.specs.Table.{rows}
 use Rattle.ns_types.proofs.Named.{numbers, one_number}
-use Rattle.keyed.proofs.Applying.{all_left, empty_by, next_room, none_left, row_gone, row_put}
+use Rattle.ns_types.proofs.TableRows.{no_entries}
+use Rattle.keyed.proofs.Applying.{all_left, next_room, none_left, row_gone, row_put}
 use Rattle.keyed.proofs.numbers.NumberTable.apply.Goals as goal
 
 pub set-requires : goal.set-requires
@@ -21,4 +22,4 @@ loop-key-preserved g c = row_gone numbers one_number c.loop-key.self c.remove.ne
 
 pub returns : goal.returns
 returns g c = none_left numbers one_number c.loop-key.self _ (rows c.args.self.now) c.args.changes
-    (empty_by _ (sym c.loop-key.key-iterator.rest.ok.0 ∙ c.in-None.ensures.steps.0)) c.loop-key.invariant
+    (no_entries _ (sym c.loop-key.key-iterator.rest.ok.0 ∙ c.in-None.ensures.steps.0)) c.loop-key.invariant
