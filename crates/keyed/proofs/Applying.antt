@@ -1,6 +1,6 @@
 -- Changed rows that are put one by one.
 use Rattle.std.specs.Prelude.{◌≡◌, ℕ, ◌+◌, ◌<◌, ◌++◌, Bool, true, false, cond, T, List, [], ◌∷◌, Option, Some, None, fold, length, unwrap_or, IsTrue, is_some}
-use Rattle.std.proofs.Common.{refl, sym, ap, ◌∙◌, subst, Ordering, arith, add-one, take, get_or}
+use Rattle.std.proofs.Common.{refl, sym, ap, ◌∙◌, subst, Ordering, add-one, take, get_or}
 use Rattle.std.proofs.Math.Seq.{take-suc}
 use Rattle.std.specs.Ordering.{eq_by_cmp, is_eq}
 use Rattle.std.specs.Cmp.{IsTotalOrder, eq_by_cmp_equiv}
