@@ -12,55 +12,33 @@ use Rattle.ns_types.specs.Asking.Policies.{bootstrap_accessor, create_token, del
 use Rattle.ns_types.specs.Asking.Policies.{token_of}
 use Rattle.ns_types.specs.Asking.Admins.{is_full, most_rows}
 use Rattle.ns_types.specs.State.Names.{Name, same_name}
-use Rattle.ns_types.specs.Settling.Outcome.{Changes, Outcome, Done, Refused, found, is_done, unless}
+use Rattle.ns_types.specs.Settling.Outcome.{Outcome, Done, Refused, found, unless}
+use Rattle.ns_types.proofs.Outcomes.{found_absent, found_there, unless_not, unless_so}
 use Rattle.ns_types.specs.State.Rows.{Acl}
-
-found_none : {S A : Type 0} (x : Option A) (go : A → Outcome S) → is_some x ≡ false → found x go ≡ Refused Refusal.NotFound
-found_none None go e = refl
-found_none (Some x) go e = absurd (subst T e tt)
-
-found_some : {S A : Type 0} (x : Option A) (o : Outcome S) → is_some x ≡ true → found x (λ _. o) ≡ o
-found_some None o e = absurd (subst T (sym e) tt)
-found_some (Some x) o e = refl
-
-module _ {S : Type 0} where
-  -- want of memory, where the change would have been made
-  pub memory_last : (o : Outcome S) (s s' : S) (result : Result Content Refusal) → IsErrAnd result (λ refusal. refusal ≡ Refusal.Memory)
-      → is_done o ≡ true → s' ≡ s → Changes o s result s'
-  memory_last o s s' (Ok content) e done same = absurd e
-  memory_last o s s' (Err refusal) e done same = subst (λ refusal. Changes o s (Err refusal) s') (sym e) (done, same)
-
-  refuses : {b : Bool} → b ≡ true → (rest : Outcome S) (refusal : _) → unless b refusal rest ≡ Refused refusal
-  unfolding unless
-  refuses e rest refusal = ap (λ b. unless b refusal rest) e
-
-  passes : {b : Bool} → b ≡ false → (rest : Outcome S) (refusal : _) → unless b refusal rest ≡ rest
-  unfolding unless
-  passes e rest refusal = ap (λ b. unless b refusal rest) e
 
 module _ (acl : Acl) where
   module _ (name : Name) where
     pub read_nothing : get acl.policies name ≡ None → read_policy name acl ≡ Refused Refusal.NotFound
-    read_nothing e = found_none (get acl.policies name) (λ policy. Done (Content.Policy (record { name = name; row = policy })) acl) (ap is_some e)
+    read_nothing e = found_absent (get acl.policies name) (λ policy. Done (Content.Policy (record { name = name; row = policy })) acl) (ap is_some e)
 
     pub read_done : (policy : Policy) → get acl.policies name ≡ Some policy →
         read_policy name acl ≡ Done (Content.Policy (record { name = name; row = policy })) acl
     read_done policy e = ap (λ x. found x (λ policy. Done (Content.Policy (record { name = name; row = policy })) acl)) e
 
     pub put_full : (policy : Policy) → is_full acl.policies name ≡ true → put_policy name policy acl ≡ Refused Refusal.Full
-    put_full policy e = refuses e (Done Content.Written (record acl { policies = insert acl.policies name policy })) Refusal.Full
+    put_full policy e = unless_so _ Refusal.Full (Done Content.Written (record acl { policies = insert acl.policies name policy })) e
 
     pub put_done : (policy : Policy) (new : Acl) → is_full acl.policies name ≡ false → new.policies ≡ insert acl.policies name policy → new.tokens ≡ acl.tokens
         → put_policy name policy acl ≡ Done Content.Written new
-    put_done policy new e p t = passes e (Done Content.Written (record acl { policies = insert acl.policies name policy })) Refusal.Full
+    put_done policy new e p t = unless_not _ Refusal.Full (Done Content.Written (record acl { policies = insert acl.policies name policy })) e
         ∙ (λ i. Done Content.Written (record { policies = sym p i; tokens = sym t i }))
 
     pub delete_nothing : contains_key acl.policies name ≡ false → delete_policy name acl ≡ Refused Refusal.NotFound
-    delete_nothing e = found_none (get acl.policies name) (λ _. Done Content.Written (record acl { policies = remove acl.policies name })) e
+    delete_nothing e = found_absent (get acl.policies name) (λ _. Done Content.Written (record acl { policies = remove acl.policies name })) e
 
     pub delete_done : (new : Acl) → contains_key acl.policies name ≡ true → new.policies ≡ remove acl.policies name → new.tokens ≡ acl.tokens
         → delete_policy name acl ≡ Done Content.Written new
-    delete_done new e p t = found_some (get acl.policies name) (Done Content.Written (record acl { policies = remove acl.policies name })) e
+    delete_done new e p t = found_there (get acl.policies name) (Done Content.Written (record acl { policies = remove acl.policies name })) e
         ∙ (λ i. Done Content.Written (record { policies = sym p i; tokens = sym t i }))
 
   module _ (new : NewToken) where
@@ -72,13 +50,13 @@ module _ (acl : Acl) where
 
     pub token_taken : (contains_key acl.tokens new.secret || has_accessor acl new.accessor) ≡ true → create_token new acl ≡ Refused Refusal.Conflict
     unfolding shown created
-    token_taken e = refuses e (unless (nat_le most_rows (len acl.tokens)) Refusal.Full (Done shown created)) Refusal.Conflict
+    token_taken e = unless_so _ Refusal.Conflict (unless (nat_le most_rows (len acl.tokens)) Refusal.Full (Done shown created)) e
 
     pub token_full : (contains_key acl.tokens new.secret || has_accessor acl new.accessor) ≡ false → nat_le most_rows (len acl.tokens) ≡ true →
         create_token new acl ≡ Refused Refusal.Full
     unfolding shown created
-    token_full e f = passes e (unless (nat_le most_rows (len acl.tokens)) Refusal.Full (Done shown created)) Refusal.Conflict
-        ∙ refuses f (Done shown created) Refusal.Full
+    token_full e f = unless_not _ Refusal.Conflict (unless (nat_le most_rows (len acl.tokens)) Refusal.Full (Done shown created)) e
+        ∙ unless_so _ Refusal.Full (Done shown created) f
 
     pub token_created : (content : Content) (token : Token) (after : Acl) → (contains_key acl.tokens new.secret || has_accessor acl new.accessor) ≡ false →
         nat_le most_rows (len acl.tokens) ≡ false
@@ -86,8 +64,8 @@ module _ (acl : Acl) where
         → token ≡ token_of new → after.policies ≡ acl.policies → after.tokens ≡ insert acl.tokens new.secret token
         → create_token new acl ≡ Done content after
     unfolding shown created
-    token_created content token after e f c r p t = passes e (unless (nat_le most_rows (len acl.tokens)) Refusal.Full (Done shown created)) Refusal.Conflict
-        ∙ passes f (Done shown created) Refusal.Full
+    token_created content token after e f c r p t = unless_not _ Refusal.Conflict (unless (nat_le most_rows (len acl.tokens)) Refusal.Full (Done shown created)) e
+        ∙ unless_not _ Refusal.Full (Done shown created) f
         ∙ (λ i. Done (sym c i) (record { policies = sym p i; tokens = sym (t ∙ ap (λ token. insert acl.tokens new.secret token) r) i }))
 
   module _ (accessor : Name) where
@@ -96,12 +74,12 @@ module _ (acl : Acl) where
 
     pub no_token : secret_of acl accessor ≡ None → delete_token accessor acl ≡ Refused Refusal.NotFound
     unfolding removed
-    no_token e = found_none (secret_of acl accessor) removed (ap is_some e)
+    no_token e = found_absent (secret_of acl accessor) removed (ap is_some e)
 
     pub token_kept : (secret : Name) → secret_of acl accessor ≡ Some secret → same_name accessor bootstrap_accessor ≡ true →
         delete_token accessor acl ≡ Refused Refusal.InUse
     unfolding removed
-    token_kept secret e b = ap (λ x. found x removed) e ∙ refuses b (Done Content.Written (record acl { tokens = remove acl.tokens secret })) Refusal.InUse
+    token_kept secret e b = ap (λ x. found x removed) e ∙ unless_so _ Refusal.InUse (Done Content.Written (record acl { tokens = remove acl.tokens secret })) b
 
     pub token_deleted : (secret copy : Name) (after : Acl) → secret_of acl accessor ≡ Some secret → same_name accessor bootstrap_accessor ≡ false →
         copy ≡ secret
@@ -109,5 +87,5 @@ module _ (acl : Acl) where
         → delete_token accessor acl ≡ Done Content.Written after
     unfolding removed
     token_deleted secret copy after e b c p t = ap (λ x. found x removed) e
-        ∙ passes b (Done Content.Written (record acl { tokens = remove acl.tokens secret })) Refusal.InUse
+        ∙ unless_not _ Refusal.InUse (Done Content.Written (record acl { tokens = remove acl.tokens secret })) b
         ∙ (λ i. Done Content.Written (record { policies = sym p i; tokens = sym (t ∙ ap (remove acl.tokens) c) i }))

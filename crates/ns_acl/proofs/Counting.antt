@@ -89,23 +89,7 @@ module _ (rules : List Rule) (rule : Rule) where
       ∙ filter-taken (λ r. same_number (size r) (size rule)) rules rule (same_number_refl (size rule))
       ∙ ap (λ rs. rs ++ rule ∷ []) (none_so_long 0 (size rule) rules h)
 
--- an exact name is no match of a star
-one_of_them : (b x y : Bool) → (not b && x) ≡ true → (b && y) ≡ false
-one_of_them true x y e = absurd (subst T (sym e) tt)
-one_of_them false x y e = refl
-
 module _ (target : Name) (before : List Rule) (rule : Rule) where
-  pub exact-more : is_exact target rule ≡ true
-      → gathered target (before ++ rule ∷ []) ≡ record (gathered target before)
-      { exact = Some (both (unwrap_or (gathered target before).exact no_grants) rule.grants) }
-  exact-more e =
-      let matching = filter-passed (is_match target) before rule (one_of_them rule.pattern.is_prefix _ _ e) in
-      λ i. record {
-        exact = (ap merged_if_any (filter-taken (is_exact target) before rule e) ∙ any-more (filter (is_exact target) before) rule) i;
-        longest = longest (matching i);
-        matching = merged (top (matching i));
-      }
-
   pub other-more : is_exact target rule ≡ false → is_match target rule ≡ false → gathered target (before ++ rule ∷ []) ≡ gathered target before
   other-more e m = λ i. record {
     exact = merged_if_any (filter-passed (is_exact target) before rule e i);
@@ -148,12 +132,6 @@ module _ (target : Name) (before : List Rule) (rule : Rule) where
         }
 
 -- ---- more rules
-
-pub adds_none : (target : Name) (g : Gathered) → Adds target [] g g
-adds_none target g before e = e ∙ ap (gathered target) (sym (append-nil before))
-
-pub adds_both : (target : Name) (rules more : List Rule) (g h k : Gathered) → Adds target rules g h → Adds target more h k → Adds target (rules ++ more) g k
-adds_both target rules more g h k first then before e = then (before ++ rules) (first before e) ∙ ap (gathered target) (append_assoc before rules more)
 
 -- the rules of the named policies
 module _ (acl : Acl) (kind : RuleKind) (names : List Name) (name : Name) where

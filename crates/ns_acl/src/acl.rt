@@ -52,14 +52,14 @@ pub struct Acl {
 
 impl Model for Acl {
     ghost use Rattle.std.specs.Prelude.{◌≡◌, ◌∷◌, [], codes};
-    ghost use Rattle.std.specs.Coded as coding;
-    ghost use Rattle.std.specs.FinMap as table;
+    ghost use Rattle.std.specs.Coded;
+    ghost use Rattle.std.specs.FinMap.{code};
     ghost use Rattle.keyed.specs.Table.{rows};
-    ghost use Rattle.ns_types.specs.State.Rows as model;
+    ghost use Rattle.ns_types.specs.State.Rows.{Acl};
 
-    ghost Value = { model.Acl };
+    ghost Value = { Acl };
 
-    ghost coded = { Prim.hlevel (coding.codes, table.code) };
+    ghost coded = { Prim.hlevel (Coded.codes, code) };
 
     ghost view = { λ a. record { policies = rows a.policies; tokens = rows a.tokens } };
 

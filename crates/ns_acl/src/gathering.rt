@@ -5,18 +5,8 @@ ghost use Rattle.ns_types.specs.State.Names.{Name};
 ghost use Rattle.ns_types.specs.Access.Rights.{both, is_exact, is_match, is_of_kind, unless_denied};
 ghost use Rattle.ns_acl.specs.Gathered.{Adds, Counts, gathered};
 
-use ns_types::acl::{Grants, Rule, RuleKind};
+use ns_types::acl::{Grants, NO_GRANTS, Rule, RuleKind};
 use ns_types::text::{Text, same_text};
-
-const NO_GRANTS: Grants = Grants {
-    list_jobs: false,
-    read_job: false,
-    submit_job: false,
-    alloc_lifecycle: false,
-    read_pool: false,
-    write_pool: false,
-    deny: false,
-};
 
 /// What the rules that were seen give for a name.
 #[derive(Clone, Copy)]

@@ -36,14 +36,14 @@ pub struct Uses {
 
 impl Model for Uses {
     ghost use Rattle.std.specs.Coded.{codes};
-    ghost use Rattle.std.specs.FinMap as table;
+    ghost use Rattle.std.specs.FinMap.{code};
     ghost use Rattle.keyed.specs.Table.{rows};
     ghost use Rattle.ns_types.specs.declared.resources.Resources.{Resources};
     ghost use Rattle.ns_types.specs.State.Names.{ByName};
 
     ghost Value = { ByName Resources };
 
-    ghost coded = { Prim.hlevel (codes, table.code) };
+    ghost coded = { Prim.hlevel (codes, code) };
 
     ghost view = { λ u. rows u.totals };
 }

@@ -8,21 +8,15 @@ use Rattle.ns_types.specs.declared.refusal.Refusal.{Refusal}
 use Rattle.ns_types.specs.declared.reply.Content.{Content}
 use Rattle.ns_types.specs.declared.step.AdminCommand.{AdminCommand}
 use Rattle.ns_types.specs.declared.step.AdminCommand.TheVariants as AdminCommand
-use Rattle.ns_types.specs.Asking.Admins.{with_quota, with_pool, new_tenant}
+use Rattle.ns_types.specs.Asking.Admins.{with_quota, with_pool, is_relimited, new_tenant}
 use Rattle.ns_types.specs.State.Names.{Name}
-use Rattle.ns_types.specs.Settling.Releases.{changes_limits}
 use Rattle.ns_types.specs.State.Rows.{State, World, Tenant, PoolRows, QuotaRows}
 use Rattle.ns_types.specs.Settling.Settle.{after_quota_release}
 use Rattle.ns_types.specs.Steps.{Answer}
 
--- the quota is there, and the put gives it other limits
-abbrev pub is_relimited : World → Name → Quota → Bool
-is_relimited w name quota = option_map_or (λ old. changes_limits old (with_quota quota (Some old))) (get w.quotas name)
-    false
-
 -- the quota's rows after the put: with other limits it has one more release
 abbrev pub relimited : World → Name → Quota → QuotaRows
-relimited w name quota = after_quota_release (is_relimited w name quota) (with_quota quota (get w.quotas name))
+relimited w name quota = after_quota_release (is_relimited name quota w) (with_quota quota (get w.quotas name))
 
 -- the state after the put
 abbrev pub relimited_state : State → Name → Quota → State

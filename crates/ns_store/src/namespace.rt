@@ -1,6 +1,6 @@
 // The rows of one namespace.
 ghost use Rattle.std.specs.Prelude.{◌≡◌, ◌+◌, ◌^◌, ◌<◌, ◌≤◌, ◌++◌, ◌∷◌, [], IsTrue, OnOk, OnErr, IfOk, length, option_copied};
-ghost use Rattle.std.specs.FinMap as table;
+ghost use Rattle.std.specs.FinMap.{entries, get, insert, len};
 ghost use Rattle.keyed.specs.Table.{rows, has_slot, KeepsSlots};
 ghost use Rattle.ns_types.specs.State.Lists.{last};
 ghost use Rattle.ns_store.specs.Stored.{ChangesEvaluations, ChangesEvents, GainsSlot, GainsSlots, nothing_stored, numbers_of_job, numbers_of_status, has_open, has_pending, with_next};
@@ -29,12 +29,12 @@ pub struct NamespaceRows {
 
 impl Model for NamespaceRows {
     ghost use Rattle.std.specs.Coded.{codes};
-    ghost use Rattle.std.specs.FinMap as table;
+    ghost use Rattle.std.specs.FinMap.{code};
     ghost use Rattle.ns_store.specs.Stored.{Stored};
 
     ghost Value = { Stored };
 
-    ghost coded = { Prim.hlevel (codes, table.code) };
+    ghost coded = { Prim.hlevel (codes, code) };
 
     ghost view = { λ s. record {
       index = s.index;
@@ -85,20 +85,20 @@ impl NamespaceRows {
     }
 
     pub fn job(&self, id: &Text) -> Option<&Job>
-        ensures { option_copied result ≡ table.get (rows self.now.jobs) id.now }
+        ensures { option_copied result ≡ get (rows self.now.jobs) id.now }
     {
         self.jobs.get(id)
     }
 
     /// The number of jobs.
     pub fn job_count(&self) -> usize
-        ensures { result ≡ table.len (rows self.now.jobs) }
+        ensures { result ≡ len (rows self.now.jobs) }
     {
         self.jobs.len()
     }
 
     pub fn evaluation(&self, number: u64) -> Option<&Evaluation>
-        ensures { option_copied result ≡ table.get (rows self.now.evaluations) number }
+        ensures { option_copied result ≡ get (rows self.now.evaluations) number }
     {
         self.evaluations.get(number)
     }
@@ -119,14 +119,14 @@ impl NamespaceRows {
 
     /// The slots of the jobs by id, rising. A slot has a job, or is vacant.
     pub fn job_slots(&self) -> &[(Text, Option<Job>)]
-        ensures { result.now ≡ table.entries self.now.jobs }
+        ensures { result.now ≡ entries self.now.jobs }
     {
         self.jobs.as_slice()
     }
 
     /// The slots of the evaluations by number, rising. A slot has an evaluation, or is vacant.
     pub fn evaluation_slots(&self) -> &[(u64, Option<Evaluation>)]
-        ensures { result.now ≡ table.entries self.now.evaluations }
+        ensures { result.now ≡ entries self.now.evaluations }
     {
         self.evaluations.as_slice()
     }
@@ -197,7 +197,7 @@ impl NamespaceRows {
     /// Writes the job's row. It takes no memory.
     pub fn put_job(&mut self, id: &Text, job: Job)
         requires { IsTrue (has_slot self.old.jobs id.now) }
-        ensures rows { rows self.new.jobs ≡ table.insert (rows self.old.jobs) id.now job }
+        ensures rows { rows self.new.jobs ≡ insert (rows self.old.jobs) id.now job }
         ensures kept { KeepsSlots self.old.jobs self.new.jobs }
         ensures others { self.new ≡ record self.old { jobs = self.new.jobs } }
     {

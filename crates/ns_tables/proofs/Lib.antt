@@ -1,7 +1,6 @@
 pub mod Holdings
 pub mod Listing
 pub mod Opening
-pub mod Outcomes
 pub mod Viewing
 pub mod World
 pub mod Written

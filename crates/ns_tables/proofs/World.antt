@@ -23,7 +23,7 @@ use Rattle.ns_tables.specs.declared.tables.TenantRows.{TenantRows}
 use Rattle.ns_tables.specs.Viewed.{after_release, quota_of, tenant_of, with_quota_written, with_release, world_of}
 use Rattle.ns_types.proofs.TableRows.{any_row-empty}
 use Rattle.ns_types.proofs.Tables.{get_mapped}
-use Rattle.ns_tables.proofs.Outcomes.{found_absent, found_some}
+use Rattle.ns_types.proofs.Outcomes.{found_absent, found_some}
 use Rattle.ns_tables.proofs.Written.{found_at, shown-remove, shown-set, shown-written}
 
 -- the record of a new namespace

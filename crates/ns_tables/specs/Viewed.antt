@@ -18,7 +18,6 @@ use Rattle.ns_types.specs.State.Names.{Name, Key, same_name}
 use Rattle.ns_types.specs.State.Rows.{World, Tenant, QuotaRows, is_open}
 use Rattle.ns_types.specs.Access.Sharing.{is_confined, overlaps, permits}
 use Rattle.ns_types.specs.Settling.Making.{put_pool, put_tenant}
-use Rattle.ns_types.specs.Settling.Releases.{changes_limits}
 use Rattle.ns_types.specs.State.Sums.{names_quota}
 use Rattle.ns_types.specs.State.Tables.{any_row, table_of}
 use Rattle.ns_types.specs.Steps.{greatest}
@@ -91,12 +90,6 @@ forbids_in name namespace w = option_map_or (forbids_put namespace) (get w.tenan
 -- the number of the last release, or 0
 abbrev pub release_in : Name → World → ℕ
 release_in name w = option_map_or (λ q. q.release) (get w.quotas name) 0
-
--- the put would change the limits of a quota that is there
-abbrev pub is_relimited_in : Name → Quota → World → Bool
-is_relimited_in name quota w = option_map_or (λ old. changes_limits old (with_quota quota (Some old)))
-    (get w.quotas name)
-    false
 
 -- one more release of the quota would pass the bound of its number
 abbrev pub is_exhausted : World → Name → Bool

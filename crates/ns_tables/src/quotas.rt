@@ -3,10 +3,10 @@
 ghost use Rattle.std.specs.Prelude.{◌≡◌, IfOk, OnErr};
 ghost use Rattle.std.specs.List.{list_any};
 ghost use Rattle.keyed.specs.Table.{at_slot};
-ghost use Rattle.ns_types.specs.Asking.Admins.{delete_quota, put_quota, read_quota};
+ghost use Rattle.ns_types.specs.Asking.Admins.{delete_quota, is_relimited, put_quota, read_quota};
 ghost use Rattle.ns_types.specs.State.Resources.{limits_in, same_limit, same_limits};
 ghost use Rattle.ns_tables.specs.Calls.{BecomeTables, ChangesTables, FindsIn, MayRelease, Writes};
-ghost use Rattle.ns_tables.specs.Viewed.{content_of_quota, is_exhausted, is_relimited_in, release_in, tenant_names_quota, with_quota_put, with_release};
+ghost use Rattle.ns_tables.specs.Viewed.{content_of_quota, is_exhausted, release_in, tenant_names_quota, with_quota_put, with_release};
 
 use crate::sharing::names_quota;
 use crate::tables::{Slot, StoredQuota, Tables, TenantRows, is_full};
@@ -131,8 +131,8 @@ impl Tables {
     }
 
     /// Whether a put of the quota would change the limits of the one that is there.
-    pub fn changes_limits(&self, name: &Text, quota: &Quota) -> bool
-        ensures { FindsIn (is_relimited_in name.now quota.now) self.now result }
+    pub fn is_relimited(&self, name: &Text, quota: &Quota) -> bool
+        ensures { FindsIn (is_relimited name.now quota.now) self.now result }
     {
         match self.quotas.get(name) {
             Some(old) => !same_limits(limits_in(&old.quota), limits_in(quota)),

@@ -6,7 +6,8 @@ use Rattle.ns_types.specs.Asking.Policies.{token_of}
 use Rattle.ns_types.specs.Asking.Admins.{most_rows}
 use Rattle.ns_types.specs.Settling.Outcome.{is_done}
 use Rattle.keyed.specs.Table.{rows}
-use Rattle.ns_acl.proofs.Answering.{memory_last, token_created, token_full, token_taken}
+use Rattle.ns_types.proofs.Outcomes.{memory_last}
+use Rattle.ns_acl.proofs.Answering.{token_created, token_full, token_taken}
 use Rattle.ns_acl.proofs.acl.Acl.create_token.Goals as goal
 
 pub returns-then-is_taken : goal.returns-then-is_taken

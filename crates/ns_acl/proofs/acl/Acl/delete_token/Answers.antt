@@ -5,7 +5,8 @@ use Rattle.ns_types.specs.Settling.Outcome.{is_done}
 use Rattle.keyed.specs.Table.{rows}
 use Rattle.keyed.proofs.Tables.{rows-remove}
 use Rattle.ns_types.proofs.Named.{names, one_name}
-use Rattle.ns_acl.proofs.Answering.{memory_last, no_token, token_deleted, token_kept}
+use Rattle.ns_types.proofs.Outcomes.{memory_last}
+use Rattle.ns_acl.proofs.Answering.{no_token, token_deleted, token_kept}
 use Rattle.ns_acl.proofs.acl.Acl.delete_token.Goals as goal
 
 pub returns-in_default : goal.returns-in_default

@@ -3,7 +3,8 @@ use Rattle.std.specs.FinMap.{insert}
 use Rattle.ns_types.specs.Asking.Admins.{is_full}
 use Rattle.ns_types.specs.Settling.Outcome.{is_done}
 use Rattle.keyed.specs.Table.{rows}
-use Rattle.ns_acl.proofs.Answering.{memory_last, put_done, put_full}
+use Rattle.ns_types.proofs.Outcomes.{memory_last}
+use Rattle.ns_acl.proofs.Answering.{put_done, put_full}
 use Rattle.ns_acl.proofs.acl.Acl.put_policy.Goals as goal
 
 pub returns-then-is_full : goal.returns-then-is_full

@@ -2,7 +2,8 @@ use Rattle.std.proofs.Common.{refl, sym, ap, ◌∙◌}
 use Rattle.std.specs.FinMap.{get}
 use Rattle.std.specs.Option.{option_copied}
 use Rattle.ns_types.specs.Settling.Outcome.{Done, is_done}
-use Rattle.ns_acl.proofs.Answering.{memory_last, read_nothing, read_done}
+use Rattle.ns_types.proofs.Outcomes.{memory_last}
+use Rattle.ns_acl.proofs.Answering.{read_nothing, read_done}
 use Rattle.ns_acl.proofs.Slotted.{row_found}
 use Rattle.ns_acl.proofs.acl.Acl.read_policy.Goals as goal
 

@@ -1,6 +1,6 @@
 use Rattle.std.proofs.Common.{◌∙◌, sym, ap}
 use Rattle.std.specs.List.{list_any}
-use Rattle.std.specs.FinMap as table
+use Rattle.std.specs.FinMap.{entries}
 use Rattle.std.specs.Ordering.{nat_cmp}
 use Rattle.keyed.specs.Table.{at_slot}
 use Rattle.keyed.proofs.Tables.{entries-rows}
@@ -13,6 +13,6 @@ pub returns : goal.returns
 unfolding any_row
 returns c =
     let job = c.args.id.now in
-    c.any_pending.ensures ∙ ap (list_any (at_slot (is_waiting job))) (c.as_slice.ensures ∙ ap (λ s. table.entries s.evaluations) c.self.view_is)
-    ∙ any-at_slot nat_cmp (is_waiting job) (table.entries c.args.self.now.evaluations) ∙
+    c.any_pending.ensures ∙ ap (list_any (at_slot (is_waiting job))) (c.as_slice.ensures ∙ ap (λ s. entries s.evaluations) c.self.view_is)
+    ∙ any-at_slot nat_cmp (is_waiting job) (entries c.args.self.now.evaluations) ∙
     ap (list_any (is_waiting job)) (sym (entries-rows c.args.self.now.evaluations))

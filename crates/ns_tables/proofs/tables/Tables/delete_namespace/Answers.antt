@@ -4,7 +4,7 @@ use Rattle.std.specs.Option.{option_copied}
 use Rattle.ns_types.specs.declared.reply.Content.TheVariants as Content
 use Rattle.ns_types.specs.Asking.Admins.{delete_namespace}
 use Rattle.ns_types.specs.Settling.Outcome.{Done}
-use Rattle.ns_tables.proofs.Outcomes.{found_none, found_some, unless_not, unless_so}
+use Rattle.ns_types.proofs.Outcomes.{found_none, found_some, unless_not, unless_so}
 use Rattle.ns_tables.proofs.World.{tenant_at, tenant_removed}
 use Rattle.ns_tables.proofs.tables.Tables.delete_namespace.Goals as goal
 

@@ -3,7 +3,7 @@ use Rattle.ns_types.specs.declared.reply.Content.TheVariants as Content
 use Rattle.ns_types.specs.Asking.Admins.{delete_pool}
 use Rattle.ns_types.specs.Settling.Outcome.{Done}
 use Rattle.ns_tables.proofs.World.{found_pool, no_pool, pool_removed}
-use Rattle.ns_tables.proofs.Outcomes.{unless_not, unless_so}
+use Rattle.ns_types.proofs.Outcomes.{unless_not, unless_so}
 use Rattle.ns_tables.proofs.tables.Tables.delete_pool.Goals as goal
 
 pub returns-then-not-has_pool : goal.returns-then-not-has_pool

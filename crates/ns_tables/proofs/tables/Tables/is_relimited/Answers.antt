@@ -5,7 +5,7 @@ use Rattle.ns_types.specs.Asking.Admins.{with_quota}
 use Rattle.ns_types.specs.Settling.Releases.{changes_limits}
 use Rattle.ns_types.specs.State.Resources.{same_limits}
 use Rattle.ns_tables.proofs.World.{quota_at}
-use Rattle.ns_tables.proofs.tables.Tables.changes_limits.Goals as goal
+use Rattle.ns_tables.proofs.tables.Tables.is_relimited.Goals as goal
 
 pub returns-in-Some : goal.returns-in-Some
 returns-in-Some c ready = ap not (c.same_limits.ensures ∙ (λ i. same_limits (c.limits_in.ensures i) (c.limits_in-in-Some.ensures i)))

@@ -4,7 +4,7 @@ use Rattle.ns_types.specs.declared.reply.Content.TheVariants as Content
 use Rattle.ns_types.specs.Asking.Admins.{put_namespace}
 use Rattle.ns_types.specs.Settling.Outcome.{Done, is_done}
 use Rattle.ns_tables.specs.Viewed.{tenant_of, world_of}
-use Rattle.ns_tables.proofs.Outcomes.{memory_last, unless_not, unless_so}
+use Rattle.ns_types.proofs.Outcomes.{memory_last, unless_not, unless_so}
 use Rattle.ns_tables.proofs.World.{pool_there}
 use Rattle.ns_tables.proofs.Written.{full_at}
 use Rattle.ns_tables.proofs.tables.Tables.put_namespace.Goals as goal

@@ -3,7 +3,7 @@ use Rattle.std.proofs.Common.{refl, sym, ap, ◌∙◌}
 use Rattle.std.specs.Option.{option_copied}
 use Rattle.ns_types.specs.Settling.Outcome.{Done, is_done}
 use Rattle.ns_tables.specs.Viewed.{world_of}
-use Rattle.ns_tables.proofs.Outcomes.{found_none, found_some, memory_last}
+use Rattle.ns_types.proofs.Outcomes.{found_none, found_some, memory_last}
 use Rattle.ns_tables.proofs.World.{quota_at}
 use Rattle.ns_tables.proofs.tables.Tables.read_quota.Goals as goal
 
