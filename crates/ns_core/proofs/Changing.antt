@@ -22,7 +22,8 @@ use Rattle.ns_types.specs.Steps.{greatest, is_past_bound}
 use Rattle.ns_types.proofs.Lists.{not_both}
 use Rattle.ns_types.proofs.Named.{names, one_name}
 use Rattle.ns_types.proofs.Tables.{none_of_any, tied}
-use Rattle.ns_steps.specs.Administered.{IsCalm, IsTenantOf, is_relimited, relimited}
+use Rattle.ns_steps.specs.Administered.{IsCalm, IsTenantOf, relimited}
+use Rattle.ns_types.specs.Asking.Admins.{is_relimited}
 use Rattle.ns_steps.specs.Early.{IsEarly}
 use Rattle.ns_steps.proofs.Registering.{all_within}
 use Rattle.ns_steps.proofs.Resting.{Rests}
@@ -35,7 +36,7 @@ use Rattle.ns_core.specs.Viewed.{exhausts}
 module _ (w : World) (name : Name) (quota : Quota) (early : IsEarly w) where
   -- it passes its bound exactly where the limits change and it is the last
   pub release_passes : nat_lt greatest (relimited w name quota).release ≡ exhausts w name quota
-  release_passes = by (get w.quotas name) refl (is_relimited w name quota)
+  release_passes = by (get w.quotas name) refl (is_relimited name quota w)
     where
       fits : (old : QuotaRows) → get w.quotas name ≡ Some old → nat_lt greatest old.release ≡ false
       fits old is = none_of_any one_name (λ _ q. nat_lt greatest q.release) w.quotas name old (all_within w early.within).2 is

@@ -1,9 +1,7 @@
 pub mod Answering
 pub mod Asked
 pub mod Busy
-pub mod Lists
 pub mod Opening
 pub mod Putting
-pub mod Texts
 pub mod Changing
 pub mod Quotas

@@ -21,7 +21,8 @@ use Rattle.ns_types.specs.Settling.Settle.{after_quota_release}
 use Rattle.ns_types.specs.Steps.{Makes, greatest}
 use Rattle.ns_types.proofs.Lists.{not_both}
 use Rattle.ns_types.proofs.Named.{names, one_name}
-use Rattle.ns_steps.specs.Administered.{is_relimited, relimited, relimited_state}
+use Rattle.ns_steps.specs.Administered.{relimited, relimited_state}
+use Rattle.ns_types.specs.Asking.Admins.{is_relimited}
 use Rattle.ns_steps.specs.Early.{IsEarly}
 use Rattle.ns_types.proofs.TableRows.{get_put}
 use Rattle.ns_types.proofs.Tests.{same_Some}
@@ -58,7 +59,7 @@ module _ (w w' : World) (name : Name) (quota : Quota) (content : Content) (done 
   found = ap (λ x. get x.quotas name) world_left ∙ get_put names one_name w.quotas name (with_quota quota (get w.quotas name))
 
   -- a release number that is not the last may rise
-  pub may_release : is_relimited w name quota ≡ true → is_exhausted w name ≡ false → (q : QuotaRows) → get w'.quotas name ≡ Some q → q.release < 2 ^ 64 - 1
+  pub may_release : is_relimited name quota w ≡ true → is_exhausted w name ≡ false → (q : QuotaRows) → get w'.quotas name ≡ Some q → q.release < 2 ^ 64 - 1
   may_release other room q is = by (get w.quotas name) refl
     where
       same : q ≡ with_quota quota (get w.quotas name)
@@ -75,7 +76,7 @@ module _ (w w' : World) (name : Name) (quota : Quota) (content : Content) (done 
                 omega (arith, number)
           ]
 
-  pub release_settles : (b : Bool) → is_relimited w name quota ≡ b →
+  pub release_settles : (b : Bool) → is_relimited name quota w ≡ b →
       (if b then with_release name w' else w') ≡ record w { quotas = insert w.quotas name (relimited w name quota) }
   release_settles false is = world_left ∙ (λ i. record w
       { quotas = insert w.quotas name (after_quota_release (sym is i) (with_quota quota (get w.quotas name))) })
@@ -102,5 +103,5 @@ put_keeps name quota w w' refusal h = by refusal h
     by r h = h.1
 
 -- its release number would not pass its bound
-pub release_fits : (w : World) (name : Name) (quota : Quota) → exhausts w name quota ≡ false → is_relimited w name quota ≡ true → is_exhausted w name ≡ false
+pub release_fits : (w : World) (name : Name) (quota : Quota) → exhausts w name quota ≡ false → is_relimited name quota w ≡ true → is_exhausted w name ≡ false
 release_fits w name quota fits other = ap (λ b. b && is_exhausted w name) (sym other) ∙ fits

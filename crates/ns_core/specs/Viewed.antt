@@ -11,7 +11,7 @@ use Rattle.ns_types.specs.declared.reply.JobStatus.TheVariants as JobStatus
 use Rattle.ns_types.specs.State.Names.{Name, Key, begins_with, same_name}
 use Rattle.ns_types.specs.State.Rows.{State, World}
 use Rattle.ns_store.specs.Stored.{Stored}
-use Rattle.ns_steps.specs.Administered.{is_relimited}
+use Rattle.ns_types.specs.Asking.Admins.{is_relimited}
 use Rattle.ns_tables.specs.Viewed.{is_exhausted, world_of as world_of_tables}
 use Rattle.ns_core.specs.declared.parts.Parts.{Parts}
 
@@ -23,7 +23,7 @@ state_of p = record { acl = p.acl; world = world_of p }
 
 -- a put of the quota would need a release number that is past its bound
 abbrev pub exhausts : World → Name → Quota → Bool
-exhausts w name quota = is_relimited w name quota && is_exhausted w name
+exhausts w name quota = is_relimited name quota w && is_exhausted w name
 
 -- whether an entry is of that job of the namespace whose rows these are
 abbrev pub entry_of_job : Name → Name → Stored → Key → Bool

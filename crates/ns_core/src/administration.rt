@@ -7,7 +7,7 @@ ghost use Rattle.ns_types.specs.Asking.Policies.{may_administer};
 ghost use Rattle.ns_steps.specs.Administered.{IsCalm};
 ghost use Rattle.ns_core.specs.Answering.{ChangesBy, MakesPutQuota, MakesStep, ReadsBy, sees, sees_pool};
 ghost use Rattle.ns_core.specs.Held.{IsHeld};
-ghost use Rattle.ns_core.specs.Viewed.{exhausts, world_of};
+ghost use Rattle.ns_core.specs.Viewed.{world_of};
 
 use crate::parts::Parts;
 use crate::reads::has_any;
@@ -41,26 +41,20 @@ impl Parts {
         ensures { ReadsBy (option_copied secret.entry) AdminCommand.ListNamespaces self.now result }
     {
         let acl = &self.acl;
-        Ok(
-            self.tables.list_namespaces(
-                |name: &Text|
-                    ensures { result ≡ sees acl.entry.now (option_copied secret.entry) name.now }
-                { has_any(acl.rights(secret, name)) },
-            )?,
-        )
+        let sees = |name: &Text|
+            ensures { result ≡ sees acl.entry.now (option_copied secret.entry) name.now }
+        { has_any(acl.rights(secret, name)) };
+        Ok(self.tables.list_namespaces(sees)?)
     }
 
     fn list_pools(&self, secret: Option<&Text>) -> Result<Content, Refusal>
         ensures { ReadsBy (option_copied secret.entry) AdminCommand.ListPools self.now result }
     {
         let acl = &self.acl;
-        Ok(
-            self.tables.list_pools(
-                |name: &Text|
-                    ensures { result ≡ sees_pool acl.entry.now (option_copied secret.entry) name.now }
-                { acl.pool_rights(secret, name).read },
-            )?,
-        )
+        let sees = |name: &Text|
+            ensures { result ≡ sees_pool acl.entry.now (option_copied secret.entry) name.now }
+        { acl.pool_rights(secret, name).read };
+        Ok(self.tables.list_pools(sees)?)
     }
 
     /// Makes the change that is asked by a secret that may, where it releases nothing.
@@ -91,23 +85,16 @@ impl Parts {
         }
     }
 
-    /// Whether a put of the quota would need a release number that is past its bound.
-    fn exhausts(&self, name: &Text, quota: &Quota) -> bool
-        ensures { result ≡ exhausts (world_of self.now) name.now quota.now }
-    {
-        self.tables.changes_limits(name, quota) && self.tables.is_exhausted(name)
-    }
-
     /// Puts a quota. With other limits it has one more release, unless that number would pass its bound.
     fn put_quota(&mut self, name: &Text, quota: &Quota) -> Result<Reply, Refusal>
         requires { IsHeld (world_of self.old) }
         ensures made { MakesPutQuota name.now quota.now self.old result self.new }
         ensures held { IsHeld (world_of self.new) }
     {
-        if self.exhausts(name, quota) {
+        let releases = self.tables.is_relimited(name, quota);
+        if releases && self.tables.is_exhausted(name) {
             return Err(Refusal::Full);
         }
-        let releases = self.tables.changes_limits(name, quota);
         let content = self.tables.put_quota(name, quota)?;
         if releases {
             self.tables.release_quota(name);

@@ -3,7 +3,6 @@
 
 mod administration;
 mod asks;
-mod documents;
 mod parts;
 mod pool;
 mod reads;

@@ -9,7 +9,7 @@ ghost use Rattle.ns_core.specs.Making.{misses, with_events, with_made, with_rows
 ghost use Rattle.ns_core.specs.Puts.{Becomes, HasBounds, HasRoomFor};
 ghost use Rattle.ns_tables.specs.Viewed.{tenant_of};
 
-use crate::documents::{same_document, same_number};
+use ns_alike::{same_document, same_number};
 use ns_tables::TenantRows;
 use ns_types::evaluation::{Evaluation, Status, Trigger};
 use ns_types::event::{Event, Topic};

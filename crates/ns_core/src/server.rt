@@ -21,12 +21,12 @@ pub struct Core {
 
 impl Model for Core {
     ghost use Rattle.std.specs.Coded.{codes};
-    ghost use Rattle.std.specs.FinMap as table;
+    ghost use Rattle.std.specs.FinMap.{code};
     ghost use Rattle.ns_types.specs.State.Rows.{State};
 
     ghost Value = { State };
 
-    ghost coded = { Prim.hlevel (codes, table.code) };
+    ghost coded = { Prim.hlevel (codes, code) };
 
     ghost use Rattle.ns_core.specs.Held.{IsHeld};
     ghost use Rattle.ns_core.specs.Viewed.{state_of, world_of};
@@ -69,7 +69,7 @@ impl Core {
         parts.admin(secret, command)
     }
 
-    /// Makes the step that is told of a pool with a secret. So far the pool itself is read.
+    /// Makes the step that a secret asks of a pool. So far the pool itself is read.
     pub fn node(
         &mut self,
         pool: &Text,

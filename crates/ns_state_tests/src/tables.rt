@@ -297,7 +297,7 @@ fn lists_what_passes(rt: HostRuntime) -> Result<(), Fail> {
 fn changes(tables: &Tables, cpu: Limit) -> Result<bool, AllocError> {
     let name = Text::from_str(tables.alloc, "qa")?;
     let quota = quota(tables.alloc, cpu)?;
-    Ok(tables.changes_limits(&name, &quota))
+    Ok(tables.is_relimited(&name, &quota))
 }
 
 fn tells_limits_apart(tables: &mut Tables) -> Result<bool, AllocError> {

@@ -1,7 +1,7 @@
 use Rattle.std.proofs.Common.{refl, sym, ap, ◌∙◌}
 use Rattle.ns_types.specs.Asking.Policies.{administer, with_acl, with_world}
 use Rattle.ns_types.specs.Settling.Outcome.{Done}
-use Rattle.ns_tables.proofs.Outcomes.{memory_last}
+use Rattle.ns_types.proofs.Outcomes.{memory_last}
 use Rattle.ns_core.specs.Viewed.{state_of, world_of}
 use Rattle.ns_steps.proofs.Reading.{changes_lift}
 use Rattle.ns_core.proofs.parts.Parts.administer.Goals as goal

@@ -3,7 +3,7 @@ use Rattle.std.specs.Option.{option_copied}
 use Rattle.ns_types.specs.Asking.Policies.{administer}
 use Rattle.ns_types.specs.Settling.Outcome.{Done}
 use Rattle.ns_types.specs.Access.Rights.{has_any, rights_of}
-use Rattle.ns_tables.proofs.Outcomes.{memory_last}
+use Rattle.ns_types.proofs.Outcomes.{memory_last}
 use Rattle.ns_core.specs.Viewed.{state_of}
 use Rattle.ns_core.proofs.parts.Parts.list_namespaces.Goals as goal
 
