@@ -26,11 +26,7 @@ pub struct Ended<R, W> {
 }
 
 /// Writes the help, and says the exit status.
-fn show<W: Write, E: Write>(
-    help: &str,
-    writer: &mut Counted<W>,
-    errors: &mut Counted<E>,
-) -> u8
+fn show<W: Write, E: Write>(help: &str, writer: &mut Counted<W>, errors: &mut Counted<E>) -> u8
     ensures status { (result ≡ SERVED) ⊎ (result ≡ WRITE_FAULT) }
     ensures shown { result ≡ SERVED → WritesAll W.contents writer.old writer.new help.now }
     ensures failed { result ≡ WRITE_FAULT
