@@ -34,7 +34,7 @@ impl<'a> Conversation<'a> {
 
     /// Serves the input, and writes what was written and the exit status.
     pub fn serve<W: Write>(&self, alloc: Global, out: &mut W) -> anyhow::Result<()> {
-        let mut errors = Vec::new(alloc);
+        let mut errors = Counted::new(Vec::new(alloc));
         let mut reader = Counted::new(self.input.as_bytes());
         let mut writer = Counted::new(Vec::new(alloc));
         let draws = SameBytes::new(self.step);
@@ -50,7 +50,7 @@ impl<'a> Conversation<'a> {
         writeln!(out, "=== {head}")?;
         out.write_all(writer.into_inner().as_slice())?;
         writeln!(out, "\nstatus {status}")?;
-        out.write_all(errors.as_slice())?;
+        out.write_all(errors.into_inner().as_slice())?;
         Ok(())
     }
 }

@@ -15,18 +15,15 @@ use Rattle.serde_json.specs.Find.{as_str, as_array, as_number, as_i64}
 use Rattle.ns_types.specs.declared.acl.Policy.{Policy}
 use Rattle.ns_types.specs.declared.acl.TokenKind.TheVariants as TokenKind
 use Rattle.ns_types.specs.declared.name.NameKind.{NameKind}
-use Rattle.ns_types.specs.declared.name.NameKind.TheVariants as NameKind
 use Rattle.ns_types.specs.declared.refusal.Member.{Member}
-use Rattle.ns_types.specs.declared.refusal.Member.TheVariants as Member
 use Rattle.ns_types.specs.declared.refusal.Refusal.{Refusal}
 use Rattle.ns_types.specs.declared.resources.Limit.{Limit}
-use Rattle.ns_types.specs.declared.resources.Limit.TheVariants as Limit
 use Rattle.ns_types.specs.declared.resources.Limits.{Limits}
 use Rattle.ns_types.specs.State.Limits.{is_text, is_pool_name, is_pool_list, is_good_namespace, is_limit, is_good_quota, is_good_policy, is_good_token}
 use Rattle.ns_types.specs.State.Lists.{is_empty}
 use Rattle.ns_types.specs.State.Name.{is_name}
 use Rattle.ns_types.specs.State.Names.{Name, same_name, default_name}
-use Rattle.ns_types.specs.State.Names as names
+use Rattle.ns_types.specs.State.Names
 use Rattle.ns_types.specs.State.Resources.{limits_in, unlimited}
 use Rattle.ns_types.proofs.Lists.{left_none, right_none}
 use Rattle.ns_types.proofs.Named.{same_name_is}
@@ -206,16 +203,16 @@ other_way x y h = by (same_name x y) refl
     by false e = refl
 
 -- the two ways of looking a name up
-any_other : (xs : List Name) (x : Name) → has_name same xs x ≡ false → names.has_name xs x ≡ false
+any_other : (xs : List Name) (x : Name) → has_name same xs x ≡ false → Names.has_name xs x ≡ false
 any_other [] x h = refl
 any_other (y ∷ ys) x h =
     let here : same_name x y ≡ false = other_way x y (left_none (bytes_eq y x) (has_name same ys x) h) in
-    let more : names.has_name ys x ≡ false = any_other ys x (right_none (bytes_eq y x) (has_name same ys x) h) in
+    let more : Names.has_name ys x ≡ false = any_other ys x (right_none (bytes_eq y x) (has_name same ys x) h) in
     rw (here, more) refl
 
 abbrev IsGood : PoolConfiguration → Type 0
 IsGood c = IsTrue (is_pool_name c.default_pool) × IsTrue (option_map_or is_pool_list c.allowed true) × IsTrue (is_pool_list c.denied) ×
-    IsTrue (is_none c.allowed || is_empty c.denied) × IsTrue (not (names.has_name c.denied c.default_pool))
+    IsTrue (is_none c.allowed || is_empty c.denied) × IsTrue (not (Names.has_name c.denied c.default_pool))
 
 one_list : (a b : Bool) → (a && not b) ≡ false → (not a || b) ≡ true
 one_list true true h = refl

@@ -8,7 +8,6 @@ use Rattle.ns_types.specs.declared.acl.Policy.{Policy}
 use Rattle.ns_types.specs.declared.acl.Rule.{Rule}
 use Rattle.ns_types.specs.declared.acl.Token.{Token}
 use Rattle.ns_types.specs.declared.acl.TokenKind.{TokenKind}
-use Rattle.ns_types.specs.declared.acl.TokenKind.TheVariants as TokenKind
 use Rattle.ns_types.specs.declared.name.NameKind.TheVariants as NameKind
 use Rattle.ns_types.specs.declared.refusal.Member.TheVariants as Member
 use Rattle.ns_types.specs.declared.refusal.Refusal.TheVariants.{BadField}

@@ -5,9 +5,7 @@ use Rattle.std.specs.Str.{bytes_eq}
 use Rattle.serde_json.specs.Data.{Data}
 use Rattle.serde_json.specs.Find.{as_str}
 use Rattle.ns_types.specs.declared.name.NameKind.{NameKind}
-use Rattle.ns_types.specs.declared.name.NameKind.TheVariants as NameKind
 use Rattle.ns_types.specs.declared.refusal.Member.{Member}
-use Rattle.ns_types.specs.declared.refusal.Member.TheVariants as Member
 use Rattle.ns_types.specs.State.Limits.{is_pool_name}
 use Rattle.ns_types.specs.State.Name.{is_name}
 use Rattle.ns_json.specs.Reading.{◌>>=◌, Read, same, present, demanded, or_else, or_refuse, a_text, a_name, has_name}

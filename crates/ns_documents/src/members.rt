@@ -2,8 +2,8 @@
 
 ghost use Rattle.std.specs.Prelude.{◌≡◌, [], option_copied};
 ghost use Rattle.serde_json.specs.View.{view, items_view};
-ghost use Rattle.ns_json.specs.Reading.{Gives, same, each, has_name as has_name_in};
-ghost use Rattle.ns_documents.specs.Members.{repeated as repeated_in, named as named_in, description_in, listed_name as listed_name_in, names_in};
+ghost use Rattle.ns_json.specs.Reading.{Gives, same, each, has_name};
+ghost use Rattle.ns_documents.specs.Members.{repeated, named, description_in, listed_name, names_in};
 
 use ns_json::member;
 use ns_json::member::{demanded, list, present, text};
@@ -17,7 +17,7 @@ use std::alloc::Global;
 /// The name that the path holds, where the document repeats it.
 #[tactic(auto, unfolding(crate::specs::Members::repeated))]
 fn repeated(alloc: Global, path_name: &Text, value: &Value) -> Result<Text, Refusal>
-    ensures { Gives same result (repeated_in path_name.now (view value.now)) }
+    ensures { Gives same result (repeated path_name.now (view value.now)) }
 {
     let name = value.as_str().ok_or(Refusal::BadField(Member::Name))?;
     if name != path_name.as_str() {
@@ -34,7 +34,7 @@ pub fn named(
     path_name: Option<&Text>,
     object: &Value,
 ) -> Result<Text, Refusal>
-    ensures { Gives same result (named_in kind (option_copied path_name.entry) (view object.now)) }
+    ensures { Gives same result (named kind (option_copied path_name.entry) (view object.now)) }
 {
     let Some(path_name) = path_name else {
         return member::name(alloc, demanded(object, Member::Name)?, Member::Name, kind);
@@ -58,7 +58,7 @@ pub fn description(alloc: Global, object: &Value) -> Result<Text, Refusal>
 
 /// Whether one of them is that name.
 pub fn has_name(names: &[Text], name: &str) -> bool
-    ensures { result ≡ has_name_in same names.now name.now }
+    ensures { result ≡ has_name same names.now name.now }
 {
     names.iter().any(|other| other.as_str() == name)
 }
@@ -72,7 +72,7 @@ fn listed_name(
     before: &[Text],
     value: &Value,
 ) -> Result<Text, Refusal>
-    ensures { Gives same result (listed_name_in member kind before.now (view value.now)) }
+    ensures { Gives same result (listed_name member kind before.now (view value.now)) }
 {
     let name = member::name(alloc, value, member, kind)?;
     if has_name(before, name.as_str()) {
@@ -87,7 +87,7 @@ fn each_name(
     kind: NameKind,
     values: &[Value],
 ) -> Result<Rows<Text>, Refusal>
-    ensures { Gives same result (each (listed_name_in member kind) [] (items_view values.now)) }
+    ensures { Gives same result (each (listed_name member kind) [] (items_view values.now)) }
 {
     let mut names = Rows::new(alloc);
     for value in values {

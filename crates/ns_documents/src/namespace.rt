@@ -3,8 +3,8 @@
 ghost use Rattle.std.specs.Prelude.{◌≡◌, None, IfOk, IfErr, IsTrue, option_copied};
 ghost use Rattle.serde_json.specs.View.{view};
 ghost use Rattle.ns_types.specs.State.Limits.{is_good_namespace};
-ghost use Rattle.ns_json.specs.Reading.{Gives, same, present as present_in, or_else, body_in, IsOfDocument};
-ghost use Rattle.ns_json.specs.Registration.{name_if_any as name_if_any_in};
+ghost use Rattle.ns_json.specs.Reading.{Gives, same, present, or_else, body_in, IsOfDocument};
+ghost use Rattle.ns_json.specs.Registration.{name_if_any};
 ghost use Rattle.ns_documents.specs.Members.{IsNamedWell};
 ghost use Rattle.ns_documents.specs.Records.{namespace_in};
 
@@ -26,8 +26,8 @@ pub struct NamedNamespace {
 
 fn quota_if_any(alloc: Global, document: &Value) -> Result<Option<Text>, Refusal>
     ensures { Gives same result
-        (or_else None (name_if_any_in Member.Quota NameKind.Quota)
-        (present_in Member.Quota (view document.now))) }
+        (or_else None (name_if_any Member.Quota NameKind.Quota)
+        (present Member.Quota (view document.now))) }
 {
     match present(document, Member::Quota) {
         None => Ok(None),

@@ -3,7 +3,7 @@
 ghost use Rattle.std.specs.Prelude.{◌≡◌, [], None};
 ghost use Rattle.serde_json.specs.View.{view};
 ghost use Rattle.ns_types.specs.State.Names.{default_name};
-ghost use Rattle.ns_json.specs.Reading.{Gives, same, or_else, some, present as present_in};
+ghost use Rattle.ns_json.specs.Reading.{Gives, same, or_else, some, present};
 ghost use Rattle.ns_documents.specs.Records.{default_pool_in, pools_in, configuration_in, every_pool};
 
 use crate::members::{has_name, names};
@@ -43,7 +43,7 @@ fn default_pool(alloc: Global, value: &Value) -> Result<Text, Refusal>
 fn default_pool_or_default(alloc: Global, configuration: &Value) -> Result<Text, Refusal>
     ensures { Gives same result
         (or_else default_name default_pool_in
-        (present_in Member.Default (view configuration.now))) }
+        (present Member.Default (view configuration.now))) }
 {
     match present(configuration, Member::Default) {
         None => default_name(alloc),
@@ -66,7 +66,7 @@ fn pools(alloc: Global, value: &Value, member: Member) -> Result<Rows<Text>, Ref
 fn allowed_if_any(alloc: Global, configuration: &Value) -> Result<Option<Rows<Text>>, Refusal>
     ensures { Gives same result
         (or_else None (λ a. some (pools_in Member.Allowed a))
-        (present_in Member.Allowed (view configuration.now))) }
+        (present Member.Allowed (view configuration.now))) }
 {
     match present(configuration, Member::Allowed) {
         None => Ok(None),
@@ -80,7 +80,7 @@ fn allowed_if_any(alloc: Global, configuration: &Value) -> Result<Option<Rows<Te
 fn denied_or_none(alloc: Global, configuration: &Value) -> Result<Rows<Text>, Refusal>
     ensures { Gives same result
         (or_else [] (pools_in Member.Denied)
-        (present_in Member.Denied (view configuration.now))) }
+        (present Member.Denied (view configuration.now))) }
 {
     match present(configuration, Member::Denied) {
         None => Ok(Rows::new(alloc)),
@@ -115,7 +115,7 @@ pub fn configuration_or_every_pool(
 ) -> Result<PoolConfiguration, Refusal>
     ensures { Gives same result
         (or_else every_pool configuration_in
-        (present_in Member.NodePoolConfiguration (view document.now))) }
+        (present Member.NodePoolConfiguration (view document.now))) }
 {
     match present(document, Member::NodePoolConfiguration) {
         None => Ok(PoolConfiguration {

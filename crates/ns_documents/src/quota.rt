@@ -5,9 +5,9 @@ ghost use Rattle.serde_json.specs.View.{view};
 ghost use Rattle.ns_types.specs.declared.resources.Limit.TheVariants.{Unlimited};
 ghost use Rattle.ns_types.specs.State.Limits.{is_good_quota};
 ghost use Rattle.ns_types.specs.State.Resources.{unlimited};
-ghost use Rattle.ns_json.specs.Reading.{Gives, same, present as present_in, or_else, body_in, IsOfDocument};
+ghost use Rattle.ns_json.specs.Reading.{Gives, same, present, or_else, body_in, IsOfDocument};
 ghost use Rattle.ns_documents.specs.Members.{IsNamedWell};
-ghost use Rattle.ns_documents.specs.Records.{limit_of as limit_of_number, limit_in, region_limit_in, region_in, entry_in, entries_in, quota_in};
+ghost use Rattle.ns_documents.specs.Records.{limit_of, limit_in, region_limit_in, region_in, entry_in, entries_in, quota_in};
 
 use crate::members::{description, named};
 use ns_json::member::{document, list, object, present, read_json, text};
@@ -28,7 +28,7 @@ pub struct NamedQuota {
 const MAX_LIMIT: u64 = 1 << 53;
 
 fn limit_of(number: i64) -> Option<Limit>
-    ensures { result ≡ limit_of_number number }
+    ensures { result ≡ limit_of number }
 {
     match number {
         -1 => Some(Limit::Nothing),
@@ -52,7 +52,7 @@ fn limit(value: &Value, member: Member) -> Result<Limit, Refusal>
 
 fn limit_or_unlimited(object: &Value, member: Member) -> Result<Limit, Refusal>
     ensures { Gives same result
-        (or_else Unlimited (limit_in member) (present_in member (view object.now))) }
+        (or_else Unlimited (limit_in member) (present member (view object.now))) }
 {
     match present(object, member) {
         None => Ok(Limit::Unlimited),
@@ -72,7 +72,7 @@ fn region_limit(value: &Value) -> Result<Limits, Refusal>
 
 fn region_limit_or_unlimited(entry: &Value) -> Result<Limits, Refusal>
     ensures { Gives same result
-        (or_else unlimited region_limit_in (present_in Member.RegionLimit (view entry.now))) }
+        (or_else unlimited region_limit_in (present Member.RegionLimit (view entry.now))) }
 {
     match present(entry, Member::RegionLimit) {
         None => Ok(Limits {
@@ -97,7 +97,7 @@ fn global_region(value: &Value) -> Result<(), Refusal>
 
 fn global_region_if_any(entry: &Value) -> Result<(), Refusal>
     ensures { Gives (λ u. tt) result
-        (or_else tt region_in (present_in Member.Region (view entry.now))) }
+        (or_else tt region_in (present Member.Region (view entry.now))) }
 {
     match present(entry, Member::Region) {
         None => Ok(()),
@@ -130,7 +130,7 @@ fn entries(value: &Value) -> Result<Option<Limits>, Refusal>
 
 fn entries_or_none(document: &Value) -> Result<Option<Limits>, Refusal>
     ensures { Gives same result
-        (or_else None entries_in (present_in Member.Limits (view document.now))) }
+        (or_else None entries_in (present Member.Limits (view document.now))) }
 {
     match present(document, Member::Limits) {
         None => Ok(None),

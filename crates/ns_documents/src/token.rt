@@ -4,7 +4,7 @@ ghost use Rattle.std.specs.Prelude.{◌≡◌, ℕ, List, [], IfOk, IfErr, IsTru
 ghost use Rattle.serde_json.specs.View.{view};
 ghost use Rattle.ns_types.specs.declared.acl.TokenKind.TheVariants.{Client};
 ghost use Rattle.ns_types.specs.State.Limits.{is_good_token};
-ghost use Rattle.ns_json.specs.Reading.{Gives, same, present as present_in, or_else, a_text, body_in, IsOfDocument};
+ghost use Rattle.ns_json.specs.Reading.{Gives, same, present, or_else, a_text, body_in, IsOfDocument};
 ghost use Rattle.ns_documents.specs.Members.{names_in};
 ghost use Rattle.ns_documents.specs.Access.{with_accessor, token_kind_in, token_in};
 
@@ -28,7 +28,7 @@ pub struct TokenDocument {
 
 fn name_or_empty(alloc: Global, document: &Value) -> Result<Text, Refusal>
     ensures { Gives same result
-        (or_else [] (a_text Member.Name) (present_in Member.Name (view document.now))) }
+        (or_else [] (a_text Member.Name) (present Member.Name (view document.now))) }
 {
     match present(document, Member::Name) {
         None => Ok(Text::from_str(alloc, "")?),
@@ -52,7 +52,7 @@ fn token_kind(value: &Value) -> Result<TokenKind, Refusal>
 
 fn kind_or_client(document: &Value) -> Result<TokenKind, Refusal>
     ensures { Gives same result
-        (or_else Client token_kind_in (present_in Member.Type (view document.now))) }
+        (or_else Client token_kind_in (present Member.Type (view document.now))) }
 {
     match present(document, Member::Type) {
         None => Ok(TokenKind::Client),
@@ -63,7 +63,7 @@ fn kind_or_client(document: &Value) -> Result<TokenKind, Refusal>
 fn policies_or_none(alloc: Global, document: &Value) -> Result<Rows<Text>, Refusal>
     ensures { Gives same result
         (or_else [] (names_in Member.Policies NameKind.Policy 64)
-        (present_in Member.Policies (view document.now))) }
+        (present Member.Policies (view document.now))) }
 {
     match present(document, Member::Policies) {
         None => Ok(Rows::new(alloc)),

@@ -13,4 +13,4 @@ pub use crate::counting::{Counted, Counts};
 pub use crate::engine::{Answer, ConnFault, READ_LIMIT, serve};
 pub use crate::head::Request;
 pub use crate::input::READ_ROOM;
-pub use crate::output::INTERRUPTION_LIMIT;
+pub use crate::output::{INTERRUPTION_LIMIT, WriteFault, write_all};

@@ -19,8 +19,8 @@ const MAX_RESPONSE_HEAD: usize = 512;
 /// How many interrupted writes of one text are made again.
 pub const INTERRUPTION_LIMIT: u64 = 65_536;
 
-/// Writes all the bytes.
-fn write_all<W: Write>(writer: &mut Counted<W>, bytes: &[u8]) -> Result<(), WriteFault>
+/// Writes all the bytes. An interrupted write is made again, at most `INTERRUPTION_LIMIT` times.
+pub fn write_all<W: Write>(writer: &mut Counted<W>, bytes: &[u8]) -> Result<(), WriteFault>
     ensures ok { OnOk result (WritesAll W.contents writer.old writer.new bytes.now) }
     ensures err { OnErr result (WritesPart W.contents writer.old writer.new bytes.now) }
     ensures failed { OnErr result (IsWriteFault writer.old.counts writer.new.counts) }
@@ -45,9 +45,9 @@ fn write_all<W: Write>(writer: &mut Counted<W>, bytes: &[u8]) -> Result<(), Writ
     Ok(())
 }
 
-/// The writer failed.
+/// The writer failed, took no byte of some, or was interrupted too often.
 #[derive(Clone, Copy, Debug, PartialEq, Eq)]
-pub(crate) struct WriteFault;
+pub struct WriteFault;
 
 /// A buffer in which responses wait, so that those of several requests go out in one write.
 #[derive(Drop)]

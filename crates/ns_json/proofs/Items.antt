@@ -6,7 +6,6 @@ use Rattle.serde_json.specs.View.{view, items_view}
 use Rattle.serde_json.specs.declared.value.Value.{Value}
 use Rattle.serde_json.proofs.Views.{items_len-items_view}
 use Rattle.ns_types.specs.declared.refusal.Refusal.{Refusal}
-use Rattle.ns_types.specs.declared.refusal.Refusal.TheVariants as Refusal
 use Rattle.ns_json.specs.Reading.{◌>>=◌, Read, Fails, each}
 
 pub ruleset counts = (items_len-items_view)

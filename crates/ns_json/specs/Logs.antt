@@ -5,15 +5,11 @@ use Rattle.serde_json.specs.Written.{compact_text}
 use Rattle.ns_types.specs.declared.job.Registration.{Registration}
 use Rattle.ns_types.specs.declared.node.Offer.{Offer}
 use Rattle.ns_types.specs.declared.step.AdminCommand.{AdminCommand}
-use Rattle.ns_types.specs.declared.step.AdminCommand.TheVariants as AdminCommand
 use Rattle.ns_types.specs.declared.step.AskCommand.{AskCommand}
-use Rattle.ns_types.specs.declared.step.AskCommand.TheVariants as AskCommand
 use Rattle.ns_types.specs.declared.step.NewToken.{NewToken}
 use Rattle.ns_types.specs.declared.step.NodeCommand.{NodeCommand}
-use Rattle.ns_types.specs.declared.step.NodeCommand.TheVariants as NodeCommand
 use Rattle.ns_types.specs.declared.step.Report.{Report}
 use Rattle.ns_types.specs.declared.step.Step.{Step}
-use Rattle.ns_types.specs.declared.step.Step.TheVariants as Step
 use Rattle.ns_types.specs.State.Names.{Name}
 use Rattle.ns_json.specs.Rendering.{number_of, object_of, list_of, text_or_empty, constraint_json, group_json}
 use Rattle.ns_json.specs.Rendering.{namespace_json, quota_json, pool_json, attributes_json, policy_json, token_json}

@@ -9,7 +9,6 @@ use Rattle.serde_json.specs.Written.{outline}
 use Rattle.ns_types.specs.declared.reply.JobShown.{JobShown}
 use Rattle.ns_types.specs.Wire.Words.{job_status_text}
 use Rattle.ns_json.specs.declared.part.Part.{Part}
-use Rattle.ns_json.specs.declared.part.Part.TheVariants as Part
 
 abbrev pub token_of : Part → Token
 token_of Part.BeginObject = Token.begin_object

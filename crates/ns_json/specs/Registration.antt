@@ -5,10 +5,8 @@ use Rattle.std.specs.List.{starts_with, ends_with}
 use Rattle.std.specs.Str.{bytes_eq}
 use Rattle.serde_json.specs.Data.{Data}
 use Rattle.ns_types.specs.declared.refusal.Member.{Member}
-use Rattle.ns_types.specs.declared.refusal.Member.TheVariants as Member
 use Rattle.ns_types.specs.declared.refusal.Refusal.TheVariants.{BadField}
 use Rattle.ns_types.specs.declared.name.NameKind.{NameKind}
-use Rattle.ns_types.specs.declared.name.NameKind.TheVariants as NameKind
 use Rattle.ns_types.specs.declared.job.JobKind.{JobKind}
 use Rattle.ns_types.specs.declared.job.JobKind.TheVariants.{Service, Batch}
 use Rattle.ns_types.specs.declared.job.Operand.{Operand}

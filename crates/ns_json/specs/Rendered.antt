@@ -1,7 +1,6 @@
 -- Which replies are rendered.
 use Rattle.std.specs.Prelude.{ℕ}
 use Rattle.ns_types.specs.declared.reply.Content.{Content}
-use Rattle.ns_types.specs.declared.reply.Content.TheVariants as Content
 
 abbrev pub IsRegistered : Content → Type 0
 IsRegistered (Content.Registered evaluation index job_index) = Unit {0}

@@ -3,7 +3,7 @@
 ghost use Rattle.std.specs.Prelude.{◌≡◌, [], option_map};
 ghost use Rattle.serde_json.specs.View.{view, items_view};
 ghost use Rattle.ns_json.specs.Reading.{Gives, same, each, or_refuse};
-ghost use Rattle.ns_json.specs.Registration.{attribute_key as key_in, target_of, operand_of, constraint_in, constraint_after, constraints_in};
+ghost use Rattle.ns_json.specs.Registration.{attribute_key, target_of, operand_of, constraint_in, constraint_after, constraints_in};
 
 use crate::member::{demanded, list, object, text};
 use ns_types::job::{Constraint, Operand, Target};
@@ -16,7 +16,7 @@ use std::alloc::Global;
 /// The key of `${attr.KEY}`.
 #[tactic(auto, unfolding(crate::specs::Registration::attribute_key))]
 fn attribute_key(text: &str) -> Option<&str>
-    ensures { option_map (λ k. k.now) result ≡ key_in text.now }
+    ensures { option_map (λ k. k.now) result ≡ attribute_key text.now }
 {
     text.strip_prefix("${attr.")?.strip_suffix("}")
 }

@@ -3,7 +3,7 @@
 ghost use Rattle.std.specs.Prelude.{◌≡◌, [], IfOk};
 ghost use Rattle.std.specs.List.{list_any};
 ghost use Rattle.serde_json.specs.View.{view, items_view};
-ghost use Rattle.ns_json.specs.Reading.{Gives, same, each, has_name, or_else, present as present_in};
+ghost use Rattle.ns_json.specs.Reading.{Gives, same, each, has_name, or_else, present};
 ghost use Rattle.ns_json.specs.Registration.{resources_in, default_resources, no_constraints, task_in, tasks_in, group_in, groups_in};
 
 use crate::member;
@@ -30,7 +30,7 @@ fn resources(value: &Value) -> Result<Resources, Refusal>
 
 fn resources_or_default(task: &Value) -> Result<Resources, Refusal>
     ensures { Gives same result
-        (or_else default_resources resources_in (present_in Member.Resources (view task.now))) }
+        (or_else default_resources resources_in (present Member.Resources (view task.now))) }
 {
     match present(task, Member::Resources) {
         None => Ok(Resources {

@@ -4,7 +4,7 @@ ghost use Rattle.std.specs.Prelude.{◌≡◌, IfOk, OnOk, string_bytes, ◌∷�
 ghost use Rattle.std.specs.List.{flat_map};
 ghost use Rattle.json.specs.Token.{string};
 ghost use Rattle.serde_json.specs.Written.{compact_text};
-ghost use Rattle.ns_types.specs.Wire.Words.{target_text as text_of_target, operand_text as text_of_operand, kind_text as text_of_kind, job_status_text as text_of_status};
+ghost use Rattle.ns_types.specs.Wire.Words.{target_text, operand_text, kind_text, job_status_text};
 ghost use Rattle.ns_json.specs.Part.{Adds, Follows, tokens_of, member_tokens};
 ghost use Rattle.ns_json.specs.Rendering.{constraint_json, task_json, group_json, job_json};
 
@@ -16,7 +16,7 @@ use std::alloc::{AllocError, Global};
 
 /// The word for a job's status.
 pub fn status_text<'a>(status: JobStatus) -> &'a str
-    ensures { result.now ≡ text_of_status status }
+    ensures { result.now ≡ job_status_text status }
 {
     match status {
         JobStatus::Dead => "dead",
@@ -27,7 +27,7 @@ pub fn status_text<'a>(status: JobStatus) -> &'a str
 
 /// The word for a job's type.
 pub fn kind_text(kind: JobKind) -> &'static str
-    ensures { result.now ≡ text_of_kind kind }
+    ensures { result.now ≡ kind_text kind }
 {
     match kind {
         JobKind::Service => "service",
@@ -36,7 +36,7 @@ pub fn kind_text(kind: JobKind) -> &'static str
 }
 
 fn operand_text<'a>(operand: Operand) -> &'a str
-    ensures { result.now ≡ text_of_operand operand }
+    ensures { result.now ≡ operand_text operand }
 {
     match operand {
         Operand::Equal => "=",
@@ -45,7 +45,7 @@ fn operand_text<'a>(operand: Operand) -> &'a str
 }
 
 fn target_text(alloc: Global, target: &Target) -> Result<String, AllocError>
-    ensures { IfOk result (λ s. string_bytes s ≡ text_of_target target.now) }
+    ensures { IfOk result (λ s. string_bytes s ≡ target_text target.now) }
 {
     match target {
         Target::NodeClass => String::from_str(alloc, "${node.class}"),

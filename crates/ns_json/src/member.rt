@@ -2,8 +2,8 @@
 
 ghost use Rattle.std.specs.Prelude.{◌≡◌, ℕ, List, Option, option_map, map, false};
 ghost use Rattle.serde_json.specs.View.{view, items_view};
-ghost use Rattle.ns_json.specs.Reading.{Gives, same, present as present_in, demanded as demanded_in, an_object, a_flag, a_number, a_text, a_name, a_list, or_else, top, json_in};
-ghost use Rattle.ns_json.specs.Registration.{name_if_any as name_if_any_in};
+ghost use Rattle.ns_json.specs.Reading.{Gives, same, present, demanded, an_object, a_flag, a_number, a_text, a_name, a_list, or_else, top, json_in};
+ghost use Rattle.ns_json.specs.Registration.{name_if_any};
 
 use ns_types::name::{Name, NameKind};
 use ns_types::refusal::{Member, Refusal};
@@ -31,7 +31,7 @@ pub fn read_json(alloc: Global, body: &[u8]) -> Result<Value, Refusal>
 /// The member, where it is there and not null.
 #[tactic(auto, unfolding(crate::specs::Reading::present))]
 pub fn present(object: &Value, member: Member) -> Option<&Value>
-    ensures { option_map (λ v. view v.now) result ≡ present_in member (view object.now) }
+    ensures { option_map (λ v. view v.now) result ≡ present member (view object.now) }
 {
     match object.get(member.name()) {
         Some(Value::Null) | None => None,
@@ -42,7 +42,7 @@ pub fn present(object: &Value, member: Member) -> Option<&Value>
 /// The member, which has to be there.
 #[tactic(auto, unfolding(crate::specs::Reading::demanded))]
 pub fn demanded(object: &Value, member: Member) -> Result<&Value, Refusal>
-    ensures { Gives (λ v. view v.now) result (demanded_in member (view object.now)) }
+    ensures { Gives (λ v. view v.now) result (demanded member (view object.now)) }
 {
     present(object, member).ok_or(Refusal::BadField(member))
 }
@@ -133,7 +133,7 @@ pub fn number_or(
     default: u64,
 ) -> Result<u64, Refusal>
     ensures { Gives same result
-        (or_else default (a_number member low high) (present_in member (view object.now))) }
+        (or_else default (a_number member low high) (present member (view object.now))) }
 {
     match present(object, member) {
         None => Ok(default),
@@ -144,7 +144,7 @@ pub fn number_or(
 /// Whether a flag is set, which is no where it is absent.
 pub fn flag_or_false(object: &Value, member: Member) -> Result<bool, Refusal>
     ensures { Gives same result
-        (or_else false (a_flag member) (present_in member (view object.now))) }
+        (or_else false (a_flag member) (present member (view object.now))) }
 {
     match present(object, member) {
         None => Ok(false),
@@ -160,7 +160,7 @@ pub fn name_if_any(
     member: Member,
     kind: NameKind,
 ) -> Result<Option<Text>, Refusal>
-    ensures { Gives same result (name_if_any_in member kind (view value.now)) }
+    ensures { Gives same result (name_if_any member kind (view value.now)) }
 {
     if text(value, member)?.is_empty() {
         return Ok(None);

@@ -3,8 +3,8 @@
 ghost use Rattle.std.specs.Prelude.{◌≡◌, [], None, IfErr};
 ghost use Rattle.serde_json.specs.View.{view};
 ghost use Rattle.ns_types.specs.declared.job.JobKind.TheVariants.{Service};
-ghost use Rattle.ns_json.specs.Reading.{Gives, same, present as present_in, or_else, body_in, IsOfDocument};
-ghost use Rattle.ns_json.specs.Registration.{name_if_any as name_if_any_in, pool_in, kind_in, absent as absent_in, constraints_in, job_in, registration_in};
+ghost use Rattle.ns_json.specs.Reading.{Gives, same, present, or_else, body_in, IsOfDocument};
+ghost use Rattle.ns_json.specs.Registration.{name_if_any, pool_in, kind_in, absent, constraints_in, job_in, registration_in};
 
 use crate::constraint::constraints;
 use crate::group::groups;
@@ -29,8 +29,8 @@ pub struct RegistrationDocument {
 
 fn namespace(alloc: Global, job: &Value) -> Result<Option<Text>, Refusal>
     ensures { Gives same result
-        (or_else None (name_if_any_in Member.Namespace NameKind.Namespace)
-        (present_in Member.Namespace (view job.now))) }
+        (or_else None (name_if_any Member.Namespace NameKind.Namespace)
+        (present Member.Namespace (view job.now))) }
 {
     match present(job, Member::Namespace) {
         None => Ok(None),
@@ -50,7 +50,7 @@ fn pool(alloc: Global, value: &Value) -> Result<Option<Text>, Refusal>
 
 fn node_pool(alloc: Global, job: &Value) -> Result<Option<Text>, Refusal>
     ensures { Gives same result
-        (or_else None pool_in (present_in Member.NodePool (view job.now))) }
+        (or_else None pool_in (present Member.NodePool (view job.now))) }
 {
     match present(job, Member::NodePool) {
         None => Ok(None),
@@ -73,7 +73,7 @@ fn job_kind(value: &Value) -> Result<JobKind, Refusal>
 }
 
 fn kind_or_service(job: &Value) -> Result<JobKind, Refusal>
-    ensures { Gives same result (or_else Service kind_in (present_in Member.Type (view job.now))) }
+    ensures { Gives same result (or_else Service kind_in (present Member.Type (view job.now))) }
 {
     match present(job, Member::Type) {
         None => Ok(JobKind::Service),
@@ -83,7 +83,7 @@ fn kind_or_service(job: &Value) -> Result<JobKind, Refusal>
 
 fn constraints_or_none(alloc: Global, job: &Value) -> Result<Rows<Constraint>, Refusal>
     ensures { Gives same result
-        (or_else [] constraints_in (present_in Member.Constraints (view job.now))) }
+        (or_else [] constraints_in (present Member.Constraints (view job.now))) }
 {
     match present(job, Member::Constraints) {
         None => Ok(Rows::new(alloc)),
@@ -92,7 +92,7 @@ fn constraints_or_none(alloc: Global, job: &Value) -> Result<Rows<Constraint>, R
 }
 
 fn absent(job: &Value, member: Member) -> Result<(), Refusal>
-    ensures { Gives same result (absent_in member (present_in member (view job.now))) }
+    ensures { Gives same result (absent member (present member (view job.now))) }
 {
     match present(job, member) {
         None => Ok(()),

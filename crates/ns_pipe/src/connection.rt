@@ -1,10 +1,9 @@
 //! One connection with a new server.
 
 ghost use Rattle.std.specs.Prelude.{◌≡◌, IfOk};
-ghost use Rattle.ns_http.specs.Output.{WritesSome};
 ghost use Rattle.ns_types.specs.Steps.{opening};
 ghost use Rattle.ns_pipe.specs.Ending.{IsEnd, EndsServed, EndsByReader, EndsByWriter};
-ghost use Rattle.ns_pipe.specs.Lines.{status_of, line_of};
+ghost use Rattle.ns_pipe.specs.Lines.{Tells, status_of, line_of};
 
 use crate::lines::tell;
 use crate::status::{OUT_OF_MEMORY, READ_FAULT, SERVED, WRITE_FAULT};
@@ -37,7 +36,7 @@ pub fn pipe<D: Draws + Drop, R: Read, W: Write, E: Write>(
     draws: D,
     reader: &mut Counted<R>,
     writer: &mut Counted<W>,
-    errors: &mut E,
+    errors: &mut Counted<E>,
 ) -> u8
     ensures status { IsEnd result }
     ensures served { result ≡ SERVED → EndsServed D.draws R.remaining W.contents
@@ -50,7 +49,7 @@ pub fn pipe<D: Draws + Drop, R: Read, W: Write, E: Write>(
         → (reader.new ≡ reader.old) × (writer.new ≡ writer.old) }
     ensures silent { result ≡ SERVED → errors.new ≡ errors.old }
     ensures told { (fault : ConnFault) → result ≡ status_of fault
-        → WritesSome (E.contents errors.old) (E.contents errors.new) (line_of fault) }
+        → Tells E.contents errors.old errors.new (line_of fault) }
 {
     let Ok(mut api) = opened(alloc, bootstrap, draws) else {
         return tell(ConnFault::Memory, errors);

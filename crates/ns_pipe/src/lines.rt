@@ -2,35 +2,23 @@
 
 ghost use Rattle.std.specs.Prelude.{◌≡◌, ◌≢◌};
 ghost use Rattle.std.specs.IoError.{error_kind};
-ghost use Rattle.ns_http.specs.Output.{WritesSome};
-ghost use Rattle.ns_pipe.specs.Lines.{status_of, line_of, no_text_line};
+ghost use Rattle.ns_pipe.specs.Lines.{Tells, status_of, line_of, no_text_line};
 
 use crate::status::{BAD_WORDS, OUT_OF_MEMORY, READ_FAULT, WRITE_FAULT};
-use ns_http::ConnFault;
+use ns_http::{ConnFault, Counted, write_all};
 use std::io::{self, ErrorKind, Write};
 
-/// How many interrupted writes of one text are tried again.
-const WRITE_TRIES: u32 = 1_024;
-
 /// Writes the bytes, or as many of them as the writer takes.
-pub(crate) fn say<E: Write>(errors: &mut E, bytes: &[u8])
-    ensures { WritesSome (E.contents errors.old) (E.contents errors.new) bytes.now }
+pub(crate) fn say<E: Write>(errors: &mut Counted<E>, bytes: &[u8])
+    ensures { Tells E.contents errors.old errors.new bytes.now }
 {
-    let mut rest = bytes;
-    let mut tries = WRITE_TRIES;
-    while !rest.is_empty() {
-        match errors.write(rest) {
-            Ok(count) if count > 0 => rest = &rest[count..],
-            Err(error) if error.kind() == ErrorKind::Interrupted && tries > 0 => tries -= 1,
-            _ => return,
-        }
-    }
+    let _ = write_all(errors, bytes);
 }
 
 /// Writes the line of the fault, and says its exit status.
-pub fn tell<E: Write>(fault: ConnFault, errors: &mut E) -> u8
+pub fn tell<E: Write>(fault: ConnFault, errors: &mut Counted<E>) -> u8
     ensures status { result ≡ status_of fault }
-    ensures line { WritesSome (E.contents errors.old) (E.contents errors.new) (line_of fault) }
+    ensures line { Tells E.contents errors.old errors.new (line_of fault) }
 {
     match fault {
         ConnFault::Read => {
@@ -49,19 +37,19 @@ pub fn tell<E: Write>(fault: ConnFault, errors: &mut E) -> u8
 }
 
 /// Tells that the system gave no random bits, which ends the program as a read fault.
-pub fn tell_no_random<E: Write>(errors: &mut E) -> u8
+pub fn tell_no_random<E: Write>(errors: &mut Counted<E>) -> u8
     ensures status { result ≡ READ_FAULT }
-    ensures line { WritesSome (E.contents errors.old) (E.contents errors.new) (line_of ConnFault.Read) }
+    ensures line { Tells E.contents errors.old errors.new (line_of ConnFault.Read) }
 {
     tell(ConnFault::Read, errors)
 }
 
 /// Tells why the words could not be had.
-pub fn tell_no_words<E: Write>(error: &io::Error, errors: &mut E) -> u8
+pub fn tell_no_words<E: Write>(error: &io::Error, errors: &mut Counted<E>) -> u8
     ensures out_of_memory { error_kind error.now ≡ ErrorKind.OutOfMemory → (result ≡ OUT_OF_MEMORY)
-        × WritesSome (E.contents errors.old) (E.contents errors.new) (line_of ConnFault.Memory) }
+        × Tells E.contents errors.old errors.new (line_of ConnFault.Memory) }
     ensures no_text { error_kind error.now ≢ ErrorKind.OutOfMemory → (result ≡ BAD_WORDS)
-        × WritesSome (E.contents errors.old) (E.contents errors.new) no_text_line }
+        × Tells E.contents errors.old errors.new no_text_line }
 {
     if error.kind() == ErrorKind::OutOfMemory {
         return tell(ConnFault::Memory, errors);

@@ -1,20 +1,19 @@
 //! What the program does, by what it is asked.
 
 ghost use Rattle.std.specs.Prelude.{◌≡◌, ◌≢◌, ℕ, List, ◌⊎◌};
-ghost use Rattle.std.specs.Io.KnownBytes.{Appends};
-ghost use Rattle.ns_http.specs.Output.{WritesSome};
+ghost use Rattle.ns_http.specs.Output.{WritesAll};
 ghost use Rattle.ns_types.specs.State.Names.{Name};
 ghost use Rattle.ns_types.specs.Steps.{opening};
 ghost use Rattle.ns_pipe.specs.Asking.{IsHelp, IsMistake};
 ghost use Rattle.ns_pipe.specs.Ending.{Ends, uncounted};
-ghost use Rattle.ns_pipe.specs.Lines.{status_of, line_of};
+ghost use Rattle.ns_pipe.specs.Lines.{Tells, FailsToWrite, status_of, line_of};
 
 use crate::asked::Asked;
 use crate::connection::pipe;
 use crate::lines::{say, tell};
 use crate::status::{BAD_WORDS, OUT_OF_MEMORY, SERVED, WRITE_FAULT};
 use ns_api::Draws;
-use ns_http::{ConnFault, Counted};
+use ns_http::{ConnFault, Counted, write_all};
 use std::alloc::Global;
 use std::io::{Read, Write};
 
@@ -27,15 +26,16 @@ pub struct Ended<R, W> {
 }
 
 /// Writes the help, and says the exit status.
-fn show<W: Write, E: Write>(help: &str, writer: &mut W, errors: &mut E) -> u8
+fn show<W: Write, E: Write>(help: &str, writer: &mut Counted<W>, errors: &mut Counted<E>) -> u8
     ensures status { (result ≡ SERVED) ⊎ (result ≡ WRITE_FAULT) }
-    ensures shown { result ≡ SERVED
-        → Appends (W.contents writer.old) (W.contents writer.new) help.now }
+    ensures shown { result ≡ SERVED → WritesAll W.contents writer.old writer.new help.now }
+    ensures failed { result ≡ WRITE_FAULT
+        → FailsToWrite W.contents writer.old writer.new help.now }
     ensures silent { result ≡ SERVED → errors.new ≡ errors.old }
     ensures told { result ≡ WRITE_FAULT
-        → WritesSome (E.contents errors.old) (E.contents errors.new) (line_of ConnFault.Write) }
+        → Tells E.contents errors.old errors.new (line_of ConnFault.Write) }
 {
-    match writer.write_all(help.as_bytes()) {
+    match write_all(writer, help.as_bytes()) {
         Ok(()) => SERVED,
         Err(_) => tell(ConnFault::Write, errors),
     }
@@ -47,8 +47,8 @@ pub fn run<D: Draws + Drop, R: Read + Drop, W: Write + Drop, E: Write>(
     asked: &Asked<'_>,
     draws: D,
     reader: R,
-    mut writer: W,
-    errors: &mut E,
+    writer: W,
+    errors: &mut Counted<E>,
 ) -> Ended<R, W>
     ensures pipe { (secret : Name) → asked.now ≡ Asked.Pipe secret
         → Ends D.draws R.remaining W.contents (opening secret, draws) result.status
@@ -56,10 +56,12 @@ pub fn run<D: Draws + Drop, R: Read + Drop, W: Write + Drop, E: Write>(
     ensures help { (text : List ℕ) → IsHelp asked.now text
         → (result.status ≡ SERVED) ⊎ (result.status ≡ WRITE_FAULT) }
     ensures shown { (text : List ℕ) → IsHelp asked.now text → result.status ≡ SERVED
-        → Appends (W.contents writer) (W.contents result.writer.inner) text }
+        → WritesAll W.contents (uncounted writer) result.writer text }
+    ensures not_shown { (text : List ℕ) → IsHelp asked.now text → result.status ≡ WRITE_FAULT
+        → FailsToWrite W.contents (uncounted writer) result.writer text }
     ensures mistake { (text : List ℕ) → IsMistake asked.now text
         → (result.status ≡ BAD_WORDS) × (result.writer ≡ uncounted writer)
-        × WritesSome (E.contents errors.old) (E.contents errors.new) text }
+        × Tells E.contents errors.old errors.new text }
     ensures no_memory { asked.now ≡ Asked.NoMemory
         → (result.status ≡ OUT_OF_MEMORY) × (result.writer ≡ uncounted writer) }
     ensures unread { ((secret : Name) → asked.now ≢ Asked.Pipe secret)
@@ -68,12 +70,12 @@ pub fn run<D: Draws + Drop, R: Read + Drop, W: Write + Drop, E: Write>(
     // What is written on the errors goes by the status.
     ensures silent { result.status ≡ SERVED → errors.new ≡ errors.old }
     ensures told { (fault : ConnFault) → result.status ≡ status_of fault
-        → WritesSome (E.contents errors.old) (E.contents errors.new) (line_of fault) }
+        → Tells E.contents errors.old errors.new (line_of fault) }
 {
+    let mut reader = Counted::new(reader);
+    let mut writer = Counted::new(writer);
     let status = match asked {
         Asked::Pipe(secret) => {
-            let mut reader = Counted::new(reader);
-            let mut writer = Counted::new(writer);
             let status = pipe(alloc, secret, draws, &mut reader, &mut writer, errors);
             return Ended {
                 status,
@@ -90,7 +92,7 @@ pub fn run<D: Draws + Drop, R: Read + Drop, W: Write + Drop, E: Write>(
     };
     Ended {
         status,
-        reader: Counted::new(reader),
-        writer: Counted::new(writer),
+        reader,
+        writer,
     }
 }

@@ -6,9 +6,7 @@ use Rattle.std.proofs.lemmas.Slice.Eq.{bytes_eq-Decides}
 use Rattle.std.specs.Bool.{Decides}
 use Rattle.std.proofs.lemmas.Bool.{eqb-false, ltb-false, lt-ltb}
 use Rattle.ns_policy.specs.declared.parser.Role.{Role}
-use Rattle.ns_policy.specs.declared.parser.Role.TheVariants as Role
 use Rattle.ns_policy.specs.declared.parser.Place.{Place}
-use Rattle.ns_policy.specs.declared.parser.Place.TheVariants as Place
 use Rattle.ns_policy.specs.declared.parser.State.{State}
 use Rattle.ns_policy.specs.Lex.{Token, open_block, close_block, begin_list, end_list, comma, equals, word, string, number}
 use Rattle.ns_policy.specs.Rules.{Read, ◌>>=◌, with_policy, with_capability, pattern_of}

@@ -6,7 +6,6 @@ use Rattle.serde_json.specs.Find.{as_array}
 use Rattle.serde_json.specs.View.{view, items_view, members_view}
 use Rattle.serde_json.specs.declared.value.Value.{Value}
 use Rattle.ns_policy.specs.declared.fault.RuleFault.{RuleFault}
-use Rattle.ns_policy.specs.declared.fault.RuleFault.TheVariants as RuleFault
 use Rattle.ns_types.specs.declared.acl.RuleKind.{RuleKind}
 use Rattle.ns_types.specs.declared.acl.Grants.{Grants}
 use Rattle.ns_types.specs.declared.acl.Rule.{Rule}

@@ -4,7 +4,6 @@ use Rattle.ns_policy.specs.declared.fault.RuleFault.TheVariants.{Value}
 use Rattle.ns_types.specs.declared.acl.RuleKind.{RuleKind}
 use Rattle.ns_policy.specs.declared.parser.Role.TheVariants as Role
 use Rattle.ns_policy.specs.declared.parser.Place.{Place}
-use Rattle.ns_policy.specs.declared.parser.Place.TheVariants as Place
 use Rattle.ns_policy.specs.declared.parser.State.{State}
 use Rattle.ns_types.specs.declared.acl.Pattern.{Pattern}
 use Rattle.ns_types.specs.Access.Rights.{no_grants}
@@ -39,10 +38,6 @@ post_if_is false x y P h k = k refl
 pub bind_assoc : {A B C : Type 0} (r : Read A) (f : A → Read B) (g : B → Read C) → ((r >>= f) >>= g) ≡ (r >>= λ x. f x >>= g)
 bind_assoc (Ok x) f g = refl
 bind_assoc (Err e) f g = refl
-
--- what follows a state may be compared at the state's place
-abbrev pub Left : State → Place → Read State → Type 0
-Left s p r = Post r (λ a. (a.place ≡ p) × (a.depth ≡ s.depth))
 
 abbrev pub Placed : Place → Read State → Type 0
 Placed p r = Post r (λ a. a.place ≡ p)

@@ -3,9 +3,7 @@ use Rattle.std.proofs.Common.{◌≡◌, ℕ, ◌+◌, ◌-◌, ◌<◌, ◌≤�
 use Rattle.std.proofs.Common.{length-append, nat_lt, true≢false, if◌then◌else◌}
 use Rattle.std.proofs.lemmas.Bool.{lt-ltb}
 use Rattle.ns_policy.specs.declared.parser.Role.{Role}
-use Rattle.ns_policy.specs.declared.parser.Role.TheVariants as Role
 use Rattle.ns_policy.specs.declared.parser.Place.{Place}
-use Rattle.ns_policy.specs.declared.parser.Place.TheVariants as Place
 use Rattle.ns_policy.specs.declared.parser.State.{State}
 use Rattle.ns_policy.specs.Lex.{Token, open_block, close_block, begin_list, string, number}
 use Rattle.ns_policy.specs.Rules.{◌>>=◌}

@@ -7,9 +7,7 @@ use Rattle.ns_types.specs.declared.acl.RuleKind.{RuleKind}
 use Rattle.ns_types.specs.declared.acl.RuleKind.TheVariants.{Namespace, Pool}
 use Rattle.ns_types.specs.declared.acl.Rule.{Rule}
 use Rattle.ns_policy.specs.declared.parser.Role.{Role}
-use Rattle.ns_policy.specs.declared.parser.Role.TheVariants as Role
 use Rattle.ns_policy.specs.declared.parser.Place.{Place}
-use Rattle.ns_policy.specs.declared.parser.Place.TheVariants as Place
 use Rattle.ns_policy.specs.declared.parser.Draft.{Draft}
 use Rattle.ns_policy.specs.declared.parser.State.{State}
 use Rattle.ns_policy.specs.Lex.{Token, open_block, close_block, begin_list, end_list, comma, equals, word, string}

@@ -4,7 +4,6 @@ use Rattle.std.specs.Prelude.{Result, Ok, Err, codes, if◌then◌else◌}
 use Rattle.std.specs.List.{list_all}
 use Rattle.std.specs.Str.{bytes_eq}
 use Rattle.ns_types.specs.declared.name.NameKind.{NameKind}
-use Rattle.ns_types.specs.declared.name.NameKind.TheVariants as NameKind
 use Rattle.ns_types.specs.State.Name.{is_name_byte}
 use Rattle.ns_policy.specs.declared.fault.RuleFault.{RuleFault}
 use Rattle.ns_policy.specs.declared.fault.RuleFault.TheVariants.{Syntax, Value, Memory}

@@ -4,7 +4,7 @@ ghost use Rattle.std.specs.Prelude.{◌≡◌, [], option_map};
 ghost use Rattle.serde_json.specs.View.{view, items_view, members_view};
 ghost use Rattle.ns_policy.specs.Rules.{Gives, same};
 ghost use Rattle.serde_json.specs.Find.{as_array};
-ghost use Rattle.ns_policy.specs.Json.{or_value, present as present_in, policy_in, capabilities_in, each_capability, one_capability, json_form, rule_in, with_rule, each_rule, kind_rules as kind_rules_in, member_name, json_rules as json_rules_in, json_text};
+ghost use Rattle.ns_policy.specs.Json.{or_value, present, policy_in, capabilities_in, each_capability, one_capability, json_form, rule_in, with_rule, each_rule, kind_rules, member_name, json_rules, json_text};
 
 use crate::fault::RuleFault;
 use crate::rule::{NO_GRANTS, read_pattern, with_capability, with_policy};
@@ -16,7 +16,7 @@ use std::alloc::Global;
 /// The member, where it is there and not null.
 #[tactic(auto, unfolding(crate::specs::Json::present))]
 fn present<'v>(object: &'v Value, name: &str) -> Option<&'v Value>
-    ensures { option_map (λ v. view v.now) result ≡ present_in name.now (view object.now) }
+    ensures { option_map (λ v. view v.now) result ≡ present name.now (view object.now) }
 {
     match object.get(name) {
         Some(Value::Null) | None => None,
@@ -135,7 +135,7 @@ fn add_kind(
     kind: RuleKind,
     text: &Value,
 ) -> Result<Rows<Rule>, RuleFault>
-    ensures { Gives same result (kind_rules_in kind rules (view text.now)) }
+    ensures { Gives same result (kind_rules kind rules (view text.now)) }
 {
     match present(text, name_of(kind)) {
         None => Ok(rules),
@@ -157,7 +157,7 @@ fn name_of(kind: RuleKind) -> &'static str
 
 #[tactic(auto, unfolding(crate::specs::Json::json_rules))]
 fn rules_in(alloc: Global, text: &Value) -> Result<Rows<Rule>, RuleFault>
-    ensures { Gives same result (json_rules_in (view text.now)) }
+    ensures { Gives same result (json_rules (view text.now)) }
 {
     let rules = add_kind(alloc, Rows::new(alloc), RuleKind::Namespace, text)?;
     add_kind(alloc, rules, RuleKind::Pool, text)

@@ -3,7 +3,7 @@
 ghost use Rattle.std.specs.Prelude.{◌≡◌, Ok, []};
 ghost use Rattle.ns_policy.specs.Tokens.{seen};
 ghost use Rattle.ns_policy.specs.Rules.{Gives, same};
-ghost use Rattle.ns_policy.specs.Grammar.{role_of, start, at, blocks, read_on, next as next_in, finish as finish_in, step as step_in, with_rule as with_rule_in, step_item as step_item_in, step_name as step_name_in, step_label as step_label_in, step_value as step_value_in, step_before as step_before_in, step_after as step_after_in, close_list as close_list_in, set_policy as set_policy_in, begin_capabilities as begin_capabilities_in, add_capability as add_capability_in, enter as enter_in, leave as leave_in, named as named_in, is_flag as is_flag_in};
+ghost use Rattle.ns_policy.specs.Grammar.{role_of, start, at, blocks, read_on, next, finish, step, with_rule, step_item, step_name, step_label, step_value, step_before, step_after, close_list, set_policy, begin_capabilities, add_capability, enter, leave, named, is_flag};
 
 use crate::fault::RuleFault;
 use crate::lex::{Token, skip_blanks, token_at};
@@ -84,7 +84,7 @@ fn role_at(depth: u64, in_rule: bool, word: &[u8]) -> Role
 }
 
 fn is_flag(word: &[u8]) -> bool
-    ensures { result ≡ is_flag_in word.now }
+    ensures { result ≡ is_flag word.now }
 {
     word == b"true".as_slice() || word == b"false".as_slice()
 }
@@ -92,7 +92,7 @@ fn is_flag(word: &[u8]) -> bool
 /// A block opens.
 #[tactic(auto, unfolding(crate::specs::Grammar::enter))]
 fn enter(state: State) -> Result<State, RuleFault>
-    ensures { Gives same result (enter_in state) }
+    ensures { Gives same result (enter state) }
 {
     if state.depth >= MAX_DEPTH {
         return Err(RuleFault::Syntax);
@@ -106,7 +106,7 @@ fn enter(state: State) -> Result<State, RuleFault>
 
 /// The rule of a block that closes comes last.
 fn with_rule(rules: Rows<Rule>, draft: Option<Draft>) -> Result<Rows<Rule>, RuleFault>
-    ensures { Gives same result (Ok (with_rule_in rules draft)) }
+    ensures { Gives same result (Ok (with_rule rules draft)) }
 {
     let mut rules = rules;
     if let Some(draft) = draft {
@@ -122,7 +122,7 @@ fn with_rule(rules: Rows<Rule>, draft: Option<Draft>) -> Result<Rows<Rule>, Rule
 /// A block closes, and with it the rule that it states.
 #[tactic(auto, unfolding(crate::specs::Grammar::leave))]
 fn leave(state: State) -> Result<State, RuleFault>
-    ensures { Gives same result (leave_in state) }
+    ensures { Gives same result (leave state) }
 {
     if state.depth == 0 {
         return Err(RuleFault::Syntax);
@@ -144,7 +144,7 @@ fn leave(state: State) -> Result<State, RuleFault>
 
 #[tactic(auto, unfolding(crate::specs::Grammar::step_item))]
 fn step_item(state: State, token: Token<'_>) -> Result<State, RuleFault>
-    ensures { Gives same result (step_item_in state (seen token.entry)) }
+    ensures { Gives same result (step_item state (seen token.entry)) }
 {
     match token {
         Token::Word(word) => {
@@ -162,7 +162,7 @@ fn step_item(state: State, token: Token<'_>) -> Result<State, RuleFault>
 /// The label of a block that states a rule.
 #[tactic(auto, unfolding(crate::specs::Grammar::named))]
 fn named(alloc: Global, state: State, kind: RuleKind, label: &[u8]) -> Result<State, RuleFault>
-    ensures { Gives same result (named_in state kind label.now) }
+    ensures { Gives same result (named state kind label.now) }
 {
     let pattern = read_pattern(alloc, kind, label)?;
     Ok(State {
@@ -180,7 +180,7 @@ fn named(alloc: Global, state: State, kind: RuleKind, label: &[u8]) -> Result<St
 
 #[tactic(auto, unfolding(crate::specs::Grammar::step_name))]
 fn step_name(alloc: Global, state: State, role: Role, token: Token<'_>) -> Result<State, RuleFault>
-    ensures { Gives same result (step_name_in state role (seen token.entry)) }
+    ensures { Gives same result (step_name state role (seen token.entry)) }
 {
     match (token, role) {
         (Token::Equals, _) => Ok(State {
@@ -200,7 +200,7 @@ fn step_name(alloc: Global, state: State, role: Role, token: Token<'_>) -> Resul
 
 #[tactic(auto, unfolding(crate::specs::Grammar::step_label))]
 fn step_label(state: State, role: Role, token: Token<'_>) -> Result<State, RuleFault>
-    ensures { Gives same result (step_label_in state role (seen token.entry)) }
+    ensures { Gives same result (step_label state role (seen token.entry)) }
 {
     match (token, role) {
         (Token::Text(_), Role::Other) => Ok(state),
@@ -213,7 +213,7 @@ fn step_label(state: State, role: Role, token: Token<'_>) -> Result<State, RuleF
 /// The policy of the rule whose block is open.
 #[tactic(auto, unfolding(crate::specs::Grammar::set_policy))]
 fn set_policy(state: State, word: &[u8]) -> Result<State, RuleFault>
-    ensures { Gives same result (set_policy_in state word.now) }
+    ensures { Gives same result (set_policy state word.now) }
 {
     let draft = state.draft.ok_or(RuleFault::Value)?;
     if draft.has_policy {
@@ -234,7 +234,7 @@ fn set_policy(state: State, word: &[u8]) -> Result<State, RuleFault>
 /// The list of capabilities begins.
 #[tactic(auto, unfolding(crate::specs::Grammar::begin_capabilities))]
 fn begin_capabilities(state: State) -> Result<State, RuleFault>
-    ensures { Gives same result (begin_capabilities_in state) }
+    ensures { Gives same result (begin_capabilities state) }
 {
     let draft = state.draft.ok_or(RuleFault::Value)?;
     if draft.has_capabilities {
@@ -253,7 +253,7 @@ fn begin_capabilities(state: State) -> Result<State, RuleFault>
 /// One capability of the list that is open.
 #[tactic(auto, unfolding(crate::specs::Grammar::add_capability))]
 fn add_capability(state: State, word: &[u8]) -> Result<State, RuleFault>
-    ensures { Gives same result (add_capability_in state word.now) }
+    ensures { Gives same result (add_capability state word.now) }
 {
     let draft = state.draft.ok_or(RuleFault::Value)?;
     let grants = with_capability(draft.kind, draft.grants, word)?;
@@ -272,7 +272,7 @@ fn move_to(state: State, place: Place) -> State
 
 #[tactic(auto, unfolding(crate::specs::Grammar::step_value))]
 fn step_value(state: State, role: Role, token: Token<'_>) -> Result<State, RuleFault>
-    ensures { Gives same result (step_value_in state role (seen token.entry)) }
+    ensures { Gives same result (step_value state role (seen token.entry)) }
 {
     match (token, role) {
         (Token::Text(word), Role::Policy) => set_policy(state, word),
@@ -292,7 +292,7 @@ fn step_value(state: State, role: Role, token: Token<'_>) -> Result<State, RuleF
 
 /// A list closes, the last of so many open ones.
 fn close_list(state: State, role: Role, lists: u64) -> State
-    ensures { result ≡ close_list_in state role lists }
+    ensures { result ≡ close_list state role lists }
 {
     if lists > 1 {
         move_to(state, Place::After(role, lists - 1))
@@ -303,7 +303,7 @@ fn close_list(state: State, role: Role, lists: u64) -> State
 
 #[tactic(auto, unfolding(crate::specs::Grammar::step_before))]
 fn step_before(state: State, role: Role, lists: u64, token: Token<'_>) -> Result<State, RuleFault>
-    ensures { Gives same result (step_before_in state role lists (seen token.entry)) }
+    ensures { Gives same result (step_before state role lists (seen token.entry)) }
 {
     match (token, role) {
         (Token::EndList, _) => Ok(close_list(state, role, lists)),
@@ -322,7 +322,7 @@ fn step_before(state: State, role: Role, lists: u64, token: Token<'_>) -> Result
 
 #[tactic(auto, unfolding(crate::specs::Grammar::step_after))]
 fn step_after(state: State, role: Role, lists: u64, token: Token<'_>) -> Result<State, RuleFault>
-    ensures { Gives same result (step_after_in state role lists (seen token.entry)) }
+    ensures { Gives same result (step_after state role lists (seen token.entry)) }
 {
     match token {
         Token::Comma => Ok(move_to(state, Place::Before(role, lists))),
@@ -333,7 +333,7 @@ fn step_after(state: State, role: Role, lists: u64, token: Token<'_>) -> Result<
 
 #[tactic(auto, unfolding(crate::specs::Grammar::step))]
 fn step(alloc: Global, state: State, token: Token<'_>) -> Result<State, RuleFault>
-    ensures { Gives same result (step_in state (seen token.entry)) }
+    ensures { Gives same result (step state (seen token.entry)) }
 {
     match state.place {
         Place::Item => step_item(state, token),
@@ -348,7 +348,7 @@ fn step(alloc: Global, state: State, token: Token<'_>) -> Result<State, RuleFaul
 /// The rules, where no item is begun and no block is open.
 #[tactic(auto, unfolding(crate::specs::Grammar::finish))]
 fn finish(state: State) -> Result<Rows<Rule>, RuleFault>
-    ensures { Gives same result (finish_in state) }
+    ensures { Gives same result (finish state) }
 {
     if state.place == Place::Item && state.depth == 0 {
         Ok(state.rules)
@@ -360,7 +360,7 @@ fn finish(state: State) -> Result<Rows<Rule>, RuleFault>
 /// The first token of a text, and what follows it.
 #[tactic(auto, unfolding(crate::specs::Grammar::next))]
 fn next(text: &[u8]) -> Result<(Token<'_>, &[u8]), RuleFault>
-    ensures { Gives (λ x. (seen x.0, x.1.now)) result (next_in text.now) }
+    ensures { Gives (λ x. (seen x.0, x.1.now)) result (next text.now) }
 {
     token_at(text).ok_or(RuleFault::Syntax)
 }

@@ -2,7 +2,7 @@
 
 ghost use Rattle.std.specs.Prelude.{◌≡◌};
 ghost use Rattle.ns_types.specs.Access.Rights.{no_grants};
-ghost use Rattle.ns_policy.specs.Rules.{Gives, same, name_kind as name_kind_of, namespace_policy as namespace_policy_in, pool_policy as pool_policy_in, with_policy as with_policy_in, namespace_capability as namespace_capability_in, pool_capability as pool_capability_in, with_capability as with_capability_in, pattern_of};
+ghost use Rattle.ns_policy.specs.Rules.{Gives, same, name_kind, namespace_policy, pool_policy, with_policy, namespace_capability, pool_capability, with_capability, pattern_of};
 
 use crate::fault::RuleFault;
 use ns_types::acl::{Grants, Pattern, RuleKind};
@@ -21,7 +21,7 @@ pub const NO_GRANTS: Grants = Grants {
 };
 
 fn namespace_policy(grants: Grants, word: &[u8]) -> Result<Grants, RuleFault>
-    ensures { Gives same result (namespace_policy_in word.now grants) }
+    ensures { Gives same result (namespace_policy word.now grants) }
 {
     if word == b"deny".as_slice() {
         return Ok(Grants {
@@ -52,7 +52,7 @@ fn namespace_policy(grants: Grants, word: &[u8]) -> Result<Grants, RuleFault>
 }
 
 fn pool_policy(grants: Grants, word: &[u8]) -> Result<Grants, RuleFault>
-    ensures { Gives same result (pool_policy_in word.now grants) }
+    ensures { Gives same result (pool_policy word.now grants) }
 {
     if word == b"deny".as_slice() {
         return Ok(Grants {
@@ -79,7 +79,7 @@ fn pool_policy(grants: Grants, word: &[u8]) -> Result<Grants, RuleFault>
 /// What a rule gives with that policy.
 #[tactic(auto, unfolding(crate::specs::Rules::with_policy))]
 pub fn with_policy(kind: RuleKind, grants: Grants, word: &[u8]) -> Result<Grants, RuleFault>
-    ensures { Gives same result (with_policy_in kind word.now grants) }
+    ensures { Gives same result (with_policy kind word.now grants) }
 {
     match kind {
         RuleKind::Namespace => namespace_policy(grants, word),
@@ -88,7 +88,7 @@ pub fn with_policy(kind: RuleKind, grants: Grants, word: &[u8]) -> Result<Grants
 }
 
 fn namespace_capability(grants: Grants, word: &[u8]) -> Grants
-    ensures { result ≡ namespace_capability_in word.now grants }
+    ensures { result ≡ namespace_capability word.now grants }
 {
     if word == b"deny".as_slice() {
         return Grants {
@@ -124,7 +124,7 @@ fn namespace_capability(grants: Grants, word: &[u8]) -> Grants
 }
 
 fn pool_capability(grants: Grants, word: &[u8]) -> Result<Grants, RuleFault>
-    ensures { Gives same result (pool_capability_in word.now grants) }
+    ensures { Gives same result (pool_capability word.now grants) }
 {
     if word == b"delete".as_slice() {
         return Ok(grants);
@@ -135,7 +135,7 @@ fn pool_capability(grants: Grants, word: &[u8]) -> Result<Grants, RuleFault>
 /// What a rule gives with one more capability.
 #[tactic(auto, unfolding(crate::specs::Rules::with_capability))]
 pub fn with_capability(kind: RuleKind, grants: Grants, word: &[u8]) -> Result<Grants, RuleFault>
-    ensures { Gives same result (with_capability_in kind word.now grants) }
+    ensures { Gives same result (with_capability kind word.now grants) }
 {
     match kind {
         RuleKind::Namespace => Ok(namespace_capability(grants, word)),
@@ -144,7 +144,7 @@ pub fn with_capability(kind: RuleKind, grants: Grants, word: &[u8]) -> Result<Gr
 }
 
 fn name_kind(kind: RuleKind) -> NameKind
-    ensures { result ≡ name_kind_of kind }
+    ensures { result ≡ name_kind kind }
 {
     match kind {
         RuleKind::Namespace => NameKind::Namespace,

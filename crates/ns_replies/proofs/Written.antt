@@ -7,7 +7,7 @@ use Rattle.json.specs.Token.{Token, begin_object, end_object, begin_array, end_a
 use Rattle.json.specs.Print.{print, escape_byte}
 use Rattle.json.specs.Tree.{room, members_tokens}
 use Rattle.json.specs.Written.{Written}
-use Rattle.serde_json.specs.Data.{Data, object, no_members, string as string_json}
+use Rattle.serde_json.specs.Data
 use Rattle.serde_json.specs.Written.{compact_text, members_outline}
 use Rattle.serde_json.proofs.Texts.{print-outline}
 use Rattle.ns_types.specs.declared.node.Attribute.{Attribute}
@@ -28,12 +28,12 @@ follows_then (Ok u) a b c ts us all e p q = let f = follows_more a b c ts us p q
 follows_then (Err x) a b c ts us all e p q = tt
 
 -- the tokens of a list
-pub array_tokens : {X : Type 0} (json : X → Data) (xs : List X) → begin_array ∷ (flat_map (λ x. tokens_of (json x)) xs ++ end_array ∷ []) ≡ tokens_of
+pub array_tokens : {X : Type 0} (json : X → Data.Data) (xs : List X) → begin_array ∷ (flat_map (λ x. tokens_of (json x)) xs ++ end_array ∷ []) ≡ tokens_of
     (list_of json xs)
 array_tokens json xs = ap (λ ts. begin_array ∷ ts) (sym (list_tokens json xs))
 
 attribute_members : (attributes : List Attribute)
-    → members_tokens (members_outline (members_of (map (λ a. (a.key, string_json a.value)) attributes))) ≡ flat_map (λ a. key a.key ∷ string a.value ∷ [])
+    → members_tokens (members_outline (members_of (map (λ a. (a.key, Data.string a.value)) attributes))) ≡ flat_map (λ a. key a.key ∷ string a.value ∷ [])
     attributes ++ end_object ∷ []
 attribute_members [] = refl
 attribute_members (a ∷ attributes) =
@@ -76,14 +76,14 @@ node_tokens n eligibility name class pool status attributes a b c d e f =
     (regrouped (tokens_of (attributes_json n.row.offer.attributes)) _ (tokens_of (resources_json n.used)) (end_object ∷ [])))
 
 -- the text of what was written first
-pub text_written : (old new : Written) (d : Data) (items : List ℕ) → Follows old new (tokens_of d) → old.tokens ≡ [] → items ≡ print new.tokens →
+pub text_written : (old new : Written) (d : Data.Data) (items : List ℕ) → Follows old new (tokens_of d) → old.tokens ≡ [] → items ≡ print new.tokens →
     items ≡ compact_text d
 text_written old new d items h none is =
     let all : new.tokens ≡ tokens_of d = h.tokens ∙ ap (λ t. t ++ tokens_of d) none in
     is ∙ rw all (print-outline d)
 
 pub nothing_text : (items : List ℕ) → items ≡ print (begin_object ∷ end_object ∷ []) → items ≡ codes "{}"
-nothing_text items is = is ∙ print-outline (object no_members)
+nothing_text items is = is ∙ print-outline (Data.object Data.no_members)
 
 pub stopped_tokens : (evaluation index : ℕ) (id : List ℕ) → id ≡ id_text IdKind.Evaluation evaluation
     → begin_object ∷ key (codes "EvalID") ∷ string id ∷ key (codes "Index") ∷ number (decimal index) ∷ end_object ∷ [] ≡ tokens_of

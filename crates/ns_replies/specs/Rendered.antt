@@ -1,7 +1,6 @@
 -- Which replies are rendered, and in which room.
 use Rattle.std.specs.Prelude.{◌≡◌, ℕ, ◌≤◌, List, length, Option, Some}
 use Rattle.ns_types.specs.declared.reply.Content.{Content}
-use Rattle.ns_types.specs.declared.reply.Content.TheVariants as Content
 use Rattle.ns_types.specs.State.Names.{Name}
 use Rattle.ns_json.specs.Rendered.{IsRegistered, longest_registered}
 use Rattle.ns_json.specs.Replies.{body_of}

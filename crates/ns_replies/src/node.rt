@@ -2,7 +2,7 @@
 
 ghost use Rattle.std.specs.Prelude.{OnOk, ◌∷◌, []};
 ghost use Rattle.std.specs.List.{flat_map};
-ghost use Rattle.json.specs.Token as token;
+ghost use Rattle.json.specs.Token.{key, string};
 ghost use Rattle.ns_json.specs.Part.{Follows, tokens_of};
 ghost use Rattle.ns_json.specs.Rendering.{attributes_json, node_json};
 
@@ -16,7 +16,7 @@ use std::alloc::AllocError;
 
 fn write_each(out: &mut Writer, attributes: &[Attribute]) -> Result<(), AllocError>
     ensures { OnOk result (Follows out.old out.new
-        (flat_map (λ a. token.key a.key ∷ token.string a.value ∷ []) attributes.now)) }
+        (flat_map (λ a. key a.key ∷ string a.value ∷ []) attributes.now)) }
 {
     for attribute in attributes {
         write_attribute(out, attribute)?;
@@ -26,7 +26,7 @@ fn write_each(out: &mut Writer, attributes: &[Attribute]) -> Result<(), AllocErr
 
 fn write_attribute(out: &mut Writer, attribute: &Attribute) -> Result<(), AllocError>
     ensures { OnOk result (Follows out.old out.new
-        (token.key attribute.now.key ∷ token.string attribute.now.value ∷ [])) }
+        (key attribute.now.key ∷ string attribute.now.value ∷ [])) }
 {
     write_parts(
         out,

@@ -2,7 +2,7 @@
 
 ghost use Rattle.std.specs.Prelude.{◌≡◌, ◌≤◌, IfOk, Ok, Some, None, string_bytes, vec_capacity, length, map, []};
 ghost use Rattle.json.specs.Print.{print};
-ghost use Rattle.json.specs.Tree as tree;
+ghost use Rattle.json.specs.Tree;
 ghost use Rattle.ns_types.specs.declared.reply.Content.TheVariants as Content;
 ghost use Rattle.ns_types.specs.Wire.Responses.{rendered_of};
 ghost use Rattle.ns_json.specs.Part.{token_of};
@@ -87,7 +87,7 @@ impl Room {
 /// The text of some parts, in a buffer with room for them.
 fn parts_text(bytes: Vec<u8>, parts: &[Part<'_>]) -> String
     requires empty { bytes.items ≡ [] }
-    requires fits { tree.room (map token_of parts.now) ≤ vec_capacity bytes }
+    requires fits { Tree.room (map token_of parts.now) ≤ vec_capacity bytes }
     ensures { string_bytes result ≡ print (map token_of parts.now) }
 {
     let mut out = Writer::new(bytes);

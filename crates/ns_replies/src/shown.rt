@@ -3,7 +3,7 @@
 ghost use Rattle.std.specs.Prelude.{◌≡◌, IfOk, OnOk, string_bytes, []};
 ghost use Rattle.std.specs.List.{flat_map};
 ghost use Rattle.json.specs.Print.{print};
-ghost use Rattle.serde_json.specs.Data.{string as string_json};
+ghost use Rattle.serde_json.specs.Data.{string};
 ghost use Rattle.serde_json.specs.Written.{compact_text};
 ghost use Rattle.ns_json.specs.Part.{Follows, tokens_of};
 ghost use Rattle.ns_json.specs.Rendering.{list_of};
@@ -26,7 +26,7 @@ pub trait Shown {
 }
 
 impl Shown for Text {
-    ghost json = { λ text. string_json text };
+    ghost json = { λ text. string text };
 
     fn write_json(&self, out: &mut Writer) -> Result<(), AllocError> {
         write_parts(out, &[Part::Text(self.as_str())])

@@ -2,7 +2,7 @@
 
 ghost use Rattle.std.specs.Prelude.{◌≡◌, []};
 ghost use Rattle.std.specs.Option.{option_map_or};
-ghost use Rattle.ns_types.specs.Wire.Words as words;
+ghost use Rattle.ns_types.specs.Wire.Words.{token_kind_text, node_status_text, eligibility_text, status_text, trigger_text, desired_text, client_text};
 
 use ns_types::acl::TokenKind;
 use ns_types::allocation::{ClientStatus, DesiredStatus};
@@ -11,7 +11,7 @@ use ns_types::node::NodeStatus;
 use ns_types::text::Text;
 
 pub fn token_kind_text<'a>(kind: TokenKind) -> &'a str
-    ensures { result.now ≡ words.token_kind_text kind }
+    ensures { result.now ≡ token_kind_text kind }
 {
     match kind {
         TokenKind::Client => "client",
@@ -20,7 +20,7 @@ pub fn token_kind_text<'a>(kind: TokenKind) -> &'a str
 }
 
 pub fn node_status_text<'a>(status: NodeStatus) -> &'a str
-    ensures { result.now ≡ words.node_status_text status }
+    ensures { result.now ≡ node_status_text status }
 {
     match status {
         NodeStatus::Ready => "ready",
@@ -29,13 +29,13 @@ pub fn node_status_text<'a>(status: NodeStatus) -> &'a str
 }
 
 pub fn eligibility_text<'a>(eligible: bool) -> &'a str
-    ensures { result.now ≡ words.eligibility_text eligible }
+    ensures { result.now ≡ eligibility_text eligible }
 {
     if eligible { "eligible" } else { "ineligible" }
 }
 
 pub fn status_text<'a>(status: Status) -> &'a str
-    ensures { result.now ≡ words.status_text status }
+    ensures { result.now ≡ status_text status }
 {
     match status {
         Status::Pending => "pending",
@@ -47,7 +47,7 @@ pub fn status_text<'a>(status: Status) -> &'a str
 }
 
 pub fn trigger_text<'a>(trigger: Trigger) -> &'a str
-    ensures { result.now ≡ words.trigger_text trigger }
+    ensures { result.now ≡ trigger_text trigger }
 {
     match trigger {
         Trigger::JobRegister => "job-register",
@@ -62,7 +62,7 @@ pub fn trigger_text<'a>(trigger: Trigger) -> &'a str
 }
 
 pub fn desired_text(desired: DesiredStatus) -> &'static str
-    ensures { result.now ≡ words.desired_text desired }
+    ensures { result.now ≡ desired_text desired }
 {
     match desired {
         DesiredStatus::Run => "run",
@@ -72,7 +72,7 @@ pub fn desired_text(desired: DesiredStatus) -> &'static str
 }
 
 pub fn client_text(client: ClientStatus) -> &'static str
-    ensures { result.now ≡ words.client_text client }
+    ensures { result.now ≡ client_text client }
 {
     match client {
         ClientStatus::Pending => "pending",

@@ -1,7 +1,7 @@
 //! Evaluations and allocations as they are replied.
 
 ghost use Rattle.std.specs.Prelude.{OnOk, ◌∷◌, []};
-ghost use Rattle.json.specs.Token as token;
+ghost use Rattle.json.specs.Token.{string};
 ghost use Rattle.ns_types.specs.State.Id.{id_text};
 ghost use Rattle.ns_json.specs.Part.{Follows, tokens_of};
 ghost use Rattle.ns_json.specs.Rendering.{id_or_empty, evaluation_json, allocation_json};
@@ -17,7 +17,7 @@ use ns_types::reply::{AllocationShown, EvaluationShown};
 use std::alloc::AllocError;
 
 fn write_id(out: &mut Writer, kind: IdKind, number: u64) -> Result<(), AllocError>
-    ensures { OnOk result (Follows out.old out.new (token.string (id_text kind number) ∷ [])) }
+    ensures { OnOk result (Follows out.old out.new (string (id_text kind number) ∷ [])) }
 {
     let mut buffer = [0; 36];
     write_parts(out, &[Part::Text(id_str(kind, number, &mut buffer))])

@@ -11,7 +11,7 @@ mod words;
 
 use crate::random::Random;
 use crate::run::run_words;
-use ns_http::ConnFault;
+use ns_http::{ConnFault, Counted};
 use ns_pipe::{tell, tell_no_random, tell_no_words};
 use rand::make_rng;
 use rand::rngs::StdRng;
@@ -25,7 +25,7 @@ fn texts<'a>(alloc: Global, words: &'a [String]) -> Result<Vec<&'a str>, AllocEr
 }
 
 fn main(rt: HostRuntime) -> ExitCode {
-    let mut errors = rt.stderr();
+    let mut errors = Counted::new(rt.stderr());
     let args = match env::args(&rt) {
         Ok(args) => args,
         Err(error) => return ExitCode::from(tell_no_words(&error, &mut errors)),

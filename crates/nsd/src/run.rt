@@ -2,16 +2,15 @@
 
 ghost use Rattle.std.specs.Prelude.{◌≡◌, ◌⊎◌, ℕ, List};
 ghost use Rattle.clap.specs.Walk.{texts};
-ghost use Rattle.ns_http.specs.Output.{WritesSome};
 ghost use Rattle.ns_types.specs.Steps.{opening};
 ghost use Rattle.ns_pipe.specs.Ending.{Ends, uncounted};
-ghost use Rattle.ns_pipe.specs.Lines.{status_of, line_of};
+ghost use Rattle.ns_pipe.specs.Lines.{Tells, status_of, line_of};
 ghost use Rattle.nsd.specs.Telling.{IsTold};
-ghost use Rattle.nsd.specs.Words.{Gives};
+ghost use Rattle.nsd.specs.Words.{Asks, Gives};
 
 use crate::words::read;
 use ns_api::Draws;
-use ns_http::ConnFault;
+use ns_http::{ConnFault, Counted};
 use ns_pipe::status::SERVED;
 use ns_pipe::{Ended, run};
 use std::alloc::Global;
@@ -25,19 +24,23 @@ pub fn run_words<D: Draws + Drop, R: Read + Drop, W: Write + Drop, E: Write>(
     draws: D,
     reader: R,
     writer: W,
-    errors: &mut E,
+    errors: &mut Counted<E>,
 ) -> Ended<R, W>
     ensures served_or_told { ((secret : List ℕ) × Gives (texts words.entry.now) secret
         × Ends D.draws R.remaining W.contents (opening secret, draws) result.status
         (uncounted reader) result.reader (uncounted writer) result.writer)
         ⊎ ((result.reader ≡ uncounted reader)
-        × IsTold result.status (W.contents writer) (W.contents result.writer.inner)
-        (E.contents errors.old) (E.contents errors.new)) }
+        × IsTold W.contents E.contents result.status writer result.writer errors.old errors.new) }
+
+    // Good words are served: the status says how far, and is that of no memory where there was none.
+    ensures served { (secret : List ℕ) → Asks (texts words.entry.now) secret
+        → Ends D.draws R.remaining W.contents (opening secret, draws) result.status
+        (uncounted reader) result.reader (uncounted writer) result.writer }
 
     // What is written on the errors goes by the status.
     ensures silent { result.status ≡ SERVED → errors.new ≡ errors.old }
     ensures told { (fault : ConnFault) → result.status ≡ status_of fault
-        → WritesSome (E.contents errors.old) (E.contents errors.new) (line_of fault) }
+        → Tells E.contents errors.old errors.new (line_of fault) }
 {
     let asked = read(alloc, words);
     run(alloc, &asked, draws, reader, writer, errors)

@@ -1,11 +1,11 @@
 //! The words that the program is started with.
 
-ghost use Rattle.std.specs.Prelude.{◌≡◌, ◌≢◌, ◌⊎◌, ℕ, List, IfOk, IfSome, Some, false};
+ghost use Rattle.std.specs.Prelude.{◌≡◌, ◌≢◌, ◌⊎◌, ℕ, List, IfOk, IfErr, false, option_map};
 ghost use Rattle.clap.specs.Words.{app_of, kind_of, subcommand_rows_of};
-ghost use Rattle.clap.specs.declared.builder.command.Command.TheViews.{out-Command as fields_of};
+ghost use Rattle.clap.specs.declared.builder.command.Command.TheViews.{out-Command};
 ghost use Rattle.clap.specs.Walk.{texts};
 ghost use Rattle.ns_pipe.specs.Asking.{IsHelp, IsMistake};
-ghost use Rattle.nsd.specs.Words.{Gives, pipe_words, program_words, secret_among};
+ghost use Rattle.nsd.specs.Words.{Asks, Gives, pipe_words, program_words, secret_among};
 
 use clap::error::ErrorKind;
 use clap::{Arg, ArgMatches, Command, Error};
@@ -25,7 +25,7 @@ const STATUSES: &str = "Exit statuses:
 
 fn pipe<'a>(alloc: Global) -> Result<Command<'a>, AllocError>
     ensures shape { IfOk result (λ command. app_of command ≡ pipe_words) }
-    ensures local { IfOk result (λ command. (fields_of command).has_globals ≡ false) }
+    ensures local { IfOk result (λ command. (out-Command command).has_globals ≡ false) }
 {
     let bootstrap = Arg::new(alloc, "bootstrap")
         .long("bootstrap")
@@ -53,7 +53,7 @@ fn command<'a>(alloc: Global) -> Result<Command<'a>, AllocError>
 
 /// The secret that is given to `pipe`.
 fn secret_in<'a>(matches: &ArgMatches<'a>) -> Option<&'a str>
-    ensures { IfSome result (λ secret. secret_among (subcommand_rows_of matches.now) ≡ Some secret.now) }
+    ensures { option_map (λ s. s.now) result ≡ secret_among (subcommand_rows_of matches.now) }
 {
     let pipe = matches.subcommand_matches("pipe")?;
     pipe.get_str("bootstrap")
@@ -61,7 +61,9 @@ fn secret_in<'a>(matches: &ArgMatches<'a>) -> Option<&'a str>
 
 /// The secret that the words give to `pipe`, or the fault in them. The first word is the program's own name.
 fn secret<'a>(alloc: Global, words: &'a [&'a str]) -> Result<Name<'a>, Error>
-    ensures { IfOk result (Gives (texts words.entry.now)) }
+    ensures gives { IfOk result (Gives (texts words.entry.now)) }
+    ensures good { (secret : List ℕ) → Asks (texts words.entry.now) secret
+        → IfErr result (λ error. kind_of error ≡ ErrorKind.OutOfMemory) }
 {
     let mut command = command(alloc)?;
     let matches = command.try_get_matches_from_mut(words)?;
@@ -101,7 +103,10 @@ fn told<'a>(alloc: Global, error: &Error) -> Asked<'a>
 
 /// What the words ask for. The first word is the program's own name.
 pub fn read<'a>(alloc: Global, words: &'a [&'a str]) -> Asked<'a>
-    ensures { (secret : List ℕ) → result ≡ Asked.Pipe secret → Gives (texts words.entry.now) secret }
+    ensures gives { (secret : List ℕ) → result ≡ Asked.Pipe secret
+        → Gives (texts words.entry.now) secret }
+    ensures good { (secret : List ℕ) → Asks (texts words.entry.now) secret
+        → (result ≡ Asked.Pipe secret) ⊎ (result ≡ Asked.NoMemory) }
 {
     match secret(alloc, words) {
         Ok(secret) => Asked::Pipe(secret),

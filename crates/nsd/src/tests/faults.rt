@@ -1,6 +1,7 @@
 // Readers and writers that are slow or fail.
 use super::SameBits;
 use crate::run::run_words;
+use ns_http::Counted;
 use std::alloc::{AllocError, Global};
 use std::io::{self, ErrorKind, Read, Write};
 use std::rt::HostRuntime;
@@ -69,7 +70,7 @@ struct Left {
 }
 
 fn run(alloc: Global, reader: Slow<'_>, room: usize) -> Left {
-    let mut errors = Vec::new(alloc);
+    let mut errors = Counted::new(Vec::new(alloc));
     let writer = Narrow {
         taken: Vec::new(alloc),
         room,
@@ -79,7 +80,7 @@ fn run(alloc: Global, reader: Slow<'_>, room: usize) -> Left {
     Left {
         status: ended.status,
         written,
-        errors,
+        errors: errors.into_inner(),
     }
 }
 

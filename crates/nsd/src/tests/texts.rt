@@ -1,7 +1,7 @@
 // What words that ask for nothing are answered, and the lines of faults.
 use super::SameBits;
 use crate::run::run_words;
-use ns_http::ConnFault;
+use ns_http::{ConnFault, Counted};
 use ns_pipe::{Asked, run, tell, tell_no_random, tell_no_words};
 use std::alloc::Global;
 use std::io::{self, ErrorKind};
@@ -18,7 +18,7 @@ struct Told {
 }
 
 fn telling(alloc: Global, words: &[&str]) -> Told {
-    let mut errors = Vec::new(alloc);
+    let mut errors = Counted::new(Vec::new(alloc));
     let ended = run_words(
         alloc,
         words,
@@ -30,7 +30,7 @@ fn telling(alloc: Global, words: &[&str]) -> Told {
     Told {
         status: ended.status,
         output: ended.writer.into_inner(),
-        errors,
+        errors: errors.into_inner(),
     }
 }
 
@@ -114,21 +114,21 @@ fn is_line(told: (u8, Vec<u8>), status: u8, line: &[u8]) -> bool {
 }
 
 fn fault(alloc: Global, fault: ConnFault) -> (u8, Vec<u8>) {
-    let mut errors = Vec::new(alloc);
+    let mut errors = Counted::new(Vec::new(alloc));
     let status = tell(fault, &mut errors);
-    (status, errors)
+    (status, errors.into_inner())
 }
 
 fn no_random(alloc: Global) -> (u8, Vec<u8>) {
-    let mut errors = Vec::new(alloc);
+    let mut errors = Counted::new(Vec::new(alloc));
     let status = tell_no_random(&mut errors);
-    (status, errors)
+    (status, errors.into_inner())
 }
 
 fn no_words(alloc: Global, kind: ErrorKind) -> (u8, Vec<u8>) {
-    let mut errors = Vec::new(alloc);
+    let mut errors = Counted::new(Vec::new(alloc));
     let status = tell_no_words(&io::Error::from(kind), &mut errors);
-    (status, errors)
+    (status, errors.into_inner())
 }
 
 #[test]
@@ -157,7 +157,7 @@ fn lines_of_faults(rt: HostRuntime) {
 #[test]
 fn no_memory_for_the_words(rt: HostRuntime) {
     let alloc = rt.alloc();
-    let mut errors = Vec::new(alloc);
+    let mut errors = Counted::new(Vec::new(alloc));
     let ended = run(
         alloc,
         &Asked::NoMemory,
@@ -167,5 +167,5 @@ fn no_memory_for_the_words(rt: HostRuntime) {
         &mut errors,
     );
     assert!(rt; ended.status == 5);
-    assert!(rt; errors.as_slice() == b"out of memory\n".as_slice());
+    assert!(rt; errors.into_inner().as_slice() == b"out of memory\n".as_slice());
 }

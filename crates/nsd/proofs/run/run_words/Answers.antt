@@ -1,5 +1,8 @@
-use Rattle.std.proofs.Common.{◌≡◌, ◌≢◌, ◌⊎◌, ℕ, List, ap, refl, inl, inr, string_bytes}
+use Rattle.std.proofs.Common.{◌≡◌, ◌≢◌, ◌⊎◌, ◌∙◌, ℕ, List, Option, sym, refl, inl, inr, arith, string_bytes}
+use Rattle.ns_types.specs.State.Rows.{State}
+use Rattle.ns_http.specs.declared.counting.Counted.{Counted}
 use Rattle.ns_pipe.specs.Asking.{IsHelp, IsMistake}
+use Rattle.ns_pipe.specs.Ending.{Ends}
 use Rattle.ns_pipe.specs.declared.asked.Asked.{Asked}
 use Rattle.nsd.proofs.run.run_words.Goals as goal
 
@@ -12,24 +15,47 @@ cases (Asked.Help text) = inr ((λ secret e. cc), inl (string_bytes text, refl))
 cases (Asked.Mistake text) = inr ((λ secret e. cc), inr (inl (string_bytes text, refl)))
 cases Asked.NoMemory = inr ((λ secret e. cc), inr (inr refl))
 
+no_connection : (asked : Asked) → asked ≡ Asked.NoMemory → (secret : List ℕ) → asked ≢ Asked.Pipe secret
+no_connection asked none secret e = cc
+
+module _ {D R W : Type 0} (draws : D → List ℕ → D → Type 0) (remaining : R → Option (List ℕ))
+    (contents : W → Option (List ℕ)) where
+  -- nothing was read or written, for want of memory
+  unserved : (opened : State × D) (status : ℕ) (reader reader' : Counted R) (writer writer' : Counted W) → status ≡ 5 → reader' ≡ reader →
+      writer' ≡ writer → Ends draws remaining contents opened status reader reader' writer writer'
+  unserved opened status reader reader' writer writer' is r w = record {
+    is_end = inr (inr (inr is));
+    served = λ e. let zero : status ≡ 0 = e in absurd (omega (arith, is, zero));
+    read_fault = λ e. let three : status ≡ 3 = e in absurd (omega (arith, is, three));
+    write_fault = λ e. let four : status ≡ 4 = e in absurd (omega (arith, is, four));
+    out_of_memory = λ _. (r, w);
+  }
+
 pub returns-clause-served_or_told : goal.returns-clause-served_or_told
 returns-clause-served_or_told g c =
     let ran = c.run.ensures in
     elim (cases c.read-asked.result) [
-      | inl pipe ↦ inl (pipe.0, c.read-asked.ensures pipe.0 pipe.1, ran.pipe pipe.0 pipe.1)
+      | inl pipe ↦ inl (pipe.0, c.read-asked.ensures.gives pipe.0 pipe.1, ran.pipe pipe.0 pipe.1)
       | inr other ↦ inr (
         ran.unread other.0,
         elim other.1 [
-          | inl help ↦ elim (ran.help help.0 help.1) [
+          | inl help ↦ inl (elim (ran.help help.0 help.1) [
             | inl served ↦ inl (served, (help.0, ran.shown help.0 help.1 served))
-            | inr failed ↦ inr (inl failed)
-          ]
+            | inr failed ↦ inr (failed, (help.0, ran.not_shown help.0 help.1 failed))
+          ])
           | inr rest ↦ elim rest [
-            | inl mistake ↦ let told = ran.mistake mistake.0 mistake.1 in
-                inr (inr (inl (told.0, ap (λ w. g.W.Write.contents w.inner) told.1, (mistake.0, told.2))))
-            | inr none ↦ let told = ran.no_memory none in
-                inr (inr (inr (told.0, ap (λ w. g.W.Write.contents w.inner) told.1)))
+            | inl mistake ↦ let told = ran.mistake mistake.0 mistake.1 in inr (inl (told.0, told.1, (mistake.0, told.2)))
+            | inr none ↦ let told = ran.no_memory none in inr (inr (told.0, told.1))
           ]
         ],
       )
+    ]
+
+pub returns-clause-served : goal.returns-clause-served
+returns-clause-served g c = λ secret good.
+    let ran = c.run.ensures in
+    elim (c.read-asked.ensures.good secret good) [
+      | inl is ↦ ran.pipe secret is
+      | inr none ↦ unserved g.D.Draws.draws g.R.Read.remaining g.W.Write.contents _ _ _ _ _ _ (ran.no_memory none).0
+          (ran.unread (no_connection _ none)) (ran.no_memory none).1
     ]
