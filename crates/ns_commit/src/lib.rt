@@ -5,6 +5,8 @@
 
 mod lists;
 mod namespaces;
+mod pools;
+mod quotas;
 
 pub use lists::commit_list;
 pub use namespaces::{commit_tenant, commit_tenants, reserve_tenant};
