@@ -2,4 +2,5 @@ pub mod Classes
 pub mod Numbered
 pub mod Owners
 pub mod Raised
+pub mod Reserved
 pub mod Whole

@@ -79,9 +79,9 @@ module _ (old new : Table) (k : Name) (class : Class) (es rest : List (Name × C
     room = at_each _ k (λ pool at. by_turn (ClassPut class) (λ r s. row_at old k ≡ r → s ≡ Some pool → length (classes_in k rest) ≤ pool.classes.room)
         (λ _ no. absurd (not_Some pool no))
         (λ a b is at there.
-            let room : length (class ∷ classes_in k rest) ≤ a.classes.room = subst (λ cs. length cs ≤ a.classes.room) here (h.room k a at) in
-            let more : a.classes.room ≤ pool.classes.room + 1 = subst (λ p. a.classes.room ≤ p.classes.room + 1) (same_Some b pool there) is.room in
-            omega arith)
+        let room : length (class ∷ classes_in k rest) ≤ a.classes.room = subst (λ cs. length cs ≤ a.classes.room) here (h.room k a at) in
+        let more : a.classes.room ≤ pool.classes.room + 1 = subst (λ p. a.classes.room ≤ p.classes.room + 1) (same_Some b pool there) is.room in
+        omega arith)
         (row_at old k) (row_at new k) put.here refl at)
         (λ q e pool at. subst (λ cs. length cs ≤ pool.classes.room) (other q e) (h.room q pool (sym (put.others q e) ∙ at)));
   }

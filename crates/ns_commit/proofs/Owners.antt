@@ -1,5 +1,5 @@
 -- Owners that are changed one by one.
-use Rattle.std.specs.Prelude.{◌≡◌, Bool, true, false, cond, T, List, [], ◌∷◌, Option, Some, None, option_map, IfSome}
+use Rattle.std.specs.Prelude.{◌≡◌, Bool, true, false, cond, T, List, [], ◌∷◌, Option, Some, None, option_map, IfSome, OnOk, Result, Ok, Err}
 use Rattle.std.proofs.Common.{refl, sym, ap, ◌∙◌, subst}
 use Rattle.std.specs.Ordering.{eq_by_cmp}
 use Rattle.std.specs.FinMap.{FinMap, entries, entries_sorted, get, get-entries, insert, same_map}
@@ -55,6 +55,18 @@ module _ {Row : Type 0} (becomes : Row → Row → Type 0) (k : Name) (old mid :
     here = subst (λ r. Turns becomes r (row_at mid k)) (sym none) (row_mid k ∙ ap (λ t. cond t None (row_at old k)) (same_name_refl k));
     others = λ q e. row_mid q ∙ ap (λ t. cond t None (row_at old q)) e;
   }
+
+  pub row_there : (P : Row → Type 0) (new : FinMap name_cmp (Option Row)) (b : Row) → new ≡ insert mid k (Some b) → P b → IfSome (row_at new k) P
+  row_there P new b set h = subst (λ r. IfSome r P)
+      (sym (row_new new b set k ∙ ap (λ t. cond t (Some b) (row_at old k)) (same_name_refl k))) h
+
+  pub no_row : (P : Row → Type 0) → row_at old k ≡ None → IfSome (row_at mid k) P
+  no_row P none = subst (λ r. IfSome r P) (sym (row_mid k ∙ ap (λ t. cond t None (row_at old k)) (same_name_refl k))) tt
+
+-- what follows where it succeeds
+pub on_ok : {A E : Type 0} (r : Result A E) {P Q : Type 0} → (P → Q) → OnOk r P → OnOk r Q
+on_ok (Ok x) f h = f h
+on_ok (Err e) f h = tt
 
 -- what holds at the name and at the others holds at each
 pub at_each : (P : Name → Type 0) (k : Name) → P k → ((q : Name) → same_name q k ≡ false → P q) → (q : Name) → P q

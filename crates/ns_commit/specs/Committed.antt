@@ -8,16 +8,21 @@ use Rattle.keyed.specs.Over.{HasRoomFor}
 use Rattle.keyed.specs.Table.{row_at}
 use Rattle.ns_types.specs.declared.node.Class.{Class}
 use Rattle.ns_types.specs.State.Names.{Name, ByName, name_cmp, has_name, same_name}
-use Rattle.ns_types.specs.Settling.Settle.{after_quota_release}
-use Rattle.ns_types.specs.State.Rows.{PoolRows as Pool, QuotaRows as Quota}
+use Rattle.ns_types.specs.Settling.Settle.{after_quota_release, after_release}
+use Rattle.ns_types.specs.State.Rows.{PoolRows as Pool, QuotaRows as Quota, World}
 use Rattle.ns_types.specs.State.Tables.{map_rows}
+use Rattle.ns_types.specs.Steps.{is_past_bound}
 use Rattle.ns_change.specs.declared.change.PoolChange.{PoolChange}
+use Rattle.ns_change.specs.declared.change.Settled.{Settled}
 use Rattle.ns_change.specs.declared.change.SettledTenant.{SettledTenant}
 use Rattle.ns_change.specs.declared.change.TenantChange.{TenantChange}
-use Rattle.ns_change.specs.Settled.{classes_in}
+use Rattle.ns_change.specs.Changed.{changed_pool, perhaps}
+use Rattle.ns_change.specs.Settled.{classes_in, settled_world}
+use Rattle.ns_commit.specs.Owners.{HaveRoom}
 use Rattle.ns_world.specs.World.{pool_of}
 use Rattle.ns_world.specs.declared.tables.PoolRows.{PoolRows}
 use Rattle.ns_world.specs.declared.tables.QuotaRows.{QuotaRows}
+use Rattle.ns_world.specs.declared.tables.Tables.{Tables}
 use Rattle.ns_world.specs.declared.tables.TenantRows.{TenantRows}
 
 -- ---- namespaces
@@ -29,11 +34,15 @@ pub record HasRowRoom (x : TenantChange) (t : TenantRows) : Type 0 where
   pub allocations : HasRoomFor x.allocations t.allocations
   pub workers : HasRoomFor x.workers t.workers
 
--- and a place for each event; where there are some, the index can rise
+-- where there are events, the index can rise
+abbrev pub CanTell : SettledTenant → TenantRows → Type 0
+CanTell x t = is_some x.events ≡ true → t.index + 1 < 2 ^ 64
+
+-- and a place for each event
 pub record HasTenantRoom (x : SettledTenant) (t : TenantRows) : Type 0 where
   pub rows : HasRowRoom x.rows t
   pub events : option_map_or length x.events 0 ≤ t.events.room
-  pub index : is_some x.events ≡ true → t.index + 1 < 2 ^ 64
+  pub index : CanTell x t
 
 -- ---- pools
 
@@ -80,8 +89,42 @@ abbrev pub CanRise : {Row : Type 0} → (Row → ℕ) → (Name → Bool) → Fi
 CanRise {Row = Row} release chosen m = (name : Name) (row : Row) → row_at m name ≡ Some row → chosen name ≡ true →
     release row + 1 < 2 ^ 64
 
+-- ---- pools, whole
+
+-- places for classes alone were made
+pub record GainsClassRoom (old new : PoolRows) : Type 0 where
+  pub pool : pool_of new ≡ pool_of old
+  pub nodes : new.nodes ≡ old.nodes
+
+pub record HavePoolRoom (x : FinMap name_cmp (Option PoolChange)) (rooms : List (Name × Class))
+    (m : FinMap name_cmp (Option PoolRows)) : Type 0 where
+  pub nodes : HaveRoom HasNodeRoom x m
+  pub classes : HaveClassRoom rooms m
+  pub numbers : CanRise (λ pool. pool.release) (releases rooms) m
+
+abbrev pub settled_pools : FinMap name_cmp (Option PoolChange) → List (Name × Class) → ByName Pool → ByName Pool
+settled_pools x rooms m = map_rows
+    (λ name pool. after_release (classes_in name rooms) (perhaps changed_pool (row_at x name) pool)) m
+
+-- ---- quotas
+
 abbrev pub raised_quota : Bool → QuotaRows → QuotaRows
 raised_quota released quota = if released then record quota { release = quota.release + 1 } else quota
 
 abbrev pub released_quotas : List Name → ByName Quota → ByName Quota
 released_quotas released m = map_rows (λ name quota. after_quota_release (has_name released name) quota) m
+
+-- ---- all of it
+
+-- room for all rows, and numbers that can rise
+pub record HasRoom (s : Settled) (t : Tables) : Type 0 where
+  pub tenants : HaveRoom HasTenantRoom s.tenants t.tenants
+  pub pools : HavePoolRoom s.pools s.rooms t.pools
+  pub quotas : CanRise (λ quota. quota.release) (has_name s.quotas) t.quotas
+  pub ready : length s.ready.added ≤ t.ready.room
+  pub plans : length s.plans.added ≤ t.plans.room
+  pub blocked : length s.blocked.added ≤ t.blocked.room
+
+-- no counter passes its bound
+abbrev pub Fits : World → Settled → Type 0
+Fits w s = is_past_bound (settled_world w s) ≡ false

@@ -7,6 +7,10 @@ mod lists;
 mod namespaces;
 mod pools;
 mod quotas;
+mod settled;
 
-pub use lists::commit_list;
-pub use namespaces::{commit_tenant, commit_tenants, reserve_tenant};
+pub use lists::{commit_list, reserve_list};
+pub use namespaces::{commit_tenant, commit_tenants, reserve_tenant, reserve_tenants};
+pub use pools::{commit_pools, reserve_pools};
+pub use quotas::commit_quotas;
+pub use settled::{apply, commit, reserve};

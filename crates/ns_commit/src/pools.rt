@@ -1,11 +1,13 @@
 //! What changed of pools goes into the tables: their nodes, and the numbers of their releases.
 
-ghost use Rattle.std.specs.Prelude.{◌≡◌, ◌+◌, ◌<◌, ◌^◌, true, option_map, IfSome};
+ghost use Rattle.std.specs.Prelude.{◌≡◌, ◌+◌, ◌<◌, ◌≤◌, ◌^◌, filter, length, true, option_map, IfSome, OnOk};
 ghost use Rattle.keyed.specs.Table.{row_at};
 ghost use Rattle.ns_change.specs.Changed.{changed_pool};
-ghost use Rattle.ns_types.specs.State.Names.{Name};
+ghost use Rattle.ns_change.specs.Settled.{classes_in};
+ghost use Rattle.ns_types.specs.State.Names.{Name, same_name};
 ghost use Rattle.ns_commit.specs.Committed.{CanRise, ClassPut, HasNodeRoom, HaveClassRoom, KeepsNodes};
-ghost use Rattle.ns_commit.specs.Committed.{numbered_pools, raised_pool, releases};
+ghost use Rattle.ns_commit.specs.Committed.{GainsClassRoom, HavePoolRoom};
+ghost use Rattle.ns_commit.specs.Committed.{numbered_pools, raised_pool, releases, settled_pools};
 ghost use Rattle.ns_commit.specs.Owners.{ChangesRow, HaveRoom, changed_owners, owners};
 ghost use Rattle.ns_world.specs.World.{pool_of};
 
@@ -16,6 +18,7 @@ use ns_types::node::Class;
 use ns_types::rows::Rows;
 use ns_types::text::Text;
 use ns_world::PoolRows;
+use std::alloc::AllocError;
 
 /// A released class with its pool.
 type Room = (Text, Class);
@@ -25,6 +28,94 @@ fn has_pool(rooms: &[Room], pool: &Text) -> bool
     ensures { result ≡ releases rooms.now pool.now }
 {
     rooms.iter().any(|room| same_text(pool, &room.0))
+}
+
+// ---- room
+
+/// How many classes of the pool are released.
+fn count_classes(rooms: &[Room], pool: &Text) -> usize
+    ensures { result ≡ length (filter (λ room. same_name pool.now room.0) rooms.now) }
+{
+    rooms.iter().filter(|room| same_text(pool, &room.0)).count()
+}
+
+/// Makes a place for each of the pool's released classes.
+fn reserve_classes_in(
+    table: &mut NameTable<PoolRows>,
+    name: &Text,
+    rooms: &[Room],
+) -> Result<(), AllocError>
+    ensures rows { ChangesRow GainsClassRoom name.now table.old table.new }
+    ensures room { OnOk result (IfSome (row_at table.new name.now)
+        (λ pool. length (classes_in name.now rooms.now) ≤ pool.classes.room)) }
+{
+    let Some(mut pool) = table.take(name) else {
+        return Ok(());
+    };
+    let reserved = pool.classes.reserve(count_classes(rooms, name));
+    table.set(name, pool);
+    reserved
+}
+
+/// Makes a place for each released class.
+fn reserve_classes(table: &mut NameTable<PoolRows>, rooms: &[Room]) -> Result<(), AllocError>
+    ensures pools { owners pool_of table.new ≡ owners pool_of table.old }
+    ensures nodes { KeepsNodes table.old table.new }
+    ensures room { OnOk result (HaveClassRoom rooms.now table.new) }
+{
+    for (i, room) in rooms.iter().enumerate() {
+        if !has_pool(&rooms[i + 1..], &room.0) {
+            reserve_classes_in(table, &room.0, rooms)?;
+        }
+    }
+    Ok(())
+}
+
+/// Makes a slot for each of the pool's changed nodes.
+fn reserve_nodes_in(
+    table: &mut NameTable<PoolRows>,
+    name: &Text,
+    change: &PoolChange,
+) -> Result<(), AllocError>
+    ensures rows { ChangesRow (λ a b. pool_of b ≡ pool_of a) name.now table.old table.new }
+    ensures room { OnOk result (IfSome (row_at table.new name.now) (HasNodeRoom change.now)) }
+{
+    let Some(mut pool) = table.take(name) else {
+        return Ok(());
+    };
+    let reserved = pool.nodes.reserve_all(&change.nodes);
+    table.set(name, pool);
+    reserved
+}
+
+/// Makes a slot for each changed node.
+fn reserve_nodes(
+    table: &mut NameTable<PoolRows>,
+    changes: &NameTable<PoolChange>,
+) -> Result<(), AllocError>
+    ensures pools { owners pool_of table.new ≡ owners pool_of table.old }
+    ensures room { OnOk result (HaveRoom HasNodeRoom changes.now table.new) }
+{
+    for slot in changes.as_slice() {
+        if let Some(change) = &slot.1 {
+            reserve_nodes_in(table, &slot.0, change)?;
+        }
+    }
+    Ok(())
+}
+
+/// Makes room for what changes of all pools. Want of memory is the only error; the pools are as they were.
+pub fn reserve_pools(
+    table: &mut NameTable<PoolRows>,
+    changes: &NameTable<PoolChange>,
+    rooms: &[Room],
+) -> Result<(), AllocError>
+    requires { CanRise (λ pool. pool.release) (releases rooms.now) table.old }
+    ensures pools { owners pool_of table.new ≡ owners pool_of table.old }
+    ensures room { OnOk result (HavePoolRoom changes.now rooms.now table.new) }
+{
+    reserve_nodes(table, changes)?;
+    reserve_classes(table, rooms)
 }
 
 // ---- release numbers
@@ -116,4 +207,18 @@ fn commit_nodes(table: &mut NameTable<PoolRows>, changes: NameTable<PoolChange>)
             commit_nodes_in(table, &name, change);
         }
     }
+}
+
+/// Moves what changed of all pools in: release numbers, classes with their numbers, nodes. It takes no memory.
+pub fn commit_pools(
+    table: &mut NameTable<PoolRows>,
+    changes: NameTable<PoolChange>,
+    rooms: Rows<Room>,
+)
+    requires { HavePoolRoom changes rooms table.old }
+    ensures { owners pool_of table.new ≡ settled_pools changes rooms (owners pool_of table.old) }
+{
+    raise_pools(table, rooms.as_slice());
+    put_classes(table, rooms);
+    commit_nodes(table, changes);
 }

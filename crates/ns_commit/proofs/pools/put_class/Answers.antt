@@ -11,10 +11,10 @@ returns c =
     let class = c.args.class in
     let pool = c.args.pool.now in
     let left : c.retain.new.self.items ≡ others class pool.classes.items =
-        filter_same _ (λ entry. not (same_class class entry.0)) _ (λ x b f h. search rules) _ _ c.retain.ensures.items in
+    filter_same _ (λ entry. not (same_class class entry.0)) _ (λ x b f h. search rules) _ _ c.retain.ensures.items in
     let put : from_entries {R = class_cmp} c.push.new.self.items ≡ insert (from_entries pool.classes.items) class pool.release =
-        ap (from_entries {R = class_cmp}) (c.push.ensures.items ∙ ap (λ es. es ++ (class, pool.release) ∷ []) left) ∙
-        class_put class pool.release pool.classes.items in
+    ap (from_entries {R = class_cmp}) (c.push.ensures.items ∙ ap (λ es. es ++ (class, pool.release) ∷ []) left) ∙
+    class_put class pool.release pool.classes.items in
     let kept = c.retain.ensures.room in
     let used = c.push.ensures.room in
-    record { pool = λ i. record (pool_of pool) { classes = put i }; nodes = refl; room = omega arith; }
+    record { pool = λ i. record (pool_of pool) { classes = put i }; nodes = refl; room = omega arith }

@@ -7,7 +7,7 @@ use Rattle.ns_commit.proofs.pools.raise_pools.Goals as goal
 use Rattle.ns_commit.proofs.pools.raise_pools.Goals.{then-not-has_pool, else-not-has_pool}
 
 pub loop-i-init : goal.loop-i-init
-loop-i-init c = record { whole = λ q. refl; can = c.requires; }
+loop-i-init c = record { whole = λ q. refl; can = c.requires }
 
 pub raise_pool-requires : goal.raise_pool-requires
 raise_pool-requires c = can_rise (λ room. room.0) raised_pool (λ pool. pool.release) (λ pool. refl) c.loop-i.table c.loop-i.table c.index-rooms-i.result _ _ _
@@ -19,7 +19,7 @@ loop-i-preserved c =
     let rest = drop (c.loop-i.i + 1) c.args.rooms.now in
     let is = from_here c.args.rooms.now c.loop-i.i room c.loop-i-test.true c.index-rooms-i.is in
     let more : releases rest room.0 ≡ c.has_pool.result =
-        ap (λ rooms. releases rooms room.0) (sym (rest_is c.args.rooms.now (c.loop-i.i + 1))) ∙ sym c.has_pool.ensures in
+    ap (λ rooms. releases rooms room.0) (sym (rest_is c.args.rooms.now (c.loop-i.i + 1))) ∙ sym c.has_pool.ensures in
     elim c.if-not-has_pool.branch [
       | then-not-has_pool w ↦ risen (λ room. room.0) raised_pool (λ pool. pool.release) (λ pool. refl) c.loop-i.table c.if-not-has_pool.table room _ _ _ is
           c.loop-i.invariant (more ∙ w.if-not-has_pool.true)

@@ -9,7 +9,7 @@ use Rattle.ns_commit.proofs.quotas.commit_quotas.Goals as goal
 use Rattle.ns_commit.proofs.quotas.commit_quotas.Goals.{then-not-has_name, else-not-has_name}
 
 pub loop-i-init : goal.loop-i-init
-loop-i-init c = record { whole = λ q. refl; can = c.requires; }
+loop-i-init c = record { whole = λ q. refl; can = c.requires }
 
 pub raise_quota-requires : goal.raise_quota-requires
 raise_quota-requires c = can_rise (λ name. name) raised_quota (λ quota. quota.release) (λ quota. refl) c.loop-i.table c.loop-i.table c.index-released-i.result
@@ -21,7 +21,7 @@ loop-i-preserved c =
     let rest = drop (c.loop-i.i + 1) c.args.released.now in
     let is = from_here c.args.released.now c.loop-i.i name c.loop-i-test.true c.index-released-i.is in
     let more : has_name rest name ≡ c.has_name.result =
-        ap (λ names. has_name names name) (sym (rest_is c.args.released.now (c.loop-i.i + 1))) ∙ sym c.has_name.ensures in
+    ap (λ names. has_name names name) (sym (rest_is c.args.released.now (c.loop-i.i + 1))) ∙ sym c.has_name.ensures in
     elim c.if-not-has_name.branch [
       | then-not-has_name w ↦ risen (λ name. name) raised_quota (λ quota. quota.release) (λ quota. refl) c.loop-i.table c.if-not-has_name.table name _ _ _ is
           c.loop-i.invariant (more ∙ w.if-not-has_name.true)
