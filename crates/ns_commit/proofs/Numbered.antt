@@ -1,11 +1,11 @@
 -- Classes of pools that get their numbers one by one.
-use Rattle.std.specs.Prelude.{◌≡◌, ℕ, ◌+◌, ◌≤◌, Bool, true, false, cond, List, [], ◌∷◌, Option, Some, None, length, map, filter, option_map, IfSome, ◌<◌}
+use Rattle.std.specs.Prelude.{◌≡◌, ◌+◌, ◌≤◌, Bool, true, false, cond, List, [], ◌∷◌, Option, Some, None, length, map, filter, option_map, IfSome, ◌<◌}
 use Rattle.std.proofs.Common.{refl, sym, ap, ◌∙◌, subst, arith}
 use Rattle.std.specs.FinMap.{FinMap, get, same_map}
 use Rattle.keyed.specs.Table.{row_at}
 use Rattle.ns_types.specs.declared.node.Class.{Class}
 use Rattle.ns_types.specs.State.Names.{Name, ByName, name_cmp, same_name}
-use Rattle.ns_types.specs.State.Rows.{PoolRows as Pool}
+use Rattle.ns_types.specs.State.Rows
 use Rattle.ns_types.proofs.Named.{names, one_name, same_name_refl}
 use Rattle.ns_types.proofs.Tables.{get-map_rows}
 use Rattle.ns_types.proofs.Tests.{not_Some, same_Some}
@@ -20,7 +20,7 @@ abbrev Table : Type 0
 Table = FinMap name_cmp (Option PoolRows)
 
 -- once the classes of es have their numbers as well, the pools are `all`
-pub record Unnumbered (m : Table) (es : List (Name × Class)) (all : ByName Pool) (before : Table) : Type 0 where
+pub record Unnumbered (m : Table) (es : List (Name × Class)) (all : ByName Rows.PoolRows) (before : Table) : Type 0 where
   pub whole : (q : Name) → option_map (with_classes (classes_in q es)) (option_map pool_of (row_at m q)) ≡ get all q
   pub nodes : KeepsNodes before m
   pub room : HaveClassRoom es m
@@ -35,15 +35,15 @@ all_unnumbered m es rooms is room = record {
   room = subst (λ es. HaveClassRoom es m) (sym is) room;
 }
 
-idle : (r : Option Pool) → option_map (with_classes []) r ≡ r
+idle : (r : Option Rows.PoolRows) → option_map (with_classes []) r ≡ r
 idle None = refl
 idle (Some pool) = refl
 
-pub all_numbered : (m : Table) (es : List (Name × Class)) (all : ByName Pool) (before : Table) → es ≡ [] → Unnumbered m es all before → owners pool_of m ≡ all
+pub all_numbered : (m : Table) (es : List (Name × Class)) (all : ByName Rows.PoolRows) (before : Table) → es ≡ [] → Unnumbered m es all before → owners pool_of m ≡ all
 all_numbered m es all before is h = same_map names one_name _ _ (λ q. get-owners pool_of m q ∙ sym (idle _)
     ∙ ap (λ es. option_map (with_classes (classes_in q es)) (option_map pool_of (row_at m q))) (sym is) ∙ h.whole q)
 
-module _ (old new : Table) (k : Name) (class : Class) (es rest : List (Name × Class)) (all : ByName Pool) (before : Table) (is : es ≡ (k, class) ∷ rest)
+module _ (old new : Table) (k : Name) (class : Class) (es rest : List (Name × Class)) (all : ByName Rows.PoolRows) (before : Table) (is : es ≡ (k, class) ∷ rest)
     (h : Unnumbered old es all before) where
   classes : (q : Name) (b : Bool) → same_name q k ≡ b → classes_in q es ≡ cond b (class ∷ classes_in q rest) (classes_in q rest)
   classes q b e = ap (classes_in q) is ∙ ap (λ b. map (λ r. r.1) (cond b ((k, class) ∷ filter (λ r. same_name q r.0) rest) (filter (λ r. same_name q r.0) rest))) e ∙ by b

@@ -1,7 +1,6 @@
 -- Owners that are changed one by one.
 use Rattle.std.specs.Prelude.{◌≡◌, Bool, true, false, cond, T, List, [], ◌∷◌, Option, Some, None, option_map, IfSome, OnOk, Result, Ok, Err}
 use Rattle.std.proofs.Common.{refl, sym, ap, ◌∙◌, subst}
-use Rattle.std.specs.Ordering.{eq_by_cmp}
 use Rattle.std.specs.FinMap.{FinMap, entries, entries_sorted, get, get-entries, insert, same_map}
 use Rattle.std.specs.FinMap.Entries.{find, is_sorted}
 use Rattle.keyed.specs.Table.{flat, row_at, rows, emptied}

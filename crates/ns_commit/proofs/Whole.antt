@@ -9,7 +9,7 @@ use Rattle.ns_types.specs.declared.event.Event.{Event}
 use Rattle.ns_types.specs.declared.node.Class.{Class}
 use Rattle.ns_types.specs.Settling.Settle.{after_quota_release, after_release}
 use Rattle.ns_types.specs.State.Names.{Name, has_name, name_cmp}
-use Rattle.ns_types.specs.State.Rows.{Tenant, PoolRows as Pool, QuotaRows as Quota, World}
+use Rattle.ns_types.specs.State.Rows
 use Rattle.ns_types.specs.Steps.{greatest, is_past_bound, is_pool_past_bound, is_tenant_past_bound}
 use Rattle.ns_types.proofs.Lists.{left_none, not_both, right_none}
 use Rattle.ns_types.proofs.Named.{names, one_name}
@@ -28,7 +28,6 @@ use Rattle.ns_commit.proofs.Reserved.{is_some_class, releases_is}
 use Rattle.ns_world.specs.declared.tables.PoolRows.{PoolRows}
 use Rattle.ns_world.specs.declared.tables.QuotaRows.{QuotaRows}
 use Rattle.ns_world.specs.declared.tables.Tables.{Tables}
-use Rattle.ns_world.specs.declared.tables.TenantRows.{TenantRows}
 use Rattle.ns_world.specs.World.{pool_of, quota_of, tenant_of, world_of}
 
 -- ---- quotas
@@ -150,7 +149,7 @@ settled_is s old new tenants pools quotas ready plans blocked i = record {
 within : (n : ℕ) → nat_lt greatest n ≡ false → n < 2 ^ 64
 within n e = let le : n ≤ greatest = ltb-false greatest n e in omega arith
 
-told : (t : Tenant) (rows : SettledTenant) → is_some rows.events ≡ true → (settled_tenant t rows).index ≡ t.index + 1
+told : (t : Rows.Tenant) (rows : SettledTenant) → is_some rows.events ≡ true → (settled_tenant t rows).index ≡ t.index + 1
 told t rows e = by rows.events e
   where
     by : (events : Option (List Event)) → is_some events ≡ true → (settled_tenant t (record rows { events = events })).index ≡ t.index + 1
@@ -158,16 +157,16 @@ told t rows e = by rows.events e
     by (Some events) e = refl
 
 module _ (s : Settled) (t : Tables) (fits : Fits (world_of t) s) where
-  tenant_fits : (name : Name) (row : Tenant) → get (changed_owners settled_tenant s.tenants (owners tenant_of t.tenants)) name ≡ Some row →
+  tenant_fits : (name : Name) (row : Rows.Tenant) → get (changed_owners settled_tenant s.tenants (owners tenant_of t.tenants)) name ≡ Some row →
       is_tenant_past_bound row ≡ false
   unfolding world_of settled_world is_past_bound
   tenant_fits name row at = none_of_any one_name (λ _ t. is_tenant_past_bound t) _ name row (left_none _ _ (left_none _ _ fits)) at
 
-  pool_fits : (name : Name) (row : Pool) → get (settled_pools s.pools s.rooms (owners pool_of t.pools)) name ≡ Some row → is_pool_past_bound row ≡ false
+  pool_fits : (name : Name) (row : Rows.PoolRows) → get (settled_pools s.pools s.rooms (owners pool_of t.pools)) name ≡ Some row → is_pool_past_bound row ≡ false
   unfolding world_of settled_world is_past_bound
   pool_fits name row at = none_of_any one_name (λ _ p. is_pool_past_bound p) _ name row (right_none _ _ (left_none _ _ fits)) at
 
-  quota_fits : (name : Name) (row : Quota) → get (released_quotas s.quotas (owners quota_of t.quotas)) name ≡ Some row → nat_lt greatest row.release ≡ false
+  quota_fits : (name : Name) (row : Rows.QuotaRows) → get (released_quotas s.quotas (owners quota_of t.quotas)) name ≡ Some row → nat_lt greatest row.release ≡ false
   unfolding world_of settled_world is_past_bound
   quota_fits name row at = none_of_any one_name (λ _ q. nat_lt greatest q.release) _ name row (right_none _ _ fits) at
 

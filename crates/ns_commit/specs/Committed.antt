@@ -1,6 +1,6 @@
 -- Room for all that a settled step changes, and the rows once it is there.
-use Rattle.std.specs.Prelude.{◌≡◌, ℕ, ◌+◌, ◌<◌, ◌≤◌, ◌^◌, Bool, true, false, if◌then◌else◌, List, [], ◌∷◌, Option, Some, is_some, length, fold}
-use Rattle.std.specs.Prelude.{option_map}
+use Rattle.std.specs.Prelude.{◌≡◌, ℕ, ◌+◌, ◌<◌, ◌≤◌, ◌^◌, Bool, true, false, if◌then◌else◌, List, [], ◌∷◌, Option, Some}
+use Rattle.std.specs.Prelude.{fold, is_some, length, option_map}
 use Rattle.std.specs.Option.{option_map_or}
 use Rattle.std.specs.List.{list_any}
 use Rattle.std.specs.FinMap.{FinMap, insert}
@@ -9,7 +9,7 @@ use Rattle.keyed.specs.Table.{row_at}
 use Rattle.ns_types.specs.declared.node.Class.{Class}
 use Rattle.ns_types.specs.State.Names.{Name, ByName, name_cmp, has_name, same_name}
 use Rattle.ns_types.specs.Settling.Settle.{after_quota_release, after_release}
-use Rattle.ns_types.specs.State.Rows.{PoolRows as Pool, QuotaRows as Quota, World}
+use Rattle.ns_types.specs.State.Rows
 use Rattle.ns_types.specs.State.Tables.{map_rows}
 use Rattle.ns_types.specs.Steps.{is_past_bound}
 use Rattle.ns_change.specs.declared.change.PoolChange.{PoolChange}
@@ -55,12 +55,12 @@ abbrev pub raised_pool : Bool → PoolRows → PoolRows
 raised_pool released pool = if released then record pool { release = pool.release + 1 } else pool
 
 -- the classes have the number of the pool's last release
-abbrev pub with_classes : List Class → Pool → Pool
+abbrev pub with_classes : List Class → Rows.PoolRows → Rows.PoolRows
 with_classes classes pool = record pool {
   classes = fold (λ known c. insert known c pool.release) pool.classes classes;
 }
 
-abbrev pub numbered_pools : List (Name × Class) → ByName Pool → ByName Pool
+abbrev pub numbered_pools : List (Name × Class) → ByName Rows.PoolRows → ByName Rows.PoolRows
 numbered_pools rooms m = map_rows (λ name pool. with_classes (classes_in name rooms) pool) m
 
 abbrev pub HasNodeRoom : PoolChange → PoolRows → Type 0
@@ -102,7 +102,8 @@ pub record HavePoolRoom (x : FinMap name_cmp (Option PoolChange)) (rooms : List 
   pub classes : HaveClassRoom rooms m
   pub numbers : CanRise (λ pool. pool.release) (releases rooms) m
 
-abbrev pub settled_pools : FinMap name_cmp (Option PoolChange) → List (Name × Class) → ByName Pool → ByName Pool
+abbrev pub settled_pools : FinMap name_cmp (Option PoolChange) → List (Name × Class) → ByName Rows.PoolRows →
+    ByName Rows.PoolRows
 settled_pools x rooms m = map_rows
     (λ name pool. after_release (classes_in name rooms) (perhaps changed_pool (row_at x name) pool)) m
 
@@ -111,7 +112,7 @@ settled_pools x rooms m = map_rows
 abbrev pub raised_quota : Bool → QuotaRows → QuotaRows
 raised_quota released quota = if released then record quota { release = quota.release + 1 } else quota
 
-abbrev pub released_quotas : List Name → ByName Quota → ByName Quota
+abbrev pub released_quotas : List Name → ByName Rows.QuotaRows → ByName Rows.QuotaRows
 released_quotas released m = map_rows (λ name quota. after_quota_release (has_name released name) quota) m
 
 -- ---- all of it
@@ -126,5 +127,5 @@ pub record HasRoom (s : Settled) (t : Tables) : Type 0 where
   pub blocked : length s.blocked.added ≤ t.blocked.room
 
 -- no counter passes its bound
-abbrev pub Fits : World → Settled → Type 0
+abbrev pub Fits : Rows.World → Settled → Type 0
 Fits w s = is_past_bound (settled_world w s) ≡ false

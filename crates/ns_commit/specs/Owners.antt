@@ -15,8 +15,8 @@ abbrev pub changed_owners : {A X : Type 0} → (A → X → A) → FinMap name_c
 changed_owners change c m = map_rows (λ name a. perhaps change (row_at c name) a) m
 
 -- the row of each changed owner has room for its change
-abbrev pub HaveRoom : {X Row : Type 0} → (X → Row → Type 0) → FinMap name_cmp (Option X) → FinMap name_cmp (Option Row) →
-    Type 0
+abbrev pub HaveRoom : {X Row : Type 0} → (X → Row → Type 0) → FinMap name_cmp (Option X) →
+    FinMap name_cmp (Option Row) → Type 0
 HaveRoom {X = X} {Row = Row} Room c m = (name : Name) (x : X) (row : Row) → row_at c name ≡ Some x →
     row_at m name ≡ Some row → Room x row
 
@@ -26,7 +26,7 @@ Turns becomes None new = new ≡ None
 Turns {Row = Row} becomes (Some a) new = (b : Row) × (new ≡ Some b) × becomes a b
 
 -- the row of that name alone becomes another
-pub record ChangesRow {Row : Type 0} (becomes : Row → Row → Type 0) (name : Name) (old new : FinMap name_cmp (Option Row)) :
-    Type 0 where
+pub record ChangesRow {Row : Type 0} (becomes : Row → Row → Type 0) (name : Name)
+    (old new : FinMap name_cmp (Option Row)) : Type 0 where
   pub here : Turns becomes (row_at old name) (row_at new name)
   pub others : (other : Name) → same_name other name ≡ false → row_at new other ≡ row_at old other

@@ -1,5 +1,5 @@
 use Rattle.std.proofs.Common.{sym, ◌∙◌, subst}
-use Rattle.std.specs.Prelude.{◌≡◌, ◌≤◌, length, IsTrue}
+use Rattle.std.specs.Prelude.{◌≡◌, IsTrue}
 use Rattle.keyed.specs.Table.{has_slot}
 use Rattle.keyed.proofs.Tables.{has_slot-row}
 use Rattle.ns_types.proofs.Named.{names, one_name}

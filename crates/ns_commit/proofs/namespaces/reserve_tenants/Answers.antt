@@ -1,4 +1,4 @@
-use Rattle.std.proofs.Common.{sym, subst, ◌∙◌}
+use Rattle.std.proofs.Common.{sym, subst}
 use Rattle.std.proofs.Math.ListN.{drop_of_length-le}
 use Rattle.ns_commit.specs.Committed.{CanTell, HasTenantRoom}
 use Rattle.ns_commit.proofs.Raised.{from_here}

@@ -4,9 +4,8 @@ use Rattle.keyed.specs.Table.{has_slot}
 use Rattle.keyed.proofs.Tables.{has_slot-row}
 use Rattle.ns_types.proofs.Named.{names, one_name}
 use Rattle.ns_change.proofs.Opening.{emptied_keeps}
-use Rattle.ns_commit.proofs.Owners.{nowhere, there, there_if}
+use Rattle.ns_commit.proofs.Owners.{nowhere, there}
 use Rattle.ns_change.specs.Changed.{changed_pool}
-use Rattle.ns_commit.specs.Committed.{HasNodeRoom}
 use Rattle.ns_world.specs.World.{pool_of}
 use Rattle.ns_commit.proofs.pools.commit_nodes_in.Goals as goal
 

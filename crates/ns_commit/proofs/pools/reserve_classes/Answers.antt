@@ -1,4 +1,4 @@
-use Rattle.std.proofs.Common.{refl, sym, ap, subst, ◌∙◌, ◌≡◌, ◌+◌, drop}
+use Rattle.std.proofs.Common.{sym, ap, subst, ◌∙◌, ◌≡◌, ◌+◌, drop}
 use Rattle.std.proofs.Math.ListN.{drop_of_length-le}
 use Rattle.ns_commit.specs.Committed.{releases}
 use Rattle.ns_commit.proofs.Raised.{from_here, rest_is}
@@ -14,7 +14,7 @@ loop-i-preserved c =
     let room = c.index-rooms-i.result in
     let is = from_here c.args.rooms.now c.loop-i.i room c.loop-i-test.true c.index-rooms-i.is in
     let more : releases (drop (c.loop-i.i + 1) c.args.rooms.now) room.0 ≡ c.has_pool.result =
-        ap (λ rooms. releases rooms room.0) (sym (rest_is c.args.rooms.now (c.loop-i.i + 1))) ∙ sym c.has_pool.ensures in
+    ap (λ rooms. releases rooms room.0) (sym (rest_is c.args.rooms.now (c.loop-i.i + 1))) ∙ sym c.has_pool.ensures in
     elim c.if-not-has_pool.branch [
       | then-not-has_pool+in_ok-reserve_classes_in w ↦ subst (λ m. PlacesMade m c.args.table.now _ c.args.rooms.now) (sym w.table-is)
           (place_made c.loop-i.table w.reserve_classes_in.new.table c.args.table.now room _ _ c.args.rooms.now is c.loop-i.invariant

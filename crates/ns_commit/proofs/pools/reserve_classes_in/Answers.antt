@@ -1,5 +1,5 @@
 use Rattle.std.proofs.Common.{refl, sym, ◌∙◌, subst}
-use Rattle.std.specs.Prelude.{◌≡◌, ◌≤◌, filter, length, IsTrue}
+use Rattle.std.specs.Prelude.{◌≤◌, filter, length, IsTrue}
 use Rattle.keyed.specs.Table.{has_slot}
 use Rattle.keyed.proofs.Tables.{has_slot-row}
 use Rattle.ns_types.proofs.Named.{names, one_name}
@@ -11,7 +11,7 @@ use Rattle.ns_types.specs.State.Names.{Name, class_cmp, same_name}
 use Rattle.ns_change.specs.Settled.{classes_in}
 use Rattle.ns_commit.specs.Committed.{GainsClassRoom}
 use Rattle.ns_world.specs.World.{pool_of}
-use Rattle.ns_commit.proofs.Owners.{no_row, nowhere, on_ok, row_there, there, there_if}
+use Rattle.ns_commit.proofs.Owners.{no_row, nowhere, on_ok, row_there, there}
 use Rattle.ns_commit.proofs.pools.reserve_classes_in.Goals as goal
 
 pub set-requires : goal.set-requires
@@ -28,7 +28,7 @@ returns-in_default-clause-room c = no_row GainsClassRoom c.args.name.now c.args.
 
 pub returns-clause-rows : goal.returns-clause-rows
 returns-clause-rows c = there GainsClassRoom c.args.name.now c.args.table.now c.take.new.self c.take.ensures.slots c.set.new.self
-    c.in-Some.pool _ (sym c.take.ensures.row ∙ c.in-Some.is) (record { pool = (λ i. record (pool_of c.in-Some.pool) { classes = from_entries {R = class_cmp} (c.reserve-reserved.ensures.items i) }); nodes = refl; }) c.set.ensures
+    c.in-Some.pool _ (sym c.take.ensures.row ∙ c.in-Some.is) (record { pool = (λ i. record (pool_of c.in-Some.pool) { classes = from_entries {R = class_cmp} (c.reserve-reserved.ensures.items i) }); nodes = refl }) c.set.ensures
 
 pub returns-clause-room : goal.returns-clause-room
 returns-clause-room c = on_ok c.reserve-reserved.result (λ room. row_there GainsClassRoom c.args.name.now c.args.table.now c.take.new.self

@@ -1,8 +1,8 @@
-use Rattle.std.proofs.Common.{sym, subst, ◌∙◌}
+use Rattle.std.proofs.Common.{sym, subst}
 use Rattle.std.proofs.Math.ListN.{drop_of_length-le}
 use Rattle.ns_commit.specs.Committed.{HasNodeRoom}
 use Rattle.ns_commit.proofs.Raised.{from_here}
-use Rattle.ns_commit.proofs.Reserved.{Always, always_carries, all_reserved, can_now, Reserved, none_reserved, one_reserved, owners_after, same_owners, slot_passed}
+use Rattle.ns_commit.proofs.Reserved.{Always, always_carries, all_reserved, Reserved, none_reserved, one_reserved, owners_after, same_owners, slot_passed}
 use Rattle.ns_world.specs.World.{pool_of}
 use Rattle.ns_commit.proofs.pools.reserve_nodes.Goals as goal
 use Rattle.ns_commit.proofs.pools.reserve_nodes.Goals.{in-Some+in_ok-reserve_nodes_in, in_default}

@@ -1,12 +1,12 @@
 use Rattle.std.proofs.Common.{sym, ◌∙◌, subst}
-use Rattle.std.specs.Prelude.{◌≡◌, ◌≤◌, length, IsTrue}
+use Rattle.std.specs.Prelude.{◌≡◌, IsTrue}
 use Rattle.keyed.specs.Table.{has_slot}
 use Rattle.keyed.proofs.Tables.{has_slot-row}
 use Rattle.ns_types.proofs.Named.{names, one_name}
 use Rattle.ns_change.proofs.Opening.{emptied_keeps}
 use Rattle.ns_commit.specs.Committed.{HasNodeRoom}
 use Rattle.ns_world.specs.World.{pool_of}
-use Rattle.ns_commit.proofs.Owners.{no_row, nowhere, on_ok, row_there, there, there_if}
+use Rattle.ns_commit.proofs.Owners.{no_row, nowhere, on_ok, row_there, there}
 use Rattle.ns_commit.proofs.pools.reserve_nodes_in.Goals as goal
 
 pub set-requires : goal.set-requires

@@ -1,4 +1,4 @@
-use Rattle.std.proofs.Common.{◌∙◌, ap, subst, ◌≡◌}
+use Rattle.std.proofs.Common.{◌∙◌, ap}
 use Rattle.ns_commit.specs.Committed.{released_quotas}
 use Rattle.ns_commit.specs.Owners.{owners}
 use Rattle.ns_world.specs.World.{quota_of}
