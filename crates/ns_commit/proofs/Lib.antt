@@ -1,1 +1,6 @@
-pub mod Committed
+pub mod Classes
+pub mod Numbered
+pub mod Owners
+pub mod Raised
+pub mod Reserved
+pub mod Whole

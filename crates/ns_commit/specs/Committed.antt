@@ -1,18 +1,31 @@
--- Room for all that a settled step changes of namespaces, and the namespaces once it is there.
-use Rattle.std.specs.Prelude.{◌≡◌, ◌+◌, ◌<◌, ◌≤◌, ◌^◌, true, Option, Some, None, is_some, length}
+-- Room for all that a settled step changes, and the rows once it is there.
+use Rattle.std.specs.Prelude.{◌≡◌, ℕ, ◌+◌, ◌<◌, ◌≤◌, ◌^◌, Bool, true, false, if◌then◌else◌, List, [], ◌∷◌, Option, Some}
+use Rattle.std.specs.Prelude.{fold, is_some, length, option_map}
 use Rattle.std.specs.Option.{option_map_or}
-use Rattle.std.specs.FinMap.{FinMap, get, insert}
+use Rattle.std.specs.List.{list_any}
+use Rattle.std.specs.FinMap.{FinMap, insert}
 use Rattle.keyed.specs.Over.{HasRoomFor}
-use Rattle.keyed.specs.Table.{row_at, rows}
-use Rattle.ns_types.specs.State.Names.{Name, ByName, name_cmp}
-use Rattle.ns_types.specs.State.Rows.{Tenant}
-use Rattle.ns_types.specs.State.Tables.{map_rows, table_of}
+use Rattle.keyed.specs.Table.{row_at}
+use Rattle.ns_types.specs.declared.node.Class.{Class}
+use Rattle.ns_types.specs.State.Names.{Name, ByName, name_cmp, has_name, same_name}
+use Rattle.ns_types.specs.Settling.Settle.{after_quota_release, after_release}
+use Rattle.ns_types.specs.State.Rows
+use Rattle.ns_types.specs.State.Tables.{map_rows}
+use Rattle.ns_types.specs.Steps.{is_past_bound}
+use Rattle.ns_change.specs.declared.change.PoolChange.{PoolChange}
+use Rattle.ns_change.specs.declared.change.Settled.{Settled}
 use Rattle.ns_change.specs.declared.change.SettledTenant.{SettledTenant}
 use Rattle.ns_change.specs.declared.change.TenantChange.{TenantChange}
-use Rattle.ns_change.specs.Changed.{perhaps}
-use Rattle.ns_change.specs.Settled.{settled_tenant}
+use Rattle.ns_change.specs.Changed.{changed_pool, perhaps}
+use Rattle.ns_change.specs.Settled.{classes_in, settled_world}
+use Rattle.ns_commit.specs.Owners.{HaveRoom}
+use Rattle.ns_world.specs.World.{pool_of}
+use Rattle.ns_world.specs.declared.tables.PoolRows.{PoolRows}
+use Rattle.ns_world.specs.declared.tables.QuotaRows.{QuotaRows}
+use Rattle.ns_world.specs.declared.tables.Tables.{Tables}
 use Rattle.ns_world.specs.declared.tables.TenantRows.{TenantRows}
-use Rattle.ns_world.specs.World.{tenant_of}
+
+-- ---- namespaces
 
 -- a slot for each changed row
 pub record HasRowRoom (x : TenantChange) (t : TenantRows) : Type 0 where
@@ -21,23 +34,98 @@ pub record HasRowRoom (x : TenantChange) (t : TenantRows) : Type 0 where
   pub allocations : HasRoomFor x.allocations t.allocations
   pub workers : HasRoomFor x.workers t.workers
 
--- and a place for each event; where there are some, the index can rise
+-- where there are events, the index can rise
+abbrev pub CanTell : SettledTenant → TenantRows → Type 0
+CanTell x t = is_some x.events ≡ true → t.index + 1 < 2 ^ 64
+
+-- and a place for each event
 pub record HasTenantRoom (x : SettledTenant) (t : TenantRows) : Type 0 where
   pub rows : HasRowRoom x.rows t
   pub events : option_map_or length x.events 0 ≤ t.events.room
-  pub index : is_some x.events ≡ true → t.index + 1 < 2 ^ 64
+  pub index : CanTell x t
 
-abbrev pub HasRoom : FinMap name_cmp (Option SettledTenant) → FinMap name_cmp (Option TenantRows) → Type 0
-HasRoom c m = (ns : Name) (x : SettledTenant) (t : TenantRows) → row_at c ns ≡ Some x → row_at m ns ≡ Some t →
-    HasTenantRoom x t
+-- ---- pools
 
-abbrev pub tenants_of : FinMap name_cmp (Option TenantRows) → ByName Tenant
-tenants_of m = table_of (λ _ x. tenant_of x) (rows m)
+-- whether a class of the pool is released
+abbrev pub releases : List (Name × Class) → Name → Bool
+releases rooms name = list_any (λ room. same_name name room.0) rooms
 
-abbrev pub settled_tenants : FinMap name_cmp (Option SettledTenant) → ByName Tenant → ByName Tenant
-settled_tenants c m = map_rows (λ ns t. perhaps settled_tenant (row_at c ns) t) m
+-- the release number of a pool of which classes are released
+abbrev pub raised_pool : Bool → PoolRows → PoolRows
+raised_pool released pool = if released then record pool { release = pool.release + 1 } else pool
 
--- one namespace is changed
-abbrev pub put_settled : ByName Tenant → Name × Option SettledTenant → ByName Tenant
-put_settled m (ns, None) = m
-put_settled m (ns, Some x) = option_map_or (λ t. insert m ns (settled_tenant t x)) (get m ns) m
+-- the classes have the number of the pool's last release
+abbrev pub with_classes : List Class → Rows.PoolRows → Rows.PoolRows
+with_classes classes pool = record pool {
+  classes = fold (λ known c. insert known c pool.release) pool.classes classes;
+}
+
+abbrev pub numbered_pools : List (Name × Class) → ByName Rows.PoolRows → ByName Rows.PoolRows
+numbered_pools rooms m = map_rows (λ name pool. with_classes (classes_in name rooms) pool) m
+
+abbrev pub HasNodeRoom : PoolChange → PoolRows → Type 0
+HasNodeRoom x pool = HasRoomFor x.nodes pool.nodes
+
+-- a place for each released class
+abbrev pub HaveClassRoom : List (Name × Class) → FinMap name_cmp (Option PoolRows) → Type 0
+HaveClassRoom rooms m = (name : Name) (pool : PoolRows) → row_at m name ≡ Some pool →
+    length (classes_in name rooms) ≤ pool.classes.room
+
+-- the nodes of each pool, with their slots, stay
+abbrev pub KeepsNodes : FinMap name_cmp (Option PoolRows) → FinMap name_cmp (Option PoolRows) → Type 0
+KeepsNodes old new = (name : Name) →
+    option_map (λ pool. pool.nodes) (row_at new name) ≡ option_map (λ pool. pool.nodes) (row_at old name)
+
+-- the class has the number of the pool's last release, and what stays as it is
+pub record ClassPut (class : Class) (old new : PoolRows) : Type 0 where
+  pub pool : pool_of new ≡ with_classes (class ∷ []) (pool_of old)
+  pub nodes : new.nodes ≡ old.nodes
+  pub room : old.classes.room ≤ new.classes.room + 1
+
+-- ---- release numbers
+
+-- the release number of each chosen row can rise
+abbrev pub CanRise : {Row : Type 0} → (Row → ℕ) → (Name → Bool) → FinMap name_cmp (Option Row) → Type 0
+CanRise {Row = Row} release chosen m = (name : Name) (row : Row) → row_at m name ≡ Some row → chosen name ≡ true →
+    release row + 1 < 2 ^ 64
+
+-- ---- pools, whole
+
+-- places for classes alone were made
+pub record GainsClassRoom (old new : PoolRows) : Type 0 where
+  pub pool : pool_of new ≡ pool_of old
+  pub nodes : new.nodes ≡ old.nodes
+
+pub record HavePoolRoom (x : FinMap name_cmp (Option PoolChange)) (rooms : List (Name × Class))
+    (m : FinMap name_cmp (Option PoolRows)) : Type 0 where
+  pub nodes : HaveRoom HasNodeRoom x m
+  pub classes : HaveClassRoom rooms m
+  pub numbers : CanRise (λ pool. pool.release) (releases rooms) m
+
+abbrev pub settled_pools : FinMap name_cmp (Option PoolChange) → List (Name × Class) → ByName Rows.PoolRows →
+    ByName Rows.PoolRows
+settled_pools x rooms m = map_rows
+    (λ name pool. after_release (classes_in name rooms) (perhaps changed_pool (row_at x name) pool)) m
+
+-- ---- quotas
+
+abbrev pub raised_quota : Bool → QuotaRows → QuotaRows
+raised_quota released quota = if released then record quota { release = quota.release + 1 } else quota
+
+abbrev pub released_quotas : List Name → ByName Rows.QuotaRows → ByName Rows.QuotaRows
+released_quotas released m = map_rows (λ name quota. after_quota_release (has_name released name) quota) m
+
+-- ---- all of it
+
+-- room for all rows, and numbers that can rise
+pub record HasRoom (s : Settled) (t : Tables) : Type 0 where
+  pub tenants : HaveRoom HasTenantRoom s.tenants t.tenants
+  pub pools : HavePoolRoom s.pools s.rooms t.pools
+  pub quotas : CanRise (λ quota. quota.release) (has_name s.quotas) t.quotas
+  pub ready : length s.ready.added ≤ t.ready.room
+  pub plans : length s.plans.added ≤ t.plans.room
+  pub blocked : length s.blocked.added ≤ t.blocked.room
+
+-- no counter passes its bound
+abbrev pub Fits : Rows.World → Settled → Type 0
+Fits w s = is_past_bound (settled_world w s) ≡ false

@@ -1,10 +1,17 @@
-//! A settled change goes into the tables. Room is made first, which may be refused and leaves the rows as they were;
-//! then the rows are moved in, and that takes no memory. Here are the namespaces and the three lists; the nodes and
-//! release numbers of pools, and those of quotas, are still to come.
+//! A settled change goes into the tables: rows of namespaces with their indexes and events, nodes, release numbers of
+//! pools, classes and quotas, and the three lists. `reserve` makes room for all of it, which may be refused and leaves
+//! the world as it was; `commit` moves it in and takes no memory; `apply` is both. Each costs what the change has,
+//! whatever the tables hold; only the lists are gone through whole.
 #![tactic(auto)]
 
 mod lists;
 mod namespaces;
+mod pools;
+mod quotas;
+mod settled;
 
-pub use lists::commit_list;
-pub use namespaces::{commit_tenant, commit_tenants, reserve_tenant};
+pub use lists::{commit_list, reserve_list};
+pub use namespaces::{commit_tenant, commit_tenants, reserve_tenant, reserve_tenants};
+pub use pools::{commit_pools, reserve_pools};
+pub use quotas::commit_quotas;
+pub use settled::{apply, commit, reserve};

@@ -1,13 +1,11 @@
 //! What changed of namespaces goes into the tables. Room is made first; then nothing can fail.
 
-ghost use Rattle.std.specs.Prelude.{◌≡◌, ◌+◌, ◌<◌, ◌≤◌, ◌^◌, false, is_some, length, true, OnOk, Some};
-ghost use Rattle.std.specs.Ordering.{eq_by_cmp};
+ghost use Rattle.std.specs.Prelude.{◌≡◌, ◌+◌, ◌<◌, ◌≤◌, ◌^◌, length, IfSome, OnOk};
 ghost use Rattle.keyed.specs.Table.{row_at};
-ghost use Rattle.ns_types.specs.State.Names.{Name, name_cmp};
 ghost use Rattle.ns_change.specs.Changed.{changed_tenant};
-ghost use Rattle.ns_change.specs.Settled.{settled_tenant, tell as told};
-ghost use Rattle.ns_commit.specs.Committed.{HasRoom, HasRowRoom, HasTenantRoom, put_settled, settled_tenants, tenants_of};
-ghost use Rattle.ns_world.specs.declared.tables.TenantRows.{TenantRows as TenantRowsValue};
+ghost use Rattle.ns_change.specs.Settled.{settled_tenant, tell};
+ghost use Rattle.ns_commit.specs.Committed.{CanTell, HasRowRoom, HasTenantRoom};
+ghost use Rattle.ns_commit.specs.Owners.{ChangesRow, HaveRoom, changed_owners, owners};
 ghost use Rattle.ns_world.specs.World.{tenant_of};
 
 use keyed::NameTable;
@@ -35,13 +33,50 @@ fn reserve_rows(tenant: &mut TenantRows, change: &TenantChange) -> Result<(), Al
 
 /// Makes room for each changed row and each event of a namespace. Where it is refused, the rows are as they were.
 pub fn reserve_tenant(tenant: &mut TenantRows, settled: &SettledTenant) -> Result<(), AllocError>
-    requires { is_some settled.now.events ≡ true → tenant.old.index + 1 < 2 ^ 64 }
+    requires { CanTell settled.now tenant.old }
     ensures rows { tenant_of tenant.new ≡ tenant_of tenant.old }
     ensures room { OnOk result (HasTenantRoom settled.now tenant.new) }
 {
     reserve_rows(tenant, &settled.rows)?;
     if let Some(events) = &settled.events {
         tenant.events.reserve(events.as_slice().len())?;
+    }
+    Ok(())
+}
+
+/// Makes room for what changes of the namespace, if it is there.
+fn reserve_one(
+    table: &mut NameTable<TenantRows>,
+    namespace: &Text,
+    change: &SettledTenant,
+) -> Result<(), AllocError>
+    requires { IfSome (row_at table.old namespace.now) (CanTell change.now) }
+    ensures rows { ChangesRow (λ a b. tenant_of b ≡ tenant_of a)
+        namespace.now table.old table.new }
+    ensures room { OnOk result
+        (IfSome (row_at table.new namespace.now) (HasTenantRoom change.now)) }
+{
+    let Some(mut tenant) = table.take(namespace) else {
+        return Ok(());
+    };
+    let reserved = reserve_tenant(&mut tenant, change);
+    table.set(namespace, tenant);
+    reserved
+}
+
+/// Makes room for what changes of all namespaces. Want of memory is the only error; the namespaces are as they were.
+pub fn reserve_tenants(
+    table: &mut NameTable<TenantRows>,
+    changes: &NameTable<SettledTenant>,
+) -> Result<(), AllocError>
+    requires { HaveRoom CanTell changes.now table.old }
+    ensures tenants { owners tenant_of table.new ≡ owners tenant_of table.old }
+    ensures room { OnOk result (HaveRoom HasTenantRoom changes.now table.new) }
+{
+    for slot in changes.as_slice() {
+        if let Some(change) = &slot.1 {
+            reserve_one(table, &slot.0, change)?;
+        }
     }
     Ok(())
 }
@@ -73,7 +108,7 @@ fn commit_rows(tenant: &mut TenantRows, change: TenantChange)
 fn tell(tenant: &mut TenantRows, events: Rows<Event>)
     requires room { length events ≤ tenant.old.events.room }
     requires index { tenant.old.index + 1 < 2 ^ 64 }
-    ensures { tenant_of tenant.new ≡ told (tenant_of tenant.old) events }
+    ensures { tenant_of tenant.new ≡ tell (tenant_of tenant.old) events }
 {
     tenant.index += 1;
     tenant.events.append(events);
@@ -94,8 +129,9 @@ pub fn commit_tenant(tenant: &mut TenantRows, settled: SettledTenant)
 
 /// Moves what changed of all namespaces in. It takes no memory.
 pub fn commit_tenants(table: &mut NameTable<TenantRows>, changes: NameTable<SettledTenant>)
-    requires { HasRoom changes table.old }
-    ensures { tenants_of table.new ≡ settled_tenants changes (tenants_of table.old) }
+    requires { HaveRoom HasTenantRoom changes table.old }
+    ensures { owners tenant_of table.new
+        ≡ changed_owners settled_tenant changes (owners tenant_of table.old) }
 {
     for (namespace, slot) in changes.into_slots() {
         if let Some(change) = slot {
@@ -106,9 +142,9 @@ pub fn commit_tenants(table: &mut NameTable<TenantRows>, changes: NameTable<Sett
 
 /// Moves what changed of a namespace in, if it is there.
 fn commit_one(table: &mut NameTable<TenantRows>, namespace: &Text, change: SettledTenant)
-    requires { (t : TenantRowsValue) → row_at table.old namespace.now ≡ Some t → HasTenantRoom change t }
-    ensures rows { tenants_of table.new ≡ put_settled (tenants_of table.old) (namespace.now, Some change) }
-    ensures others { (ns : Name) → eq_by_cmp name_cmp ns namespace.now ≡ false → row_at table.new ns ≡ row_at table.old ns }
+    requires { IfSome (row_at table.old namespace.now) (HasTenantRoom change) }
+    ensures { ChangesRow (λ a b. tenant_of b ≡ settled_tenant (tenant_of a) change)
+        namespace.now table.old table.new }
 {
     match table.take(namespace) {
         Some(mut tenant) => {

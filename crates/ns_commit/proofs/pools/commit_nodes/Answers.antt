@@ -1,0 +1,30 @@
+use Rattle.std.proofs.Common.{sym, subst, ◌∙◌, ◌≡◌}
+use Rattle.keyed.proofs.Applying.{empty_by}
+use Rattle.ns_change.specs.Changed.{changed_pool}
+use Rattle.ns_commit.specs.Committed.{HasNodeRoom}
+use Rattle.ns_commit.specs.Owners.{ChangesRow}
+use Rattle.ns_commit.proofs.Owners.{all_ahead, all_done, none_done, one_done, room_now}
+use Rattle.ns_world.specs.World.{pool_of}
+use Rattle.ns_commit.proofs.pools.commit_nodes.Goals as goal
+use Rattle.ns_commit.proofs.pools.commit_nodes.Goals.{in-Some-slot, in_default}
+
+pub loop-name-init : goal.loop-name-init
+loop-name-init c = all_ahead pool_of changed_pool HasNodeRoom c.args.changes c.args.table.now _
+    (c.into_iter-name-iterator.ensures.into_iter_gives.0 ∙ c.into_slots-name-items.ensures) c.requires
+
+pub returns : goal.returns
+returns c = all_done pool_of changed_pool HasNodeRoom c.loop-name.table _ _
+    (empty_by _ (sym c.loop-name.name-iterator.rest.ok.0 ∙ c.in-None.ensures.steps.0)) c.loop-name.invariant
+
+pub commit_nodes_in-requires : goal.commit_nodes_in-requires
+commit_nodes_in-requires c = room_now pool_of changed_pool HasNodeRoom c.loop-name.table c.loop-name.table c.in-Some.name c.in-Some.slot _ _ _
+    c.in-Some.ensures.steps.0 c.loop-name.invariant c.in-Some-slot.change c.in-Some-slot.is
+
+pub loop-name-preserved : goal.loop-name-preserved
+loop-name-preserved c = elim c.match-slot.branch [
+  | in-Some-slot w ↦ one_done pool_of changed_pool HasNodeRoom c.loop-name.table c.match-slot.table c.in-Some.name c.in-Some.slot _ _ _
+      c.in-Some.ensures.steps.0 c.loop-name.invariant w.in-Some-slot.change w.in-Some-slot.is
+      (subst (λ m. ChangesRow (λ a b. pool_of b ≡ changed_pool (pool_of a) w.in-Some-slot.change) c.in-Some.name c.loop-name.table m) (sym w.table-is) w.commit_nodes_in.ensures)
+  | in_default w ↦ none_done pool_of changed_pool HasNodeRoom c.loop-name.table c.match-slot.table c.in-Some.name c.in-Some.slot _ _ _
+      c.in-Some.ensures.steps.0 c.loop-name.invariant w.in_default.is w.table-is
+]

@@ -1,0 +1,37 @@
+//! The release numbers of quotas.
+
+ghost use Rattle.std.specs.Prelude.{◌≡◌, ◌+◌, ◌<◌, ◌^◌, true, IfSome};
+ghost use Rattle.keyed.specs.Table.{row_at};
+ghost use Rattle.ns_types.specs.State.Names.{has_name};
+ghost use Rattle.ns_commit.specs.Committed.{CanRise, raised_quota, released_quotas};
+ghost use Rattle.ns_commit.specs.Owners.{ChangesRow, owners};
+ghost use Rattle.ns_world.specs.World.{quota_of};
+
+use keyed::NameTable;
+use ns_alike::has_name;
+use ns_types::text::Text;
+use ns_world::QuotaRows;
+
+/// The quota has one more release.
+fn raise_quota(table: &mut NameTable<QuotaRows>, name: &Text)
+    requires { IfSome (row_at table.old name.now) (λ quota. quota.release + 1 < 2 ^ 64) }
+    ensures { ChangesRow (λ a b. b ≡ raised_quota true a) name.now table.old table.new }
+{
+    if let Some(mut quota) = table.take(name) {
+        quota.release += 1;
+        table.set(name, quota);
+    }
+}
+
+/// Each of those quotas has one more release. It takes no memory.
+pub fn commit_quotas(table: &mut NameTable<QuotaRows>, released: &[Text])
+    requires { CanRise (λ quota. quota.release) (has_name released.now) table.old }
+    ensures { owners quota_of table.new
+        ≡ released_quotas released.now (owners quota_of table.old) }
+{
+    for (i, name) in released.iter().enumerate() {
+        if !has_name(&released[i + 1..], name) {
+            raise_quota(table, name);
+        }
+    }
+}

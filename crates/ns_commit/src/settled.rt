@@ -1,0 +1,62 @@
+//! All that a settled step changes goes into the tables.
+
+ghost use Rattle.std.specs.Prelude.{◌≡◌, OnErr, OnOk};
+ghost use Rattle.ns_change.specs.Settled.{settled_world};
+ghost use Rattle.ns_commit.specs.Committed.{Fits, HasRoom};
+ghost use Rattle.ns_world.specs.World.{world_of};
+
+use crate::lists::{commit_list, reserve_list};
+use crate::namespaces::{commit_tenants, reserve_tenants};
+use crate::pools::{commit_pools, reserve_pools};
+use crate::quotas::commit_quotas;
+use ns_change::Settled;
+use ns_world::Tables;
+use std::alloc::AllocError;
+
+/// Makes room for all that a settled step changes. Want of memory is the only error, and the world is as it was: only
+/// vacant slots and room were made, which stay.
+pub fn reserve(tables: &mut Tables, settled: &Settled) -> Result<(), AllocError>
+    requires { Fits (world_of tables.old) settled.now }
+    ensures world { world_of tables.new ≡ world_of tables.old }
+    ensures room { OnOk result (HasRoom settled.now tables.new) }
+{
+    reserve_tenants(&mut tables.tenants, &settled.tenants)?;
+    reserve_pools(&mut tables.pools, &settled.pools, settled.rooms.as_slice())?;
+    reserve_list(&mut tables.ready, &settled.ready)?;
+    reserve_list(&mut tables.plans, &settled.plans)?;
+    reserve_list(&mut tables.blocked, &settled.blocked)
+}
+
+/// Moves all that a settled step changes in. It takes no memory.
+pub fn commit(tables: &mut Tables, settled: Settled)
+    requires { HasRoom settled tables.old }
+    ensures { world_of tables.new ≡ settled_world (world_of tables.old) settled }
+{
+    let Settled {
+        tenants,
+        pools,
+        ready,
+        plans,
+        blocked,
+        rooms,
+        quotas,
+    } = settled;
+    commit_tenants(&mut tables.tenants, tenants);
+    commit_pools(&mut tables.pools, pools, rooms);
+    commit_quotas(&mut tables.quotas, quotas.as_slice());
+    commit_list(&mut tables.ready, ready);
+    commit_list(&mut tables.plans, plans);
+    commit_list(&mut tables.blocked, blocked);
+    drop(quotas);
+}
+
+/// Moves all that a settled step changes in, or nothing. Want of memory is the only error.
+pub fn apply(tables: &mut Tables, settled: Settled) -> Result<(), AllocError>
+    requires { Fits (world_of tables.old) settled }
+    ensures ok { OnOk result (world_of tables.new ≡ settled_world (world_of tables.old) settled) }
+    ensures err { OnErr result (world_of tables.new ≡ world_of tables.old) }
+{
+    reserve(tables, &settled)?;
+    commit(tables, settled);
+    Ok(())
+}
