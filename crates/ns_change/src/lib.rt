@@ -11,14 +11,16 @@ mod change;
 mod editing;
 mod evicting;
 mod looking;
+mod numbered;
 mod placing;
 mod promoting;
 mod queueing;
 
 pub use change::{Change, ListChange, PoolChange, Settled, SettledTenant, TenantChange};
-pub use editing::{put_evaluation, set_status};
-pub use evicting::{put_allocation, set_client, set_desired};
+pub use editing::set_status;
+pub use evicting::{set_client, set_desired};
 pub use looking::{allocation, evaluation, node};
+pub use numbered::{NumberedRow, put_row};
 pub use placing::{add_allocation, count_place, put_node};
 pub use promoting::{cancel_blocked, promote};
 pub use queueing::{make, queue, wake};
