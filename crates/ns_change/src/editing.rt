@@ -55,7 +55,8 @@ pub fn set_status(
     key: &EvalKey,
     status: Status,
 ) -> Result<(), AllocError>
-    ensures { DoesIn key.now.0 result tables.now change.old change.new (with_status key.now.1 status) }
+    ensures { DoesIn key.now.0 result tables.now change.old change.new
+        (with_status key.now.1 status) }
 {
     let Some(row) = evaluation(tables, change, key.namespace(), key.number()) else {
         return Ok(());

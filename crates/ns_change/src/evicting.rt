@@ -40,7 +40,8 @@ pub fn set_desired(
     key: &EvalKey,
     desired: DesiredStatus,
 ) -> Result<(), AllocError>
-    ensures { DoesIn key.now.0 result tables.now change.old change.new (with_desired key.now.1 desired) }
+    ensures { DoesIn key.now.0 result tables.now change.old change.new
+        (with_desired key.now.1 desired) }
 {
     let Some(row) = allocation(tables, change, key.namespace(), key.number()) else {
         return Ok(());
@@ -57,7 +58,8 @@ pub fn set_client(
     key: &EvalKey,
     client: ClientStatus,
 ) -> Result<(), AllocError>
-    ensures { DoesIn key.now.0 result tables.now change.old change.new (with_client key.now.1 client) }
+    ensures { DoesIn key.now.0 result tables.now change.old change.new
+        (with_client key.now.1 client) }
 {
     let Some(row) = allocation(tables, change, key.namespace(), key.number()) else {
         return Ok(());

@@ -3,7 +3,7 @@
 ghost use Rattle.std.specs.Prelude.{◌≡◌, ◌+◌, ◌<◌, ◌^◌, IfOk};
 ghost use Rattle.ns_types.specs.Working.Commit.{with_allocation};
 ghost use Rattle.ns_types.specs.Settling.Making.{with_node};
-ghost use Rattle.ns_change.specs.Changed.{Does, DoesIn, DoesInPool, HasAllocationLeft, HasPlaceLeft, count_place, view};
+ghost use Rattle.ns_change.specs.Changed.{Does, DoesIn, DoesInPool, HasAllocationLeft, HasPlaceLeft, count_place, view, without_node};
 ghost use Rattle.ns_change.specs.Opened.{OpenedPool};
 
 use crate::change::{Change, PoolChange};
@@ -52,6 +52,24 @@ pub fn put_node(
     };
     changed.nodes.reserve(name)?;
     changed.nodes.set(name, row);
+    change.pools.set(pool, changed);
+    Ok(())
+}
+
+/// Takes a node of a pool away.
+pub fn remove_node(
+    tables: &Tables,
+    change: &mut Change,
+    pool: &Text,
+    name: &Text,
+) -> Result<(), AllocError>
+    ensures { DoesInPool pool.now result tables.now change.old change.new (without_node name.now) }
+{
+    let Some(mut changed) = open_pool(tables, change, pool)? else {
+        return Ok(());
+    };
+    changed.nodes.reserve(name)?;
+    drop(changed.nodes.take(name));
     change.pools.set(pool, changed);
     Ok(())
 }

@@ -57,7 +57,8 @@ fn first_left(
     job: &Text,
     wanted: Status,
 ) -> Option<u64>
-    ensures { result ≡ first_slot (is_left changed.now (at_slot (standing wanted job.now))) slots.now }
+    ensures { result
+        ≡ first_slot (is_left changed.now (at_slot (standing wanted job.now))) slots.now }
 {
     slots
         .iter()
@@ -127,7 +128,8 @@ pub fn cancel_blocked(
     namespace: &Text,
     job: &Text,
 ) -> Result<(), AllocError>
-    ensures { DoesIn namespace.now result tables.now change.old change.new (cancel_blocked job.now) }
+    ensures { DoesIn namespace.now result tables.now change.old change.new
+        (cancel_blocked job.now) }
 {
     let Some(number) = first_of_job(tables, change, namespace, job, Status::Blocked) else {
         return Ok(());

@@ -50,7 +50,8 @@ fn is_among_left(
     namespace: &Text,
     job: &Text,
 ) -> bool
-    ensures { result ≡ any_left (is_of tables.now change.now namespace.now job.now) taken.now base.now }
+    ensures { result
+        ≡ any_left (is_of tables.now change.now namespace.now job.now) taken.now base.now }
 {
     base.iter().any(|key| {
         !has_key(taken, key) && is_key_of_job(tables, change, namespace, job, key)
