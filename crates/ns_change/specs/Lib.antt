@@ -1,4 +1,5 @@
 pub mod Changed
 pub mod Opened
+pub mod Queued
 pub mod Settled
 pub mod Waiting

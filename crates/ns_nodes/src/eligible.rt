@@ -3,8 +3,7 @@
 ghost use Rattle.std.specs.Prelude.{◌≡◌, IfOk};
 ghost use Rattle.ns_types.specs.declared.step.NodeCommand.TheVariants as NodeCommand;
 ghost use Rattle.ns_types.specs.Asking.Nodes.{ask_pool};
-ghost use Rattle.ns_change.specs.Changed.{view};
-ghost use Rattle.ns_nodes.specs.Checked.{Checks};
+ghost use Rattle.ns_nodes.specs.Checked.{Answers};
 
 use ns_change::{Change, node, put_node};
 use ns_types::node::{Node, Offer};
@@ -38,7 +37,8 @@ pub fn set_eligible(
     name: &Text,
     eligible: bool,
 ) -> Result<Content, Refusal>
-    ensures { Checks (ask_pool pool.now (NodeCommand.SetEligible name.now eligible) (view tables.now change.old)) result (view tables.now change.new) }
+    ensures { Answers (ask_pool pool.now (NodeCommand.SetEligible name.now eligible))
+        result tables.now change.old change.new }
 {
     let Some(row) = node(tables, change, pool, name) else {
         return Err(Refusal::NotFound);

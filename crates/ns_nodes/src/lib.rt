@@ -3,5 +3,9 @@
 #![tactic(auto)]
 
 mod eligible;
+mod registered;
+mod removed;
 
 pub use eligible::set_eligible;
+pub use registered::register_node;
+pub use removed::remove_node;
