@@ -1,5 +1,5 @@
 -- What a request asks for: a step, or the refusal that needs no state.
-use Rattle.std.specs.Prelude.{ℕ, List, [], Option, Some, None, option_map, unwrap_or, Result, Ok, Err, codes}
+use Rattle.std.specs.Prelude.{[], Option, Some, None, option_map, unwrap_or, Result, Ok, Err}
 use Rattle.uuid.specs.Text.{hyphenated_text, lower, parsed}
 use Rattle.ns_types.specs.declared.refusal.Refusal.{Refusal}
 use Rattle.ns_types.specs.declared.step.AdminCommand.{AdminCommand}
@@ -9,16 +9,15 @@ use Rattle.ns_types.specs.declared.step.Step.{Step}
 use Rattle.ns_types.specs.Wire.Http.{Asked}
 use Rattle.ns_types.specs.State.Names.{Name, default_name}
 use Rattle.ns_documents.specs.Access.{policy_in, token_in}
-use Rattle.ns_documents.specs.Records.{namespace_in as namespace_document, pool_in as pool_document}
-use Rattle.ns_documents.specs.Records.{quota_in as quota_document}
+use Rattle.ns_documents.specs.Records
 use Rattle.ns_json.specs.Reading.{◌>>=◌, body_in}
 use Rattle.ns_json.specs.Registration.{registration_in}
-use Rattle.ns_api.specs.declared.endpoint.Endpoint.{Endpoint}
-use Rattle.ns_api.specs.declared.method.Method.{Method}
-use Rattle.ns_api.specs.Finding.{found}
-use Rattle.ns_api.specs.Queries.{namespace_in, parameter}
-use Rattle.ns_api.specs.Secrets.{secret_of}
-use Rattle.ns_api.specs.Targets.{path_in, query_in, text_at}
+use Rattle.ns_request.specs.declared.endpoint.Endpoint.{Endpoint}
+use Rattle.ns_request.specs.declared.method.Method.{Method}
+use Rattle.ns_request.specs.Finding.{found}
+use Rattle.ns_request.specs.Queries.{namespace_in, prefix_of}
+use Rattle.ns_request.specs.Secrets.{secret_of}
+use Rattle.ns_request.specs.Targets.{path_in, query_in, text_at}
 
 -- ---- who asks, and where
 
@@ -50,9 +49,6 @@ third_part a = text_at 3 (path_in a.target)
 abbrev pub fourth_part : Asked → Name
 fourth_part a = text_at 4 (path_in a.target)
 
-abbrev pub prefix_of : List ℕ → Name
-prefix_of query = unwrap_or (parameter (codes "prefix") query) []
-
 abbrev pub prefix_in : Asked → Name
 prefix_in a = prefix_of (query_in a.target)
 
@@ -71,17 +67,17 @@ registration_asked a = do
 
 unfoldable pub namespace_put : Option Name → Asked → Result Step Refusal
 namespace_put named a = do
-  document ← body_in (namespace_document named) a.body
+  document ← body_in (Records.namespace_in named) a.body
   admin_of (AdminCommand.PutNamespace document.name document.namespace) a
 
 unfoldable pub quota_put : Option Name → Asked → Result Step Refusal
 quota_put named a = do
-  document ← body_in (quota_document named) a.body
+  document ← body_in (Records.quota_in named) a.body
   admin_of (AdminCommand.PutQuota document.name document.quota) a
 
 unfoldable pub pool_put : Option Name → Asked → Result Step Refusal
 pool_put named a = do
-  document ← body_in (pool_document named) a.body
+  document ← body_in (Records.pool_in named) a.body
   admin_of (AdminCommand.PutPool document.name document.pool) a
 
 unfoldable pub policy_put : Asked → Result Step Refusal

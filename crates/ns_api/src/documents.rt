@@ -1,7 +1,7 @@
 //! What requests want with a document.
 
 ghost use Rattle.std.specs.Prelude.{◌≡◌, IfOk, option_copied};
-ghost use Rattle.ns_http.specs.Head.{asked as shown};
+ghost use Rattle.ns_http.specs.Head.{asked};
 ghost use Rattle.ns_api.specs.Asking.{
   fourth_part,
   namespace_put,
@@ -13,7 +13,6 @@ ghost use Rattle.ns_api.specs.Asking.{
 };
 ghost use Rattle.ns_api.specs.Wanted.{IsServedWanted, Wants};
 
-use crate::finding::Target;
 use crate::wanted::Wanted;
 use ns_documents::{read_namespace, read_policy, read_pool, read_quota, read_token};
 use ns_http::Request;
@@ -80,7 +79,7 @@ pub fn put_pool(
 /// A put of the policy that the path names.
 #[tactic(auto, unfolding(crate::specs::Asking::policy_put, crate::specs::Asking::admin_of, crate::specs::Asking::bearer_in, crate::specs::Wanted::step_of))]
 pub fn put_policy(alloc: Global, request: &Request<'_>, name: &Text) -> Result<Wanted, Refusal>
-    requires { name.now ≡ fourth_part (shown request.now) }
+    requires { name.now ≡ fourth_part (asked request.now) }
     ensures wanted { Wants request.now result policy_put }
     ensures served { IfOk result IsServedWanted }
 {
