@@ -35,7 +35,7 @@ pub fn register(alloc: Global, request: &Request<'_>) -> Result<Wanted, Refusal>
 }
 
 /// A put, where `named` is the name that the path holds, if it holds one.
-#[tactic(auto, unfolding(crate::specs::Asking::namespace_put, crate::specs::Asking::admin_of, crate::specs::Asking::bearer_in, crate::specs::Wanted::step_of))]
+#[tactic(auto, unfolding(crate::specs::Asking::admin_by, crate::specs::Asking::admin_of, crate::specs::Asking::bearer_in, crate::specs::Wanted::step_of))]
 pub fn put_namespace(
     alloc: Global,
     request: &Request<'_>,
@@ -49,7 +49,7 @@ pub fn put_namespace(
 }
 
 /// The same of a quota.
-#[tactic(auto, unfolding(crate::specs::Asking::quota_put, crate::specs::Asking::admin_of, crate::specs::Asking::bearer_in, crate::specs::Wanted::step_of))]
+#[tactic(auto, unfolding(crate::specs::Asking::admin_by, crate::specs::Asking::admin_of, crate::specs::Asking::bearer_in, crate::specs::Wanted::step_of))]
 pub fn put_quota(
     alloc: Global,
     request: &Request<'_>,
@@ -63,7 +63,7 @@ pub fn put_quota(
 }
 
 /// The same of a pool.
-#[tactic(auto, unfolding(crate::specs::Asking::pool_put, crate::specs::Asking::admin_of, crate::specs::Asking::bearer_in, crate::specs::Wanted::step_of))]
+#[tactic(auto, unfolding(crate::specs::Asking::admin_by, crate::specs::Asking::admin_of, crate::specs::Asking::bearer_in, crate::specs::Wanted::step_of))]
 pub fn put_pool(
     alloc: Global,
     request: &Request<'_>,
@@ -77,7 +77,7 @@ pub fn put_pool(
 }
 
 /// A put of the policy that the path names.
-#[tactic(auto, unfolding(crate::specs::Asking::policy_put, crate::specs::Asking::admin_of, crate::specs::Asking::bearer_in, crate::specs::Wanted::step_of))]
+#[tactic(auto, unfolding(crate::specs::Asking::admin_by, crate::specs::Asking::admin_of, crate::specs::Asking::bearer_in, crate::specs::Wanted::step_of))]
 pub fn put_policy(alloc: Global, request: &Request<'_>, name: &Text) -> Result<Wanted, Refusal>
     requires { name.now ≡ fourth_part (asked request.now) }
     ensures wanted { Wants request.now result policy_put }
@@ -88,7 +88,7 @@ pub fn put_policy(alloc: Global, request: &Request<'_>, name: &Text) -> Result<W
 }
 
 /// A new token, whose two texts are drawn afterwards.
-#[tactic(auto, unfolding(crate::specs::Asking::token_asked, crate::specs::Asking::admin_of, crate::specs::Asking::bearer_in, crate::specs::Wanted::step_of))]
+#[tactic(auto, unfolding(crate::specs::Asking::admin_by, crate::specs::Asking::admin_of, crate::specs::Asking::bearer_in, crate::specs::Wanted::step_of))]
 pub fn create_token(alloc: Global, request: &Request<'_>) -> Result<Wanted, Refusal>
     ensures wanted { Wants request.now result token_asked }
     ensures served { IfOk result IsServedWanted }

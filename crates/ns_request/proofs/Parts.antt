@@ -15,7 +15,8 @@ use Rattle.ns_types.specs.declared.name.NameKind.TheVariants as NameKind
 use Rattle.ns_types.specs.State.Name.{is_name, is_name_byte}
 use Rattle.ns_request.specs.Secrets.{known, unknown}
 use Rattle.ns_request.specs.declared.part.Part.{Part}
-use Rattle.ns_request.specs.Parts.{segments_of, segment_at, is_part, is_good, part_of}
+use Rattle.ns_request.specs.Judging.{part_of}
+use Rattle.ns_request.specs.Parts.{segments_of, segment_at, is_part, is_good}
 
 pub segment_some : (bytes path : List ℕ) (place : ℕ) (r : Option (Bor (List ℕ))) (s : Bor (List ℕ)) → bytes ≡ path
     → option_map (λ x. x.now) r ≡ slice_get (segments_of bytes) place → r ≡ Some s → s.now ≡ segment_at place path

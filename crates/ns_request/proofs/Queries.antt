@@ -52,16 +52,18 @@ pub joined-none : (query : List ℕ) (left : Pairs) → left ≡ raw_pairs query
 unfolding parameter
 joined-none query left is = rw is
 
-pub joined-first : (name value key text : List ℕ) (old : Values) (left rest : Pairs) → left ≡ (name, value) ∷ rest → DecodesTo name key →
-    DecodesTo value text → joined (values_with key text old) rest ≡ joined old left
-joined-first name value key text old left rest is decodes shows =
+-- what stands for these values still does with one pair more
+pub joined-first : (name value key text : List ℕ) (old new values : Values) (left rest : Pairs) → left ≡ (name, value) ∷ rest →
+    DecodesTo name key → DecodesTo value text → new ≡ values_with key text old → joined old left ≡ values → joined new rest ≡ values
+joined-first name value key text old new values left rest is decodes shows kept same =
     let namespace = kept-first (codes "namespace") name value key text old.namespace rest decodes shows in
     let filter = kept-first (codes "filter") name value key text old.filter rest decodes shows in
     let per_page = kept-first (codes "per_page") name value key text old.per_page rest decodes shows in
     let next_token = kept-first (codes "next_token") name value key text old.next_token rest decodes shows in
     let index = kept-first (codes "index") name value key text old.index rest decodes shows in
     let prefix = kept-first (codes "prefix") name value key text old.prefix rest decodes shows in
-    rw is cc
+    let first : joined (values_with key text old) rest ≡ joined old left = rw is cc in
+    ap (λ x. joined x rest) kept ∙ first ∙ same
 
 or_none : (o : Option (List ℕ)) → option_or o None ≡ o
 or_none None = refl

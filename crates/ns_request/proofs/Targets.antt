@@ -19,10 +19,11 @@ use Rattle.ns_request.specs.declared.endpoint.Endpoint.{Endpoint}
 use Rattle.ns_request.specs.declared.endpoint.Placed.{Placed}
 use Rattle.ns_request.specs.declared.part.Part.{Part}
 use Rattle.ns_request.specs.declared.target.Named.{Named}
-use Rattle.ns_request.specs.Finding.{found_at, found_by}
+use Rattle.ns_request.specs.Finding.{found_at}
+use Rattle.ns_request.specs.Judging.{judged, named_in, part_of}
 use Rattle.ns_request.specs.Methods.{method_of}
-use Rattle.ns_request.specs.Parts.{is_good, is_part, part_of, segment_at}
-use Rattle.ns_request.specs.Targets.{first_text, first_text_in, has_good_parts, is_every_pool, is_placed_part, is_pool, named_in}
+use Rattle.ns_request.specs.Parts.{is_good, is_part, segment_at}
+use Rattle.ns_request.specs.Targets.{first_text, first_text_in, has_good_parts, is_every_pool, is_placed_part, is_pool}
 use Rattle.ns_request.specs.Targets.{names_every_pool, path_in, query_in, text_at}
 
 -- a part that has a text
@@ -118,7 +119,7 @@ named_some endpoint path named is = by (has_good_parts endpoint path) is
     by false e = let bad : ⊥ = cc in absurd bad
 
 pub found_at-good : (endpoint : Endpoint) (a : Asked) (named : Named) → named_in endpoint (path_in a.target) ≡ Some named →
-    named.every_pool ≡ false → found_by endpoint (method_of a.method) (query_in a.target) ≡ found_at endpoint a
+    named.every_pool ≡ false → judged endpoint (method_of a.method) (query_in a.target) ≡ found_at endpoint a
 unfolding found_at
 found_at-good endpoint a named is none =
     let said = named_some endpoint (path_in a.target) named is in

@@ -8,3 +8,4 @@ pub mod Values
 pub mod Secrets
 pub mod Gives
 pub mod Finding
+pub mod Judging

@@ -37,7 +37,3 @@ is_good Part.Accessor text = is_some (uuid_number text)
 -- the segment stands for a good text
 unfoldable pub is_part : Part → List ℕ → Bool
 is_part part segment = is_utf8 (percent_decode segment) && is_good part (percent_decode segment)
-
--- the text of the part, where the segment stands for it
-abbrev pub part_of : Part → List ℕ → Option (List ℕ)
-part_of part segment = if is_part part segment then Some (percent_decode segment) else None

@@ -1,13 +1,11 @@
 -- Targets.
-use Rattle.std.specs.Prelude.{ℕ, ◌==◌, Bool, true, false, ◌&&◌, List, [], ◌∷◌, Option, Some, None, codes, bytes_eq}
-use Rattle.std.specs.Prelude.{if◌then◌else◌}
+use Rattle.std.specs.Prelude.{ℕ, ◌==◌, Bool, true, false, ◌&&◌, List, [], ◌∷◌, codes, bytes_eq}
 use Rattle.std.specs.List.{list_all, list_any, before_first, after_first}
 use Rattle.percent_encoding.specs.Percent.{percent_decode}
 use Rattle.ns_types.specs.declared.name.NameKind.TheVariants as NameKind
 use Rattle.ns_request.specs.declared.endpoint.Endpoint.{Endpoint}
 use Rattle.ns_request.specs.declared.endpoint.Placed.{Placed}
 use Rattle.ns_request.specs.declared.part.Part.{Part}
-use Rattle.ns_request.specs.declared.target.Named.{Named}
 use Rattle.ns_request.specs.Parts.{is_part, segment_at}
 use Rattle.ns_request.specs.Endpoints.{parts_of}
 
@@ -50,9 +48,3 @@ first_text_in (placed ∷ rest) path = text_at placed.place path
 -- the text of the first part that the path names, or none
 abbrev pub first_text : Endpoint → List ℕ → List ℕ
 first_text endpoint path = first_text_in (parts_of endpoint) path
-
--- what the parts of the path say, where each follows the rule of its name
-abbrev pub named_in : Endpoint → List ℕ → Option Named
-named_in endpoint path =
-    if has_good_parts endpoint path
-    then Some (record { first = first_text endpoint path; every_pool = names_every_pool endpoint path }) else None

@@ -31,15 +31,16 @@ pub struct Target<'a> {
 impl<'a> Target<'a> {
     ghost use Rattle.std.specs.Prelude.{IfOk};
     ghost use Rattle.ns_request.specs.Gives.{Gives};
-    ghost use Rattle.ns_request.specs.Finding.{found, found_at, found_by, place_of};
+    ghost use Rattle.ns_request.specs.Judging.{judged};
+    ghost use Rattle.ns_request.specs.Finding.{found, found_at, place_of};
 
     /// The method, where the path has it and the query asks for nothing that no path serves.
-    fn method_by(
+    fn judged(
         endpoint: Endpoint,
         method: Option<Method>,
         query: &Query<'_>,
     ) -> Result<Method, Refusal>
-        ensures { Gives (λ method. (endpoint, method)) result (found_by endpoint method query.now) }
+        ensures { Gives (λ method. (endpoint, method)) result (judged endpoint method query.now) }
     {
         if query.is_unserved(endpoint, method) {
             return Err(Refusal::NotServed);
@@ -70,7 +71,7 @@ impl<'a> Target<'a> {
             return Err(Refusal::NotServed);
         }
         let query = Query::read(alloc, query)?;
-        match Target::method_by(endpoint, Method::read(request.method), &query) {
+        match Target::judged(endpoint, Method::read(request.method), &query) {
             Ok(method) => Ok(Target {
                 request: *request,
                 endpoint,

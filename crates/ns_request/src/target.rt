@@ -1,8 +1,9 @@
 //! The parts of a target.
 
 ghost use Rattle.std.specs.Prelude.{◌≡◌, ◌&&◌, IfOk, bytes_eq, codes};
-ghost use Rattle.ns_request.specs.Parts.{part_of, segment_at};
-ghost use Rattle.ns_request.specs.Targets.{is_pool, named_in, path_in, query_in};
+ghost use Rattle.ns_request.specs.Judging.{named_in, part_of};
+ghost use Rattle.ns_request.specs.Parts.{segment_at};
+ghost use Rattle.ns_request.specs.Targets.{is_pool, path_in, query_in};
 
 use crate::endpoint::Endpoint;
 use crate::part::Part;

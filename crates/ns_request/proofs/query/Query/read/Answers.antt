@@ -1,9 +1,9 @@
-use Rattle.std.proofs.Common.{◌≡◌, ap, rules, ◌∙◌}
+use Rattle.std.proofs.Common.{◌≡◌, rules}
 use Rattle.std.specs.Cow.{cow_str_bytes}
 use Rattle.form_urlencoded.specs.Form.{raw_pairs}
 use Rattle.form_urlencoded.specs.Parse.{pairs_left}
-use Rattle.ns_request.specs.Values.{values_with}
-use Rattle.ns_request.proofs.Queries.{joined, joined-none, joined-first}
+use Rattle.ns_request.specs.Values.{values_of}
+use Rattle.ns_request.proofs.Queries.{joined-none, joined-first}
 use Rattle.ns_request.proofs.query.Query.read.Goals as goal
 
 pub loop-pair-init : goal.loop-pair-init
@@ -15,26 +15,22 @@ pub loop-pair-preserved-in_ok-keep : goal.loop-pair-preserved-in_ok-keep
 loop-pair-preserved-in_ok-keep c =
     let pair = c.in-Some.ensures.steps.0 in
     let decodes = rw c.in_ok-name.was at pair.3 in
-    let kept : c.keep.new.self ≡ values_with (cow_str_bytes c.in_ok-name.name) (cow_str_bytes c.in_ok-name.value) c.loop-pair.values =
-    rw (← c.as_str.ensures.value, ← c.as_str-in-loop-pair.ensures.value) c.in_ok-keep.ensures in (
+    let kept = rw (c.as_str.ensures.value, c.as_str-in-loop-pair.ensures.value) at c.in_ok-keep.ensures in
+    let left = pairs_left c.loop-pair.pair-iterator in (
       tt,
       tt,
-      ap (λ values. joined values (pairs_left c.next.new.self)) kept
-          ∙ joined-first pair.0 pair.1 (cow_str_bytes c.in_ok-name.name) (cow_str_bytes c.in_ok-name.value) c.loop-pair.values
-          (pairs_left c.loop-pair.pair-iterator) (pairs_left c.next.new.self) pair.2 decodes.0 decodes.1
-          ∙ c.loop-pair.invariant.2,
+      joined-first pair.0 pair.1 (cow_str_bytes c.in_ok-name.name) (cow_str_bytes c.in_ok-name.value) c.loop-pair.values c.keep.new.self
+          (values_of c.args.text.now) left (pairs_left c.next.new.self) pair.2 decodes.0 decodes.1 kept c.loop-pair.invariant.2,
     )
 
 pub loop-pair-preserved : goal.loop-pair-preserved
 loop-pair-preserved c =
     let pair = c.in-Some.ensures.steps.0 in
     let decodes = rw c.in_ok-name.was at pair.3 in
-    let kept : c.keep.new.self ≡ values_with (cow_str_bytes c.in_ok-name.name) (cow_str_bytes c.in_ok-name.value) c.loop-pair.values =
-    rw (← c.as_str.ensures.value, ← c.as_str-in-loop-pair.ensures.value) c.in_ok-keep.ensures in (
+    let kept = rw (c.as_str.ensures.value, c.as_str-in-loop-pair.ensures.value) at c.in_ok-keep.ensures in
+    let left = pairs_left c.loop-pair.pair-iterator in (
       tt,
       tt,
-      ap (λ values. joined values (pairs_left c.next.new.self)) kept
-          ∙ joined-first pair.0 pair.1 (cow_str_bytes c.in_ok-name.name) (cow_str_bytes c.in_ok-name.value) c.loop-pair.values
-          (pairs_left c.loop-pair.pair-iterator) (pairs_left c.next.new.self) pair.2 decodes.0 decodes.1
-          ∙ c.loop-pair.invariant.2,
+      joined-first pair.0 pair.1 (cow_str_bytes c.in_ok-name.name) (cow_str_bytes c.in_ok-name.value) c.loop-pair.values c.keep.new.self
+          (values_of c.args.text.now) left (pairs_left c.next.new.self) pair.2 decodes.0 decodes.1 kept c.loop-pair.invariant.2,
     )
