@@ -4,7 +4,8 @@ use Rattle.std.specs.Prelude.{IfOk}
 use Rattle.ns_types.specs.declared.reply.Rendered.{Rendered}
 use Rattle.ns_types.specs.Wire.Http.{Asked, End, Whole, Refused}
 use Rattle.ns_types.specs.State.Rows.{State}
-use Rattle.ns_types.specs.Wire.Responses.{Exchange, Answers as Chain}
+use Rattle.ns_types.specs.Wire.Responses
+use Rattle.ns_types.specs.Wire.Responses.{Exchange}
 use Rattle.ns_http.specs.Conversation.{Conversation, CutShort, Streams}
 use Rattle.ns_api.specs.Answering.{Answers}
 use Rattle.ns_api.specs.Serving.{Served, ServedInPart}
@@ -14,8 +15,8 @@ module _ {S D : Type 0} (draws : D → List ℕ → D → Type 0) (held : S → 
   abbrev Answering : S → Asked → Rendered → S → Type 0
   Answering old asks reply new = Answers draws (held old) asks reply (held new)
 
-  pub chain : (old : S) (exchanges : List Exchange) (new : S) → Chain Answering old exchanges new →
-      Chain (Answers draws) (held old) exchanges (held new)
+  pub chain : (old : S) (exchanges : List Exchange) (new : S) → Responses.Answers Answering old exchanges new →
+      Responses.Answers (Answers draws) (held old) exchanges (held new)
   chain old [] new c = ap held c
   chain old ((Whole m, reply) ∷ exchanges) new c = (held c.0, c.1, chain c.0 exchanges new c.2)
   chain old ((Refused fault, reply) ∷ exchanges) new c = (c.0, chain old exchanges new c.1)

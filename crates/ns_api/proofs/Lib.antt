@@ -1,9 +1,3 @@
-pub mod Ids
-pub mod Parts
-pub mod Queries
-pub mod Seeking
-pub mod Spelling
-pub mod Routing
 pub mod Runs
 pub mod Connections
 pub mod Answered

@@ -6,7 +6,8 @@ use Rattle.ns_types.specs.declared.reply.Rendered.{Rendered}
 use Rattle.ns_types.specs.declared.step.Step.{Step}
 use Rattle.ns_types.specs.Wire.Http.{Message, asked_by, Whole, Refused}
 use Rattle.ns_types.specs.State.Rows.{State}
-use Rattle.ns_types.specs.Wire.Responses.{Exchange, Answers as Chain}
+use Rattle.ns_types.specs.Wire.Responses
+use Rattle.ns_types.specs.Wire.Responses.{Exchange}
 use Rattle.ns_api.specs.Asking.{asked}
 use Rattle.ns_api.specs.Drawing.{DrawsFor}
 use Rattle.ns_api.specs.Answering.{AnswersAsked, AnswersOrWants, AnswersRefused, Answers, MakesNone, RunsAs}
@@ -76,7 +77,7 @@ module _ {D : Type 0} (draws : D → List ℕ → D → Type 0) where
   whole_first m reply old mid new exchanges (inr w) r =
       none_first m reply old mid new exchanges (none_memory (asked (asked_by m)) old mid reply w) (ap (λ x. x.0) w.1) r
 
-  pub runs : (old : State × D) (exchanges : List Exchange) (new : State × D) → Chain (Answers draws) old exchanges new →
+  pub runs : (old : State × D) (exchanges : List Exchange) (new : State × D) → Responses.Answers (Answers draws) old exchanges new →
       RunsAs draws old exchanges new
   runs old [] new c = record { steps = []; answers = []; run = ap (λ x. x.0) c; made = (refl, refl, ap (λ x. x.1) c) }
   runs old ((Whole m, reply) ∷ exchanges) new c = whole_first m reply old c.0 new exchanges c.1 (runs c.0 exchanges new c.2)

@@ -1,24 +1,25 @@
 -- What a request asks for: a step, or the refusal that needs no state.
-use Rattle.std.specs.Prelude.{ℕ, List, [], Option, Some, None, option_map, unwrap_or, Result, Ok, Err, codes}
+use Rattle.std.specs.Prelude.{ℕ, List, [], Option, Some, None, option_map, unwrap_or, Result, Ok, Err}
 use Rattle.uuid.specs.Text.{hyphenated_text, lower, parsed}
 use Rattle.ns_types.specs.declared.refusal.Refusal.{Refusal}
 use Rattle.ns_types.specs.declared.step.AdminCommand.{AdminCommand}
 use Rattle.ns_types.specs.declared.step.AskCommand.{AskCommand}
+use Rattle.ns_types.specs.declared.step.NewToken.{NewToken}
 use Rattle.ns_types.specs.declared.step.NodeCommand.TheVariants as NodeCommand
 use Rattle.ns_types.specs.declared.step.Step.{Step}
 use Rattle.ns_types.specs.Wire.Http.{Asked}
 use Rattle.ns_types.specs.State.Names.{Name, default_name}
+use Rattle.ns_documents.specs.declared.token.TokenDocument.{TokenDocument}
 use Rattle.ns_documents.specs.Access.{policy_in, token_in}
-use Rattle.ns_documents.specs.Records.{namespace_in as namespace_document, pool_in as pool_document}
-use Rattle.ns_documents.specs.Records.{quota_in as quota_document}
+use Rattle.ns_documents.specs.Records
 use Rattle.ns_json.specs.Reading.{◌>>=◌, body_in}
 use Rattle.ns_json.specs.Registration.{registration_in}
-use Rattle.ns_api.specs.declared.endpoint.Endpoint.{Endpoint}
-use Rattle.ns_api.specs.declared.method.Method.{Method}
-use Rattle.ns_api.specs.Finding.{found}
-use Rattle.ns_api.specs.Queries.{namespace_in, parameter}
-use Rattle.ns_api.specs.Secrets.{secret_of}
-use Rattle.ns_api.specs.Targets.{path_in, query_in, text_at}
+use Rattle.ns_request.specs.declared.endpoint.Endpoint.{Endpoint}
+use Rattle.ns_request.specs.declared.method.Method.{Method}
+use Rattle.ns_request.specs.Finding.{found}
+use Rattle.ns_request.specs.Queries.{namespace_in, prefix_of}
+use Rattle.ns_request.specs.Secrets.{secret_of}
+use Rattle.ns_request.specs.Targets.{path_in, query_in, text_at}
 
 -- ---- who asks, and where
 
@@ -50,9 +51,6 @@ third_part a = text_at 3 (path_in a.target)
 abbrev pub fourth_part : Asked → Name
 fourth_part a = text_at 4 (path_in a.target)
 
-abbrev pub prefix_of : List ℕ → Name
-prefix_of query = unwrap_or (parameter (codes "prefix") query) []
-
 abbrev pub prefix_in : Asked → Name
 prefix_in a = prefix_of (query_in a.target)
 
@@ -69,38 +67,31 @@ registration_asked a = do
   Ok (Step.Ask (namespace_of parameter document.namespace) (secret_of a.token)
       (AskCommand.Register document.registration))
 
-unfoldable pub namespace_put : Option Name → Asked → Result Step Refusal
-namespace_put named a = do
-  document ← body_in (namespace_document named) a.body
-  admin_of (AdminCommand.PutNamespace document.name document.namespace) a
+-- what an administrator asks by a document
+unfoldable pub admin_by : {D : Type 0} → (List ℕ → Result D Refusal) → (D → AdminCommand) → Asked → Result Step Refusal
+admin_by reads command a = do
+  document ← reads a.body
+  admin_of (command document) a
 
-unfoldable pub quota_put : Option Name → Asked → Result Step Refusal
-quota_put named a = do
-  document ← body_in (quota_document named) a.body
-  admin_of (AdminCommand.PutQuota document.name document.quota) a
+-- where the path holds a name, or none
+abbrev pub namespace_put : Option Name → Asked → Result Step Refusal
+namespace_put named = admin_by (body_in (Records.namespace_in named)) (λ d. AdminCommand.PutNamespace d.name d.namespace)
 
-unfoldable pub pool_put : Option Name → Asked → Result Step Refusal
-pool_put named a = do
-  document ← body_in (pool_document named) a.body
-  admin_of (AdminCommand.PutPool document.name document.pool) a
+abbrev pub quota_put : Option Name → Asked → Result Step Refusal
+quota_put named = admin_by (body_in (Records.quota_in named)) (λ d. AdminCommand.PutQuota d.name d.quota)
 
-unfoldable pub policy_put : Asked → Result Step Refusal
-policy_put a = do
-  policy ← body_in policy_in a.body
-  admin_of (AdminCommand.PutPolicy (fourth_part a) policy) a
+abbrev pub pool_put : Option Name → Asked → Result Step Refusal
+pool_put named = admin_by (body_in (Records.pool_in named)) (λ d. AdminCommand.PutPool d.name d.pool)
+
+abbrev pub policy_put : Asked → Result Step Refusal
+policy_put a = admin_by (body_in policy_in) (AdminCommand.PutPolicy (fourth_part a)) a
 
 -- its two texts are drawn afterwards
-unfoldable pub token_asked : Asked → Result Step Refusal
-token_asked a = do
-  document ← body_in token_in a.body
-  admin_of (AdminCommand.CreateToken (record {
-    accessor = [];
-    secret = [];
-    name = document.name;
-    kind =
-        document.kind;
-    policies = document.policies;
-  })) a
+abbrev pub new_token : TokenDocument → NewToken
+new_token d = record { accessor = []; secret = []; name = d.name; kind = d.kind; policies = d.policies }
+
+abbrev pub token_asked : Asked → Result Step Refusal
+token_asked = admin_by (body_in token_in) (λ d. AdminCommand.CreateToken (new_token d))
 
 -- ---- reads that name their place in the path
 

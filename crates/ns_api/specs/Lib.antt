@@ -1,12 +1,3 @@
-pub mod Methods
-pub mod Parts
-pub mod Endpoints
-pub mod Routes
-pub mod Targets
-pub mod Queries
-pub mod Secrets
-pub mod Gives
-pub mod Finding
 pub mod Asking
 pub mod Wanted
 pub mod Drawing

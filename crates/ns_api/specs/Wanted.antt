@@ -4,16 +4,16 @@ use Rattle.ns_types.specs.declared.refusal.Refusal.{Refusal}
 use Rattle.ns_types.specs.declared.step.Step.{Step}
 use Rattle.ns_types.specs.Wire.Http.{Asked}
 use Rattle.ns_http.specs.declared.head.Request.{Request}
-use Rattle.ns_http.specs.Head.{asked as shown}
+use Rattle.ns_http.specs.Head.{asked}
 use Rattle.ns_json.specs.Reading.{◌>>=◌}
 use Rattle.ns_steps.specs.Served.{IsServedAsk, IsServedNode}
 use Rattle.ns_api.specs.declared.wanted.Bearer.{Bearer}
 use Rattle.ns_api.specs.declared.wanted.Wanted.{Wanted}
 use Rattle.ns_api.specs.Asking.{namespace_of}
-use Rattle.ns_api.specs.Gives.{Refuses}
-use Rattle.ns_api.specs.Queries.{namespace_in}
-use Rattle.ns_api.specs.Secrets.{secret_of}
-use Rattle.ns_api.specs.Targets.{query_in}
+use Rattle.ns_request.specs.Gives.{Refuses}
+use Rattle.ns_request.specs.Queries.{namespace_in}
+use Rattle.ns_request.specs.Secrets.{secret_of}
+use Rattle.ns_request.specs.Targets.{query_in}
 
 abbrev pub bearer_of : Asked → Result Bearer Refusal
 bearer_of a = do
@@ -40,5 +40,5 @@ IsServedWanted (Wanted.Node pool command) = IsServedNode command
 
 -- the request asks what is wanted, or is refused so; want of memory says nothing
 abbrev pub Wants : Request → Result Wanted Refusal → (Asked → Result Step Refusal) → Type 0
-Wants request (Ok wanted) asks = asks (shown request) ≡ step_of wanted (shown request)
-Wants request (Err refusal) asks = Refuses refusal (asks (shown request))
+Wants request (Ok wanted) asks = asks (asked request) ≡ step_of wanted (asked request)
+Wants request (Err refusal) asks = Refuses refusal (asks (asked request))

@@ -12,9 +12,9 @@ ghost use Rattle.ns_api.specs.Serving.{held};
 
 use crate::asking::asked;
 use crate::drawing::{Draws, drawn};
-use crate::routes::Routes;
 use ns_http::{Answer, Request};
 use ns_replies::{Room, render};
+use ns_request::Routes;
 use ns_types::refusal::Refusal;
 use ns_types::reply::{Reply, Response};
 use ns_types::step::{AdminCommand, AskCommand, Step};

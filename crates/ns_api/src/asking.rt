@@ -1,20 +1,17 @@
 //! What a request asks for.
 
 ghost use Rattle.std.specs.Prelude.{◌≡◌, IfOk};
-ghost use Rattle.ns_http.specs.Head.{asked as shown};
+ghost use Rattle.ns_http.specs.Head;
 ghost use Rattle.ns_json.specs.Reading.{same};
 ghost use Rattle.ns_steps.specs.Served.{IsServed};
-ghost use Rattle.ns_api.specs.Gives.{Gives};
-ghost use Rattle.ns_api.specs.Asking.{asked, namespace_of};
+ghost use Rattle.ns_request.specs.Gives.{Gives};
+ghost use Rattle.ns_api.specs.Asking.{asked, asked_of, namespace_of};
 ghost use Rattle.ns_api.specs.Wanted.{bearer_of, IsServedWanted, step_by};
 
-use crate::finding::Target;
-use crate::query::namespace;
-use crate::routes::Routes;
 use crate::tables::wanted;
-use crate::token::secret;
 use crate::wanted::{Bearer, Wanted};
 use ns_http::Request;
+use ns_request::{Routes, Target, secret};
 use ns_types::refusal::Refusal;
 use ns_types::step::Step;
 use ns_types::text::Text;
@@ -39,9 +36,9 @@ fn namespace_or_default(
 
 /// Who asks, and the namespace that the query names. One that is no namespace's name is a fault of every step.
 fn bearer(alloc: Global, target: &Target<'_>) -> Result<Bearer, Refusal>
-    ensures { Gives same result (bearer_of (shown target.now.request)) }
+    ensures { Gives same result (bearer_of (Head.asked target.now.request)) }
 {
-    let namespace = namespace(alloc, target.query)?;
+    let namespace = target.query.namespace(alloc)?;
     let secret = secret(alloc, target.request.token)?;
     Ok(Bearer { namespace, secret })
 }
@@ -69,19 +66,31 @@ fn step(alloc: Global, bearer: Bearer, wanted: Wanted) -> Result<Step, AllocErro
     }
 }
 
-/// The step that a request asks for, or the refusal that needs no state. Of a new token the two texts are empty.
-#[tactic(auto, unfolding(crate::specs::Asking::asked, crate::specs::Wanted::step_of))]
-pub fn asked(alloc: Global, routes: &Routes, request: &Request<'_>) -> Result<Step, Refusal>
-    ensures step { Gives same result (asked (shown request.now)) }
+/// The step that a target asks for, or the refusal that needs no state.
+#[tactic(auto, unfolding(crate::specs::Wanted::step_of))]
+fn asked_of(alloc: Global, target: &Target<'_>) -> Result<Step, Refusal>
+    ensures step { Gives same result
+        (asked_of target.now.endpoint target.now.method (Head.asked target.now.request)) }
     ensures served { IfOk result IsServed }
 {
-    let target = Target::find(alloc, routes, request)?;
-    let wanted = wanted(alloc, &target)?;
-    match bearer(alloc, &target) {
+    let wanted = wanted(alloc, target)?;
+    match bearer(alloc, target) {
         Ok(bearer) => Ok(step(alloc, bearer, wanted)?),
         Err(refusal) => {
             drop(wanted);
             Err(refusal)
         }
     }
+}
+
+/// The step that a request asks for, or the refusal that needs no state. Of a new token the two texts are empty.
+#[tactic(auto, unfolding(crate::specs::Asking::asked))]
+pub fn asked(alloc: Global, routes: &Routes, request: &Request<'_>) -> Result<Step, Refusal>
+    ensures step { Gives same result (asked (Head.asked request.now)) }
+    ensures served { IfOk result IsServed }
+{
+    let target = Target::find(alloc, routes, request)?;
+    let step = asked_of(alloc, &target);
+    drop(target);
+    step
 }

@@ -1,7 +1,7 @@
 //! What requests want with a document.
 
 ghost use Rattle.std.specs.Prelude.{◌≡◌, IfOk, option_copied};
-ghost use Rattle.ns_http.specs.Head.{asked as shown};
+ghost use Rattle.ns_http.specs.Head.{asked};
 ghost use Rattle.ns_api.specs.Asking.{
   fourth_part,
   namespace_put,
@@ -13,7 +13,6 @@ ghost use Rattle.ns_api.specs.Asking.{
 };
 ghost use Rattle.ns_api.specs.Wanted.{IsServedWanted, Wants};
 
-use crate::finding::Target;
 use crate::wanted::Wanted;
 use ns_documents::{read_namespace, read_policy, read_pool, read_quota, read_token};
 use ns_http::Request;
@@ -36,7 +35,7 @@ pub fn register(alloc: Global, request: &Request<'_>) -> Result<Wanted, Refusal>
 }
 
 /// A put, where `named` is the name that the path holds, if it holds one.
-#[tactic(auto, unfolding(crate::specs::Asking::namespace_put, crate::specs::Asking::admin_of, crate::specs::Asking::bearer_in, crate::specs::Wanted::step_of))]
+#[tactic(auto, unfolding(crate::specs::Asking::admin_by, crate::specs::Asking::admin_of, crate::specs::Asking::bearer_in, crate::specs::Wanted::step_of))]
 pub fn put_namespace(
     alloc: Global,
     request: &Request<'_>,
@@ -50,7 +49,7 @@ pub fn put_namespace(
 }
 
 /// The same of a quota.
-#[tactic(auto, unfolding(crate::specs::Asking::quota_put, crate::specs::Asking::admin_of, crate::specs::Asking::bearer_in, crate::specs::Wanted::step_of))]
+#[tactic(auto, unfolding(crate::specs::Asking::admin_by, crate::specs::Asking::admin_of, crate::specs::Asking::bearer_in, crate::specs::Wanted::step_of))]
 pub fn put_quota(
     alloc: Global,
     request: &Request<'_>,
@@ -64,7 +63,7 @@ pub fn put_quota(
 }
 
 /// The same of a pool.
-#[tactic(auto, unfolding(crate::specs::Asking::pool_put, crate::specs::Asking::admin_of, crate::specs::Asking::bearer_in, crate::specs::Wanted::step_of))]
+#[tactic(auto, unfolding(crate::specs::Asking::admin_by, crate::specs::Asking::admin_of, crate::specs::Asking::bearer_in, crate::specs::Wanted::step_of))]
 pub fn put_pool(
     alloc: Global,
     request: &Request<'_>,
@@ -78,9 +77,9 @@ pub fn put_pool(
 }
 
 /// A put of the policy that the path names.
-#[tactic(auto, unfolding(crate::specs::Asking::policy_put, crate::specs::Asking::admin_of, crate::specs::Asking::bearer_in, crate::specs::Wanted::step_of))]
+#[tactic(auto, unfolding(crate::specs::Asking::admin_by, crate::specs::Asking::admin_of, crate::specs::Asking::bearer_in, crate::specs::Wanted::step_of))]
 pub fn put_policy(alloc: Global, request: &Request<'_>, name: &Text) -> Result<Wanted, Refusal>
-    requires { name.now ≡ fourth_part (shown request.now) }
+    requires { name.now ≡ fourth_part (asked request.now) }
     ensures wanted { Wants request.now result policy_put }
     ensures served { IfOk result IsServedWanted }
 {
@@ -89,7 +88,7 @@ pub fn put_policy(alloc: Global, request: &Request<'_>, name: &Text) -> Result<W
 }
 
 /// A new token, whose two texts are drawn afterwards.
-#[tactic(auto, unfolding(crate::specs::Asking::token_asked, crate::specs::Asking::admin_of, crate::specs::Asking::bearer_in, crate::specs::Wanted::step_of))]
+#[tactic(auto, unfolding(crate::specs::Asking::admin_by, crate::specs::Asking::admin_of, crate::specs::Asking::bearer_in, crate::specs::Wanted::step_of))]
 pub fn create_token(alloc: Global, request: &Request<'_>) -> Result<Wanted, Refusal>
     ensures wanted { Wants request.now result token_asked }
     ensures served { IfOk result IsServedWanted }

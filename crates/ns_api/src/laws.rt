@@ -1,7 +1,8 @@
 //! Laws of the definitions, each the contract of a function that does nothing.
 ghost use Rattle.std.specs.Prelude.{List};
 ghost use Rattle.ns_types.specs.State.Rows.{State};
-ghost use Rattle.ns_types.specs.Wire.Responses.{Exchange, Answers as Chain};
+ghost use Rattle.ns_types.specs.Wire.Responses;
+ghost use Rattle.ns_types.specs.Wire.Responses.{Exchange};
 ghost use Rattle.ns_api.specs.Answering.{Answers, RunsAs};
 
 use crate::drawing::Draws;
@@ -10,5 +11,5 @@ use crate::drawing::Draws;
 /// requests ask for, in their order, but for those that were refused without a step. What is drawn is drawn in this order.
 pub fn answers_are_a_run<D: Draws>()
     ensures { (old new : State × D) (exchanges : List Exchange) →
-        Chain (Answers D.draws) old exchanges new → RunsAs D.draws old exchanges new }
+        Responses.Answers (Answers D.draws) old exchanges new → RunsAs D.draws old exchanges new }
 {}

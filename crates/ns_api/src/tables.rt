@@ -2,36 +2,23 @@
 
 ghost use Rattle.std.specs.Prelude.{◌≡◌, IfOk, is_some, true};
 ghost use Rattle.uuid.specs.Text.{parsed};
-ghost use Rattle.ns_api.specs.declared.method.Method.TheVariants as Method;
-ghost use Rattle.ns_api.specs.Asking.{asked_of, canonical as canonical_of, prefix_of};
+ghost use Rattle.ns_request.specs.declared.method.Method.TheVariants as Method;
+ghost use Rattle.ns_api.specs.Asking.{asked_of, canonical};
 ghost use Rattle.ns_api.specs.Wanted.{IsServedWanted, Wants};
 
 use crate::documents::{create_token, put_namespace, put_policy, put_pool, put_quota, register};
-use crate::endpoint::Endpoint;
-use crate::finding::Target;
-use crate::method::Method;
-use crate::query::parameter;
 use crate::wanted::Wanted;
+use ns_request::{Endpoint, Method, Target};
 use ns_types::refusal::Refusal;
 use ns_types::step::{AdminCommand, AskCommand, NodeCommand};
 use ns_types::text::Text;
 use std::alloc::{AllocError, Global};
 use uuid::Uuid;
 
-/// The text with which the ids of a list begin.
-fn prefix(alloc: Global, query: &str) -> Result<Text, AllocError>
-    ensures { IfOk result (λ prefix. prefix ≡ prefix_of query.now) }
-{
-    match parameter(alloc, query, "prefix")? {
-        Some(value) => Text::from_str(alloc, value.as_str()),
-        None => Text::from_str(alloc, ""),
-    }
-}
-
 /// The text of the UUID that a text is, in lower case with hyphens.
 fn canonical(alloc: Global, text: &str) -> Result<Text, AllocError>
     requires { is_some (parsed text.now) ≡ true }
-    ensures { IfOk result (λ canonical. canonical ≡ canonical_of text.now) }
+    ensures { IfOk result (λ id. id ≡ canonical text.now) }
 {
     let Ok(id) = Uuid::parse_str(text) else {
         unreachable!()
@@ -46,7 +33,10 @@ fn read(alloc: Global, target: &Target<'_>) -> Result<Wanted, Refusal>
     ensures served { IfOk result IsServedWanted }
 {
     let wanted = match target.endpoint {
-        Endpoint::Jobs => Wanted::Ask(None, AskCommand::ListJobs(prefix(alloc, target.query)?)),
+        Endpoint::Jobs => {
+            let prefix = Text::from_str(alloc, target.query.prefix())?;
+            Wanted::Ask(None, AskCommand::ListJobs(prefix))
+        }
         Endpoint::Job => Wanted::Ask(None, AskCommand::ReadJob(target.name.clone()?)),
         Endpoint::Namespaces => Wanted::Admin(AdminCommand::ListNamespaces),
         Endpoint::Namespace => Wanted::AskIn(target.name.clone()?, AskCommand::ReadNamespace),

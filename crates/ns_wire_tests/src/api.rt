@@ -1,6 +1,7 @@
 // Each call may be refused for want of memory once, and then answers as with ample memory.
-use ns_api::{Routes, asked};
+use ns_api::asked;
 use ns_http::Request;
+use ns_request::Routes;
 use ns_types::refusal::{Member, Refusal};
 use ns_types::step::{AskCommand, Step};
 use std::alloc::{AllocError, Global};

@@ -1,6 +1,7 @@
-use Rattle.ns_http.specs.Head.{asked as shown}
-use Rattle.ns_api.specs.Targets.{path_in}
-use Rattle.ns_api.proofs.Steps.{delete_elsewhere, token_parsed}
+use Rattle.ns_http.specs.Head.{asked}
+use Rattle.ns_request.specs.Targets.{path_in}
+use Rattle.ns_request.proofs.Targets.{token_parsed}
+use Rattle.ns_api.proofs.Steps.{delete_elsewhere}
 use Rattle.ns_api.proofs.tables.delete.Goals as goal
 
 pub returns-in_default-clause-wanted : goal.returns-in_default-clause-wanted
@@ -11,5 +12,5 @@ returns-in_default-clause-wanted c =
 pub canonical-requires : goal.canonical-requires
 canonical-requires c =
     let target = c.args.target.now in
-    token_parsed target.endpoint (path_in (shown target.request).target) target.name c.as_str.result.now c.in-Token.is target.parts target.name_is
+    token_parsed target.endpoint (path_in (asked target.request).target) target.name c.as_str.result.now c.in-Token.is target.parts target.name_is
     c.as_str.ensures

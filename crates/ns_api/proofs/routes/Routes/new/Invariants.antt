@@ -1,7 +1,0 @@
-use Rattle.std.proofs.Common.{take}
-use Rattle.ns_api.specs.Endpoints.{every_endpoint}
-use Rattle.ns_api.proofs.Routing.{IsBuilt}
-use Rattle.ns_api.proofs.routes.Routes.new.Given as goal
-
-abbrev pub invariant-loop-endpoint : goal.invariant-loop-endpoint
-invariant-loop-endpoint l = IsBuilt l.router (take l.endpoint-index every_endpoint)

@@ -1,0 +1,7 @@
+pub mod Ids
+pub mod Parts
+pub mod Targets
+pub mod Queries
+pub mod Seeking
+pub mod Spelling
+pub mod Routing

@@ -1,0 +1,27 @@
+-- What is found of a target on the way: its parts, and then its method.
+use Rattle.std.specs.Prelude.{ℕ, List, Option, Some, None, Result, Err, if◌then◌else◌}
+use Rattle.percent_encoding.specs.Percent.{percent_decode}
+use Rattle.ns_types.specs.declared.refusal.Refusal.{Refusal}
+use Rattle.ns_request.specs.declared.endpoint.Endpoint.{Endpoint}
+use Rattle.ns_request.specs.declared.method.Method.{Method}
+use Rattle.ns_request.specs.declared.part.Part.{Part}
+use Rattle.ns_request.specs.declared.target.Named.{Named}
+use Rattle.ns_request.specs.Finding.{found_by}
+use Rattle.ns_request.specs.Parts.{is_part}
+use Rattle.ns_request.specs.Queries.{is_unserved}
+use Rattle.ns_request.specs.Targets.{first_text, has_good_parts, names_every_pool}
+
+-- the text of the part, where the segment stands for it
+abbrev pub part_of : Part → List ℕ → Option (List ℕ)
+part_of part segment = if is_part part segment then Some (percent_decode segment) else None
+
+-- what the parts of the path say, where each follows the rule of its name
+abbrev pub named_in : Endpoint → List ℕ → Option Named
+named_in endpoint path =
+    if has_good_parts endpoint path
+    then Some (record { first = first_text endpoint path; every_pool = names_every_pool endpoint path }) else None
+
+-- the query is judged before the method
+abbrev pub judged : Endpoint → Option Method → List ℕ → Result (Endpoint × Method) Refusal
+judged endpoint method query =
+    if is_unserved endpoint method query then Err Refusal.NotServed else found_by endpoint method

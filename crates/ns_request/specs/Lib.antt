@@ -1,0 +1,11 @@
+pub mod Methods
+pub mod Parts
+pub mod Endpoints
+pub mod Routes
+pub mod Targets
+pub mod Queries
+pub mod Values
+pub mod Secrets
+pub mod Gives
+pub mod Finding
+pub mod Judging

@@ -1,0 +1,39 @@
+-- The parts of a path.
+use Rattle.std.specs.Prelude.{ℕ, ◌/◌, ◌%◌, ◌^◌, ◌==◌, Bool, ◌&&◌, List, [], Option, Some, None, option_and_then}
+use Rattle.std.specs.Prelude.{is_some, if◌then◌else◌, unwrap_or, slice_get}
+use Rattle.std.specs.List.{slice_split}
+use Rattle.std.specs.Str.{is_utf8}
+use Rattle.percent_encoding.specs.Percent.{percent_decode}
+use Rattle.ns_types.specs.declared.id.IdKind.{IdKind}
+use Rattle.ns_types.specs.State.Id.{kind_number, uuid_number}
+use Rattle.ns_types.specs.State.Name.{is_name}
+use Rattle.ns_request.specs.declared.part.Part.{Part}
+
+abbrev pub slash : ℕ
+slash = 47
+
+-- what stands between the slashes; the first segment of `/v1/jobs` is empty
+abbrev pub segments_of : List ℕ → List (List ℕ)
+segments_of path = slice_split (λ b. b == slash) path
+
+-- the segment at a place, or none
+abbrev pub segment_at : ℕ → List ℕ → List ℕ
+segment_at place path = unwrap_or (slice_get (segments_of path) place) []
+
+-- the number of the id of that kind that a UUID is
+abbrev pub number_in : IdKind → ℕ → Option ℕ
+number_in kind uuid = if uuid / 2 ^ 64 == kind_number kind then Some (uuid % 2 ^ 64) else None
+
+-- the number of the id of that kind that a text stands for
+abbrev pub id_of : IdKind → List ℕ → Option ℕ
+id_of kind text = option_and_then (number_in kind) (uuid_number text)
+
+-- the text follows the rule of its part
+unfoldable pub is_good : Part → List ℕ → Bool
+is_good (Part.Name kind) text = is_name kind text
+is_good (Part.Id kind) text = is_some (id_of kind text)
+is_good Part.Accessor text = is_some (uuid_number text)
+
+-- the segment stands for a good text
+unfoldable pub is_part : Part → List ℕ → Bool
+is_part part segment = is_utf8 (percent_decode segment) && is_good part (percent_decode segment)

@@ -1,0 +1,79 @@
+-- Queries, as form data.
+use Rattle.std.specs.Prelude.{ℕ, ◌==◌, Bool, true, false, not, ◌&&◌, ◌||◌, List, [], length, find, Option, Some, None}
+use Rattle.std.specs.Prelude.{option_map, unwrap_or, Result, Ok, Err, if◌then◌else◌, nat_lt, bytes_eq, codes}
+use Rattle.std.specs.Option.{option_map_or}
+use Rattle.std.specs.Str.Lossy.{utf8_lossy}
+use Rattle.form_urlencoded.specs.Form.{raw_pairs, decode}
+use Rattle.ns_types.specs.declared.name.NameKind.TheVariants as NameKind
+use Rattle.ns_types.specs.declared.refusal.Member.TheVariants as Member
+use Rattle.ns_types.specs.declared.refusal.Refusal.{Refusal}
+use Rattle.ns_types.specs.declared.refusal.Refusal.TheVariants.{BadField}
+use Rattle.ns_types.specs.State.Name.{is_name}
+use Rattle.ns_types.specs.State.Names.{Name}
+use Rattle.ns_request.specs.declared.endpoint.Endpoint.{Endpoint}
+use Rattle.ns_request.specs.declared.endpoint.Endpoint.TheVariants.{EventStream}
+use Rattle.ns_request.specs.declared.method.Method.{Method}
+use Rattle.ns_request.specs.declared.method.Method.TheVariants.{Get, Write, Delete}
+
+-- a name or a value as text, with U+FFFD for what is not UTF-8
+abbrev pub text_of : List ℕ → List ℕ
+text_of encoded = utf8_lossy (decode encoded)
+
+-- of several values of a name the first counts
+abbrev pub value_in : List ℕ → List (List ℕ × List ℕ) → Option (List ℕ)
+value_in name pairs = option_map (λ pair. text_of pair.1) (find (λ pair. bytes_eq (text_of pair.0) name) pairs)
+
+unfoldable pub parameter : List ℕ → List ℕ → Option (List ℕ)
+parameter name query = value_in name (raw_pairs query)
+
+-- ---- what no path serves
+
+-- the parameter is there, and its value passes
+abbrev pub has_value : (List ℕ → Bool) → List ℕ → List ℕ → Bool
+has_value passes name query = option_map_or passes (parameter name query) false
+
+abbrev pub is_not_empty : List ℕ → Bool
+is_not_empty value = nat_lt 0 (length value)
+
+abbrev pub is_star : List ℕ → Bool
+is_star value = bytes_eq value (codes "*")
+
+-- an index to wait for: one that is neither empty nor `0`
+abbrev pub is_awaited : List ℕ → Bool
+is_awaited value = is_not_empty value && not (bytes_eq value (codes "0"))
+
+abbrev pub reads : Option Method → Bool
+reads (Some Get) = true
+reads (Some Write) = false
+reads (Some Delete) = false
+reads None = false
+
+abbrev pub is_stream : Endpoint → Bool
+is_stream EventStream = true
+is_stream _ = false
+
+-- all namespaces at once, filters, pages, and a read that waits for an index
+unfoldable pub is_unserved : Endpoint → Option Method → List ℕ → Bool
+is_unserved endpoint method query =
+    has_value is_star (codes "namespace") query
+    || has_value is_not_empty (codes "filter") query
+    || has_value is_not_empty (codes "per_page") query
+    || has_value is_not_empty (codes "next_token") query
+    || (reads method && (not (is_stream endpoint) && has_value is_awaited (codes "index") query))
+
+-- ---- the namespace
+
+-- the parameter: empty it counts as absent
+unfoldable pub namespace_in : List ℕ → Result (Option Name) Refusal
+namespace_in query = elim (parameter (codes "namespace") query) [
+  | None ↦ Ok None
+  | Some value ↦
+      if length value == 0 then Ok None
+      else if is_name NameKind.Namespace value then Ok (Some value) else Err (BadField Member.NamespaceParameter)
+]
+
+-- ---- the prefix
+
+-- the text with which the ids of a list begin
+abbrev pub prefix_of : List ℕ → Name
+prefix_of query = unwrap_or (parameter (codes "prefix") query) []

@@ -1,0 +1,19 @@
+//! What the head of a request asks for: the path of the table that it names, with the parts that it holds and the method, or
+//! the refusal that comes first. Also the parameters of its query, and its secret.
+#![tactic(auto)]
+
+mod endpoint;
+mod finding;
+mod method;
+mod part;
+mod query;
+mod routes;
+mod target;
+mod token;
+
+pub use endpoint::Endpoint;
+pub use finding::Target;
+pub use method::Method;
+pub use query::Query;
+pub use routes::Routes;
+pub use token::secret;

@@ -1,0 +1,31 @@
+//! The parts that a path names: names, ids and accessors.
+
+ghost use Rattle.std.specs.Prelude.{◌≡◌};
+ghost use Rattle.ns_request.specs.Parts.{is_good};
+
+use ns_types::id::{IdKind, id_read};
+use ns_types::name::{Name, NameKind};
+use uuid::Uuid;
+
+/// What a part of a path is.
+#[derive(Clone, Copy)]
+pub enum Part {
+    Name(NameKind),
+    Id(IdKind),
+    /// The accessor of a token.
+    Accessor,
+}
+
+impl Part {
+    /// Whether a text is such a part.
+    #[tactic(auto, unfolding(crate::specs::Parts::is_good))]
+    pub fn is_good(self, text: &str) -> bool
+        ensures { result ≡ is_good self text.now }
+    {
+        match self {
+            Part::Name(kind) => Name::read(kind, text).is_some(),
+            Part::Id(kind) => matches!(id_read(kind, text), Some(_)),
+            Part::Accessor => Uuid::parse_str(text).is_ok(),
+        }
+    }
+}

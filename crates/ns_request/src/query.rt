@@ -1,0 +1,177 @@
+//! The parameters of a query.
+
+ghost use Rattle.std.specs.Prelude.{◌≡◌, IfOk, OnOk, Some, false};
+ghost use Rattle.std.specs.Option.{option_copied, option_map_or, option_or};
+ghost use Rattle.ns_json.specs.Reading.{same};
+ghost use Rattle.ns_request.specs.Gives.{Gives};
+ghost use Rattle.ns_request.specs.Queries.{is_awaited, is_not_empty, is_star, is_unserved, namespace_in, prefix_of};
+
+use crate::endpoint::Endpoint;
+use crate::method::Method;
+use form_urlencoded::parse;
+use ns_types::name::{Name, NameKind};
+use ns_types::refusal::{Member, Refusal};
+use ns_types::text::Text;
+use std::alloc::{AllocError, Global};
+use std::marker::Model;
+
+/// The values of the names that are known, of each name the first one.
+#[derive(Drop)]
+struct Values {
+    namespace: Option<Text>,
+    filter: Option<Text>,
+    per_page: Option<Text>,
+    next_token: Option<Text>,
+    index: Option<Text>,
+    prefix: Option<Text>,
+}
+
+const NO_VALUES: Values = Values {
+    namespace: None,
+    filter: None,
+    per_page: None,
+    next_token: None,
+    index: None,
+    prefix: None,
+};
+
+/// Keeps the value, where there is none yet.
+fn keep_first(alloc: Global, kept: &mut Option<Text>, value: &str) -> Result<(), AllocError>
+    ensures { OnOk result (kept.new ≡ option_or kept.old (Some value.now)) }
+{
+    if kept.is_none() {
+        *kept = Some(Text::from_str(alloc, value)?);
+    }
+    Ok(())
+}
+
+impl Values {
+    ghost use Rattle.ns_request.specs.Values.{values_with};
+
+    /// Keeps the value of a name that has none yet.
+    fn keep(&mut self, alloc: Global, name: &str, value: &str) -> Result<(), AllocError>
+        ensures { OnOk result (self.new ≡ values_with name.now value.now self.old) }
+    {
+        match name {
+            "namespace" => keep_first(alloc, &mut self.namespace, value),
+            "filter" => keep_first(alloc, &mut self.filter, value),
+            "per_page" => keep_first(alloc, &mut self.per_page, value),
+            "next_token" => keep_first(alloc, &mut self.next_token, value),
+            "index" => keep_first(alloc, &mut self.index, value),
+            "prefix" => keep_first(alloc, &mut self.prefix, value),
+            _ => Ok(()),
+        }
+    }
+}
+
+/// The parameters of a query, found once. Contracts see the query.
+#[derive(Drop)]
+pub struct Query<'a> {
+    text: &'a str,
+    values: Values,
+}
+
+impl<'a> Model for Query<'a> {
+    ghost use Rattle.std.specs.Prelude.{List, ℕ};
+
+    ghost Value = { List ℕ };
+
+    ghost use Rattle.std.specs.Prelude.{◌≡◌};
+    ghost use Rattle.ns_request.specs.Values.{values_of};
+
+    ghost view = { λ query. query.text.now };
+
+    ghost invariant = { λ query. query.values ≡ values_of query.text.now };
+}
+
+/// Whether all namespaces are asked for at once.
+fn is_star(value: Option<&Text>) -> bool
+    ensures { result ≡ option_map_or is_star (option_copied value.entry) false }
+{
+    match value {
+        Some(value) => value.as_str() == "*",
+        None => false,
+    }
+}
+
+/// Whether the value is there and not empty.
+fn is_given(value: Option<&Text>) -> bool
+    ensures { result ≡ option_map_or is_not_empty (option_copied value.entry) false }
+{
+    match value {
+        Some(value) => !value.as_str().is_empty(),
+        None => false,
+    }
+}
+
+/// Whether an index is to be waited for.
+fn is_awaited(value: Option<&Text>) -> bool
+    ensures { result ≡ option_map_or is_awaited (option_copied value.entry) false }
+{
+    match value {
+        Some(value) => !value.as_str().is_empty() && value.as_str() != "0",
+        None => false,
+    }
+}
+
+impl<'a> Query<'a> {
+    /// The parameters of the query.
+    pub fn read(alloc: Global, text: &'a str) -> Result<Query<'a>, AllocError>
+        ensures { IfOk result (λ query. query ≡ text.now) }
+    {
+        let mut values = NO_VALUES;
+        for pair in parse(alloc, text.as_bytes()) {
+            let (name, value) = pair?;
+            values.keep(alloc, name.as_str(), value.as_str())?;
+        }
+        Ok(Query { text, values })
+    }
+
+    /// Whether it asks for what no path serves.
+    #[tactic(auto, unfolding(crate::specs::Queries::is_unserved))]
+    pub fn is_unserved(&self, endpoint: Endpoint, method: Option<Method>) -> bool
+        ensures { result ≡ is_unserved endpoint method self.now }
+    {
+        let values = &self.values;
+        if is_star(values.namespace.as_ref())
+            || is_given(values.filter.as_ref())
+            || is_given(values.per_page.as_ref())
+            || is_given(values.next_token.as_ref())
+        {
+            return true;
+        }
+        match (method, endpoint) {
+            (Some(Method::Get), Endpoint::EventStream) => false,
+            (Some(Method::Get), _) => is_awaited(values.index.as_ref()),
+            _ => false,
+        }
+    }
+
+    /// The namespace that it names.
+    #[tactic(auto, unfolding(crate::specs::Queries::namespace_in))]
+    pub fn namespace(&self, alloc: Global) -> Result<Option<Text>, Refusal>
+        ensures { Gives same result (namespace_in self.now) }
+    {
+        let Some(value) = &self.values.namespace else {
+            return Ok(None);
+        };
+        let text = value.as_str();
+        if text.is_empty() {
+            return Ok(None);
+        }
+        match Name::read(NameKind::Namespace, text) {
+            Some(name) => Ok(Some(Text::from_str(alloc, name.as_str())?)),
+            None => Err(Refusal::BadField(Member::NamespaceParameter)),
+        }
+    }
+
+    /// The text with which the ids of a list begin, empty without the parameter.
+    pub fn prefix(&self) -> &str
+        ensures { result.now ≡ prefix_of self.now }
+    {
+        match &self.values.prefix {
+            Some(value) => value.as_str(),
+            None => "",
+        }
+    }
+}

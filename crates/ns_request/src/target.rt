@@ -1,0 +1,86 @@
+//! The parts of a target.
+
+ghost use Rattle.std.specs.Prelude.{◌≡◌, ◌&&◌, IfOk, bytes_eq, codes};
+ghost use Rattle.ns_request.specs.Judging.{named_in, part_of};
+ghost use Rattle.ns_request.specs.Parts.{segment_at};
+ghost use Rattle.ns_request.specs.Targets.{is_pool, path_in, query_in};
+
+use crate::endpoint::Endpoint;
+use crate::part::Part;
+use ns_types::name::NameKind;
+use ns_types::text::Text;
+use percent_encoding::{DecodeError, percent_decode};
+use std::alloc::{AllocError, Global};
+
+/// The path and the query of a target.
+pub fn split_target(target: &str) -> (&str, &str)
+    ensures path { result.0.now ≡ path_in target.now }
+    ensures query { result.1.now ≡ query_in target.now }
+{
+    match target.split_once('?') {
+        Some((path, query)) => (path, query),
+        None => (target, ""),
+    }
+}
+
+/// The segment of a path at that place, or none: the first one is what stands before the first slash.
+pub fn segment(path: &str, place: usize) -> &[u8]
+    ensures { result.now ≡ segment_at place path.now }
+{
+    match path.as_bytes().split(|b| *b == b'/').nth(place) {
+        Some(segment) => segment,
+        None => b"",
+    }
+}
+
+/// The text of the segment, where it stands for the part.
+fn part_of(alloc: Global, part: Part, segment: &[u8]) -> Result<Option<Text>, AllocError>
+    ensures { IfOk result (λ text. text ≡ part_of part segment.now) }
+{
+    match percent_decode(segment).decode_utf8(alloc) {
+        Ok(text) => {
+            if !part.is_good(text.as_str()) {
+                return Ok(None);
+            }
+            Ok(Some(Text::from_string(text.into_owned(alloc)?)))
+        }
+        Err(DecodeError::Utf8(_)) => Ok(None),
+        Err(DecodeError::OutOfMemory) => Err(AllocError),
+    }
+}
+
+/// Whether the part is the pool `all`.
+fn is_every_pool(part: Part, text: &str) -> bool
+    ensures { result ≡ (is_pool part && bytes_eq text.now (codes "all")) }
+{
+    matches!(part, Part::Name(NameKind::Pool)) && text == "all"
+}
+
+/// What the parts of a path say.
+#[derive(Drop)]
+pub struct Named {
+    /// The text of the first part, empty where there is none.
+    pub first: Text,
+    /// Whether a part is the pool `all`, which is none.
+    pub every_pool: bool,
+}
+
+/// What the parts of the path say, or none where one of them does not follow the rule of its name. Each is decoded once.
+pub fn named_in(alloc: Global, endpoint: Endpoint, path: &str) -> Result<Option<Named>, AllocError>
+    ensures { IfOk result (λ named. named ≡ named_in endpoint path.now) }
+{
+    let mut first = None;
+    let mut every_pool = false;
+    for placed in endpoint.parts() {
+        let Some(text) = part_of(alloc, placed.part, segment(path, placed.place))? else {
+            return Ok(None);
+        };
+        every_pool |= is_every_pool(placed.part, text.as_str());
+        first = first.or(Some(text));
+    }
+    let first = match first {
+        Some(first) => first,
+        None => Text::from_string(String::new(alloc)),
+    };
+    Ok(Some(Named { first, every_pool }))
+}

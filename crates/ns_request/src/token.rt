@@ -1,0 +1,38 @@
+//! The secret of a request.
+
+ghost use Rattle.std.specs.Prelude.{◌≡◌, IfOk};
+ghost use Rattle.std.specs.Option.{option_copied};
+ghost use Rattle.ns_request.specs.Secrets.{known, secret_of};
+
+use ns_types::name::{Name, NameKind};
+use ns_types::text::Text;
+use std::alloc::{AllocError, Global};
+
+/// No secret is this text, so it names a token that is unknown.
+const UNKNOWN: &str = " ";
+
+/// The text, where it is a secret's.
+fn known(token: &[u8]) -> &str
+    ensures { result.now ≡ known token.now }
+{
+    let Ok(text) = str::from_utf8(token) else {
+        return UNKNOWN;
+    };
+    match Name::read(NameKind::Secret, text) {
+        Some(name) => name.as_str(),
+        None => UNKNOWN,
+    }
+}
+
+/// The secret that a token is: none without one, or where it is empty.
+pub fn secret(alloc: Global, token: Option<&[u8]>) -> Result<Option<Text>, AllocError>
+    ensures { IfOk result (λ secret. secret ≡ secret_of (option_copied token.entry)) }
+{
+    match token {
+        None | Some([]) => Ok(None),
+        Some(token) => {
+            let text = Text::from_str(alloc, known(token))?;
+            Ok(Some(text))
+        }
+    }
+}
