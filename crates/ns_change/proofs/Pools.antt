@@ -1,16 +1,15 @@
 -- A pool's change that is taken out and put again, and placements.
 use Rattle.std.specs.Prelude.{◌≡◌, ◌+◌, Bool, true, false, cond, Option, Some, None, option_map, IsTrue}
 use Rattle.std.proofs.Common.{refl, sym, ap, ◌∙◌}
-use Rattle.std.specs.Option.{option_map_or, option_and_then}
+use Rattle.std.specs.Option.{option_map_or}
 use Rattle.std.specs.Ordering.{eq_by_cmp, nat_cmp}
 use Rattle.std.specs.FinMap.{FinMap, get, get-insert, insert, same_map}
-use Rattle.keyed.specs.Table.{has_slot, row_at, rows, with_slot}
-use Rattle.keyed.proofs.Tables.{get-rows}
+use Rattle.keyed.specs.Table.{has_slot, row_at, with_slot}
 use Rattle.ns_types.specs.declared.allocation.Allocation.{Allocation}
 use Rattle.ns_types.specs.Working.Commit.{with_allocation}
 use Rattle.ns_types.specs.Settling.Making.{change_tenant, put_pool}
 use Rattle.ns_types.specs.State.Names.{Name, name_cmp}
-use Rattle.ns_types.specs.State.Rows.{PoolRows, node_at}
+use Rattle.ns_types.specs.State.Rows.{PoolRows}
 use Rattle.ns_types.specs.State.Tables.{map_rows}
 use Rattle.ns_types.proofs.Named.{names, one_name, numbers, one_number}
 use Rattle.ns_types.proofs.Tables.{get-map_rows, tied}

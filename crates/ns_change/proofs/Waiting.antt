@@ -6,17 +6,15 @@ use Rattle.std.specs.Ordering.{is_le}
 use Rattle.std.proofs.lemmas.Bool.{leb-true, leb-false}
 use Rattle.std.specs.Option.{option_and_then, option_map_or}
 use Rattle.std.specs.Ordering.{eq_by_cmp, nat_cmp}
-use Rattle.std.specs.FinMap.{FinMap, contains_key, entries, entries_sorted, get, get-entries, insert}
+use Rattle.std.specs.FinMap.{FinMap, contains_key, entries, entries_sorted, get, get-entries}
 use Rattle.std.specs.FinMap.Entries.{find as found_at, below_all, is_sorted}
 use Rattle.std.proofs.lemmas.Map.Keys.{le_from_is_le}
 use Rattle.keyed.specs.Table.{at_slot, flat, rows, row_at, row_list}
 use Rattle.keyed.proofs.Tables.{entries-rows, get-rows}
-use Rattle.ns_types.specs.declared.evaluation.Evaluation.{Evaluation}
 use Rattle.ns_types.specs.declared.evaluation.Status.{Status}
 use Rattle.ns_types.specs.State.Lists.{Each}
 use Rattle.ns_types.specs.State.Names.{Name}
 use Rattle.ns_types.specs.Working.Queue.{first_waiting, is_busy, promote}
-use Rattle.ns_types.specs.declared.evaluation.Status.TheVariants as Status
 use Rattle.ns_types.specs.Settling.Making.{change_tenant, put_tenant, with_status}
 use Rattle.ns_types.specs.State.Rows.{World, Tenant, is_blocked, is_pending}
 use Rattle.ns_types.specs.Working.Work.{blocked_of, cancel_blocked}

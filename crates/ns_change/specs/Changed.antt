@@ -1,13 +1,14 @@
 -- The world as a change leaves it.
-use Rattle.std.specs.Prelude.{ℕ, List, ◌++◌, not, filter, Option}
+use Rattle.std.specs.Prelude.{ℕ, List, [], ◌∷◌, ◌++◌, not, filter, Option}
 use Rattle.std.specs.Option.{option_map_or}
-use Rattle.std.specs.FinMap.{empty, get, insert}
+use Rattle.std.specs.FinMap.{empty, get, insert, remove}
 use Rattle.keyed.specs.Table.{row_at}
 use Rattle.ns_types.specs.declared.allocation.Allocation.{Allocation}
 use Rattle.ns_types.specs.Settling.Making.{put_pool}
 use Rattle.ns_types.specs.State.Names.{Name, Key, has_key}
 use Rattle.ns_types.specs.State.Rows.{World, Tenant, PoolRows}
 use Rattle.ns_types.specs.State.Tables.{map_rows}
+use Rattle.ns_types.specs.Working.Work.{without_key}
 use Rattle.ns_change.specs.declared.change.Change.{Change}
 use Rattle.ns_change.specs.declared.change.ListChange.{ListChange}
 use Rattle.ns_change.specs.declared.change.PoolChange.{PoolChange}
@@ -72,3 +73,15 @@ change_pool name f w = option_map_or (λ p. put_pool name (f p) w) (get w.pools 
 abbrev pub with_allocation_row : ℕ → (Allocation → Allocation) → Tenant → Tenant
 with_allocation_row n g t = option_map_or (λ a. record t { allocations = insert t.allocations n (g a) })
     (get t.allocations n) t
+
+abbrev pub without_job : Name → Tenant → Tenant
+without_job id t = record t { jobs = remove t.jobs id }
+
+-- ---- the list of evaluations that are ready
+
+abbrev pub without_ready : Key → World → World
+without_ready key w = record w { ready = without_key key w.ready }
+
+-- behind the others
+abbrev pub with_ready : Key → World → World
+with_ready key w = record w { ready = w.ready ++ key ∷ [] }

@@ -1,15 +1,13 @@
 -- The world as a settled change leaves it.
 use Rattle.std.specs.Prelude.{◌+◌, List, ◌++◌, filter, map}
-use Rattle.std.specs.FinMap.{FinMap}
 use Rattle.keyed.specs.Table.{row_at}
 use Rattle.ns_types.specs.declared.event.Event.{Event}
 use Rattle.ns_types.specs.declared.node.Class.{Class}
 use Rattle.ns_types.specs.State.Lists.{last}
 use Rattle.ns_types.specs.State.Names.{Name, same_name, has_name}
-use Rattle.ns_types.specs.State.Rows.{World, Tenant, PoolRows}
+use Rattle.ns_types.specs.State.Rows.{World, Tenant}
 use Rattle.ns_types.specs.State.Tables.{map_rows}
 use Rattle.ns_types.specs.Settling.Settle.{after_release, after_quota_release}
-use Rattle.ns_change.specs.declared.change.PoolChange.{PoolChange}
 use Rattle.ns_change.specs.declared.change.Settled.{Settled}
 use Rattle.ns_change.specs.declared.change.SettledTenant.{SettledTenant}
 use Rattle.ns_change.specs.Changed.{changed_list, changed_pool, changed_tenant, perhaps}

@@ -10,15 +10,21 @@
 mod change;
 mod editing;
 mod evicting;
+mod jobs;
+mod lists;
 mod looking;
 mod placing;
 mod promoting;
 mod queueing;
+mod workers;
 
-pub use change::{Change, ListChange, PoolChange, Settled, SettledTenant, TenantChange};
+pub use change::{Change, ListChange, PoolChange, Prepared, Settled, SettledTenant, TenantChange};
 pub use editing::{put_evaluation, set_status};
 pub use evicting::{put_allocation, set_client, set_desired};
+pub use jobs::{put_job, remove_job};
+pub use lists::{add_ready, take_ready};
 pub use looking::{allocation, evaluation, node};
 pub use placing::{add_allocation, count_place, put_node};
 pub use promoting::{cancel_blocked, promote};
 pub use queueing::{make, queue, wake};
+pub use workers::{put_worker, remove_worker};

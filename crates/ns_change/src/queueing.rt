@@ -210,7 +210,11 @@ pub fn queue(tables: &Tables, change: &mut Change, key: &EvalKey) -> Result<(), 
 }
 
 /// Takes those keys out of a list.
-fn take_out(alloc: Global, list: &mut ListChange, keys: &[EvalKey]) -> Result<(), AllocError>
+pub(crate) fn take_out(
+    alloc: Global,
+    list: &mut ListChange,
+    keys: &[EvalKey],
+) -> Result<(), AllocError>
     ensures { (base : List Key) → OnOk result (changed_list base list.new ≡ filter (λ key. not (has_entry keys.now key)) (changed_list base list.old)) }
 {
     let mut added = Rows::new(alloc);
