@@ -8,7 +8,7 @@ ghost use Rattle.ns_change.specs.Prepared.{Prepares};
 ghost use Rattle.ns_world.specs.World.{world_of};
 
 use crate::serving::is_served;
-use ns_change::{Change, Prepared, put_worker, take_ready};
+use ns_change::{Change, Prepared, put_row, take_ready};
 use ns_types::evaluation::Evaluation;
 use ns_types::job::JobKind;
 use ns_types::key::EvalKey;
@@ -101,7 +101,7 @@ pub fn dequeue(tables: &Tables, number: u64, key: &EvalKey) -> Result<Prepared, 
     };
     let mut change = Change::new(tables.alloc);
     let worker = new_worker(key.number(), row);
-    put_worker(tables, &mut change, key.namespace(), number, worker)?;
+    put_row(tables, &mut change, key.namespace(), number, worker)?;
     take_ready(tables.alloc, &mut change, key)?;
     Ok(Prepared {
         content: Content::Took(key.number()),

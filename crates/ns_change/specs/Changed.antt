@@ -1,13 +1,16 @@
 -- The world as a change leaves it.
-use Rattle.std.specs.Prelude.{ℕ, List, [], ◌∷◌, ◌++◌, not, filter, Option}
+use Rattle.std.specs.Prelude.{◌≡◌, ℕ, ◌+◌, ◌<◌, ◌^◌, List, [], ◌∷◌, ◌++◌, not, filter, Option, Some, Result, OnOk}
 use Rattle.std.specs.Option.{option_map_or}
 use Rattle.std.specs.FinMap.{empty, get, insert, remove}
 use Rattle.keyed.specs.Table.{row_at}
 use Rattle.ns_types.specs.declared.allocation.Allocation.{Allocation}
-use Rattle.ns_types.specs.Settling.Making.{put_pool}
+use Rattle.ns_types.specs.declared.evaluation.Evaluation.{Evaluation}
+use Rattle.ns_types.specs.declared.node.Node.{Node}
+use Rattle.ns_types.specs.Settling.Making.{change_tenant, put_pool}
 use Rattle.ns_types.specs.State.Names.{Name, Key, has_key}
-use Rattle.ns_types.specs.State.Rows.{World, Tenant, PoolRows}
+use Rattle.ns_types.specs.State.Rows.{World, Tenant, PoolRows, node_at}
 use Rattle.ns_types.specs.State.Tables.{map_rows}
+use Rattle.ns_types.specs.Working.Commit.{with_place}
 use Rattle.ns_types.specs.Working.Work.{without_key}
 use Rattle.ns_change.specs.declared.change.Change.{Change}
 use Rattle.ns_change.specs.declared.change.ListChange.{ListChange}
@@ -65,14 +68,46 @@ unchanged_pool p = record { nodes = empty }
 abbrev pub view : Tables → Change → World
 view t c = changed (world_of t) c
 
--- ---- the same, of one pool and of one allocation
+-- ---- what a method makes of the change
+
+-- where it is done, the world that the tables hold with the change is f of the one before
+abbrev pub Does : {A E : Type 0} → Result A E → Tables → Change → Change → (World → World) → Type 0
+Does result t before after f = OnOk result (view t after ≡ f (view t before))
+
+abbrev pub DoesIn : {A E : Type 0} → Name → Result A E → Tables → Change → Change → (Tenant → Tenant) → Type 0
+DoesIn ns result t before after f = Does result t before after (change_tenant ns f)
 
 abbrev pub change_pool : Name → (PoolRows → PoolRows) → World → World
 change_pool name f w = option_map_or (λ p. put_pool name (f p) w) (get w.pools name) w
 
+abbrev pub DoesInPool : {A E : Type 0} → Name → Result A E → Tables → Change → Change → (PoolRows → PoolRows) → Type 0
+DoesInPool name result t before after f = Does result t before after (change_pool name f)
+
+-- ---- one row
+
+abbrev pub put_evaluation : ℕ → Evaluation → Tenant → Tenant
+put_evaluation n e t = record t { evaluations = insert t.evaluations n e }
+
+abbrev pub put_allocation : ℕ → Allocation → Tenant → Tenant
+put_allocation n a t = record t { allocations = insert t.allocations n a }
+
 abbrev pub with_allocation_row : ℕ → (Allocation → Allocation) → Tenant → Tenant
-with_allocation_row n g t = option_map_or (λ a. record t { allocations = insert t.allocations n (g a) })
-    (get t.allocations n) t
+with_allocation_row n g t = option_map_or (λ a. put_allocation n (g a) t) (get t.allocations n) t
+
+-- a node that is there has one place more
+abbrev pub count_place : Name → Name → World → World
+count_place pool name w = option_map_or (λ row. change_pool pool (with_place name row) w) (node_at w pool name) w
+
+-- ---- numbers that can be given
+
+abbrev pub HasPlaceLeft : World → Name → Name → Type 0
+HasPlaceLeft w pool name = (row : Node) → node_at w pool name ≡ Some row → row.places + 1 < 2 ^ 64
+
+abbrev pub HasEvaluationLeft : World → Name → Type 0
+HasEvaluationLeft w ns = (t : Tenant) → get w.tenants ns ≡ Some t → t.evaluation_number + 1 < 2 ^ 64
+
+abbrev pub HasAllocationLeft : World → Name → Type 0
+HasAllocationLeft w ns = (t : Tenant) → get w.tenants ns ≡ Some t → t.allocation_number + 1 < 2 ^ 64
 
 abbrev pub without_job : Name → Tenant → Tenant
 without_job id t = record t { jobs = remove t.jobs id }

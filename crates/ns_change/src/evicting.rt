@@ -1,16 +1,14 @@
 //! What becomes of allocations.
 
-ghost use Rattle.std.specs.Prelude.{◌≡◌, IfOk, OnOk};
-ghost use Rattle.std.specs.FinMap as table;
-ghost use Rattle.ns_types.specs.Settling.Making.{change_tenant, with_client as with_client_in, with_desired as with_desired_in};
-ghost use Rattle.ns_change.specs.Changed.{view};
+ghost use Rattle.std.specs.Prelude.{◌≡◌, IfOk};
+ghost use Rattle.ns_types.specs.Settling.Making.{with_client, with_desired};
+ghost use Rattle.ns_change.specs.Changed.{DoesIn};
 
 use crate::change::Change;
-use crate::editing::open;
 use crate::looking::allocation;
+use crate::numbered::put_row;
 use ns_types::allocation::{Allocation, ClientStatus, DesiredStatus};
 use ns_types::key::EvalKey;
-use ns_types::text::Text;
 use ns_world::Tables;
 use std::alloc::AllocError;
 
@@ -35,26 +33,6 @@ fn copied(row: &Allocation) -> Result<Allocation, AllocError>
     })
 }
 
-/// Puts an allocation of a namespace that is there.
-pub fn put_allocation(
-    tables: &Tables,
-    change: &mut Change,
-    namespace: &Text,
-    number: u64,
-    row: Allocation,
-) -> Result<(), AllocError>
-    ensures { OnOk result (view tables.now change.new ≡ change_tenant namespace.now (λ t. record t { allocations = table.insert t.allocations number row }) (view tables.now change.old)) }
-{
-    let Some(mut tenant) = open(tables, change, namespace)? else {
-        drop(row);
-        return Ok(());
-    };
-    tenant.allocations.reserve(number)?;
-    tenant.allocations.set(number, row);
-    change.tenants.set(namespace, tenant);
-    Ok(())
-}
-
 /// Gives the allocation that desired status.
 pub fn set_desired(
     tables: &Tables,
@@ -62,14 +40,14 @@ pub fn set_desired(
     key: &EvalKey,
     desired: DesiredStatus,
 ) -> Result<(), AllocError>
-    ensures { OnOk result (view tables.now change.new ≡ change_tenant key.now.0 (with_desired_in key.now.1 desired) (view tables.now change.old)) }
+    ensures { DoesIn key.now.0 result tables.now change.old change.new (with_desired key.now.1 desired) }
 {
     let Some(row) = allocation(tables, change, key.namespace(), key.number()) else {
         return Ok(());
     };
     let mut row = copied(row)?;
     row.desired = desired;
-    put_allocation(tables, change, key.namespace(), key.number(), row)
+    put_row(tables, change, key.namespace(), key.number(), row)
 }
 
 /// Gives the allocation that client status.
@@ -79,12 +57,12 @@ pub fn set_client(
     key: &EvalKey,
     client: ClientStatus,
 ) -> Result<(), AllocError>
-    ensures { OnOk result (view tables.now change.new ≡ change_tenant key.now.0 (with_client_in key.now.1 client) (view tables.now change.old)) }
+    ensures { DoesIn key.now.0 result tables.now change.old change.new (with_client key.now.1 client) }
 {
     let Some(row) = allocation(tables, change, key.namespace(), key.number()) else {
         return Ok(());
     };
     let mut row = copied(row)?;
     row.client = client;
-    put_allocation(tables, change, key.namespace(), key.number(), row)
+    put_row(tables, change, key.namespace(), key.number(), row)
 }

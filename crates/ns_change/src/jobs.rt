@@ -1,8 +1,7 @@
 //! Rows of jobs.
 
-ghost use Rattle.std.specs.Prelude.{◌≡◌, OnOk};
-ghost use Rattle.ns_types.specs.Settling.Making.{change_tenant, with_job};
-ghost use Rattle.ns_change.specs.Changed.{view, without_job};
+ghost use Rattle.ns_types.specs.Settling.Making.{with_job};
+ghost use Rattle.ns_change.specs.Changed.{DoesIn, without_job};
 
 use crate::change::Change;
 use crate::editing::open;
@@ -19,8 +18,7 @@ pub fn put_job(
     id: &Text,
     row: Job,
 ) -> Result<(), AllocError>
-    ensures { let put = change_tenant namespace.now (with_job id.now row) in
-        OnOk result (view tables.now change.new ≡ put (view tables.now change.old)) }
+    ensures { DoesIn namespace.now result tables.now change.old change.new (with_job id.now row) }
 {
     let Some(mut tenant) = open(tables, change, namespace)? else {
         drop(row);
@@ -39,8 +37,7 @@ pub fn remove_job(
     namespace: &Text,
     id: &Text,
 ) -> Result<(), AllocError>
-    ensures { let removed = change_tenant namespace.now (without_job id.now) in
-        OnOk result (view tables.now change.new ≡ removed (view tables.now change.old)) }
+    ensures { DoesIn namespace.now result tables.now change.old change.new (without_job id.now) }
 {
     let Some(mut tenant) = open(tables, change, namespace)? else {
         return Ok(());

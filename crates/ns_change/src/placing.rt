@@ -1,14 +1,10 @@
 //! Nodes, and what is placed on them.
 
-ghost use Rattle.std.specs.Prelude.{◌≡◌, ◌+◌, ◌<◌, ◌^◌, IfOk, OnOk, Some};
-ghost use Rattle.std.specs.FinMap as table;
-ghost use Rattle.ns_types.specs.declared.node.Node.{Node as NodeRow};
-ghost use Rattle.ns_types.specs.Working.Commit.{with_allocation, with_place};
-ghost use Rattle.ns_types.specs.Settling.Making.{change_tenant, with_node};
-ghost use Rattle.ns_types.specs.State.Rows.{Tenant, node_at};
+ghost use Rattle.std.specs.Prelude.{◌≡◌, ◌+◌, ◌<◌, ◌^◌, IfOk};
+ghost use Rattle.ns_types.specs.Working.Commit.{with_allocation};
+ghost use Rattle.ns_types.specs.Settling.Making.{with_node};
+ghost use Rattle.ns_change.specs.Changed.{Does, DoesIn, DoesInPool, HasAllocationLeft, HasPlaceLeft, count_place, view};
 ghost use Rattle.ns_change.specs.Opened.{OpenedPool};
-ghost use Rattle.ns_change.specs.Changed.{view};
-ghost use Rattle.ns_change.specs.Changed.{change_pool};
 
 use crate::change::{Change, PoolChange};
 use crate::editing::open;
@@ -48,7 +44,7 @@ pub fn put_node(
     name: &Text,
     row: Node,
 ) -> Result<(), AllocError>
-    ensures { OnOk result (view tables.now change.new ≡ change_pool pool.now (with_node name.now row) (view tables.now change.old)) }
+    ensures { DoesInPool pool.now result tables.now change.old change.new (with_node name.now row) }
 {
     let Some(mut changed) = open_pool(tables, change, pool)? else {
         drop(row);
@@ -84,8 +80,8 @@ pub fn count_place(
     pool: &Text,
     name: &Text,
 ) -> Result<(), AllocError>
-    requires { (row : NodeRow) → node_at (view tables.now change.old) pool.now name.now ≡ Some row → row.places + 1 < 2 ^ 64 }
-    ensures { OnOk result ((row : NodeRow) → node_at (view tables.now change.old) pool.now name.now ≡ Some row → view tables.now change.new ≡ change_pool pool.now (with_place name.now row) (view tables.now change.old)) }
+    requires { HasPlaceLeft (view tables.now change.old) pool.now name.now }
+    ensures { Does result tables.now change.old change.new (count_place pool.now name.now) }
 {
     let Some(row) = node(tables, change, pool, name) else {
         return Ok(());
@@ -101,8 +97,8 @@ pub fn add_allocation(
     namespace: &Text,
     row: Allocation,
 ) -> Result<(), AllocError>
-    requires { (t : Tenant) → table.get (view tables.now change.old).tenants namespace.now ≡ Some t → t.allocation_number + 1 < 2 ^ 64 }
-    ensures { OnOk result (view tables.now change.new ≡ change_tenant namespace.now (with_allocation row) (view tables.now change.old)) }
+    requires { HasAllocationLeft (view tables.now change.old) namespace.now }
+    ensures { DoesIn namespace.now result tables.now change.old change.new (with_allocation row) }
 {
     let Some(mut tenant) = open(tables, change, namespace)? else {
         drop(row);

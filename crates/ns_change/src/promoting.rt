@@ -1,14 +1,12 @@
 //! The first evaluation of a job that waits, and the one that is blocked.
 
-ghost use Rattle.std.specs.Prelude.{◌≡◌, ◌&&◌, OnOk, find, not, option_map};
-ghost use Rattle.std.specs.FinMap as table;
-ghost use Rattle.std.specs.Option.{option_and_then};
+ghost use Rattle.std.specs.Prelude.{◌≡◌};
 ghost use Rattle.keyed.specs.Table.{at_slot};
-ghost use Rattle.ns_types.specs.Settling.Making.{change_tenant};
-ghost use Rattle.ns_types.specs.Working.Queue.{promote as promoted};
-ghost use Rattle.ns_types.specs.Working.Work.{cancel_blocked as canceled};
-ghost use Rattle.ns_change.specs.Changed.{view};
-ghost use Rattle.ns_change.specs.Waiting.{first, lesser as lesser_of, of_job, stands as stands_as, standing};
+ghost use Rattle.ns_types.specs.Working.Queue.{promote};
+ghost use Rattle.ns_types.specs.Working.Work.{cancel_blocked};
+ghost use Rattle.ns_change.specs.Changed.{Does, DoesIn, view};
+ghost use Rattle.ns_change.specs.Queued.{first_of_job, first_slot, is_left};
+ghost use Rattle.ns_change.specs.Waiting.{lesser, stands, standing};
 
 use crate::change::Change;
 use crate::editing::set_status;
@@ -25,7 +23,7 @@ use std::alloc::AllocError;
 type EvaluationSlot = (u64, Option<Evaluation>);
 
 fn stands(wanted: Status, status: Status) -> bool
-    ensures { result ≡ stands_as wanted status }
+    ensures { result ≡ stands wanted status }
 {
     match wanted {
         Status::Pending => matches!(status, Status::Pending),
@@ -44,21 +42,12 @@ fn is_of(slot: &EvaluationSlot, job: &Text, wanted: Status) -> bool
 }
 
 fn first_in(slots: &[EvaluationSlot], job: &Text, wanted: Status) -> Option<u64>
-    ensures { result ≡ option_map (λ e. e.0) (find (at_slot (standing wanted job.now)) slots.now) }
+    ensures { result ≡ first_slot (at_slot (standing wanted job.now)) slots.now }
 {
     slots
         .iter()
         .find(|slot| is_of(slot, job, wanted))
         .map(|slot| slot.0)
-}
-
-fn is_changed(changed: &NumberTable<Evaluation>, number: u64) -> bool
-    ensures { result ≡ table.contains_key changed.now number }
-{
-    match changed.slot(number) {
-        Some(_) => true,
-        None => false,
-    }
 }
 
 /// Of those that are not changed the first.
@@ -68,16 +57,16 @@ fn first_left(
     job: &Text,
     wanted: Status,
 ) -> Option<u64>
-    ensures { result ≡ option_map (λ e. e.0) (find (λ slot. not (table.contains_key changed.now slot.0) && at_slot (standing wanted job.now) slot) slots.now) }
+    ensures { result ≡ first_slot (is_left changed.now (at_slot (standing wanted job.now))) slots.now }
 {
     slots
         .iter()
-        .find(|slot| !is_changed(changed, slot.0) && is_of(slot, job, wanted))
+        .find(|slot| !changed.has_slot(slot.0) && is_of(slot, job, wanted))
         .map(|slot| slot.0)
 }
 
 fn lesser(a: Option<u64>, b: Option<u64>) -> Option<u64>
-    ensures { result ≡ lesser_of a b }
+    ensures { result ≡ lesser a b }
 {
     match (a, b) {
         (Some(a), Some(b)) => { if a <= b { Some(a) } else { Some(b) } }
@@ -94,7 +83,7 @@ fn first_of_job(
     job: &Text,
     wanted: Status,
 ) -> Option<u64>
-    ensures { result ≡ option_and_then (λ t. first (of_job (stands_as wanted) job.now) t.evaluations) (table.get (view tables.now change.now).tenants namespace.now) }
+    ensures { result ≡ first_of_job (view tables.now change.now) namespace.now job.now wanted }
 {
     let Some(tenant) = tables.tenants.get(namespace) else {
         return None;
@@ -116,7 +105,7 @@ pub fn promote(
     namespace: &Text,
     job: &Text,
 ) -> Result<(), AllocError>
-    ensures { OnOk result (view tables.now change.new ≡ promoted namespace.now job.now (view tables.now change.old)) }
+    ensures { Does result tables.now change.old change.new (promote namespace.now job.now) }
 {
     if is_busy(tables, change, namespace, job) {
         return Ok(());
@@ -138,7 +127,7 @@ pub fn cancel_blocked(
     namespace: &Text,
     job: &Text,
 ) -> Result<(), AllocError>
-    ensures { OnOk result (view tables.now change.new ≡ change_tenant namespace.now (canceled job.now) (view tables.now change.old)) }
+    ensures { DoesIn namespace.now result tables.now change.old change.new (cancel_blocked job.now) }
 {
     let Some(number) = first_of_job(tables, change, namespace, job, Status::Blocked) else {
         return Ok(());

@@ -1,18 +1,12 @@
 //! The queue after a change, and whom a step wakes.
 
-ghost use Rattle.std.specs.Prelude.{◌≡◌, ◌&&◌, ◌+◌, ◌<◌, ◌^◌, List, Some, filter, false, not, OnOk};
-ghost use Rattle.ns_types.specs.Settling.Making.{make_in};
-ghost use Rattle.ns_types.specs.State.Rows.{Tenant};
-ghost use Rattle.std.specs.FinMap as table;
+ghost use Rattle.std.specs.Prelude.{◌≡◌, OnOk};
 ghost use Rattle.std.specs.List.{list_any};
-ghost use Rattle.std.specs.Option.{option_map_or};
-ghost use Rattle.keyed.specs.Table.{at_slot};
-ghost use Rattle.ns_types.specs.State.Names.{Key, has_key as has_entry};
-ghost use Rattle.ns_types.specs.Working.Queue.{is_busy as is_job_busy, is_of_job as is_of, queue as queued};
-ghost use Rattle.ns_types.specs.Settling.Settle.{wake as woken};
-ghost use Rattle.ns_types.specs.State.Tables.{any_row};
-ghost use Rattle.ns_change.specs.Changed.{changed_list};
-ghost use Rattle.ns_change.specs.Changed.{view};
+ghost use Rattle.ns_types.specs.Settling.Making.{make};
+ghost use Rattle.ns_types.specs.Settling.Settle.{wake};
+ghost use Rattle.ns_types.specs.Working.Queue.{is_busy, queue};
+ghost use Rattle.ns_change.specs.Changed.{Does, HasEvaluationLeft, changed_list, view};
+ghost use Rattle.ns_change.specs.Queued.{TakesOut, any_left, is_left, is_of, is_worked_on, works_on};
 
 use crate::change::{Change, ListChange};
 use crate::editing::{open, set_status};
@@ -36,7 +30,7 @@ fn is_of_job(
     holder: &Text,
     number: u64,
 ) -> bool
-    ensures { result ≡ is_of (view tables.now change.now) namespace.now job.now (holder.now, number) }
+    ensures { result ≡ is_of tables.now change.now namespace.now job.now (holder.now, number) }
 {
     if !same_text(namespace, holder) {
         return false;
@@ -56,7 +50,7 @@ fn is_among_left(
     namespace: &Text,
     job: &Text,
 ) -> bool
-    ensures { result ≡ list_any (λ key. not (has_entry taken.now key) && is_of (view tables.now change.now) namespace.now job.now key) base.now }
+    ensures { result ≡ any_left (is_of tables.now change.now namespace.now job.now) taken.now base.now }
 {
     base.iter().any(|key| {
         !has_key(taken, key) && is_key_of_job(tables, change, namespace, job, key)
@@ -70,7 +64,7 @@ fn is_key_of_job(
     job: &Text,
     key: &EvalKey,
 ) -> bool
-    ensures { result ≡ is_of (view tables.now change.now) namespace.now job.now key.now }
+    ensures { result ≡ is_of tables.now change.now namespace.now job.now key.now }
 {
     is_of_job(
         tables,
@@ -89,7 +83,7 @@ fn is_among(
     namespace: &Text,
     job: &Text,
 ) -> bool
-    ensures { result ≡ list_any (is_of (view tables.now change.now) namespace.now job.now) keys.now }
+    ensures { result ≡ list_any (is_of tables.now change.now namespace.now job.now) keys.now }
 {
     keys.iter()
         .any(|key| is_key_of_job(tables, change, namespace, job, key))
@@ -104,7 +98,8 @@ fn is_listed(
     namespace: &Text,
     job: &Text,
 ) -> bool
-    ensures { result ≡ list_any (is_of (view tables.now change.now) namespace.now job.now) (changed_list base.now list.now) }
+    ensures { result ≡ list_any (is_of tables.now change.now namespace.now job.now)
+        (changed_list base.now list.now) }
 {
     is_among_left(tables, change, base, list.taken.as_slice(), namespace, job)
         || is_among(tables, change, list.added.as_slice(), namespace, job)
@@ -118,7 +113,7 @@ fn works_on(
     job: &Text,
     slot: &(u64, Option<Worker>),
 ) -> bool
-    ensures { result ≡ at_slot (λ e. is_of (view tables.now change.now) namespace.now job.now (namespace.now, e.1.evaluation)) slot.now }
+    ensures { result ≡ works_on tables.now change.now namespace.now job.now slot.now }
 {
     match &slot.1 {
         Some(worker) => is_of_job(tables, change, namespace, job, namespace, worker.evaluation),
@@ -136,7 +131,7 @@ fn any_works(
     job: &Text,
     slots: &[WorkerSlot],
 ) -> bool
-    ensures { result ≡ list_any (at_slot (λ e. is_of (view tables.now change.now) namespace.now job.now (namespace.now, e.1.evaluation))) slots.now }
+    ensures { result ≡ list_any (works_on tables.now change.now namespace.now job.now) slots.now }
 {
     slots
         .iter()
@@ -152,24 +147,16 @@ fn another_works(
     changed: &NumberTable<Worker>,
     slots: &[WorkerSlot],
 ) -> bool
-    ensures { result ≡ list_any (λ slot. not (table.contains_key changed.now slot.0) && at_slot (λ e. is_of (view tables.now change.now) namespace.now job.now (namespace.now, e.1.evaluation)) slot) slots.now }
+    ensures { result ≡ list_any (is_left changed.now
+        (works_on tables.now change.now namespace.now job.now)) slots.now }
 {
-    slots.iter().any(|slot| !has_slot(changed, slot.0)
+    slots.iter().any(|slot| !changed.has_slot(slot.0)
         && works_on(tables, change, namespace, job, slot))
-}
-
-fn has_slot(changed: &NumberTable<Worker>, number: u64) -> bool
-    ensures { result ≡ table.contains_key changed.now number }
-{
-    match changed.slot(number) {
-        Some(_) => true,
-        None => false,
-    }
 }
 
 /// Whether some worker of the namespace has an evaluation of the job.
 fn is_worked_on(tables: &Tables, change: &Change, namespace: &Text, job: &Text) -> bool
-    ensures { result ≡ option_map_or (λ t. any_row (λ _ worker. is_of (view tables.now change.now) namespace.now job.now (namespace.now, worker.evaluation)) t.workers) (table.get (view tables.now change.now).tenants namespace.now) false }
+    ensures { result ≡ is_worked_on (view tables.now change.now) namespace.now job.now }
 {
     let Some(tenant) = tables.tenants.get(namespace) else {
         return false;
@@ -184,7 +171,7 @@ fn is_worked_on(tables: &Tables, change: &Change, namespace: &Text, job: &Text) 
 
 /// Whether an evaluation of the job is ready or with a worker.
 pub(crate) fn is_busy(tables: &Tables, change: &Change, namespace: &Text, job: &Text) -> bool
-    ensures { result ≡ is_job_busy (view tables.now change.now) namespace.now job.now }
+    ensures { result ≡ is_busy (view tables.now change.now) namespace.now job.now }
 {
     is_listed(
         tables,
@@ -198,7 +185,7 @@ pub(crate) fn is_busy(tables: &Tables, change: &Change, namespace: &Text, job: &
 
 /// The evaluation is ready, or it waits for another one of its job.
 pub fn queue(tables: &Tables, change: &mut Change, key: &EvalKey) -> Result<(), AllocError>
-    ensures { OnOk result (view tables.now change.new ≡ queued (view tables.now change.old) key.now) }
+    ensures { Does result tables.now change.old change.new (λ w. queue w key.now) }
 {
     let Some(row) = evaluation(tables, change, key.namespace(), key.number()) else {
         return Ok(());
@@ -215,7 +202,7 @@ pub(crate) fn take_out(
     list: &mut ListChange,
     keys: &[EvalKey],
 ) -> Result<(), AllocError>
-    ensures { (base : List Key) → OnOk result (changed_list base list.new ≡ filter (λ key. not (has_entry keys.now key)) (changed_list base list.old)) }
+    ensures { OnOk result (TakesOut keys.now list.old list.new) }
 {
     let mut added = Rows::new(alloc);
     for key in list.added.as_slice() {
@@ -232,7 +219,7 @@ pub(crate) fn take_out(
 
 /// The evaluations are no longer blocked, and each is ready or waits, in this order.
 pub fn wake(tables: &Tables, change: &mut Change, keys: &[EvalKey]) -> Result<(), AllocError>
-    ensures { OnOk result (view tables.now change.new ≡ woken keys.now (view tables.now change.old)) }
+    ensures { Does result tables.now change.old change.new (wake keys.now) }
 {
     for key in keys {
         set_status(tables, change, key, Status::Pending)?;
@@ -251,8 +238,8 @@ pub fn make(
     namespace: &Text,
     row: Evaluation,
 ) -> Result<(), AllocError>
-    requires { (t : Tenant) → table.get (view tables.now change.old).tenants namespace.now ≡ Some t → t.evaluation_number + 1 < 2 ^ 64 }
-    ensures { OnOk result ((t : Tenant) → table.get (view tables.now change.old).tenants namespace.now ≡ Some t → view tables.now change.new ≡ make_in namespace.now row (view tables.now change.old) t) }
+    requires { HasEvaluationLeft (view tables.now change.old) namespace.now }
+    ensures { Does result tables.now change.old change.new (make namespace.now (λ _. row)) }
 {
     let Some(mut tenant) = open(tables, change, namespace)? else {
         drop(row);

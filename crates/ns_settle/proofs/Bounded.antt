@@ -1,19 +1,19 @@
 -- Counters pass their bounds only where the change has them.
-use Rattle.std.specs.Prelude.{◌≡◌, ◌+◌, Bool, true, false, List, [], ◌∷◌, Option, Some, None, ◌&&◌, ◌||◌, option_map, is_some, map, nat_lt}
-use Rattle.std.proofs.Common.{refl, sym, ap, ◌∙◌, Ordering}
+use Rattle.std.specs.Prelude.{◌≡◌, ◌+◌, Bool, true, false, List, [], ◌∷◌, Option, Some, None, ◌&&◌, ◌||◌, is_some, map, nat_lt}
+use Rattle.std.proofs.Common.{refl, ap, ◌∙◌, Ordering}
 use Rattle.std.specs.Option.{option_map_or}
 use Rattle.std.specs.List.{list_any}
 use Rattle.std.specs.Cmp.{eq_by_cmp_equiv}
-use Rattle.std.specs.FinMap.{FinMap, entries, get, same_map}
+use Rattle.std.specs.FinMap.{FinMap, entries, get}
 use Rattle.keyed.specs.Table.{flat, row_at}
 use Rattle.ns_types.specs.State.Names.{Name, same_name, has_name}
-use Rattle.ns_types.specs.State.Rows.{World, Tenant, QuotaRows}
+use Rattle.ns_types.specs.State.Rows.{World, QuotaRows}
 use Rattle.ns_types.specs.Settling.Settle.{after_quota_release}
 use Rattle.ns_types.specs.Steps.{greatest, is_tenant_past_bound}
 use Rattle.ns_types.specs.State.Tables.{map_rows, any_row}
 use Rattle.ns_types.proofs.Lists.{any_alike, each, not_both}
 use Rattle.ns_types.proofs.Named.{names, one_name}
-use Rattle.ns_types.proofs.Tables.{each_row, entries-map_rows, get-map_rows, none_of_any}
+use Rattle.ns_types.proofs.Tables.{each_row, entries-map_rows, none_of_any}
 use Rattle.ns_change.specs.declared.change.Change.{Change}
 use Rattle.ns_change.specs.declared.change.Settled.{Settled}
 use Rattle.ns_change.specs.declared.change.TenantChange.{TenantChange}

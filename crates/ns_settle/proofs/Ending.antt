@@ -1,5 +1,5 @@
 -- Which live allocations end, by the change alone.
-use Rattle.std.specs.Prelude.{◌≡◌, ℕ, Bool, true, false, not, List, [], ◌∷◌, ◌++◌, Option, Some, None, ◌&&◌, ◌||◌, option_map, is_some, flat_map, unwrap_or}
+use Rattle.std.specs.Prelude.{◌≡◌, ℕ, Bool, true, false, not, [], ◌∷◌, Option, Some, None, ◌&&◌, ◌||◌, option_map, is_some, unwrap_or}
 use Rattle.std.specs.Prelude.{if◌then◌else◌}
 use Rattle.std.proofs.Common.{refl, sym, ap, ◌∙◌}
 use Rattle.std.specs.Option.{option_map_or, option_and_then}
@@ -14,7 +14,7 @@ use Rattle.ns_types.specs.State.Rows.{World, Tenant, is_live, allocation_at}
 use Rattle.ns_types.specs.State.Tables.{any_row}
 use Rattle.ns_types.proofs.Lists.{not_both, any_alike}
 use Rattle.ns_types.proofs.Named.{names, one_name, numbers, one_number}
-use Rattle.ns_types.proofs.Tables.{any_row-none, each_row, get-map_rows}
+use Rattle.ns_types.proofs.Tables.{any_row-none, each_row}
 use Rattle.ns_change.specs.declared.change.Change.{Change}
 use Rattle.ns_change.specs.declared.change.TenantChange.{TenantChange}
 use Rattle.ns_change.specs.Changed.{changed, changed_tenant, perhaps}

@@ -8,7 +8,6 @@ use Rattle.std.specs.Option.{option_map_or}
 use Rattle.std.specs.List.{list_any}
 use Rattle.std.specs.FinMap.{entries, get}
 use Rattle.keyed.specs.Table.{row_at}
-use Rattle.ns_types.specs.declared.event.Event.{Event}
 use Rattle.ns_types.specs.State.Names.{Name}
 use Rattle.ns_types.specs.State.Rows.{World, Tenant}
 use Rattle.ns_types.specs.Settling.Settle.{settle, wake}

@@ -1,26 +1,19 @@
 -- The room that a step gives, as the program finds it.
 use Rattle.std.specs.Prelude.{◌≡◌, Bool, true, false, cond, if◌then◌else◌, List, [], ◌∷◌, ◌++◌, Option, Some, None, flat_map, filter, map, option_map}
 use Rattle.std.proofs.Common.{refl, sym, ap, ◌∙◌}
-use Rattle.std.specs.Option.{option_map_or, option_and_then}
+use Rattle.std.specs.Option.{option_map_or}
 use Rattle.std.specs.FinMap.{entries, get}
-use Rattle.keyed.specs.Table.{row_at, row_list, rows}
-use Rattle.keyed.proofs.Tables.{get-rows}
+use Rattle.keyed.specs.Table.{row_at, row_list}
 use Rattle.ns_types.specs.declared.allocation.Allocation.{Allocation}
 use Rattle.ns_types.specs.declared.node.Node.{Node}
 use Rattle.ns_types.specs.declared.records.Namespace.{Namespace}
 use Rattle.ns_types.specs.State.Names.{Name}
 use Rattle.ns_types.specs.State.Rows.{World, PoolRows, class_of, is_free, node_at}
-use Rattle.ns_types.proofs.Named.{names, one_name}
-use Rattle.ns_types.proofs.Tables.{get-map_rows}
-use Rattle.ns_change.specs.declared.change.Change.{Change}
 use Rattle.ns_change.specs.declared.change.PoolChange.{PoolChange}
 use Rattle.ns_world.specs.declared.tables.PoolRows.{PoolRows as StoredPool}
 use Rattle.ns_world.specs.declared.tables.Tables.{Tables}
-use Rattle.ns_change.specs.Changed.{changed, changed_pool, perhaps}
 use Rattle.ns_settle.specs.Released.{changed_classes, gives_itself, in_pool, room_left, rooms_at, rooms_left}
-use Rattle.keyed.specs.Over.{over}
 use Rattle.ns_world.specs.World.{pool_of, world_of}
-use Rattle.ns_change.specs.Changed.{view}
 use Rattle.ns_world.proofs.World.{pool_at}
 
 -- slot by slot

@@ -26,7 +26,7 @@ use Rattle.ns_types.proofs.TableRows.{entries_empty, turned}
 use Rattle.ns_change.specs.declared.change.Change.{Change}
 use Rattle.ns_change.specs.declared.change.PoolChange.{PoolChange}
 use Rattle.ns_change.specs.Changed.{changed, changed_pool, perhaps}
-use Rattle.ns_settle.specs.Released.{at_ended, ended_rows, gives_itself, changed_classes, room_left, in_pool, rooms, at_room}
+use Rattle.ns_settle.specs.Released.{at_ended, ended_rows, gives_itself, changed_classes, room_left, in_pool, released_rooms, at_room}
 use Rattle.keyed.proofs.Over.{any_row-before, any_row-over, passed}
 use Rattle.ns_change.proofs.Any.{any_append, any_flat}
 use Rattle.ns_settle.proofs.Ending.{ends_is}
@@ -263,7 +263,7 @@ module _ (w : World) (c : Change) (name : Name) (passes : Class → Bool) where
         ∙ (λ i. nodes_changed i || nodes_left i)
 
   -- what is asked of a pool's released classes, the change tells
-  pub rooms_are : list_any (at_room name passes) (rooms w c) ≡ list_any passes (classes_of w then_world name)
+  pub rooms_are : list_any (at_room name passes) (released_rooms w c) ≡ list_any passes (classes_of w then_world name)
   unfolding ended_here
   rooms_are = any_append (at_room name passes) _ _
       ∙ (λ i. itself_here i || (any_flat (at_room name passes) (λ e. in_pool e.1.pool (room_left (node_at then_world e.1.pool e.1.node))) (ended_rows w c) ∙

@@ -27,7 +27,7 @@ use Rattle.ns_change.specs.declared.change.Change.{Change}
 use Rattle.ns_change.specs.declared.change.Settled.{Settled}
 use Rattle.ns_change.specs.declared.change.TenantChange.{TenantChange}
 use Rattle.ns_change.specs.Changed.{changed, changed_list, changed_pool, changed_tenant, perhaps}
-use Rattle.ns_settle.specs.Released.{at_ended, ended_rows, quota_left, quotas_of, rooms, woken_by, woken_keys}
+use Rattle.ns_settle.specs.Released.{at_ended, ended_rows, quota_left, released_quotas, released_rooms, woken_by, woken_keys}
 use Rattle.ns_change.specs.Settled.{classes_in, settled_tenant, settled_world, tell}
 use Rattle.ns_settle.specs.Settles.{IsSettled, IsTold, settled_by, settled_slot, shown_if, unshown}
 use Rattle.ns_settle.specs.Stamped.{changed_events, stamped_rows, stamped_tenant, touches}
@@ -88,7 +88,7 @@ module _ (w : World) (c : Change) where
 
   -- ---- quotas
 
-  quotas_here : (name : Name) → has_name (quotas_of w c) name ≡ ends w middle (counts_in name)
+  quotas_here : (name : Name) → has_name (released_quotas w c) name ≡ ends w middle (counts_in name)
   quotas_here name = any_flat (same_name name) (λ (e : Namespace × Allocation). quota_left e.0) (ended_rows w c) ∙
       any_alike _ (at_ended (counts_in name)) (ended_rows w c) (each _ (λ e. by e.0.quota) (ended_rows w c)) ∙ sym (ends_is w c (counts_in name))
     where
@@ -96,26 +96,26 @@ module _ (w : World) (c : Change) where
       by None = refl
       by (Some q) = or_none (same_name name q)
 
-  quota_is : (name : Name) (q : QuotaRows) → get w.quotas name ≡ Some q → releases_quota w middle name q ≡ has_name (quotas_of w c) name
+  quota_is : (name : Name) (q : QuotaRows) → get w.quotas name ≡ Some q → releases_quota w middle name q ≡ has_name (released_quotas w c) name
   unfolding releases_quota
   quota_is name q is = (λ i. option_map_or (λ old. changes_limits old q) (is i) false || sym (quotas_here name) i)
-      ∙ ap (λ b. not b || has_name (quotas_of w c) name) (same_limits_refl (limits_in q.quota.limits))
+      ∙ ap (λ b. not b || has_name (released_quotas w c) name) (same_limits_refl (limits_in q.quota.limits))
 
-  released_is : (name : Name) → is_released_quota w middle name ≡ (contains_key w.quotas name && has_name (quotas_of w c) name)
+  released_is : (name : Name) → is_released_quota w middle name ≡ (contains_key w.quotas name && has_name (released_quotas w c) name)
   unfolding changed
   released_is name = by (get w.quotas name) refl
     where
-      by : (q : Option QuotaRows) → get w.quotas name ≡ q → option_map_or (releases_quota w middle name) q false ≡ (is_some q && has_name (quotas_of w c) name)
+      by : (q : Option QuotaRows) → get w.quotas name ≡ q → option_map_or (releases_quota w middle name) q false ≡ (is_some q && has_name (released_quotas w c) name)
       by None is = refl
       by (Some q) is = quota_is name q is
 
   -- ---- wakes
 
-  wakes_is : (e : Evaluation) → wakes w middle e ≡ woken_by w (rooms w c) (quotas_of w c) e e.quota
+  wakes_is : (e : Evaluation) → wakes w middle e ≡ woken_by w (released_rooms w c) (released_quotas w c) e e.quota
   unfolding wakes
   wakes_is e = by e.quota
     where
-      by : (q : Option Name) → wakes_by w middle e q ≡ woken_by w (rooms w c) (quotas_of w c) e q
+      by : (q : Option Name) → wakes_by w middle e q ≡ woken_by w (released_rooms w c) (released_quotas w c) e q
       by (Some q) = released_is q
       by None = sym (rooms_are w c e.pool (can_use e))
 
@@ -126,10 +126,10 @@ module _ (w : World) (c : Change) where
   -- ---- release numbers
 
   pool_is : (name : Name) (p : PoolRows) → get middle.pools name ≡ Some p →
-      after_release (released_classes w middle name p) p ≡ after_release (classes_in name (rooms w c)) p
-  pool_is name p is = release_alike (released_classes w middle name p) (classes_in name (rooms w c)) p (λ passes.
+      after_release (released_classes w middle name p) p ≡ after_release (classes_in name (released_rooms w c)) p
+  pool_is name p is = release_alike (released_classes w middle name p) (classes_in name (released_rooms w c)) p (λ passes.
       ap (λ q. list_any passes (option_map_or (released_classes w middle name) q [])) (sym is) ∙ sym (rooms_are w c name passes)
-      ∙ sym (any_image passes (λ r. r.1) (λ r. same_name name r.0) (rooms w c)))
+      ∙ sym (any_image passes (λ r. r.1) (λ r. same_name name r.0) (released_rooms w c)))
 
 module _ (w : World) (c awake : Change) (s : Settled) (is : IsSettled w c awake s) where
   same_pools : (changed w awake).pools ≡ (changed w c).pools
@@ -157,9 +157,9 @@ module _ (w : World) (c awake : Change) (s : Settled) (is : IsSettled w c awake 
   pools_are : map_rows (λ name p. after_release (released_classes w (changed w c) name p) p) (changed w awake).pools ≡
       map_rows (λ name p. after_release (classes_in name s.rooms) (perhaps changed_pool (row_at s.pools name) p)) w.pools
   unfolding changed
-  pools_are = map_rows-alike names one_name _ (λ name p. after_release (classes_in name (rooms w c)) p) (changed w awake).pools
+  pools_are = map_rows-alike names one_name _ (λ name p. after_release (classes_in name (released_rooms w c)) p) (changed w awake).pools
       (λ name p at. pool_is w c name p (ap (λ m. get m name) (sym same_pools) ∙ at))
-      ∙ map_rows-twice names one_name (λ name p. after_release (classes_in name (rooms w c)) p) (λ name p. perhaps changed_pool (row_at awake.pools name) p)
+      ∙ map_rows-twice names one_name (λ name p. after_release (classes_in name (released_rooms w c)) p) (λ name p. perhaps changed_pool (row_at awake.pools name) p)
       w.pools
       ∙ (λ i. map_rows (λ name p. after_release (classes_in name (sym is.rooms i)) (perhaps changed_pool (row_at (sym is.pools i) name) p)) w.pools)
 

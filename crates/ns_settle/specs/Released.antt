@@ -39,10 +39,13 @@ at_ended passes e = passes e.0 e.1
 
 -- ---- room on nodes
 
--- a changed node gives room itself, where it is free, and is new, became free or offers otherwise
+-- a node is new, became free or offers otherwise
+abbrev pub differs : PoolRows → Name → Node → Bool
+differs p n node = option_map_or (λ old. not (is_free old) || not (same_offer old.offer node.offer)) (get p.nodes n) true
+
+-- a changed node that is free gives room itself, where it differs
 abbrev pub gives_itself : PoolRows → Name → Node → Bool
-gives_itself p n node = is_free node && option_map_or
-    (λ old. not (is_free old) || not (same_offer old.offer node.offer)) (get p.nodes n) true
+gives_itself p n node = is_free node && differs p n node
 
 abbrev pub changed_classes : World → Name → Option PoolChange → List Class
 changed_classes w name x = option_map_or
@@ -61,12 +64,25 @@ abbrev pub rooms_at : Name → PoolRows → Name × Option Node → List (Name �
 rooms_at name p e = option_map_or (λ node. if gives_itself p e.0 node then (name, class_of node) ∷ [] else []) e.1 []
 
 -- the room that an ended allocation leaves, in the world after the change
+abbrev pub room_at : World → Allocation → List (Name × Class)
+room_at w a = in_pool a.pool (room_left (node_at w a.pool a.node))
+
 abbrev pub rooms_left : World → Namespace × Allocation → List (Name × Class)
-rooms_left w e = in_pool e.1.pool (room_left (node_at w e.1.pool e.1.node))
+rooms_left w e = room_at w e.1
+
+-- the same, of a slot of an allocation and of a slot of a namespace
+abbrev pub rooms_ended : World → Tenant → ℕ × Option Allocation → List (Name × Class)
+rooms_ended w t slot = flat_map (rooms_left w) (ended_one t slot.0 slot.1)
+
+abbrev pub rooms_ended_in : World → World → Name × Option TenantChange → List (Name × Class)
+rooms_ended_in w w' slot = flat_map (rooms_left w') (ended_of w slot.0 slot.1)
 
 -- the released classes, each with its pool, in no order and perhaps twice
-abbrev pub rooms : World → Change → List (Name × Class)
-rooms w c = flat_map (λ e. in_pool e.0 (changed_classes w e.0 e.1)) (entries c.pools)
+abbrev pub rooms_of_pool : World → Name × Option PoolChange → List (Name × Class)
+rooms_of_pool w slot = in_pool slot.0 (changed_classes w slot.0 slot.1)
+
+abbrev pub released_rooms : World → Change → List (Name × Class)
+released_rooms w c = flat_map (rooms_of_pool w) (entries c.pools)
     ++ flat_map (rooms_left (changed w c)) (ended_rows w c)
 
 -- a test of a class of that pool
@@ -79,8 +95,15 @@ abbrev pub quota_left : Namespace → List Name
 quota_left namespace = option_map_or (λ quota. quota ∷ []) namespace.quota []
 
 -- the quotas of namespaces that lost a live allocation, perhaps twice
-abbrev pub quotas_of : World → Change → List Name
-quotas_of w c = flat_map (λ e. quota_left e.0) (ended_rows w c)
+abbrev pub released_quotas : World → Change → List Name
+released_quotas w c = flat_map (λ e. quota_left e.0) (ended_rows w c)
+
+-- the same, of a slot of an allocation and of a slot of a namespace
+abbrev pub quotas_ended : Tenant → ℕ × Option Allocation → List Name
+quotas_ended t slot = flat_map (λ e. quota_left e.0) (ended_one t slot.0 slot.1)
+
+abbrev pub quotas_ended_in : World → Name × Option TenantChange → List Name
+quotas_ended_in w slot = flat_map (λ e. quota_left e.0) (ended_of w slot.0 slot.1)
 
 -- ---- whom that wakes
 
@@ -88,18 +111,27 @@ abbrev pub woken_by : World → List (Name × Class) → List Name → Evaluatio
 woken_by w rooms quotas e (Some quota) = contains_key w.quotas quota && has_name quotas quota
 woken_by w rooms quotas e None = list_any (at_room e.pool (can_use e)) rooms
 
+-- whether such releases wake the evaluation, by the quota that limits it
+abbrev pub releases_wake : World → List (Name × Class) → List Name → Evaluation → Bool
+releases_wake w rooms quotas e = woken_by w rooms quotas e e.quota
+
+abbrev pub releases_wake_at : World → List (Name × Class) → List Name → Key → Bool
+releases_wake_at w rooms quotas key = option_map_or (releases_wake w rooms quotas) (evaluation_at w key) false
+
 -- the entries of `blocked` that such releases wake
 abbrev pub woken_from : World → Change → List (Name × Class) → List Name → List Key
-woken_from w c rooms quotas = filter (λ key. has_key (changed w c).blocked key
-    && option_map_or (λ e. woken_by w rooms quotas e e.quota) (evaluation_at w key) false) w.blocked
+woken_from w c rooms quotas =
+    filter (λ key. has_key (changed w c).blocked key && releases_wake_at w rooms quotas key) w.blocked
 
 abbrev pub woken_keys : World → Change → List Key
-woken_keys w c = woken_from w c (rooms w c) (quotas_of w c)
+woken_keys w c = woken_from w c (released_rooms w c) (released_quotas w c)
 
--- the test of an entry, by what goes out of the list and what comes in
+-- an entry that was there is there still, by what goes out of the list and what comes in
+abbrev pub stays : ListChange → Key → Bool
+stays x key = not (has_key x.taken key) || has_key x.added key
+
 abbrev pub is_woken : World → ListChange → List (Name × Class) → List Name → Key → Bool
-is_woken w x rooms quotas key = (not (has_key x.taken key) || has_key x.added key)
-    && option_map_or (λ e. woken_by w rooms quotas e e.quota) (evaluation_at w key) false
+is_woken w x rooms quotas key = stays x key && releases_wake_at w rooms quotas key
 
 abbrev pub ended_list : Tenant → Option Allocation → List (Namespace × Allocation)
 ended_list t a = option_map_or (λ a. (t.namespace, a) ∷ []) a []

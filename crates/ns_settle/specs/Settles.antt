@@ -15,7 +15,7 @@ use Rattle.ns_change.specs.declared.change.SettledTenant.{SettledTenant}
 use Rattle.ns_change.specs.declared.change.TenantChange.{TenantChange}
 use Rattle.ns_change.specs.Changed.{changed, perhaps}
 use Rattle.ns_change.specs.Settled.{settled_tenant, settled_world}
-use Rattle.ns_settle.specs.Released.{quotas_of, rooms, woken_keys}
+use Rattle.ns_settle.specs.Released.{released_quotas, released_rooms, woken_keys}
 use Rattle.ns_settle.specs.Stamped.{changed_events, stamped_rows, stamped_tenant, touches}
 
 -- the changed rows have their index, and their events are told
@@ -40,8 +40,8 @@ settled_by w c awake = record {
   ready = awake.ready;
   plans = awake.plans;
   blocked = awake.blocked;
-  rooms = rooms w c;
-  quotas = quotas_of w c;
+  rooms = released_rooms w c;
+  quotas = released_quotas w c;
 }
 
 abbrev pub IsTold : World → Change → Settled → Type 0
@@ -56,8 +56,8 @@ pub record IsSettled (w : World) (c awake : Change) (s : Settled) : Type 0 where
   pub ready : s.ready ≡ awake.ready
   pub plans : s.plans ≡ awake.plans
   pub blocked : s.blocked ≡ awake.blocked
-  pub rooms : s.rooms ≡ rooms w c
-  pub quotas : s.quotas ≡ quotas_of w c
+  pub rooms : s.rooms ≡ released_rooms w c
+  pub quotas : s.quotas ≡ released_quotas w c
 
 -- ---- an index at its bound
 

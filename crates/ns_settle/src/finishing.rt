@@ -1,22 +1,19 @@
 //! The end of a step: blocked evaluations wake, and changed rows get their indexes and events.
 
-ghost use Rattle.std.specs.Prelude.{◌≡◌, ◌+◌, ◌<◌, ◌^◌, false, map, nat_lt, option_map, IfOk, Some};
-ghost use Rattle.std.specs.FinMap as table;
+ghost use Rattle.std.specs.Prelude.{◌≡◌, ◌+◌, false, nat_lt, IfOk, Some};
+ghost use Rattle.std.specs.FinMap.{entries};
 ghost use Rattle.std.specs.List.{list_any};
-ghost use Rattle.ns_types.specs.Settling.Settle.{stamped_allocation, stamped_evaluation};
 ghost use Rattle.ns_types.specs.Steps.{greatest};
-ghost use Rattle.ns_types.specs.State.Tables.{map_rows, table_of};
+ghost use Rattle.ns_types.specs.State.Tables.{table_of};
 ghost use Rattle.ns_change.specs.Changed.{view};
-ghost use Rattle.ns_settle.specs.Settles.{SettlesTo, is_last as is_last_in, settled_slot};
-ghost use Rattle.ns_settle.specs.Stamped.{changed_topics};
+ghost use Rattle.ns_settle.specs.Settles.{SettlesTo, is_last, settled_slot};
+ghost use Rattle.ns_settle.specs.Stamped.{events_at, stamp_change};
 ghost use Rattle.ns_world.specs.World.{tenant_of, world_of};
 
 use crate::blocked::woken_keys;
 use crate::giving::released_rooms;
 use crate::releasing::released_quotas;
-use crate::stamping::{
-    stamp_allocations, stamp_evaluations, tell_allocations, tell_evaluations, tell_jobs, touches,
-};
+use crate::stamping::{stamp_rows, tell_jobs, tell_rows, touches};
 use keyed::NameTable;
 use ns_change::{Change, Settled, SettledTenant, TenantChange, wake};
 use ns_types::event::Event;
@@ -35,12 +32,22 @@ fn events_at(
     index: u64,
     change: &TenantChange,
 ) -> Result<Rows<Event>, AllocError>
-    ensures { IfOk result (λ events. events ≡ map (λ topic. record { index = index; topic = topic }) (changed_topics (tenant_of tenant.now) change.now)) }
+    ensures { IfOk result (λ events. events ≡ events_at index (tenant_of tenant.now) change.now) }
 {
     let mut events = Rows::new(alloc);
     tell_jobs(&mut events, tenant, index, change.jobs.as_slice())?;
-    tell_evaluations(&mut events, tenant, index, change.evaluations.as_slice())?;
-    tell_allocations(&mut events, tenant, index, change.allocations.as_slice())?;
+    tell_rows(
+        &mut events,
+        &tenant.evaluations,
+        index,
+        change.evaluations.as_slice(),
+    )?;
+    tell_rows(
+        &mut events,
+        &tenant.allocations,
+        index,
+        change.allocations.as_slice(),
+    )?;
     Ok(events)
 }
 
@@ -53,7 +60,7 @@ fn is_at_bound(index: u64) -> bool
 
 /// Whether a row of the namespace changed, and its index can not rise any more.
 fn is_last(tables: &Tables, slot: &TenantSlot) -> bool
-    ensures { result ≡ is_last_in (world_of tables.now) slot.now.0 slot.now.1 }
+    ensures { result ≡ is_last (world_of tables.now) slot.now.0 slot.now.1 }
 {
     let Some(change) = &slot.1 else {
         return false;
@@ -65,17 +72,14 @@ fn is_last(tables: &Tables, slot: &TenantSlot) -> bool
 }
 
 fn any_last(tables: &Tables, slots: &[TenantSlot]) -> bool
-    ensures { result ≡ list_any (λ e. is_last_in (world_of tables.now) e.0 e.1) slots.now }
+    ensures { result ≡ list_any (λ e. is_last (world_of tables.now) e.0 e.1) slots.now }
 {
     slots.iter().any(|slot| is_last(tables, slot))
 }
 
 /// The changed rows of a namespace with the index.
-fn stamp_rows(tenant: &TenantRows, index: u64, change: TenantChange) -> TenantChange
-    ensures { result ≡ record change {
-      evaluations = map_rows (λ n row. option_map (stamped_evaluation index (tenant_of tenant.now) n) row) change.evaluations;
-      allocations = map_rows (λ n row. option_map (stamped_allocation index (tenant_of tenant.now) n) row) change.allocations;
-    } }
+fn stamp_change(tenant: &TenantRows, index: u64, change: TenantChange) -> TenantChange
+    ensures { result ≡ stamp_change index (tenant_of tenant.now) change }
 {
     let TenantChange {
         evaluation_number,
@@ -89,8 +93,8 @@ fn stamp_rows(tenant: &TenantRows, index: u64, change: TenantChange) -> TenantCh
         evaluation_number,
         allocation_number,
         jobs,
-        evaluations: stamp_evaluations(tenant, index, evaluations),
-        allocations: stamp_allocations(tenant, index, allocations),
+        evaluations: stamp_rows(&tenant.evaluations, index, evaluations),
+        allocations: stamp_rows(&tenant.allocations, index, allocations),
         workers,
     }
 }
@@ -101,8 +105,9 @@ fn settle_tenant(
     namespace: &Text,
     change: TenantChange,
 ) -> Result<SettledTenant, AllocError>
-    requires { is_last_in (world_of tables.now) namespace.now (Some change) ≡ false }
-    ensures { IfOk result (λ settled. Some settled ≡ settled_slot (world_of tables.now) namespace.now (Some change)) }
+    requires { is_last (world_of tables.now) namespace.now (Some change) ≡ false }
+    ensures { IfOk result (λ settled. Some settled
+        ≡ settled_slot (world_of tables.now) namespace.now (Some change)) }
 {
     let Some(tenant) = tables.tenants.get(namespace) else {
         return Ok(SettledTenant {
@@ -119,7 +124,7 @@ fn settle_tenant(
     let index = tenant.index + 1;
     let events = events_at(tables.alloc, tenant, index, &change)?;
     Ok(SettledTenant {
-        rows: stamp_rows(tenant, index, change),
+        rows: stamp_change(tenant, index, change),
         events: Some(events),
     })
 }
@@ -129,7 +134,7 @@ fn settle_slot(
     namespace: &Text,
     slot: Option<TenantChange>,
 ) -> Result<Option<SettledTenant>, AllocError>
-    requires { is_last_in (world_of tables.now) namespace.now slot ≡ false }
+    requires { is_last (world_of tables.now) namespace.now slot ≡ false }
     ensures { IfOk result (λ settled. settled ≡ settled_slot (world_of tables.now) namespace.now slot) }
 {
     match slot {
@@ -143,7 +148,7 @@ fn settle_tenants(
     tables: &Tables,
     tenants: NameTable<TenantChange>,
 ) -> Result<NameTable<SettledTenant>, AllocError>
-    requires { list_any (λ e. is_last_in (world_of tables.now) e.0 e.1) (table.entries tenants) ≡ false }
+    requires { list_any (λ e. is_last (world_of tables.now) e.0 e.1) (entries tenants) ≡ false }
     ensures { IfOk result (λ settled. settled ≡ table_of (settled_slot (world_of tables.now)) tenants) }
 {
     let mut rows = Vec::new(tables.alloc);

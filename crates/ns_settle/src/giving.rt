@@ -1,12 +1,9 @@
 //! The room on nodes that a step gives, by its change.
 
-ghost use Rattle.std.specs.Prelude.{◌≡◌, ◌∷◌, ◌++◌, ◌||◌, [], flat_map, not, true, IfOk, OnOk};
-ghost use Rattle.std.specs.FinMap as table;
-ghost use Rattle.std.specs.Option.{option_map_or};
-ghost use Rattle.ns_types.specs.declared.records.Namespace.{Namespace};
-ghost use Rattle.ns_types.specs.Settling.Releases.{same_offer as offer_is};
-ghost use Rattle.ns_types.specs.State.Rows.{class_of as class_is_of, is_free as takes};
-ghost use Rattle.ns_settle.specs.Released.{changed_classes, ended_of, ended_one, gives_itself as gives, in_pool, rooms as rooms_of, rooms_at, rooms_left};
+ghost use Rattle.std.specs.Prelude.{◌≡◌, ◌∷◌, ◌++◌, [], flat_map, IfOk, OnOk};
+ghost use Rattle.ns_types.specs.State.Rows.{class_of};
+ghost use Rattle.ns_settle.specs.Released.{differs, gives_itself, released_rooms, room_at, rooms_at};
+ghost use Rattle.ns_settle.specs.Released.{rooms_ended, rooms_ended_in, rooms_of_pool};
 ghost use Rattle.ns_world.specs.World.{pool_of, tenant_of, world_of};
 ghost use Rattle.ns_change.specs.Changed.{view};
 
@@ -35,7 +32,7 @@ type TenantSlot = (Text, Option<TenantChange>);
 
 /// Whether the node was not free before, or offered otherwise.
 fn differs(rows: &PoolRows, name: &Text, node: &Node) -> bool
-    ensures { result ≡ option_map_or (λ old. not (takes old) || not (offer_is old.offer node.now.offer)) (table.get (pool_of rows.now).nodes name.now) true }
+    ensures { result ≡ differs (pool_of rows.now) name.now node.now }
 {
     match rows.nodes.get(name) {
         Some(old) => !is_free(old) || !same_offer(&old.offer, &node.offer),
@@ -44,7 +41,7 @@ fn differs(rows: &PoolRows, name: &Text, node: &Node) -> bool
 }
 
 fn gives_itself(rows: &PoolRows, name: &Text, node: &Node) -> bool
-    ensures { result ≡ gives (pool_of rows.now) name.now node.now }
+    ensures { result ≡ gives_itself (pool_of rows.now) name.now node.now }
 {
     is_free(node) && differs(rows, name, node)
 }
@@ -55,7 +52,7 @@ fn add_room(
     pool: &Text,
     node: &Node,
 ) -> Result<(), AllocError>
-    ensures { OnOk result (rooms.new ≡ rooms.old ++ (pool.now, class_is_of node.now) ∷ []) }
+    ensures { OnOk result (rooms.new ≡ rooms.old ++ (pool.now, class_of node.now) ∷ []) }
 {
     let class = class_of(alloc, node)?;
     rooms.push((pool.clone()?, class))
@@ -85,7 +82,8 @@ fn add_all_changed(
     rows: &PoolRows,
     slots: &[NodeSlot],
 ) -> Result<(), AllocError>
-    ensures { OnOk result (rooms.new ≡ rooms.old ++ flat_map (rooms_at pool.now (pool_of rows.now)) slots.now) }
+    ensures { OnOk result (rooms.new ≡ rooms.old
+        ++ flat_map (rooms_at pool.now (pool_of rows.now)) slots.now) }
 {
     for slot in slots {
         add_changed(rooms, alloc, pool, rows, slot)?;
@@ -95,7 +93,7 @@ fn add_all_changed(
 
 /// The classes of a pool's nodes that give room themselves.
 fn add_pool(rooms: &mut Rows<Room>, tables: &Tables, slot: &PoolSlot) -> Result<(), AllocError>
-    ensures { OnOk result (rooms.new ≡ rooms.old ++ in_pool slot.now.0 (changed_classes (world_of tables.now) slot.now.0 slot.now.1)) }
+    ensures { OnOk result (rooms.new ≡ rooms.old ++ rooms_of_pool (world_of tables.now) slot.now) }
 {
     if let Some(change) = &slot.1 {
         if let Some(rows) = tables.pools.get(&slot.0) {
@@ -106,7 +104,8 @@ fn add_pool(rooms: &mut Rows<Room>, tables: &Tables, slot: &PoolSlot) -> Result<
 }
 
 fn add_pools(rooms: &mut Rows<Room>, tables: &Tables, slots: &[PoolSlot]) -> Result<(), AllocError>
-    ensures { OnOk result (rooms.new ≡ rooms.old ++ flat_map (λ e. in_pool e.0 (changed_classes (world_of tables.now) e.0 e.1)) slots.now) }
+    ensures { OnOk result (rooms.new ≡ rooms.old
+        ++ flat_map (rooms_of_pool (world_of tables.now)) slots.now) }
 {
     for slot in slots {
         add_pool(rooms, tables, slot)?;
@@ -121,7 +120,8 @@ fn add_left(
     change: &Change,
     allocation: &Allocation,
 ) -> Result<(), AllocError>
-    ensures { OnOk result ((n : Namespace) → rooms.new ≡ rooms.old ++ rooms_left (view tables.now change.now) (n, allocation.now)) }
+    ensures { OnOk result (rooms.new ≡ rooms.old
+        ++ room_at (view tables.now change.now) allocation.now) }
 {
     if let Some(node) = node(tables, change, &allocation.pool, &allocation.node) {
         if is_free(node) {
@@ -138,7 +138,8 @@ fn add_ended(
     tenant: &TenantRows,
     slot: &AllocationSlot,
 ) -> Result<(), AllocError>
-    ensures { OnOk result (rooms.new ≡ rooms.old ++ flat_map (rooms_left (view tables.now change.now)) (ended_one (tenant_of tenant.now) slot.now.0 slot.now.1)) }
+    ensures { OnOk result (rooms.new ≡ rooms.old
+        ++ rooms_ended (view tables.now change.now) (tenant_of tenant.now) slot.now) }
 {
     if let Some(allocation) = ended(tenant, slot) {
         add_left(rooms, tables, change, allocation)?;
@@ -153,7 +154,8 @@ fn add_all_ended(
     tenant: &TenantRows,
     slots: &[AllocationSlot],
 ) -> Result<(), AllocError>
-    ensures { OnOk result (rooms.new ≡ rooms.old ++ flat_map (λ s. flat_map (rooms_left (view tables.now change.now)) (ended_one (tenant_of tenant.now) s.0 s.1)) slots.now) }
+    ensures { OnOk result (rooms.new ≡ rooms.old
+        ++ flat_map (rooms_ended (view tables.now change.now) (tenant_of tenant.now)) slots.now) }
 {
     for slot in slots {
         add_ended(rooms, tables, change, tenant, slot)?;
@@ -167,7 +169,8 @@ fn add_tenant(
     change: &Change,
     slot: &TenantSlot,
 ) -> Result<(), AllocError>
-    ensures { OnOk result (rooms.new ≡ rooms.old ++ flat_map (rooms_left (view tables.now change.now)) (ended_of (world_of tables.now) slot.now.0 slot.now.1)) }
+    ensures { OnOk result (rooms.new ≡ rooms.old
+        ++ rooms_ended_in (world_of tables.now) (view tables.now change.now) slot.now) }
 {
     if let Some(changed) = &slot.1 {
         if let Some(tenant) = tables.tenants.get(&slot.0) {
@@ -189,7 +192,8 @@ fn add_tenants(
     change: &Change,
     slots: &[TenantSlot],
 ) -> Result<(), AllocError>
-    ensures { OnOk result (rooms.new ≡ rooms.old ++ flat_map (λ s. flat_map (rooms_left (view tables.now change.now)) (ended_of (world_of tables.now) s.0 s.1)) slots.now) }
+    ensures { OnOk result (rooms.new ≡ rooms.old ++ flat_map
+        (rooms_ended_in (world_of tables.now) (view tables.now change.now)) slots.now) }
 {
     for slot in slots {
         add_tenant(rooms, tables, change, slot)?;
@@ -199,7 +203,7 @@ fn add_tenants(
 
 /// The classes of all nodes that give room, each with its pool, in no order and perhaps twice.
 pub fn released_rooms(tables: &Tables, change: &Change) -> Result<Rows<Room>, AllocError>
-    ensures { IfOk result (λ rooms. rooms ≡ rooms_of (world_of tables.now) change.now) }
+    ensures { IfOk result (λ rooms. rooms ≡ released_rooms (world_of tables.now) change.now) }
 {
     let mut rooms = Rows::new(tables.alloc);
     add_pools(&mut rooms, tables, change.pools.as_slice())?;

@@ -2,8 +2,8 @@
 
 ghost use Rattle.std.specs.Prelude.{◌≡◌, ◌++◌, false, flat_map, IfOk, OnOk, option_copied};
 ghost use Rattle.std.specs.Option.{option_map_or};
-ghost use Rattle.ns_types.specs.State.Rows.{is_live as lives};
-ghost use Rattle.ns_settle.specs.Released.{ended_list, ended_of, ended_one, quota_left, quotas_of};
+ghost use Rattle.ns_types.specs.State.Rows.{is_live};
+ghost use Rattle.ns_settle.specs.Released.{ended_list, ended_one, quotas_ended, quotas_ended_in, released_quotas};
 ghost use Rattle.ns_world.specs.World.{tenant_of, world_of};
 
 use ns_change::{Change, TenantChange};
@@ -20,7 +20,7 @@ type AllocationSlot = (u64, Option<Allocation>);
 type TenantSlot = (Text, Option<TenantChange>);
 
 fn is_live(allocation: &Allocation) -> bool
-    ensures { result ≡ lives allocation.now }
+    ensures { result ≡ is_live allocation.now }
 {
     let runs = match allocation.desired {
         DesiredStatus::Run => true,
@@ -38,7 +38,7 @@ fn is_live(allocation: &Allocation) -> bool
 }
 
 fn lives_on(row: Option<&Allocation>) -> bool
-    ensures { result ≡ option_map_or lives (option_copied row.entry) false }
+    ensures { result ≡ option_map_or is_live (option_copied row.entry) false }
 {
     match row {
         Some(row) => is_live(row),
@@ -48,7 +48,8 @@ fn lives_on(row: Option<&Allocation>) -> bool
 
 /// The allocation as it was, if it was live and is not live any more.
 pub fn ended<'a>(tenant: &'a TenantRows, slot: &AllocationSlot) -> Option<&'a Allocation>
-    ensures { ended_one (tenant_of tenant.now) slot.now.0 slot.now.1 ≡ ended_list (tenant_of tenant.now) (option_copied result) }
+    ensures { ended_one (tenant_of tenant.now) slot.now.0 slot.now.1
+        ≡ ended_list (tenant_of tenant.now) (option_copied result) }
 {
     let Some(old) = tenant.allocations.get(slot.0) else {
         return None;
@@ -63,7 +64,7 @@ fn add_quota(
     tenant: &TenantRows,
     slot: &AllocationSlot,
 ) -> Result<(), AllocError>
-    ensures { OnOk result (quotas.new ≡ quotas.old ++ flat_map (λ e. quota_left e.0) (ended_one (tenant_of tenant.now) slot.now.0 slot.now.1)) }
+    ensures { OnOk result (quotas.new ≡ quotas.old ++ quotas_ended (tenant_of tenant.now) slot.now) }
 {
     if ended(tenant, slot).is_none() {
         return Ok(());
@@ -79,7 +80,8 @@ fn add_quotas(
     tenant: &TenantRows,
     slots: &[AllocationSlot],
 ) -> Result<(), AllocError>
-    ensures { OnOk result (quotas.new ≡ quotas.old ++ flat_map (λ s. flat_map (λ e. quota_left e.0) (ended_one (tenant_of tenant.now) s.0 s.1)) slots.now) }
+    ensures { OnOk result (quotas.new ≡ quotas.old
+        ++ flat_map (quotas_ended (tenant_of tenant.now)) slots.now) }
 {
     for slot in slots {
         add_quota(quotas, tenant, slot)?;
@@ -92,7 +94,7 @@ fn add_quotas_of(
     tables: &Tables,
     slot: &TenantSlot,
 ) -> Result<(), AllocError>
-    ensures { OnOk result (quotas.new ≡ quotas.old ++ flat_map (λ e. quota_left e.0) (ended_of (world_of tables.now) slot.now.0 slot.now.1)) }
+    ensures { OnOk result (quotas.new ≡ quotas.old ++ quotas_ended_in (world_of tables.now) slot.now) }
 {
     if let Some(change) = &slot.1 {
         if let Some(tenant) = tables.tenants.get(&slot.0) {
@@ -104,7 +106,7 @@ fn add_quotas_of(
 
 /// The quotas of all namespaces that lost a live allocation.
 pub fn released_quotas(tables: &Tables, change: &Change) -> Result<Rows<Text>, AllocError>
-    ensures { IfOk result (λ quotas. quotas ≡ quotas_of (world_of tables.now) change.now) }
+    ensures { IfOk result (λ quotas. quotas ≡ released_quotas (world_of tables.now) change.now) }
 {
     let mut quotas = Rows::new(tables.alloc);
     for slot in change.tenants.as_slice() {

@@ -1,16 +1,16 @@
 //! Changed rows get their namespace's next index, and an event each.
 
-ghost use Rattle.std.specs.Prelude.{◌≡◌, ◌++◌, map, filter, option_map, IfOk, OnOk};
+ghost use Rattle.std.specs.Prelude.{◌≡◌, ◌++◌, true, IfOk, OnOk};
 ghost use Rattle.std.specs.List.{list_any};
 ghost use Rattle.std.specs.Option.{option_map_or};
-ghost use Rattle.std.specs.Prelude.{true};
-ghost use Rattle.std.specs.FinMap as table;
-ghost use Rattle.keyed.specs.Table.{at_slot};
-ghost use Rattle.ns_types.specs.declared.event.Topic.TheVariants as Topic;
-ghost use Rattle.ns_types.specs.Settling.Settle.{changes_allocation as is_allocation_changed, changes_evaluation as is_changed, created_at as made_at, is_changed as is_row_changed, stamped_allocation, stamped_evaluation};
-ghost use Rattle.ns_types.specs.Settling.Same.{same_job as same_job_row};
+ghost use Rattle.std.specs.FinMap.{contains_key, get};
+ghost use Rattle.keyed.specs.Table.{rows};
+ghost use Rattle.ns_types.specs.Settling.Same.{same_job};
+ghost use Rattle.ns_types.specs.Settling.Settle.{is_changed};
 ghost use Rattle.ns_types.specs.State.Tables.{map_rows};
-ghost use Rattle.ns_settle.specs.Stamped.{changes_job_row, row_topic, touches as is_touched};
+ghost use Rattle.ns_settle.specs.Stamped.{Kind, allocations_shown, changes_job_slot, changes_row, changes_slot};
+ghost use Rattle.ns_settle.specs.Stamped.{evaluations_shown, job_topic, made_at, stamped_row, stamped_slot, told};
+ghost use Rattle.ns_settle.specs.Stamped.{topic_at, touches};
 ghost use Rattle.ns_world.specs.World.{tenant_of};
 
 use keyed::NumberTable;
@@ -28,176 +28,148 @@ use std::alloc::AllocError;
 /// A changed job with its id, or one that is gone.
 type JobSlot = (Text, Option<Job>);
 
-/// A changed evaluation with its number, or a vacant slot.
-type EvaluationSlot = (u64, Option<Evaluation>);
+/// A row that replies show, under its number in a namespace.
+pub trait Shown: Drop {
+    /// How it is shown.
+    ghost kind: { Kind Self };
 
-/// A changed allocation with its number, or a vacant slot.
-type AllocationSlot = (u64, Option<Allocation>);
+    /// Whether replies show both alike.
+    fn is_alike(&self, other: &Self) -> bool
+        ensures { result ≡ kind.same self.now other.now };
 
-/// Whether the evaluation is new, or shown otherwise than before.
-fn changes_evaluation(tenant: &TenantRows, number: u64, row: &Evaluation) -> bool
-    ensures { result ≡ is_changed (tenant_of tenant.now) number row.now }
+    /// The index at which it was made.
+    fn made(&self) -> u64
+        ensures { result ≡ kind.made self.now };
+
+    /// Gives it both indexes.
+    fn mark(&mut self, made: u64, index: u64)
+        ensures { self.new ≡ kind.marked made index self.old };
+
+    /// The topic of its event.
+    fn topic(number: u64) -> Topic
+        ensures { result ≡ kind.topic number };
+}
+
+impl Shown for Evaluation {
+    ghost kind = { evaluations_shown };
+
+    fn is_alike(&self, other: &Evaluation) -> bool {
+        same_evaluation(self, other)
+    }
+
+    fn made(&self) -> u64 {
+        self.create_index
+    }
+
+    fn mark(&mut self, made: u64, index: u64) {
+        self.create_index = made;
+        self.modify_index = index;
+    }
+
+    fn topic(number: u64) -> Topic {
+        Topic::EvaluationUpdated(number)
+    }
+}
+
+impl Shown for Allocation {
+    ghost kind = { allocations_shown };
+
+    fn is_alike(&self, other: &Allocation) -> bool {
+        same_allocation(self, other)
+    }
+
+    fn made(&self) -> u64 {
+        self.create_index
+    }
+
+    fn mark(&mut self, made: u64, index: u64) {
+        self.create_index = made;
+        self.modify_index = index;
+    }
+
+    fn topic(number: u64) -> Topic {
+        Topic::AllocationUpdated(number)
+    }
+}
+
+/// Whether the row is new, or shown otherwise than before.
+fn changes_row<R: Shown>(before: &NumberTable<R>, number: u64, row: &R) -> bool
+    ensures { result ≡ changes_row R.kind (rows before.now) number row.now }
 {
-    match tenant.evaluations.get(number) {
-        Some(old) => !same_evaluation(old, row),
+    match before.get(number) {
+        Some(old) => !old.is_alike(row),
         None => true,
     }
 }
 
-fn changes_slot(tenant: &TenantRows, slot: &EvaluationSlot) -> bool
-    ensures { result ≡ at_slot (λ e. is_changed (tenant_of tenant.now) e.0 e.1) slot.now }
+fn changes_slot<R: Shown>(before: &NumberTable<R>, slot: &(u64, Option<R>)) -> bool
+    ensures { result ≡ changes_slot R.kind (rows before.now) slot.now }
 {
     match &slot.1 {
-        Some(row) => changes_evaluation(tenant, slot.0, row),
+        Some(row) => changes_row(before, slot.0, row),
         None => false,
     }
 }
 
-/// An event of each changed evaluation, by number.
-pub fn tell_evaluations(
+/// An event of each changed row, by number.
+pub fn tell_rows<R: Shown>(
     events: &mut Rows<Event>,
-    tenant: &TenantRows,
+    before: &NumberTable<R>,
     index: u64,
-    slots: &[EvaluationSlot],
+    slots: &[(u64, Option<R>)],
 ) -> Result<(), AllocError>
-    ensures { OnOk result (events.new ≡ events.old ++ map (λ e. record { index = index; topic = Topic.EvaluationUpdated e.0 }) (filter (at_slot (λ e. is_changed (tenant_of tenant.now) e.0 e.1)) slots.now)) }
+    ensures { OnOk result (events.new ≡ events.old
+        ++ told index (topic_at R.kind) (changes_slot R.kind (rows before.now)) slots.now) }
 {
     for slot in slots {
-        if changes_slot(tenant, slot) {
-            events.push(Event {
-                index,
-                topic: Topic::EvaluationUpdated(slot.0),
-            })?;
+        if changes_slot(before, slot) {
+            let topic = R::topic(slot.0);
+            events.push(Event { index, topic })?;
         }
     }
     Ok(())
 }
 
-/// The index at which the evaluation was made.
-fn created_at(tenant: &TenantRows, index: u64, number: u64) -> u64
-    ensures { result ≡ made_at index (table.get (tenant_of tenant.now).evaluations number) (λ old. old.create_index) }
+/// The index at which the row was made.
+fn made_at<R: Shown>(before: &NumberTable<R>, index: u64, number: u64) -> u64
+    ensures { result ≡ made_at R.kind index (rows before.now) number }
 {
-    match tenant.evaluations.get(number) {
-        Some(old) => old.create_index,
+    match before.get(number) {
+        Some(old) => old.made(),
         None => index,
     }
 }
 
-/// A changed evaluation gets the index.
-fn stamp(tenant: &TenantRows, index: u64, number: u64, row: &mut Evaluation)
-    ensures { row.new ≡ stamped_evaluation index (tenant_of tenant.now) number row.old }
+/// A changed row gets the index.
+fn stamp<R: Shown>(before: &NumberTable<R>, index: u64, number: u64, row: &mut R)
+    ensures { row.new ≡ stamped_row R.kind index (rows before.now) number row.old }
 {
-    if changes_evaluation(tenant, number, row) {
-        row.create_index = created_at(tenant, index, number);
-        row.modify_index = index;
+    if changes_row(before, number, row) {
+        row.mark(made_at(before, index, number), index);
     }
 }
 
-fn stamp_slot(tenant: &TenantRows, index: u64, slot: &mut EvaluationSlot)
-    ensures { slot.new ≡ (slot.old.0, option_map (stamped_evaluation index (tenant_of tenant.now) slot.old.0) slot.old.1) }
+fn stamp_slot<R: Shown>(before: &NumberTable<R>, index: u64, slot: &mut (u64, Option<R>))
+    ensures { slot.new
+        ≡ (slot.old.0, stamped_slot R.kind index (rows before.now) slot.old.0 slot.old.1) }
 {
     let number = slot.0;
     if let Some(row) = &mut slot.1 {
-        stamp(tenant, index, number, row);
+        stamp(before, index, number, row);
     }
 }
 
-/// The changed evaluations with the index.
-pub fn stamp_evaluations(
-    tenant: &TenantRows,
+/// The changed rows with the index.
+pub fn stamp_rows<R: Shown>(
+    before: &NumberTable<R>,
     index: u64,
-    changes: NumberTable<Evaluation>,
-) -> NumberTable<Evaluation>
-    ensures { result ≡ map_rows (λ n row. option_map (stamped_evaluation index (tenant_of tenant.now) n) row) changes }
+    changes: NumberTable<R>,
+) -> NumberTable<R>
+    ensures { result ≡ map_rows (stamped_slot R.kind index (rows before.now)) changes }
 {
     let mut slots = changes.into_slots();
     for slot in slots.iter_mut() {
-        stamp_slot(tenant, index, slot);
-    }
-    NumberTable::from_slots(slots)
-}
-
-// ---- allocations
-
-/// Whether the allocation is new, or shown otherwise than before.
-fn changes_allocation(tenant: &TenantRows, number: u64, row: &Allocation) -> bool
-    ensures { result ≡ is_allocation_changed (tenant_of tenant.now) number row.now }
-{
-    match tenant.allocations.get(number) {
-        Some(old) => !same_allocation(old, row),
-        None => true,
-    }
-}
-
-fn changes_allocation_slot(tenant: &TenantRows, slot: &AllocationSlot) -> bool
-    ensures { result ≡ at_slot (λ e. is_allocation_changed (tenant_of tenant.now) e.0 e.1) slot.now }
-{
-    match &slot.1 {
-        Some(row) => changes_allocation(tenant, slot.0, row),
-        None => false,
-    }
-}
-
-/// An event of each changed allocation, by number.
-pub fn tell_allocations(
-    events: &mut Rows<Event>,
-    tenant: &TenantRows,
-    index: u64,
-    slots: &[AllocationSlot],
-) -> Result<(), AllocError>
-    ensures { OnOk result (events.new ≡ events.old ++ map (λ e. record { index = index; topic = Topic.AllocationUpdated e.0 }) (filter (at_slot (λ e. is_allocation_changed (tenant_of tenant.now) e.0 e.1)) slots.now)) }
-{
-    for slot in slots {
-        if changes_allocation_slot(tenant, slot) {
-            events.push(Event {
-                index,
-                topic: Topic::AllocationUpdated(slot.0),
-            })?;
-        }
-    }
-    Ok(())
-}
-
-/// The index at which the allocation was made.
-fn allocation_created_at(tenant: &TenantRows, index: u64, number: u64) -> u64
-    ensures { result ≡ made_at index (table.get (tenant_of tenant.now).allocations number) (λ old. old.create_index) }
-{
-    match tenant.allocations.get(number) {
-        Some(old) => old.create_index,
-        None => index,
-    }
-}
-
-/// A changed allocation gets the index.
-fn stamp_allocation(tenant: &TenantRows, index: u64, number: u64, row: &mut Allocation)
-    ensures { row.new ≡ stamped_allocation index (tenant_of tenant.now) number row.old }
-{
-    if changes_allocation(tenant, number, row) {
-        row.create_index = allocation_created_at(tenant, index, number);
-        row.modify_index = index;
-    }
-}
-
-fn stamp_allocation_slot(tenant: &TenantRows, index: u64, slot: &mut AllocationSlot)
-    ensures { slot.new ≡ (slot.old.0, option_map (stamped_allocation index (tenant_of tenant.now) slot.old.0) slot.old.1) }
-{
-    let number = slot.0;
-    if let Some(row) = &mut slot.1 {
-        stamp_allocation(tenant, index, number, row);
-    }
-}
-
-/// The changed allocations with the index.
-pub fn stamp_allocations(
-    tenant: &TenantRows,
-    index: u64,
-    changes: NumberTable<Allocation>,
-) -> NumberTable<Allocation>
-    ensures { result ≡ map_rows (λ n row. option_map (stamped_allocation index (tenant_of tenant.now) n) row) changes }
-{
-    let mut slots = changes.into_slots();
-    for slot in slots.iter_mut() {
-        stamp_allocation_slot(tenant, index, slot);
+        stamp_slot(before, index, slot);
     }
     NumberTable::from_slots(slots)
 }
@@ -206,7 +178,7 @@ pub fn stamp_allocations(
 
 /// Whether the job is new, or shown otherwise than before.
 fn changes_job(tenant: &TenantRows, id: &Text, row: &Job) -> bool
-    ensures { result ≡ is_row_changed same_job_row (table.get (tenant_of tenant.now).jobs id.now) row.now }
+    ensures { result ≡ is_changed same_job (get (tenant_of tenant.now).jobs id.now) row.now }
 {
     match tenant.jobs.get(id) {
         Some(old) => !same_job(old, row),
@@ -215,7 +187,7 @@ fn changes_job(tenant: &TenantRows, id: &Text, row: &Job) -> bool
 }
 
 fn has_job(tenant: &TenantRows, id: &Text) -> bool
-    ensures { result ≡ table.contains_key (tenant_of tenant.now).jobs id.now }
+    ensures { result ≡ contains_key (tenant_of tenant.now).jobs id.now }
 {
     match tenant.jobs.get(id) {
         Some(_) => true,
@@ -225,7 +197,7 @@ fn has_job(tenant: &TenantRows, id: &Text) -> bool
 
 /// Whether the job is new, shown otherwise, or gone.
 fn changes_job_slot(tenant: &TenantRows, slot: &JobSlot) -> bool
-    ensures { result ≡ changes_job_row (tenant_of tenant.now) slot.now.0 slot.now.1 }
+    ensures { result ≡ changes_job_slot (tenant_of tenant.now) slot.now }
 {
     match &slot.1 {
         Some(row) => changes_job(tenant, &slot.0, row),
@@ -243,7 +215,7 @@ fn is_deregistered(slot: &JobSlot) -> bool
 }
 
 fn job_topic(slot: &JobSlot) -> Result<Topic, AllocError>
-    ensures { IfOk result (λ topic. topic ≡ row_topic slot.now.0 slot.now.1) }
+    ensures { IfOk result (λ topic. topic ≡ job_topic slot.now) }
 {
     let id = slot.0.clone()?;
     if is_deregistered(slot) {
@@ -260,7 +232,8 @@ pub fn tell_jobs(
     index: u64,
     slots: &[JobSlot],
 ) -> Result<(), AllocError>
-    ensures { OnOk result (events.new ≡ events.old ++ map (λ e. record { index = index; topic = row_topic e.0 e.1 }) (filter (λ e. changes_job_row (tenant_of tenant.now) e.0 e.1) slots.now)) }
+    ensures { OnOk result (events.new ≡ events.old
+        ++ told index job_topic (changes_job_slot (tenant_of tenant.now)) slots.now) }
 {
     for slot in slots {
         if changes_job_slot(tenant, slot) {
@@ -274,30 +247,22 @@ pub fn tell_jobs(
 // ---- whether a row of the namespace changed
 
 fn any_job(tenant: &TenantRows, slots: &[JobSlot]) -> bool
-    ensures { result ≡ list_any (λ e. changes_job_row (tenant_of tenant.now) e.0 e.1) slots.now }
+    ensures { result ≡ list_any (changes_job_slot (tenant_of tenant.now)) slots.now }
 {
     slots.iter().any(|slot| changes_job_slot(tenant, slot))
 }
 
-fn any_evaluation(tenant: &TenantRows, slots: &[EvaluationSlot]) -> bool
-    ensures { result ≡ list_any (at_slot (λ e. is_changed (tenant_of tenant.now) e.0 e.1)) slots.now }
+fn any_row<R: Shown>(before: &NumberTable<R>, slots: &[(u64, Option<R>)]) -> bool
+    ensures { result ≡ list_any (changes_slot R.kind (rows before.now)) slots.now }
 {
-    slots.iter().any(|slot| changes_slot(tenant, slot))
-}
-
-fn any_allocation(tenant: &TenantRows, slots: &[AllocationSlot]) -> bool
-    ensures { result ≡ list_any (at_slot (λ e. is_allocation_changed (tenant_of tenant.now) e.0 e.1)) slots.now }
-{
-    slots
-        .iter()
-        .any(|slot| changes_allocation_slot(tenant, slot))
+    slots.iter().any(|slot| changes_slot(before, slot))
 }
 
 /// Whether a row that replies show changed.
 pub fn touches(tenant: &TenantRows, change: &TenantChange) -> bool
-    ensures { result ≡ is_touched (tenant_of tenant.now) change.now }
+    ensures { result ≡ touches (tenant_of tenant.now) change.now }
 {
     any_job(tenant, change.jobs.as_slice())
-        || any_evaluation(tenant, change.evaluations.as_slice())
-        || any_allocation(tenant, change.allocations.as_slice())
+        || any_row(&tenant.evaluations, change.evaluations.as_slice())
+        || any_row(&tenant.allocations, change.allocations.as_slice())
 }

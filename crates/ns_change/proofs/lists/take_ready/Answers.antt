@@ -7,7 +7,7 @@ use Rattle.ns_world.specs.World.{world_of}
 
 pub returns : goal.returns
 unfolding changed
-returns c t = on_ok c.take_out.result (λ e. λ i. record (view t c.args.change.now) {
-  ready = (e ∙ ap (λ key. filter (stays (key ∷ [])) (view t c.args.change.now).ready) c.in_ok-clone.ensures.cases ∙
+returns c t = on_ok c.take_out.result (λ takes. λ i. record (view t c.args.change.now) {
+  ready = (takes (world_of t).ready ∙ ap (λ key. filter (stays (key ∷ [])) (view t c.args.change.now).ready) c.in_ok-clone.ensures.cases ∙
       taken_alone c.args.key.now (view t c.args.change.now).ready) i;
-}) (c.take_out.ensures (world_of t).ready)
+}) c.take_out.ensures

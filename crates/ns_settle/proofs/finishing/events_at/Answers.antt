@@ -5,7 +5,6 @@ use Rattle.ns_types.specs.declared.allocation.Allocation.{Allocation}
 use Rattle.ns_types.specs.declared.evaluation.Evaluation.{Evaluation}
 use Rattle.ns_types.specs.declared.event.Event.{Event}
 use Rattle.ns_types.specs.declared.event.Topic.{Topic}
-use Rattle.ns_types.specs.declared.event.Topic.TheVariants as Topic
 use Rattle.ns_types.specs.declared.job.Job.{Job}
 use Rattle.ns_types.specs.State.Names.{Name}
 use Rattle.ns_types.specs.Settling.Settle.{changes_allocation, changes_evaluation}
@@ -24,7 +23,7 @@ returns c =
     (filter (at_slot (λ e. changes_evaluation t e.0 e.1)) l) in
     let allocations = λ (l : List (ℕ × Option Allocation)). map (λ (e : ℕ × Option Allocation). at (Topic.AllocationUpdated e.0))
     (filter (at_slot (λ e. changes_allocation t e.0 e.1)) l) in
-    c.in_ok-tell_allocations.ensures ∙ (λ i. (c.in_ok-tell_evaluations.ensures ∙
+    c.in_ok-tell_rows-2.ensures ∙ (λ i. (c.in_ok-tell_rows.ensures ∙
     (λ j. (c.in_ok-tell_jobs.ensures ∙ (λ k. c.new-events.ensures k ++ jobs (c.as_slice.ensures k))) j ++ evaluations (c.as_slice-2.ensures j))) i
     ++ allocations (c.as_slice-3.ensures i))
     ∙ three at (λ (e : Name × Option Job). row_topic e.0 e.1) (λ (e : ℕ × Option Evaluation). Topic.EvaluationUpdated e.0)

@@ -19,7 +19,7 @@ overflow_add-index c = let less : c.in-Some.tenant.now.index + 1 < 2 ^ 64 =
 
 pub returns : goal.returns
 returns c =
-    let both : ◌≡◌ {A = SettledTenant} (record { rows = c.stamp_rows.result; events = Some c.in_ok-events.events }) _ =
-    λ i. record { rows = c.stamp_rows.ensures i; events = Some (c.in_ok-events.ensures i) } in
+    let both : ◌≡◌ {A = SettledTenant} (record { rows = c.stamp_change.result; events = Some c.in_ok-events.events }) _ =
+    λ i. record { rows = c.stamp_change.ensures i; events = Some (c.in_ok-events.ensures i) } in
     ap Some both ∙ sym (settled_there c.args.tables.now c.args.namespace.now c.args.change c.in-Some.tenant.now
     (sym c.get.ensures ∙ ap option_copied c.in-Some.is) true (sym c.touches.ensures ∙ c.if-not-touches.false))

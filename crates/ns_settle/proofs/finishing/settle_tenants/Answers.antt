@@ -1,5 +1,4 @@
 use Rattle.std.proofs.Common.{ap, sym, ◌∙◌, ◌++◌, ◌∷◌, [], Option, map}
-use Rattle.std.specs.FinMap.{entries}
 use Rattle.std.specs.List.{list_any}
 use Rattle.keyed.proofs.Applying.{empty_by}
 use Rattle.keyed.proofs.Mapped.{built_rows, built_sorted}

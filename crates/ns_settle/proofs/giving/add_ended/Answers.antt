@@ -10,6 +10,6 @@ use Rattle.ns_settle.proofs.giving.add_ended.Goals as goal
 pub returns-in_ok-add_left : goal.returns-in_ok-add_left
 returns-in_ok-add_left c =
     let f = rooms_left (view c.args.tables.now c.args.change.now) in
-    c.in_ok-add_left.ensures c.args.tenant.now.namespace
+    c.in_ok-add_left.ensures
     ∙ ap (λ l. c.args.rooms.now ++ l) (sym (append-nil (f (c.args.tenant.now.namespace, c.in-Some.allocation.now))) ∙
     sym (ap (flat_map f) (c.ended.ensures ∙ ap (ended_list (tenant_of c.args.tenant.now)) (ap option_copied c.in-Some.is))))

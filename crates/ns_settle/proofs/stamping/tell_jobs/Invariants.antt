@@ -1,9 +1,8 @@
-use Rattle.std.proofs.Common.{◌≡◌, ◌++◌, map, filter, drop}
-use Rattle.ns_settle.specs.Stamped.{changes_job_row, row_topic}
+use Rattle.std.proofs.Common.{◌≡◌, ◌++◌, drop}
+use Rattle.ns_settle.specs.Stamped.{changes_job_slot, job_topic, told}
 use Rattle.ns_world.specs.World.{tenant_of}
 use Rattle.ns_settle.proofs.stamping.tell_jobs.Given as goal
 
 abbrev pub invariant-loop-slot : goal.invariant-loop-slot
-invariant-loop-slot l = l.events ++ map (λ e. record { index = l.index; topic = row_topic e.0 e.1 })
-    (filter (λ e. changes_job_row (tenant_of l.tenant) e.0 e.1) (drop l.slot-index l.slots))
-    ≡ l.initial.events ++ map (λ e. record { index = l.index; topic = row_topic e.0 e.1 }) (filter (λ e. changes_job_row (tenant_of l.tenant) e.0 e.1) l.slots)
+invariant-loop-slot l = l.events ++ told l.index job_topic (changes_job_slot (tenant_of l.tenant)) (drop l.slot-index l.slots)
+    ≡ l.initial.events ++ told l.index job_topic (changes_job_slot (tenant_of l.tenant)) l.slots

@@ -1,0 +1,10 @@
+use Rattle.std.proofs.Common.{◌≡◌, ◌++◌, drop}
+use Rattle.keyed.specs.Table.{rows}
+use Rattle.ns_settle.specs.Stamped.{changes_slot, told, topic_at}
+use Rattle.ns_settle.proofs.stamping.tell_rows.Given as goal
+
+abbrev pub invariant-loop-slot : goal.invariant-loop-slot
+invariant-loop-slot g l =
+    let kind = g.R.Shown.kind in
+    l.events ++ told l.index (topic_at kind) (changes_slot kind (rows l.before)) (drop l.slot-index l.slots)
+    ≡ l.initial.events ++ told l.index (topic_at kind) (changes_slot kind (rows l.before)) l.slots
