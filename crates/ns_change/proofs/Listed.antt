@@ -1,8 +1,9 @@
 -- The lists over a change, who is busy, and waking.
-use Rattle.std.specs.Prelude.{◌≡◌, ℕ, ◌+◌, ◌<◌, ◌≤◌, Bool, true, false, cond, not, List, [], ◌∷◌, ◌++◌, ◌&&◌, ◌||◌, Option, Some, None, filter, fold, length}
+use Rattle.std.specs.Prelude.{◌≡◌, ℕ, ◌+◌, ◌<◌, ◌≤◌, Bool, true, false, cond, not, List, [], ◌∷◌, ◌++◌, ◌&&◌, ◌||◌, Option, Some, None, Result, Ok, Err, OnOk, filter, fold, length}
 use Rattle.std.proofs.Common.{refl, sym, ap, ◌∙◌, arith, length-drop, append_assoc, get_or, drop, drop-cons, add-one}
 use Rattle.std.specs.Option.{option_map_or}
 use Rattle.std.specs.List.{list_any}
+use Rattle.std.specs.Cmp.{eq_by_cmp_equiv}
 use Rattle.std.specs.Ordering.{nat_cmp}
 use Rattle.std.specs.FinMap.{FinMap, contains_key, entries, get}
 use Rattle.keyed.specs.Table.{rows, row_at, at_slot}
@@ -11,10 +12,11 @@ use Rattle.ns_types.specs.declared.evaluation.Evaluation.{Evaluation}
 use Rattle.ns_types.specs.declared.worker.Worker.{Worker}
 use Rattle.ns_types.specs.State.Names.{Name, Key, has_key, same_key}
 use Rattle.ns_types.specs.Working.Queue.{is_busy, queue}
+use Rattle.ns_types.specs.Working.Work.{without_key}
 use Rattle.ns_types.specs.State.Rows.{World, Tenant, evaluation_at}
 use Rattle.ns_types.specs.State.Tables.{any_row}
 use Rattle.ns_types.proofs.Lists.{any_alike, each, filter-append}
-use Rattle.ns_types.proofs.Named.{numbers, one_number}
+use Rattle.ns_types.proofs.Named.{names, numbers, one_number}
 use Rattle.ns_change.specs.declared.change.Change.{Change}
 use Rattle.ns_change.specs.declared.change.ListChange.{ListChange}
 use Rattle.ns_change.specs.declared.change.TenantChange.{TenantChange}
@@ -177,3 +179,19 @@ module _ (t : Tables) (keys : List Key) where
       ∙ ap (λ w. fold queue w keys) (blocked_left pending x left ∙
       ap (without_keys keys) (ap (fold unblock_one (view t pending)) (sym (at_end keys i ie)) ∙ marked))
       ∙ sym (wake_is keys (view t c))
+
+-- ---- one key alone
+
+swapped : (a b : Key) → same_key a b ≡ same_key b a
+swapped a b = λ i. (eq_by_cmp_equiv names).symm a.0 b.0 i && (eq_by_cmp_equiv numbers).symm a.1 b.1 i
+
+pub taken_alone : (key : Key) (keys : List Key) → filter (stays (key ∷ [])) keys ≡ without_key key keys
+taken_alone key keys = λ i. filter (λ other. not ((by (same_key other key) ∙ swapped other key) i)) keys
+  where
+    by : (b : Bool) → (b || false) ≡ b
+    by true = refl
+    by false = refl
+
+pub on_ok : {T E : Type 0} (r : Result T E) {P Q : Type 0} → (P → Q) → OnOk r P → OnOk r Q
+on_ok (Ok x) f p = f p
+on_ok (Err e) f p = tt

@@ -1,5 +1,5 @@
 -- The world as a change leaves it.
-use Rattle.std.specs.Prelude.{◌≡◌, ℕ, ◌+◌, ◌<◌, ◌^◌, Bool, false, not, List, ◌++◌, filter, Option, Some, nat_le}
+use Rattle.std.specs.Prelude.{◌≡◌, ℕ, ◌+◌, ◌<◌, ◌^◌, Bool, false, not, List, [], ◌∷◌, ◌++◌, filter, Option, Some, nat_le}
 use Rattle.std.specs.Prelude.{Result, OnOk}
 use Rattle.std.specs.Option.{option_map_or}
 use Rattle.std.specs.FinMap.{contains_key, empty, get, insert, len, remove}
@@ -12,6 +12,7 @@ use Rattle.ns_types.specs.State.Names.{Name, Key, ByName, has_key}
 use Rattle.ns_types.specs.State.Rows.{World, Tenant, PoolRows, node_at}
 use Rattle.ns_types.specs.State.Tables.{map_rows}
 use Rattle.ns_types.specs.Working.Commit.{with_place}
+use Rattle.ns_types.specs.Working.Work.{without_key}
 use Rattle.ns_change.specs.declared.change.Change.{Change}
 use Rattle.ns_change.specs.declared.change.ListChange.{ListChange}
 use Rattle.ns_change.specs.declared.change.PoolChange.{PoolChange}
@@ -119,3 +120,15 @@ HasEvaluationLeft w ns = (t : Tenant) → get w.tenants ns ≡ Some t → t.eval
 
 abbrev pub HasAllocationLeft : World → Name → Type 0
 HasAllocationLeft w ns = (t : Tenant) → get w.tenants ns ≡ Some t → t.allocation_number + 1 < 2 ^ 64
+
+abbrev pub without_job : Name → Tenant → Tenant
+without_job id t = record t { jobs = remove t.jobs id }
+
+-- ---- the list of evaluations that are ready
+
+abbrev pub without_ready : Key → World → World
+without_ready key w = record w { ready = without_key key w.ready }
+
+-- behind the others
+abbrev pub with_ready : Key → World → World
+with_ready key w = record w { ready = w.ready ++ key ∷ [] }

@@ -1,5 +1,10 @@
 //! Changed rows, by owner. A slot with a row is the row's new value; a vacant one takes the row away.
 
+ghost use Rattle.std.specs.Prelude.{◌≡◌, []};
+ghost use Rattle.ns_change.specs.Changed.{view};
+ghost use Rattle.ns_world.specs.World.{world_of};
+ghost use Rattle.ns_world.specs.declared.tables.Tables.{Tables};
+
 use keyed::{NameTable, NumberTable};
 use ns_types::allocation::Allocation;
 use ns_types::evaluation::Evaluation;
@@ -7,9 +12,11 @@ use ns_types::event::Event;
 use ns_types::job::Job;
 use ns_types::key::EvalKey;
 use ns_types::node::{Class, Node};
+use ns_types::reply::Content;
 use ns_types::rows::Rows;
 use ns_types::text::Text;
 use ns_types::worker::Worker;
+use std::alloc::Global;
 
 /// What a step changes of one namespace. The numbers are those after the step.
 #[derive(Drop)]
@@ -43,6 +50,39 @@ pub struct Change {
     pub ready: ListChange,
     pub plans: ListChange,
     pub blocked: ListChange,
+}
+
+impl ListChange {
+    fn new(alloc: Global) -> ListChange
+        ensures { result ≡ record { taken = []; added = [] } }
+    {
+        ListChange {
+            taken: Rows::new(alloc),
+            added: Rows::new(alloc),
+        }
+    }
+}
+
+impl Change {
+    /// A change of nothing.
+    pub fn new(alloc: Global) -> Change
+        ensures { (tables : Tables) → view tables result ≡ world_of tables }
+    {
+        Change {
+            tenants: NameTable::new(alloc),
+            pools: NameTable::new(alloc),
+            ready: ListChange::new(alloc),
+            plans: ListChange::new(alloc),
+            blocked: ListChange::new(alloc),
+        }
+    }
+}
+
+/// What a command answers, and what it changes, if it is made.
+#[derive(Drop)]
+pub struct Prepared {
+    pub content: Content,
+    pub change: Change,
 }
 
 /// What a step changes of one namespace. The changed rows have their indexes.

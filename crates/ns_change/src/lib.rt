@@ -10,17 +10,23 @@
 mod change;
 mod editing;
 mod evicting;
+mod jobs;
+mod lists;
 mod looking;
 mod numbered;
 mod placing;
 mod promoting;
 mod queueing;
+mod workers;
 
-pub use change::{Change, ListChange, PoolChange, Settled, SettledTenant, TenantChange};
+pub use change::{Change, ListChange, PoolChange, Prepared, Settled, SettledTenant, TenantChange};
 pub use editing::set_status;
 pub use evicting::{set_client, set_desired};
+pub use jobs::{put_job, remove_job};
+pub use lists::{add_ready, take_ready};
 pub use looking::{allocation, evaluation, has_nodes, node};
 pub use numbered::{NumberedRow, put_row};
 pub use placing::{add_allocation, count_place, put_node, remove_node};
 pub use promoting::{cancel_blocked, promote};
 pub use queueing::{make, queue, wake};
+pub use workers::remove_worker;

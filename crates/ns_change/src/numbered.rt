@@ -1,10 +1,11 @@
-//! Rows of a namespace that have a number: evaluations and allocations.
+//! Rows of a namespace that have a number: evaluations, allocations, and workers that are busy.
 
 ghost use Rattle.std.specs.Prelude.{◌≡◌, ℕ, OnOk};
 ghost use Rattle.std.specs.FinMap.{FinMap, insert};
 ghost use Rattle.std.specs.Ordering.{nat_cmp};
 ghost use Rattle.keyed.specs.Over.{over};
 ghost use Rattle.ns_types.specs.State.Rows.{Tenant};
+ghost use Rattle.ns_types.specs.Working.Work.{with_worker};
 ghost use Rattle.ns_change.specs.Changed.{DoesIn, changed_tenant, put_allocation, put_evaluation};
 
 use crate::change::{Change, TenantChange};
@@ -13,6 +14,7 @@ use keyed::NumberTable;
 use ns_types::allocation::Allocation;
 use ns_types::evaluation::Evaluation;
 use ns_types::text::Text;
+use ns_types::worker::Worker;
 use ns_world::Tables;
 use std::alloc::AllocError;
 
@@ -40,6 +42,14 @@ impl NumberedRow for Allocation {
 
     fn put(self, changed: &mut TenantChange, number: u64) -> Result<(), AllocError> {
         put_slot(&mut changed.allocations, number, self)
+    }
+}
+
+impl NumberedRow for Worker {
+    ghost put_in = { with_worker };
+
+    fn put(self, changed: &mut TenantChange, number: u64) -> Result<(), AllocError> {
+        put_slot(&mut changed.workers, number, self)
     }
 }
 

@@ -198,7 +198,11 @@ pub fn queue(tables: &Tables, change: &mut Change, key: &EvalKey) -> Result<(), 
 }
 
 /// Takes those keys out of a list.
-fn take_out(alloc: Global, list: &mut ListChange, keys: &[EvalKey]) -> Result<(), AllocError>
+pub(crate) fn take_out(
+    alloc: Global,
+    list: &mut ListChange,
+    keys: &[EvalKey],
+) -> Result<(), AllocError>
     ensures { OnOk result (TakesOut keys.now list.old list.new) }
 {
     let mut added = Rows::new(alloc);

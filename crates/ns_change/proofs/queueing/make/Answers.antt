@@ -1,5 +1,5 @@
-use Rattle.std.proofs.Common.{ap, sym, ◌∙◌, subst, ◌+◌, Ok, Err, Result}
-use Rattle.std.specs.Prelude.{Some, IsTrue, OnOk}
+use Rattle.std.proofs.Common.{ap, sym, ◌∙◌, subst, ◌+◌}
+use Rattle.std.specs.Prelude.{Some, IsTrue}
 use Rattle.std.specs.Option.{option_map_or}
 use Rattle.ns_types.specs.Settling.Making.{make_in}
 use Rattle.std.specs.FinMap.{insert}
@@ -9,12 +9,9 @@ use Rattle.ns_types.specs.Working.Queue.{queue}
 use Rattle.ns_types.proofs.Named.{numbers}
 use Rattle.ns_change.specs.Opened.{Opened}
 use Rattle.ns_change.specs.Changed.{view}
+use Rattle.ns_change.proofs.Listed.{on_ok}
 use Rattle.ns_change.proofs.Opening.{made_open, number_is}
 use Rattle.ns_change.proofs.queueing.make.Goals as goal
-
-on_ok : {T E : Type 0} (r : Result T E) {P Q : Type 0} → (P → Q) → OnOk r P → OnOk r Q
-on_ok (Ok x) f p = f p
-on_ok (Err e) f p = tt
 
 pub set-requires : goal.set-requires
 set-requires c = subst (λ m. IsTrue (has_slot m (c.in-Some.tenant.evaluation_number + 1))) (sym c.in_ok-reserve.ensures.ok)

@@ -1,0 +1,66 @@
+-- When a worker may take an evaluation, and what it changes.
+use Rattle.std.specs.Prelude.{◌≡◌, ℕ, Bool, true, false, cond, ◌&&◌, not, nat_lt, List, Option, Some, None, is_some, Result, Err}
+use Rattle.std.proofs.Common.{refl, ap, sym, subst, ◌∙◌}
+use Rattle.std.specs.Option.{option_and_then, option_map_or}
+use Rattle.std.specs.List.{list_any}
+use Rattle.std.specs.FinMap.{contains_key, entries, get}
+use Rattle.keyed.specs.Table.{at_slot, row_at, rows}
+use Rattle.keyed.proofs.Tables.{any-at_slot, entries-rows, get-rows}
+use Rattle.ns_types.specs.declared.evaluation.Evaluation.{Evaluation}
+use Rattle.ns_types.specs.declared.refusal.Refusal.{Refusal}
+use Rattle.ns_types.specs.declared.refusal.Refusal.TheVariants as Refusal
+use Rattle.ns_types.specs.declared.reply.Content.TheVariants as Content
+use Rattle.ns_types.proofs.Elements.{any_map}
+use Rattle.ns_types.proofs.Named.{numbers}
+use Rattle.ns_types.proofs.Tests.{not_Some}
+use Rattle.ns_types.proofs.Tables.{entries-table_of}
+use Rattle.ns_types.specs.Settling.Making.{change_tenant, put_tenant}
+use Rattle.ns_types.specs.Settling.Outcome.{Outcome, NotEnabled, Done, is_done}
+use Rattle.ns_types.specs.State.Names.{Key, Name, name_cmp}
+use Rattle.ns_types.specs.State.Rows.{World, Tenant, evaluation_at}
+use Rattle.ns_types.specs.State.Tables.{any_row, table_of}
+use Rattle.ns_types.specs.Working.Work.{dequeue, dequeue_in, is_idle, new_worker, taken, with_worker}
+use Rattle.ns_broker.specs.Serving.{is_busy_for, may_dequeue}
+use Rattle.ns_change.specs.declared.change.Prepared.{Prepared}
+use Rattle.ns_change.specs.Changed.{without_ready}
+use Rattle.ns_change.specs.Prepared.{Prepares}
+use Rattle.ns_world.specs.declared.tables.Tables.{Tables}
+use Rattle.ns_world.specs.declared.tables.TenantRows.{TenantRows}
+use Rattle.ns_world.specs.World.{tenant_of, world_of}
+
+pub idle_is : (t : Tables) (number : ℕ) → not (list_any (is_busy_for number) (entries t.tenants)) ≡ is_idle (world_of t) number
+unfolding any_row world_of
+idle_is t number = ap not (sym (ap (list_any (λ e. contains_key e.1.workers number)) (entries-table_of (λ (_ : Name) (x : TenantRows). tenant_of x) (rows t.tenants))
+    ∙ any_map (λ (e : Name × Tenant). contains_key e.1.workers number) (λ (e : Name × TenantRows). (e.0, tenant_of e.1)) (entries (rows t.tenants))
+    ∙ ap (list_any (λ e. contains_key (rows e.1.workers) number)) (entries-rows t.tenants)
+    ∙ sym (any-at_slot name_cmp (λ (e : Name × TenantRows). contains_key (rows e.1.workers) number) (entries t.tenants))
+    ∙ (λ i. list_any (at_slot (λ (e : Name × TenantRows). is_some (get-rows numbers e.1.workers number i))) (entries t.tenants))))
+
+module _ (number : ℕ) (key : Key) (w : World) where
+  pub stays_out : may_dequeue number key w ≡ false → dequeue number key w ≡ NotEnabled
+  unfolding dequeue
+  stays_out off = ap (λ b. cond b (option_map_or (dequeue_in number key w) (get w.tenants key.0) NotEnabled) NotEnabled) off
+
+  dequeues : may_dequeue number key w ≡ true → dequeue number key w ≡ option_map_or (dequeue_in number key w) (get w.tenants key.0) NotEnabled
+  unfolding dequeue
+  dequeues on = ap (λ b. cond b (option_map_or (dequeue_in number key w) (get w.tenants key.0) NotEnabled) NotEnabled) on
+
+  pub nothing_there : evaluation_at w key ≡ None → may_dequeue number key w ≡ true → dequeue number key w ≡ NotEnabled
+  nothing_there none on = dequeues on ∙ by (get w.tenants key.0) none
+    where
+      by : (r : Option Tenant) → option_and_then (λ t. get t.evaluations key.1) r ≡ None → option_map_or (dequeue_in number key w) r NotEnabled ≡ NotEnabled
+      by None is = refl
+      by (Some t) is = ap (λ e. option_map_or (λ e. Done (Content.Took key.1) (taken number key w t e)) e NotEnabled) is
+
+  -- the worker has the evaluation, which is no longer ready
+  pub taken_out : (e : Evaluation) → evaluation_at w key ≡ Some e → may_dequeue number key w ≡ true → dequeue number key w
+      ≡ Done (Content.Took key.1) (without_ready key (change_tenant key.0 (with_worker number (new_worker key.1 e)) w))
+  taken_out e there on = dequeues on ∙ by (get w.tenants key.0) refl there
+    where
+      by : (r : Option Tenant) → get w.tenants key.0 ≡ r → option_and_then (λ t. get t.evaluations key.1) r ≡ Some e → option_map_or (dequeue_in number key w) r NotEnabled
+          ≡ Done (Content.Took key.1) (without_ready key (option_map_or (λ t. put_tenant key.0 (with_worker number (new_worker key.1 e) t) w) r w))
+      by None at is = absurd (not_Some e is)
+      by (Some t) at is = ap (λ e. option_map_or (λ e. Done (Content.Took key.1) (taken number key w t e)) e NotEnabled) is
+
+pub out_of_memory : (outcome : Outcome World) (t : Tables) (r : Result Prepared Refusal) → r ≡ Err Refusal.Memory → is_done outcome ≡ true → Prepares outcome t r
+out_of_memory outcome t r e d = subst (Prepares outcome t) (sym e) d

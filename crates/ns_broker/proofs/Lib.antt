@@ -1,0 +1,2 @@
+pub mod Dequeued
+pub mod Preferred

@@ -1,0 +1,21 @@
+-- Which evaluation is served, step by step along a list, and when a worker may take one.
+use Rattle.std.specs.Prelude.{ℕ, Bool, ◌&&◌, if◌then◌else◌, Option, Some, None, nat_le, nat_lt, is_some}
+use Rattle.keyed.specs.Table.{at_slot, row_at}
+use Rattle.ns_types.specs.State.Names.{Key, Name}
+use Rattle.ns_types.specs.State.Rows.{World}
+use Rattle.ns_types.specs.Working.Queue.{is_served}
+use Rattle.ns_types.specs.Working.Work.{is_idle, workers_end}
+use Rattle.ns_world.specs.declared.tables.TenantRows.{TenantRows}
+
+-- the later one is preferred only where its priority is greater
+abbrev pub preferred : (Key → ℕ) → Option Key → Key → Option Key
+preferred priority None later = Some later
+preferred priority (Some first) later = if nat_le (priority later) (priority first) then Some first else Some later
+
+-- a worker has an evaluation of the namespace of that slot
+abbrev pub is_busy_for : ℕ → Name × Option TenantRows → Bool
+is_busy_for number = at_slot (λ e. is_some (row_at e.1.workers number))
+
+-- there is such a worker, it has no evaluation, and that one is served next
+abbrev pub may_dequeue : ℕ → Key → World → Bool
+may_dequeue number key w = nat_lt number workers_end && is_idle w number && is_served w w.ready key

@@ -1,0 +1,9 @@
+//! The evaluation broker: which evaluation is served next, and the steps in which a worker takes one and gives it back.
+//! Each step is a command over the tables: what it answers and changes, or that it is not enabled.
+#![tactic(auto)]
+
+mod serving;
+mod taking;
+
+pub use serving::served;
+pub use taking::dequeue;

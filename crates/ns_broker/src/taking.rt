@@ -1,0 +1,110 @@
+//! A worker takes an evaluation.
+
+ghost use Rattle.std.specs.Prelude.{◌≡◌, nat_lt};
+ghost use Rattle.std.specs.List.{list_any};
+ghost use Rattle.ns_types.specs.Working.Work.{dequeue, is_idle, new_worker, tries_for, workers_end};
+ghost use Rattle.ns_broker.specs.Serving.{is_busy_for, may_dequeue};
+ghost use Rattle.ns_change.specs.Prepared.{Prepares};
+ghost use Rattle.ns_world.specs.World.{world_of};
+
+use crate::serving::is_served;
+use ns_change::{Change, Prepared, put_row, take_ready};
+use ns_types::evaluation::Evaluation;
+use ns_types::job::JobKind;
+use ns_types::key::EvalKey;
+use ns_types::refusal::Refusal;
+use ns_types::reply::Content;
+use ns_types::text::Text;
+use ns_types::worker::{Phase, Worker};
+use ns_world::{Tables, TenantRows};
+
+/// How many workers there are: their numbers are less than this.
+const WORKERS: u64 = 64;
+
+/// A namespace with what it owns, or a vacant slot.
+type TenantSlot = (Text, Option<TenantRows>);
+
+/// Whether the worker has an evaluation of the namespace.
+fn is_busy_for(slot: &TenantSlot, number: u64) -> bool
+    ensures { result ≡ is_busy_for number slot.now }
+{
+    match &slot.1 {
+        Some(tenant) => tenant.workers.get(number).is_some(),
+        None => false,
+    }
+}
+
+fn any_busy_for(slots: &[TenantSlot], number: u64) -> bool
+    ensures { result ≡ list_any (is_busy_for number) slots.now }
+{
+    slots.iter().any(|slot| is_busy_for(slot, number))
+}
+
+/// Whether the worker has no evaluation.
+fn is_idle(tables: &Tables, number: u64) -> bool
+    ensures { result ≡ is_idle (world_of tables.now) number }
+{
+    !any_busy_for(tables.tenants.as_slice(), number)
+}
+
+/// How often a plan for such a job is tried.
+fn tries_for(kind: JobKind) -> u64
+    ensures { result ≡ tries_for kind }
+{
+    match kind {
+        JobKind::Service => 5,
+        JobKind::Batch => 2,
+    }
+}
+
+/// The row of a worker that took the evaluation of that number.
+fn new_worker(number: u64, evaluation: &Evaluation) -> Worker
+    ensures { result ≡ new_worker number evaluation.now }
+{
+    Worker {
+        evaluation: number,
+        phase: Phase::Took,
+        tries: tries_for(evaluation.kind),
+        kept: None,
+    }
+}
+
+/// Whether there is a worker of that number.
+fn is_worker(number: u64) -> bool
+    ensures { result ≡ nat_lt number workers_end }
+{
+    number < WORKERS
+}
+
+/// Whether there is such a worker, it has no evaluation, and this one is served next.
+fn may_dequeue(tables: &Tables, number: u64, key: &EvalKey) -> bool
+    ensures { result ≡ may_dequeue number key.now (world_of tables.now) }
+{
+    if !is_worker(number) {
+        return false;
+    }
+    if !is_idle(tables, number) {
+        return false;
+    }
+    is_served(tables, tables.ready.as_slice(), key)
+}
+
+/// The worker takes the evaluation, which is served next and is no longer ready then.
+pub fn dequeue(tables: &Tables, number: u64, key: &EvalKey) -> Result<Prepared, Refusal>
+    ensures { Prepares (dequeue number key.now (world_of tables.now)) tables.now result }
+{
+    if !may_dequeue(tables, number, key) {
+        return Err(Refusal::NotEnabled);
+    }
+    let Some(row) = tables.evaluation(key.namespace(), key.number()) else {
+        return Err(Refusal::NotEnabled);
+    };
+    let mut change = Change::new(tables.alloc);
+    let worker = new_worker(key.number(), row);
+    put_row(tables, &mut change, key.namespace(), number, worker)?;
+    take_ready(tables.alloc, &mut change, key)?;
+    Ok(Prepared {
+        content: Content::Took(key.number()),
+        change,
+    })
+}

@@ -1,0 +1,13 @@
+use Rattle.std.proofs.Common.{◌∙◌}
+use Rattle.ns_change.specs.Changed.{view}
+use Rattle.ns_change.proofs.Nothing.{nothing_changed}
+use Rattle.ns_change.proofs.change.Change.new.Goals as goal
+
+pub returns : goal.returns
+returns c t = (λ i. view t (record {
+  tenants = c.new.ensures i;
+  pools = c.new-2.ensures i;
+  ready = c.new-3.ensures i;
+  plans = c.new-4.ensures i;
+  blocked = c.new-5.ensures i;
+})) ∙ nothing_changed t

@@ -1,0 +1,15 @@
+-- What a command answers and changes, before it is made.
+use Rattle.std.specs.Prelude.{◌≡◌, true, Result, Ok, Err}
+use Rattle.ns_types.specs.declared.refusal.Refusal.{Refusal}
+use Rattle.ns_types.specs.Settling.Outcome.{Outcome, NotEnabled, Refused, Done, is_done}
+use Rattle.ns_types.specs.State.Rows.{World}
+use Rattle.ns_change.specs.declared.change.Prepared.{Prepared}
+use Rattle.ns_change.specs.Changed.{view}
+use Rattle.ns_world.specs.declared.tables.Tables.{Tables}
+
+-- The tables are as they were. Want of memory comes last, where the command would have been made.
+abbrev pub Prepares : Outcome World → Tables → Result Prepared Refusal → Type 0
+Prepares outcome t (Ok x) = outcome ≡ Done x.content (view t x.change)
+Prepares outcome t (Err Refusal.Memory) = is_done outcome ≡ true
+Prepares outcome t (Err Refusal.NotEnabled) = outcome ≡ NotEnabled
+Prepares outcome t (Err refusal) = outcome ≡ Refused refusal
