@@ -6,6 +6,8 @@ mod acl;
 #[cfg(test)]
 mod by_key;
 #[cfg(test)]
+mod jobs;
+#[cfg(test)]
 mod limits;
 #[cfg(test)]
 mod owned;

@@ -52,7 +52,7 @@ fn registration(alloc: Global, enforced: Option<u64>) -> Result<AskCommand, Allo
 }
 
 /// The answer with ample memory: a call that was refused for memory is made again.
-fn asked(
+pub(crate) fn asked(
     core: &mut Core,
     secret: Option<&Text>,
     namespace: &Text,
@@ -100,7 +100,7 @@ fn is_pending(answer: &Result<Reply, Refusal>, index: u64, modified: u64) -> boo
     }
 }
 
-fn is_refused(
+pub(crate) fn is_refused(
     core: &mut Core,
     secret: Option<&Text>,
     namespace: &Text,
@@ -112,7 +112,7 @@ fn is_refused(
     seen(asked(core, secret, namespace, command), refusal) == Some(wanted)
 }
 
-fn is_registered(
+pub(crate) fn is_registered(
     core: &mut Core,
     secret: &Text,
     namespace: &Text,
