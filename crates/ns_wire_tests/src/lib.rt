@@ -10,6 +10,8 @@ mod http;
 #[cfg(test)]
 mod json;
 #[cfg(test)]
+mod longest;
+#[cfg(test)]
 mod policy;
 #[cfg(test)]
 mod repeated;
