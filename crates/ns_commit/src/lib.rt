@@ -4,14 +4,11 @@
 //! whatever the tables hold; only the lists are gone through whole.
 #![tactic(auto)]
 
+mod clearing;
 mod lists;
 mod namespaces;
 mod pools;
 mod quotas;
 mod settled;
 
-pub use lists::{commit_list, reserve_list};
-pub use namespaces::{commit_tenant, commit_tenants, reserve_tenant, reserve_tenants};
-pub use pools::{commit_pools, reserve_pools};
-pub use quotas::commit_quotas;
 pub use settled::{apply, commit, reserve};
