@@ -1,4 +1,5 @@
 pub mod Classes
+pub mod Cleared
 pub mod Numbered
 pub mod Owners
 pub mod Raised

@@ -39,14 +39,17 @@ idle : (r : Option Rows.PoolRows) → option_map (with_classes []) r ≡ r
 idle None = refl
 idle (Some pool) = refl
 
-pub all_numbered : (m : Table) (es : List (Name × Class)) (all : ByName Rows.PoolRows) (before : Table) → es ≡ [] → Unnumbered m es all before → owners pool_of m ≡ all
+pub all_numbered : (m : Table) (es : List (Name × Class)) (all : ByName Rows.PoolRows) (before : Table) → es ≡ [] → Unnumbered m es all before → owners
+    pool_of m ≡ all
 all_numbered m es all before is h = same_map names one_name _ _ (λ q. get-owners pool_of m q ∙ sym (idle _)
     ∙ ap (λ es. option_map (with_classes (classes_in q es)) (option_map pool_of (row_at m q))) (sym is) ∙ h.whole q)
 
-module _ (old new : Table) (k : Name) (class : Class) (es rest : List (Name × Class)) (all : ByName Rows.PoolRows) (before : Table) (is : es ≡ (k, class) ∷ rest)
+module _ (old new : Table) (k : Name) (class : Class) (es rest : List (Name × Class)) (all : ByName Rows.PoolRows) (before : Table) (is : es ≡ (k, class) ∷
+    rest)
     (h : Unnumbered old es all before) where
   classes : (q : Name) (b : Bool) → same_name q k ≡ b → classes_in q es ≡ cond b (class ∷ classes_in q rest) (classes_in q rest)
-  classes q b e = ap (classes_in q) is ∙ ap (λ b. map (λ r. r.1) (cond b ((k, class) ∷ filter (λ r. same_name q r.0) rest) (filter (λ r. same_name q r.0) rest))) e ∙ by b
+  classes q b e = ap (classes_in q) is ∙ ap (λ b. map (λ r. r.1) (cond b ((k, class) ∷ filter (λ r. same_name q r.0) rest) (filter (λ r. same_name q r.0)
+      rest))) e ∙ by b
     where
       by : (b : Bool) → map (λ r. r.1) (cond b ((k, class) ∷ filter (λ r. same_name q r.0) rest) (filter (λ r. same_name q r.0) rest))
           ≡ cond b (class ∷ classes_in q rest) (classes_in q rest)

@@ -12,7 +12,7 @@ use Rattle.ns_types.proofs.Tables.{get-map_rows, get-table_of, tied}
 use Rattle.ns_types.proofs.Tests.{first, second, not_Some}
 use Rattle.ns_change.specs.Changed.{perhaps}
 use Rattle.ns_change.proofs.Opening.{row_emptied, row_set}
-use Rattle.ns_commit.specs.Owners.{ChangesRow, HaveRoom, Turns, changed_owners, owners}
+use Rattle.ns_commit.specs.Owners.{ChangesRow, EachChanged, Turns, changed_owners, owners}
 
 pub if_there : {Row : Type 0} (P : Row → Type 0) (r : Option Row) → ((row : Row) → r ≡ Some row → P row) → IfSome r P
 if_there P None h = tt
@@ -95,7 +95,7 @@ module _ {Row A X : Type 0} (seen : Row → A) (change : A → X → A) (Room : 
     pub sorted : T (is_sorted name_cmp es)
     pub room : (q : Name) (x : X) (row : Row) → flat (find name_cmp q es) ≡ Some x → row_at m q ≡ Some row → Room x row
 
-  pub all_ahead : (c : FinMap name_cmp (Option X)) (m : FinMap name_cmp (Option Row)) (es : List (Name × Option X)) → es ≡ entries c → HaveRoom Room c m →
+  pub all_ahead : (c : FinMap name_cmp (Option X)) (m : FinMap name_cmp (Option Row)) (es : List (Name × Option X)) → es ≡ entries c → EachChanged Room c m →
       Ahead m es (changed_owners change c (owners seen m))
   all_ahead c m es is room = record {
     whole = λ q. (λ i. option_map (perhaps change (flat (found q i))) (sym (get-owners seen m q) i)) ∙ sym (get-changed change c (owners seen m) q);
@@ -149,7 +149,8 @@ module _ {Row A X : Type 0} (seen : Row → A) (change : A → X → A) (Room : 
 
     pub none_done : slot ≡ None → new ≡ old → Ahead new rest all
     none_done none stays = step
-        (ap (λ m. option_map seen (row_at m k)) stays ∙ sym (same change _) ∙ ap (λ s. option_map (perhaps change s) (option_map seen (row_at old k))) (sym none))
+        (ap (λ m. option_map seen (row_at m k)) stays ∙ sym (same change _) ∙ ap (λ s. option_map (perhaps change s) (option_map seen (row_at old k))) (sym
+        none))
         (λ q e. ap (λ m. row_at m q) stays)
 
     pub room_now : (x : X) → slot ≡ Some x → IfSome (row_at old k) (Room x)

@@ -12,11 +12,10 @@ use Rattle.ns_types.proofs.Lists.{not_both}
 use Rattle.ns_types.proofs.Named.{names, one_name}
 use Rattle.ns_types.proofs.Tables.{each_row}
 use Rattle.ns_types.proofs.Tests.{not_Some, same_Some}
-use Rattle.ns_change.specs.declared.change.PoolChange.{PoolChange}
 use Rattle.ns_change.specs.declared.change.SettledTenant.{SettledTenant}
 use Rattle.ns_change.specs.Settled.{classes_in}
 use Rattle.ns_commit.specs.Committed.{CanTell, GainsClassRoom, HaveClassRoom, KeepsNodes, releases}
-use Rattle.ns_commit.specs.Owners.{ChangesRow, HaveRoom, owners}
+use Rattle.ns_commit.specs.Owners.{ChangesRow, EachChanged, owners}
 use Rattle.ns_commit.proofs.Owners.{at_each, by_turn, get-owners, if_there, there_if}
 use Rattle.ns_world.specs.declared.tables.PoolRows.{PoolRows}
 use Rattle.ns_world.specs.declared.tables.TenantRows.{TenantRows}
@@ -26,11 +25,11 @@ module _ {Row A X : Type 0} (seen : Row → A) (Can Room : X → Row → Type 0)
   -- the owners are as they were, and those that es does not name have their room
   pub record Reserved (m before : FinMap name_cmp (Option Row)) (es : List (Name × Option X)) (c : FinMap name_cmp (Option X)) : Type 0 where
     pub seen_is : (q : Name) → option_map seen (row_at m q) ≡ option_map seen (row_at before q)
-    pub can : HaveRoom Can c m
+    pub can : EachChanged Can c m
     pub stand : Each (λ e. get c e.0 ≡ Some e.1) es
     pub room : (q : Name) (x : X) (row : Row) → find name_cmp q es ≡ None → row_at c q ≡ Some x → row_at m q ≡ Some row → Room x row
 
-  pub none_reserved : (m : FinMap name_cmp (Option Row)) (c : FinMap name_cmp (Option X)) (es : List (Name × Option X)) → es ≡ entries c → HaveRoom Can c m →
+  pub none_reserved : (m : FinMap name_cmp (Option Row)) (c : FinMap name_cmp (Option X)) (es : List (Name × Option X)) → es ≡ entries c → EachChanged Can c m →
       Reserved m m es c
   none_reserved m c es is can = record {
     seen_is = λ q. refl;
@@ -40,7 +39,7 @@ module _ {Row A X : Type 0} (seen : Row → A) (Can Room : X → Row → Type 0)
   }
 
   pub all_reserved : (m before : FinMap name_cmp (Option Row)) (es : List (Name × Option X)) (c : FinMap name_cmp (Option X)) → es ≡ [] →
-      Reserved m before es c → HaveRoom Room c m
+      Reserved m before es c → EachChanged Room c m
   all_reserved m before es c is h name x row at there = h.room name x row (ap (find name_cmp name) is) at there
 
   pub same_owners : (m before : FinMap name_cmp (Option Row)) (es : List (Name × Option X)) (c : FinMap name_cmp (Option X)) → Reserved m before es c →
@@ -70,7 +69,7 @@ module _ {Row A X : Type 0} (seen : Row → A) (Can Room : X → Row → Type 0)
     pub owners_after : ChangesRow (λ a b. seen b ≡ seen a) k old new → owners seen new ≡ owners seen before
     owners_after put = same_map names one_name _ _ (λ q. get-owners seen new q ∙ seen_after put q ∙ sym (get-owners seen before q))
 
-    can_after : ChangesRow (λ a b. seen b ≡ seen a) k old new → HaveRoom Can c new
+    can_after : ChangesRow (λ a b. seen b ≡ seen a) k old new → EachChanged Can c new
     can_after put = at_each (λ q. (x : X) (row : Row) → row_at c q ≡ Some x → row_at new q ≡ Some row → Can x row) k
         (λ x row at there. by_turn (λ a b. seen b ≡ seen a) (λ r s. row_at old k ≡ r → s ≡ Some row → Can x row) (λ _ no. absurd (not_Some row no))
         (λ a b is was now. subst (Can x) (same_Some b row now) (carries x a b is (h.can k x a at was))) (row_at old k) (row_at new k) put.here refl there)
@@ -178,9 +177,9 @@ module _ (old new before : Table) (e : Name × Class) (es rest rooms : List (Nam
 pub tell_carries : (x : SettledTenant) (a b : TenantRows) → tenant_of b ≡ tenant_of a → CanTell x a → CanTell x b
 tell_carries x a b is can some = subst (λ t. t.index + 1 < 2 ^ 64) (sym is) (can some)
 
--- a change of nodes is never too great
-abbrev pub Always : PoolChange → PoolRows → Type 0
-Always x pool = Unit {0}
+-- what asks nothing
+abbrev pub Always : {X Row : Type 0} → X → Row → Type 0
+Always x row = Unit {0}
 
-pub always_carries : (x : PoolChange) (a b : PoolRows) → pool_of b ≡ pool_of a → Always x a → Always x b
-always_carries x a b is can = tt
+pub always_carries : {Row A X : Type 0} (seen : Row → A) (x : X) (a b : Row) → seen b ≡ seen a → Always x a → Always x b
+always_carries seen x a b is can = tt

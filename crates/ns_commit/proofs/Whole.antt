@@ -22,7 +22,7 @@ use Rattle.ns_change.specs.Changed.{changed_list, changed_pool, perhaps}
 use Rattle.ns_change.specs.Settled.{classes_in, settled_tenant, settled_world}
 use Rattle.ns_commit.specs.Committed.{CanRise, CanTell, Fits, HasNodeRoom, HaveClassRoom, KeepsNodes}
 use Rattle.ns_commit.specs.Committed.{numbered_pools, raised_pool, raised_quota, released_quotas, releases, settled_pools, with_classes}
-use Rattle.ns_commit.specs.Owners.{HaveRoom, changed_owners, owners}
+use Rattle.ns_commit.specs.Owners.{EachChanged, changed_owners, owners}
 use Rattle.ns_commit.proofs.Owners.{get-changed, get-owners}
 use Rattle.ns_commit.proofs.Reserved.{is_some_class, releases_is}
 use Rattle.ns_world.specs.declared.tables.PoolRows.{PoolRows}
@@ -32,7 +32,8 @@ use Rattle.ns_world.specs.World.{pool_of, quota_of, tenant_of, world_of}
 
 -- ---- quotas
 
-raised_one : (b : Bool) (r : Option QuotaRows) → option_map quota_of (option_map (raised_quota b) r) ≡ option_map (after_quota_release b) (option_map quota_of r)
+raised_one : (b : Bool) (r : Option QuotaRows) → option_map quota_of (option_map (raised_quota b) r) ≡ option_map (after_quota_release b) (option_map
+    quota_of r)
 raised_one b None = refl
 raised_one true (Some quota) = refl
 raised_one false (Some quota) = refl
@@ -74,7 +75,8 @@ module _ (x : FinMap name_cmp (Option PoolChange)) (rooms : List (Name × Class)
       ∙ ap (option_map (with_classes (classes_in q rooms))) (get-owners pool_of risen q ∙ ap (option_map pool_of) (is q)))
       ∙ settled_one (classes_in q rooms) (releases rooms q) (releases_is q rooms) (row_at x q) (row_at old q)
       ∙ ap (option_map (λ pool. after_release (classes_in q rooms) (perhaps changed_pool (row_at x q) pool))) (sym (get-owners pool_of old q))
-      ∙ sym (get-map_rows names one_name (λ name pool. after_release (classes_in name rooms) (perhaps changed_pool (row_at x name) pool)) (owners pool_of old) q))
+      ∙ sym (get-map_rows names one_name (λ name pool. after_release (classes_in name rooms) (perhaps changed_pool (row_at x name) pool)) (owners pool_of
+      old) q))
 
   pub classes_stay : HaveClassRoom rooms old → HaveClassRoom rooms risen
   classes_stay room name pool at = by (row_at old name) refl (sym (is name) ∙ at)
@@ -96,7 +98,8 @@ module _ (x : FinMap name_cmp (Option PoolChange)) (rooms : List (Name × Class)
       by true (Some pool) = refl
       by false (Some pool) = refl
 
-pub nodes_stay : (x : FinMap name_cmp (Option PoolChange)) (old new : Pools) → KeepsNodes old new → HaveRoom HasNodeRoom x old → HaveRoom HasNodeRoom x new
+pub nodes_stay : (x : FinMap name_cmp (Option PoolChange)) (old new : Pools) → KeepsNodes old new → EachChanged HasNodeRoom x old → EachChanged HasNodeRoom
+    x new
 nodes_stay x old new keeps room name change pool at there = by (row_at old name) refl
     (sym (keeps name) ∙ ap (option_map (λ pool. pool.nodes)) there)
   where
@@ -105,7 +108,8 @@ nodes_stay x old new keeps room name change pool at there = by (row_at old name)
     by (Some a) was e = subst (HasRoomFor change.nodes) (same_Some _ _ e) (room name change a at was)
 
 -- a release number stays with the pool that is seen
-pub rise_stays : (rooms : List (Name × Class)) (old new : Pools) → owners pool_of new ≡ owners pool_of old → CanRise (λ pool. pool.release) (releases rooms) old →
+pub rise_stays : (rooms : List (Name × Class)) (old new : Pools) → owners pool_of new ≡ owners pool_of old → CanRise (λ pool. pool.release) (releases rooms)
+    old →
     CanRise (λ pool. pool.release) (releases rooms) new
 rise_stays rooms old new same can name pool at chosen = by (row_at old name) refl
     (sym (get-owners pool_of old name) ∙ ap (λ m. get m name) (sym same) ∙ get-owners pool_of new name ∙ ap (option_map pool_of) at)
@@ -162,15 +166,17 @@ module _ (s : Settled) (t : Tables) (fits : Fits (world_of t) s) where
   unfolding world_of settled_world is_past_bound
   tenant_fits name row at = none_of_any one_name (λ _ t. is_tenant_past_bound t) _ name row (left_none _ _ (left_none _ _ fits)) at
 
-  pool_fits : (name : Name) (row : Rows.PoolRows) → get (settled_pools s.pools s.rooms (owners pool_of t.pools)) name ≡ Some row → is_pool_past_bound row ≡ false
+  pool_fits : (name : Name) (row : Rows.PoolRows) → get (settled_pools s.pools s.rooms (owners pool_of t.pools)) name ≡ Some row → is_pool_past_bound row ≡
+      false
   unfolding world_of settled_world is_past_bound
   pool_fits name row at = none_of_any one_name (λ _ p. is_pool_past_bound p) _ name row (right_none _ _ (left_none _ _ fits)) at
 
-  quota_fits : (name : Name) (row : Rows.QuotaRows) → get (released_quotas s.quotas (owners quota_of t.quotas)) name ≡ Some row → nat_lt greatest row.release ≡ false
+  quota_fits : (name : Name) (row : Rows.QuotaRows) → get (released_quotas s.quotas (owners quota_of t.quotas)) name ≡ Some row → nat_lt greatest
+      row.release ≡ false
   unfolding world_of settled_world is_past_bound
   quota_fits name row at = none_of_any one_name (λ _ q. nat_lt greatest q.release) _ name row (right_none _ _ fits) at
 
-  pub can_tell : HaveRoom CanTell s.tenants t.tenants
+  pub can_tell : EachChanged CanTell s.tenants t.tenants
   can_tell name x row at there some = subst (λ n. n < 2 ^ 64) (told (tenant_of row) x some) (within _ (left_none _ _ (left_none _ _
       (tenant_fits name (settled_tenant (tenant_of row) x) (get-changed settled_tenant s.tenants (owners tenant_of t.tenants) name
       ∙ (λ i. option_map (perhaps settled_tenant (at i)) ((get-owners tenant_of t.tenants name ∙ ap (option_map tenant_of) there) i)))))))
@@ -183,7 +189,8 @@ module _ (s : Settled) (t : Tables) (fits : Fits (world_of t) s) where
       by (class ∷ classes) e some = subst (λ n. n < 2 ^ 64)
           (kept (row_at s.pools name))
           (within _ (left_none _ _ (pool_fits name (after_release (class ∷ classes) (perhaps changed_pool (row_at s.pools name) (pool_of pool)))
-          (get-map_rows names one_name (λ name pool. after_release (classes_in name s.rooms) (perhaps changed_pool (row_at s.pools name) pool)) (owners pool_of t.pools) name
+          (get-map_rows names one_name (λ name pool. after_release (classes_in name s.rooms) (perhaps changed_pool (row_at s.pools name) pool)) (owners
+          pool_of t.pools) name
           ∙ (λ i. option_map (λ pool. after_release (e i) (perhaps changed_pool (row_at s.pools name) pool))
           ((get-owners pool_of t.pools name ∙ ap (option_map pool_of) at) i))))))
         where

@@ -1,11 +1,12 @@
 -- Room for all that a settled step changes, and the rows once it is there.
 use Rattle.std.specs.Prelude.{◌≡◌, ℕ, ◌+◌, ◌<◌, ◌≤◌, ◌^◌, Bool, true, false, if◌then◌else◌, List, [], ◌∷◌, Option, Some}
-use Rattle.std.specs.Prelude.{fold, is_some, length, option_map}
+use Rattle.std.specs.Prelude.{IsTrue, fold, is_some, length, option_map}
+use Rattle.std.specs.declared.cmp.Ordering.{Ordering}
 use Rattle.std.specs.Option.{option_map_or}
 use Rattle.std.specs.List.{list_any}
 use Rattle.std.specs.FinMap.{FinMap, insert}
 use Rattle.keyed.specs.Over.{HasRoomFor}
-use Rattle.keyed.specs.Table.{row_at}
+use Rattle.keyed.specs.Table.{has_slot, row_at}
 use Rattle.ns_types.specs.declared.node.Class.{Class}
 use Rattle.ns_types.specs.State.Names.{Name, ByName, name_cmp, has_name, same_name}
 use Rattle.ns_types.specs.Settling.Settle.{after_quota_release, after_release}
@@ -18,7 +19,7 @@ use Rattle.ns_change.specs.declared.change.SettledTenant.{SettledTenant}
 use Rattle.ns_change.specs.declared.change.TenantChange.{TenantChange}
 use Rattle.ns_change.specs.Changed.{changed_pool, perhaps}
 use Rattle.ns_change.specs.Settled.{classes_in, settled_world}
-use Rattle.ns_commit.specs.Owners.{HaveRoom}
+use Rattle.ns_commit.specs.Owners.{EachChanged}
 use Rattle.ns_world.specs.World.{pool_of}
 use Rattle.ns_world.specs.declared.tables.PoolRows.{PoolRows}
 use Rattle.ns_world.specs.declared.tables.QuotaRows.{QuotaRows}
@@ -43,6 +44,21 @@ pub record HasTenantRoom (x : SettledTenant) (t : TenantRows) : Type 0 where
   pub rows : HasRowRoom x.rows t
   pub events : option_map_or length x.events 0 ≤ t.events.room
   pub index : CanTell x t
+
+-- ---- room that is given back
+
+-- no changed row has a vacant slot
+abbrev pub IsCleared : {K X : Type 0} {R : K → K → Ordering} → FinMap R (Option X) → FinMap R (Option X) → Type 0
+IsCleared {K = K} c m = (k : K) → IsTrue (has_slot c k) → IsTrue (has_slot m k) → IsTrue (is_some (row_at m k))
+
+pub record IsTenantCleared (x : SettledTenant) (t : TenantRows) : Type 0 where
+  pub jobs : IsCleared x.rows.jobs t.jobs
+  pub evaluations : IsCleared x.rows.evaluations t.evaluations
+  pub allocations : IsCleared x.rows.allocations t.allocations
+  pub workers : IsCleared x.rows.workers t.workers
+
+abbrev pub IsPoolCleared : PoolChange → PoolRows → Type 0
+IsPoolCleared x pool = IsCleared x.nodes pool.nodes
 
 -- ---- pools
 
@@ -98,7 +114,7 @@ pub record GainsClassRoom (old new : PoolRows) : Type 0 where
 
 pub record HavePoolRoom (x : FinMap name_cmp (Option PoolChange)) (rooms : List (Name × Class))
     (m : FinMap name_cmp (Option PoolRows)) : Type 0 where
-  pub nodes : HaveRoom HasNodeRoom x m
+  pub nodes : EachChanged HasNodeRoom x m
   pub classes : HaveClassRoom rooms m
   pub numbers : CanRise (λ pool. pool.release) (releases rooms) m
 
@@ -119,12 +135,17 @@ released_quotas released m = map_rows (λ name quota. after_quota_release (has_n
 
 -- room for all rows, and numbers that can rise
 pub record HasRoom (s : Settled) (t : Tables) : Type 0 where
-  pub tenants : HaveRoom HasTenantRoom s.tenants t.tenants
+  pub tenants : EachChanged HasTenantRoom s.tenants t.tenants
   pub pools : HavePoolRoom s.pools s.rooms t.pools
   pub quotas : CanRise (λ quota. quota.release) (has_name s.quotas) t.quotas
   pub ready : length s.ready.added ≤ t.ready.room
   pub plans : length s.plans.added ≤ t.plans.room
   pub blocked : length s.blocked.added ≤ t.blocked.room
+
+-- no changed row of a namespace or node has a vacant slot
+pub record AreCleared (s : Settled) (t : Tables) : Type 0 where
+  pub tenants : EachChanged IsTenantCleared s.tenants t.tenants
+  pub pools : EachChanged IsPoolCleared s.pools t.pools
 
 -- no counter passes its bound
 abbrev pub Fits : Rows.World → Settled → Type 0

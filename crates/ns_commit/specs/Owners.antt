@@ -14,11 +14,11 @@ owners seen m = table_of (λ _ row. seen row) (rows m)
 abbrev pub changed_owners : {A X : Type 0} → (A → X → A) → FinMap name_cmp (Option X) → ByName A → ByName A
 changed_owners change c m = map_rows (λ name a. perhaps change (row_at c name) a) m
 
--- the row of each changed owner has room for its change
-abbrev pub HaveRoom : {X Row : Type 0} → (X → Row → Type 0) → FinMap name_cmp (Option X) →
+-- the row of each changed owner is so for its change
+abbrev pub EachChanged : {X Row : Type 0} → (X → Row → Type 0) → FinMap name_cmp (Option X) →
     FinMap name_cmp (Option Row) → Type 0
-HaveRoom {X = X} {Row = Row} Room c m = (name : Name) (x : X) (row : Row) → row_at c name ≡ Some x →
-    row_at m name ≡ Some row → Room x row
+EachChanged {X = X} {Row = Row} So c m = (name : Name) (x : X) (row : Row) → row_at c name ≡ Some x →
+    row_at m name ≡ Some row → So x row
 
 -- a row becomes another, or there is none, before and after
 abbrev pub Turns : {Row : Type 0} → (Row → Row → Type 0) → Option Row → Option Row → Type 0

@@ -1,17 +1,14 @@
 //! A settled change goes into the tables: rows of namespaces with their indexes and events, nodes, release numbers of
 //! pools, classes and quotas, and the three lists. `reserve` makes room for all of it, which may be refused and leaves
-//! the world as it was; `commit` moves it in and takes no memory; `apply` is both. Each costs what the change has,
-//! whatever the tables hold; only the lists are gone through whole.
+//! the world as it was; `commit` moves it in and takes no memory; `apply` is both. Each looks up what the change has.
+//! Only the three lists are gone through whole, and of a pool with releases its classes.
 #![tactic(auto)]
 
+mod clearing;
 mod lists;
 mod namespaces;
 mod pools;
 mod quotas;
 mod settled;
 
-pub use lists::{commit_list, reserve_list};
-pub use namespaces::{commit_tenant, commit_tenants, reserve_tenant, reserve_tenants};
-pub use pools::{commit_pools, reserve_pools};
-pub use quotas::commit_quotas;
 pub use settled::{apply, commit, reserve};

@@ -10,7 +10,10 @@ use ns_types::key::EvalKey;
 use std::alloc::AllocError;
 
 /// Makes room for the new entries.
-pub fn reserve_list(list: &mut Series<EvalKey>, change: &ListChange) -> Result<(), AllocError>
+pub(crate) fn reserve_list(
+    list: &mut Series<EvalKey>,
+    change: &ListChange,
+) -> Result<(), AllocError>
     ensures items { list.new.items ≡ list.old.items }
     ensures room { OnOk result (length change.now.added ≤ list.new.room) }
 {
@@ -18,7 +21,7 @@ pub fn reserve_list(list: &mut Series<EvalKey>, change: &ListChange) -> Result<(
 }
 
 /// Takes the entries out that leave, and puts the new ones at the end. It takes no memory.
-pub fn commit_list(list: &mut Series<EvalKey>, change: ListChange)
+pub(crate) fn commit_list(list: &mut Series<EvalKey>, change: ListChange)
     requires { length change.added ≤ list.old.room }
     ensures { list.new.items ≡ changed_list list.old.items change }
 {

@@ -4,10 +4,11 @@ ghost use Rattle.std.specs.Prelude.{◌≡◌, ◌+◌, ◌<◌, ◌≤◌, ◌^
 ghost use Rattle.keyed.specs.Table.{row_at};
 ghost use Rattle.ns_change.specs.Changed.{changed_tenant};
 ghost use Rattle.ns_change.specs.Settled.{settled_tenant, tell};
-ghost use Rattle.ns_commit.specs.Committed.{CanTell, HasRowRoom, HasTenantRoom};
-ghost use Rattle.ns_commit.specs.Owners.{ChangesRow, HaveRoom, changed_owners, owners};
+ghost use Rattle.ns_commit.specs.Committed.{CanTell, HasRowRoom, HasTenantRoom, IsTenantCleared};
+ghost use Rattle.ns_commit.specs.Owners.{ChangesRow, EachChanged, changed_owners, owners};
 ghost use Rattle.ns_world.specs.World.{tenant_of};
 
+use crate::clearing::{clear_names, clear_numbers};
 use keyed::NameTable;
 use ns_change::{SettledTenant, TenantChange};
 use ns_types::event::Event;
@@ -32,7 +33,10 @@ fn reserve_rows(tenant: &mut TenantRows, change: &TenantChange) -> Result<(), Al
 }
 
 /// Makes room for each changed row and each event of a namespace. Where it is refused, the rows are as they were.
-pub fn reserve_tenant(tenant: &mut TenantRows, settled: &SettledTenant) -> Result<(), AllocError>
+pub(crate) fn reserve_tenant(
+    tenant: &mut TenantRows,
+    settled: &SettledTenant,
+) -> Result<(), AllocError>
     requires { CanTell settled.now tenant.old }
     ensures rows { tenant_of tenant.new ≡ tenant_of tenant.old }
     ensures room { OnOk result (HasTenantRoom settled.now tenant.new) }
@@ -64,14 +68,14 @@ fn reserve_one(
     reserved
 }
 
-/// Makes room for what changes of all namespaces. Want of memory is the only error; the namespaces are as they were.
-pub fn reserve_tenants(
+/// Makes room for what changes of all namespaces. Where it is refused, the namespaces are as they were.
+pub(crate) fn reserve_tenants(
     table: &mut NameTable<TenantRows>,
     changes: &NameTable<SettledTenant>,
 ) -> Result<(), AllocError>
-    requires { HaveRoom CanTell changes.now table.old }
+    requires { EachChanged CanTell changes.now table.old }
     ensures tenants { owners tenant_of table.new ≡ owners tenant_of table.old }
-    ensures room { OnOk result (HaveRoom HasTenantRoom changes.now table.new) }
+    ensures room { OnOk result (EachChanged HasTenantRoom changes.now table.new) }
 {
     for slot in changes.as_slice() {
         if let Some(change) = &slot.1 {
@@ -79,6 +83,41 @@ pub fn reserve_tenants(
         }
     }
     Ok(())
+}
+
+/// Takes the vacant slots of the changed rows of a namespace out again.
+fn clear_tenant(tenant: &mut TenantRows, change: &SettledTenant)
+    ensures rows { tenant_of tenant.new ≡ tenant_of tenant.old }
+    ensures cleared { IsTenantCleared change.now tenant.new }
+{
+    clear_names(&mut tenant.jobs, &change.rows.jobs);
+    clear_numbers(&mut tenant.evaluations, &change.rows.evaluations);
+    clear_numbers(&mut tenant.allocations, &change.rows.allocations);
+    clear_numbers(&mut tenant.workers, &change.rows.workers);
+}
+
+/// The same of the namespace of that name, if it is there.
+fn clear_one(table: &mut NameTable<TenantRows>, namespace: &Text, change: &SettledTenant)
+    ensures rows { ChangesRow (λ a b. tenant_of b ≡ tenant_of a)
+        namespace.now table.old table.new }
+    ensures cleared { IfSome (row_at table.new namespace.now) (IsTenantCleared change.now) }
+{
+    if let Some(mut tenant) = table.take(namespace) {
+        clear_tenant(&mut tenant, change);
+        table.set(namespace, tenant);
+    }
+}
+
+/// Takes the vacant slots of all changed rows of namespaces out again.
+pub(crate) fn clear_tenants(table: &mut NameTable<TenantRows>, changes: &NameTable<SettledTenant>)
+    ensures tenants { owners tenant_of table.new ≡ owners tenant_of table.old }
+    ensures cleared { EachChanged IsTenantCleared changes.now table.new }
+{
+    for slot in changes.as_slice() {
+        if let Some(change) = &slot.1 {
+            clear_one(table, &slot.0, change);
+        }
+    }
 }
 
 /// Moves the changed rows of a namespace in. It takes no memory.
@@ -116,7 +155,7 @@ fn tell(tenant: &mut TenantRows, events: Rows<Event>)
 }
 
 /// Moves what changed of a namespace in. It takes no memory.
-pub fn commit_tenant(tenant: &mut TenantRows, settled: SettledTenant)
+pub(crate) fn commit_tenant(tenant: &mut TenantRows, settled: SettledTenant)
     requires { HasTenantRoom settled tenant.old }
     ensures { tenant_of tenant.new ≡ settled_tenant (tenant_of tenant.old) settled }
 {
@@ -128,8 +167,8 @@ pub fn commit_tenant(tenant: &mut TenantRows, settled: SettledTenant)
 }
 
 /// Moves what changed of all namespaces in. It takes no memory.
-pub fn commit_tenants(table: &mut NameTable<TenantRows>, changes: NameTable<SettledTenant>)
-    requires { HaveRoom HasTenantRoom changes table.old }
+pub(crate) fn commit_tenants(table: &mut NameTable<TenantRows>, changes: NameTable<SettledTenant>)
+    requires { EachChanged HasTenantRoom changes table.old }
     ensures { owners tenant_of table.new
         ≡ changed_owners settled_tenant changes (owners tenant_of table.old) }
 {

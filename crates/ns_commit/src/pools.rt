@@ -1,16 +1,18 @@
 //! What changed of pools goes into the tables: their nodes, and the numbers of their releases.
 
-ghost use Rattle.std.specs.Prelude.{◌≡◌, ◌+◌, ◌<◌, ◌≤◌, ◌^◌, filter, length, true, option_map, IfSome, OnOk};
+ghost use Rattle.std.specs.Prelude.{◌≡◌, ◌+◌, ◌<◌, ◌≤◌, ◌^◌, filter, length, true};
+ghost use Rattle.std.specs.Prelude.{option_map, IfSome, OnOk};
 ghost use Rattle.keyed.specs.Table.{row_at};
 ghost use Rattle.ns_change.specs.Changed.{changed_pool};
 ghost use Rattle.ns_change.specs.Settled.{classes_in};
 ghost use Rattle.ns_types.specs.State.Names.{Name, same_name};
 ghost use Rattle.ns_commit.specs.Committed.{CanRise, ClassPut, HasNodeRoom, HaveClassRoom, KeepsNodes};
-ghost use Rattle.ns_commit.specs.Committed.{GainsClassRoom, HavePoolRoom};
+ghost use Rattle.ns_commit.specs.Committed.{GainsClassRoom, HavePoolRoom, IsPoolCleared};
 ghost use Rattle.ns_commit.specs.Committed.{numbered_pools, raised_pool, releases, settled_pools};
-ghost use Rattle.ns_commit.specs.Owners.{ChangesRow, HaveRoom, changed_owners, owners};
+ghost use Rattle.ns_commit.specs.Owners.{ChangesRow, EachChanged, changed_owners, owners};
 ghost use Rattle.ns_world.specs.World.{pool_of};
 
+use crate::clearing::clear_names;
 use keyed::NameTable;
 use ns_alike::{same_class, same_text};
 use ns_change::PoolChange;
@@ -94,7 +96,7 @@ fn reserve_nodes(
     changes: &NameTable<PoolChange>,
 ) -> Result<(), AllocError>
     ensures pools { owners pool_of table.new ≡ owners pool_of table.old }
-    ensures room { OnOk result (HaveRoom HasNodeRoom changes.now table.new) }
+    ensures room { OnOk result (EachChanged HasNodeRoom changes.now table.new) }
 {
     for slot in changes.as_slice() {
         if let Some(change) = &slot.1 {
@@ -104,8 +106,31 @@ fn reserve_nodes(
     Ok(())
 }
 
-/// Makes room for what changes of all pools. Want of memory is the only error; the pools are as they were.
-pub fn reserve_pools(
+/// Takes the vacant slots of the pool's changed nodes out again.
+fn clear_nodes_in(table: &mut NameTable<PoolRows>, name: &Text, change: &PoolChange)
+    ensures rows { ChangesRow (λ a b. pool_of b ≡ pool_of a) name.now table.old table.new }
+    ensures cleared { IfSome (row_at table.new name.now) (IsPoolCleared change.now) }
+{
+    if let Some(mut pool) = table.take(name) {
+        clear_names(&mut pool.nodes, &change.nodes);
+        table.set(name, pool);
+    }
+}
+
+/// Takes the vacant slots of all changed nodes out again.
+pub(crate) fn clear_nodes(table: &mut NameTable<PoolRows>, changes: &NameTable<PoolChange>)
+    ensures pools { owners pool_of table.new ≡ owners pool_of table.old }
+    ensures cleared { EachChanged IsPoolCleared changes.now table.new }
+{
+    for slot in changes.as_slice() {
+        if let Some(change) = &slot.1 {
+            clear_nodes_in(table, &slot.0, change);
+        }
+    }
+}
+
+/// Makes room for what changes of all pools. Where it is refused, the pools are as they were.
+pub(crate) fn reserve_pools(
     table: &mut NameTable<PoolRows>,
     changes: &NameTable<PoolChange>,
     rooms: &[Room],
@@ -198,7 +223,7 @@ fn commit_nodes_in(table: &mut NameTable<PoolRows>, name: &Text, change: PoolCha
 
 /// Moves the changed nodes of all pools in. It takes no memory.
 fn commit_nodes(table: &mut NameTable<PoolRows>, changes: NameTable<PoolChange>)
-    requires { HaveRoom HasNodeRoom changes table.old }
+    requires { EachChanged HasNodeRoom changes table.old }
     ensures { owners pool_of table.new
         ≡ changed_owners changed_pool changes (owners pool_of table.old) }
 {
@@ -210,7 +235,7 @@ fn commit_nodes(table: &mut NameTable<PoolRows>, changes: NameTable<PoolChange>)
 }
 
 /// Moves what changed of all pools in: release numbers, classes with their numbers, nodes. It takes no memory.
-pub fn commit_pools(
+pub(crate) fn commit_pools(
     table: &mut NameTable<PoolRows>,
     changes: NameTable<PoolChange>,
     rooms: Rows<Room>,

@@ -24,7 +24,7 @@ fn raise_quota(table: &mut NameTable<QuotaRows>, name: &Text)
 }
 
 /// Each of those quotas has one more release. It takes no memory.
-pub fn commit_quotas(table: &mut NameTable<QuotaRows>, released: &[Text])
+pub(crate) fn commit_quotas(table: &mut NameTable<QuotaRows>, released: &[Text])
     requires { CanRise (λ quota. quota.release) (has_name released.now) table.old }
     ensures { owners quota_of table.new
         ≡ released_quotas released.now (owners quota_of table.old) }

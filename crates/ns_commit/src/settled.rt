@@ -2,20 +2,19 @@
 
 ghost use Rattle.std.specs.Prelude.{◌≡◌, OnErr, OnOk};
 ghost use Rattle.ns_change.specs.Settled.{settled_world};
-ghost use Rattle.ns_commit.specs.Committed.{Fits, HasRoom};
+ghost use Rattle.ns_commit.specs.Committed.{AreCleared, Fits, HasRoom};
 ghost use Rattle.ns_world.specs.World.{world_of};
 
 use crate::lists::{commit_list, reserve_list};
-use crate::namespaces::{commit_tenants, reserve_tenants};
-use crate::pools::{commit_pools, reserve_pools};
+use crate::namespaces::{clear_tenants, commit_tenants, reserve_tenants};
+use crate::pools::{clear_nodes, commit_pools, reserve_pools};
 use crate::quotas::commit_quotas;
 use ns_change::Settled;
 use ns_world::Tables;
 use std::alloc::AllocError;
 
-/// Makes room for all that a settled step changes. Want of memory is the only error, and the world is as it was: only
-/// vacant slots and room were made, which stay.
-pub fn reserve(tables: &mut Tables, settled: &Settled) -> Result<(), AllocError>
+/// Makes room for all that a settled step changes; where memory is wanting, it stops there.
+fn reserve_parts(tables: &mut Tables, settled: &Settled) -> Result<(), AllocError>
     requires { Fits (world_of tables.old) settled.now }
     ensures world { world_of tables.new ≡ world_of tables.old }
     ensures room { OnOk result (HasRoom settled.now tables.new) }
@@ -25,6 +24,30 @@ pub fn reserve(tables: &mut Tables, settled: &Settled) -> Result<(), AllocError>
     reserve_list(&mut tables.ready, &settled.ready)?;
     reserve_list(&mut tables.plans, &settled.plans)?;
     reserve_list(&mut tables.blocked, &settled.blocked)
+}
+
+/// Takes the vacant slots of all that was to change out again.
+fn clear(tables: &mut Tables, settled: &Settled)
+    ensures world { world_of tables.new ≡ world_of tables.old }
+    ensures cleared { AreCleared settled.now tables.new }
+{
+    clear_tenants(&mut tables.tenants, &settled.tenants);
+    clear_nodes(&mut tables.pools, &settled.pools);
+}
+
+/// Makes room for all that a settled step changes. Want of memory is the only error: then the world is as it was, and no
+/// changed row of a namespace, nor node, has a vacant slot; room of lists may be left.
+pub fn reserve(tables: &mut Tables, settled: &Settled) -> Result<(), AllocError>
+    requires { Fits (world_of tables.old) settled.now }
+    ensures world { world_of tables.new ≡ world_of tables.old }
+    ensures room { OnOk result (HasRoom settled.now tables.new) }
+    ensures cleared { OnErr result (AreCleared settled.now tables.new) }
+{
+    if let Err(refused) = reserve_parts(tables, settled) {
+        clear(tables, settled);
+        return Err(refused);
+    }
+    Ok(())
 }
 
 /// Moves all that a settled step changes in. It takes no memory.
@@ -50,11 +73,13 @@ pub fn commit(tables: &mut Tables, settled: Settled)
     drop(quotas);
 }
 
-/// Moves all that a settled step changes in, or nothing. Want of memory is the only error.
+/// Moves all that a settled step changes in, or nothing. Want of memory is the only error; what is left of slots then is
+/// said at `reserve`.
 pub fn apply(tables: &mut Tables, settled: Settled) -> Result<(), AllocError>
     requires { Fits (world_of tables.old) settled }
     ensures ok { OnOk result (world_of tables.new ≡ settled_world (world_of tables.old) settled) }
     ensures err { OnErr result (world_of tables.new ≡ world_of tables.old) }
+    ensures cleared { OnErr result (AreCleared settled tables.new) }
 {
     reserve(tables, &settled)?;
     commit(tables, settled);

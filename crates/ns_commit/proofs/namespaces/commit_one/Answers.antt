@@ -20,7 +20,8 @@ set-requires c = subst (λ m. IsTrue (has_slot m c.args.namespace.now)) (sym c.t
 
 pub returns-in-Some : goal.returns-in-Some
 returns-in-Some c = there (λ a b. tenant_of b ≡ settled_tenant (tenant_of a) c.args.change) c.args.namespace.now c.args.table.now c.take.new.self
-    c.take.ensures.slots c.set.new.self c.in-Some.tenant c.commit_tenant.new.tenant (sym c.take.ensures.row ∙ c.in-Some.is) c.commit_tenant.ensures c.set.ensures
+    c.take.ensures.slots c.set.new.self c.in-Some.tenant c.commit_tenant.new.tenant (sym c.take.ensures.row ∙ c.in-Some.is) c.commit_tenant.ensures
+    c.set.ensures
 
 pub returns-in-None : goal.returns-in-None
 returns-in-None c = nowhere _ c.args.namespace.now c.args.table.now c.take.new.self c.take.ensures.slots (sym c.take.ensures.row ∙ c.in-None.is)

@@ -24,7 +24,8 @@ pub loop-namespace-preserved : goal.loop-namespace-preserved
 loop-namespace-preserved c = elim c.match-slot.branch [
   | in-Some-slot w ↦ one_done tenant_of settled_tenant HasTenantRoom c.loop-namespace.table c.match-slot.table c.in-Some.namespace c.in-Some.slot _ _ _
       c.in-Some.ensures.steps.0 c.loop-namespace.invariant w.in-Some-slot.change w.in-Some-slot.is
-      (subst (λ m. ChangesRow (λ a b. tenant_of b ≡ settled_tenant (tenant_of a) w.in-Some-slot.change) c.in-Some.namespace c.loop-namespace.table m) (sym w.table-is) w.commit_one.ensures)
+      (subst (λ m. ChangesRow (λ a b. tenant_of b ≡ settled_tenant (tenant_of a) w.in-Some-slot.change) c.in-Some.namespace c.loop-namespace.table m) (sym
+      w.table-is) w.commit_one.ensures)
   | in_default w ↦ none_done tenant_of settled_tenant HasTenantRoom c.loop-namespace.table c.match-slot.table c.in-Some.namespace c.in-Some.slot _ _ _
       c.in-Some.ensures.steps.0 c.loop-namespace.invariant w.in_default.is w.table-is
 ]

@@ -18,7 +18,8 @@ set-requires c = subst (λ m. IsTrue (has_slot m c.args.namespace.now)) (sym c.t
     (has_slot-row c.args.table.now c.args.namespace.now c.in-Some.tenant (sym c.take.ensures.row ∙ c.in-Some.is)))
 
 pub returns-in_default-clause-rows : goal.returns-in_default-clause-rows
-returns-in_default-clause-rows c = nowhere (λ a b. tenant_of b ≡ tenant_of a) c.args.namespace.now c.args.table.now c.take.new.self c.take.ensures.slots (sym c.take.ensures.row ∙ c.in_default.is)
+returns-in_default-clause-rows c = nowhere (λ a b. tenant_of b ≡ tenant_of a) c.args.namespace.now c.args.table.now c.take.new.self c.take.ensures.slots
+    (sym c.take.ensures.row ∙ c.in_default.is)
 
 pub returns-in_default-clause-room : goal.returns-in_default-clause-room
 returns-in_default-clause-room c = no_row (λ a b. tenant_of b ≡ tenant_of a) c.args.namespace.now c.args.table.now c.take.new.self c.take.ensures.slots
@@ -29,5 +30,6 @@ returns-clause-rows c = there (λ a b. tenant_of b ≡ tenant_of a) c.args.names
     c.in-Some.tenant _ (sym c.take.ensures.row ∙ c.in-Some.is) c.reserve_tenant-reserved.ensures.rows c.set.ensures
 
 pub returns-clause-room : goal.returns-clause-room
-returns-clause-room c = on_ok c.reserve_tenant-reserved.result (row_there (λ a b. tenant_of b ≡ tenant_of a) c.args.namespace.now c.args.table.now c.take.new.self
+returns-clause-room c = on_ok c.reserve_tenant-reserved.result (row_there (λ a b. tenant_of b ≡ tenant_of a) c.args.namespace.now c.args.table.now
+    c.take.new.self
     c.take.ensures.slots (HasTenantRoom c.args.change.now) c.set.new.self _ c.set.ensures) c.reserve_tenant-reserved.ensures.room

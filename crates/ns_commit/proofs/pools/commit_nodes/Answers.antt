@@ -24,7 +24,8 @@ pub loop-name-preserved : goal.loop-name-preserved
 loop-name-preserved c = elim c.match-slot.branch [
   | in-Some-slot w ↦ one_done pool_of changed_pool HasNodeRoom c.loop-name.table c.match-slot.table c.in-Some.name c.in-Some.slot _ _ _
       c.in-Some.ensures.steps.0 c.loop-name.invariant w.in-Some-slot.change w.in-Some-slot.is
-      (subst (λ m. ChangesRow (λ a b. pool_of b ≡ changed_pool (pool_of a) w.in-Some-slot.change) c.in-Some.name c.loop-name.table m) (sym w.table-is) w.commit_nodes_in.ensures)
+      (subst (λ m. ChangesRow (λ a b. pool_of b ≡ changed_pool (pool_of a) w.in-Some-slot.change) c.in-Some.name c.loop-name.table m) (sym w.table-is)
+      w.commit_nodes_in.ensures)
   | in_default w ↦ none_done pool_of changed_pool HasNodeRoom c.loop-name.table c.match-slot.table c.in-Some.name c.in-Some.slot _ _ _
       c.in-Some.ensures.steps.0 c.loop-name.invariant w.in_default.is w.table-is
 ]

@@ -37,4 +37,5 @@ pub returns-clause-pools : goal.returns-clause-pools
 returns-clause-pools c = same_pools c.loop-i.table c.args.table.now c.loop-i.invariant.pools
 
 pub returns-clause-room : goal.returns-clause-room
-returns-clause-room c = all_places c.loop-i.table c.args.table.now _ c.args.rooms.now (drop_of_length-le c.args.rooms.now c.loop-i-test.false) c.loop-i.invariant
+returns-clause-room c = all_places c.loop-i.table c.args.table.now _ c.args.rooms.now (drop_of_length-le c.args.rooms.now c.loop-i-test.false)
+    c.loop-i.invariant

@@ -20,7 +20,8 @@ set-requires c = subst (λ m. IsTrue (has_slot m c.args.name.now)) (sym c.take.e
     (has_slot-row c.args.table.now c.args.name.now c.in-Some.pool (sym c.take.ensures.row ∙ c.in-Some.is)))
 
 pub returns-in_default-clause-rows : goal.returns-in_default-clause-rows
-returns-in_default-clause-rows c = nowhere GainsClassRoom c.args.name.now c.args.table.now c.take.new.self c.take.ensures.slots (sym c.take.ensures.row ∙ c.in_default.is)
+returns-in_default-clause-rows c = nowhere GainsClassRoom c.args.name.now c.args.table.now c.take.new.self c.take.ensures.slots (sym c.take.ensures.row ∙
+    c.in_default.is)
 
 pub returns-in_default-clause-room : goal.returns-in_default-clause-room
 returns-in_default-clause-room c = no_row GainsClassRoom c.args.name.now c.args.table.now c.take.new.self c.take.ensures.slots
@@ -28,11 +29,18 @@ returns-in_default-clause-room c = no_row GainsClassRoom c.args.name.now c.args.
 
 pub returns-clause-rows : goal.returns-clause-rows
 returns-clause-rows c = there GainsClassRoom c.args.name.now c.args.table.now c.take.new.self c.take.ensures.slots c.set.new.self
-    c.in-Some.pool _ (sym c.take.ensures.row ∙ c.in-Some.is) (record { pool = (λ i. record (pool_of c.in-Some.pool) { classes = from_entries {R = class_cmp} (c.reserve-reserved.ensures.items i) }); nodes = refl }) c.set.ensures
+    c.in-Some.pool _ (sym c.take.ensures.row ∙ c.in-Some.is) (record {
+      pool = (λ i. record (pool_of c.in-Some.pool) {
+        classes = from_entries {R = class_cmp}
+            (c.reserve-reserved.ensures.items i);
+      });
+      nodes = refl;
+    }) c.set.ensures
 
 pub returns-clause-room : goal.returns-clause-room
 returns-clause-room c = on_ok c.reserve-reserved.result (λ room. row_there GainsClassRoom c.args.name.now c.args.table.now c.take.new.self
     c.take.ensures.slots (λ pool. length (classes_in c.args.name.now c.args.rooms.now) ≤ pool.classes.room) c.set.new.self _ c.set.ensures
     (subst (λ n. n ≤ c.reserve-reserved.new.self.room)
-    (c.count_classes.ensures ∙ sym (length-map (filter (λ (room : Name × Class). same_name c.args.name.now room.0) c.args.rooms.now) (λ (room : Name × Class). room.1))) room))
+    (c.count_classes.ensures ∙ sym (length-map (filter (λ (room : Name × Class). same_name c.args.name.now room.0) c.args.rooms.now) (λ (room : Name ×
+    Class). room.1))) room))
     c.reserve-reserved.ensures.ok

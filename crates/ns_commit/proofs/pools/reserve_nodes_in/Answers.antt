@@ -15,7 +15,8 @@ set-requires c = subst (λ m. IsTrue (has_slot m c.args.name.now)) (sym c.take.e
     (has_slot-row c.args.table.now c.args.name.now c.in-Some.pool (sym c.take.ensures.row ∙ c.in-Some.is)))
 
 pub returns-in_default-clause-rows : goal.returns-in_default-clause-rows
-returns-in_default-clause-rows c = nowhere (λ a b. pool_of b ≡ pool_of a) c.args.name.now c.args.table.now c.take.new.self c.take.ensures.slots (sym c.take.ensures.row ∙ c.in_default.is)
+returns-in_default-clause-rows c = nowhere (λ a b. pool_of b ≡ pool_of a) c.args.name.now c.args.table.now c.take.new.self c.take.ensures.slots (sym
+    c.take.ensures.row ∙ c.in_default.is)
 
 pub returns-in_default-clause-room : goal.returns-in_default-clause-room
 returns-in_default-clause-room c = no_row (λ a b. pool_of b ≡ pool_of a) c.args.name.now c.args.table.now c.take.new.self c.take.ensures.slots
@@ -23,7 +24,8 @@ returns-in_default-clause-room c = no_row (λ a b. pool_of b ≡ pool_of a) c.ar
 
 pub returns-clause-rows : goal.returns-clause-rows
 returns-clause-rows c = there (λ a b. pool_of b ≡ pool_of a) c.args.name.now c.args.table.now c.take.new.self c.take.ensures.slots c.set.new.self
-    c.in-Some.pool _ (sym c.take.ensures.row ∙ c.in-Some.is) (λ i. record (pool_of c.in-Some.pool) { nodes = c.reserve_all-reserved.ensures.rows i }) c.set.ensures
+    c.in-Some.pool _ (sym c.take.ensures.row ∙ c.in-Some.is) (λ i. record (pool_of c.in-Some.pool) { nodes = c.reserve_all-reserved.ensures.rows i })
+    c.set.ensures
 
 pub returns-clause-room : goal.returns-clause-room
 returns-clause-room c = on_ok c.reserve_all-reserved.result (row_there (λ a b. pool_of b ≡ pool_of a) c.args.name.now c.args.table.now c.take.new.self

@@ -2,7 +2,7 @@ use Rattle.std.proofs.Common.{refl, sym, subst}
 use Rattle.ns_commit.specs.Committed.{CanRise, HavePoolRoom, releases}
 use Rattle.ns_commit.proofs.Owners.{on_ok}
 use Rattle.ns_commit.proofs.Whole.{can_tell, pools_rise, quotas_rise, same_world}
-use Rattle.ns_commit.proofs.settled.reserve.Goals as goal
+use Rattle.ns_commit.proofs.settled.reserve_parts.Goals as goal
 
 pub reserve_tenants-requires : goal.reserve_tenants-requires
 reserve_tenants-requires c = can_tell c.args.settled.now c.args.tables.now c.requires

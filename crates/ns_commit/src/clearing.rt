@@ -1,0 +1,27 @@
+//! Vacant slots that are not needed any more.
+
+ghost use Rattle.std.specs.Prelude.{◌≡◌};
+ghost use Rattle.keyed.specs.Table.{rows};
+ghost use Rattle.ns_commit.specs.Committed.{IsCleared};
+
+use keyed::{NameTable, NumberTable};
+
+/// Takes the vacant slots of the changed rows out.
+pub(crate) fn clear_names<V: Drop>(table: &mut NameTable<V>, changes: &NameTable<V>)
+    ensures rows { rows table.new ≡ rows table.old }
+    ensures cleared { IsCleared changes.now table.new }
+{
+    for slot in changes.as_slice() {
+        table.clear_slot(&slot.0);
+    }
+}
+
+/// Takes the vacant slots of the changed rows out.
+pub(crate) fn clear_numbers<V: Drop>(table: &mut NumberTable<V>, changes: &NumberTable<V>)
+    ensures rows { rows table.new ≡ rows table.old }
+    ensures cleared { IsCleared changes.now table.new }
+{
+    for slot in changes.as_slice() {
+        table.clear_slot(slot.0);
+    }
+}
