@@ -1,12 +1,18 @@
 //! A server takes steps itself.
 
+ghost use Rattle.std.specs.Prelude.{◌≡◌, IfOk};
 ghost use Rattle.ns_types.specs.State.Rows.{State};
+ghost use Rattle.ns_types.specs.Steps.{opening};
 
-use crate::answering::Takes;
+use crate::answering::{Api, Takes};
+use crate::drawing::Draws;
 use ns_core::Core;
+use ns_types::name::Name;
 use ns_types::refusal::Refusal;
 use ns_types::reply::Reply;
 use ns_types::step::Step;
+use ns_types::text::Text;
+use std::alloc::{AllocError, Global};
 
 impl Takes for Core {
     ghost state = { λ core. core };
@@ -21,4 +27,23 @@ impl Takes for Core {
             _ => unreachable!(),
         }
     }
+}
+
+/// A new server, which answers requests.
+pub fn open<D: Draws + Drop>(
+    alloc: Global,
+    bootstrap: &Name<'_>,
+    draws: D,
+) -> Result<Api<Core, D>, AllocError>
+    ensures taker { IfOk result (λ api. api.taker ≡ opening bootstrap.now) }
+    ensures drawer { IfOk result (λ api. api.draws ≡ draws) }
+{
+    let secret = Text::from_str(alloc, bootstrap.as_str())?;
+    let core = Core::new(alloc, &secret)?;
+    Api::new(alloc, core, draws)
+}
+
+/// Lets a server go. Its value is large, so its end is proved here and not by each caller.
+pub fn close<D: Draws + Drop>(api: Api<Core, D>) {
+    drop(api);
 }

@@ -13,5 +13,6 @@ mod wanted;
 
 pub use answering::{Api, Takes};
 pub use asking::asked;
+pub use cores::{close, open};
 pub use drawing::Draws;
 pub use serving::serve;

@@ -1,33 +1,17 @@
 //! One connection with a new server.
 
-ghost use Rattle.std.specs.Prelude.{◌≡◌, IfOk};
+ghost use Rattle.std.specs.Prelude.{◌≡◌};
 ghost use Rattle.ns_types.specs.Steps.{opening};
 ghost use Rattle.ns_pipe.specs.Ending.{IsEnd, EndsServed, EndsByReader, EndsByWriter};
 ghost use Rattle.ns_pipe.specs.Lines.{Tells, status_of, line_of};
 
 use crate::lines::tell;
 use crate::status::{OUT_OF_MEMORY, READ_FAULT, SERVED, WRITE_FAULT};
-use ns_api::{Api, Draws, serve};
-use ns_core::Core;
+use ns_api::{Draws, close, open, serve};
 use ns_http::{ConnFault, Counted};
 use ns_types::name::Name;
-use ns_types::text::Text;
-use std::alloc::{AllocError, Global};
+use std::alloc::Global;
 use std::io::{Read, Write};
-
-/// A new server.
-fn opened<D: Draws + Drop>(
-    alloc: Global,
-    bootstrap: &Name<'_>,
-    draws: D,
-) -> Result<Api<Core, D>, AllocError>
-    ensures taker { IfOk result (λ api. api.taker ≡ opening bootstrap.now) }
-    ensures drawer { IfOk result (λ api. api.draws ≡ draws) }
-{
-    let secret = Text::from_str(alloc, bootstrap.as_str())?;
-    let core = Core::new(alloc, &secret)?;
-    Api::new(alloc, core, draws)
-}
 
 /// Serves one connection with a new server, and says the exit status.
 pub fn pipe<D: Draws + Drop, R: Read, W: Write, E: Write>(
@@ -51,11 +35,11 @@ pub fn pipe<D: Draws + Drop, R: Read, W: Write, E: Write>(
     ensures told { (fault : ConnFault) → result ≡ status_of fault
         → Tells E.contents errors.old errors.new (line_of fault) }
 {
-    let Ok(mut api) = opened(alloc, bootstrap, draws) else {
+    let Ok(mut api) = open(alloc, bootstrap, draws) else {
         return tell(ConnFault::Memory, errors);
     };
     let ended = serve(alloc, reader, writer, &mut api);
-    drop(api);
+    close(api);
     match ended {
         Ok(_) => SERVED,
         Err(fault) => tell(fault, errors),
