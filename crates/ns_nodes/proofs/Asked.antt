@@ -4,6 +4,7 @@ use Rattle.std.proofs.Common.{refl, ap, subst, sym, ◌∙◌}
 use Rattle.std.specs.Option.{option_and_then, option_map_or}
 use Rattle.std.specs.FinMap.{contains_key, get, len}
 use Rattle.ns_types.specs.declared.node.Node.{Node}
+use Rattle.ns_types.specs.declared.node.NodeStatus.TheVariants as NodeStatus
 use Rattle.ns_types.specs.declared.node.Offer.{Offer}
 use Rattle.ns_types.specs.declared.refusal.Refusal.{Refusal}
 use Rattle.ns_types.specs.declared.reply.Content.{Content}
@@ -64,6 +65,21 @@ module _ (w : World) (pool name : Name) (eligible : Bool) where
       Done Content.Written (change_pool pool (with_node name (record node { eligible = eligible })) w)
   unfolding ask_pool
   there node is = one_node w pool name sets node (with_node name (record node { eligible = eligible })) is (λ p. refl)
+
+-- ---- a node that is up
+
+module _ (w : World) (pool name : Name) where
+  abbrev readies : PoolRows → Node → Outcome World
+  readies p node = Done Content.Written (put_pool pool (with_node name (record node { status = NodeStatus.Ready }) p) w)
+
+  pub none_ready : node_at w pool name ≡ None → ask_pool pool (NodeCommand.SetStatus name NodeStatus.Ready) w ≡ Refused Refusal.NotFound
+  unfolding ask_pool
+  none_ready is = no_node w pool name readies is
+
+  pub ready_again : (node : Node) → node_at w pool name ≡ Some node → ask_pool pool (NodeCommand.SetStatus name NodeStatus.Ready) w ≡
+      Done Content.Written (change_pool pool (with_node name (record node { status = NodeStatus.Ready })) w)
+  unfolding ask_pool
+  ready_again node is = one_node w pool name readies node (with_node name (record node { status = NodeStatus.Ready })) is (λ p. refl)
 
 -- ---- removal
 

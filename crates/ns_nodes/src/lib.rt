@@ -6,6 +6,6 @@ mod eligible;
 mod registered;
 mod removed;
 
-pub use eligible::set_eligible;
+pub use eligible::{set_eligible, set_ready};
 pub use registered::register_node;
 pub use removed::remove_node;
