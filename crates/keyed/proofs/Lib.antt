@@ -5,3 +5,4 @@ pub mod Ordered
 pub mod Over
 pub mod Places
 pub mod Tables
+pub mod Viewing

@@ -5,7 +5,8 @@ use Rattle.std.specs.Option.{option_and_then, option_map_or}
 use Rattle.std.specs.List.{list_any}
 use Rattle.std.specs.FinMap.{contains_key, entries, get}
 use Rattle.keyed.specs.Table.{at_slot, row_at, rows}
-use Rattle.keyed.proofs.Tables.{any-at_slot, entries-rows, get-rows}
+use Rattle.keyed.proofs.Tables.{get-rows}
+use Rattle.keyed.proofs.Viewing.{any_row-table_of}
 use Rattle.ns_types.specs.declared.evaluation.Evaluation.{Evaluation}
 use Rattle.ns_types.specs.declared.refusal.Refusal.{Refusal}
 use Rattle.ns_types.specs.declared.refusal.Refusal.TheVariants as Refusal
@@ -29,11 +30,8 @@ use Rattle.ns_world.specs.declared.tables.TenantRows.{TenantRows}
 use Rattle.ns_world.specs.World.{tenant_of, world_of}
 
 pub idle_is : (t : Tables) (number : ℕ) → not (list_any (is_busy_for number) (entries t.tenants)) ≡ is_idle (world_of t) number
-unfolding any_row world_of
-idle_is t number = ap not (sym (ap (list_any (λ e. contains_key e.1.workers number)) (entries-table_of (λ (_ : Name) (x : TenantRows). tenant_of x) (rows t.tenants))
-    ∙ any_map (λ (e : Name × Tenant). contains_key e.1.workers number) (λ (e : Name × TenantRows). (e.0, tenant_of e.1)) (entries (rows t.tenants))
-    ∙ ap (list_any (λ e. contains_key (rows e.1.workers) number)) (entries-rows t.tenants)
-    ∙ sym (any-at_slot name_cmp (λ (e : Name × TenantRows). contains_key (rows e.1.workers) number) (entries t.tenants))
+unfolding world_of
+idle_is t number = ap not (sym (any_row-table_of (λ (_ : Name) (x : TenantRows). tenant_of x) (λ _ tenant. contains_key tenant.workers number) t.tenants
     ∙ (λ i. list_any (at_slot (λ (e : Name × TenantRows). is_some (get-rows numbers e.1.workers number i))) (entries t.tenants))))
 
 module _ (number : ℕ) (key : Key) (w : World) where

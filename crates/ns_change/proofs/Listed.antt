@@ -28,6 +28,7 @@ use Rattle.ns_world.specs.World.{world_of}
 use Rattle.ns_change.proofs.Any.{any_append}
 use Rattle.keyed.proofs.Applying.{empty_by}
 use Rattle.keyed.proofs.Over.{any_row-both}
+use Rattle.keyed.proofs.Viewing.{any_row-rows}
 use Rattle.ns_change.proofs.Waking.{unblock_one, wake_is, without_keys}
 use Rattle.ns_types.specs.Settling.Settle.{wake}
 use Rattle.ns_change.proofs.Seen.{changed_seen, kept_seen, none_seen}
@@ -54,19 +55,15 @@ module _ (t : Tables) (c : Change) (ns : Name) (f : Worker → Bool) where
   pub works_nowhere : row_at t.tenants ns ≡ None → works (get (view t c).tenants ns) ≡ false
   works_nowhere is = ap works (none_seen t c ns is)
 
-  scanned : (m : FinMap nat_cmp (Option Worker)) (g : ℕ → Worker → Bool) → any_row g (rows m) ≡ list_any (at_slot (λ e. g e.0 e.1)) (entries m)
-  unfolding any_row
-  scanned m g = ap (list_any (λ e. g e.0 e.1)) (entries-rows m) ∙ sym (any-at_slot nat_cmp (λ e. g e.0 e.1) (entries m))
-
   pub works_kept : (x : TenantRows) → row_at t.tenants ns ≡ Some x → row_at c.tenants ns ≡ None →
       works (get (view t c).tenants ns) ≡ list_any (at_slot (λ e. f e.1)) (entries x.workers)
-  works_kept x is none = ap works (kept_seen t c ns x is none) ∙ scanned x.workers (λ _. f)
+  works_kept x is none = ap works (kept_seen t c ns x is none) ∙ any_row-rows (λ _. f) x.workers
 
   pub works_changed : (x : TenantRows) (y : TenantChange) → row_at t.tenants ns ≡ Some x → row_at c.tenants ns ≡ Some y → works (get (view t c).tenants ns)
       ≡ (list_any (at_slot (λ e. f e.1)) (entries y.workers) || list_any (λ slot. not (contains_key y.workers slot.0) && at_slot (λ e. f e.1) slot)
       (entries x.workers))
   works_changed x y is some = ap works (changed_seen t c ns x y is some) ∙ any_row-both numbers one_number (λ _. f) y.workers (rows x.workers)
-      ∙ ap (λ b. list_any (at_slot (λ e. f e.1)) (entries y.workers) || b) (scanned x.workers (λ n worker. not (contains_key y.workers n) && f worker)
+      ∙ ap (λ b. list_any (at_slot (λ e. f e.1)) (entries y.workers) || b) (any_row-rows (λ n worker. not (contains_key y.workers n) && f worker) x.workers
       ∙ any_alike _ (λ slot. not (contains_key y.workers slot.0) && at_slot (λ e. f e.1) slot) (entries x.workers) (each _ by (entries x.workers)))
     where
       none : (b : Bool) → false ≡ (b && false)

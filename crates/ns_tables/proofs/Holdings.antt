@@ -19,7 +19,7 @@ use Rattle.ns_types.specs.State.Rows.{is_live, is_open}
 use Rattle.ns_types.specs.State.Tables.{any_row}
 use Rattle.ns_tables.specs.declared.tables.TenantRows.{TenantRows}
 use Rattle.ns_tables.specs.Viewed.{job_in, open_in, tenant_of}
-use Rattle.ns_tables.proofs.Viewing.{any_row-rows}
+use Rattle.keyed.proofs.Viewing.{any_row-rows}
 
 -- the answer where the first of two tests passes, and where it fails
 pub either_first : (a b s : Bool) → a ≡ true → (a || b) ≡ s → a ≡ s

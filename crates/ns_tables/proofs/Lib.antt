@@ -1,6 +1,5 @@
 pub mod Holdings
 pub mod Listing
 pub mod Opening
-pub mod Viewing
 pub mod World
 pub mod Written

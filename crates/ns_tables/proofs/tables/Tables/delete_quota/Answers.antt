@@ -7,7 +7,7 @@ use Rattle.ns_types.specs.Settling.Outcome.{Done}
 use Rattle.ns_types.specs.State.Sums.{names_quota}
 use Rattle.ns_tables.specs.Viewed.{tenant_names_quota, tenant_of}
 use Rattle.ns_types.proofs.Outcomes.{found_absent, found_there, unless_not, unless_so}
-use Rattle.ns_tables.proofs.Viewing.{any_row-table_of}
+use Rattle.keyed.proofs.Viewing.{any_row-table_of}
 use Rattle.ns_tables.proofs.World.{quota_removed, quota_there}
 use Rattle.ns_tables.proofs.tables.Tables.delete_quota.Goals as goal
 

@@ -4,7 +4,7 @@ use Rattle.keyed.specs.Table.{at_slot}
 use Rattle.ns_types.specs.Asking.Admins.{looks_to_pool, names_pool}
 use Rattle.ns_types.specs.State.Names.{same_name}
 use Rattle.ns_tables.specs.Viewed.{tenant_of, tenant_uses_pool}
-use Rattle.ns_tables.proofs.Viewing.{any_row-table_of}
+use Rattle.keyed.proofs.Viewing.{any_row-table_of}
 use Rattle.ns_tables.proofs.tables.Tables.is_pool_in_use.Goals as goal
 
 pub returns : goal.returns

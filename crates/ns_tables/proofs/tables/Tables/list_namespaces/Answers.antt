@@ -3,7 +3,7 @@ use Rattle.std.proofs.Common.{sym, ap, ◌∙◌}
 use Rattle.keyed.specs.Table.{row_list}
 use Rattle.ns_types.specs.declared.reply.Content.TheVariants as Content
 use Rattle.ns_tables.specs.Viewed.{namespace_shown, tenant_of}
-use Rattle.ns_tables.proofs.Viewing.{listed}
+use Rattle.keyed.proofs.Viewing.{listed}
 use Rattle.ns_tables.proofs.tables.Tables.list_namespaces.Goals as goal
 
 pub returns : goal.returns

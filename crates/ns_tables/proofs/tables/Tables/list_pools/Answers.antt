@@ -4,7 +4,7 @@ use Rattle.keyed.specs.Table.{row_list}
 use Rattle.ns_types.specs.declared.reply.Content.TheVariants as Content
 use Rattle.ns_types.specs.Asking.Admins.{with_pool}
 use Rattle.ns_tables.specs.Viewed.{pool_shown}
-use Rattle.ns_tables.proofs.Viewing.{listed}
+use Rattle.keyed.proofs.Viewing.{listed}
 use Rattle.ns_tables.proofs.tables.Tables.list_pools.Goals as goal
 
 pub returns : goal.returns

@@ -3,7 +3,7 @@ use Rattle.std.proofs.Common.{sym, ap, ◌∙◌}
 use Rattle.keyed.specs.Table.{row_list}
 use Rattle.ns_types.specs.declared.reply.Content.TheVariants as Content
 use Rattle.ns_tables.specs.Viewed.{quota_of, quota_shown}
-use Rattle.ns_tables.proofs.Viewing.{listed_all}
+use Rattle.keyed.proofs.Viewing.{listed_all}
 use Rattle.ns_tables.proofs.tables.Tables.list_quotas.Goals as goal
 
 pub returns : goal.returns

@@ -7,7 +7,7 @@ use Rattle.ns_types.specs.State.Names.{same_name}
 use Rattle.ns_types.specs.Access.Sharing.{overlaps, shares, shares_with_any}
 use Rattle.ns_types.specs.State.Tables.{any_row}
 use Rattle.ns_tables.specs.Viewed.{overlaps_other, tenant_of, world_of}
-use Rattle.ns_tables.proofs.Viewing.{any_row-table_of}
+use Rattle.keyed.proofs.Viewing.{any_row-table_of}
 use Rattle.ns_tables.proofs.World.{tenant_at}
 use Rattle.ns_tables.proofs.tables.Tables.shares.Goals as goal
 
