@@ -1,9 +1,16 @@
 -- What holds of all that a change may lead to.
-use Rattle.std.specs.Prelude.{◌≡◌, Bool, true, false, cond, Option, Some, None}
+use Rattle.std.specs.Prelude.{◌≡◌, ℕ, Bool, true, false, cond, Option, Some, None}
 use Rattle.std.proofs.Common.{refl}
+use Rattle.std.specs.FinMap.{get}
 use Rattle.std.specs.Option.{option_map_or}
+use Rattle.ns_types.specs.declared.evaluation.Evaluation.{Evaluation}
 use Rattle.ns_types.specs.declared.refusal.Refusal.{Refusal}
+use Rattle.ns_types.specs.declared.snapshot.Snapshot.{Snapshot}
+use Rattle.ns_types.specs.declared.worker.Worker.{Worker}
 use Rattle.ns_types.specs.Settling.Outcome.{Outcome, NotEnabled, Refused, Done, unless, refused_by, found}
+use Rattle.ns_types.specs.State.Names.{Name}
+use Rattle.ns_types.specs.State.Rows.{World, Tenant}
+use Rattle.ns_types.specs.Working.Work.{at_work}
 
 -- where the change is made, P holds of what it leads to
 abbrev pub Leads : {S : Type 0} → (S → Type 0) → Outcome S → Type 0
@@ -43,3 +50,22 @@ module _ {S : Type 0} (P : S → Type 0) where
   pub leads_if : (b : Bool) (o p : Outcome S) → (b ≡ true → Leads P o) → (b ≡ false → Leads P p) → Leads P (cond b o p)
   leads_if true o p h k = h refl
   leads_if false o p h k = k refl
+
+-- ---- what a busy worker does
+
+module _ (P : World → Type 0) (number : ℕ) (ns : Name) (w : World) where
+  pub leads_at_work : (act : Tenant → Worker → Evaluation → Outcome World)
+      → ((t : Tenant) (worker : Worker) (e : Evaluation) → get w.tenants ns ≡ Some t → get t.workers number ≡ Some worker →
+      get t.evaluations worker.evaluation ≡ Some e → Leads P (act t worker e))
+      → Leads P (at_work number ns w act)
+  leads_at_work act h = leads_there P (get w.tenants ns) _
+      (λ t is. leads_there P (get t.workers number) _
+      (λ worker has. leads_there P (get t.evaluations worker.evaluation) (act t worker) (λ e at. h t worker e is has at)))
+
+  -- with the snapshot that it keeps
+  pub leads_keeping : (act : Tenant → Worker → Evaluation → Snapshot → Outcome World)
+      → ((t : Tenant) (worker : Worker) (e : Evaluation) (kept : Snapshot) → get w.tenants ns ≡ Some t → get t.workers number ≡ Some worker →
+      get t.evaluations worker.evaluation ≡ Some e → worker.kept ≡ Some kept → Leads P (act t worker e kept))
+      → Leads P (at_work number ns w (λ t worker e. option_map_or (act t worker e) worker.kept NotEnabled))
+  leads_keeping act h = leads_at_work (λ t worker e. option_map_or (act t worker e) worker.kept NotEnabled)
+      (λ t worker e is has at. leads_there P worker.kept (act t worker e) (λ kept keeps. h t worker e kept is has at keeps))

@@ -32,7 +32,7 @@ use Rattle.ns_types.proofs.Tests.{not_Some, same_Some}
 use Rattle.ns_types.proofs.Elements.{each_of, each_kept}
 use Rattle.ns_audit.proofs.ValidAllocations.Statement.{IsAllocated}
 use Rattle.ns_audit.proofs.Alone.Naming.{named_change, named_decided, stops_same}
-use Rattle.ns_audit.proofs.Outcomes.{Leads, leads_if}
+use Rattle.ns_audit.proofs.Outcomes.{Leads, leads_if, leads_keeping}
 use Rattle.ns_audit.proofs.ValidAllocations.Sound.{itself, node_row}
 use Rattle.ns_audit.proofs.ValidAllocations.Going.{Onward, onward_same, onward_then, Lasts, lasts_still, lasts_then, Goes, goes_still, goes_then, goes_quiet}
 use Rattle.ns_audit.proofs.ValidAllocations.Going.{goes_lasts, same_index, Allocates}
@@ -40,7 +40,7 @@ use Rattle.ns_audit.proofs.ValidAllocations.Nodes.{continues_each, continues_mak
 use Rattle.ns_audit.proofs.ValidAllocations.Placing.{Suits, suits_last, IsPlaceable, IsReserved, all_reserved, none_placed, all_placed_last}
 use Rattle.ns_audit.proofs.ValidAllocations.Plan.{IsPartOf, plan_parts, good_priority}
 use Rattle.ns_audit.proofs.ValidAllocations.Room.{Stands, Decided, begun_decided, all_decided, each_has}
-use Rattle.ns_audit.proofs.ValidAllocations.Work.{Continues, continues_allocates, goes_desired, leads_keeping}
+use Rattle.ns_audit.proofs.ValidAllocations.Work.{Continues, continues_allocates, goes_desired}
 
 -- ---- what a sound world says
 

@@ -6,7 +6,7 @@ use Rattle.std.specs.Option.{option_map_or, option_and_then}
 use Rattle.ns_types.specs.declared.allocation.Allocation.{Allocation}
 use Rattle.ns_types.specs.declared.evaluation.Evaluation.{Evaluation}
 use Rattle.ns_types.specs.declared.node.Class.{Class}
-use Rattle.ns_types.specs.Settling.Making.{put_tenant, change_tenant, with_evaluation, make_in, make}
+use Rattle.ns_types.specs.Settling.Making.{put_tenant, change_tenant, with_evaluation, make_in}
 use Rattle.ns_types.specs.State.Names.{Name, Key, ByNumber}
 use Rattle.ns_types.specs.Settling.Releases.{released_classes, woken}
 use Rattle.ns_types.specs.State.Rows.{World, Tenant, PoolRows, is_live, node_at}

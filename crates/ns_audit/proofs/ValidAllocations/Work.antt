@@ -18,12 +18,12 @@ use Rattle.ns_types.specs.declared.worker.Worker.{Worker}
 use Rattle.ns_types.specs.Asking.Asks.{first_refusal, document_of, registered_job, register, deregistered, deregister_job, asked_in, ask}
 use Rattle.ns_types.specs.Settling.Making.{put_tenant, with_job, with_status, with_desired, with_evaluation, evaluation_of, evaluation_for, make_in}
 use Rattle.ns_types.specs.State.Names.{Name, Key, ByName, ByNumber}
-use Rattle.ns_types.specs.Settling.Outcome.{Outcome, NotEnabled, Refused, Done}
+use Rattle.ns_types.specs.Settling.Outcome.{NotEnabled, Refused, Done}
 use Rattle.ns_types.specs.Working.Queue.{is_busy, first_waiting, promote, is_served}
 use Rattle.ns_types.specs.Settling.Releases.{missed}
 use Rattle.ns_types.specs.State.Rows.{World, Tenant, PoolRows, is_live, is_run, is_held, node_at}
 use Rattle.ns_types.specs.State.Sums.{names_quota, quota_use}
-use Rattle.ns_types.specs.Working.Work.{with_worker, without_worker, without_key, at_work, workers_end, is_idle, new_worker, taken, dequeue_in, dequeue}
+use Rattle.ns_types.specs.Working.Work.{with_worker, without_worker, without_key, workers_end, is_idle, new_worker, taken, dequeue_in, dequeue}
 use Rattle.ns_types.specs.Working.Work.{may_snap, with_snapshot, snap_for, snap, may_submit, submitted, submit_for, submit, may_finish, end_of, needs_follower}
 use Rattle.ns_types.specs.Working.Work.{follower_of, blocked_of, without_blocked, cancel_blocked, ended, tied_to, with_follower, followed, finished, finish_for}
 use Rattle.ns_types.specs.Working.Work.{finish, is_submitted, most_nacks, with_nack, given_back, given_up, nack_for, nack}
@@ -32,7 +32,7 @@ use Rattle.ns_types.specs.declared.worker.Phase.TheVariants as Phase
 use Rattle.ns_types.proofs.Lists.{not_both}
 use Rattle.ns_audit.proofs.ValidAllocations.Statement.{IsAllocated}
 use Rattle.ns_audit.proofs.Steady.Keeping.{more}
-use Rattle.ns_audit.proofs.Outcomes.{Leads, leads_unless, leads_refused, leads_found, leads_there, leads_if}
+use Rattle.ns_audit.proofs.Outcomes.{Leads, leads_unless, leads_refused, leads_found, leads_there, leads_if, leads_at_work, leads_keeping}
 use Rattle.ns_audit.proofs.Alone.Recording.{queue_keeps}
 use Rattle.ns_audit.proofs.ValidAllocations.Sound.{itself, le_same}
 use Rattle.ns_audit.proofs.ValidAllocations.Going.{Onward, onward_same, onward_put, onward_make_in, Goes, goes_quiet, goes_still, goes_then, goes_evaluation}
@@ -171,23 +171,6 @@ unfolding ask
 ask_goes w ns command = leads_found (Continues w) (get w.tenants ns) (asked_in ns command w) (λ t is. asked_goes w ns t is command)
 
 -- ---- a worker's steps
-
-module _ (P : World → Type 0) (number : ℕ) (ns : Name) (w : World) where
-  pub leads_at_work : (act : Tenant → Worker → Evaluation → Outcome World)
-      → ((t : Tenant) (worker : Worker) (e : Evaluation) → get w.tenants ns ≡ Some t → get t.workers number ≡ Some worker →
-      get t.evaluations worker.evaluation ≡ Some e → Leads P (act t worker e))
-      → Leads P (at_work number ns w act)
-  leads_at_work act h = leads_there P (get w.tenants ns) _
-      (λ t is. leads_there P (get t.workers number) _
-      (λ worker has. leads_there P (get t.evaluations worker.evaluation) (act t worker) (λ e at. h t worker e is has at)))
-
-  -- with the snapshot that it keeps
-  pub leads_keeping : (act : Tenant → Worker → Evaluation → Snapshot → Outcome World)
-      → ((t : Tenant) (worker : Worker) (e : Evaluation) (kept : Snapshot) → get w.tenants ns ≡ Some t → get t.workers number ≡ Some worker →
-      get t.evaluations worker.evaluation ≡ Some e → worker.kept ≡ Some kept → Leads P (act t worker e kept))
-      → Leads P (at_work number ns w (λ t worker e. option_map_or (act t worker e) worker.kept NotEnabled))
-  leads_keeping act h = leads_at_work (λ t worker e. option_map_or (act t worker e) worker.kept NotEnabled)
-      (λ t worker e is has at. leads_there P worker.kept (act t worker e) (λ kept keeps. h t worker e kept is has at keeps))
 
 module _ (w : World) (number : ℕ) where
   pub dequeue_goes : (key : Key) → Leads (Continues w) (dequeue number key w)

@@ -35,11 +35,10 @@ use Rattle.ns_types.proofs.Tests.{not_Some}
 use Rattle.ns_types.proofs.TableRows.{row_of_insert}
 use Rattle.ns_types.proofs.Elements.{each_passes, each_of, each_first, each_flat_map, each_mapped, each_kept}
 use Rattle.ns_audit.proofs.Steady.Apply.{least_is}
-use Rattle.ns_audit.proofs.Outcomes.{Leads, leads_if}
+use Rattle.ns_audit.proofs.Outcomes.{Leads, leads_if, leads_keeping}
 use Rattle.ns_audit.proofs.ValidEvaluations.Asks.{cause_of, desired_filed}
 use Rattle.ns_audit.proofs.ValidEvaluations.Filed.{IsFiledTenant, IsFiled, IsCause, change_filed, lists_filed, put_pool_filed, makes_filed}
 use Rattle.ns_audit.proofs.ValidEvaluations.Settle.{index_in, pools_in, sound_filed}
-use Rattle.ns_audit.proofs.ValidEvaluations.Work.{holds_keeping}
 
 module _ (pools : Name → Bool) (index : Name → ℕ) where
   -- ---- stops and victims
@@ -224,7 +223,7 @@ module _ (pools : Name → Bool) (index : Name → ℕ) where
 
 pub apply_filed : (w : World) → IsSound w → (number : ℕ) (ns : Name) → Leads (IsFiled (pools_in w) (index_in w)) (apply number ns w)
 unfolding apply
-apply_filed w s number ns = holds_keeping _ w number ns (apply_for number ns w) (λ t worker e kept is has at keeps.
+apply_filed w s number ns = leads_keeping _ number ns w (apply_for number ns w) (λ t worker e kept is has at keeps.
     leads_if _ (is_submitted worker.phase && is_served w w.plans (ns, worker.evaluation)) (applied number ns worker e (commit kept (plan kept) w t)) NotEnabled
     (λ _. by worker e (commit kept (plan kept) w t)
     (commit_filed (pools_in w) (index_in w) kept (plan kept) w t (sound_filed w s) (λ k x k_is n a a_at live. cause_of w s k x k_is n a a_at live)))

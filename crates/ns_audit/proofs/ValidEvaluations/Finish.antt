@@ -33,13 +33,13 @@ use Rattle.ns_audit.proofs.Steady.Keeping.{elsewhere, above, more}
 use Rattle.ns_audit.proofs.Steady.Finish.{same_blocked, shut_end}
 use Rattle.ns_audit.proofs.Steady.Work.{pending_not_blocked}
 use Rattle.ns_audit.proofs.Steady.Workers.{at_tenant, find_each}
-use Rattle.ns_audit.proofs.Outcomes.{Leads, leads_if}
+use Rattle.ns_audit.proofs.Outcomes.{Leads, leads_if, leads_keeping}
 use Rattle.ns_audit.proofs.Alone.Owning.{orderly, blocked_is}
 use Rattle.ns_audit.proofs.ValidEvaluations.Filed.{IsFiledEvaluation, IsFiledRows, grown_rows, relisted_rows, put_rows, replaced_rows, IsFiledTenant, IsFiled}
 use Rattle.ns_audit.proofs.ValidEvaluations.Filed.{IsFiledBeside, beside, put_beside, at_least_zero, zero_below}
 use Rattle.ns_audit.proofs.ValidEvaluations.Pairs.{pairs_still, pairs_append, each_at}
 use Rattle.ns_audit.proofs.ValidEvaluations.Settle.{index_in, pools_in, sound_filed, itself}
-use Rattle.ns_audit.proofs.ValidEvaluations.Work.{holds_keeping, held_pending, promote_filed}
+use Rattle.ns_audit.proofs.ValidEvaluations.Work.{held_pending, promote_filed}
 use Rattle.ns_audit.proofs.ValidWorkers.Once.{has_key_still, has_key_last}
 
 -- ---- the list of blocked ones
@@ -409,6 +409,6 @@ module _ (w : World) (s : IsSound w) (ns : Name) (number : ℕ) (t : Tenant) (wo
 
 pub finish_filed : (w : World) → IsSound w → (number : ℕ) (ns : Name) → Leads (IsFiled (pools_in w) (index_in w)) (finish number ns w)
 unfolding finish
-finish_filed w s number ns = holds_keeping _ w number ns (finish_for number ns w) (λ t worker e kept is has at keeps.
+finish_filed w s number ns = leads_keeping _ number ns w (finish_for number ns w) (λ t worker e kept is has at keeps.
     leads_if _ (may_finish worker kept) (finished number ns w t worker e kept) NotEnabled (λ _. finished_filed w s ns number t worker e kept is has at keeps)
     (λ _. tt))

@@ -7,7 +7,6 @@ use Rattle.std.specs.Ordering.{eq_by_cmp, nat_cmp}
 use Rattle.ns_types.specs.declared.evaluation.Evaluation.{Evaluation}
 use Rattle.ns_types.specs.declared.evaluation.Status.TheVariants as Status
 use Rattle.ns_types.specs.declared.reply.Content.TheVariants as Content
-use Rattle.ns_types.specs.declared.snapshot.Snapshot.{Snapshot}
 use Rattle.ns_types.specs.declared.worker.Phase.TheVariants as Phase
 use Rattle.ns_types.specs.declared.worker.Worker.{Worker}
 use Rattle.ns_types.specs.Settling.Making.{put_tenant, with_status}
@@ -17,34 +16,17 @@ use Rattle.ns_types.specs.Working.Queue.{is_busy, first_waiting, promote, is_ser
 use Rattle.ns_types.specs.State.Rows.{World, Tenant, is_open}
 use Rattle.ns_types.specs.Working.Snapshot.{snapshot_of}
 use Rattle.ns_types.specs.Validity.{IsSound}
-use Rattle.ns_types.specs.Working.Work.{with_worker, without_worker, without_key, at_work, workers_end, is_idle, new_worker, dequeue_in, dequeue, may_snap}
+use Rattle.ns_types.specs.Working.Work.{with_worker, without_worker, without_key, workers_end, is_idle, new_worker, dequeue_in, dequeue, may_snap}
 use Rattle.ns_types.specs.Working.Work.{with_snapshot, snap_for, snap, may_submit, submitted, submit_for, submit, is_submitted, most_nacks, with_nack}
 use Rattle.ns_types.specs.Working.Work.{given_back, given_up, nack_for, nack}
 use Rattle.ns_types.proofs.Lists.{not_both}
 use Rattle.ns_types.proofs.Named.{numbers as numbers_, one_number, same_number_refl}
 use Rattle.ns_types.proofs.Tests.{same_Some}
 use Rattle.ns_audit.proofs.Steady.Keeping.{at_inserted}
-use Rattle.ns_audit.proofs.Outcomes.{Leads, leads_there, leads_if}
+use Rattle.ns_audit.proofs.Outcomes.{Leads, leads_there, leads_if, leads_at_work, leads_keeping}
 use Rattle.ns_audit.proofs.Alone.Owning.{pending_is}
 use Rattle.ns_audit.proofs.ValidEvaluations.Filed.{IsFiledEvaluation, IsFiledRows, put_rows, replaced_rows, IsFiledTenant, IsFiled, put_filed, lists_filed}
 use Rattle.ns_audit.proofs.ValidEvaluations.Settle.{index_in, pools_in, sound_filed}
-
--- ---- what a busy worker does
-
-module _ (P : World → Type 0) (w : World) (number : ℕ) (ns : Name) where
-  pub holds_at_work : (act : Tenant → Worker → Evaluation → Outcome World)
-      → ((t : Tenant) (worker : Worker) (e : Evaluation) → get w.tenants ns ≡ Some t → get t.workers number ≡ Some worker →
-      get t.evaluations worker.evaluation ≡ Some e → Leads P (act t worker e)) → Leads P (at_work number ns w act)
-  holds_at_work act h = leads_there P (get w.tenants ns) _
-      (λ t is. leads_there P (get t.workers number) _
-      (λ worker at. leads_there P (get t.evaluations worker.evaluation) (act t worker) (λ e row. h t worker e is at row)))
-
-  pub holds_keeping : (act : Tenant → Worker → Evaluation → Snapshot → Outcome World)
-      → ((t : Tenant) (worker : Worker) (e : Evaluation) (kept : Snapshot) → get w.tenants ns ≡ Some t → get t.workers number ≡ Some worker →
-      get t.evaluations worker.evaluation ≡ Some e → worker.kept ≡ Some kept → Leads P (act t worker e kept))
-      → Leads P (at_work number ns w (λ t worker e. option_map_or (act t worker e) worker.kept NotEnabled))
-  holds_keeping act h = holds_at_work (λ t worker e. option_map_or (act t worker e) worker.kept NotEnabled)
-      (λ t worker e is at row. leads_there P worker.kept (act t worker e) (λ kept has. h t worker e kept is at row has))
 
 -- a worker's evaluation is pending
 pub held_pending : (w : World) → IsSound w → (ns : Name) (t : Tenant) → get w.tenants ns ≡ Some t → (number : ℕ) (worker : Worker) →
@@ -96,7 +78,7 @@ module _ (w : World) (s : IsSound w) where
 
   pub snap_filed : (number : ℕ) (ns : Name) → Keeps (snap number ns w)
   unfolding snap
-  snap_filed number ns = holds_at_work _ w number ns (snap_for number ns w) (λ t worker e is _ _.
+  snap_filed number ns = leads_at_work _ number ns w (snap_for number ns w) (λ t worker e is _ _.
       leads_if _ (may_snap worker.tries worker.phase)
       (Done (Content.Snapped worker.evaluation) (put_tenant ns (with_worker number (with_snapshot (snapshot_of w ns t worker.evaluation e) worker) t) w))
       NotEnabled
@@ -104,7 +86,7 @@ module _ (w : World) (s : IsSound w) where
 
   pub submit_filed : (number : ℕ) (ns : Name) → Keeps (submit number ns w)
   unfolding submit
-  submit_filed number ns = holds_keeping _ w number ns (λ t worker e. submit_for number ns w t worker) (λ t worker e kept is _ _ _.
+  submit_filed number ns = leads_keeping _ number ns w (λ t worker e. submit_for number ns w t worker) (λ t worker e kept is _ _ _.
       leads_if _ (may_submit worker kept) (Done (Content.Queued worker.evaluation) (submitted number ns w t worker)) NotEnabled
       (λ _. lists_filed (pools_in w) (index_in w) (put_tenant ns (with_worker number (record worker { phase = Phase.Submitted }) t) w) w.ready
       (w.plans ++ (ns, worker.evaluation) ∷ []) (with_worker_filed ns t is number (record worker { phase = Phase.Submitted }))) (λ _. tt))
@@ -201,7 +183,7 @@ module _ (w : World) (s : IsSound w) (ns : Name) (number : ℕ) (t : Tenant) (wo
 
 pub nack_filed : (w : World) → IsSound w → (number : ℕ) (ns : Name) → Leads (IsFiled (pools_in w) (index_in w)) (nack number ns w)
 unfolding nack
-nack_filed w s number ns = holds_at_work _ w number ns (nack_for number ns w) (λ t worker e is has at.
+nack_filed w s number ns = leads_at_work _ number ns w (nack_for number ns w) (λ t worker e is has at.
     leads_if _ (is_submitted worker.phase) NotEnabled _ (λ _. tt) (λ _.
     leads_if _ (nat_le most_nacks (e.nacks + 1)) (given_up number ns w (with_nack worker.evaluation e t) worker e)
     (given_back number ns w (with_nack worker.evaluation e t) worker)

@@ -3,18 +3,14 @@ use Rattle.std.specs.Prelude.{◌≡◌, ℕ, ◌+◌, ◌-◌, ◌≤◌, Bool,
 use Rattle.std.specs.Prelude.{option_map}
 use Rattle.std.proofs.Common.{refl, sym, ap, subst, ◌∙◌, arith}
 use Rattle.std.proofs.lemmas.List.{length-map}
-use Rattle.std.specs.Cmp.{IsTotalOrder, then_total, on_total}
-use Rattle.std.specs.Cmp.Lexicographic.{slice_cmp, lists_total}
+use Rattle.std.specs.Cmp.{IsTotalOrder}
 use Rattle.std.specs.declared.cmp.Ordering.{Ordering}
-use Rattle.std.specs.declared.cmp.Ordering.TheVariants.{Less, Equal, Greater}
-use Rattle.std.specs.FinMap.{FinMap, IsAntisymmetric, slice_cmp-IsAntisymmetric, get, get-entries, get-insert, get-remove, entries, contains_key, values, len}
+use Rattle.std.specs.FinMap.{FinMap, IsAntisymmetric, get, get-entries, get-insert, get-remove, entries, contains_key, values, len}
 use Rattle.std.specs.FinMap.{len-entries, len-insert, len-remove, insert, remove, same_map}
 use Rattle.std.specs.List.{list_all}
-use Rattle.std.specs.Ordering.{eq_by_cmp, is_eq, ordering_then}
-use Rattle.ns_types.specs.declared.node.Attribute.{Attribute}
-use Rattle.ns_types.specs.declared.node.Class.{Class}
+use Rattle.std.specs.Ordering.{eq_by_cmp}
 use Rattle.ns_types.specs.State.Lists.{Each}
-use Rattle.ns_types.specs.State.Names.{Name, ByName, name_cmp, attribute_cmp, class_cmp, same_name}
+use Rattle.ns_types.specs.State.Names.{Name, ByName, name_cmp, same_name}
 use Rattle.ns_types.specs.State.Tables.{table_of, map_rows}
 use Rattle.ns_types.proofs.Lists.{not_both}
 use Rattle.ns_types.proofs.Named.{names, one_name, same_name_is, same_name_refl, first_of_both, second_of_both}
