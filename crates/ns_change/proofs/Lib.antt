@@ -1,6 +1,6 @@
-pub mod Allocations
 pub mod Any
 pub mod Listed
+pub mod NumberedRows
 pub mod Opening
 pub mod Pools
 pub mod Seen

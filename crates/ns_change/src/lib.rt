@@ -20,7 +20,7 @@ pub use change::{Change, ListChange, PoolChange, Settled, SettledTenant, TenantC
 pub use editing::set_status;
 pub use evicting::{set_client, set_desired};
 pub use looking::{allocation, evaluation, has_nodes, node};
-pub use numbered::{NumberedRow, put_row};
+pub use numbered::{NumberedRow, put_row, row};
 pub use placing::{add_allocation, count_place, put_node, remove_node};
 pub use promoting::{cancel_blocked, promote};
 pub use queueing::{make, queue, wake};
