@@ -1,7 +1,7 @@
-pub mod Allocations
 pub mod Any
 pub mod Listed
 pub mod Nothing
+pub mod NumberedRows
 pub mod Opening
 pub mod Pools
 pub mod Seen

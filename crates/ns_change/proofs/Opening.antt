@@ -1,20 +1,19 @@
 -- A namespace's change that is taken out and put again.
-use Rattle.std.specs.Prelude.{◌≡◌, ℕ, ◌+◌, Bool, true, false, cond, Option, Some, None, option_map, IsTrue}
+use Rattle.std.specs.Prelude.{◌≡◌, ◌+◌, Bool, true, false, cond, Option, Some, None, option_map, IsTrue}
 use Rattle.std.proofs.Common.{refl, sym, ap, ◌∙◌, Ordering}
-use Rattle.std.specs.Option.{option_map_or, option_and_then}
+use Rattle.std.specs.Option.{option_map_or}
 use Rattle.std.specs.Ordering.{eq_by_cmp, nat_cmp}
 use Rattle.std.specs.Cmp.{IsTotalOrder}
 use Rattle.std.specs.FinMap.{FinMap, IsAntisymmetric, get, get-insert, get-remove, insert, remove, same_map}
 use Rattle.keyed.specs.Table.{flat, rows, row_at, has_slot, emptied, with_slot, KeepsSlots}
 use Rattle.keyed.proofs.Tables.{get-rows, has_slot-insert, has_slot-insert_here, rows-emptied, rows-with_slot}
 use Rattle.ns_types.specs.declared.evaluation.Evaluation.{Evaluation}
-use Rattle.ns_types.specs.declared.evaluation.Status.{Status}
-use Rattle.ns_types.specs.Settling.Making.{change_tenant, put_tenant, with_evaluation, with_status}
+use Rattle.ns_types.specs.Settling.Making.{change_tenant, put_tenant, with_evaluation}
 use Rattle.ns_types.specs.State.Names.{Name, name_cmp}
-use Rattle.ns_types.specs.State.Rows.{World, Tenant, evaluation_at}
+use Rattle.ns_types.specs.State.Rows.{Tenant}
 use Rattle.ns_types.specs.State.Tables.{map_rows}
 use Rattle.ns_types.proofs.Named.{names, one_name, numbers, one_number}
-use Rattle.ns_types.proofs.Tables.{get-map_rows, insert_same, tied}
+use Rattle.ns_types.proofs.Tables.{get-map_rows, tied}
 use Rattle.ns_types.proofs.Tests.{same_Some}
 use Rattle.ns_change.specs.declared.change.Change.{Change}
 use Rattle.ns_change.specs.declared.change.TenantChange.{TenantChange}
@@ -126,32 +125,6 @@ module _ {K X : Type 0} {R : K → K → Ordering} (o : IsTotalOrder R) (same : 
       by true is = ap (λ b. cond b (insert c k None) c) is
       by false is = ap (λ b. cond b (insert (insert c k None) k None) (insert c k None)) (has_slot-insert_here o c k None) ∙
           insert_twice o same c k None None
-
--- ---- statuses
-
-module _ (n : ℕ) (status : Status) where
-  no_status : (t : Tenant) → get t.evaluations n ≡ None → with_status n status t ≡ t
-  no_status t is = ap (λ r. option_map_or (λ e. record t { evaluations = insert t.evaluations n (record e { status = status }) }) r t) is
-
-  pub status_nowhere : (w : World) (ns : Name) → evaluation_at w (ns, n) ≡ None → w ≡ change_tenant ns (with_status n status) w
-  status_nowhere w ns is = by (get w.tenants ns) refl is
-    where
-      by : (r : Option Tenant) → get w.tenants ns ≡ r → option_and_then (λ t. get t.evaluations n) r ≡ None →
-          w ≡ option_map_or (λ t. put_tenant ns (with_status n status t) w) r w
-      by None at is = refl
-      by (Some t) at is = (λ i. record w { tenants = sym (insert_same names one_name w.tenants ns t at) i }) ∙
-          ap (λ t. put_tenant ns t w) (sym (no_status t is))
-
-  pub status_there : (w : World) (ns : Name) (e : Evaluation) → evaluation_at w (ns, n) ≡ Some e
-      → change_tenant ns (λ t. record t { evaluations = insert t.evaluations n (record e { status = status }) }) w ≡ change_tenant ns (with_status n status) w
-  status_there w ns e is = by (get w.tenants ns) is
-    where
-      by : (r : Option Tenant) → option_and_then (λ t. get t.evaluations n) r ≡ Some e →
-          option_map_or (λ t. put_tenant ns (record t { evaluations = insert t.evaluations n (record e { status = status }) }) w) r w ≡ option_map_or
-          (λ t. put_tenant ns (with_status n status t) w) r w
-      by None is = refl
-      by (Some t) is = ap (λ t. put_tenant ns t w)
-          (sym (ap (λ r. option_map_or (λ e. record t { evaluations = insert t.evaluations n (record e { status = status }) }) r t) is))
 
 -- ---- a new evaluation
 

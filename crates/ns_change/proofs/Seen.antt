@@ -1,13 +1,13 @@
 -- What stands in the tables with a change over them.
-use Rattle.std.specs.Prelude.{◌≡◌, ℕ, Option, Some, None, option_map}
+use Rattle.std.specs.Prelude.{◌≡◌, Option, Some, None, option_map}
 use Rattle.std.proofs.Common.{refl, ap, ◌∙◌}
 use Rattle.std.specs.Option.{option_and_then}
 use Rattle.std.specs.FinMap.{get}
 use Rattle.keyed.specs.Table.{rows, row_at}
 use Rattle.keyed.proofs.Tables.{get-rows}
 use Rattle.ns_types.specs.State.Names.{Name}
-use Rattle.ns_types.specs.State.Rows.{World, PoolRows, evaluation_at, node_at}
-use Rattle.ns_types.proofs.Named.{names, one_name, numbers}
+use Rattle.ns_types.specs.State.Rows.{World, PoolRows, node_at}
+use Rattle.ns_types.proofs.Named.{names, one_name}
 use Rattle.ns_types.proofs.Tables.{get-map_rows}
 use Rattle.ns_change.specs.declared.change.Change.{Change}
 use Rattle.ns_change.specs.declared.change.PoolChange.{PoolChange}
@@ -44,18 +44,6 @@ module _ (t : Tables) (c : Change) (ns : Name) where
   pub changed_seen : (x : TenantRows) (y : TenantChange) → row_at t.tenants ns ≡ Some x → row_at c.tenants ns ≡ Some y →
       get (view t c).tenants ns ≡ Some (changed_tenant (tenant_of x) y)
   changed_seen x y is some = tenant_seen ∙ (λ i. option_map (λ x. perhaps changed_tenant (some i) (tenant_of x)) (is i))
-
-  -- evaluations
-  pub no_evaluation : (n : ℕ) → row_at t.tenants ns ≡ None → evaluation_at (view t c) (ns, n) ≡ None
-  no_evaluation n is = ap (option_and_then (λ t. get t.evaluations n)) (none_seen is)
-
-  pub kept_evaluation : (n : ℕ) (x : TenantRows) → row_at t.tenants ns ≡ Some x → row_at c.tenants ns ≡ None →
-      evaluation_at (view t c) (ns, n) ≡ row_at x.evaluations n
-  kept_evaluation n x is none = ap (option_and_then (λ t. get t.evaluations n)) (kept_seen x is none) ∙ get-rows numbers x.evaluations n
-
-  pub changed_evaluation : (n : ℕ) (x : TenantRows) (y : TenantChange) → row_at t.tenants ns ≡ Some x → row_at c.tenants ns ≡ Some y
-      → evaluation_at (view t c) (ns, n) ≡ get (over (rows x.evaluations) y.evaluations) n
-  changed_evaluation n x y is some = ap (option_and_then (λ t. get t.evaluations n)) (changed_seen x y is some)
 
 -- ---- pools
 

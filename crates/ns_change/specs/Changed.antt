@@ -1,8 +1,9 @@
 -- The world as a change leaves it.
 use Rattle.std.specs.Prelude.{◌≡◌, ℕ, ◌+◌, ◌<◌, ◌^◌, Bool, false, not, List, [], ◌∷◌, ◌++◌, filter, Option}
 use Rattle.std.specs.Prelude.{Some, Result, OnOk, nat_le}
-use Rattle.std.specs.Option.{option_map_or}
-use Rattle.std.specs.FinMap.{contains_key, empty, get, insert, len, remove}
+use Rattle.std.specs.Option.{option_and_then, option_map_or}
+use Rattle.std.specs.Ordering.{nat_cmp}
+use Rattle.std.specs.FinMap.{FinMap, contains_key, empty, get, insert, len, remove}
 use Rattle.keyed.specs.Table.{row_at}
 use Rattle.ns_types.specs.declared.allocation.Allocation.{Allocation}
 use Rattle.ns_types.specs.declared.evaluation.Evaluation.{Evaluation}
@@ -92,8 +93,9 @@ put_evaluation n e t = record t { evaluations = insert t.evaluations n e }
 abbrev pub put_allocation : ℕ → Allocation → Tenant → Tenant
 put_allocation n a t = record t { allocations = insert t.allocations n a }
 
-abbrev pub with_allocation_row : ℕ → (Allocation → Allocation) → Tenant → Tenant
-with_allocation_row n g t = option_map_or (λ a. put_allocation n (g a) t) (get t.allocations n) t
+-- the row under that number, of one kind
+abbrev pub row_in : {X : Type 0} → (Tenant → FinMap nat_cmp X) → World → Name → ℕ → Option X
+row_in rows_of w ns n = option_and_then (λ t. get (rows_of t) n) (get w.tenants ns)
 
 -- a node that is there has one place more
 abbrev pub count_place : Name → Name → World → World

@@ -25,7 +25,7 @@ pub use evicting::{set_client, set_desired};
 pub use jobs::{put_job, remove_job};
 pub use lists::{add_ready, take_ready};
 pub use looking::{allocation, evaluation, has_nodes, node};
-pub use numbered::{NumberedRow, put_row};
+pub use numbered::{NumberedRow, put_row, row};
 pub use placing::{add_allocation, count_place, put_node, remove_node};
 pub use promoting::{cancel_blocked, promote};
 pub use queueing::{make, queue, wake};

@@ -8,6 +8,7 @@ ghost use Rattle.ns_types.specs.State.Rows.{allocation_at, evaluation_at, node_a
 ghost use Rattle.ns_change.specs.Changed.{has_nodes, is_kept, view};
 
 use crate::change::Change;
+use crate::numbered::row;
 use keyed::NameTable;
 use ns_types::allocation::Allocation;
 use ns_types::evaluation::Evaluation;
@@ -25,13 +26,7 @@ pub fn evaluation<'a>(
     ensures { option_copied result
         ≡ evaluation_at (view tables.now change.now) (namespace.now, number) }
 {
-    let Some(tenant) = tables.tenants.get(namespace) else {
-        return None;
-    };
-    match change.tenants.get(namespace) {
-        Some(changed) => tenant.evaluations.get_over(&changed.evaluations, number),
-        None => tenant.evaluations.get(number),
-    }
+    row(tables, change, namespace, number)
 }
 
 /// The node after the change.
@@ -101,11 +96,5 @@ pub fn allocation<'a>(
     ensures { option_copied result
         ≡ allocation_at (view tables.now change.now) (namespace.now, number) }
 {
-    let Some(tenant) = tables.tenants.get(namespace) else {
-        return None;
-    };
-    match change.tenants.get(namespace) {
-        Some(changed) => tenant.allocations.get_over(&changed.allocations, number),
-        None => tenant.allocations.get(number),
-    }
+    row(tables, change, namespace, number)
 }

@@ -1,12 +1,14 @@
 //! Rows of a namespace that have a number: evaluations, allocations, and workers that are busy.
 
-ghost use Rattle.std.specs.Prelude.{◌≡◌, ℕ, OnOk};
+ghost use Rattle.std.specs.Prelude.{◌≡◌, ℕ, OnOk, option_copied};
 ghost use Rattle.std.specs.FinMap.{FinMap, insert};
 ghost use Rattle.std.specs.Ordering.{nat_cmp};
 ghost use Rattle.keyed.specs.Over.{over};
+ghost use Rattle.keyed.specs.Table.{rows};
 ghost use Rattle.ns_types.specs.State.Rows.{Tenant};
 ghost use Rattle.ns_types.specs.Working.Work.{with_worker};
-ghost use Rattle.ns_change.specs.Changed.{DoesIn, changed_tenant, put_allocation, put_evaluation};
+ghost use Rattle.ns_change.specs.Changed.{DoesIn, changed_tenant, put_allocation, put_evaluation, row_in, view};
+ghost use Rattle.ns_world.specs.World.{tenant_of};
 
 use crate::change::{Change, TenantChange};
 use crate::editing::open;
@@ -15,13 +17,25 @@ use ns_types::allocation::Allocation;
 use ns_types::evaluation::Evaluation;
 use ns_types::text::Text;
 use ns_types::worker::Worker;
-use ns_world::Tables;
+use ns_world::{Tables, TenantRows};
 use std::alloc::AllocError;
 
 /// A row of a namespace, by number.
 pub trait NumberedRow: Drop {
+    /// A namespace's rows of that kind.
+    ghost rows_of: { Tenant → FinMap nat_cmp Self };
+
     /// A namespace with the row under that number.
     ghost put_in: { ℕ → Self → Tenant → Tenant };
+
+    /// The rows before the step.
+    fn stored(tenant: &TenantRows) -> &NumberTable<Self>
+        ensures { rows result.now ≡ rows_of (tenant_of tenant.now) };
+
+    /// Those that change.
+    fn changed(change: &TenantChange) -> &NumberTable<Self>
+        ensures { (t : Tenant) → over (rows_of t) result.now
+            ≡ rows_of (changed_tenant t change.now) };
 
     /// Puts the row among those that change.
     fn put(self, changed: &mut TenantChange, number: u64) -> Result<(), AllocError>
@@ -30,7 +44,17 @@ pub trait NumberedRow: Drop {
 }
 
 impl NumberedRow for Evaluation {
+    ghost rows_of = { λ t. t.evaluations };
+
     ghost put_in = { put_evaluation };
+
+    fn stored(tenant: &TenantRows) -> &NumberTable<Evaluation> {
+        &tenant.evaluations
+    }
+
+    fn changed(change: &TenantChange) -> &NumberTable<Evaluation> {
+        &change.evaluations
+    }
 
     fn put(self, changed: &mut TenantChange, number: u64) -> Result<(), AllocError> {
         put_slot(&mut changed.evaluations, number, self)
@@ -38,7 +62,17 @@ impl NumberedRow for Evaluation {
 }
 
 impl NumberedRow for Allocation {
+    ghost rows_of = { λ t. t.allocations };
+
     ghost put_in = { put_allocation };
+
+    fn stored(tenant: &TenantRows) -> &NumberTable<Allocation> {
+        &tenant.allocations
+    }
+
+    fn changed(change: &TenantChange) -> &NumberTable<Allocation> {
+        &change.allocations
+    }
 
     fn put(self, changed: &mut TenantChange, number: u64) -> Result<(), AllocError> {
         put_slot(&mut changed.allocations, number, self)
@@ -46,10 +80,39 @@ impl NumberedRow for Allocation {
 }
 
 impl NumberedRow for Worker {
+    ghost rows_of = { λ t. t.workers };
+
     ghost put_in = { with_worker };
+
+    fn stored(tenant: &TenantRows) -> &NumberTable<Worker> {
+        &tenant.workers
+    }
+
+    fn changed(change: &TenantChange) -> &NumberTable<Worker> {
+        &change.workers
+    }
 
     fn put(self, changed: &mut TenantChange, number: u64) -> Result<(), AllocError> {
         put_slot(&mut changed.workers, number, self)
+    }
+}
+
+/// The row after the change: the change's own first.
+pub fn row<'a, R: NumberedRow>(
+    tables: &'a Tables,
+    change: &'a Change,
+    namespace: &Text,
+    number: u64,
+) -> Option<&'a R>
+    ensures { option_copied result
+        ≡ row_in R.rows_of (view tables.now change.now) namespace.now number }
+{
+    let Some(tenant) = tables.tenants.get(namespace) else {
+        return None;
+    };
+    match change.tenants.get(namespace) {
+        Some(change) => R::stored(tenant).get_over(R::changed(change), number),
+        None => R::stored(tenant).get(number),
     }
 }
 

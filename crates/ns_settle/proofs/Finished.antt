@@ -2,7 +2,7 @@
 use Rattle.std.specs.Prelude.{◌≡◌, ℕ, ◌+◌, ◌<◌, ◌^◌, Bool, true, false, ◌&&◌, ◌||◌, if◌then◌else◌, List, [], ◌∷◌, ◌++◌, nat_lt, Option, Some, None, map}
 use Rattle.std.specs.Prelude.{option_map}
 use Rattle.std.proofs.Common.{inl, inr, refl, sym, ap, ◌∙◌, append_assoc}
-use Rattle.std.proofs.lemmas.List.{append-nil}
+use Rattle.std.proofs.lemmas.List.{append-nil, map-append}
 use Rattle.std.proofs.lemmas.Bool.Decides.{leb_tells}
 use Rattle.std.specs.Option.{option_map_or}
 use Rattle.std.specs.List.{list_any}
@@ -13,6 +13,7 @@ use Rattle.ns_types.specs.State.Rows.{World, Tenant}
 use Rattle.ns_types.specs.Settling.Settle.{settle, wake}
 use Rattle.ns_types.specs.Steps.{greatest, is_past_bound, is_tenant_past_bound}
 use Rattle.ns_types.specs.State.Tables.{any_row}
+use Rattle.ns_types.proofs.Elements.{map_map}
 use Rattle.ns_types.proofs.Lists.{not_both}
 use Rattle.ns_change.specs.declared.change.Change.{Change}
 use Rattle.ns_change.specs.declared.change.Settled.{Settled}
@@ -55,18 +56,10 @@ module _ (t : Tables) (ns : Name) (y : TenantChange) where
 
 -- ---- its events
 
-map_append : {A B : Type 0} (f : A → B) (xs ys : List A) → map f (xs ++ ys) ≡ map f xs ++ map f ys
-map_append f [] ys = refl
-map_append f (x ∷ xs) ys = ap (λ l. f x ∷ l) (map_append f xs ys)
-
-map_map : {A B C : Type 0} (f : B → C) (g : A → B) (xs : List A) → map f (map g xs) ≡ map (λ x. f (g x)) xs
-map_map f g [] = refl
-map_map f g (x ∷ xs) = ap (λ l. f (g x) ∷ l) (map_map f g xs)
-
 pub three : {A B C D E : Type 0} (f : D → E) (a : A → D) (b : B → D) (c : C → D) (xs : List A) (ys : List B) (zs : List C)
     → (map (λ x. f (a x)) xs ++ map (λ y. f (b y)) ys) ++ map (λ z. f (c z)) zs ≡ map f (map a xs ++ map b ys ++ map c zs)
-three f a b c xs ys zs = sym (map_append f (map a xs ++ map b ys) (map c zs) ∙
-    (λ i. (map_append f (map a xs) (map b ys) ∙ (λ j. map_map f a xs j ++ map_map f b ys j)) i ++ map_map f c zs i))
+three f a b c xs ys zs = sym (map-append f (map a xs ++ map b ys) (map c zs) ∙
+    (λ i. (map-append f (map a xs) (map b ys) ∙ (λ j. map_map f a xs j ++ map_map f b ys j)) i ++ map_map f c zs i))
 
 -- ---- slot by slot
 

@@ -77,7 +77,8 @@ pub fn woken_keys(
     rooms: &[Room],
     quotas: &[Text],
 ) -> Result<Rows<EvalKey>, AllocError>
-    ensures { IfOk result (λ keys. keys ≡ woken_from (world_of tables.now) change.now rooms.now quotas.now) }
+    ensures { IfOk result (λ keys. keys
+        ≡ woken_from (world_of tables.now) change.now rooms.now quotas.now) }
 {
     if rooms.is_empty() && quotas.is_empty() {
         return Ok(Rows::new(tables.alloc));

@@ -135,7 +135,8 @@ fn settle_slot(
     slot: Option<TenantChange>,
 ) -> Result<Option<SettledTenant>, AllocError>
     requires { is_last (world_of tables.now) namespace.now slot ≡ false }
-    ensures { IfOk result (λ settled. settled ≡ settled_slot (world_of tables.now) namespace.now slot) }
+    ensures { IfOk result (λ settled. settled
+        ≡ settled_slot (world_of tables.now) namespace.now slot) }
 {
     match slot {
         Some(change) => Ok(Some(settle_tenant(tables, namespace, change)?)),
@@ -149,7 +150,8 @@ fn settle_tenants(
     tenants: NameTable<TenantChange>,
 ) -> Result<NameTable<SettledTenant>, AllocError>
     requires { list_any (λ e. is_last (world_of tables.now) e.0 e.1) (entries tenants) ≡ false }
-    ensures { IfOk result (λ settled. settled ≡ table_of (settled_slot (world_of tables.now)) tenants) }
+    ensures { IfOk result (λ settled. settled
+        ≡ table_of (settled_slot (world_of tables.now)) tenants) }
 {
     let mut rows = Vec::new(tables.alloc);
     for (namespace, slot) in tenants.into_slots() {
@@ -161,7 +163,8 @@ fn settle_tenants(
 
 /// All that a step changes, by what it changes itself. None: an index passes its bound, and the step is refused.
 pub fn settle(tables: &Tables, mut change: Change) -> Result<Option<Settled>, AllocError>
-    ensures { IfOk result (λ settled. SettlesTo (world_of tables.now) (view tables.now change) settled) }
+    ensures { IfOk result (λ settled.
+        SettlesTo (world_of tables.now) (view tables.now change) settled) }
 {
     let rooms = released_rooms(tables, &change)?;
     let quotas = released_quotas(tables, &change)?;

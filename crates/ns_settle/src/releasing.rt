@@ -64,7 +64,8 @@ fn add_quota(
     tenant: &TenantRows,
     slot: &AllocationSlot,
 ) -> Result<(), AllocError>
-    ensures { OnOk result (quotas.new ≡ quotas.old ++ quotas_ended (tenant_of tenant.now) slot.now) }
+    ensures { OnOk result (quotas.new ≡ quotas.old
+        ++ quotas_ended (tenant_of tenant.now) slot.now) }
 {
     if ended(tenant, slot).is_none() {
         return Ok(());
@@ -94,7 +95,8 @@ fn add_quotas_of(
     tables: &Tables,
     slot: &TenantSlot,
 ) -> Result<(), AllocError>
-    ensures { OnOk result (quotas.new ≡ quotas.old ++ quotas_ended_in (world_of tables.now) slot.now) }
+    ensures { OnOk result (quotas.new ≡ quotas.old
+        ++ quotas_ended_in (world_of tables.now) slot.now) }
 {
     if let Some(change) = &slot.1 {
         if let Some(tenant) = tables.tenants.get(&slot.0) {
