@@ -1,39 +1,14 @@
--- The order of classes, and a class's number in a pool's list.
+-- A class's number in a pool's list.
 use Rattle.std.specs.Prelude.{◌≡◌, ℕ, Bool, true, false, cond, not, T, List, [], ◌∷◌, ◌++◌, Option, Some, None, filter}
 use Rattle.std.proofs.Common.{refl, sym, ap, subst, ◌∙◌}
-use Rattle.std.specs.Cmp.{IsTotalOrder, then_total, on_total}
-use Rattle.std.specs.Cmp.Lexicographic.{slice_cmp, lists_total}
-use Rattle.std.specs.declared.cmp.Ordering.{Ordering}
-use Rattle.std.specs.declared.cmp.Ordering.TheVariants.{Less, Equal, Greater}
-use Rattle.std.specs.FinMap.{IsAntisymmetric, slice_cmp-IsAntisymmetric, from_entries, get-from_entries, get-insert, insert, same_map}
+use Rattle.std.specs.FinMap.{from_entries, get-from_entries, get-insert, insert, same_map}
 use Rattle.std.specs.FinMap.Entries.{find}
 use Rattle.std.specs.Option.{option_or}
-use Rattle.std.specs.Ordering.{is_eq, ordering_then}
-use Rattle.ns_types.specs.declared.node.Attribute.{Attribute}
 use Rattle.ns_types.specs.declared.node.Class.{Class}
-use Rattle.ns_types.specs.State.Names.{name_cmp, attribute_cmp, class_cmp, same_class}
+use Rattle.ns_types.specs.State.Names.{class_cmp, same_class}
+use Rattle.ns_types.proofs.Classes.{by_class, one_class}
 use Rattle.ns_types.proofs.Lists.{cond_same}
-use Rattle.ns_types.proofs.Named.{names, one_name}
 use Rattle.ns_types.proofs.Tables.{tied}
-
-both_equal : (r s : Ordering) → ordering_then r s ≡ Equal → (r ≡ Equal) × (s ≡ Equal)
-both_equal Less s e = absurd (subst (λ r. T (is_eq r)) (sym e) tt)
-both_equal Equal s e = (refl, e)
-both_equal Greater s e = absurd (subst (λ r. T (is_eq r)) (sym e) tt)
-
-one_attribute : IsAntisymmetric attribute_cmp
-one_attribute a b e = let t = both_equal (name_cmp a.key b.key) (name_cmp a.value b.value) e in
-    λ i. record { key = one_name a.key b.key t.0 i; value = one_name a.value b.value t.1 i }
-
-by_class : IsTotalOrder class_cmp
-by_class = then_total (on_total (λ (c : Class). c.name) names)
-    (on_total (λ (c : Class). c.attributes) (lists_total
-    (then_total (on_total (λ (a : Attribute). a.key) names) (on_total (λ (a : Attribute). a.value) names))))
-
-one_class : IsAntisymmetric class_cmp
-one_class a b e =
-    let t = both_equal (name_cmp a.name b.name) (slice_cmp attribute_cmp a.attributes b.attributes) e in
-    λ i. record { name = one_name a.name b.name t.0 i; attributes = slice_cmp-IsAntisymmetric one_attribute a.attributes b.attributes t.1 i }
 
 -- the entries of the other classes
 abbrev pub others : Class → List (Class × ℕ) → List (Class × ℕ)

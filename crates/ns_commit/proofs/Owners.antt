@@ -62,11 +62,6 @@ module _ {Row : Type 0} (becomes : Row → Row → Type 0) (k : Name) (old mid :
   pub no_row : (P : Row → Type 0) → row_at old k ≡ None → IfSome (row_at mid k) P
   no_row P none = subst (λ r. IfSome r P) (sym (row_mid k ∙ ap (λ t. cond t None (row_at old k)) (same_name_refl k))) tt
 
--- what follows where it succeeds
-pub on_ok : {A E : Type 0} (r : Result A E) {P Q : Type 0} → (P → Q) → OnOk r P → OnOk r Q
-on_ok (Ok x) f h = f h
-on_ok (Err e) f h = tt
-
 -- what holds at the name and at the others holds at each
 pub at_each : (P : Name → Type 0) (k : Name) → P k → ((q : Name) → same_name q k ≡ false → P q) → (q : Name) → P q
 at_each P k here others q = by (same_name q k) refl

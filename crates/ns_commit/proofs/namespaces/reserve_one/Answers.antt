@@ -6,7 +6,8 @@ use Rattle.ns_types.proofs.Named.{names, one_name}
 use Rattle.ns_change.proofs.Opening.{emptied_keeps}
 use Rattle.ns_commit.specs.Committed.{CanTell, HasTenantRoom}
 use Rattle.ns_world.specs.World.{tenant_of}
-use Rattle.ns_commit.proofs.Owners.{no_row, nowhere, on_ok, row_there, there, there_if}
+use Rattle.ns_change.proofs.Listed.{on_ok}
+use Rattle.ns_commit.proofs.Owners.{no_row, nowhere, row_there, there, there_if}
 use Rattle.ns_commit.proofs.namespaces.reserve_one.Goals as goal
 
 pub reserve_tenant-reserved-requires : goal.reserve_tenant-reserved-requires

@@ -11,7 +11,8 @@ use Rattle.ns_types.specs.State.Names.{Name, class_cmp, same_name}
 use Rattle.ns_change.specs.Settled.{classes_in}
 use Rattle.ns_commit.specs.Committed.{GainsClassRoom}
 use Rattle.ns_world.specs.World.{pool_of}
-use Rattle.ns_commit.proofs.Owners.{no_row, nowhere, on_ok, row_there, there}
+use Rattle.ns_change.proofs.Listed.{on_ok}
+use Rattle.ns_commit.proofs.Owners.{no_row, nowhere, row_there, there}
 use Rattle.ns_commit.proofs.pools.reserve_classes_in.Goals as goal
 
 pub set-requires : goal.set-requires

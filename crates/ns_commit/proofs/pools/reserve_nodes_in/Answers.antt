@@ -6,7 +6,8 @@ use Rattle.ns_types.proofs.Named.{names, one_name}
 use Rattle.ns_change.proofs.Opening.{emptied_keeps}
 use Rattle.ns_commit.specs.Committed.{HasNodeRoom}
 use Rattle.ns_world.specs.World.{pool_of}
-use Rattle.ns_commit.proofs.Owners.{no_row, nowhere, on_ok, row_there, there}
+use Rattle.ns_change.proofs.Listed.{on_ok}
+use Rattle.ns_commit.proofs.Owners.{no_row, nowhere, row_there, there}
 use Rattle.ns_commit.proofs.pools.reserve_nodes_in.Goals as goal
 
 pub set-requires : goal.set-requires

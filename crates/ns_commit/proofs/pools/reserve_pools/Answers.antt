@@ -1,5 +1,5 @@
 use Rattle.std.proofs.Common.{◌∙◌}
-use Rattle.ns_commit.proofs.Owners.{on_ok}
+use Rattle.ns_change.proofs.Listed.{on_ok}
 use Rattle.ns_commit.proofs.Whole.{nodes_stay, rise_stays}
 use Rattle.ns_commit.proofs.pools.reserve_pools.Goals as goal
 

@@ -1,6 +1,6 @@
 use Rattle.std.proofs.Common.{refl, sym, subst}
 use Rattle.ns_commit.specs.Committed.{CanRise, HavePoolRoom, releases}
-use Rattle.ns_commit.proofs.Owners.{on_ok}
+use Rattle.ns_change.proofs.Listed.{on_ok}
 use Rattle.ns_commit.proofs.Whole.{can_tell, pools_rise, quotas_rise, same_world}
 use Rattle.ns_commit.proofs.settled.reserve_parts.Goals as goal
 
