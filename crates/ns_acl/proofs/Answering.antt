@@ -1,8 +1,7 @@
 -- What each change of policies and tokens answers.
-use Rattle.std.specs.Prelude.{◌≡◌, ◌||◌, Bool, true, false, Option, Some, None, is_some, nat_le, Result, Ok, Err}
-use Rattle.std.proofs.Common.{refl, sym, ap, subst, ◌∙◌, T}
+use Rattle.std.specs.Prelude.{◌≡◌, ◌||◌, true, false, Some, None, is_some, nat_le}
+use Rattle.std.proofs.Common.{sym, ap, ◌∙◌}
 use Rattle.std.specs.FinMap.{contains_key, get, insert, len, remove}
-use Rattle.std.specs.Result.{IsErrAnd}
 use Rattle.ns_types.specs.declared.acl.Policy.{Policy}
 use Rattle.ns_types.specs.declared.acl.Token.{Token}
 use Rattle.ns_types.specs.declared.refusal.Refusal.{Refusal}

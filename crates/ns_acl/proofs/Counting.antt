@@ -1,7 +1,7 @@
 -- What is kept of rules, as more rules come.
-use Rattle.std.specs.Prelude.{◌≡◌, ℕ, max, ◌<◌, ◌≤◌, Bool, true, false, not, ◌&&◌, cond, List, [], ◌∷◌, ◌++◌, Option, Some, None, filter, flat_map, fold}
-use Rattle.std.specs.Prelude.{length, unwrap_or, ◌+◌}
-use Rattle.std.proofs.Common.{refl, sym, ap, subst, ◌∙◌, arith, T, append_assoc, get_or, take}
+use Rattle.std.specs.Prelude.{◌≡◌, ℕ, max, ◌<◌, ◌≤◌, Bool, true, false, cond, List, [], ◌∷◌, ◌++◌, Option, Some, None, filter, flat_map, fold}
+use Rattle.std.specs.Prelude.{length, ◌+◌}
+use Rattle.std.proofs.Common.{refl, sym, ap, ◌∙◌, arith, get_or, take}
 use Rattle.std.proofs.lemmas.List.{append-nil, flat_map_more, take_more}
 use Rattle.std.proofs.lemmas.List.Sums.{fold-append}
 use Rattle.std.specs.Option.{option_map_or}
@@ -15,8 +15,7 @@ use Rattle.ns_types.proofs.Tables.{equal_by}
 use Rattle.ns_types.specs.State.Names.{Name, same_number}
 use Rattle.ns_types.specs.Access.Rights.{both, no_grants, is_exact, is_match, is_of_kind, longest, merged, rules_of}
 use Rattle.ns_types.specs.State.Rows.{Acl}
-use Rattle.ns_acl.specs.declared.gathering.Gathered.{Gathered}
-use Rattle.ns_acl.specs.Gathered.{Adds, gathered, merged_if_any}
+use Rattle.ns_acl.specs.Gathered.{gathered, merged_if_any}
 
 abbrev size : Rule → ℕ
 size rule = length rule.pattern.text
@@ -46,10 +45,6 @@ merged-more rules rule = fold-append (λ grants rule. both grants rule.grants) n
 
 longest-more : (rules : List Rule) (rule : Rule) → longest (rules ++ rule ∷ []) ≡ max (longest rules) (size rule)
 longest-more rules rule = fold-append longer_of 0 rules (rule ∷ [])
-
-any-more : (rules : List Rule) (rule : Rule) → merged_if_any (rules ++ rule ∷ []) ≡ Some (both (unwrap_or (merged_if_any rules) no_grants) rule.grants)
-any-more [] rule = refl
-any-more (r ∷ rules) rule = ap Some (merged-more (r ∷ rules) rule)
 
 differ : (m n : ℕ) → (m ≡ n → ⊥) → same_number m n ≡ false
 differ m n apart = by (same_number m n) refl

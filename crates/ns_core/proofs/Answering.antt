@@ -80,15 +80,3 @@ module _ (s : State) (ns : Name) (secret : Option Name) (r : Registration) (t : 
     -- so where memory is wanted for it, it would have been made
     pub register_wants : passes_bound t ≡ false → is_made (after (Step.Ask ns secret (AskCommand.Register r)) s) ≡ true
     register_wants fits = ap is_made (register_leads fits)
-
--- ---- other commands in a namespace
-
--- of the commands that are served, all but a registration only read
-pub only_reads_else : (command : AskCommand) → IsServedAsk command → ((r : Registration) → command ≡ AskCommand.Register r → ⊥) →
-    only_reads (served_ask command) ≡ true
-only_reads_else (AskCommand.Register r) served other = absurd (other r refl)
-only_reads_else (AskCommand.ReadJob id) served other = refl
-only_reads_else (AskCommand.ListJobs prefix) served other = refl
-only_reads_else AskCommand.ReadNamespace served other = refl
-only_reads_else (AskCommand.QuotaUsage quota) served other = refl
-only_reads_else _ served other = not_both served refl

@@ -106,19 +106,6 @@ module _ (ns : Name) (x : TenantRows) where
       named
       ∙ (λ i. Done (Content.Usage (sym same i) (none_used t quota i)) (world_of t))
 
-  -- a use of a quota that the namespace names is told
-  pub usage_done : (t : Parts) (quota : Name) → names_quota quota x.namespace ≡ true →
-      is_done (asked_in ns (AskCommand.QuotaUsage quota) (world_of t) (tenant_of x)) ≡ true
-  usage_done t quota named = ap is_done (usage_told t quota quota named refl)
-
-  pub usage_refused : (t : Parts) (quota : Name) → names_quota quota x.namespace ≡ false →
-      asked_in ns (AskCommand.QuotaUsage quota) (world_of t) (tenant_of x) ≡ Refused Refusal.NotFound
-  usage_refused t quota other = ap (λ b. if b then Done (Content.Usage quota (quota_use (world_of t) quota)) (world_of t) else Refused Refusal.NotFound) other
-
-  pub job_done : (t : Parts) (id : Name) (job : Job) → get (rows x.rows.jobs) id ≡ Some job →
-      is_done (asked_in ns (AskCommand.ReadJob id) (world_of t) (tenant_of x)) ≡ true
-  job_done t id job is = ap is_done (job_told t id job (shown_in ns (id, job)) is refl)
-
 -- ---- reads as steps
 
 module _ (t : Parts) (ns : Name) (secret : Option Name) (x : TenantRows) (at : row_at t.tables.tenants ns ≡ Some x) (held : IsHeld (world_of t))
@@ -134,9 +121,3 @@ module _ (t : Parts) (ns : Name) (secret : Option Name) (x : TenantRows) (at : r
   read_replies content index same says = read_makes (Ok content) says
       ∙ ap (λ o. said (Ok (record { index = option_map (λ t. t.index) o; content = content })) (state_of t)) (tenant_at t ns x at)
       ∙ ap (λ n. said (Ok (record { index = Some n; content = content })) (state_of t)) (sym same)
-
-  -- a refusal as it was found
-  pub read_refuses : (answer : Answer) (refusal found : Refusal) → answer ≡ Err refusal → refusal ≡ found → ReadsIn ns command x (Err found)
-      → Makes (Step.Ask ns secret command) (state_of t) answer (state_of t)
-  read_refuses answer refusal found e is says = subst (λ a. Makes (Step.Ask ns secret command) (state_of t) a (state_of t))
-      (ap Err (sym is) ∙ sym e) (read_makes (Err found) says)

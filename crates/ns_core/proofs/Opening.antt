@@ -10,12 +10,12 @@ use Rattle.ns_types.specs.Steps.{opening, opening_acl, opening_tenant, opening_w
 use Rattle.ns_steps.proofs.Early.{opening_early}
 use Rattle.ns_types.proofs.Tests.{same_Some}
 use Rattle.ns_tables.specs.declared.tables.Tables.{Tables}
-use Rattle.ns_tables.specs.Viewed.{world_of as world_of_tables}
+use Rattle.ns_tables.specs.Viewed.{world_of}
 use Rattle.ns_core.specs.Held.{HasFewVersions, IsHeld}
 
 pub opening_parts : (secret : Name) (acl : Acl) (tables : Tables) (ready : List Key) → acl ≡ opening_acl secret →
-    ((r : List Key) → world_of_tables r tables ≡ record opening_world { ready = r }) → ready ≡ []
-    → record { acl = acl; world = world_of_tables ready tables } ≡ opening secret
+    ((r : List Key) → world_of r tables ≡ record opening_world { ready = r }) → ready ≡ []
+    → record { acl = acl; world = world_of ready tables } ≡ opening secret
 unfolding opening
 opening_parts secret acl tables ready a w r = λ i. record { acl = a i; world = (w ready ∙ ap (λ keys. record opening_world { ready = keys }) r) i }
 

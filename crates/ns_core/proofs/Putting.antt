@@ -27,7 +27,8 @@ use Rattle.ns_steps.specs.Registered.{registered_tenant, registered_world}
 use Rattle.ns_steps.proofs.Early.{registered_early}
 use Rattle.ns_types.proofs.Tests.{not_Some, same_Some}
 use Rattle.ns_core.specs.declared.registration.Made.{Made}
-use Rattle.ns_tables.specs.Viewed.{tenant_of, world_of as world_of_tables}
+use Rattle.ns_tables.specs.Viewed
+use Rattle.ns_tables.specs.Viewed.{tenant_of}
 use Rattle.ns_core.specs.declared.parts.Parts.{Parts}
 use Rattle.ns_tables.specs.declared.tables.TenantRows.{TenantRows}
 use Rattle.ns_core.specs.Held.{HasFewVersions, IsHeld}
@@ -92,7 +93,7 @@ module _ (x : TenantRows) (s : Stored) (id : Name) (number : ℕ) (e : GainsSlot
 
 -- where all is as it was, so is the state
 pub kept_state : (old new : Parts) → KeepsAll old new → state_of new ≡ state_of old
-kept_state old new kept = λ i. record { acl = kept.acl i; world = world_of_tables (kept.ready i) (kept.tables i) }
+kept_state old new kept = λ i. record { acl = kept.acl i; world = Viewed.world_of (kept.ready i) (kept.tables i) }
 
 -- the tables afterwards, where nothing else was changed
 pub puts_rows : (old new : Parts) (ns id : Name) (made : Made) (waits : Bool) (x y : TenantRows) (m : FinMap name_cmp (Option TenantRows))

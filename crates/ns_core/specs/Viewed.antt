@@ -12,11 +12,12 @@ use Rattle.ns_types.specs.State.Names.{Name, Key, begins_with, same_name}
 use Rattle.ns_types.specs.State.Rows.{State, World}
 use Rattle.ns_store.specs.Stored.{Stored}
 use Rattle.ns_types.specs.Asking.Admins.{is_relimited}
-use Rattle.ns_tables.specs.Viewed.{is_exhausted, world_of as world_of_tables}
+use Rattle.ns_tables.specs.Viewed
+use Rattle.ns_tables.specs.Viewed.{is_exhausted}
 use Rattle.ns_core.specs.declared.parts.Parts.{Parts}
 
 abbrev pub world_of : Parts → World
-world_of p = world_of_tables p.ready.items p.tables
+world_of p = Viewed.world_of p.ready.items p.tables
 
 abbrev pub state_of : Parts → State
 state_of p = record { acl = p.acl; world = world_of p }

@@ -3,7 +3,7 @@ use Rattle.std.specs.Prelude.{◌≡◌, not, ◌&&◌, nat_le, Option, Some, No
 use Rattle.std.proofs.Common.{refl, ap, ◌∙◌}
 use Rattle.std.proofs.Common.{Bor}
 use Rattle.std.specs.Option.{option_copied}
-use Rattle.std.specs.FinMap.{FinMap, contains_key, empty, get, insert, len, remove}
+use Rattle.std.specs.FinMap.{FinMap, empty, get, insert, len, remove}
 use Rattle.keyed.specs.Table.{row_at, rows, with_slot}
 use Rattle.keyed.proofs.Tables.{get-rows, row_put, rows-empty, rows-remove, rows-set}
 use Rattle.ns_types.proofs.Named.{names, one_name}
@@ -35,9 +35,6 @@ module _ {X Y : Type 0} (f : X → Y) where
 
   pub found_at : (m : FinMap name_cmp (Option X)) (k : Name) (x : Option X) → row_at m k ≡ x → get (shown m) k ≡ option_map f x
   found_at m k x e = get-table_of names one_name (λ _ x. f x) (rows m) k ∙ ap (option_map f) (get-rows names m k ∙ e)
-
-  pub there_at : (m : FinMap name_cmp (Option X)) (k : Name) (x : Option X) → row_at m k ≡ x → contains_key (shown m) k ≡ is_some x
-  there_at m k x e = get_mapped names one_name (λ _ x. f x) (rows m) k ∙ ap is_some (get-rows names m k ∙ e)
 
   pub full_at : (m : FinMap name_cmp (Option X)) (k : Name) → is_full (shown m) k ≡ is_full (rows m) k
   full_at m k = λ i. not (get_mapped names one_name (λ _ x. f x) (rows m) k i) && nat_le 10000 (len-table_of (λ _ x. f x) (rows m) i)

@@ -1,5 +1,5 @@
 -- The part of the state that the tables hold: their rows, without vacant slots and room.
-use Rattle.std.specs.Prelude.{ℕ, ◌+◌, List, [], Bool, true, false, not, ◌&&◌, ◌||◌, nat_lt, Some, None}
+use Rattle.std.specs.Prelude.{ℕ, ◌+◌, List, [], Bool, true, false, not, ◌&&◌, ◌||◌, nat_lt, None}
 use Rattle.std.specs.FinMap.{empty, get, insert}
 use Rattle.std.specs.Option.{option_map_or}
 use Rattle.keyed.specs.Table.{rows}
