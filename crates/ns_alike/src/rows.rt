@@ -1,10 +1,11 @@
 //! Whether replies show the same of two rows, their indexes apart.
 
-ghost use Rattle.std.specs.Prelude.{◌≡◌, ◌&&◌, option_copied};
+ghost use Rattle.std.specs.Prelude.{◌≡◌, option_copied};
 ghost use Rattle.std.specs.Option.{option_eq};
 ghost use Rattle.ns_types.specs.State.Names.{same_name, same_number};
 ghost use Rattle.ns_types.specs.State.Resources.{same_resources};
 ghost use Rattle.ns_types.specs.Settling.Same.{same_allocation, same_evaluation, same_flag, same_job};
+ghost use Rattle.ns_alike.specs.Parts.{same_cause, same_course, same_fate, same_place};
 ghost use Rattle.ns_types.specs.Wire.Words.{client_text, desired_text, kind_text, status_text, trigger_text};
 
 use crate::documents::same_document;
@@ -79,7 +80,7 @@ fn same_optional_text(a: Option<&Text>, b: Option<&Text>) -> bool
 
 /// Whether what an evaluation is made for is the same of both.
 fn same_cause(a: &Evaluation, b: &Evaluation) -> bool
-    ensures { result ≡ (same_name a.now.job b.now.job && same_name (kind_text a.now.kind) (kind_text b.now.kind) && same_number a.now.priority b.now.priority && same_name a.now.pool b.now.pool && same_name (trigger_text a.now.trigger) (trigger_text b.now.trigger)) }
+    ensures { result ≡ same_cause a.now b.now }
 {
     same_text(&a.job, &b.job)
         && same_kind(a.kind, b.kind)
@@ -90,7 +91,7 @@ fn same_cause(a: &Evaluation, b: &Evaluation) -> bool
 
 /// Whether what became of them is the same of both.
 fn same_course(a: &Evaluation, b: &Evaluation) -> bool
-    ensures { result ≡ (same_name (status_text a.now.status) (status_text b.now.status) && option_eq same_number a.now.previous b.now.previous && option_eq same_number a.now.follower b.now.follower && option_eq same_name a.now.quota b.now.quota && same_flag a.now.escapes b.now.escapes) }
+    ensures { result ≡ same_course a.now b.now }
 {
     same_status(a.status, b.status)
         && same_optional_number(a.previous, b.previous)
@@ -144,7 +145,7 @@ fn same_client(a: ClientStatus, b: ClientStatus) -> bool
 
 /// Whether both are of one place.
 fn same_place(a: &Allocation, b: &Allocation) -> bool
-    ensures { result ≡ (same_name a.now.job b.now.job && same_name a.now.group b.now.group && same_number a.now.evaluation b.now.evaluation && same_name a.now.pool b.now.pool && same_name a.now.node b.now.node) }
+    ensures { result ≡ same_place a.now b.now }
 {
     same_text(&a.job, &b.job)
         && same_text(&a.group, &b.group)
@@ -155,7 +156,7 @@ fn same_place(a: &Allocation, b: &Allocation) -> bool
 
 /// Whether what they take, and what became of them, is the same of both.
 fn same_fate(a: &Allocation, b: &Allocation) -> bool
-    ensures { result ≡ (same_resources a.now.size b.now.size && same_number a.now.priority b.now.priority && same_number a.now.job_modify_index b.now.job_modify_index && same_name (desired_text a.now.desired) (desired_text b.now.desired) && same_name (client_text a.now.client) (client_text b.now.client)) }
+    ensures { result ≡ same_fate a.now b.now }
 {
     same_resources(a.size, b.size)
         && same_number(a.priority, b.priority)

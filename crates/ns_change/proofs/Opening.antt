@@ -4,9 +4,9 @@ use Rattle.std.proofs.Common.{refl, sym, ap, ◌∙◌, Ordering}
 use Rattle.std.specs.Option.{option_map_or}
 use Rattle.std.specs.Ordering.{eq_by_cmp, nat_cmp}
 use Rattle.std.specs.Cmp.{IsTotalOrder}
-use Rattle.std.specs.FinMap.{FinMap, IsAntisymmetric, get, get-insert, get-remove, insert, remove, same_map}
+use Rattle.std.specs.FinMap.{FinMap, IsAntisymmetric, get, get-insert, get-remove, insert, same_map}
 use Rattle.keyed.specs.Table.{flat, rows, row_at, has_slot, emptied, with_slot, KeepsSlots}
-use Rattle.keyed.proofs.Tables.{get-rows, has_slot-insert, has_slot-insert_here, rows-emptied, rows-with_slot}
+use Rattle.keyed.proofs.Tables.{get-rows, has_slot-insert, rows-emptied, rows-with_slot}
 use Rattle.ns_types.specs.declared.evaluation.Evaluation.{Evaluation}
 use Rattle.ns_types.specs.Settling.Making.{change_tenant, put_tenant, with_evaluation}
 use Rattle.ns_types.specs.State.Names.{Name, name_cmp}
@@ -24,7 +24,7 @@ use Rattle.keyed.specs.Over.{over}
 use Rattle.ns_change.specs.Opened.{IsOpen, Opened, with_tenant}
 use Rattle.ns_world.specs.World.{tenant_of, world_of}
 use Rattle.ns_change.specs.Changed.{view}
-use Rattle.keyed.proofs.Over.{over-empty, over-gone, over-put}
+use Rattle.keyed.proofs.Over.{over-empty, over-put}
 use Rattle.ns_world.proofs.World.{tenant_at}
 use Rattle.ns_change.proofs.Seen.{tenant_seen}
 
@@ -115,16 +115,6 @@ module _ {K X : Type 0} {R : K → K → Ordering} (o : IsTotalOrder R) (same : 
       by : (b : Bool) → insert (cond b c (insert c k None)) k (Some x) ≡ insert c k (Some x)
       by true = refl
       by false = insert_twice o same c k None (Some x)
-
-  -- a row taken away, in a slot made for it
-  pub over-emptied : (m : FinMap R X) (c : FinMap R (Option X)) (k : K) → over m (emptied (with_slot c k) k) ≡ remove (over m c) k
-  over-emptied m c k = ap (over m) (by (has_slot c k) refl) ∙ over-gone o same m c k
-    where
-      by : (b : Bool) → has_slot c k ≡ b → cond (has_slot (cond b c (insert c k None)) k) (insert (cond b c (insert c k None)) k None)
-          (cond b c (insert c k None)) ≡ insert c k None
-      by true is = ap (λ b. cond b (insert c k None) c) is
-      by false is = ap (λ b. cond b (insert (insert c k None) k None) (insert c k None)) (has_slot-insert_here o c k None) ∙
-          insert_twice o same c k None None
 
 -- ---- a new evaluation
 

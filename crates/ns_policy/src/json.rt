@@ -7,8 +7,8 @@ ghost use Rattle.serde_json.specs.Find.{as_array};
 ghost use Rattle.ns_policy.specs.Json.{or_value, present, policy_in, capabilities_in, each_capability, one_capability, json_form, rule_in, with_rule, each_rule, kind_rules, member_name, json_rules, json_text};
 
 use crate::fault::RuleFault;
-use crate::rule::{NO_GRANTS, read_pattern, with_capability, with_policy};
-use ns_types::acl::{Grants, Rule, RuleKind};
+use crate::rule::{read_pattern, with_capability, with_policy};
+use ns_types::acl::{Grants, NO_GRANTS, Rule, RuleKind};
 use ns_types::rows::Rows;
 use serde_json::{Map, Value};
 use std::alloc::Global;

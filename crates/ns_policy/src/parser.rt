@@ -7,8 +7,8 @@ ghost use Rattle.ns_policy.specs.Grammar.{role_of, start, at, blocks, read_on, n
 
 use crate::fault::RuleFault;
 use crate::lex::{Token, skip_blanks, token_at};
-use crate::rule::{NO_GRANTS, read_pattern, with_capability, with_policy};
-use ns_types::acl::{Grants, Pattern, Rule, RuleKind};
+use crate::rule::{read_pattern, with_capability, with_policy};
+use ns_types::acl::{Grants, NO_GRANTS, Pattern, Rule, RuleKind};
 use ns_types::rows::Rows;
 use std::alloc::Global;
 

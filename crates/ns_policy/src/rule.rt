@@ -10,16 +10,6 @@ use ns_types::name::{NameKind, has_name_bytes};
 use ns_types::text::Text;
 use std::alloc::Global;
 
-pub const NO_GRANTS: Grants = Grants {
-    list_jobs: false,
-    read_job: false,
-    submit_job: false,
-    alloc_lifecycle: false,
-    read_pool: false,
-    write_pool: false,
-    deny: false,
-};
-
 fn namespace_policy(grants: Grants, word: &[u8]) -> Result<Grants, RuleFault>
     ensures { Gives same result (namespace_policy word.now grants) }
 {

@@ -1,39 +1,14 @@
--- Classes are ordered, and the order in which a pool's classes are released does not matter.
+-- The order in which a pool's classes are released does not matter.
 use Rattle.std.specs.Prelude.{◌≡◌, ℕ, ◌+◌, Bool, true, false, cond, T, List, [], ◌∷◌, Some, ◌||◌, fold}
 use Rattle.std.proofs.Common.{refl, sym, ap, subst, ◌∙◌}
-use Rattle.std.specs.Cmp.{IsTotalOrder, then_total, on_total}
-use Rattle.std.specs.Cmp.Lexicographic.{slice_cmp, lists_total}
-use Rattle.std.specs.declared.cmp.Ordering.{Ordering}
-use Rattle.std.specs.declared.cmp.Ordering.TheVariants.{Less, Equal, Greater}
 use Rattle.std.specs.List.{list_any}
-use Rattle.std.specs.FinMap.{IsAntisymmetric, slice_cmp-IsAntisymmetric, get, get-insert, insert, same_map}
-use Rattle.std.specs.Ordering.{is_eq, ordering_then}
-use Rattle.ns_types.specs.declared.node.Attribute.{Attribute}
+use Rattle.std.specs.FinMap.{get, get-insert, insert, same_map}
 use Rattle.ns_types.specs.declared.node.Class.{Class}
-use Rattle.ns_types.specs.State.Names.{ByClass, name_cmp, attribute_cmp, class_cmp, same_class}
+use Rattle.ns_types.specs.State.Names.{ByClass, class_cmp, same_class}
 use Rattle.ns_types.specs.State.Rows.{PoolRows}
 use Rattle.ns_types.specs.Settling.Settle.{after_release}
+use Rattle.ns_types.proofs.Classes.{by_class, one_class}
 use Rattle.ns_types.proofs.Lists.{not_both}
-use Rattle.ns_types.proofs.Named.{names, one_name}
-
-both_equal : (r s : Ordering) → ordering_then r s ≡ Equal → (r ≡ Equal) × (s ≡ Equal)
-both_equal Less s e = absurd (subst (λ r. T (is_eq r)) (sym e) tt)
-both_equal Equal s e = (refl, e)
-both_equal Greater s e = absurd (subst (λ r. T (is_eq r)) (sym e) tt)
-
-one_attribute : IsAntisymmetric attribute_cmp
-one_attribute a b e = let t = both_equal (name_cmp a.key b.key) (name_cmp a.value b.value) e in
-    λ i. record { key = one_name a.key b.key t.0 i; value = one_name a.value b.value t.1 i }
-
-pub by_class : IsTotalOrder class_cmp
-by_class = then_total (on_total (λ (c : Class). c.name) names)
-    (on_total (λ (c : Class). c.attributes) (lists_total
-    (then_total (on_total (λ (a : Attribute). a.key) names) (on_total (λ (a : Attribute). a.value) names))))
-
-pub one_class : IsAntisymmetric class_cmp
-one_class a b e =
-    let t = both_equal (name_cmp a.name b.name) (slice_cmp attribute_cmp a.attributes b.attributes) e in
-    λ i. record { name = one_name a.name b.name t.0 i; attributes = slice_cmp-IsAntisymmetric one_attribute a.attributes b.attributes t.1 i }
 
 -- the same classes in whatever order
 abbrev pub Alike : List Class → List Class → Type 0

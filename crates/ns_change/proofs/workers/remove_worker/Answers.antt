@@ -5,7 +5,8 @@ use Rattle.ns_types.proofs.Named.{numbers, one_number}
 use Rattle.ns_types.specs.Working.Work.{without_worker}
 use Rattle.ns_change.specs.Changed.{changed_tenant, view}
 use Rattle.ns_change.specs.Opened.{Opened}
-use Rattle.ns_change.proofs.Opening.{over-emptied, put_open}
+use Rattle.ns_change.proofs.Opening.{put_open}
+use Rattle.ns_change.proofs.Pools.{over-vacant}
 use Rattle.ns_change.proofs.workers.remove_worker.Goals as goal
 
 pub returns : goal.returns
@@ -16,5 +17,5 @@ returns c =
     (subst (λ x. Opened c.args.tables.now c.args.change.now c.args.namespace.now x c.open.new.change) c.in-Some.is c.in_ok-tenant.ensures)
     (λ base. λ i. record (changed_tenant base c.in-Some.tenant) {
       workers = (ap (over base.workers) (c.take.ensures.slots ∙ ap (λ m. emptied m c.args.number) c.in_ok-reserve.ensures.ok) ∙
-          over-emptied numbers one_number base.workers c.in-Some.tenant.workers c.args.number) i;
+          over-vacant numbers one_number base.workers c.in-Some.tenant.workers c.args.number) i;
     })
