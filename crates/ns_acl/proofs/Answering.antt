@@ -63,7 +63,8 @@ module _ (acl : Acl) where
         → token ≡ token_of new → after.policies ≡ acl.policies → after.tokens ≡ insert acl.tokens new.secret token
         → create_token new acl ≡ Done content after
     unfolding shown created
-    token_created content token after e f c r p t = unless_not _ Refusal.Conflict (unless (nat_le most_rows (len acl.tokens)) Refusal.Full (Done shown created)) e
+    token_created content token after e f c r p t = unless_not _ Refusal.Conflict
+        (unless (nat_le most_rows (len acl.tokens)) Refusal.Full (Done shown created)) e
         ∙ unless_not _ Refusal.Full (Done shown created) f
         ∙ (λ i. Done (sym c i) (record { policies = sym p i; tokens = sym (t ∙ ap (λ token. insert acl.tokens new.secret token) r) i }))
 

@@ -55,10 +55,12 @@ module _ (number : ℕ) (key : Key) (w : World) where
       ≡ Done (Content.Took key.1) (without_ready key (change_tenant key.0 (with_worker number (new_worker key.1 e)) w))
   taken_out e there on = dequeues on ∙ by (get w.tenants key.0) refl there
     where
-      by : (r : Option Tenant) → get w.tenants key.0 ≡ r → option_and_then (λ t. get t.evaluations key.1) r ≡ Some e → option_map_or (dequeue_in number key w) r NotEnabled
+      by : (r : Option Tenant) → get w.tenants key.0 ≡ r → option_and_then (λ t. get t.evaluations key.1) r ≡ Some e →
+          option_map_or (dequeue_in number key w) r NotEnabled
           ≡ Done (Content.Took key.1) (without_ready key (option_map_or (λ t. put_tenant key.0 (with_worker number (new_worker key.1 e) t) w) r w))
       by None at is = absurd (not_Some e is)
       by (Some t) at is = ap (λ e. option_map_or (λ e. Done (Content.Took key.1) (taken number key w t e)) e NotEnabled) is
 
-pub out_of_memory : (outcome : Outcome World) (t : Tables) (r : Result Prepared Refusal) → r ≡ Err Refusal.Memory → is_done outcome ≡ true → Prepares outcome t r
+pub out_of_memory : (outcome : Outcome World) (t : Tables) (r : Result Prepared Refusal) → r ≡ Err Refusal.Memory → is_done outcome ≡ true →
+    Prepares outcome t r
 out_of_memory outcome t r e d = subst (Prepares outcome t) (sym e) d

@@ -19,7 +19,8 @@ module _ {X : Type 0} (rows_of : Tenant → FinMap nat_cmp X) (put : ℕ → X �
   pub row_nowhere : row_in rows_of w ns n ≡ None → w ≡ change_tenant ns edited w
   row_nowhere is = by (get w.tenants ns) refl is
     where
-      by : (r : Option Tenant) → get w.tenants ns ≡ r → option_and_then (λ t. get (rows_of t) n) r ≡ None → w ≡ option_map_or (λ t. put_tenant ns (edited t) w) r w
+      by : (r : Option Tenant) → get w.tenants ns ≡ r → option_and_then (λ t. get (rows_of t) n) r ≡ None →
+          w ≡ option_map_or (λ t. put_tenant ns (edited t) w) r w
       by None at is = refl
       by (Some t) at is = (λ i. record w { tenants = sym (insert_same names one_name w.tenants ns t at) i }) ∙
           ap (λ r. put_tenant ns (option_map_or (λ x. put n (g x) t) r t) w) (sym is)

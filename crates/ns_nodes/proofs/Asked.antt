@@ -146,7 +146,8 @@ module _ (w : World) (pool name : Name) (offer : Offer) where
         (change_pool pool (with_node name (with_offer offer (node_at w pool name))) w)
     unfolding unless
     registered fits room = registers true false fits (sym full_by ∙ room)
-        ∙ (λ i. Done Content.Written (option_map_or (λ p. put_pool pool (with_node name (with_offer offer (option_and_then (λ p. get p.nodes name) (sym is i))) p) w)
+        ∙ (λ i. Done Content.Written (option_map_or
+        (λ p. put_pool pool (with_node name (with_offer offer (option_and_then (λ p. get p.nodes name) (sym is i))) p) w)
         (sym is i) w))
 
 -- want of memory, where the step would be done

@@ -105,7 +105,8 @@ module _ (w : World) (c : Change) where
   unfolding changed
   released_is name = by (get w.quotas name) refl
     where
-      by : (q : Option QuotaRows) → get w.quotas name ≡ q → option_map_or (releases_quota w middle name) q false ≡ (is_some q && has_name (released_quotas w c) name)
+      by : (q : Option QuotaRows) → get w.quotas name ≡ q → option_map_or (releases_quota w middle name) q false
+          ≡ (is_some q && has_name (released_quotas w c) name)
       by None is = refl
       by (Some q) is = quota_is name q is
 
@@ -159,7 +160,8 @@ module _ (w : World) (c awake : Change) (s : Settled) (is : IsSettled w c awake 
   unfolding changed
   pools_are = map_rows-alike names one_name _ (λ name p. after_release (classes_in name (released_rooms w c)) p) (changed w awake).pools
       (λ name p at. pool_is w c name p (ap (λ m. get m name) (sym same_pools) ∙ at))
-      ∙ map_rows-twice names one_name (λ name p. after_release (classes_in name (released_rooms w c)) p) (λ name p. perhaps changed_pool (row_at awake.pools name) p)
+      ∙ map_rows-twice names one_name (λ name p. after_release (classes_in name (released_rooms w c)) p)
+      (λ name p. perhaps changed_pool (row_at awake.pools name) p)
       w.pools
       ∙ (λ i. map_rows (λ name p. after_release (classes_in name (sym is.rooms i)) (perhaps changed_pool (row_at (sym is.pools i) name) p)) w.pools)
 

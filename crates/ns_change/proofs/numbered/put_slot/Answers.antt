@@ -9,7 +9,8 @@ use Rattle.ns_change.proofs.Opening.{over-slot}
 use Rattle.ns_change.proofs.numbered.put_slot.Goals as goal
 
 pub set-requires : goal.set-requires
-set-requires g c = subst (λ m. IsTrue (has_slot m c.args.number)) (sym c.in_ok-reserve.ensures.ok) (has_slot-with_slot_here numbers c.args.changed.now c.args.number)
+set-requires g c = subst (λ m. IsTrue (has_slot m c.args.number)) (sym c.in_ok-reserve.ensures.ok)
+    (has_slot-with_slot_here numbers c.args.changed.now c.args.number)
 
 pub returns : goal.returns
 returns g c = λ m. ap (over m) (c.set.ensures ∙ ap (λ n. insert n c.args.number (Some c.args.row)) c.in_ok-reserve.ensures.ok) ∙

@@ -21,7 +21,8 @@ returns-in-Some-get g c = c.get_over.ensures ∙ ap (λ m. get (over m c.changed
     (sym c.get-2.ensures ∙ ap option_copied c.in-Some-get.is)))
 
 pub returns-in-None : goal.returns-in-None
-returns-in-None g c = c.get-in-None.ensures ∙ sym (get-rows numbers c.stored-in-None.result.now c.args.number) ∙ ap (λ m. get m c.args.number) c.stored-in-None.ensures
+returns-in-None g c = c.get-in-None.ensures ∙ sym (get-rows numbers c.stored-in-None.result.now c.args.number)
+    ∙ ap (λ m. get m c.args.number) c.stored-in-None.ensures
     ∙ sym (ap (option_and_then (λ (t : Tenant). get (g.R.NumberedRow.rows_of t) c.args.number))
     (kept_seen c.args.tables.now c.args.change.now c.args.namespace.now _ (sym c.get.ensures ∙ ap option_copied c.in-Some.is)
     (sym c.get-2.ensures ∙ ap option_copied c.in-None.is)))
