@@ -1,7 +1,7 @@
 pub mod Classes
 pub mod Cleared
 pub mod Numbered
-pub mod Owners
+pub mod Owned
 pub mod Raised
 pub mod Reserved
 pub mod Whole

@@ -12,7 +12,7 @@ use Rattle.ns_types.proofs.Tests.{not_Some, same_Some}
 use Rattle.ns_change.specs.Settled.{classes_in}
 use Rattle.ns_commit.specs.Committed.{ClassPut, HaveClassRoom, KeepsNodes, numbered_pools, with_classes}
 use Rattle.ns_commit.specs.Owners.{ChangesRow, owners}
-use Rattle.ns_commit.proofs.Owners.{at_each, by_turn, get-owners, if_there}
+use Rattle.ns_commit.proofs.Owned.{at_each, by_turn, get-owners, if_there}
 use Rattle.ns_world.specs.declared.tables.PoolRows.{PoolRows}
 use Rattle.ns_world.specs.World.{pool_of}
 

@@ -10,7 +10,7 @@ use Rattle.ns_types.proofs.Lists.{not_both}
 use Rattle.ns_types.proofs.Named.{same_name_refl}
 use Rattle.ns_commit.specs.Committed.{CanRise}
 use Rattle.ns_commit.specs.Owners.{ChangesRow}
-use Rattle.ns_commit.proofs.Owners.{at_each, by_turn, if_there}
+use Rattle.ns_commit.proofs.Owned.{at_each, by_turn, if_there}
 
 -- the rest of a list, from an item on and behind it
 pub from_here : {A : Type 0} (xs : List A) (i : ℕ) (x : A) → i < length xs → x ≡ get_or xs i x → drop i xs ≡ x ∷ drop (i + 1) xs

@@ -1,5 +1,5 @@
 -- Room that is made owner by owner.
-use Rattle.std.specs.Prelude.{◌≡◌, ℕ, ◌+◌, ◌<◌, ◌≤◌, ◌^◌, Bool, true, false, ◌||◌, cond, List, [], ◌∷◌, Option, Some, None}
+use Rattle.std.specs.Prelude.{◌≡◌, ℕ, ◌≤◌, Bool, true, false, ◌||◌, cond, List, [], ◌∷◌, Option, Some, None}
 use Rattle.std.specs.Prelude.{filter, length, map, option_map, IfSome}
 use Rattle.std.proofs.Common.{refl, sym, ap, ◌∙◌, subst, arith}
 use Rattle.std.specs.FinMap.{FinMap, entries, get, get-entries, same_map}
@@ -12,14 +12,12 @@ use Rattle.ns_types.proofs.Lists.{not_both}
 use Rattle.ns_types.proofs.Named.{names, one_name}
 use Rattle.ns_types.proofs.Tables.{each_row}
 use Rattle.ns_types.proofs.Tests.{not_Some, same_Some}
-use Rattle.ns_change.specs.declared.change.SettledTenant.{SettledTenant}
 use Rattle.ns_change.specs.Settled.{classes_in}
-use Rattle.ns_commit.specs.Committed.{CanTell, GainsClassRoom, HaveClassRoom, KeepsNodes, releases}
-use Rattle.ns_commit.specs.Owners.{ChangesRow, EachChanged, owners}
-use Rattle.ns_commit.proofs.Owners.{at_each, by_turn, get-owners, if_there, there_if}
+use Rattle.ns_commit.specs.Committed.{GainsClassRoom, HaveClassRoom, KeepsNodes, releases}
+use Rattle.ns_commit.specs.Owners.{Always, ChangesRow, EachChanged, owners}
+use Rattle.ns_commit.proofs.Owned.{at_each, by_turn, get-owners, if_there, there_if}
 use Rattle.ns_world.specs.declared.tables.PoolRows.{PoolRows}
-use Rattle.ns_world.specs.declared.tables.TenantRows.{TenantRows}
-use Rattle.ns_world.specs.World.{pool_of, tenant_of}
+use Rattle.ns_world.specs.World.{pool_of}
 
 module _ {Row A X : Type 0} (seen : Row → A) (Can Room : X → Row → Type 0) (carries : (x : X) (a b : Row) → seen b ≡ seen a → Can x a → Can x b) where
   -- the owners are as they were, and those that es does not name have their room
@@ -172,14 +170,7 @@ module _ (old new before : Table) (e : Name × Class) (es rest rooms : List (Nam
         (λ q f pool none at. h.room q pool (other q f ∙ none) at);
   })
 
--- ---- what may be told or put
-
-pub tell_carries : (x : SettledTenant) (a b : TenantRows) → tenant_of b ≡ tenant_of a → CanTell x a → CanTell x b
-tell_carries x a b is can some = subst (λ t. t.index + 1 < 2 ^ 64) (sym is) (can some)
-
--- what asks nothing
-abbrev pub Always : {X Row : Type 0} → X → Row → Type 0
-Always x row = Unit {0}
+-- ---- what asks nothing
 
 pub always_carries : {Row A X : Type 0} (seen : Row → A) (x : X) (a b : Row) → seen b ≡ seen a → Always x a → Always x b
 always_carries seen x a b is can = tt

@@ -23,7 +23,7 @@ use Rattle.ns_change.specs.Settled.{classes_in, settled_tenant, settled_world}
 use Rattle.ns_commit.specs.Committed.{CanRise, CanTell, Fits, HasNodeRoom, HaveClassRoom, KeepsNodes}
 use Rattle.ns_commit.specs.Committed.{numbered_pools, raised_pool, raised_quota, released_quotas, releases, settled_pools, with_classes}
 use Rattle.ns_commit.specs.Owners.{EachChanged, changed_owners, owners}
-use Rattle.ns_commit.proofs.Owners.{get-changed, get-owners}
+use Rattle.ns_commit.proofs.Owned.{get-changed, get-owners}
 use Rattle.ns_commit.proofs.Reserved.{is_some_class, releases_is}
 use Rattle.ns_world.specs.declared.tables.PoolRows.{PoolRows}
 use Rattle.ns_world.specs.declared.tables.QuotaRows.{QuotaRows}

@@ -30,3 +30,7 @@ pub record ChangesRow {Row : Type 0} (becomes : Row → Row → Type 0) (name : 
     (old new : FinMap name_cmp (Option Row)) : Type 0 where
   pub here : Turns becomes (row_at old name) (row_at new name)
   pub others : (other : Name) → same_name other name ≡ false → row_at new other ≡ row_at old other
+
+-- what can always be changed
+abbrev pub Always : {X Row : Type 0} → X → Row → Type 0
+Always x row = Unit {0}

@@ -7,6 +7,7 @@
 mod clearing;
 mod lists;
 mod namespaces;
+mod owners;
 mod pools;
 mod quotas;
 mod settled;

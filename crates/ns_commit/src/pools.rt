@@ -6,13 +6,15 @@ ghost use Rattle.keyed.specs.Table.{row_at};
 ghost use Rattle.ns_change.specs.Changed.{changed_pool};
 ghost use Rattle.ns_change.specs.Settled.{classes_in};
 ghost use Rattle.ns_types.specs.State.Names.{Name, same_name};
+ghost use Rattle.ns_types.specs.State.Rows.{PoolRows as Pool};
 ghost use Rattle.ns_commit.specs.Committed.{CanRise, ClassPut, HasNodeRoom, HaveClassRoom, KeepsNodes};
 ghost use Rattle.ns_commit.specs.Committed.{GainsClassRoom, HavePoolRoom, IsPoolCleared};
 ghost use Rattle.ns_commit.specs.Committed.{numbered_pools, raised_pool, releases, settled_pools};
-ghost use Rattle.ns_commit.specs.Owners.{ChangesRow, EachChanged, changed_owners, owners};
+ghost use Rattle.ns_commit.specs.Owners.{Always, ChangesRow, owners};
 ghost use Rattle.ns_world.specs.World.{pool_of};
 
 use crate::clearing::clear_names;
+use crate::owners::{Owner, commit_all, reserve_all};
 use keyed::NameTable;
 use ns_alike::{same_class, same_text};
 use ns_change::PoolChange;
@@ -73,60 +75,33 @@ fn reserve_classes(table: &mut NameTable<PoolRows>, rooms: &[Room]) -> Result<()
     Ok(())
 }
 
-/// Makes a slot for each of the pool's changed nodes.
-fn reserve_nodes_in(
-    table: &mut NameTable<PoolRows>,
-    name: &Text,
-    change: &PoolChange,
-) -> Result<(), AllocError>
-    ensures rows { ChangesRow (λ a b. pool_of b ≡ pool_of a) name.now table.old table.new }
-    ensures room { OnOk result (IfSome (row_at table.new name.now) (HasNodeRoom change.now)) }
-{
-    let Some(mut pool) = table.take(name) else {
-        return Ok(());
-    };
-    let reserved = pool.nodes.reserve_all(&change.nodes);
-    table.set(name, pool);
-    reserved
-}
+impl Owner<PoolChange> for PoolRows {
+    ghost Seen = { Pool };
 
-/// Makes a slot for each changed node.
-fn reserve_nodes(
-    table: &mut NameTable<PoolRows>,
-    changes: &NameTable<PoolChange>,
-) -> Result<(), AllocError>
-    ensures pools { owners pool_of table.new ≡ owners pool_of table.old }
-    ensures room { OnOk result (EachChanged HasNodeRoom changes.now table.new) }
-{
-    for slot in changes.as_slice() {
-        if let Some(change) = &slot.1 {
-            reserve_nodes_in(table, &slot.0, change)?;
-        }
-    }
-    Ok(())
-}
+    ghost seen = { pool_of };
 
-/// Takes the vacant slots of the pool's changed nodes out again.
-fn clear_nodes_in(table: &mut NameTable<PoolRows>, name: &Text, change: &PoolChange)
-    ensures rows { ChangesRow (λ a b. pool_of b ≡ pool_of a) name.now table.old table.new }
-    ensures cleared { IfSome (row_at table.new name.now) (IsPoolCleared change.now) }
-{
-    if let Some(mut pool) = table.take(name) {
-        clear_names(&mut pool.nodes, &change.nodes);
-        table.set(name, pool);
-    }
-}
+    ghost changed = { changed_pool };
 
-/// Takes the vacant slots of all changed nodes out again.
-pub(crate) fn clear_nodes(table: &mut NameTable<PoolRows>, changes: &NameTable<PoolChange>)
-    ensures pools { owners pool_of table.new ≡ owners pool_of table.old }
-    ensures cleared { EachChanged IsPoolCleared changes.now table.new }
-{
-    for slot in changes.as_slice() {
-        if let Some(change) = &slot.1 {
-            clear_nodes_in(table, &slot.0, change);
-        }
+    ghost CanChange = { Always };
+
+    ghost HasRoom = { HasNodeRoom };
+
+    ghost IsCleared = { IsPoolCleared };
+
+    fn reserve(&mut self, change: &PoolChange) -> Result<(), AllocError> {
+        self.nodes.reserve_all(&change.nodes)
     }
+
+    fn clear(&mut self, change: &PoolChange) {
+        clear_names(&mut self.nodes, &change.nodes);
+    }
+
+    fn commit(&mut self, change: PoolChange) {
+        let PoolChange { nodes } = change;
+        self.nodes.apply(nodes);
+    }
+
+    ghost carries = { λ x a b is can. can };
 }
 
 /// Makes room for what changes of all pools. Where it is refused, the pools are as they were.
@@ -139,7 +114,7 @@ pub(crate) fn reserve_pools(
     ensures pools { owners pool_of table.new ≡ owners pool_of table.old }
     ensures room { OnOk result (HavePoolRoom changes.now rooms.now table.new) }
 {
-    reserve_nodes(table, changes)?;
+    reserve_all(table, changes)?;
     reserve_classes(table, rooms)
 }
 
@@ -203,37 +178,6 @@ fn put_classes(table: &mut NameTable<PoolRows>, rooms: Rows<Room>)
     }
 }
 
-// ---- nodes
-
-/// Moves the changed nodes of a pool in, if it is there.
-fn commit_nodes_in(table: &mut NameTable<PoolRows>, name: &Text, change: PoolChange)
-    requires { IfSome (row_at table.old name.now) (HasNodeRoom change) }
-    ensures { ChangesRow (λ a b. pool_of b ≡ changed_pool (pool_of a) change)
-        name.now table.old table.new }
-{
-    match table.take(name) {
-        Some(mut pool) => {
-            let PoolChange { nodes } = change;
-            pool.nodes.apply(nodes);
-            table.set(name, pool);
-        }
-        None => drop(change),
-    }
-}
-
-/// Moves the changed nodes of all pools in. It takes no memory.
-fn commit_nodes(table: &mut NameTable<PoolRows>, changes: NameTable<PoolChange>)
-    requires { EachChanged HasNodeRoom changes table.old }
-    ensures { owners pool_of table.new
-        ≡ changed_owners changed_pool changes (owners pool_of table.old) }
-{
-    for (name, slot) in changes.into_slots() {
-        if let Some(change) = slot {
-            commit_nodes_in(table, &name, change);
-        }
-    }
-}
-
 /// Moves what changed of all pools in: release numbers, classes with their numbers, nodes. It takes no memory.
 pub(crate) fn commit_pools(
     table: &mut NameTable<PoolRows>,
@@ -245,5 +189,5 @@ pub(crate) fn commit_pools(
 {
     raise_pools(table, rooms.as_slice());
     put_classes(table, rooms);
-    commit_nodes(table, changes);
+    commit_all(table, changes);
 }

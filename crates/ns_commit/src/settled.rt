@@ -6,8 +6,8 @@ ghost use Rattle.ns_commit.specs.Committed.{AreCleared, Fits, HasRoom};
 ghost use Rattle.ns_world.specs.World.{world_of};
 
 use crate::lists::{commit_list, reserve_list};
-use crate::namespaces::{clear_tenants, commit_tenants, reserve_tenants};
-use crate::pools::{clear_nodes, commit_pools, reserve_pools};
+use crate::owners::{clear_all, commit_all, reserve_all};
+use crate::pools::{commit_pools, reserve_pools};
 use crate::quotas::commit_quotas;
 use ns_change::Settled;
 use ns_world::Tables;
@@ -19,7 +19,7 @@ fn reserve_parts(tables: &mut Tables, settled: &Settled) -> Result<(), AllocErro
     ensures world { world_of tables.new ≡ world_of tables.old }
     ensures room { OnOk result (HasRoom settled.now tables.new) }
 {
-    reserve_tenants(&mut tables.tenants, &settled.tenants)?;
+    reserve_all(&mut tables.tenants, &settled.tenants)?;
     reserve_pools(&mut tables.pools, &settled.pools, settled.rooms.as_slice())?;
     reserve_list(&mut tables.ready, &settled.ready)?;
     reserve_list(&mut tables.plans, &settled.plans)?;
@@ -31,8 +31,8 @@ fn clear(tables: &mut Tables, settled: &Settled)
     ensures world { world_of tables.new ≡ world_of tables.old }
     ensures cleared { AreCleared settled.now tables.new }
 {
-    clear_tenants(&mut tables.tenants, &settled.tenants);
-    clear_nodes(&mut tables.pools, &settled.pools);
+    clear_all(&mut tables.tenants, &settled.tenants);
+    clear_all(&mut tables.pools, &settled.pools);
 }
 
 /// Makes room for all that a settled step changes. Want of memory is the only error: then the world is as it was, and no
@@ -64,7 +64,7 @@ pub fn commit(tables: &mut Tables, settled: Settled)
         rooms,
         quotas,
     } = settled;
-    commit_tenants(&mut tables.tenants, tenants);
+    commit_all(&mut tables.tenants, tenants);
     commit_pools(&mut tables.pools, pools, rooms);
     commit_quotas(&mut tables.quotas, quotas.as_slice());
     commit_list(&mut tables.ready, ready);

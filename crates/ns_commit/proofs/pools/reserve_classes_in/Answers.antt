@@ -12,7 +12,7 @@ use Rattle.ns_change.specs.Settled.{classes_in}
 use Rattle.ns_commit.specs.Committed.{GainsClassRoom}
 use Rattle.ns_world.specs.World.{pool_of}
 use Rattle.ns_change.proofs.Listed.{on_ok}
-use Rattle.ns_commit.proofs.Owners.{no_row, nowhere, row_there, there}
+use Rattle.ns_commit.proofs.Owned.{no_row, nowhere, row_there, there}
 use Rattle.ns_commit.proofs.pools.reserve_classes_in.Goals as goal
 
 pub set-requires : goal.set-requires

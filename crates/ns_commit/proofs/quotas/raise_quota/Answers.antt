@@ -4,7 +4,7 @@ use Rattle.keyed.specs.Table.{has_slot}
 use Rattle.keyed.proofs.Tables.{has_slot-row}
 use Rattle.ns_types.proofs.Named.{names, one_name}
 use Rattle.ns_change.proofs.Opening.{emptied_keeps}
-use Rattle.ns_commit.proofs.Owners.{nowhere, there}
+use Rattle.ns_commit.proofs.Owned.{nowhere, there}
 use Rattle.ns_commit.specs.Committed.{raised_quota}
 use Rattle.ns_commit.proofs.quotas.raise_quota.Goals as goal
 

@@ -3,4 +3,4 @@ use Rattle.ns_commit.proofs.Whole.{same_world}
 use Rattle.ns_commit.proofs.settled.clear.Goals as goal
 
 pub returns-clause-world : goal.returns-clause-world
-returns-clause-world c = same_world c.args.tables.now _ c.clear_tenants.ensures.tenants c.clear_nodes.ensures.pools refl refl refl refl
+returns-clause-world c = same_world c.args.tables.now _ c.clear_all.ensures.rows c.clear_all-2.ensures.rows refl refl refl refl

@@ -6,6 +6,6 @@ use Rattle.ns_commit.proofs.Whole.{settled_is}
 use Rattle.ns_commit.proofs.settled.commit.Goals as goal
 
 pub returns : goal.returns
-returns c = settled_is c.args.settled c.args.tables.now _ c.commit_tenants.ensures c.commit_pools.ensures
+returns c = settled_is c.args.settled c.args.tables.now _ c.commit_all.ensures c.commit_pools.ensures
     (c.commit_quotas.ensures ∙ ap (λ names. released_quotas names (owners quota_of c.args.tables.now.quotas)) c.as_slice.ensures)
     c.commit_list.ensures c.commit_list-2.ensures c.commit_list-3.ensures

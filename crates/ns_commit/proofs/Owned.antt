@@ -1,5 +1,5 @@
 -- Owners that are changed one by one.
-use Rattle.std.specs.Prelude.{◌≡◌, Bool, true, false, cond, T, List, [], ◌∷◌, Option, Some, None, option_map, IfSome, OnOk, Result, Ok, Err}
+use Rattle.std.specs.Prelude.{◌≡◌, Bool, true, false, cond, T, List, [], ◌∷◌, Option, Some, None, option_map, IfSome}
 use Rattle.std.proofs.Common.{refl, sym, ap, ◌∙◌, subst}
 use Rattle.std.specs.FinMap.{FinMap, entries, entries_sorted, get, get-entries, insert, same_map}
 use Rattle.std.specs.FinMap.Entries.{find, is_sorted}
