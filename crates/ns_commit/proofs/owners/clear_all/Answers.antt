@@ -14,11 +14,13 @@ pub loop-slot-preserved : goal.loop-slot-preserved
 loop-slot-preserved g c =
     let is = from_here c.as_slice-slot-items.result.now c.loop-slot.slot-index c.slot-item.result c.loop-slot-test.true c.slot-item.is in
     elim c.match-slot.branch [
-      | in-Some w ↦ subst (λ m. Reserved g.Row.Owner.seen Always g.Row.Owner.IsCleared (always_carries g.Row.Owner.seen) m c.args.table.now _ c.args.changes.now) (sym w.table-is)
+      | in-Some w ↦ subst (λ m. Reserved g.Row.Owner.seen Always g.Row.Owner.IsCleared (always_carries g.Row.Owner.seen) m c.args.table.now _
+          c.args.changes.now) (sym w.table-is)
           (one_reserved g.Row.Owner.seen Always g.Row.Owner.IsCleared (always_carries g.Row.Owner.seen) c.loop-slot.table w.clear_one.new.table c.args.table.now
           c.slot-item.result.0 c.slot-item.result.1 _ _ c.args.changes.now is c.loop-slot.invariant w.in-Some.change w.in-Some.is
           w.clear_one.ensures.rows w.clear_one.ensures.cleared)
-      | in_default w ↦ slot_passed g.Row.Owner.seen Always g.Row.Owner.IsCleared (always_carries g.Row.Owner.seen) c.loop-slot.table c.match-slot.table c.args.table.now
+      | in_default w ↦ slot_passed g.Row.Owner.seen Always g.Row.Owner.IsCleared (always_carries g.Row.Owner.seen) c.loop-slot.table c.match-slot.table
+          c.args.table.now
           c.slot-item.result.0 c.slot-item.result.1 _ _ c.args.changes.now is c.loop-slot.invariant w.in_default.is w.table-is
     ]
 

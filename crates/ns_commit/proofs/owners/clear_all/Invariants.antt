@@ -4,4 +4,5 @@ use Rattle.ns_commit.proofs.Reserved.{Reserved, always_carries}
 use Rattle.ns_commit.proofs.owners.clear_all.Given as goal
 
 abbrev pub invariant-loop-slot : goal.invariant-loop-slot
-invariant-loop-slot g l = Reserved g.Row.Owner.seen Always g.Row.Owner.IsCleared (always_carries g.Row.Owner.seen) l.table l.initial.table (drop l.slot-index l.slot-items) l.changes
+invariant-loop-slot g l = Reserved g.Row.Owner.seen Always g.Row.Owner.IsCleared (always_carries g.Row.Owner.seen) l.table l.initial.table (drop l.slot-index
+    l.slot-items) l.changes

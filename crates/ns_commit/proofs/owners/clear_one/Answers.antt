@@ -17,13 +17,16 @@ returns-in-Some-clause-rows g c = there (λ a b. g.Row.Owner.seen b ≡ g.Row.Ow
     c.set.new.self c.in-Some.row _ (sym c.take.ensures.row ∙ c.in-Some.is) c.clear.ensures.rows c.set.ensures
 
 pub returns-in-Some-clause-cleared : goal.returns-in-Some-clause-cleared
-returns-in-Some-clause-cleared g c = row_there (λ a b. g.Row.Owner.seen b ≡ g.Row.Owner.seen a) c.args.name.now c.args.table.now c.take.new.self c.take.ensures.slots
+returns-in-Some-clause-cleared g c = row_there (λ a b. g.Row.Owner.seen b ≡ g.Row.Owner.seen a) c.args.name.now c.args.table.now c.take.new.self
+    c.take.ensures.slots
     (g.Row.Owner.IsCleared c.args.change.now) c.set.new.self _ c.set.ensures c.clear.ensures.cleared
 
 pub returns-in_default-clause-rows : goal.returns-in_default-clause-rows
-returns-in_default-clause-rows g c = nowhere (λ a b. g.Row.Owner.seen b ≡ g.Row.Owner.seen a) c.args.name.now c.args.table.now c.take.new.self c.take.ensures.slots
+returns-in_default-clause-rows g c = nowhere (λ a b. g.Row.Owner.seen b ≡ g.Row.Owner.seen a) c.args.name.now c.args.table.now c.take.new.self
+    c.take.ensures.slots
     (sym c.take.ensures.row ∙ c.in_default.is)
 
 pub returns-in_default-clause-cleared : goal.returns-in_default-clause-cleared
-returns-in_default-clause-cleared g c = no_row (λ a b. g.Row.Owner.seen b ≡ g.Row.Owner.seen a) c.args.name.now c.args.table.now c.take.new.self c.take.ensures.slots
+returns-in_default-clause-cleared g c = no_row (λ a b. g.Row.Owner.seen b ≡ g.Row.Owner.seen a) c.args.name.now c.args.table.now c.take.new.self
+    c.take.ensures.slots
     (g.Row.Owner.IsCleared c.args.change.now) (sym c.take.ensures.row ∙ c.in_default.is)

@@ -16,7 +16,8 @@ set-requires g c = subst (λ m. IsTrue (has_slot m c.args.name.now)) (sym c.take
     (has_slot-row c.args.table.now c.args.name.now c.in-Some.row (sym c.take.ensures.row ∙ c.in-Some.is)))
 
 pub returns-in-Some : goal.returns-in-Some
-returns-in-Some g c = there (λ a b. g.Row.Owner.seen b ≡ g.Row.Owner.changed (g.Row.Owner.seen a) c.args.change) c.args.name.now c.args.table.now c.take.new.self c.take.ensures.slots
+returns-in-Some g c = there (λ a b. g.Row.Owner.seen b ≡ g.Row.Owner.changed (g.Row.Owner.seen a) c.args.change) c.args.name.now c.args.table.now
+    c.take.new.self c.take.ensures.slots
     c.set.new.self c.in-Some.row c.commit.new.self (sym c.take.ensures.row ∙ c.in-Some.is) c.commit.ensures c.set.ensures
 
 pub returns-in-None : goal.returns-in-None

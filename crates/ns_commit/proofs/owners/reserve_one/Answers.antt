@@ -17,15 +17,18 @@ set-requires g c = subst (λ m. IsTrue (has_slot m c.args.name.now)) (sym c.take
     (has_slot-row c.args.table.now c.args.name.now c.in-Some.row (sym c.take.ensures.row ∙ c.in-Some.is)))
 
 pub returns-in_default-clause-rows : goal.returns-in_default-clause-rows
-returns-in_default-clause-rows g c = nowhere (λ a b. g.Row.Owner.seen b ≡ g.Row.Owner.seen a) c.args.name.now c.args.table.now c.take.new.self c.take.ensures.slots
+returns-in_default-clause-rows g c = nowhere (λ a b. g.Row.Owner.seen b ≡ g.Row.Owner.seen a) c.args.name.now c.args.table.now c.take.new.self
+    c.take.ensures.slots
     (sym c.take.ensures.row ∙ c.in_default.is)
 
 pub returns-in_default-clause-room : goal.returns-in_default-clause-room
-returns-in_default-clause-room g c = no_row (λ a b. g.Row.Owner.seen b ≡ g.Row.Owner.seen a) c.args.name.now c.args.table.now c.take.new.self c.take.ensures.slots
+returns-in_default-clause-room g c = no_row (λ a b. g.Row.Owner.seen b ≡ g.Row.Owner.seen a) c.args.name.now c.args.table.now c.take.new.self
+    c.take.ensures.slots
     (g.Row.Owner.HasRoom c.args.change.now) (sym c.take.ensures.row ∙ c.in_default.is)
 
 pub returns-clause-rows : goal.returns-clause-rows
-returns-clause-rows g c = there (λ a b. g.Row.Owner.seen b ≡ g.Row.Owner.seen a) c.args.name.now c.args.table.now c.take.new.self c.take.ensures.slots c.set.new.self
+returns-clause-rows g c = there (λ a b. g.Row.Owner.seen b ≡ g.Row.Owner.seen a) c.args.name.now c.args.table.now c.take.new.self c.take.ensures.slots
+    c.set.new.self
     c.in-Some.row _ (sym c.take.ensures.row ∙ c.in-Some.is) c.reserve-reserved.ensures.rows c.set.ensures
 
 pub returns-clause-room : goal.returns-clause-room
