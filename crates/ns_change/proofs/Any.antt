@@ -1,19 +1,12 @@
 -- Whether some element passes, and one test or another.
-use Rattle.std.specs.Prelude.{◌≡◌, Bool, true, false, List, [], ◌∷◌, ◌++◌, ◌||◌, flat_map}
+use Rattle.std.specs.Prelude.{◌≡◌, Bool, true, false, List, [], ◌∷◌, ◌||◌, flat_map}
 use Rattle.std.proofs.Common.{refl, sym, ap, ◌∙◌}
 use Rattle.std.specs.List.{list_any}
-
-pub any_append : {A : Type 0} (f : A → Bool) (xs ys : List A) → list_any f (xs ++ ys) ≡ (list_any f xs || list_any f ys)
-any_append f [] ys = refl
-any_append f (x ∷ xs) ys = ap (λ b. f x || b) (any_append f xs ys) ∙ by (f x) _ _
-  where
-    by : (a b c : Bool) → (a || (b || c)) ≡ ((a || b) || c)
-    by true b c = refl
-    by false b c = refl
+use Rattle.std.proofs.lemmas.List.Folds.{list_any-append}
 
 pub any_flat : {A B : Type 0} (f : B → Bool) (g : A → List B) (xs : List A) → list_any f (flat_map g xs) ≡ list_any (λ x. list_any f (g x)) xs
 any_flat f g [] = refl
-any_flat f g (x ∷ xs) = any_append f (g x) (flat_map g xs) ∙ ap (λ b. list_any f (g x) || b) (any_flat f g xs)
+any_flat f g (x ∷ xs) = list_any-append f (g x) (flat_map g xs) ∙ ap (λ b. list_any f (g x) || b) (any_flat f g xs)
 
 -- ---- one test or another
 

@@ -5,10 +5,8 @@ use Rattle.std.proofs.Common.{refl, sym, ap, ◌∙◌, arith, length-drop, appe
 use Rattle.std.specs.Option.{option_map_or}
 use Rattle.std.specs.List.{list_any}
 use Rattle.std.specs.Cmp.{eq_by_cmp_equiv}
-use Rattle.std.specs.Ordering.{nat_cmp}
-use Rattle.std.specs.FinMap.{FinMap, contains_key, entries, get}
+use Rattle.std.specs.FinMap.{contains_key, entries, get}
 use Rattle.keyed.specs.Table.{rows, row_at, at_slot}
-use Rattle.keyed.proofs.Tables.{any-at_slot, entries-rows}
 use Rattle.ns_types.specs.declared.evaluation.Evaluation.{Evaluation}
 use Rattle.ns_types.specs.declared.worker.Worker.{Worker}
 use Rattle.ns_types.specs.State.Names.{Name, Key, has_key, same_key}
@@ -26,7 +24,7 @@ use Rattle.ns_world.specs.declared.tables.TenantRows.{TenantRows}
 use Rattle.ns_change.specs.Changed.{changed, changed_list}
 use Rattle.ns_change.specs.Changed.{view}
 use Rattle.ns_world.specs.World.{world_of}
-use Rattle.ns_change.proofs.Any.{any_append}
+use Rattle.std.proofs.lemmas.List.Folds.{list_any-append}
 use Rattle.keyed.proofs.Applying.{empty_by}
 use Rattle.keyed.proofs.Over.{any_row-both}
 use Rattle.keyed.proofs.Viewing.{any_row-rows}
@@ -44,7 +42,7 @@ any_filter f p (x ∷ xs) = elim (p x) as (λ b. list_any f (cond b (x ∷ filte
 -- what a changed list has
 pub any_listed : (f : Key → Bool) (base : List Key) (x : ListChange) →
     list_any f (changed_list base x) ≡ (list_any (λ key. not (has_key x.taken key) && f key) base || list_any f x.added)
-any_listed f base x = any_append f (filter (λ key. not (has_key x.taken key)) base) x.added ∙
+any_listed f base x = list_any-append f (filter (λ key. not (has_key x.taken key)) base) x.added ∙
     ap (λ b. b || list_any f x.added) (any_filter f (λ key. not (has_key x.taken key)) base)
 
 -- ---- workers
@@ -148,7 +146,7 @@ pub taken_out : (keys base : List Key) (old new : ListChange) → new.taken ≡ 
 taken_out keys base old new taken added = (λ i. filter (λ key. not (has_key (taken i) key)) base ++ added i)
     ∙ ap (λ l. l ++ filter (stays keys) old.added)
     (filter_twice (λ key. not (has_key (old.taken ++ keys) key)) (stays keys) (λ key. not (has_key old.taken key)) base
-    (λ key. ap not (any_append (same_key key) old.taken keys) ∙ by (has_key old.taken key) (has_key keys key)))
+    (λ key. ap not (list_any-append (same_key key) old.taken keys) ∙ by (has_key old.taken key) (has_key keys key)))
     ∙ sym (filter-append (stays keys) (filter (λ key. not (has_key old.taken key)) base) old.added)
   where
     by : (a b : Bool) → not (a || b) ≡ (not a && not b)

@@ -28,7 +28,8 @@ use Rattle.ns_change.specs.declared.change.PoolChange.{PoolChange}
 use Rattle.ns_change.specs.Changed.{changed, changed_pool, perhaps}
 use Rattle.ns_settle.specs.Released.{at_ended, ended_rows, gives_itself, changed_classes, room_left, in_pool, released_rooms, at_room}
 use Rattle.keyed.proofs.Over.{any_row-before, any_row-over, passed}
-use Rattle.ns_change.proofs.Any.{any_append, any_flat}
+use Rattle.std.proofs.lemmas.List.Folds.{list_any-append}
+use Rattle.ns_change.proofs.Any.{any_flat}
 use Rattle.ns_settle.proofs.Ending.{ends_is}
 
 -- ---- tests of lists
@@ -265,7 +266,7 @@ module _ (w : World) (c : Change) (name : Name) (passes : Class → Bool) where
   -- what is asked of a pool's released classes, the change tells
   pub rooms_are : list_any (at_room name passes) (released_rooms w c) ≡ list_any passes (classes_of w then_world name)
   unfolding ended_here
-  rooms_are = any_append (at_room name passes) _ _
+  rooms_are = list_any-append (at_room name passes) _ _
       ∙ (λ i. itself_here i || (any_flat (at_room name passes) (λ e. in_pool e.1.pool (room_left (node_at then_world e.1.pool e.1.node))) (ended_rows w c) ∙
       any_alike _ _ (ended_rows w c) (each _ room_here (ended_rows w c))) i)
       ∙ by (get w.pools name) refl
