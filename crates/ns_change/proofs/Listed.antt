@@ -5,10 +5,8 @@ use Rattle.std.proofs.Common.{refl, sym, ap, ◌∙◌, arith, length-drop, appe
 use Rattle.std.specs.Option.{option_map_or}
 use Rattle.std.specs.List.{list_any}
 use Rattle.std.specs.Cmp.{eq_by_cmp_equiv}
-use Rattle.std.specs.Ordering.{nat_cmp}
-use Rattle.std.specs.FinMap.{FinMap, contains_key, entries, get}
+use Rattle.std.specs.FinMap.{contains_key, entries, get}
 use Rattle.keyed.specs.Table.{rows, row_at, at_slot}
-use Rattle.keyed.proofs.Tables.{any-at_slot, entries-rows}
 use Rattle.ns_types.specs.declared.evaluation.Evaluation.{Evaluation}
 use Rattle.ns_types.specs.declared.worker.Worker.{Worker}
 use Rattle.ns_types.specs.State.Names.{Name, Key, has_key, same_key}

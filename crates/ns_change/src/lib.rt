@@ -8,6 +8,7 @@
 #![tactic(auto)]
 
 mod change;
+mod copying;
 mod editing;
 mod evicting;
 mod jobs;
@@ -20,6 +21,7 @@ mod queueing;
 mod workers;
 
 pub use change::{Change, ListChange, PoolChange, Prepared, Settled, SettledTenant, TenantChange};
+pub use copying::copied_node;
 pub use editing::set_status;
 pub use evicting::{set_client, set_desired};
 pub use jobs::{put_job, remove_job};
