@@ -24,9 +24,11 @@ returns-in_err-row c =
     (sym c.node_of.ensures ∙ ap option_copied c.in-Some.is)))
 
 pub returns : goal.returns
-returns c = prepares_as _ _ c.args.tables.now c.put_alone.result
-    (ready_again (world_of c.args.tables.now) c.args.pool.now c.args.name.now c.in-Some.row.now
+returns c =
+    let w = world_of c.args.tables.now in
+    prepares_as _ _ c.args.tables.now c.put_alone.result
+    (ready_again w c.args.pool.now c.args.name.now c.in-Some.row.now
     (sym c.node_of.ensures ∙ ap option_copied c.in-Some.is)
-    ∙ ap (λ (row : Node). Done Content.Written (change_pool c.args.pool.now (with_node c.args.name.now (record row { status = NodeStatus.Ready })) (world_of c.args.tables.now)))
+    ∙ ap (λ (row : Node). Done Content.Written (change_pool c.args.pool.now (with_node c.args.name.now (record row { status = NodeStatus.Ready })) w))
     (sym c.in_ok-row.ensures))
     c.put_alone.ensures
