@@ -4,6 +4,7 @@ pub mod Nothing
 pub mod NumberedRows
 pub mod Opening
 pub mod Pools
+pub mod Prepares
 pub mod Seen
 pub mod Waiting
 pub mod Waking

@@ -93,6 +93,9 @@ put_evaluation n e t = record t { evaluations = insert t.evaluations n e }
 abbrev pub put_allocation : ℕ → Allocation → Tenant → Tenant
 put_allocation n a t = record t { allocations = insert t.allocations n a }
 
+abbrev pub without_job : Name → Tenant → Tenant
+without_job id t = record t { jobs = remove t.jobs id }
+
 -- the row under that number, of one kind
 abbrev pub row_in : {X : Type 0} → (Tenant → FinMap nat_cmp X) → World → Name → ℕ → Option X
 row_in rows_of w ns n = option_and_then (λ t. get (rows_of t) n) (get w.tenants ns)
@@ -122,9 +125,6 @@ HasEvaluationLeft w ns = (t : Tenant) → get w.tenants ns ≡ Some t → t.eval
 
 abbrev pub HasAllocationLeft : World → Name → Type 0
 HasAllocationLeft w ns = (t : Tenant) → get w.tenants ns ≡ Some t → t.allocation_number + 1 < 2 ^ 64
-
-abbrev pub without_job : Name → Tenant → Tenant
-without_job id t = record t { jobs = remove t.jobs id }
 
 -- ---- the list of evaluations that are ready
 

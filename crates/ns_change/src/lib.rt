@@ -8,6 +8,7 @@
 #![tactic(auto)]
 
 mod change;
+mod copying;
 mod editing;
 mod evicting;
 mod jobs;
@@ -15,11 +16,13 @@ mod lists;
 mod looking;
 mod numbered;
 mod placing;
+mod preparing;
 mod promoting;
 mod queueing;
 mod workers;
 
 pub use change::{Change, ListChange, PoolChange, Prepared, Settled, SettledTenant, TenantChange};
+pub use copying::copied_node;
 pub use editing::set_status;
 pub use evicting::{set_client, set_desired};
 pub use jobs::{put_job, remove_job};
@@ -27,6 +30,7 @@ pub use lists::{add_ready, take_ready};
 pub use looking::{allocation, evaluation, has_nodes, node};
 pub use numbered::{NumberedRow, put_row, row};
 pub use placing::{add_allocation, count_place, put_node, remove_node};
+pub use preparing::prepare;
 pub use promoting::{cancel_blocked, promote};
 pub use queueing::{make, queue, wake};
 pub use workers::remove_worker;

@@ -1,17 +1,18 @@
 //! Nodes, and what is placed on them.
 
-ghost use Rattle.std.specs.Prelude.{◌≡◌, ◌+◌, ◌<◌, ◌^◌, IfOk};
+ghost use Rattle.std.specs.Prelude.{◌≡◌, IfOk};
 ghost use Rattle.ns_types.specs.Working.Commit.{with_allocation};
 ghost use Rattle.ns_types.specs.Settling.Making.{with_node};
 ghost use Rattle.ns_change.specs.Changed.{Does, DoesIn, DoesInPool, HasAllocationLeft, HasPlaceLeft, count_place, view, without_node};
 ghost use Rattle.ns_change.specs.Opened.{OpenedPool};
 
 use crate::change::{Change, PoolChange};
+use crate::copying::copied_node;
 use crate::editing::open;
 use crate::looking::node;
 use keyed::NameTable;
 use ns_types::allocation::Allocation;
-use ns_types::node::{Node, Offer};
+use ns_types::node::Node;
 use ns_types::text::Text;
 use ns_world::Tables;
 use std::alloc::AllocError;
@@ -74,23 +75,6 @@ pub fn remove_node(
     Ok(())
 }
 
-/// A copy of the row with one placement more.
-fn with_one_more(row: &Node) -> Result<Node, AllocError>
-    requires { row.now.places + 1 < 2 ^ 64 }
-    ensures { IfOk result (λ copy. copy ≡ record row.now { places = row.now.places + 1 }) }
-{
-    Ok(Node {
-        offer: Offer {
-            class: row.offer.class.clone()?,
-            attributes: row.offer.attributes.clone()?,
-            capacity: row.offer.capacity,
-        },
-        status: row.status,
-        eligible: row.eligible,
-        places: row.places + 1,
-    })
-}
-
 /// Counts a placement on a node that is there.
 pub fn count_place(
     tables: &Tables,
@@ -104,7 +88,8 @@ pub fn count_place(
     let Some(row) = node(tables, change, pool, name) else {
         return Ok(());
     };
-    let row = with_one_more(row)?;
+    let mut row = copied_node(row)?;
+    row.places += 1;
     put_node(tables, change, pool, name, row)
 }
 

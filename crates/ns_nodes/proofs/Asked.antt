@@ -1,6 +1,6 @@
 -- What a node's command comes to, where the node is there and where it is not.
-use Rattle.std.specs.Prelude.{◌≡◌, Bool, true, false, not, ◌&&◌, nat_le, Option, Some, None, is_none, is_some, Result, Err}
-use Rattle.std.proofs.Common.{refl, ap, subst, sym, ◌∙◌}
+use Rattle.std.specs.Prelude.{◌≡◌, Bool, true, false, not, ◌&&◌, nat_le, Option, Some, None, is_none, is_some}
+use Rattle.std.proofs.Common.{refl, ap, sym, ◌∙◌}
 use Rattle.std.specs.Option.{option_and_then, option_map_or}
 use Rattle.std.specs.FinMap.{contains_key, get, len}
 use Rattle.ns_types.specs.declared.node.Node.{Node}
@@ -17,8 +17,7 @@ use Rattle.ns_types.specs.State.Resources.{is_within}
 use Rattle.ns_types.specs.State.Rows.{World, PoolRows, is_ready, node_at}
 use Rattle.ns_types.specs.State.Sums.{node_load}
 use Rattle.ns_types.proofs.Lists.{not_both}
-use Rattle.ns_change.specs.Changed.{change_pool, has_nodes, without_node}
-use Rattle.ns_nodes.specs.Checked.{Checks}
+use Rattle.ns_change.specs.Changed.{change_pool, without_node}
 
 -- ---- a command on one node
 
@@ -128,29 +127,21 @@ module _ (w : World) (pool name : Name) (offer : Offer) where
     unfolding unless
     too_small small = registers false is_full small refl
 
-    full_by : is_none (node_at w pool name) && has_nodes w pool most_nodes ≡ is_full
-    full_by = (λ i. is_none (option_and_then (λ p. get p.nodes name) (is i)) && option_map_or (λ p. nat_le most_nodes (len p.nodes)) (is i) false)
-        ∙ ap (λ b. b && nat_le most_nodes (len p.nodes)) (by (get p.nodes name))
+    full_by : is_none (get p.nodes name) && nat_le most_nodes (len p.nodes) ≡ is_full
+    full_by = ap (λ b. b && nat_le most_nodes (len p.nodes)) (by (get p.nodes name))
       where
         by : (o : Option Node) → is_none o ≡ not (is_some o)
         by None = refl
         by (Some n) = refl
 
-    pub pool_full : is_within (node_load w pool name) offer.capacity ≡ true → is_none (node_at w pool name) && has_nodes w pool most_nodes ≡ true →
+    pub pool_full : is_within (node_load w pool name) offer.capacity ≡ true → is_none (get p.nodes name) && nat_le most_nodes (len p.nodes) ≡ true →
         ask_pool pool (NodeCommand.PutNode name offer) w ≡ Refused Refusal.Full
     unfolding unless
     pool_full fits full = registers true true fits (sym full_by ∙ full)
 
-    pub registered : is_within (node_load w pool name) offer.capacity ≡ true → is_none (node_at w pool name) && has_nodes w pool most_nodes ≡ false →
+    pub registered : is_within (node_load w pool name) offer.capacity ≡ true → is_none (get p.nodes name) && nat_le most_nodes (len p.nodes) ≡ false →
         ask_pool pool (NodeCommand.PutNode name offer) w ≡ Done Content.Written
-        (change_pool pool (with_node name (with_offer offer (node_at w pool name))) w)
+        (change_pool pool (with_node name (with_offer offer (get p.nodes name))) w)
     unfolding unless
     registered fits room = registers true false fits (sym full_by ∙ room)
-        ∙ (λ i. Done Content.Written (option_map_or
-        (λ p. put_pool pool (with_node name (with_offer offer (option_and_then (λ p. get p.nodes name) (sym is i))) p) w)
-        (sym is i) w))
-
--- want of memory, where the step would be done
-pub out_of_memory : (outcome : Outcome World) (answer : Result Content Refusal) (x : World) (content : Content) (y : World) →
-    answer ≡ Err Refusal.Memory → outcome ≡ Done content y → Checks outcome answer x
-out_of_memory outcome answer x content y is done = subst (λ a. Checks outcome a x) (sym is) (content, y, done)
+        ∙ (λ i. Done Content.Written (option_map_or (λ p'. put_pool pool (with_node name (with_offer offer (get p.nodes name)) p') w) (sym is i) w))

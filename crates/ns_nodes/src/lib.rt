@@ -1,8 +1,9 @@
-//! Commands on nodes, as changes. A command is checked over the tables and a change, which then says what the step
-//! itself changes; settling and committing it come after, the same for every step.
+//! Commands on nodes. Each looks at the tables and answers what it comes to, with what it changes itself; settling and
+//! committing that come after, the same for every step.
 #![tactic(auto)]
 
 mod eligible;
+mod prepared;
 mod registered;
 mod removed;
 

@@ -1,17 +1,20 @@
 //! A node that says what it offers.
 
-ghost use Rattle.std.specs.Prelude.{◌≡◌, ◌&&◌, is_none, option_copied};
+ghost use Rattle.std.specs.Prelude.{◌≡◌, ◌&&◌, is_none, nat_le, option_copied};
+ghost use Rattle.std.specs.FinMap.{len};
+ghost use Rattle.keyed.specs.Table.{rows};
 ghost use Rattle.ns_types.specs.declared.step.NodeCommand.TheVariants as NodeCommand;
 ghost use Rattle.ns_types.specs.Asking.Nodes.{ask_pool, most_nodes, with_offer};
 ghost use Rattle.ns_types.specs.State.Resources.{is_within};
 ghost use Rattle.ns_types.specs.State.Sums.{node_load};
-ghost use Rattle.ns_change.specs.Changed.{has_nodes, view};
-ghost use Rattle.ns_nodes.specs.Checked.{Answers};
+ghost use Rattle.ns_change.specs.Prepared.{Prepares};
+ghost use Rattle.ns_world.specs.World.{world_of};
 
-use ns_change::{Change, has_nodes, node, put_node};
+use crate::prepared::put_alone;
+use keyed::NameTable;
+use ns_change::Prepared;
 use ns_types::node::{Node, NodeStatus, Offer};
 use ns_types::refusal::Refusal;
-use ns_types::reply::Content;
 use ns_types::resources::Resources;
 use ns_types::text::Text;
 use ns_world::Tables;
@@ -46,11 +49,10 @@ fn with_offer(offer: Offer, old: Option<&Node>) -> Node
 }
 
 /// Whether the node is new, and the pool has no place for it.
-fn is_full(tables: &Tables, change: &Change, pool: &Text, old: Option<&Node>) -> bool
-    ensures { result ≡ (is_none (option_copied old.entry)
-        && has_nodes (view tables.now change.now) pool.now most_nodes) }
+fn is_full(nodes: &NameTable<Node>, old: Option<&Node>) -> bool
+    ensures { result ≡ (is_none (option_copied old.entry) && nat_le most_nodes (len (rows nodes.now))) }
 {
-    old.is_none() && has_nodes(tables, change, pool, MOST_NODES)
+    old.is_none() && MOST_NODES <= nodes.len()
 }
 
 /// A node registers, for the first time or again. `load` is what the live allocations on it take together.
@@ -58,17 +60,16 @@ fn is_full(tables: &Tables, change: &Change, pool: &Text, old: Option<&Node>) ->
 /// nodes.
 pub fn register_node(
     tables: &Tables,
-    change: &mut Change,
     pool: &Text,
     name: &Text,
     offer: Offer,
     load: Resources,
-) -> Result<Content, Refusal>
-    requires { load ≡ node_load (view tables.now change.old) pool.now name.now }
-    ensures { Answers (ask_pool pool.now (NodeCommand.PutNode name.now offer))
-        result tables.now change.old change.new }
+) -> Result<Prepared, Refusal>
+    requires { load ≡ node_load (world_of tables.now) pool.now name.now }
+    ensures { Prepares (ask_pool pool.now (NodeCommand.PutNode name.now offer)
+        (world_of tables.now)) tables.now result }
 {
-    let Some(_stored) = tables.pools.get(pool) else {
+    let Some(stored) = tables.pools.get(pool) else {
         drop(offer);
         return Err(Refusal::NotFound);
     };
@@ -76,12 +77,10 @@ pub fn register_node(
         drop(offer);
         return Err(Refusal::InUse);
     }
-    let old = node(tables, change, pool, name);
-    if is_full(tables, change, pool, old) {
+    let old = stored.nodes.get(name);
+    if is_full(&stored.nodes, old) {
         drop(offer);
         return Err(Refusal::Full);
     }
-    let row = with_offer(offer, old);
-    put_node(tables, change, pool, name, row)?;
-    Ok(Content::Written)
+    put_alone(tables, pool, name, with_offer(offer, old))
 }

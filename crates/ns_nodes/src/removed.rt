@@ -4,9 +4,11 @@ ghost use Rattle.std.specs.Prelude.{◌≡◌};
 ghost use Rattle.ns_types.specs.declared.step.NodeCommand.TheVariants as NodeCommand;
 ghost use Rattle.ns_types.specs.Asking.Nodes.{ask_pool};
 ghost use Rattle.ns_types.specs.State.Rows.{is_ready};
-ghost use Rattle.ns_nodes.specs.Checked.{Answers};
+ghost use Rattle.ns_change.specs.Prepared.{Prepares};
+ghost use Rattle.ns_world.specs.World.{world_of};
 
-use ns_change::{Change, node};
+use crate::prepared::node_of;
+use ns_change::{Change, Prepared, prepare};
 use ns_types::node::NodeStatus;
 use ns_types::refusal::Refusal;
 use ns_types::reply::Content;
@@ -23,21 +25,17 @@ fn is_ready(status: NodeStatus) -> bool
 }
 
 /// The node is taken away. `NotFound`: there is no such pool, or no such node in it. `InUse`: it is not down.
-pub fn remove_node(
-    tables: &Tables,
-    change: &mut Change,
-    pool: &Text,
-    name: &Text,
-) -> Result<Content, Refusal>
-    ensures { Answers (ask_pool pool.now (NodeCommand.DeleteNode name.now))
-        result tables.now change.old change.new }
+pub fn remove_node(tables: &Tables, pool: &Text, name: &Text) -> Result<Prepared, Refusal>
+    ensures { Prepares (ask_pool pool.now (NodeCommand.DeleteNode name.now) (world_of tables.now))
+        tables.now result }
 {
-    let Some(row) = node(tables, change, pool, name) else {
+    let Some(row) = node_of(tables, pool, name) else {
         return Err(Refusal::NotFound);
     };
     if is_ready(row.status) {
         return Err(Refusal::InUse);
     }
-    ns_change::remove_node(tables, change, pool, name)?;
-    Ok(Content::Written)
+    let mut change = Change::new(tables.alloc);
+    let made = ns_change::remove_node(tables, &mut change, pool, name);
+    prepare(Content::Written, change, made)
 }

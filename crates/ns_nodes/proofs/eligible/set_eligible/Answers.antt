@@ -1,34 +1,33 @@
 use Rattle.std.proofs.Common.{ap, sym, ◌∙◌, Err}
 use Rattle.std.proofs.lemmas.Result.{err_from_is_err_and}
 use Rattle.std.specs.Option.{option_copied}
+use Rattle.ns_types.specs.declared.node.Node.{Node}
 use Rattle.ns_types.specs.declared.reply.Content.TheVariants as Content
 use Rattle.ns_types.specs.Settling.Making.{with_node}
-use Rattle.ns_types.specs.Settling.Outcome.{Done}
-use Rattle.ns_change.specs.Changed.{change_pool, view}
-use Rattle.ns_nodes.proofs.Asked.{not_there, out_of_memory, there}
+use Rattle.ns_types.specs.Settling.Outcome.{Done, is_done}
+use Rattle.ns_change.proofs.Prepares.{out_of_memory, prepares_as}
+use Rattle.ns_change.specs.Changed.{change_pool}
+use Rattle.ns_nodes.proofs.Asked.{not_there, there}
 use Rattle.ns_nodes.proofs.eligible.set_eligible.Goals as goal
+use Rattle.ns_world.specs.World.{world_of}
 
 pub returns-in_default : goal.returns-in_default
-returns-in_default c = not_there (view c.args.tables.now c.args.change.now) c.args.pool.now c.args.name.now c.args.eligible
-    (sym c.node.ensures ∙ ap option_copied c.in_default.is)
+returns-in_default c = not_there (world_of c.args.tables.now) c.args.pool.now c.args.name.now c.args.eligible
+    (sym c.node_of.ensures ∙ ap option_copied c.in_default.is)
 
 pub returns-in_err-row : goal.returns-in_err-row
 returns-in_err-row c =
     let p = err_from_is_err_and c.from_residual.result c.from_residual.ensures.1 in
-    out_of_memory _ c.from_residual.result _ _ _ (p.1 ∙ ap Err p.2)
-    (there (view c.args.tables.now c.args.change.now) c.args.pool.now c.args.name.now c.args.eligible c.in-Some.row.now
-    (sym c.node.ensures ∙ ap option_copied c.in-Some.is))
-
-pub returns-in_err-put_node : goal.returns-in_err-put_node
-returns-in_err-put_node c =
-    let p = err_from_is_err_and c.from_residual-in_err-put_node.result c.from_residual-in_err-put_node.ensures.1 in
-    out_of_memory _ c.from_residual-in_err-put_node.result _ _ _ (p.1 ∙ ap Err p.2)
-    (there (view c.args.tables.now c.args.change.now) c.args.pool.now c.args.name.now c.args.eligible c.in-Some.row.now
-    (sym c.node.ensures ∙ ap option_copied c.in-Some.is))
+    out_of_memory _ c.args.tables.now c.from_residual.result (p.1 ∙ ap Err p.2)
+    (ap is_done (there (world_of c.args.tables.now) c.args.pool.now c.args.name.now c.args.eligible c.in-Some.row.now
+    (sym c.node_of.ensures ∙ ap option_copied c.in-Some.is)))
 
 pub returns : goal.returns
 returns c =
-    let w = view c.args.tables.now c.args.change.now in
-    there w c.args.pool.now c.args.name.now c.args.eligible c.in-Some.row.now (sym c.node.ensures ∙ ap option_copied c.in-Some.is)
-    ∙ ap (λ x. Done Content.Written x) (sym (c.in_ok-put_node.ensures ∙ ap (λ row. change_pool c.args.pool.now (with_node c.args.name.now row) w)
-    c.in_ok-row.ensures))
+    let w = world_of c.args.tables.now in
+    prepares_as _ _ c.args.tables.now c.put_alone.result
+    (there w c.args.pool.now c.args.name.now c.args.eligible c.in-Some.row.now
+    (sym c.node_of.ensures ∙ ap option_copied c.in-Some.is)
+    ∙ ap (λ (row : Node). Done Content.Written (change_pool c.args.pool.now (with_node c.args.name.now (record row { eligible = c.args.eligible })) w))
+    (sym c.in_ok-row.ensures))
+    c.put_alone.ensures

@@ -1,28 +1,22 @@
-use Rattle.std.proofs.Common.{ap, sym, ◌∙◌, Err}
-use Rattle.std.proofs.lemmas.Result.{err_from_is_err_and}
+use Rattle.std.proofs.Common.{ap, sym, ◌∙◌}
 use Rattle.std.specs.Option.{option_copied}
-use Rattle.ns_types.specs.declared.reply.Content.TheVariants as Content
-use Rattle.ns_types.specs.Settling.Outcome.{Done}
-use Rattle.ns_change.specs.Changed.{view}
-use Rattle.ns_nodes.proofs.Asked.{none_removed, out_of_memory, removed, still_ready}
+use Rattle.ns_change.proofs.Prepares.{done_first, prepares_as}
+use Rattle.ns_change.specs.Changed.{change_pool, without_node}
+use Rattle.ns_nodes.proofs.Asked.{none_removed, removed, still_ready}
 use Rattle.ns_nodes.proofs.removed.remove_node.Goals as goal
+use Rattle.ns_world.specs.World.{world_of}
 
 pub returns-in_default : goal.returns-in_default
-returns-in_default c = none_removed (view c.args.tables.now c.args.change.now) c.args.pool.now c.args.name.now
-    (sym c.node.ensures ∙ ap option_copied c.in_default.is)
+returns-in_default c = none_removed (world_of c.args.tables.now) c.args.pool.now c.args.name.now (sym c.node_of.ensures ∙ ap option_copied c.in_default.is)
 
 pub returns-then-is_ready : goal.returns-then-is_ready
-returns-then-is_ready c = still_ready (view c.args.tables.now c.args.change.now) c.args.pool.now c.args.name.now c.in-Some.row.now
-    (sym c.node.ensures ∙ ap option_copied c.in-Some.is) (sym c.is_ready.ensures ∙ c.if-is_ready.true)
-
-pub returns-in_err-remove_node : goal.returns-in_err-remove_node
-returns-in_err-remove_node c =
-    let p = err_from_is_err_and c.from_residual.result c.from_residual.ensures.1 in
-    out_of_memory _ c.from_residual.result _ _ _ (p.1 ∙ ap Err p.2)
-    (removed (view c.args.tables.now c.args.change.now) c.args.pool.now c.args.name.now c.in-Some.row.now
-    (sym c.node.ensures ∙ ap option_copied c.in-Some.is) (sym c.is_ready.ensures ∙ c.if-is_ready.false))
+returns-then-is_ready c = still_ready (world_of c.args.tables.now) c.args.pool.now c.args.name.now c.in-Some.row.now
+    (sym c.node_of.ensures ∙ ap option_copied c.in-Some.is) (sym c.is_ready.ensures ∙ c.if-is_ready.true)
 
 pub returns : goal.returns
-returns c = removed (view c.args.tables.now c.args.change.now) c.args.pool.now c.args.name.now c.in-Some.row.now
-    (sym c.node.ensures ∙ ap option_copied c.in-Some.is) (sym c.is_ready.ensures ∙ c.if-is_ready.false)
-    ∙ ap (λ x. Done Content.Written x) (sym c.in_ok-remove_node.ensures)
+returns c = prepares_as _ _ c.args.tables.now c.prepare.result
+    (removed (world_of c.args.tables.now) c.args.pool.now c.args.name.now c.in-Some.row.now
+    (sym c.node_of.ensures ∙ ap option_copied c.in-Some.is) (sym c.is_ready.ensures ∙ c.if-is_ready.false))
+    (c.prepare.ensures c.args.tables.now (change_pool c.args.pool.now (without_node c.args.name.now) (world_of c.args.tables.now))
+    (done_first _ c.args.tables.now c.new-change.result c.remove_node-made.new.change (change_pool c.args.pool.now (without_node c.args.name.now))
+    (c.new-change.ensures c.args.tables.now) c.remove_node-made.ensures))

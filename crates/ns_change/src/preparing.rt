@@ -1,0 +1,32 @@
+//! What a command comes to, once its change was made or memory was wanting.
+
+ghost use Rattle.std.specs.Prelude.{◌≡◌, OnOk};
+ghost use Rattle.ns_types.specs.Settling.Outcome.{Done};
+ghost use Rattle.ns_types.specs.State.Rows.{World};
+ghost use Rattle.ns_change.specs.Changed.{view};
+ghost use Rattle.ns_change.specs.Prepared.{Prepares};
+ghost use Rattle.ns_world.specs.declared.tables.Tables.{Tables};
+
+use crate::change::{Change, Prepared};
+use ns_types::refusal::Refusal;
+use ns_types::reply::Content;
+use std::alloc::AllocError;
+
+/// The answer with the change, where the change was made. `Memory`: it was not, and is let go.
+pub fn prepare(
+    content: Content,
+    change: Change,
+    made: Result<(), AllocError>,
+) -> Result<Prepared, Refusal>
+    ensures { (t : Tables) → (w : World) → OnOk made (view t change ≡ w) →
+        Prepares (Done content w) t result }
+{
+    match made {
+        Ok(()) => Ok(Prepared { content, change }),
+        Err(_) => {
+            drop(content);
+            drop(change);
+            Err(Refusal::Memory)
+        }
+    }
+}
