@@ -1,0 +1,7 @@
+//! Namespaces, quotas and pools, as administrators ask of them, over the tables of the whole world.
+#![tactic(auto)]
+
+mod held;
+mod sharing;
+
+pub use sharing::{is_confined, names_quota, overlaps, permits, same_quota};
