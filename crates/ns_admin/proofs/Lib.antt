@@ -1,1 +1,4 @@
 pub mod Holdings
+pub mod Sharers
+pub mod World
+pub mod Written

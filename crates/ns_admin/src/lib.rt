@@ -2,6 +2,8 @@
 #![tactic(auto)]
 
 mod held;
+mod looking;
 mod sharing;
 
+pub use looking::{is_confined_in, permits_in, shares};
 pub use sharing::{is_confined, names_quota, overlaps, permits, same_quota};
