@@ -3,7 +3,9 @@
 
 mod held;
 mod looking;
+mod namespaces;
 mod sharing;
 
 pub use looking::{is_confined_in, permits_in, shares};
+pub use namespaces::{delete_namespace, put_namespace};
 pub use sharing::{is_confined, names_quota, overlaps, permits, same_quota};
