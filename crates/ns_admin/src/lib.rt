@@ -4,8 +4,12 @@
 mod held;
 mod looking;
 mod namespaces;
+mod pools;
+mod quotas;
 mod sharing;
 
 pub use looking::{is_confined_in, permits_in, shares};
 pub use namespaces::{delete_namespace, put_namespace};
+pub use pools::{delete_pool, put_pool};
+pub use quotas::{delete_quota, is_exhausted, is_relimited, put_quota, read_quota, release_quota};
 pub use sharing::{is_confined, names_quota, overlaps, permits, same_quota};
