@@ -1,0 +1,14 @@
+use Rattle.std.specs.Prelude.{false, Some, None}
+use Rattle.std.proofs.Common.{sym, ap, ◌∙◌}
+use Rattle.std.specs.Option.{option_copied, option_map_or}
+use Rattle.ns_types.specs.Access.Sharing.{is_confined}
+use Rattle.ns_admin.proofs.World.{tenant_is}
+use Rattle.ns_admin.proofs.looking.is_confined_in.Goals as goal
+
+pub returns-in-Some : goal.returns-in-Some
+returns-in-Some c = c.is_confined.ensures ∙ sym (ap (λ x. option_map_or (λ t. is_confined t.namespace) x false)
+    (tenant_is c.args.tables.now c.args.name.now (Some c.in-Some.tenant.now) (sym c.get.ensures ∙ ap option_copied c.in-Some.is)))
+
+pub returns-in-None : goal.returns-in-None
+returns-in-None c = sym (ap (λ x. option_map_or (λ t. is_confined t.namespace) x false)
+    (tenant_is c.args.tables.now c.args.name.now None (sym c.get.ensures ∙ ap option_copied c.in-None.is)))

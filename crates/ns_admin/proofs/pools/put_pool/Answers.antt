@@ -1,0 +1,27 @@
+use Rattle.std.proofs.Common.{refl, sym, ap, ◌∙◌}
+use Rattle.ns_types.specs.declared.reply.Content.TheVariants as Content
+use Rattle.ns_types.specs.Asking.Admins.{put_pool_record}
+use Rattle.ns_types.specs.Settling.Outcome.{Done, is_done}
+use Rattle.ns_world.specs.World.{world_of}
+use Rattle.ns_types.proofs.Outcomes.{memory_last, unless_not, unless_so}
+use Rattle.ns_admin.proofs.World.{pools_full}
+use Rattle.ns_admin.proofs.pools.put_pool.Goals as goal
+
+pub returns-then-is_full : goal.returns-then-is_full
+unfolding put_pool_record
+returns-then-is_full c = (
+  unless_so _ _ _ (pools_full c.args.tables.now c.args.name.now ∙ sym c.is_full.ensures ∙
+      c.if-is_full.true),
+  refl,
+)
+
+pub returns : goal.returns
+unfolding put_pool_record
+returns c = unless_not _ _ _ (pools_full c.args.tables.now c.args.name.now ∙ sym c.is_full.ensures ∙ c.if-is_full.false)
+    ∙ ap (Done Content.Written) (sym (c.in_ok-write_pool.ensures.done))
+
+pub returns-in_err-write_pool : goal.returns-in_err-write_pool
+unfolding put_pool_record
+returns-in_err-write_pool c = memory_last _ _ _ c.from_residual.result c.from_residual.ensures.1
+    (ap is_done (unless_not _ _ _ (pools_full c.args.tables.now c.args.name.now ∙ sym c.is_full.ensures ∙ c.if-is_full.false)))
+    (ap world_of c.in_err-write_pool.ensures.refused)

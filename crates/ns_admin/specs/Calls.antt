@@ -1,0 +1,46 @@
+-- What calls make of the tables.
+use Rattle.std.specs.Prelude.{◌≡◌, ◌<◌, ◌-◌, ◌^◌, Bool, List, map, filter, IfOk, OnOk, Option, Result, Some}
+use Rattle.std.specs.Borrow.{Bor}
+use Rattle.std.specs.Fn.{FnReturnsAt, Shared}
+use Rattle.std.specs.declared.alloc.AllocError.{AllocError}
+use Rattle.keyed.specs.Table.{row_at, row_list}
+use Rattle.ns_types.specs.declared.refusal.Refusal.{Refusal}
+use Rattle.ns_types.specs.declared.reply.Content.{Content}
+use Rattle.ns_types.specs.Settling.Outcome.{Changes, Outcome}
+use Rattle.ns_types.specs.State.Names.{Name}
+use Rattle.ns_types.specs.State.Rows.{World}
+use Rattle.ns_world.specs.declared.tables.QuotaRows.{QuotaRows as StoredQuota}
+use Rattle.ns_world.specs.declared.tables.Tables.{Tables}
+use Rattle.ns_world.specs.World.{world_of}
+
+-- ---- one call
+
+-- what a call that makes this change answers, and the tables that it leaves
+abbrev pub ChangesTables : (World → Outcome World) → Tables → Result Content Refusal → Tables → Type 0
+ChangesTables change old result new = Changes (change (world_of old)) (world_of old) result (world_of new)
+
+-- the tables are changed so, unless memory was refused
+abbrev pub Writes : (World → World) → Tables → Result (Unit {0}) AllocError → Tables → Type 0
+Writes change old result new = OnOk result (world_of new ≡ change (world_of old))
+
+-- the quota, if it is there, may have one more release
+abbrev pub MayRelease : Tables → Name → Type 0
+MayRelease tables name = (row : StoredQuota) → row_at tables.quotas name ≡ Some row → row.release < 2 ^ 64 - 1
+
+-- ---- lists of those whose names pass
+
+-- the closure answers whether a name passes
+abbrev pub Tests : {F : Type 0} → Shared F (Bor Name × Unit {0}) Bool → F → (Name → Bool) → Type 0
+Tests call shows passes = (name : Name) (b : Bool) → FnReturnsAt call shows name b → b ≡ passes name
+
+-- the rows that pass, as they are shown
+abbrev pub ShowsPassing : {F V S : Type 0} → Shared F (Bor Name × Unit {0}) Bool → F → (Name × V → S)
+    → List (Name × Option V) → Result (List S) AllocError → Type 0
+ShowsPassing call shows show slots result = (passes : Name → Bool) → Tests call shows passes →
+    IfOk result (λ shown. shown ≡ map show (filter (λ e. passes e.0) (row_list slots)))
+
+-- the list of those that pass
+abbrev pub ListsPassing : {F : Type 0} → Shared F (Bor Name × Unit {0}) Bool → F → ((Name → Bool) → World → Content)
+    → Tables → Result Content AllocError → Type 0
+ListsPassing call shows list tables result = (passes : Name → Bool) → Tests call shows passes →
+    IfOk result (λ content. content ≡ list passes (world_of tables))

@@ -1,0 +1,125 @@
+-- What administrators' commands change in the world, and what they ask of it.
+use Rattle.std.specs.Prelude.{ℕ, ◌+◌, Bool, true, false, not, ◌&&◌, ◌||◌, nat_lt}
+use Rattle.std.specs.FinMap.{get, insert}
+use Rattle.std.specs.Option.{option_map_or}
+use Rattle.ns_types.specs.declared.allocation.Allocation.{Allocation}
+use Rattle.ns_types.specs.declared.evaluation.Evaluation.{Evaluation}
+use Rattle.ns_types.specs.declared.job.Job.{Job}
+use Rattle.ns_types.specs.declared.records.Namespace.{Namespace}
+use Rattle.ns_types.specs.declared.records.Pool.{Pool}
+use Rattle.ns_types.specs.declared.records.Quota.{Quota}
+use Rattle.ns_types.specs.declared.reply.Content.{Content}
+use Rattle.ns_types.specs.declared.reply.NamespaceShown.{NamespaceShown}
+use Rattle.ns_types.specs.declared.reply.PoolShown.{PoolShown}
+use Rattle.ns_types.specs.declared.reply.QuotaShown.{QuotaShown}
+use Rattle.ns_types.specs.declared.worker.Worker.{Worker}
+use Rattle.ns_types.specs.Access.Sharing.{is_confined, overlaps, permits}
+use Rattle.ns_types.specs.Asking.Admins.{forbids_put, has_live, has_open, is_withdrawn, looks_to_pool, names_pool}
+use Rattle.ns_types.specs.Asking.Admins.{uses_pool, with_namespace, with_pool, with_quota}
+use Rattle.ns_types.specs.Settling.Making.{put_pool, put_tenant}
+use Rattle.ns_types.specs.State.Names.{Name, same_name}
+use Rattle.ns_types.specs.State.Rows.{World, Tenant, QuotaRows, is_live, is_open}
+use Rattle.ns_types.specs.State.Sums.{names_quota}
+use Rattle.ns_types.specs.State.Tables.{any_row}
+use Rattle.ns_types.specs.Steps.{greatest}
+use Rattle.ns_world.specs.declared.tables.PoolRows.{PoolRows as StoredPool}
+use Rattle.ns_world.specs.declared.tables.QuotaRows.{QuotaRows as StoredQuota}
+use Rattle.ns_world.specs.declared.tables.TenantRows.{TenantRows}
+use Rattle.ns_world.specs.World.{tenant_of}
+
+-- ---- changes of a row
+
+abbrev pub with_namespace_put : Name → Namespace → World → World
+with_namespace_put name namespace w = put_tenant name (with_namespace namespace (get w.tenants name)) w
+
+abbrev pub with_pool_put : Name → Pool → World → World
+with_pool_put name pool w = put_pool name (with_pool pool (get w.pools name)) w
+
+abbrev pub with_quota_written : Name → QuotaRows → World → World
+with_quota_written name q w = record w { quotas = insert w.quotas name q }
+
+-- its release number stays
+abbrev pub with_quota_put : Name → Quota → World → World
+with_quota_put name quota w = with_quota_written name (with_quota quota (get w.quotas name)) w
+
+abbrev pub after_release : QuotaRows → QuotaRows
+after_release q = record q { release = q.release + 1 }
+
+-- the quota's release number is one more
+abbrev pub with_release : Name → World → World
+with_release name w = option_map_or (λ q. with_quota_written name (after_release q) w) (get w.quotas name) w
+
+-- ---- what is found by name
+
+abbrev pub permits_in : Name → Name → World → Bool
+permits_in name pool w = option_map_or (λ t. permits t.namespace pool) (get w.tenants name) false
+
+abbrev pub is_confined_in : Name → World → Bool
+is_confined_in name w = option_map_or (λ t. is_confined t.namespace) (get w.tenants name) false
+
+-- what the namespace has forbids the record
+abbrev pub forbids_in : Name → Namespace → World → Bool
+forbids_in name namespace w = option_map_or (forbids_put namespace) (get w.tenants name) false
+
+-- one more release of the quota would pass the bound of its number
+abbrev pub is_exhausted : World → Name → Bool
+is_exhausted w name = option_map_or (λ q. nat_lt greatest (q.release + 1)) (get w.quotas name) false
+
+-- the other names the quota of the namespace
+abbrev pub shares_quota : Namespace → Namespace → Bool
+shares_quota namespace other = option_map_or (λ quota. names_quota quota other) namespace.quota false
+
+-- ---- what a namespace has
+
+-- a job, an open evaluation, a kept snapshot or a live allocation of it names a pool that the new record no longer
+-- permits
+abbrev pub has_withdrawn : Namespace → Tenant → Bool
+has_withdrawn new t = uses_pool (is_withdrawn t.namespace new) t
+
+-- a job, an open evaluation or a live allocation
+abbrev pub has_work : Tenant → Bool
+has_work t = any_row (λ _ job. true) t.jobs || has_open t || has_live t
+
+-- ---- tests of a row with its key
+
+abbrev pub job_in : (Name → Bool) → Name × Job → Bool
+job_in passes e = passes e.1.document.pool
+
+abbrev pub is_unfinished : ℕ × Evaluation → Bool
+is_unfinished e = is_open e.1.status
+
+abbrev pub open_in : (Name → Bool) → ℕ × Evaluation → Bool
+open_in passes e = is_open e.1.status && passes e.1.pool
+
+abbrev pub kept_in : (Name → Bool) → ℕ × Worker → Bool
+kept_in passes e = option_map_or (λ kept. passes kept.pool) e.1.kept false
+
+abbrev pub lives : ℕ × Allocation → Bool
+lives e = is_live e.1
+
+abbrev pub live_in : (Name → Bool) → ℕ × Allocation → Bool
+live_in passes e = is_live e.1 && passes e.1.pool
+
+abbrev pub tenant_names_quota : Name → Name × TenantRows → Bool
+tenant_names_quota quota e = names_quota quota e.1.namespace
+
+-- its record, a job, an open evaluation or a kept snapshot names the pool
+abbrev pub tenant_uses_pool : Name → Name × TenantRows → Bool
+tenant_uses_pool pool e = names_pool pool e.1.namespace || looks_to_pool (same_name pool) (tenant_of e.1)
+
+abbrev pub overlaps_other : Name → Namespace → Name × TenantRows → Bool
+overlaps_other ns namespace e = not (same_name e.0 ns) && overlaps namespace e.1.namespace
+
+-- ---- what lists show
+
+abbrev pub namespace_shown : Name × TenantRows → NamespaceShown
+namespace_shown e = record { name = e.0; row = e.1.namespace }
+
+abbrev pub quota_shown : Name × StoredQuota → QuotaShown
+quota_shown e = record { name = e.0; row = e.1.quota }
+
+abbrev pub content_of_quota : Name → Quota → Content
+content_of_quota name quota = Content.Quota (record { name = name; row = quota })
+
+abbrev pub pool_shown : Name × StoredPool → PoolShown
+pool_shown e = record { name = e.0; row = e.1.pool }

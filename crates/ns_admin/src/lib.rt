@@ -1,0 +1,19 @@
+//! Namespaces, quotas and pools, as administrators ask of them, over the tables of the whole world.
+#![tactic(auto)]
+
+mod beginning;
+mod held;
+mod lists;
+mod looking;
+mod namespaces;
+mod pools;
+mod quotas;
+mod sharing;
+
+pub use beginning::opening;
+pub use lists::{list_namespaces, list_pools, list_quotas};
+pub use looking::{is_confined_in, permits_in, shares};
+pub use namespaces::{delete_namespace, put_namespace};
+pub use pools::{delete_pool, put_pool};
+pub use quotas::{delete_quota, is_exhausted, is_relimited, put_quota, read_quota, release_quota};
+pub use sharing::{is_confined, names_quota, overlaps, permits, same_quota};

@@ -1,0 +1,109 @@
+//! Lists by name: of all quotas, and of the namespaces and pools that a secret may see.
+
+ghost use Rattle.std.specs.Prelude.{◌≡◌, IfOk, map};
+ghost use Rattle.keyed.specs.Table.{row_list};
+ghost use Rattle.ns_types.specs.Asking.Admins.{list_namespaces, list_pools, list_quotas};
+ghost use Rattle.ns_admin.specs.Calls.{ListsPassing, ShowsPassing};
+ghost use Rattle.ns_admin.specs.Viewed.{namespace_shown, pool_shown, quota_shown};
+ghost use Rattle.ns_world.specs.World.{world_of};
+
+use crate::looking::Slot;
+use ns_types::reply::{Content, NamespaceShown, PoolShown, QuotaShown};
+use ns_types::rows::Rows;
+use ns_types::text::Text;
+use ns_world::{PoolRows, QuotaRows, Tables, TenantRows};
+use std::alloc::{AllocError, Global};
+
+fn show_quotas(alloc: Global, slots: &[Slot<QuotaRows>]) -> Result<Rows<QuotaShown>, AllocError>
+    ensures { IfOk result (λ shown. shown ≡ map quota_shown (row_list slots.now)) }
+{
+    let mut shown = Rows::new(alloc);
+    let mut rest = slots;
+    while let Some(((name, row), others)) = rest.split_first() {
+        if let Some(row) = row {
+            shown.push(QuotaShown {
+                name: name.clone()?,
+                row: row.quota.clone()?,
+            })?;
+        }
+        rest = others;
+    }
+    Ok(shown)
+}
+
+fn show_namespaces<F: Fn(&Text) -> bool>(
+    alloc: Global,
+    slots: &[Slot<TenantRows>],
+    shows: F,
+) -> Result<Rows<NamespaceShown>, AllocError>
+    requires { F.IsAlwaysCallable shows }
+    ensures { ShowsPassing F.Fn shows namespace_shown slots.now result }
+{
+    let mut shown = Rows::new(alloc);
+    let mut rest = slots;
+    while let Some(((name, row), others)) = rest.split_first() {
+        if let Some(tenant) = row {
+            if shows(name) {
+                shown.push(NamespaceShown {
+                    name: name.clone()?,
+                    row: tenant.namespace.clone()?,
+                })?;
+            }
+        }
+        rest = others;
+    }
+    Ok(shown)
+}
+
+fn show_pools<F: Fn(&Text) -> bool>(
+    alloc: Global,
+    slots: &[Slot<PoolRows>],
+    shows: F,
+) -> Result<Rows<PoolShown>, AllocError>
+    requires { F.IsAlwaysCallable shows }
+    ensures { ShowsPassing F.Fn shows pool_shown slots.now result }
+{
+    let mut shown = Rows::new(alloc);
+    let mut rest = slots;
+    while let Some(((name, row), others)) = rest.split_first() {
+        if let Some(pool) = row {
+            if shows(name) {
+                shown.push(PoolShown {
+                    name: name.clone()?,
+                    row: pool.pool.clone()?,
+                })?;
+            }
+        }
+        rest = others;
+    }
+    Ok(shown)
+}
+
+/// All quotas, by name. Want of memory is the only error.
+pub fn list_quotas(tables: &Tables) -> Result<Content, AllocError>
+    ensures { IfOk result (λ content. content ≡ list_quotas (world_of tables.now)) }
+{
+    let shown = show_quotas(tables.alloc, tables.quotas.as_slice())?;
+    Ok(Content::Quotas(shown))
+}
+
+/// The namespaces whose names pass, by name. Want of memory is the only error.
+pub fn list_namespaces<F: Fn(&Text) -> bool>(
+    tables: &Tables,
+    shows: F,
+) -> Result<Content, AllocError>
+    requires { F.IsAlwaysCallable shows }
+    ensures { ListsPassing F.Fn shows list_namespaces tables.now result }
+{
+    let shown = show_namespaces(tables.alloc, tables.tenants.as_slice(), shows)?;
+    Ok(Content::Namespaces(shown))
+}
+
+/// The pools whose names pass, by name. Want of memory is the only error.
+pub fn list_pools<F: Fn(&Text) -> bool>(tables: &Tables, shows: F) -> Result<Content, AllocError>
+    requires { F.IsAlwaysCallable shows }
+    ensures { ListsPassing F.Fn shows list_pools tables.now result }
+{
+    let shown = show_pools(tables.alloc, tables.pools.as_slice(), shows)?;
+    Ok(Content::Pools(shown))
+}

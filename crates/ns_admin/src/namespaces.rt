@@ -1,0 +1,141 @@
+//! What administrators ask of namespaces.
+
+ghost use Rattle.std.specs.Prelude.{◌≡◌, OnErr};
+ghost use Rattle.std.specs.List.{list_all};
+ghost use Rattle.std.specs.FinMap.{contains_key};
+ghost use Rattle.ns_types.specs.Asking.Admins.{delete_namespace, lacks_allowed, lacks_quota, new_tenant, put_namespace};
+ghost use Rattle.ns_admin.specs.Calls.{ChangesTables, Writes};
+ghost use Rattle.ns_admin.specs.Viewed.{forbids_in, with_namespace_put};
+ghost use Rattle.ns_world.specs.World.{tenant_of, world_of};
+
+use crate::held::{forbids_put, has_work};
+use crate::looking::{has_pool, is_default, is_full};
+use keyed::{NameTable, NumberTable, Series};
+use ns_types::records::Namespace;
+use ns_types::refusal::{Member, Refusal};
+use ns_types::reply::Content;
+use ns_types::text::Text;
+use ns_world::{Tables, TenantRows};
+use std::alloc::{AllocError, Global};
+
+/// Whether the namespace names a quota that is not there.
+fn lacks_quota(tables: &Tables, namespace: &Namespace) -> bool
+    ensures { result ≡ lacks_quota (world_of tables.now) namespace.now }
+{
+    match &namespace.quota {
+        Some(quota) => !tables.has_quota(quota),
+        None => false,
+    }
+}
+
+fn has_pools(tables: &Tables, names: &[Text]) -> bool
+    ensures { result ≡ list_all (contains_key (world_of tables.now).pools) names.now }
+{
+    names.iter().all(|name| has_pool(tables, name))
+}
+
+/// Whether the namespace lists a pool that is not there.
+fn lacks_allowed(tables: &Tables, namespace: &Namespace) -> bool
+    ensures { result ≡ lacks_allowed (world_of tables.now) namespace.now }
+{
+    match &namespace.allowed {
+        Some(allowed) => !has_pools(tables, allowed.as_slice()),
+        None => false,
+    }
+}
+
+/// Whether what the namespace of that name has forbids the new record.
+fn forbids_in(tables: &Tables, name: &Text, namespace: &Namespace) -> bool
+    ensures { result ≡ forbids_in name.now namespace.now (world_of tables.now) }
+{
+    match tables.tenants.get(name) {
+        Some(tenant) => forbids_put(tenant, namespace),
+        None => false,
+    }
+}
+
+/// A namespace that has nothing. It takes no memory.
+pub(crate) fn new_tenant(alloc: Global, namespace: Namespace) -> TenantRows
+    ensures { tenant_of result ≡ new_tenant namespace }
+{
+    TenantRows {
+        namespace,
+        index: 0,
+        evaluation_number: 0,
+        allocation_number: 0,
+        jobs: NameTable::new(alloc),
+        evaluations: NumberTable::new(alloc),
+        allocations: NumberTable::new(alloc),
+        workers: NumberTable::new(alloc),
+        events: Series::new(alloc),
+    }
+}
+
+/// Writes the record, over what the namespace of that name has, or over nothing.
+fn write_namespace(
+    tables: &mut Tables,
+    name: &Text,
+    namespace: &Namespace,
+) -> Result<(), AllocError>
+    ensures done { Writes (with_namespace_put name.now namespace.now) tables.old result tables.new }
+    ensures refused { OnErr result (tables.new ≡ tables.old) }
+{
+    let namespace = namespace.clone()?;
+    if let Some(tenant) = tables.tenants.get_mut(name) {
+        tenant.namespace = namespace;
+        return Ok(());
+    }
+    tables.tenants.reserve(name)?;
+    tables
+        .tenants
+        .set(name, new_tenant(tables.alloc, namespace));
+    Ok(())
+}
+
+/// Makes the namespace, or writes its record in place of the old one.
+/// The first refusal is `BadField` for a quota, a default pool or an allowed pool that is not there, then `InUse`
+/// where what the namespace has forbids the new record, then `Full`. Want of memory comes last. A refusal
+/// changes nothing.
+pub fn put_namespace(
+    tables: &mut Tables,
+    name: &Text,
+    namespace: &Namespace,
+) -> Result<Content, Refusal>
+    ensures { ChangesTables (put_namespace name.now namespace.now) tables.old result tables.new }
+{
+    if lacks_quota(tables, namespace) {
+        return Err(Refusal::BadField(Member::Quota));
+    }
+    if !has_pool(tables, &namespace.default_pool) {
+        return Err(Refusal::BadField(Member::Default));
+    }
+    if lacks_allowed(tables, namespace) {
+        return Err(Refusal::BadField(Member::Allowed));
+    }
+    if forbids_in(tables, name, namespace) {
+        return Err(Refusal::InUse);
+    }
+    if is_full(&tables.tenants, name) {
+        return Err(Refusal::Full);
+    }
+    write_namespace(tables, name, namespace)?;
+    Ok(Content::Written)
+}
+
+/// Deletes the namespace with all that it owns. One that is not there is `NotFound`, and `default` and one that has a
+/// job, an open evaluation or a live allocation are `InUse`.
+pub fn delete_namespace(tables: &mut Tables, name: &Text) -> Result<Content, Refusal>
+    ensures { ChangesTables (delete_namespace name.now) tables.old result tables.new }
+{
+    let Some(tenant) = tables.tenants.get(name) else {
+        return Err(Refusal::NotFound);
+    };
+    if is_default(name) {
+        return Err(Refusal::InUse);
+    }
+    if has_work(tenant) {
+        return Err(Refusal::InUse);
+    }
+    tables.tenants.remove(name);
+    Ok(Content::Written)
+}

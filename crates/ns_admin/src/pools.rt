@@ -1,0 +1,110 @@
+//! What administrators ask of pools.
+
+ghost use Rattle.std.specs.Prelude.{◌≡◌, ◌||◌, true, None, OnErr};
+ghost use Rattle.std.specs.List.{list_any};
+ghost use Rattle.keyed.specs.Table.{at_slot};
+ghost use Rattle.ns_types.specs.Asking.Admins.{delete_pool, is_pool_in_use, put_pool_record, with_pool};
+ghost use Rattle.ns_types.specs.State.Tables.{any_row};
+ghost use Rattle.ns_admin.specs.Calls.{ChangesTables, Writes};
+ghost use Rattle.ns_admin.specs.Viewed.{tenant_uses_pool, with_pool_put};
+ghost use Rattle.ns_world.specs.World.{pool_of, world_of};
+
+use crate::held::{Asked, has_rows, looks_to_pool};
+use crate::looking::{Slot, is_default, is_full};
+use crate::sharing::names_pool;
+use keyed::{NameTable, Series};
+use ns_types::records::Pool;
+use ns_types::refusal::Refusal;
+use ns_types::reply::Content;
+use ns_types::text::Text;
+use ns_world::{PoolRows, Tables, TenantRows};
+use std::alloc::{AllocError, Global};
+
+fn uses_pool(slot: &Slot<TenantRows>, pool: &Text) -> bool
+    ensures { result ≡ at_slot (tenant_uses_pool pool.now) slot.now }
+{
+    match &slot.1 {
+        Some(tenant) => {
+            names_pool(pool, &tenant.namespace) || looks_to_pool(tenant, &Asked::Named(pool))
+        }
+        None => false,
+    }
+}
+
+fn any_uses_pool(slots: &[Slot<TenantRows>], pool: &Text) -> bool
+    ensures { result ≡ list_any (at_slot (tenant_uses_pool pool.now)) slots.now }
+{
+    slots.iter().any(|slot| uses_pool(slot, pool))
+}
+
+/// Whether a namespace, or a job, an open evaluation or a kept snapshot of one, names the pool.
+fn is_pool_in_use(tables: &Tables, name: &Text) -> bool
+    ensures { result ≡ is_pool_in_use name.now (world_of tables.now) }
+{
+    any_uses_pool(tables.tenants.as_slice(), name)
+}
+
+/// Whether the pool has a node, or is named.
+fn is_occupied(tables: &Tables, name: &Text, pool: &PoolRows) -> bool
+    ensures { result ≡ (any_row (λ _ node. true) (pool_of pool.now).nodes
+        || is_pool_in_use name.now (world_of tables.now)) }
+{
+    has_rows(&pool.nodes) || is_pool_in_use(tables, name)
+}
+
+/// A pool that has nothing. It takes no memory.
+pub(crate) fn new_pool(alloc: Global, pool: Pool) -> PoolRows
+    ensures { pool_of result ≡ with_pool pool None }
+{
+    PoolRows {
+        pool,
+        release: 0,
+        classes: Series::new(alloc),
+        nodes: NameTable::new(alloc),
+    }
+}
+
+/// Writes the record, over what the pool of that name has, or over nothing.
+fn write_pool(tables: &mut Tables, name: &Text, pool: &Pool) -> Result<(), AllocError>
+    ensures done { Writes (with_pool_put name.now pool.now) tables.old result tables.new }
+    ensures refused { OnErr result (tables.new ≡ tables.old) }
+{
+    let pool = pool.clone()?;
+    if let Some(row) = tables.pools.get_mut(name) {
+        row.pool = pool;
+        return Ok(());
+    }
+    tables.pools.reserve(name)?;
+    tables.pools.set(name, new_pool(tables.alloc, pool));
+    Ok(())
+}
+
+/// Makes the pool, or writes its record in place of the old one: its nodes and the numbers of its releases stay.
+/// `Full` is the only refusal beside want of memory.
+pub fn put_pool(tables: &mut Tables, name: &Text, pool: &Pool) -> Result<Content, Refusal>
+    ensures { ChangesTables (put_pool_record name.now pool.now) tables.old result tables.new }
+{
+    if is_full(&tables.pools, name) {
+        return Err(Refusal::Full);
+    }
+    write_pool(tables, name, pool)?;
+    Ok(Content::Written)
+}
+
+/// Deletes the pool. One that is not there is `NotFound`, and `default`, one that has a node and one that is named are
+/// `InUse`.
+pub fn delete_pool(tables: &mut Tables, name: &Text) -> Result<Content, Refusal>
+    ensures { ChangesTables (delete_pool name.now) tables.old result tables.new }
+{
+    let Some(pool) = tables.pools.get(name) else {
+        return Err(Refusal::NotFound);
+    };
+    if is_default(name) {
+        return Err(Refusal::InUse);
+    }
+    if is_occupied(tables, name, pool) {
+        return Err(Refusal::InUse);
+    }
+    tables.pools.remove(name);
+    Ok(Content::Written)
+}
