@@ -1,3 +1,4 @@
+pub mod Ids
 pub mod Reading
 pub mod Registration
 pub mod Rendering

@@ -10,9 +10,11 @@ use Rattle.serde_json.specs.Find.{get, as_number, as_u64, as_str, as_bool, as_ar
 use Rattle.ns_types.specs.declared.refusal.Member.{Member}
 use Rattle.ns_types.specs.declared.refusal.Refusal.{Refusal}
 use Rattle.ns_types.specs.declared.refusal.Refusal.TheVariants.{BadJson, BadField, Memory}
+use Rattle.ns_types.specs.declared.id.IdKind.{IdKind}
 use Rattle.ns_types.specs.declared.name.NameKind.{NameKind}
 use Rattle.ns_types.specs.State.Name.{is_name}
 use Rattle.ns_types.specs.Wire.Member.{member_name}
+use Rattle.ns_json.specs.Ids.{id_of}
 
 abbrev pub Read : Type 0 → Type 0
 Read A = Result A Refusal
@@ -114,6 +116,12 @@ unfoldable pub a_name : Member → NameKind → Data → Read (List ℕ)
 a_name m kind d = do
   s ← or_refuse m (as_str d)
   if is_name kind s then Ok s else Err (BadField m)
+
+-- the number of an id of that kind
+unfoldable pub an_id : Member → IdKind → Data → Read ℕ
+an_id m kind d = do
+  s ← or_refuse m (as_str d)
+  or_refuse m (id_of kind s)
 
 -- whether one of them has the name
 abbrev pub has_name : {A : Type 0} → (A → List ℕ) → List A → List ℕ → Bool

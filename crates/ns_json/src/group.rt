@@ -7,7 +7,7 @@ ghost use Rattle.ns_json.specs.Reading.{Gives, same, each, has_name, or_else, pr
 ghost use Rattle.ns_json.specs.Registration.{resources_in, default_resources, no_constraints, task_in, tasks_in, group_in, groups_in};
 
 use crate::member;
-use crate::member::{demanded, list, number_or, object, present};
+use crate::member::{MAX_QUANTITY, demanded, list, number_or, object, present};
 use ns_types::job::{Group, Task};
 use ns_types::name::NameKind;
 use ns_types::refusal::{Member, Refusal};
@@ -15,8 +15,6 @@ use ns_types::resources::Resources;
 use ns_types::rows::Rows;
 use serde_json::Value;
 use std::alloc::Global;
-
-const MAX_QUANTITY: u64 = 2_147_483_647;
 
 #[tactic(auto, unfolding(crate::specs::Registration::resources_in))]
 fn resources(value: &Value) -> Result<Resources, Refusal>

@@ -2,9 +2,10 @@
 
 ghost use Rattle.std.specs.Prelude.{◌≡◌, ℕ, List, Option, option_map, map, false};
 ghost use Rattle.serde_json.specs.View.{view, items_view};
-ghost use Rattle.ns_json.specs.Reading.{Gives, same, present, demanded, an_object, a_flag, a_number, a_text, a_name, a_list, or_else, top, json_in};
+ghost use Rattle.ns_json.specs.Reading.{Gives, same, present, demanded, an_object, a_flag, a_number, a_text, a_name, an_id, a_list, or_else, top, json_in};
 ghost use Rattle.ns_json.specs.Registration.{name_if_any};
 
+use ns_types::id::{IdKind, id_read};
 use ns_types::name::{Name, NameKind};
 use ns_types::refusal::{Member, Refusal};
 use ns_types::text::Text;
@@ -90,7 +91,11 @@ pub fn number(value: &Value, member: Member, low: u64, high: u64) -> Result<u64,
     }
 }
 
-const MAX_TEXT: usize = 256;
+/// The most bytes of a text.
+pub const MAX_TEXT: usize = 256;
+
+/// The most of a resource that a task asks for or a node has.
+pub const MAX_QUANTITY: u64 = 2_147_483_647;
 
 /// A text of at most 256 bytes.
 #[tactic(auto, unfolding(crate::specs::Reading::a_text))]
@@ -111,6 +116,18 @@ pub fn name(alloc: Global, value: &Value, member: Member, kind: NameKind) -> Res
     let text = value.as_str().ok_or(Refusal::BadField(member))?;
     let name = Name::read(kind, text).ok_or(Refusal::BadField(member))?;
     Ok(Text::from_str(alloc, name.as_str())?)
+}
+
+/// The number of an id of that kind.
+#[tactic(auto, unfolding(crate::specs::Reading::an_id))]
+pub fn id(value: &Value, member: Member, kind: IdKind) -> Result<u64, Refusal>
+    ensures { Gives same result (an_id member kind (view value.now)) }
+{
+    let text = value.as_str().ok_or(Refusal::BadField(member))?;
+    match id_read(kind, text) {
+        Some(number) => Ok(number),
+        None => Err(Refusal::BadField(member)),
+    }
 }
 
 /// A list of low to high items.

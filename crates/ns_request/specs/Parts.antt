@@ -1,12 +1,11 @@
 -- The parts of a path.
-use Rattle.std.specs.Prelude.{ℕ, ◌/◌, ◌%◌, ◌^◌, ◌==◌, Bool, ◌&&◌, List, [], Option, Some, None, option_and_then}
-use Rattle.std.specs.Prelude.{is_some, if◌then◌else◌, unwrap_or, slice_get}
+use Rattle.std.specs.Prelude.{ℕ, ◌==◌, Bool, ◌&&◌, List, [], is_some, unwrap_or, slice_get}
 use Rattle.std.specs.List.{slice_split}
 use Rattle.std.specs.Str.{is_utf8}
 use Rattle.percent_encoding.specs.Percent.{percent_decode}
-use Rattle.ns_types.specs.declared.id.IdKind.{IdKind}
-use Rattle.ns_types.specs.State.Id.{kind_number, uuid_number}
+use Rattle.ns_types.specs.State.Id.{uuid_number}
 use Rattle.ns_types.specs.State.Name.{is_name}
+use Rattle.ns_json.specs.Ids.{id_of}
 use Rattle.ns_request.specs.declared.part.Part.{Part}
 
 abbrev pub slash : ℕ
@@ -19,14 +18,6 @@ segments_of path = slice_split (λ b. b == slash) path
 -- the segment at a place, or none
 abbrev pub segment_at : ℕ → List ℕ → List ℕ
 segment_at place path = unwrap_or (slice_get (segments_of path) place) []
-
--- the number of the id of that kind that a UUID is
-abbrev pub number_in : IdKind → ℕ → Option ℕ
-number_in kind uuid = if uuid / 2 ^ 64 == kind_number kind then Some (uuid % 2 ^ 64) else None
-
--- the number of the id of that kind that a text stands for
-abbrev pub id_of : IdKind → List ℕ → Option ℕ
-id_of kind text = option_and_then (number_in kind) (uuid_number text)
 
 -- the text follows the rule of its part
 unfoldable pub is_good : Part → List ℕ → Bool
