@@ -10,6 +10,8 @@ mod namespaces;
 mod pools;
 mod quotas;
 mod sharing;
+#[cfg(test)]
+mod tests;
 
 pub use beginning::opening;
 pub use laws::{administration_makes, administration_settles, administration_stays_within};
