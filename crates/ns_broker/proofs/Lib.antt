@@ -1,2 +1,3 @@
 pub mod Dequeued
+pub mod Nacked
 pub mod Preferred

@@ -1,1 +1,2 @@
+pub mod Nacking
 pub mod Serving

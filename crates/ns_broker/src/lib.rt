@@ -2,8 +2,10 @@
 //! Each step is a command over the tables: what it answers and changes, or that it is not enabled.
 #![tactic(auto)]
 
+mod nacking;
 mod serving;
 mod taking;
 
+pub use nacking::nack;
 pub use serving::served;
 pub use taking::dequeue;

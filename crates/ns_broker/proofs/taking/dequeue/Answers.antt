@@ -8,7 +8,7 @@ use Rattle.ns_types.specs.State.Rows.{evaluation_at}
 use Rattle.ns_types.specs.Working.Work.{new_worker, with_worker}
 use Rattle.ns_broker.proofs.Dequeued.{nothing_there, out_of_memory, stays_out, taken_out}
 use Rattle.ns_broker.proofs.taking.dequeue.Goals as goal
-use Rattle.ns_change.specs.Changed.{view, without_ready}
+use Rattle.ns_change.specs.Changed.{without_ready}
 use Rattle.ns_world.specs.World.{world_of}
 
 pub returns-then-not-may_dequeue : goal.returns-then-not-may_dequeue
