@@ -1,38 +1,28 @@
 //! A worker gives its evaluation back.
 
-ghost use Rattle.std.specs.Prelude.{◌≡◌, ◌+◌, ◌<◌, ◌^◌, option_copied};
+ghost use Rattle.std.specs.Prelude.{◌≡◌, ◌+◌, ◌<◌, ◌^◌};
 ghost use Rattle.ns_types.specs.declared.evaluation.Status.TheVariants as Status;
 ghost use Rattle.ns_types.specs.declared.reply.Content.TheVariants as Content;
 ghost use Rattle.ns_types.specs.Settling.Outcome.{Done};
-ghost use Rattle.ns_types.specs.Working.Looks.{worker_at};
 ghost use Rattle.ns_types.specs.Working.Work.{is_submitted, nack};
 ghost use Rattle.ns_broker.specs.Nacking.{HasNackLeft, left, put_away, put_back};
 ghost use Rattle.ns_change.specs.Changed.{Does, DoesIn};
 ghost use Rattle.ns_change.specs.Prepared.{Prepares};
 ghost use Rattle.ns_world.specs.World.{world_of};
 
+use crate::looking::worker_at;
 use ns_change::{Change, Prepared, add_ready, prepare, promote, put_row, remove_worker};
 use ns_types::evaluation::{Evaluation, Status};
 use ns_types::key::EvalKey;
 use ns_types::refusal::Refusal;
 use ns_types::reply::Content;
 use ns_types::text::Text;
-use ns_types::worker::{Phase, Worker};
+use ns_types::worker::Phase;
 use ns_world::Tables;
 use std::alloc::AllocError;
 
-/// With one nack more than these the evaluation fails.
+/// An evaluation with so many nacks has failed at the next one.
 const NACKS: u64 = 2;
-
-/// The worker's row in that namespace.
-pub(crate) fn worker_at<'a>(tables: &'a Tables, number: u64, namespace: &Text) -> Option<&'a Worker>
-    ensures { option_copied result ≡ worker_at (world_of tables.now) number namespace.now }
-{
-    match tables.tenants.get(namespace) {
-        Some(tenant) => tenant.workers.get(number),
-        None => None,
-    }
-}
 
 fn is_submitted(phase: Phase) -> bool
     ensures { result ≡ is_submitted phase }
@@ -131,7 +121,8 @@ fn give_up(
 
 /// The worker gives its evaluation of the namespace back, which gets a nack. With fewer than three it is ready again,
 /// behind the others; with three it has failed, and the next one of its job is ready. `NotEnabled`: the worker has none
-/// of the namespace, or its plan waits.
+/// of the namespace, or its plan waits. The premise is that one nack more can be counted: in a valid world no evaluation
+/// has more than three.
 pub fn nack(tables: &Tables, number: u64, namespace: &Text) -> Result<Prepared, Refusal>
     requires { HasNackLeft (world_of tables.now) number namespace.now }
     ensures { Prepares (nack number namespace.now (world_of tables.now)) tables.now result }

@@ -24,10 +24,10 @@ use std::alloc::AllocError;
 const WORKERS: u64 = 64;
 
 /// A namespace with what it owns, or a vacant slot.
-type TenantSlot = (Text, Option<TenantRows>);
+pub(crate) type TenantSlot = (Text, Option<TenantRows>);
 
 /// Whether the worker has an evaluation of the namespace.
-fn is_busy_for(slot: &TenantSlot, number: u64) -> bool
+pub(crate) fn is_busy_for(slot: &TenantSlot, number: u64) -> bool
     ensures { result ≡ is_busy_for number slot.now }
 {
     match &slot.1 {

@@ -5,7 +5,7 @@ use Rattle.std.specs.Prelude.{option_map}
 use Rattle.keyed.proofs.Tables.{get-rows}
 use Rattle.ns_types.proofs.Named.{numbers}
 use Rattle.ns_types.specs.State.Rows.{Tenant}
-use Rattle.ns_broker.proofs.nacking.worker_at.Goals as goal
+use Rattle.ns_broker.proofs.looking.worker_at.Goals as goal
 use Rattle.ns_world.proofs.World.{tenant_at}
 use Rattle.ns_world.specs.World.{tenant_of}
 
