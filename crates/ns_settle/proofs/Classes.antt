@@ -1,10 +1,10 @@
 -- The order in which a pool's classes are released does not matter.
-use Rattle.std.specs.Prelude.{◌≡◌, ℕ, ◌+◌, Bool, true, false, cond, T, List, [], ◌∷◌, Some, ◌||◌, fold}
-use Rattle.std.proofs.Common.{refl, sym, ap, subst, ◌∙◌}
+use Rattle.std.specs.Prelude.{◌≡◌, ℕ, ◌+◌, Bool, true, false, cond, List, [], ◌∷◌, Some, ◌||◌, fold}
+use Rattle.std.proofs.Common.{refl, sym, ap, ◌∙◌}
 use Rattle.std.specs.List.{list_any}
 use Rattle.std.specs.FinMap.{get, get-insert, insert, same_map}
 use Rattle.ns_types.specs.declared.node.Class.{Class}
-use Rattle.ns_types.specs.State.Names.{ByClass, class_cmp, same_class}
+use Rattle.ns_types.specs.State.Names.{ByClass, same_class}
 use Rattle.ns_types.specs.State.Rows.{PoolRows}
 use Rattle.ns_types.specs.Settling.Settle.{after_release}
 use Rattle.ns_types.proofs.Classes.{by_class, one_class}
