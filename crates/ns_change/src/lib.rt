@@ -20,6 +20,7 @@ mod placing;
 mod preparing;
 mod promoting;
 mod queueing;
+mod renewing;
 mod workers;
 
 pub use change::{Change, ListChange, PoolChange, Prepared, Settled, SettledTenant, TenantChange};
@@ -35,4 +36,5 @@ pub use placing::{add_allocation, count_place, put_node, remove_node};
 pub use preparing::prepare;
 pub use promoting::{cancel_blocked, promote};
 pub use queueing::{make, queue, wake};
+pub use renewing::evaluation_for;
 pub use workers::remove_worker;
