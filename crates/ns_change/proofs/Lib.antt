@@ -1,5 +1,7 @@
 pub mod Any
+pub mod Gone
 pub mod Listed
+pub mod Lost
 pub mod Nothing
 pub mod NumberedRows
 pub mod Opening

@@ -1,4 +1,5 @@
 pub mod Changed
+pub mod Gone
 pub mod Opened
 pub mod Prepared
 pub mod Queued

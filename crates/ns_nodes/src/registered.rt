@@ -50,7 +50,8 @@ fn with_offer(offer: Offer, old: Option<&Node>) -> Node
 
 /// Whether the node is new, and the pool has no place for it.
 fn is_full(nodes: &NameTable<Node>, old: Option<&Node>) -> bool
-    ensures { result ≡ (is_none (option_copied old.entry) && nat_le most_nodes (len (rows nodes.now))) }
+    ensures { result ≡ (is_none (option_copied old.entry)
+        && nat_le most_nodes (len (rows nodes.now))) }
 {
     old.is_none() && MOST_NODES <= nodes.len()
 }

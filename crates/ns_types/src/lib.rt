@@ -17,6 +17,7 @@ pub mod refusal;
 pub mod reply;
 pub mod resources;
 pub mod rows;
+pub mod shared;
 pub mod snapshot;
 pub mod step;
 pub mod text;
