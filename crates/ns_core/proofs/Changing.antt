@@ -28,7 +28,7 @@ use Rattle.ns_steps.specs.Early.{IsEarly}
 use Rattle.ns_steps.proofs.Registering.{all_within}
 use Rattle.ns_steps.proofs.Resting.{Rests}
 use Rattle.ns_core.specs.Held.{HasFewVersions, IsHeld}
-use Rattle.ns_tables.specs.Viewed.{is_exhausted}
+use Rattle.ns_admin.specs.Viewed.{is_exhausted}
 use Rattle.ns_core.specs.Viewed.{exhausts}
 
 -- ---- a quota's release number

@@ -9,15 +9,14 @@ use Rattle.ns_types.specs.State.Rows.{Acl, Tenant}
 use Rattle.ns_types.specs.Steps.{opening, opening_acl, opening_tenant, opening_world}
 use Rattle.ns_steps.proofs.Early.{opening_early}
 use Rattle.ns_types.proofs.Tests.{same_Some}
-use Rattle.ns_tables.specs.declared.tables.Tables.{Tables}
-use Rattle.ns_tables.specs.Viewed.{world_of}
+use Rattle.ns_world.specs.declared.tables.Tables.{Tables}
+use Rattle.ns_world.specs.World.{world_of}
 use Rattle.ns_core.specs.Held.{HasFewVersions, IsHeld}
 
-pub opening_parts : (secret : Name) (acl : Acl) (tables : Tables) (ready : List Key) → acl ≡ opening_acl secret →
-    ((r : List Key) → world_of r tables ≡ record opening_world { ready = r }) → ready ≡ []
-    → record { acl = acl; world = world_of ready tables } ≡ opening secret
+pub opening_parts : (secret : Name) (acl : Acl) (tables : Tables) → acl ≡ opening_acl secret → world_of tables ≡ opening_world →
+    record { acl = acl; world = world_of tables } ≡ opening secret
 unfolding opening
-opening_parts secret acl tables ready a w r = λ i. record { acl = a i; world = (w ready ∙ ap (λ keys. record opening_world { ready = keys }) r) i }
+opening_parts secret acl tables a w = λ i. record { acl = a i; world = w i }
 
 pub opening_held : (secret : Name) → IsHeld (opening secret).world
 unfolding opening

@@ -26,7 +26,7 @@ use Rattle.ns_types.specs.Asking.Admins.{is_relimited}
 use Rattle.ns_steps.specs.Early.{IsEarly}
 use Rattle.ns_types.proofs.TableRows.{get_put}
 use Rattle.ns_types.proofs.Tests.{same_Some}
-use Rattle.ns_tables.specs.Viewed.{is_exhausted, with_release}
+use Rattle.ns_admin.specs.Viewed.{is_exhausted, with_release}
 use Rattle.ns_core.specs.Viewed.{exhausts}
 use Rattle.ns_core.proofs.Changing.{put_twice}
 

@@ -17,8 +17,6 @@ use Rattle.ns_types.specs.Settling.Outcome.{Changes}
 use Rattle.ns_types.specs.State.Names.{Name}
 use Rattle.ns_types.specs.State.Rows.{Acl}
 use Rattle.ns_types.specs.Steps.{Answer, Makes}
-use Rattle.ns_tables.specs.declared.tables.TenantRows.{TenantRows}
-use Rattle.ns_tables.specs.Viewed.{tenant_of}
 use Rattle.ns_core.specs.declared.parts.Parts.{Parts}
 use Rattle.ns_core.specs.Viewed.{state_of, world_of}
 
@@ -41,11 +39,6 @@ MakesPutQuota name quota old result new = (secret : Option Name)
     → MakesStep (Step.Admin secret (AdminCommand.PutQuota name quota)) old result new
 
 -- ---- what a change says
-
--- of a command that only reads, in a namespace with these rows
-abbrev pub ReadsIn : Name → AskCommand → TenantRows → Result Content Refusal → Type 0
-ReadsIn ns command x result = (parts : Parts) →
-    Changes (asked_in ns command (world_of parts) (tenant_of x)) (world_of parts) result (world_of parts)
 
 abbrev pub ChangesBy : Option Name → AdminCommand → Parts → Result Content Refusal → Parts → Type 0
 ChangesBy secret command old result new =

@@ -2,11 +2,9 @@
 #![tactic(auto)]
 
 mod administration;
-mod asks;
 mod parts;
 mod pool;
-mod reads;
-mod registration;
+mod rights;
 mod server;
 
 pub use server::Core;
