@@ -1,6 +1,9 @@
+pub mod Administering
 pub mod Begun
+pub mod Concluding
 pub mod Holdings
 pub mod Listing
+pub mod Resting
 pub mod Sharers
 pub mod Shown
 pub mod World

@@ -3,6 +3,7 @@
 
 mod beginning;
 mod held;
+mod laws;
 mod lists;
 mod looking;
 mod namespaces;
@@ -11,6 +12,7 @@ mod quotas;
 mod sharing;
 
 pub use beginning::opening;
+pub use laws::{administration_makes, administration_settles, administration_stays_within};
 pub use lists::{list_namespaces, list_pools, list_quotas};
 pub use looking::{is_confined_in, permits_in, shares};
 pub use namespaces::{delete_namespace, put_namespace};

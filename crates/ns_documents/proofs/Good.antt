@@ -5,21 +5,24 @@ use Rattle.std.specs.Bool.{IsTrue}
 use Rattle.std.specs.List.{list_all}
 use Rattle.std.specs.Option.{option_map_or, is_none}
 use Rattle.std.specs.Str.{bytes_eq}
-use Rattle.std.proofs.lemmas.Bool.{eqb-false, le-leb, not_from_false}
+use Rattle.std.proofs.lemmas.Bool.{eqb-false, le-leb, not-false, not_from_false}
 use Rattle.std.proofs.lemmas.Bool.Decides.{nat_tests}
 use Rattle.std.proofs.lemmas.List.Folds.{list_all-append}
 use Rattle.std.proofs.lemmas.Slice.Eq.{bytes_eq-Decides}
-use Rattle.serde_json.specs.Data.{Data, Items, no_items, item}
+use Rattle.serde_json.specs.Data.{Data, Items, no_items, item, Members, no_members, member}
 use Rattle.serde_json.specs.Events.{items_len}
-use Rattle.serde_json.specs.Find.{as_str, as_array, as_number, as_i64}
+use Rattle.serde_json.specs.Find.{as_str, as_array, as_object, as_number, as_i64, as_u64}
 use Rattle.ns_types.specs.declared.acl.Policy.{Policy}
 use Rattle.ns_types.specs.declared.acl.TokenKind.TheVariants as TokenKind
 use Rattle.ns_types.specs.declared.name.NameKind.{NameKind}
+use Rattle.ns_types.specs.declared.node.Attribute.{Attribute}
+use Rattle.ns_types.specs.declared.node.Offer.{Offer}
 use Rattle.ns_types.specs.declared.refusal.Member.{Member}
 use Rattle.ns_types.specs.declared.refusal.Refusal.{Refusal}
 use Rattle.ns_types.specs.declared.resources.Limit.{Limit}
 use Rattle.ns_types.specs.declared.resources.Limits.{Limits}
-use Rattle.ns_types.specs.State.Limits.{is_text, is_pool_name, is_pool_list, is_good_namespace, is_limit, is_good_quota, is_good_policy, is_good_token}
+use Rattle.ns_types.specs.State.Limits.{is_between, is_text, is_pool_name, is_pool_list, is_good_namespace, is_limit, is_good_quota, is_good_policy}
+use Rattle.ns_types.specs.State.Limits.{is_good_token, is_good_offer}
 use Rattle.ns_types.specs.State.Lists.{is_empty}
 use Rattle.ns_types.specs.State.Name.{is_name}
 use Rattle.ns_types.specs.State.Names.{Name, same_name, default_name}
@@ -28,7 +31,7 @@ use Rattle.ns_types.specs.State.Resources.{limits_in, unlimited}
 use Rattle.ns_types.proofs.Lists.{left_none, right_none}
 use Rattle.ns_types.proofs.Named.{same_name_is}
 use Rattle.ns_json.specs.Reading.{◌>>=◌, Read, Gives, same, top, present, demanded, or_else, or_refuse, some, an_object, a_text, a_name, has_name, unless}
-use Rattle.ns_json.specs.Reading.{a_list, each}
+use Rattle.ns_json.specs.Reading.{a_list, a_number, each, unless_null}
 use Rattle.ns_json.specs.Registration.{name_if_any}
 use Rattle.ns_policy.specs.Json.{rules_of}
 use Rattle.ns_documents.specs.declared.namespace.NamedNamespace.{NamedNamespace}
@@ -40,6 +43,7 @@ use Rattle.ns_documents.specs.Members.{is_path_name, repeated, named, descriptio
 use Rattle.ns_documents.specs.Records.{is_all, pool_or_default, default_pool_in, pools_in, configuration_in, every_pool, namespace_in, max_limit, limit_of}
 use Rattle.ns_documents.specs.Records.{limit_in, region_limit_in, region_in, entry_in, first_entry, entries_in, quota_in, pool_in}
 use Rattle.ns_documents.specs.Access.{with_accessor, rules_text_in, or_bad_rules, policy_in, token_kind_in, token_in}
+use Rattle.ns_documents.specs.Nodes.{with_value, with_attribute, each_attribute, attributes_in, amount_in, node_in}
 use Rattle.ns_documents.proofs.Distinct.{Distinct, distinct_more, distinct_is, pools_without_all}
 
 -- ---- what holds of the value, where there is one
@@ -340,16 +344,69 @@ pool_post path d =
     post_any (top d) _ _ (λ t. post_any (named NameKind.Pool path t) _ _ (λ name. post_any (unless (is_all name) Member.Name name) _ _ (λ checked.
     post_then (description_in t) _ _ (description_good t) (λ description h. h))))
 
+-- ---- nodes
+
+abbrev is_attribute : Attribute → Bool
+is_attribute a = is_text a.key && is_text a.value
+
+abbrev AreAttributes : List Attribute → Type 0
+AreAttributes xs = (length xs ≤ 64) × (list_all is_attribute xs ≡ true)
+
+one_attribute : (done : List Attribute) (key value : Name) → AreAttributes done → is_text key ≡ true → nat_le 64 (length done) ≡ false →
+    is_text value ≡ true → AreAttributes (done ++ record { key = key; value = value } ∷ [])
+one_attribute done key value h named few good =
+    let one : Attribute = record { key = key; value = value } in
+    let same : list_all is_attribute (done ++ one ∷ []) ≡ (list_all is_attribute done && list_all is_attribute (one ∷ [])) =
+    list_all-append is_attribute done (one ∷ []) in
+    (grind (arith, nat_tests, length-append done (one ∷ []), few), same ∙ rw (h.1, named, good) refl)
+
+with_value_good : (done : List Attribute) (key : Name) (o : Option Data) → AreAttributes done → Post (with_value done key o) AreAttributes
+with_value_good done key None h = h
+with_value_good done key (Some d) h =
+    post_then (a_text Member.Attributes d) _ _ (text_good Member.Attributes d) (λ value good.
+    post_unless (not (is_text key) || nat_le 64 (length done)) Member.Attributes (done ++ record { key = key; value = value } ∷ []) AreAttributes
+    (λ fine. one_attribute done key value h (not-false (is_text key) (left_none (not (is_text key)) (nat_le 64 (length done)) fine))
+    (right_none (not (is_text key)) (nat_le 64 (length done)) fine) good))
+
+each_attribute_good : (done : List Attribute) (ms : Members) → AreAttributes done → Post (each_attribute done ms) AreAttributes
+unfolding each_attribute with_attribute
+each_attribute_good done no_members h = h
+each_attribute_good done (member key d ms) h =
+    post_then (with_value done key (unless_null d)) _ _ (with_value_good done key (unless_null d) h) (λ more k. each_attribute_good more ms k)
+
+attributes_good : (d : Data) → Post (attributes_in d) AreAttributes
+unfolding attributes_in
+attributes_good d = post_any (or_refuse Member.Attributes (as_object d)) _ _ (λ ms. each_attribute_good [] ms (omega arith, refl))
+
+amount_good : (m : Member) (d : Data) → Post (amount_in m d) (λ n. IsTrue (is_between 1 2147483647 n))
+unfolding amount_in a_number
+amount_good m d = post_any (demanded m d) _ _ (λ v. post_any (or_refuse m (option_and_then as_u64 (as_number v))) _ _
+    (λ n. post_if (nat_le 1 n && nat_le n 2147483647) n _ _ (λ h. h)))
+
+offer_from : (class : Name) (attributes : List Attribute) (cpu memory : ℕ) → IsTrue (is_text class) → AreAttributes attributes →
+    IsTrue (is_between 1 2147483647 cpu) → IsTrue (is_between 1 2147483647 memory) →
+    IsTrue (is_good_offer (record { class = class; attributes = attributes; capacity = record { cpu = cpu; memory = memory } }))
+offer_from class attributes cpu memory h k l m =
+    let fits : nat_le (length attributes) 64 ≡ true = le-leb (length attributes) 64 k.0 in
+    rw (h, fits, k.1, l, m) refl
+
+node_post : (d : Data) → Post (node_in d) (λ o. IsTrue (is_good_offer o))
+unfolding node_in
+node_post d =
+    post_any (top d) _ _ (λ t. post_then (or_else [] (a_text Member.NodeClass) (present Member.NodeClass t)) _ _
+    (post_else [] (a_text Member.NodeClass) (λ s. IsTrue (is_text s)) (present Member.NodeClass t) refl (text_good Member.NodeClass)) (λ class h.
+    post_then (or_else [] attributes_in (present Member.Attributes t)) _ _
+    (post_else [] attributes_in AreAttributes (present Member.Attributes t) (omega arith, refl) attributes_good) (λ attributes k.
+    post_then (amount_in Member.Cpu t) _ _ (amount_good Member.Cpu t) (λ cpu l.
+    post_then (amount_in Member.MemoryMb t) _ _ (amount_good Member.MemoryMb t) (λ memory m.
+    offer_from class attributes cpu memory h k l m)))))
+
 -- ---- policies and tokens
 
 rules_text_good : (d : Data) → Post (rules_text_in d) (λ s. IsTrue (nat_le (length s) 65536))
 unfolding rules_text_in
 rules_text_good d = post_any (or_refuse Member.Rules (as_str d)) _ _
-    (λ s. post_unless (not (nat_le (length s) 65536)) Member.Rules s _ (λ h. is_true (nat_le (length s) 65536) h))
-  where
-    is_true : (b : Bool) → not b ≡ false → b ≡ true
-    is_true true h = refl
-    is_true false h = sym h
+    (λ s. post_unless (not (nat_le (length s) 65536)) Member.Rules s _ (λ h. not-false (nat_le (length s) 65536) h))
 
 policy_from : (p : Policy) → IsTrue (is_text p.description) → IsTrue (nat_le (length p.text) 65536) → IsTrue (is_good_policy p)
 policy_from p h k = rw (h, k) refl
@@ -427,6 +484,9 @@ pool_good r path d h = read_so r (pool_in path d) _ h (pool_post path d)
 pub pool_has_name : (r : Read NamedPool) (path : Option Name) (d : Data) → Gives same r (pool_in path d) →
     IfOk r (λ p. IsTrue (is_path_name NameKind.Pool path) → IsTrue (is_pool_name p.name))
 pool_has_name r path d h = read_if (IsTrue (is_path_name NameKind.Pool path)) r (pool_in path d) (λ p. IsTrue (is_pool_name p.name)) h (pool_named path d)
+
+pub node_good : (r : Read Offer) (d : Data) → Gives same r (node_in d) → IfOk r (λ o. IsTrue (is_good_offer o))
+node_good r d h = read_so r (node_in d) _ h (node_post d)
 
 pub policy_good : (r : Read Policy) (d : Data) → Gives same r (policy_in d) → IfOk r (λ p. IsTrue (is_good_policy p))
 policy_good r d h = read_so r (policy_in d) _ h (policy_post d)

@@ -35,6 +35,10 @@ named kind None d = do
   a_name Member.Name kind name
 named kind (Some path) d = or_else path (repeated path) (present Member.Name d)
 
+-- a text that has to be there
+unfoldable pub word_in : Member → Data → Read (List ℕ)
+word_in m d = demanded m d >>= a_text m
+
 unfoldable pub description_in : Data → Read (List ℕ)
 description_in d = or_else [] (a_text Member.Description) (present Member.Description d)
 

@@ -2,8 +2,9 @@
 
 ghost use Rattle.std.specs.Prelude.{◌≡◌, [], option_copied};
 ghost use Rattle.serde_json.specs.View.{view, items_view};
-ghost use Rattle.ns_json.specs.Reading.{Gives, same, each, has_name};
-ghost use Rattle.ns_documents.specs.Members.{repeated, named, description_in, listed_name, names_in};
+ghost use Rattle.ns_json.specs.Reading.{Gives, same, present, or_else, a_text, each, has_name};
+ghost use Rattle.ns_documents.specs.Members.{repeated, named, word_in, description_in};
+ghost use Rattle.ns_documents.specs.Members.{listed_name, names_in};
 
 use ns_json::member;
 use ns_json::member::{demanded, list, present, text};
@@ -45,15 +46,31 @@ pub fn named(
     }
 }
 
+/// A text, or an empty one where it is absent.
+pub fn text_or_empty(alloc: Global, object: &Value, member: Member) -> Result<Text, Refusal>
+    ensures { Gives same result
+        (or_else [] (a_text member) (present member (view object.now))) }
+{
+    match present(object, member) {
+        None => Ok(Text::from_str(alloc, "")?),
+        Some(value) => Ok(Text::from_str(alloc, text(value, member)?)?),
+    }
+}
+
+/// A text that has to be there.
+#[tactic(auto, unfolding(crate::specs::Members::word_in))]
+pub fn word(object: &Value, member: Member) -> Result<&str, Refusal>
+    ensures { Gives (λ s. s.now) result (word_in member (view object.now)) }
+{
+    text(demanded(object, member)?, member)
+}
+
 /// The description, or an empty text.
 #[tactic(auto, unfolding(crate::specs::Members::description_in))]
 pub fn description(alloc: Global, object: &Value) -> Result<Text, Refusal>
     ensures { Gives same result (description_in (view object.now)) }
 {
-    match present(object, Member::Description) {
-        None => Ok(Text::from_str(alloc, "")?),
-        Some(value) => Ok(Text::from_str(alloc, text(value, Member::Description)?)?),
-    }
+    text_or_empty(alloc, object, Member::Description)
 }
 
 /// Whether one of them is that name.

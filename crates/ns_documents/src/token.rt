@@ -4,11 +4,11 @@ ghost use Rattle.std.specs.Prelude.{◌≡◌, ℕ, List, [], IfOk, IfErr, IsTru
 ghost use Rattle.serde_json.specs.View.{view};
 ghost use Rattle.ns_types.specs.declared.acl.TokenKind.TheVariants.{Client};
 ghost use Rattle.ns_types.specs.State.Limits.{is_good_token};
-ghost use Rattle.ns_json.specs.Reading.{Gives, same, present, or_else, a_text, body_in, IsOfDocument};
+ghost use Rattle.ns_json.specs.Reading.{Gives, same, present, or_else, body_in, IsOfDocument};
 ghost use Rattle.ns_documents.specs.Members.{names_in};
 ghost use Rattle.ns_documents.specs.Access.{with_accessor, token_kind_in, token_in};
 
-use crate::members::names;
+use crate::members::{names, text_or_empty};
 use ns_json::member::{document, present, read_json, text};
 use ns_types::acl::TokenKind;
 use ns_types::name::NameKind;
@@ -24,16 +24,6 @@ pub struct TokenDocument {
     pub name: Text,
     pub kind: TokenKind,
     pub policies: Rows<Text>,
-}
-
-fn name_or_empty(alloc: Global, document: &Value) -> Result<Text, Refusal>
-    ensures { Gives same result
-        (or_else [] (a_text Member.Name) (present Member.Name (view document.now))) }
-{
-    match present(document, Member::Name) {
-        None => Ok(Text::from_str(alloc, "")?),
-        Some(value) => Ok(Text::from_str(alloc, text(value, Member::Name)?)?),
-    }
 }
 
 #[tactic(auto, unfolding(crate::specs::Access::token_kind_in, crate::specs::Access::token_kind_of))]
@@ -76,7 +66,7 @@ fn token(alloc: Global, value: &Value) -> Result<TokenDocument, Refusal>
     ensures { Gives same result (token_in (view value.now)) }
 {
     let top = document(value)?;
-    let name = name_or_empty(alloc, top)?;
+    let name = text_or_empty(alloc, top, Member::Name)?;
     let kind = kind_or_client(top)?;
     let policies = policies_or_none(alloc, top)?;
     Ok(TokenDocument {

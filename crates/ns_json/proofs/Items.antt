@@ -23,7 +23,7 @@ goes_on read done vs i v x total lt is one so_far =
     sym step ∙ so_far
 
 -- what is refused stays refused, whatever would have come after
-fails_on : {A B : Type 0} (e : Refusal) (r : Read A) (after : A → Read B) → Fails e r → Fails e (r >>= after)
+pub fails_on : {A B : Type 0} (e : Refusal) (r : Read A) (after : A → Read B) → Fails e r → Fails e (r >>= after)
 fails_on Refusal.Memory r after h = tt
 fails_on Refusal.BadJson r after h = ap (λ x. x >>= after) h
 fails_on (Refusal.BadField m) r after h = ap (λ x. x >>= after) h

@@ -1,0 +1,110 @@
+-- What is asked comes to, test by test.
+use Rattle.std.specs.Prelude.{◌≡◌, Bool, true, false, Option, Some, None, Result, Err, is_none}
+use Rattle.std.proofs.Common.{refl, ap, sym, subst, ◌∙◌}
+use Rattle.std.specs.Option.{option_map_or}
+use Rattle.std.specs.FinMap.{contains_key, get}
+use Rattle.ns_types.specs.declared.job.Job.{Job}
+use Rattle.ns_types.specs.declared.job.Registration.{Registration}
+use Rattle.ns_types.specs.declared.refusal.Member.TheVariants as Member
+use Rattle.ns_types.specs.declared.refusal.Refusal.{Refusal}
+use Rattle.ns_types.specs.declared.step.AskCommand.{AskCommand}
+use Rattle.ns_types.specs.Access.Sharing.{permits}
+use Rattle.ns_types.specs.Asking.Asks.{ask, asked_in, deregister_job, first_refusal, has_no_room, is_outdated, pool_of, registered_with}
+use Rattle.ns_types.specs.Settling.Outcome.{Outcome, NotEnabled, Refused, Done, found, is_done, refused_by}
+use Rattle.ns_types.specs.State.Names.{Name}
+use Rattle.ns_types.specs.State.Rows.{World, Tenant}
+use Rattle.ns_types.proofs.Lists.{not_both}
+use Rattle.ns_types.proofs.Registrations.{by_tests}
+use Rattle.ns_types.proofs.Tests.{same_Some}
+use Rattle.ns_change.specs.declared.change.Prepared.{Prepared}
+use Rattle.ns_change.specs.Prepared.{Prepares}
+use Rattle.ns_world.specs.declared.tables.Tables.{Tables}
+use Rattle.ns_jobs.specs.Counted.{counted, counted_ask, passes_bound, passes_in}
+use Rattle.ns_jobs.specs.Made.{job_of}
+
+still_refused : (passes : Bool) (o : Outcome World) (r : Refusal) → o ≡ Refused r → counted passes o ≡ Refused r
+still_refused true o r is = ap (counted true) is
+still_refused false o r is = is
+
+then_full : (o : Outcome World) → is_done o ≡ true → counted true o ≡ Refused Refusal.Full
+then_full NotEnabled done = not_both done refl
+then_full (Refused r) done = not_both done refl
+then_full (Done content w) done = refl
+
+module _ (w : World) (ns : Name) (command : AskCommand) where
+  pub nowhere : get w.tenants ns ≡ None → counted_ask ns command w ≡ Refused Refusal.NotFound
+  unfolding ask
+  nowhere is = still_refused (passes_in w ns) _ _ (ap (λ o. found o (asked_in ns command w)) is)
+
+  module _ (t : Tenant) (at : get w.tenants ns ≡ Some t) where
+    asks : ask ns command w ≡ asked_in ns command w t
+    unfolding ask
+    asks = ap (λ o. found o (asked_in ns command w)) at
+
+    passes : passes_in w ns ≡ passes_bound t
+    passes = ap (λ o. option_map_or passes_bound o false) at
+
+    pub refuses : (r : Refusal) → asked_in ns command w t ≡ Refused r → counted_ask ns command w ≡ Refused r
+    refuses r is = still_refused (passes_in w ns) _ r (asks ∙ is)
+
+    pub full : is_done (asked_in ns command w t) ≡ true → passes_bound t ≡ true → counted_ask ns command w ≡ Refused Refusal.Full
+    full done over = (λ i. counted ((passes ∙ over) i) (asks i)) ∙ then_full (asked_in ns command w t) done
+
+    pub stands : passes_bound t ≡ false → counted_ask ns command w ≡ asked_in ns command w t
+    stands fits = λ i. counted ((passes ∙ fits) i) (asks i)
+
+-- want of memory, where the step would be done
+pub out_of_memory : (outcome : Outcome World) (tables : Tables) (r : Result Prepared Refusal) → r ≡ Err Refusal.Memory → is_done outcome ≡ true →
+    Prepares outcome tables r
+out_of_memory outcome tables r e d = subst (Prepares outcome tables) (sym e) d
+
+-- ---- registration
+
+module _ (w : World) (ns : Name) (r : Registration) (t : Tenant) (at : get w.tenants ns ≡ Some t) where
+  abbrev registers_by : Option Refusal → Outcome World
+  registers_by x = refused_by x (registered_with ns r w t (job_of r t))
+
+  -- its first refusal is no want of memory, and it is never out of turn
+  module _ (tables : Tables) (refusal : Refusal) (is : first_refusal w t r ≡ Some refusal) where
+    by : (permitted there outdated full : Bool) → by_tests permitted there outdated full ≡ Some refusal →
+        Prepares (counted_ask ns (AskCommand.Register r) w) tables (Err refusal)
+    by permitted there outdated full e = at_tests permitted there outdated full e
+      where
+        says : (x : Refusal) → Some x ≡ Some refusal → (counted_ask ns (AskCommand.Register r) w ≡ Refused x →
+            Prepares (counted_ask ns (AskCommand.Register r) w) tables (Err x)) → Prepares (counted_ask ns (AskCommand.Register r) w) tables (Err refusal)
+        says x e prepares = subst (λ y. Prepares (counted_ask ns (AskCommand.Register r) w) tables (Err y)) (same_Some x refusal e)
+            (prepares (refuses w ns (AskCommand.Register r) t at x (ap registers_by (is ∙ sym e))))
+
+        at_tests : (permitted there outdated full : Bool) → by_tests permitted there outdated full ≡ Some refusal →
+            Prepares (counted_ask ns (AskCommand.Register r) w) tables (Err refusal)
+        at_tests false b c d e = says Refusal.PoolNotPermitted e (λ h. h)
+        at_tests true false c d e = says (Refusal.BadField Member.NodePool) e (λ h. h)
+        at_tests true true true d e = says Refusal.Conflict e (λ h. h)
+        at_tests true true false true e = says Refusal.Full e (λ h. h)
+        at_tests true true false false e = not_both refl (ap is_none e)
+
+    pub register_refused : Prepares (counted_ask ns (AskCommand.Register r) w) tables (Err refusal)
+    register_refused = by (permits t.namespace (pool_of t r)) (contains_key w.pools (pool_of t r)) (is_outdated r t) (has_no_room r t) is
+
+  module _ (none : first_refusal w t r ≡ None) where
+    pub register_full : passes_bound t ≡ true → counted_ask ns (AskCommand.Register r) w ≡ Refused Refusal.Full
+    register_full = full w ns (AskCommand.Register r) t at (ap (λ x. is_done (registers_by x)) none)
+
+    pub registers : passes_bound t ≡ false → counted_ask ns (AskCommand.Register r) w ≡ registered_with ns r w t (job_of r t)
+    registers fits = stands w ns (AskCommand.Register r) t at fits ∙ ap registers_by none
+
+-- ---- deregistration
+
+module _ (w : World) (ns id : Name) (purge : Bool) (t : Tenant) (at : get w.tenants ns ≡ Some t) where
+  abbrev deregisters_at : Option Job → Outcome World
+  deregisters_at job = found job (deregister_job ns id purge w t)
+
+  pub no_job : get t.jobs id ≡ None → counted_ask ns (AskCommand.Deregister id purge) w ≡ Refused Refusal.NotFound
+  no_job none = refuses w ns (AskCommand.Deregister id purge) t at Refusal.NotFound (ap deregisters_at none)
+
+  module _ (job : Job) (there : get t.jobs id ≡ Some job) where
+    pub deregister_full : passes_bound t ≡ true → counted_ask ns (AskCommand.Deregister id purge) w ≡ Refused Refusal.Full
+    deregister_full = full w ns (AskCommand.Deregister id purge) t at (ap (λ job. is_done (deregisters_at job)) there)
+
+    pub deregisters : passes_bound t ≡ false → counted_ask ns (AskCommand.Deregister id purge) w ≡ deregister_job ns id purge w t job
+    deregisters fits = stands w ns (AskCommand.Deregister id purge) t at fits ∙ ap deregisters_at there

@@ -1,0 +1,47 @@
+-- The counters that a step raises in a namespace, and what it is where one of them is at its bound.
+use Rattle.std.specs.Prelude.{◌≡◌, ◌+◌, ◌≤◌, Bool, true, false, ◌||◌, Option, Some, None, nat_lt}
+use Rattle.std.specs.Option.{option_map_or}
+use Rattle.std.specs.FinMap.{get}
+use Rattle.ns_types.specs.declared.job.Job.{Job}
+use Rattle.ns_types.specs.declared.refusal.Refusal.TheVariants as Refusal
+use Rattle.ns_types.specs.declared.step.AskCommand.{AskCommand}
+use Rattle.ns_types.specs.Asking.Asks.{ask}
+use Rattle.ns_types.specs.Settling.Outcome.{Outcome, Refused, Done}
+use Rattle.ns_types.specs.State.Names.{Name}
+use Rattle.ns_types.specs.State.Rows.{World, Tenant}
+use Rattle.ns_types.specs.Steps.{greatest}
+use Rattle.ns_jobs.specs.declared.making.Numbers.{Numbers}
+
+-- the namespace's next index, or the number of its next evaluation, would pass its bound
+abbrev pub passes_bound : Tenant → Bool
+passes_bound t = nat_lt greatest (t.index + 1) || nat_lt greatest (t.evaluation_number + 1)
+
+-- a namespace that is not there has no counters
+abbrev pub passes_in : World → Name → Bool
+passes_in w ns = option_map_or passes_bound (get w.tenants ns) false
+
+-- where a counter would pass its bound, what would be done is refused, after all else
+abbrev pub counted : Bool → Outcome World → Outcome World
+counted true (Done content w) = Refused Refusal.Full
+counted passes outcome = outcome
+
+-- what is asked, with an evaluation to be made
+abbrev pub counted_ask : Name → AskCommand → World → Outcome World
+counted_ask ns command w = counted (passes_in w ns) (ask ns command w)
+
+-- the numbers that come next, and they can be given
+pub record IsNext (t : Tenant) (numbers : Numbers) : Type 0 where
+  pub fits : passes_bound t ≡ false
+  pub evaluation : numbers.evaluation ≡ t.evaluation_number + 1
+  pub index : numbers.index ≡ t.index + 1
+
+abbrev pub NextNumbers : Tenant → Option Numbers → Type 0
+NextNumbers t None = passes_bound t ≡ true
+NextNumbers t (Some numbers) = IsNext t numbers
+
+-- a job has at most as many versions as its namespace has had changes
+abbrev pub HasFewVersions : Tenant → Type 0
+HasFewVersions t = (id : Name) (job : Job) → get t.jobs id ≡ Some job → job.version ≤ t.index
+
+abbrev pub HasFewVersionsIn : World → Name → Type 0
+HasFewVersionsIn w ns = (t : Tenant) → get w.tenants ns ≡ Some t → HasFewVersions t

@@ -1,0 +1,122 @@
+//! A job that is stopped, or removed.
+
+ghost use Rattle.std.specs.Prelude.{◌≡◌, ◌+◌, IfOk, Some, false, true};
+ghost use Rattle.keyed.specs.Table.{row_at};
+ghost use Rattle.ns_types.specs.declared.step.AskCommand.TheVariants as AskCommand;
+ghost use Rattle.ns_types.specs.Asking.Asks.{deregister_job, stopped_job};
+ghost use Rattle.ns_change.specs.Prepared.{Prepares};
+ghost use Rattle.ns_jobs.specs.Counted.{IsNext, counted_ask};
+ghost use Rattle.ns_jobs.specs.Made.{IsDone};
+ghost use Rattle.ns_world.specs.World.{tenant_of, world_of};
+
+use crate::making::{self, Numbers, next_numbers, put_and_make, remove_and_make};
+use ns_change::Prepared;
+use ns_types::evaluation::Trigger;
+use ns_types::job::Job;
+use ns_types::refusal::Refusal;
+use ns_types::reply::Content;
+use ns_types::text::Text;
+use ns_world::{Tables, TenantRows};
+use std::alloc::AllocError;
+
+/// The job as it is once it is stopped. One that was stopped before stays as it is.
+fn stopped_job(index: u64, job: &Job) -> Result<Job, AllocError>
+    ensures { IfOk result (λ stopped. stopped ≡ stopped_job index job.now) }
+{
+    let mut stopped = job.clone()?;
+    if !job.stop {
+        stopped.stop = true;
+        stopped.modify_index = index;
+    }
+    Ok(stopped)
+}
+
+/// What a deregistration answers and changes that stops the job.
+fn stopped(
+    tables: &Tables,
+    namespace: &Text,
+    tenant: &TenantRows,
+    id: &Text,
+    job: &Job,
+    numbers: Numbers,
+) -> Result<Prepared, AllocError>
+    requires tenant { row_at tables.now.tenants namespace.now ≡ Some tenant.now }
+    requires numbers { IsNext (tenant_of tenant.now) numbers }
+    ensures { let t = tenant_of tenant.now in
+        let done = deregister_job namespace.now id.now false (world_of tables.now) t job.now in
+        IfOk result (IsDone done tables.now) }
+{
+    let job = stopped_job(numbers.index, job)?;
+    let content = Content::Registered(numbers.evaluation, numbers.index, job.modify_index);
+    let change = put_and_make(tables, namespace, id, job, Trigger::JobDeregister)?;
+    Ok(Prepared { content, change })
+}
+
+/// What a deregistration answers and changes that removes the job.
+fn removed(
+    tables: &Tables,
+    namespace: &Text,
+    tenant: &TenantRows,
+    id: &Text,
+    job: &Job,
+    numbers: Numbers,
+) -> Result<Prepared, AllocError>
+    requires tenant { row_at tables.now.tenants namespace.now ≡ Some tenant.now }
+    requires numbers { IsNext (tenant_of tenant.now) numbers }
+    ensures { let t = tenant_of tenant.now in
+        let done = deregister_job namespace.now id.now true (world_of tables.now) t job.now in
+        IfOk result (IsDone done tables.now) }
+{
+    let content = Content::Registered(numbers.evaluation, numbers.index, numbers.index);
+    let change = remove_and_make(tables, namespace, id, &job.document, Trigger::JobDeregister)?;
+    Ok(Prepared { content, change })
+}
+
+/// What a deregistration answers and changes that nothing refuses.
+fn deregistered(
+    tables: &Tables,
+    namespace: &Text,
+    tenant: &TenantRows,
+    id: &Text,
+    job: &Job,
+    purge: bool,
+    numbers: Numbers,
+) -> Result<Prepared, AllocError>
+    requires tenant { row_at tables.now.tenants namespace.now ≡ Some tenant.now }
+    requires numbers { IsNext (tenant_of tenant.now) numbers }
+    ensures { let t = tenant_of tenant.now in
+        let done = deregister_job namespace.now id.now purge (world_of tables.now) t job.now in
+        IfOk result (IsDone done tables.now) }
+{
+    if purge {
+        removed(tables, namespace, tenant, id, job, numbers)
+    } else {
+        stopped(tables, namespace, tenant, id, job, numbers)
+    }
+}
+
+/// A job is stopped, or with `purge` removed, and an evaluation of it is made.
+///
+/// `NotFound`: there is no such namespace, or no such job in it. `Full`: the namespace's index or the number of its
+/// evaluations is at its bound. In this order.
+pub fn deregister(
+    tables: &Tables,
+    namespace: &Text,
+    id: &Text,
+    purge: bool,
+) -> Result<Prepared, Refusal>
+    ensures { let command = AskCommand.Deregister id.now purge in
+        Prepares (counted_ask namespace.now command (world_of tables.now)) tables.now result }
+{
+    let Some(tenant) = tables.tenants.get(namespace) else {
+        return Err(Refusal::NotFound);
+    };
+    let Some(job) = making::job(tenant, id) else {
+        return Err(Refusal::NotFound);
+    };
+    let Some(numbers) = next_numbers(tenant) else {
+        return Err(Refusal::Full);
+    };
+    let prepared = deregistered(tables, namespace, tenant, id, job, purge, numbers)?;
+    Ok(prepared)
+}

@@ -1,0 +1,109 @@
+//! A job that is put or taken away, and the evaluation that is made of it.
+
+ghost use Rattle.std.specs.Prelude.{◌≡◌, IfOk, option_copied};
+ghost use Rattle.std.specs.FinMap.{get};
+ghost use Rattle.ns_types.specs.Settling.Making.{evaluation_of, with_job};
+ghost use Rattle.ns_change.specs.Changed.{HasEvaluationLeft, view, without_job};
+ghost use Rattle.ns_jobs.specs.Counted.{NextNumbers};
+ghost use Rattle.ns_jobs.specs.Made.{with_made};
+ghost use Rattle.ns_world.specs.World.{tenant_of, world_of};
+
+use ns_change::{Change, make, put_job, remove_job};
+use ns_types::evaluation::{Evaluation, Status, Trigger};
+use ns_types::job::{Document, Job};
+use ns_types::rows::Rows;
+use ns_types::text::Text;
+use ns_world::{Tables, TenantRows};
+use std::alloc::{AllocError, Global};
+
+/// The numbers that a step gives in a namespace: that of the evaluation that it makes, and its index.
+#[derive(Clone, Copy)]
+pub(crate) struct Numbers {
+    pub evaluation: u64,
+    pub index: u64,
+}
+
+/// The namespace's next numbers. None: one of them would pass its bound.
+pub(crate) fn next_numbers(tenant: &TenantRows) -> Option<Numbers>
+    ensures { NextNumbers (tenant_of tenant.now) result }
+{
+    if tenant.index == u64::MAX || tenant.evaluation_number == u64::MAX {
+        return None;
+    }
+    Some(Numbers {
+        evaluation: tenant.evaluation_number + 1,
+        index: tenant.index + 1,
+    })
+}
+
+/// The job of that id.
+pub(crate) fn job<'a>(tenant: &'a TenantRows, id: &Text) -> Option<&'a Job>
+    ensures { option_copied result ≡ get (tenant_of tenant.now).jobs id.now }
+{
+    tenant.jobs.get(id)
+}
+
+/// An evaluation of the job, with its type, priority and pool.
+pub(crate) fn evaluation_of(
+    alloc: Global,
+    id: &Text,
+    document: &Document,
+    trigger: Trigger,
+) -> Result<Evaluation, AllocError>
+    ensures { IfOk result (λ made. made ≡ evaluation_of id.now document.now trigger) }
+{
+    Ok(Evaluation {
+        job: id.clone()?,
+        kind: document.kind,
+        priority: document.priority,
+        pool: document.pool.clone()?,
+        trigger,
+        status: Status::Pending,
+        previous: None,
+        follower: None,
+        quota: None,
+        escapes: false,
+        infeasible: Rows::new(alloc),
+        nacks: 0,
+        create_index: 0,
+        modify_index: 0,
+    })
+}
+
+/// The job is put, and an evaluation of it is made.
+pub(crate) fn put_and_make(
+    tables: &Tables,
+    namespace: &Text,
+    id: &Text,
+    job: Job,
+    trigger: Trigger,
+) -> Result<Change, AllocError>
+    requires { HasEvaluationLeft (world_of tables.now) namespace.now }
+    ensures { IfOk result (λ change. view tables.now change ≡ with_made namespace.now
+        (with_job id.now job) (evaluation_of id.now job.document trigger) (world_of tables.now)) }
+{
+    let evaluation = evaluation_of(tables.alloc, id, &job.document, trigger)?;
+    let mut change = Change::new(tables.alloc);
+    put_job(tables, &mut change, namespace, id, job)?;
+    make(tables, &mut change, namespace, evaluation)?;
+    Ok(change)
+}
+
+/// The job is taken away, and an evaluation of it is made, with its document as it was.
+pub(crate) fn remove_and_make(
+    tables: &Tables,
+    namespace: &Text,
+    id: &Text,
+    document: &Document,
+    trigger: Trigger,
+) -> Result<Change, AllocError>
+    requires { HasEvaluationLeft (world_of tables.now) namespace.now }
+    ensures { IfOk result (λ change. view tables.now change ≡ with_made namespace.now
+        (without_job id.now) (evaluation_of id.now document.now trigger) (world_of tables.now)) }
+{
+    let evaluation = evaluation_of(tables.alloc, id, document, trigger)?;
+    let mut change = Change::new(tables.alloc);
+    remove_job(tables, &mut change, namespace, id)?;
+    make(tables, &mut change, namespace, evaluation)?;
+    Ok(change)
+}
