@@ -27,7 +27,8 @@ use Rattle.ns_types.specs.Asking.Admins.{is_relimited}
 use Rattle.ns_steps.specs.Early.{IsEarly}
 use Rattle.ns_steps.proofs.Registering.{all_within}
 use Rattle.ns_steps.proofs.Resting.{Rests}
-use Rattle.ns_core.specs.Held.{HasFewVersions, IsHeld}
+use Rattle.ns_core.specs.Held.{IsHeld}
+use Rattle.ns_jobs.specs.Counted.{HasFewVersions}
 use Rattle.ns_admin.specs.Viewed.{is_exhausted}
 use Rattle.ns_core.specs.Viewed.{exhausts}
 

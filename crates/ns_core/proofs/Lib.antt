@@ -2,3 +2,5 @@ pub mod Answering
 pub mod Opening
 pub mod Changing
 pub mod Quotas
+pub mod Preparing
+pub mod Registering

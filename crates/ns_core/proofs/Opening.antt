@@ -11,7 +11,8 @@ use Rattle.ns_steps.proofs.Early.{opening_early}
 use Rattle.ns_types.proofs.Tests.{same_Some}
 use Rattle.ns_world.specs.declared.tables.Tables.{Tables}
 use Rattle.ns_world.specs.World.{world_of}
-use Rattle.ns_core.specs.Held.{HasFewVersions, IsHeld}
+use Rattle.ns_core.specs.Held.{IsHeld}
+use Rattle.ns_jobs.specs.Counted.{HasFewVersions}
 
 pub opening_parts : (secret : Name) (acl : Acl) (tables : Tables) → acl ≡ opening_acl secret → world_of tables ≡ opening_world →
     record { acl = acl; world = world_of tables } ≡ opening secret

@@ -1,3 +1,4 @@
 pub mod Answering
+pub mod Concluded
 pub mod Held
 pub mod Viewed
