@@ -88,7 +88,7 @@ module _ (w : World) where
   same_quota : (name : Name) (q : QuotaRows) → get w.quotas name ≡ Some q → IsQuotaOf (get w.quotas name) q
   same_quota name q is = subst (λ o. IsQuotaOf o q) (sym is) refl
 
-  limits_kept : (name : Name) (q : QuotaRows) → get w.quotas name ≡ Some q → option_map_or (λ old. changes_limits old q) (get w.quotas name) false ≡ false
+  pub limits_kept : (name : Name) (q : QuotaRows) → get w.quotas name ≡ Some q → option_map_or (λ old. changes_limits old q) (get w.quotas name) false ≡ false
   limits_kept name q is = ap (λ o. option_map_or (λ old. changes_limits old q) o false) is ∙ ap not (same_limits_refl (limits_in q.quota.limits))
 
   pub nothing_changes : (others : Bool) → Left others w w
@@ -137,7 +137,7 @@ module _ (w : World) where
     is_of_quota None = refl
     is_of_quota (Some q) = refl
 
-    put_quota_rests : Rests w (record w { quotas = insert w.quotas name (with_quota quota (get w.quotas name)) })
+    pub put_quota_rests : Rests w (record w { quotas = insert w.quotas name (with_quota quota (get w.quotas name)) })
     put_quota_rests = record {
       tenant = same_tenant;
       gone = none_gone;

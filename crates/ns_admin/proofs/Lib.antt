@@ -3,6 +3,7 @@ pub mod Begun
 pub mod Concluding
 pub mod Holdings
 pub mod Listing
+pub mod Relimiting
 pub mod Resting
 pub mod Sharers
 pub mod Shown

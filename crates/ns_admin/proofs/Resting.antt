@@ -82,7 +82,7 @@ module _ (w w' : World) (rests : Rests w w') where
   classes_none name p' is = ap (λ es. map (λ e. class_of e.1) es)
       (filter_no_row names one_name (gives_room w w' name) p'.nodes (λ n node at. gives_none name p' n node is at))
 
-  classes_of_none : (name : Name) → classes_of w w' name ≡ []
+  pub classes_of_none : (name : Name) → classes_of w w' name ≡ []
   classes_of_none name = by (get w'.pools name) refl
     where
       by : (o : Option PoolRows) → get w'.pools name ≡ o → option_map_or (released_classes w w' name) o [] ≡ []

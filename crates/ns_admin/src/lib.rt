@@ -10,9 +10,13 @@ mod namespaces;
 mod pools;
 mod quotas;
 mod sharing;
+#[cfg(test)]
+mod tests;
 
 pub use beginning::opening;
-pub use laws::{administration_makes, administration_settles, administration_stays_within};
+pub use laws::{
+    administration_makes, administration_settles, administration_stays_within, quota_put_settles,
+};
 pub use lists::{list_namespaces, list_pools, list_quotas};
 pub use looking::{is_confined_in, permits_in, shares};
 pub use namespaces::{delete_namespace, put_namespace};

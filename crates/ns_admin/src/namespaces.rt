@@ -101,7 +101,8 @@ pub fn put_namespace(
     name: &Text,
     namespace: &Namespace,
 ) -> Result<Content, Refusal>
-    ensures { ChangesTables (put_namespace name.now namespace.now) tables.old result tables.new }
+    ensures made { ChangesTables (put_namespace name.now namespace.now) tables.old result tables.new }
+    ensures refused { OnErr result (tables.new ≡ tables.old) }
 {
     if lacks_quota(tables, namespace) {
         return Err(Refusal::BadField(Member::Quota));
@@ -125,7 +126,8 @@ pub fn put_namespace(
 /// Deletes the namespace with all that it owns. One that is not there is `NotFound`, and `default` and one that has a
 /// job, an open evaluation or a live allocation are `InUse`.
 pub fn delete_namespace(tables: &mut Tables, name: &Text) -> Result<Content, Refusal>
-    ensures { ChangesTables (delete_namespace name.now) tables.old result tables.new }
+    ensures made { ChangesTables (delete_namespace name.now) tables.old result tables.new }
+    ensures refused { OnErr result (tables.new ≡ tables.old) }
 {
     let Some(tenant) = tables.tenants.get(name) else {
         return Err(Refusal::NotFound);

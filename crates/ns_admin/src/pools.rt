@@ -82,7 +82,8 @@ fn write_pool(tables: &mut Tables, name: &Text, pool: &Pool) -> Result<(), Alloc
 /// Makes the pool, or writes its record in place of the old one: its nodes and the numbers of its releases stay.
 /// `Full` is the only refusal beside want of memory.
 pub fn put_pool(tables: &mut Tables, name: &Text, pool: &Pool) -> Result<Content, Refusal>
-    ensures { ChangesTables (put_pool_record name.now pool.now) tables.old result tables.new }
+    ensures made { ChangesTables (put_pool_record name.now pool.now) tables.old result tables.new }
+    ensures refused { OnErr result (tables.new ≡ tables.old) }
 {
     if is_full(&tables.pools, name) {
         return Err(Refusal::Full);
@@ -94,7 +95,8 @@ pub fn put_pool(tables: &mut Tables, name: &Text, pool: &Pool) -> Result<Content
 /// Deletes the pool. One that is not there is `NotFound`, and `default`, one that has a node and one that is named are
 /// `InUse`.
 pub fn delete_pool(tables: &mut Tables, name: &Text) -> Result<Content, Refusal>
-    ensures { ChangesTables (delete_pool name.now) tables.old result tables.new }
+    ensures made { ChangesTables (delete_pool name.now) tables.old result tables.new }
+    ensures refused { OnErr result (tables.new ≡ tables.old) }
 {
     let Some(pool) = tables.pools.get(name) else {
         return Err(Refusal::NotFound);

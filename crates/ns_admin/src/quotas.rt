@@ -90,7 +90,8 @@ fn write_quota(tables: &mut Tables, name: &Text, quota: &Quota) -> Result<(), Al
 /// Makes the quota, or writes its record in place of the old one. Its release number stays.
 /// `Full` is the only refusal beside want of memory.
 pub fn put_quota(tables: &mut Tables, name: &Text, quota: &Quota) -> Result<Content, Refusal>
-    ensures { ChangesTables (put_quota name.now quota.now) tables.old result tables.new }
+    ensures made { ChangesTables (put_quota name.now quota.now) tables.old result tables.new }
+    ensures refused { OnErr result (tables.new ≡ tables.old) }
 {
     if is_full(&tables.quotas, name) {
         return Err(Refusal::Full);
@@ -101,7 +102,8 @@ pub fn put_quota(tables: &mut Tables, name: &Text, quota: &Quota) -> Result<Cont
 
 /// Deletes the quota. One that is not there is `NotFound`, and one that a namespace names is `InUse`.
 pub fn delete_quota(tables: &mut Tables, name: &Text) -> Result<Content, Refusal>
-    ensures { ChangesTables (delete_quota name.now) tables.old result tables.new }
+    ensures made { ChangesTables (delete_quota name.now) tables.old result tables.new }
+    ensures refused { OnErr result (tables.new ≡ tables.old) }
 {
     if !tables.has_quota(name) {
         return Err(Refusal::NotFound);

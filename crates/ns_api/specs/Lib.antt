@@ -1,4 +1,5 @@
 pub mod Asking
+pub mod Telling
 pub mod Wanted
 pub mod Drawing
 pub mod Rooms

@@ -1,30 +1,23 @@
 -- When a worker may take an evaluation, and what it changes.
-use Rattle.std.specs.Prelude.{◌≡◌, ℕ, Bool, true, false, cond, ◌&&◌, not, nat_lt, List, Option, Some, None, is_some, Result, Err}
-use Rattle.std.proofs.Common.{refl, ap, sym, subst, ◌∙◌}
+use Rattle.std.specs.Prelude.{◌≡◌, ℕ, true, false, cond, not, Option, Some, None, is_some}
+use Rattle.std.proofs.Common.{refl, ap, sym, ◌∙◌}
 use Rattle.std.specs.Option.{option_and_then, option_map_or}
 use Rattle.std.specs.List.{list_any}
 use Rattle.std.specs.FinMap.{contains_key, entries, get}
-use Rattle.keyed.specs.Table.{at_slot, row_at, rows}
+use Rattle.keyed.specs.Table.{at_slot}
 use Rattle.keyed.proofs.Tables.{get-rows}
 use Rattle.keyed.proofs.Viewing.{any_row-table_of}
 use Rattle.ns_types.specs.declared.evaluation.Evaluation.{Evaluation}
-use Rattle.ns_types.specs.declared.refusal.Refusal.{Refusal}
-use Rattle.ns_types.specs.declared.refusal.Refusal.TheVariants as Refusal
 use Rattle.ns_types.specs.declared.reply.Content.TheVariants as Content
-use Rattle.ns_types.proofs.Elements.{any_map}
 use Rattle.ns_types.proofs.Named.{numbers}
 use Rattle.ns_types.proofs.Tests.{not_Some}
-use Rattle.ns_types.proofs.Tables.{entries-table_of}
 use Rattle.ns_types.specs.Settling.Making.{change_tenant, put_tenant}
-use Rattle.ns_types.specs.Settling.Outcome.{Outcome, NotEnabled, Done, is_done}
-use Rattle.ns_types.specs.State.Names.{Key, Name, name_cmp}
+use Rattle.ns_types.specs.Settling.Outcome.{NotEnabled, Done}
+use Rattle.ns_types.specs.State.Names.{Key, Name}
 use Rattle.ns_types.specs.State.Rows.{World, Tenant, evaluation_at}
-use Rattle.ns_types.specs.State.Tables.{any_row, table_of}
 use Rattle.ns_types.specs.Working.Work.{dequeue, dequeue_in, is_idle, new_worker, taken, with_worker}
 use Rattle.ns_broker.specs.Serving.{is_busy_for, may_dequeue}
-use Rattle.ns_change.specs.declared.change.Prepared.{Prepared}
 use Rattle.ns_change.specs.Changed.{without_ready}
-use Rattle.ns_change.specs.Prepared.{Prepares}
 use Rattle.ns_world.specs.declared.tables.Tables.{Tables}
 use Rattle.ns_world.specs.declared.tables.TenantRows.{TenantRows}
 use Rattle.ns_world.specs.World.{tenant_of, world_of}
@@ -60,7 +53,3 @@ module _ (number : ℕ) (key : Key) (w : World) where
           ≡ Done (Content.Took key.1) (without_ready key (option_map_or (λ t. put_tenant key.0 (with_worker number (new_worker key.1 e) t) w) r w))
       by None at is = absurd (not_Some e is)
       by (Some t) at is = ap (λ e. option_map_or (λ e. Done (Content.Took key.1) (taken number key w t e)) e NotEnabled) is
-
-pub out_of_memory : (outcome : Outcome World) (t : Tables) (r : Result Prepared Refusal) → r ≡ Err Refusal.Memory → is_done outcome ≡ true →
-    Prepares outcome t r
-out_of_memory outcome t r e d = subst (Prepares outcome t) (sym e) d

@@ -1,2 +1,4 @@
 pub mod Dequeued
+pub mod Looked
+pub mod Nacked
 pub mod Preferred

@@ -1,10 +1,13 @@
 -- Which evaluation is served, step by step along a list, and when a worker may take one.
 use Rattle.std.specs.Prelude.{ℕ, Bool, ◌&&◌, if◌then◌else◌, Option, Some, None, nat_le, nat_lt, is_some}
 use Rattle.keyed.specs.Table.{at_slot, row_at}
+use Rattle.ns_types.specs.declared.evaluation.Evaluation.{Evaluation}
+use Rattle.ns_types.specs.Settling.Making.{change_tenant}
 use Rattle.ns_types.specs.State.Names.{Key, Name}
 use Rattle.ns_types.specs.State.Rows.{World}
 use Rattle.ns_types.specs.Working.Queue.{is_served}
-use Rattle.ns_types.specs.Working.Work.{is_idle, workers_end}
+use Rattle.ns_types.specs.Working.Work.{is_idle, new_worker, with_worker, workers_end}
+use Rattle.ns_change.specs.Changed.{without_ready}
 use Rattle.ns_world.specs.declared.tables.TenantRows.{TenantRows}
 
 -- the later one is preferred only where its priority is greater
@@ -19,3 +22,7 @@ is_busy_for number = at_slot (λ e. is_some (row_at e.1.workers number))
 -- there is such a worker, it has no evaluation, and that one is served next
 abbrev pub may_dequeue : ℕ → Key → World → Bool
 may_dequeue number key w = nat_lt number workers_end && is_idle w number && is_served w w.ready key
+
+-- the worker has the evaluation, which is no longer ready
+abbrev pub take : ℕ → Key → Evaluation → World → World
+take number key e w = without_ready key (change_tenant key.0 (with_worker number (new_worker key.1 e)) w)

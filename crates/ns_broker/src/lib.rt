@@ -2,8 +2,12 @@
 //! Each step is a command over the tables: what it answers and changes, or that it is not enabled.
 #![tactic(auto)]
 
+mod looking;
+mod nacking;
 mod serving;
 mod taking;
 
+pub use looking::{first_plan, row_of, served_ready, worker_at};
+pub use nacking::nack;
 pub use serving::served;
 pub use taking::dequeue;

@@ -3,12 +3,13 @@
 ghost use Rattle.std.specs.Prelude.{◌≡◌, nat_lt};
 ghost use Rattle.std.specs.List.{list_any};
 ghost use Rattle.ns_types.specs.Working.Work.{dequeue, is_idle, new_worker, tries_for, workers_end};
-ghost use Rattle.ns_broker.specs.Serving.{is_busy_for, may_dequeue};
+ghost use Rattle.ns_broker.specs.Serving.{is_busy_for, may_dequeue, take};
+ghost use Rattle.ns_change.specs.Changed.{Does};
 ghost use Rattle.ns_change.specs.Prepared.{Prepares};
 ghost use Rattle.ns_world.specs.World.{world_of};
 
 use crate::serving::is_served;
-use ns_change::{Change, Prepared, put_row, take_ready};
+use ns_change::{Change, Prepared, prepare, put_row, take_ready};
 use ns_types::evaluation::Evaluation;
 use ns_types::job::JobKind;
 use ns_types::key::EvalKey;
@@ -17,15 +18,16 @@ use ns_types::reply::Content;
 use ns_types::text::Text;
 use ns_types::worker::{Phase, Worker};
 use ns_world::{Tables, TenantRows};
+use std::alloc::AllocError;
 
 /// How many workers there are: their numbers are less than this.
 const WORKERS: u64 = 64;
 
 /// A namespace with what it owns, or a vacant slot.
-type TenantSlot = (Text, Option<TenantRows>);
+pub(crate) type TenantSlot = (Text, Option<TenantRows>);
 
 /// Whether the worker has an evaluation of the namespace.
-fn is_busy_for(slot: &TenantSlot, number: u64) -> bool
+pub(crate) fn is_busy_for(slot: &TenantSlot, number: u64) -> bool
     ensures { result ≡ is_busy_for number slot.now }
 {
     match &slot.1 {
@@ -89,7 +91,23 @@ fn may_dequeue(tables: &Tables, number: u64, key: &EvalKey) -> bool
     is_served(tables, tables.ready.as_slice(), key)
 }
 
-/// The worker takes the evaluation, which is served next and is no longer ready then.
+/// The worker has the evaluation, which is no longer ready.
+fn take(
+    tables: &Tables,
+    change: &mut Change,
+    number: u64,
+    key: &EvalKey,
+    row: &Evaluation,
+) -> Result<(), AllocError>
+    ensures { Does result tables.now change.old change.new (take number key.now row.now) }
+{
+    let worker = new_worker(key.number(), row);
+    put_row(tables, change, key.namespace(), number, worker)?;
+    take_ready(tables.alloc, change, key)
+}
+
+/// The worker takes the evaluation, which is served next and is no longer ready then. `NotEnabled`: there is no such
+/// worker, it has an evaluation, or another one is served next.
 pub fn dequeue(tables: &Tables, number: u64, key: &EvalKey) -> Result<Prepared, Refusal>
     ensures { Prepares (dequeue number key.now (world_of tables.now)) tables.now result }
 {
@@ -100,11 +118,6 @@ pub fn dequeue(tables: &Tables, number: u64, key: &EvalKey) -> Result<Prepared, 
         return Err(Refusal::NotEnabled);
     };
     let mut change = Change::new(tables.alloc);
-    let worker = new_worker(key.number(), row);
-    put_row(tables, &mut change, key.namespace(), number, worker)?;
-    take_ready(tables.alloc, &mut change, key)?;
-    Ok(Prepared {
-        content: Content::Took(key.number()),
-        change,
-    })
+    let made = take(tables, &mut change, number, key, row);
+    prepare(Content::Took(key.number()), change, made)
 }

@@ -6,5 +6,6 @@ pub mod Opening
 pub mod Pools
 pub mod Prepares
 pub mod Seen
+pub mod Twice
 pub mod Waiting
 pub mod Waking

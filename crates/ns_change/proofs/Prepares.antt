@@ -6,10 +6,9 @@ use Rattle.ns_types.specs.Settling.Outcome.{Outcome, is_done}
 use Rattle.ns_types.specs.State.Rows.{World}
 use Rattle.ns_change.specs.declared.change.Change.{Change}
 use Rattle.ns_change.specs.declared.change.Prepared.{Prepared}
-use Rattle.ns_change.specs.Changed.{Does, view}
+use Rattle.ns_change.specs.Changed.{view}
 use Rattle.ns_change.specs.Prepared.{Prepares}
 use Rattle.ns_world.specs.declared.tables.Tables.{Tables}
-use Rattle.ns_world.specs.World.{world_of}
 
 -- want of memory, where the command would have been made
 pub out_of_memory : (outcome : Outcome World) (t : Tables) (r : Result Prepared Refusal) → r ≡ Err Refusal.Memory → is_done outcome ≡ true →
@@ -20,7 +19,6 @@ out_of_memory outcome t r e d = subst (Prepares outcome t) (sym e) d
 pub prepares_as : (outcome same : Outcome World) (t : Tables) (r : Result Prepared Refusal) → same ≡ outcome → Prepares outcome t r → Prepares same t r
 prepares_as outcome same t r e p = subst (λ o. Prepares o t r) (sym e) p
 
--- what is made of a change of nothing is made of the world that the tables hold
-pub done_first : {A E : Type 0} (r : Result A E) (t : Tables) (first after : Change) (f : World → World) → view t first ≡ world_of t →
-    Does r t first after f → OnOk r (view t after ≡ f (world_of t))
-done_first r t first after f is = let P : World → Type 0 = λ w. OnOk r (view t after ≡ f w) in subst P is
+-- where it is done, the same world in another form
+pub done_as : {A E : Type 0} (r : Result A E) (t : Tables) (after : Change) (x y : World) → x ≡ y → OnOk r (view t after ≡ x) → OnOk r (view t after ≡ y)
+done_as r t after x y same = let P : World → Type 0 = λ w. OnOk r (view t after ≡ w) in subst P same

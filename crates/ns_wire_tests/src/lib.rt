@@ -12,6 +12,8 @@ mod json;
 #[cfg(test)]
 mod longest;
 #[cfg(test)]
+mod nodes;
+#[cfg(test)]
 mod policy;
 #[cfg(test)]
 mod repeated;

@@ -8,33 +8,33 @@ use Rattle.ns_types.proofs.Outcomes.{found_none, found_some, unless_not, unless_
 use Rattle.ns_admin.proofs.World.{tenant_is, tenant_removed}
 use Rattle.ns_admin.proofs.namespaces.delete_namespace.Goals as goal
 
-pub returns-in_default : goal.returns-in_default
+pub returns-in_default-clause-made : goal.returns-in_default-clause-made
 unfolding delete_namespace
-returns-in_default c = (
+returns-in_default-clause-made c = (
   found_none _ _ (tenant_is c.args.tables.now c.args.name.now None (sym c.get.ensures ∙ ap option_copied c.in_default.is)),
   refl,
 )
 
-pub returns-then-is_default : goal.returns-then-is_default
+pub returns-then-is_default-clause-made : goal.returns-then-is_default-clause-made
 unfolding delete_namespace
-returns-then-is_default c = (
+returns-then-is_default-clause-made c = (
   found_some _ _ _ (tenant_is c.args.tables.now c.args.name.now (Some c.in-Some.tenant.now) (sym c.get.ensures ∙ ap option_copied c.in-Some.is))
       ∙ unless_so _ _ _ (sym c.is_default.ensures ∙ c.if-is_default.true),
   refl,
 )
 
-pub returns-then-has_work : goal.returns-then-has_work
+pub returns-then-has_work-clause-made : goal.returns-then-has_work-clause-made
 unfolding delete_namespace
-returns-then-has_work c = (
+returns-then-has_work-clause-made c = (
   found_some _ _ _ (tenant_is c.args.tables.now c.args.name.now (Some c.in-Some.tenant.now) (sym c.get.ensures ∙ ap option_copied c.in-Some.is))
       ∙ unless_not _ _ _ (sym c.is_default.ensures ∙ c.if-is_default.false)
       ∙ unless_so _ _ _ (sym c.has_work.ensures ∙ c.if-has_work.true),
   refl,
 )
 
-pub returns : goal.returns
+pub returns-clause-made : goal.returns-clause-made
 unfolding delete_namespace
-returns c =
+returns-clause-made c =
     found_some _ _ _ (tenant_is c.args.tables.now c.args.name.now (Some c.in-Some.tenant.now) (sym c.get.ensures ∙ ap option_copied c.in-Some.is))
     ∙ unless_not _ _ _ (sym c.is_default.ensures ∙ c.if-is_default.false)
     ∙ unless_not _ _ _ (sym c.has_work.ensures ∙ c.if-has_work.false)

@@ -8,30 +8,30 @@ use Rattle.ns_types.proofs.Outcomes.{memory_last, unless_not, unless_so}
 use Rattle.ns_admin.proofs.World.{tenants_full}
 use Rattle.ns_admin.proofs.namespaces.put_namespace.Goals as goal
 
-pub returns-then-lacks_quota : goal.returns-then-lacks_quota
+pub returns-then-lacks_quota-clause-made : goal.returns-then-lacks_quota-clause-made
 unfolding put_namespace
-returns-then-lacks_quota c = (unless_so _ _ _ (sym (c.lacks_quota.ensures) ∙ c.if-lacks_quota.true), refl)
+returns-then-lacks_quota-clause-made c = (unless_so _ _ _ (sym (c.lacks_quota.ensures) ∙ c.if-lacks_quota.true), refl)
 
-pub returns-then-not-has_pool : goal.returns-then-not-has_pool
+pub returns-then-not-has_pool-clause-made : goal.returns-then-not-has_pool-clause-made
 unfolding put_namespace
-returns-then-not-has_pool c = (
+returns-then-not-has_pool-clause-made c = (
   unless_not _ _ _ (sym (c.lacks_quota.ensures) ∙ c.if-lacks_quota.false)
       ∙ unless_so _ _ _ (ap not (sym c.has_pool.ensures ∙ c.if-not-has_pool.true)),
   refl,
 )
 
-pub returns-then-lacks_allowed : goal.returns-then-lacks_allowed
+pub returns-then-lacks_allowed-clause-made : goal.returns-then-lacks_allowed-clause-made
 unfolding put_namespace
-returns-then-lacks_allowed c = (
+returns-then-lacks_allowed-clause-made c = (
   unless_not _ _ _ (sym (c.lacks_quota.ensures) ∙ c.if-lacks_quota.false)
       ∙ unless_not _ _ _ (ap not (sym c.has_pool.ensures ∙ c.if-not-has_pool.false))
       ∙ unless_so _ _ _ (sym (c.lacks_allowed.ensures) ∙ c.if-lacks_allowed.true),
   refl,
 )
 
-pub returns-then-forbids_in : goal.returns-then-forbids_in
+pub returns-then-forbids_in-clause-made : goal.returns-then-forbids_in-clause-made
 unfolding put_namespace
-returns-then-forbids_in c = (
+returns-then-forbids_in-clause-made c = (
   unless_not _ _ _ (sym (c.lacks_quota.ensures) ∙ c.if-lacks_quota.false)
       ∙ unless_not _ _ _ (ap not (sym c.has_pool.ensures ∙ c.if-not-has_pool.false))
       ∙ unless_not _ _ _ (sym (c.lacks_allowed.ensures) ∙ c.if-lacks_allowed.false)
@@ -39,9 +39,9 @@ returns-then-forbids_in c = (
   refl,
 )
 
-pub returns-then-is_full : goal.returns-then-is_full
+pub returns-then-is_full-clause-made : goal.returns-then-is_full-clause-made
 unfolding put_namespace
-returns-then-is_full c = (
+returns-then-is_full-clause-made c = (
   unless_not _ _ _ (sym (c.lacks_quota.ensures) ∙ c.if-lacks_quota.false)
       ∙ unless_not _ _ _ (ap not (sym c.has_pool.ensures ∙ c.if-not-has_pool.false))
       ∙ unless_not _ _ _ (sym (c.lacks_allowed.ensures) ∙ c.if-lacks_allowed.false)
@@ -50,9 +50,9 @@ returns-then-is_full c = (
   refl,
 )
 
-pub returns : goal.returns
+pub returns-clause-made : goal.returns-clause-made
 unfolding put_namespace
-returns c =
+returns-clause-made c =
     unless_not _ _ _ (sym (c.lacks_quota.ensures) ∙ c.if-lacks_quota.false)
     ∙ unless_not _ _ _ (ap not (sym c.has_pool.ensures ∙ c.if-not-has_pool.false))
     ∙ unless_not _ _ _ (sym (c.lacks_allowed.ensures) ∙ c.if-lacks_allowed.false)
@@ -60,9 +60,9 @@ returns c =
     ∙ unless_not _ _ _ (tenants_full c.args.tables.now c.args.name.now ∙ sym c.is_full.ensures ∙ c.if-is_full.false)
     ∙ ap (Done Content.Written) (sym (c.in_ok-write_namespace.ensures.done))
 
-pub returns-in_err-write_namespace : goal.returns-in_err-write_namespace
+pub returns-in_err-write_namespace-clause-made : goal.returns-in_err-write_namespace-clause-made
 unfolding put_namespace
-returns-in_err-write_namespace c = memory_last _ _ _ c.from_residual.result c.from_residual.ensures.1
+returns-in_err-write_namespace-clause-made c = memory_last _ _ _ c.from_residual.result c.from_residual.ensures.1
     (ap is_done (
     unless_not _ _ _ (sym (c.lacks_quota.ensures) ∙ c.if-lacks_quota.false)
     ∙ unless_not _ _ _ (ap not (sym c.has_pool.ensures ∙ c.if-not-has_pool.false))

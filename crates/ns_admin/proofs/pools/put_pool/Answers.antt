@@ -7,21 +7,21 @@ use Rattle.ns_types.proofs.Outcomes.{memory_last, unless_not, unless_so}
 use Rattle.ns_admin.proofs.World.{pools_full}
 use Rattle.ns_admin.proofs.pools.put_pool.Goals as goal
 
-pub returns-then-is_full : goal.returns-then-is_full
+pub returns-then-is_full-clause-made : goal.returns-then-is_full-clause-made
 unfolding put_pool_record
-returns-then-is_full c = (
+returns-then-is_full-clause-made c = (
   unless_so _ _ _ (pools_full c.args.tables.now c.args.name.now ∙ sym c.is_full.ensures ∙
       c.if-is_full.true),
   refl,
 )
 
-pub returns : goal.returns
+pub returns-clause-made : goal.returns-clause-made
 unfolding put_pool_record
-returns c = unless_not _ _ _ (pools_full c.args.tables.now c.args.name.now ∙ sym c.is_full.ensures ∙ c.if-is_full.false)
+returns-clause-made c = unless_not _ _ _ (pools_full c.args.tables.now c.args.name.now ∙ sym c.is_full.ensures ∙ c.if-is_full.false)
     ∙ ap (Done Content.Written) (sym (c.in_ok-write_pool.ensures.done))
 
-pub returns-in_err-write_pool : goal.returns-in_err-write_pool
+pub returns-in_err-write_pool-clause-made : goal.returns-in_err-write_pool-clause-made
 unfolding put_pool_record
-returns-in_err-write_pool c = memory_last _ _ _ c.from_residual.result c.from_residual.ensures.1
+returns-in_err-write_pool-clause-made c = memory_last _ _ _ c.from_residual.result c.from_residual.ensures.1
     (ap is_done (unless_not _ _ _ (pools_full c.args.tables.now c.args.name.now ∙ sym c.is_full.ensures ∙ c.if-is_full.false)))
     (ap world_of c.in_err-write_pool.ensures.refused)

@@ -7,17 +7,17 @@ use Rattle.ns_types.proofs.Outcomes.{memory_last, unless_not, unless_so}
 use Rattle.ns_admin.proofs.World.{quotas_full}
 use Rattle.ns_admin.proofs.quotas.put_quota.Goals as goal
 
-pub returns-then-is_full : goal.returns-then-is_full
+pub returns-then-is_full-clause-made : goal.returns-then-is_full-clause-made
 unfolding put_quota
-returns-then-is_full c = (unless_so _ _ _ (quotas_full c.args.tables.now c.args.name.now ∙ sym c.is_full.ensures ∙ c.if-is_full.true), refl)
+returns-then-is_full-clause-made c = (unless_so _ _ _ (quotas_full c.args.tables.now c.args.name.now ∙ sym c.is_full.ensures ∙ c.if-is_full.true), refl)
 
-pub returns : goal.returns
+pub returns-clause-made : goal.returns-clause-made
 unfolding put_quota
-returns c = unless_not _ _ _ (quotas_full c.args.tables.now c.args.name.now ∙ sym c.is_full.ensures ∙ c.if-is_full.false)
+returns-clause-made c = unless_not _ _ _ (quotas_full c.args.tables.now c.args.name.now ∙ sym c.is_full.ensures ∙ c.if-is_full.false)
     ∙ ap (Done Content.Written) (sym (c.in_ok-write_quota.ensures.done))
 
-pub returns-in_err-write_quota : goal.returns-in_err-write_quota
+pub returns-in_err-write_quota-clause-made : goal.returns-in_err-write_quota-clause-made
 unfolding put_quota
-returns-in_err-write_quota c = memory_last _ _ _ c.from_residual.result c.from_residual.ensures.1
+returns-in_err-write_quota-clause-made c = memory_last _ _ _ c.from_residual.result c.from_residual.ensures.1
     (ap is_done (unless_not _ _ _ (quotas_full c.args.tables.now c.args.name.now ∙ sym c.is_full.ensures ∙ c.if-is_full.false)))
     (ap world_of c.in_err-write_quota.ensures.refused)

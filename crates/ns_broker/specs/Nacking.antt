@@ -1,0 +1,35 @@
+-- What a nack makes of the evaluation and of the world.
+use Rattle.std.specs.Prelude.{◌≡◌, ℕ, ◌+◌, ◌<◌, ◌^◌, Some}
+use Rattle.ns_types.specs.declared.evaluation.Evaluation.{Evaluation}
+use Rattle.ns_types.specs.declared.evaluation.Status.TheVariants as Status
+use Rattle.ns_types.specs.declared.worker.Worker.{Worker}
+use Rattle.ns_types.specs.Settling.Making.{change_tenant}
+use Rattle.ns_types.specs.State.Names.{Name}
+use Rattle.ns_types.specs.State.Rows.{World, Tenant, evaluation_at}
+use Rattle.ns_types.specs.Working.Looks.{worker_at}
+use Rattle.ns_types.specs.Working.Queue.{promote}
+use Rattle.ns_types.specs.Working.Work.{without_worker}
+use Rattle.ns_change.specs.Changed.{put_evaluation, with_ready}
+
+-- one nack more of the evaluation that the worker has can be counted
+abbrev pub HasNackLeft : World → ℕ → Name → Type 0
+HasNackLeft w number ns = (worker : Worker) → (e : Evaluation) → worker_at w number ns ≡ Some worker →
+    evaluation_at w (ns, worker.evaluation) ≡ Some e → e.nacks + 1 < 2 ^ 64
+
+abbrev pub nacked : Evaluation → Evaluation
+nacked e = record e { nacks = e.nacks + 1 }
+
+abbrev pub failed : Evaluation → Evaluation
+failed e = record e { nacks = e.nacks + 1; status = Status.Failed }
+
+-- the evaluation has that row, and the worker is idle
+abbrev pub left : ℕ → ℕ → Evaluation → Tenant → Tenant
+left number n row t = without_worker number (put_evaluation n row t)
+
+-- the evaluation is ready again, behind the others
+abbrev pub put_back : ℕ → Name → ℕ → Evaluation → World → World
+put_back number ns n e w = with_ready (ns, n) (change_tenant ns (left number n (nacked e)) w)
+
+-- it has failed, and the next one of its job is ready
+abbrev pub put_away : ℕ → Name → ℕ → Evaluation → World → World
+put_away number ns n e w = promote ns e.job (change_tenant ns (left number n (failed e)) w)

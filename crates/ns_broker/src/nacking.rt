@@ -1,0 +1,144 @@
+//! A worker gives its evaluation back.
+
+ghost use Rattle.std.specs.Prelude.{◌≡◌, ◌+◌, ◌<◌, ◌^◌};
+ghost use Rattle.ns_types.specs.declared.evaluation.Status.TheVariants as Status;
+ghost use Rattle.ns_types.specs.declared.reply.Content.TheVariants as Content;
+ghost use Rattle.ns_types.specs.Settling.Outcome.{Done};
+ghost use Rattle.ns_types.specs.Working.Work.{is_submitted, nack};
+ghost use Rattle.ns_broker.specs.Nacking.{HasNackLeft, left, put_away, put_back};
+ghost use Rattle.ns_change.specs.Changed.{Does, DoesIn};
+ghost use Rattle.ns_change.specs.Prepared.{Prepares};
+ghost use Rattle.ns_world.specs.World.{world_of};
+
+use crate::looking::worker_at;
+use ns_change::{Change, Prepared, add_ready, prepare, promote, put_row, remove_worker};
+use ns_types::evaluation::{Evaluation, Status};
+use ns_types::key::EvalKey;
+use ns_types::refusal::Refusal;
+use ns_types::reply::Content;
+use ns_types::text::Text;
+use ns_types::worker::Phase;
+use ns_world::Tables;
+use std::alloc::AllocError;
+
+/// An evaluation with so many nacks has failed at the next one.
+const NACKS: u64 = 2;
+
+fn is_submitted(phase: Phase) -> bool
+    ensures { result ≡ is_submitted phase }
+{
+    matches!(phase, Phase::Submitted)
+}
+
+/// The evaluation has that row, and the worker is idle.
+fn leave(
+    tables: &Tables,
+    change: &mut Change,
+    number: u64,
+    namespace: &Text,
+    evaluation: u64,
+    row: Evaluation,
+) -> Result<(), AllocError>
+    ensures { DoesIn namespace.now result tables.now change.old change.new
+        (left number evaluation row) }
+{
+    put_row(tables, change, namespace, evaluation, row)?;
+    remove_worker(tables, change, namespace, number)
+}
+
+/// The evaluation is ready again, behind the others.
+fn put_back(
+    tables: &Tables,
+    change: &mut Change,
+    number: u64,
+    namespace: &Text,
+    evaluation: u64,
+    row: &Evaluation,
+) -> Result<(), AllocError>
+    requires { row.now.nacks + 1 < 2 ^ 64 }
+    ensures { Does result tables.now change.old change.new
+        (put_back number namespace.now evaluation row.now) }
+{
+    let mut nacked = row.clone()?;
+    nacked.nacks += 1;
+    leave(tables, change, number, namespace, evaluation, nacked)?;
+    add_ready(change, EvalKey::new(namespace.clone()?, evaluation))
+}
+
+/// The evaluation has failed, and the next one of its job is ready.
+fn put_away(
+    tables: &Tables,
+    change: &mut Change,
+    number: u64,
+    namespace: &Text,
+    evaluation: u64,
+    row: &Evaluation,
+) -> Result<(), AllocError>
+    requires { row.now.nacks + 1 < 2 ^ 64 }
+    ensures { Does result tables.now change.old change.new
+        (put_away number namespace.now evaluation row.now) }
+{
+    let mut failed = row.clone()?;
+    failed.nacks += 1;
+    failed.status = Status::Failed;
+    leave(tables, change, number, namespace, evaluation, failed)?;
+    promote(tables, change, namespace, &row.job)
+}
+
+fn give_back(
+    tables: &Tables,
+    number: u64,
+    namespace: &Text,
+    evaluation: u64,
+    row: &Evaluation,
+) -> Result<Prepared, Refusal>
+    requires { row.now.nacks + 1 < 2 ^ 64 }
+    ensures { Prepares (Done (Content.Nacked Status.Pending)
+        (put_back number namespace.now evaluation row.now (world_of tables.now)))
+        tables.now result }
+{
+    let mut change = Change::new(tables.alloc);
+    let made = put_back(tables, &mut change, number, namespace, evaluation, row);
+    prepare(Content::Nacked(Status::Pending), change, made)
+}
+
+fn give_up(
+    tables: &Tables,
+    number: u64,
+    namespace: &Text,
+    evaluation: u64,
+    row: &Evaluation,
+) -> Result<Prepared, Refusal>
+    requires { row.now.nacks + 1 < 2 ^ 64 }
+    ensures { Prepares (Done (Content.Nacked Status.Failed)
+        (put_away number namespace.now evaluation row.now (world_of tables.now)))
+        tables.now result }
+{
+    let mut change = Change::new(tables.alloc);
+    let made = put_away(tables, &mut change, number, namespace, evaluation, row);
+    prepare(Content::Nacked(Status::Failed), change, made)
+}
+
+/// The worker gives its evaluation of the namespace back, which gets a nack. With fewer than three it is ready again,
+/// behind the others; with three it has failed, and the next one of its job is ready. `NotEnabled`: the worker has none
+/// of the namespace, or its plan waits. The premise is that one nack more can be counted: in a valid world no evaluation
+/// has more than three.
+pub fn nack(tables: &Tables, number: u64, namespace: &Text) -> Result<Prepared, Refusal>
+    requires { HasNackLeft (world_of tables.now) number namespace.now }
+    ensures { Prepares (nack number namespace.now (world_of tables.now)) tables.now result }
+{
+    let Some(worker) = worker_at(tables, number, namespace) else {
+        return Err(Refusal::NotEnabled);
+    };
+    let Some(row) = tables.evaluation(namespace, worker.evaluation) else {
+        return Err(Refusal::NotEnabled);
+    };
+    if is_submitted(worker.phase) {
+        return Err(Refusal::NotEnabled);
+    }
+    if row.nacks < NACKS {
+        give_back(tables, number, namespace, worker.evaluation, row)
+    } else {
+        give_up(tables, number, namespace, worker.evaluation, row)
+    }
+}

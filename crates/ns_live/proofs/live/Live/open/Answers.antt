@@ -1,0 +1,26 @@
+use Rattle.std.proofs.Common.{ap, sym, ◌∙◌}
+use Rattle.std.specs.Option.{option_copied}
+use Rattle.keyed.proofs.Tables.{slot_made}
+use Rattle.ns_types.proofs.Named.{names}
+use Rattle.ns_live.specs.Levels.{holds_key, holds_on_node, has_node_room}
+use Rattle.ns_live.specs.declared.pool_keys.PoolKeys.{PoolKeys}
+use Rattle.ns_live.specs.declared.live.Live.{Live}
+use Rattle.ns_live.proofs.Levels.{begun, none_there, only_slot, row_written, says_nothing}
+use Rattle.ns_live.proofs.live.Live.open.Goals as goal
+
+pub set-requires : goal.set-requires
+set-requires c = slot_made names _ _ _ c.in_ok-reserve.ensures.ok
+
+pub returns-then-is_none-clause-same : goal.returns-then-is_none-clause-same
+returns-then-is_none-clause-same c = begun (λ (s : Live). s.pools) holds_on_node has_node_room c.args.self.now
+    (record c.args.self.now { pools = c.reserve.new.self }) _
+    c.args.pool.now _ c.in_ok-reserve.ensures.ok
+    (sym c.get.ensures ∙ ap option_copied (none_there c.get.result c.if-is_none.ensures))
+    (says_nothing (λ (s : PoolKeys). s.nodes) holds_key c.new.result c.new.ensures) c.set.ensures
+
+pub returns-then-is_none-clause-ok : goal.returns-then-is_none-clause-ok
+returns-then-is_none-clause-ok c = row_written names _ _ _ _ c.set.ensures
+
+pub returns-else-is_none-clause-same : goal.returns-else-is_none-clause-same
+returns-else-is_none-clause-same c = only_slot (λ (s : Live). s.pools) holds_on_node has_node_room c.args.self.now _ c.args.pool.now
+    c.in_ok-reserve.ensures.ok

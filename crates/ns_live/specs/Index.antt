@@ -1,0 +1,42 @@
+-- An index of live allocations by node: which keys it holds where, and when that is right.
+use Rattle.std.specs.Prelude.{◌≡◌, ◌&&◌, ◌||◌, Bool, true, false, IsTrue, Option, Some, None}
+use Rattle.std.specs.Prelude.{if◌then◌else◌}
+use Rattle.std.specs.Option.{option_map_or}
+use Rattle.ns_types.specs.declared.allocation.Allocation.{Allocation}
+use Rattle.ns_types.specs.State.Names.{Name, Key, same_key}
+use Rattle.ns_types.specs.State.Rows.{World, allocation_at, is_live, is_live_on}
+use Rattle.ns_live.specs.declared.live.Live.{Live}
+use Rattle.ns_live.specs.Levels.{has_pool_room, holds_in_pool}
+
+-- whether the index holds the key on this node of this pool
+abbrev pub holds : Live → Name → Name → Key → Bool
+holds live pool node key = holds_in_pool live (pool, (node, key))
+
+-- whether it needs no memory for it
+abbrev pub has_room : Live → Name → Name → Key → Bool
+has_room live pool node key = has_pool_room live (pool, (node, key))
+
+-- on each node, of these rows, the keys of those that are live there and no others
+abbrev pub Indexes : (Key → Option Allocation) → Live → Type 0
+Indexes row_of live = (pool node : Name) (key : Key) →
+    holds live pool node key ≡ option_map_or (is_live_on pool node) (row_of key) false
+
+-- the index is right: nothing is presumed of the world, whose allocations may name pools and nodes that are not there
+abbrev pub IsRight : World → Live → Type 0
+IsRight w live = Indexes (allocation_at w) live
+
+-- the rows with another one, or none, under the key
+abbrev pub with_row : Key → Option Allocation → (Key → Option Allocation) → Key → Option Allocation
+with_row key row row_of other = if same_key other key then row else row_of other
+
+-- the row, where it is live, can be indexed without memory
+abbrev pub HasRoomFor : Live → Key → Option Allocation → Type 0
+HasRoomFor live key None = Unit {0}
+HasRoomFor live key (Some row) = is_live row ≡ true → IsTrue (has_room live row.pool row.node key)
+
+-- the key is held besides on the node where the row is live, if it is
+pub record AddsRow (key : Key) (row : Option Allocation) (old new : Live) : Type 0 where
+  pub held : (pool node : Name) (other : Key) → holds new pool node other ≡
+      ((same_key other key && option_map_or (is_live_on pool node) row false) || holds old pool node other)
+  pub room : (pool node : Name) (other : Key) →
+      IsTrue (has_room old pool node other) → IsTrue (has_room new pool node other)

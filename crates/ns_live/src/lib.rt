@@ -1,0 +1,9 @@
+//! Which allocations are live on which node.
+#![tactic(auto)]
+
+mod live;
+mod node_keys;
+mod pool_keys;
+
+pub use live::Live;
+pub use node_keys::NodeKeys;

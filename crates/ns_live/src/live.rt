@@ -1,0 +1,167 @@
+//! The live allocations on all nodes.
+
+ghost use Rattle.std.specs.Prelude.{◌≡◌, false, IsTrue, OnOk, Option, Some, is_some, option_copied};
+ghost use Rattle.std.specs.Option.{option_map_or};
+ghost use Rattle.std.specs.FinMap.{empty};
+ghost use Rattle.keyed.specs.Table.{row_at};
+ghost use Rattle.ns_types.specs.declared.allocation.Allocation.{Allocation};
+ghost use Rattle.ns_types.specs.State.Names.{Key, Name, same_key};
+ghost use Rattle.ns_types.specs.State.Rows.{is_live, is_live_on};
+ghost use Rattle.ns_live.specs.Index.{AddsRow, HasRoomFor, Indexes, has_room, holds, with_row};
+ghost use Rattle.ns_live.specs.Levels.{Adds, Drops, Keeps, holds_in_pool, has_pool_room, same_at};
+
+use crate::pool_keys::PoolKeys;
+use keyed::NameTable;
+use ns_types::allocation::{Allocation, ClientStatus, DesiredStatus};
+use ns_types::text::{Text, same_text};
+use std::alloc::{AllocError, Global};
+
+/// The keys of all live allocations, by the pool and the node that they are on.
+#[derive(Drop)]
+pub struct Live {
+    alloc: Global,
+    pools: NameTable<PoolKeys>,
+}
+
+fn is_live(row: &Allocation) -> bool
+    ensures { result ≡ is_live row.now }
+{
+    match (row.desired, row.client) {
+        (DesiredStatus::Run, ClientStatus::Pending | ClientStatus::Running) => true,
+        _ => false,
+    }
+}
+
+fn is_live_on(row: Option<&Allocation>, pool: &Text, node: &Text) -> bool
+    ensures { result ≡
+        option_map_or (is_live_on pool.now node.now) (option_copied row.entry) false }
+{
+    match row {
+        Some(row) => is_live(row) && same_text(pool, &row.pool) && same_text(node, &row.node),
+        None => false,
+    }
+}
+
+impl Live {
+    /// No keys. It takes no memory.
+    pub fn new(alloc: Global) -> Live
+        ensures { (pool : Name) (node : Name) (key : Key) → holds result pool node key ≡ false }
+    {
+        Live {
+            alloc,
+            pools: NameTable::new(alloc),
+        }
+    }
+
+    /// Makes room for the row under this key, where it is live. Want of memory is the only error.
+    pub fn reserve(
+        &mut self,
+        namespace: &Text,
+        number: u64,
+        row: &Allocation,
+    ) -> Result<(), AllocError>
+        ensures same { (pool : Name) (node : Name) (key : Key) →
+            holds self.new pool node key ≡ holds self.old pool node key }
+        ensures room { (pool : Name) (node : Name) (key : Key) →
+            IsTrue (has_room self.old pool node key) → IsTrue (has_room self.new pool node key) }
+        ensures ok { OnOk result (HasRoomFor self.new (namespace.now, number) (Some row.now)) }
+    {
+        if is_live(row) {
+            self.reserve_at(&row.pool, &row.node, namespace, number)?;
+        }
+        Ok(())
+    }
+
+    /// The row under this key was `before` and is `after` from now on. It takes no memory.
+    pub fn put(
+        &mut self,
+        namespace: &Text,
+        number: u64,
+        before: Option<&Allocation>,
+        after: Option<&Allocation>,
+    )
+        requires { HasRoomFor self.old (namespace.now, number) (option_copied after) }
+        ensures index { (row_of : Key → Option Allocation) → Indexes row_of self.old →
+            row_of (namespace.now, number) ≡ option_copied before.entry →
+            Indexes (with_row (namespace.now, number) (option_copied after.entry) row_of) self.new }
+        ensures room { (pool : Name) (node : Name) (key : Key) →
+            same_key key (namespace.now, number) ≡ false →
+            IsTrue (has_room self.old pool node key) → IsTrue (has_room self.new pool node key) }
+    {
+        self.add(namespace, number, after);
+        if let Some(row) = before {
+            if !is_live_on(after, &row.pool, &row.node) {
+                self.remove(&row.pool, &row.node, namespace, number);
+            }
+        }
+    }
+
+    /// Holds the key where the row is live. It takes no memory.
+    fn add(&mut self, namespace: &Text, number: u64, row: Option<&Allocation>)
+        requires { HasRoomFor self.old (namespace.now, number) (option_copied row) }
+        ensures { AddsRow (namespace.now, number) (option_copied row.entry) self.old self.new }
+    {
+        if let Some(row) = row {
+            if is_live(row) {
+                self.insert(&row.pool, &row.node, namespace, number);
+            }
+        }
+    }
+
+    /// Makes a set for the pool, unless it is there.
+    fn open(&mut self, pool: &Text) -> Result<(), AllocError>
+        ensures same { Keeps holds_in_pool has_pool_room self.old self.new }
+        ensures ok { OnOk result (IsTrue (is_some (row_at self.new.pools pool.now))) }
+    {
+        self.pools.reserve(pool)?;
+        if self.pools.get(pool).is_none() {
+            self.pools.set(pool, PoolKeys::new(self.alloc));
+        }
+        Ok(())
+    }
+
+    /// Makes room for the key on the node. Want of memory is the only error.
+    fn reserve_at(
+        &mut self,
+        pool: &Text,
+        node: &Text,
+        namespace: &Text,
+        number: u64,
+    ) -> Result<(), AllocError>
+        ensures same { Keeps holds_in_pool has_pool_room self.old self.new }
+        ensures ok { OnOk result (
+            IsTrue (has_pool_room self.new (pool.now, (node.now, (namespace.now, number))))) }
+    {
+        self.open(pool)?;
+        let alloc = self.alloc;
+        if let Some(nodes) = self.pools.get_mut(pool) {
+            nodes.reserve(alloc, node, namespace, number)?;
+        }
+        Ok(())
+    }
+
+    /// Holds the key on the node from now on. It takes no memory.
+    fn insert(&mut self, pool: &Text, node: &Text, namespace: &Text, number: u64)
+        requires { IsTrue (has_pool_room self.old (pool.now, (node.now, (namespace.now, number)))) }
+        ensures { Adds holds_in_pool has_pool_room (same_at (same_at same_key))
+            (pool.now, (node.now, (namespace.now, number))) self.old self.new }
+    {
+        if let Some(nodes) = self.pools.get_mut(pool) {
+            nodes.insert(node, namespace, number);
+        }
+    }
+
+    /// Holds the key on the node no longer. It takes no memory.
+    fn remove(&mut self, pool: &Text, node: &Text, namespace: &Text, number: u64)
+        ensures { Drops holds_in_pool has_pool_room (same_at (same_at same_key))
+            (pool.now, (node.now, (namespace.now, number))) self.old self.new }
+    {
+        let Some(nodes) = self.pools.get_mut(pool) else {
+            return;
+        };
+        nodes.remove(node, namespace, number);
+        if nodes.is_empty() {
+            self.pools.remove(pool);
+        }
+    }
+}
