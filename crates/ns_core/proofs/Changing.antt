@@ -27,7 +27,7 @@ use Rattle.ns_types.specs.Asking.Admins.{is_relimited}
 use Rattle.ns_steps.specs.Early.{IsEarly}
 use Rattle.ns_steps.proofs.Registering.{all_within}
 use Rattle.ns_steps.proofs.Resting.{Rests}
-use Rattle.ns_core.specs.Held.{IsHeld}
+use Rattle.ns_core.specs.Held.{HasNoAllocations, IsHeld}
 use Rattle.ns_jobs.specs.Counted.{HasFewVersions}
 use Rattle.ns_admin.specs.Viewed.{is_exhausted}
 use Rattle.ns_core.specs.Viewed.{exhausts}
@@ -64,11 +64,19 @@ put_twice m k u v = same_map names one_name _ _ (λ q. get-insert names (insert 
 
 -- where records alone change, jobs have as few versions as before
 pub rests_held : (w w' : World) → Rests w w' → IsEarly w' → IsHeld w → IsHeld w'
-rests_held w w' rests early held = record { early = early; versions = λ ns t' is. by ns t' (get w.tenants ns) refl (rests.tenant ns t' is) }
+rests_held w w' rests early held = record {
+  early = early;
+  versions = λ ns t' is. by ns t' (get w.tenants ns) refl (rests.tenant ns t' is);
+  placed = λ ns t' is. placed ns t' (get w.tenants ns) refl (rests.tenant ns t' is);
+}
   where
     by : (ns : Name) (t' : Tenant) (o : Option Tenant) → get w.tenants ns ≡ o → IsTenantOf o t' → HasFewVersions t'
     by ns t' None none new = λ id job at. not_both refl (ap is_some (sym at ∙ ap (λ t. get t.jobs id) new ∙ get-empty name_cmp id))
     by ns t' (Some t) there same = subst HasFewVersions (sym same) (λ id job at. held.versions ns t there id job at)
+
+    placed : (ns : Name) (t' : Tenant) (o : Option Tenant) → get w.tenants ns ≡ o → IsTenantOf o t' → HasNoAllocations t'
+    placed ns t' None none new = ap (λ t. t.allocations) new
+    placed ns t' (Some t) there same = ap (λ t. t.allocations) same ∙ held.placed ns t there
 
 -- any other command releases nothing
 pub calm_of : (command : AdminCommand) → ((name : Name) (quota : Quota) → command ≡ AdminCommand.PutQuota name quota → ⊥) → IsCalm command

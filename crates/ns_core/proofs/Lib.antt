@@ -4,3 +4,4 @@ pub mod Changing
 pub mod Quotas
 pub mod Preparing
 pub mod Registering
+pub mod Reading

@@ -25,7 +25,7 @@ use Rattle.ns_steps.specs.Registered.{job_of, next_index, passes_bound, register
 use Rattle.ns_steps.proofs.Early.{fresh, registered_early}
 use Rattle.ns_steps.proofs.Registering.{over_registered, settled_registration}
 use Rattle.ns_jobs.specs.Counted.{HasFewVersions, passes_in}
-use Rattle.ns_core.specs.Held.{IsHeld}
+use Rattle.ns_core.specs.Held.{HasNoAllocations, IsHeld}
 use Rattle.ns_core.proofs.Preparing.{IsCounted, world_left}
 
 module _ (ns : Name) (r : Registration) (w : World) (early : IsEarly w) where
@@ -81,6 +81,10 @@ few_registered r t h id job e = by (eq_by_cmp name_cmp id r.id) refl (sym (get-i
     by true same e = subst (λ j. j.version ≤ t.index + 1) (same_Some _ _ e) (few r t h)
     by false other e = let v : job.version ≤ t.index = h id job e in omega (arith, v)
 
+none_registered : (r : Registration) (t : Tenant) → HasNoAllocations t → HasNoAllocations (registered_tenant r t)
+unfolding registered_tenant
+none_registered r t none = none
+
 -- ---- what stays true
 
 held_registered : (ns : Name) (r : Registration) (w : World) (t : Tenant) → IsHeld w → get w.tenants ns ≡ Some t → passes_bound t ≡ false →
@@ -89,12 +93,18 @@ unfolding registered_world
 held_registered ns r w t held at within = record {
   early = registered_early ns r w t held.early at within;
   versions = λ other t' e. by other t' (eq_by_cmp name_cmp other ns) refl (sym (get-insert names w.tenants ns (registered_tenant r t) other) ∙ e);
+  placed = λ other t' e. placed other t' (eq_by_cmp name_cmp other ns) refl (sym (get-insert names w.tenants ns (registered_tenant r t) other) ∙ e);
 }
   where
     by : (other : Name) (t' : Tenant) (b : Bool) → eq_by_cmp name_cmp other ns ≡ b → cond b (Some (registered_tenant r t)) (get w.tenants other) ≡ Some t' →
         HasFewVersions t'
     by other t' true same e = subst HasFewVersions (same_Some _ _ e) (few_registered r t (held.versions ns t at))
     by other t' false apart e = held.versions other t' e
+
+    placed : (other : Name) (t' : Tenant) (b : Bool) → eq_by_cmp name_cmp other ns ≡ b
+        → cond b (Some (registered_tenant r t)) (get w.tenants other) ≡ Some t' → HasNoAllocations t'
+    placed other t' true same e = subst HasNoAllocations (same_Some _ _ e) (none_registered r t (held.placed ns t at))
+    placed other t' false apart e = held.placed other t' e
 
 pub registers_held : (ns : Name) (r : Registration) (w w' x : World) (content : Content) → IsHeld w → ask ns (AskCommand.Register r) w ≡ Done content w' →
     x ≡ settle w w' → is_past_bound x ≡ false → IsHeld x
