@@ -32,12 +32,15 @@ then_full (Refused r) done = not_both done refl
 then_full (Done content w) done = refl
 
 module _ (w : World) (ns : Name) (command : AskCommand) where
-  pub nowhere : get w.tenants ns ≡ None → counted_ask ns command w ≡ Refused Refusal.NotFound
+  pub ask_nowhere : get w.tenants ns ≡ None → ask ns command w ≡ Refused Refusal.NotFound
   unfolding ask
-  nowhere is = still_refused (passes_in w ns) _ _ (ap (λ o. found o (asked_in ns command w)) is)
+  ask_nowhere is = ap (λ o. found o (asked_in ns command w)) is
+
+  pub nowhere : get w.tenants ns ≡ None → counted_ask ns command w ≡ Refused Refusal.NotFound
+  nowhere is = still_refused (passes_in w ns) _ _ (ask_nowhere is)
 
   module _ (t : Tenant) (at : get w.tenants ns ≡ Some t) where
-    asks : ask ns command w ≡ asked_in ns command w t
+    pub asks : ask ns command w ≡ asked_in ns command w t
     unfolding ask
     asks = ap (λ o. found o (asked_in ns command w)) at
 

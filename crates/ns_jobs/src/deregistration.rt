@@ -9,7 +9,8 @@ ghost use Rattle.ns_jobs.specs.Counted.{IsNext, counted_ask};
 ghost use Rattle.ns_jobs.specs.Made.{IsDone};
 ghost use Rattle.ns_world.specs.World.{tenant_of, world_of};
 
-use crate::making::{self, Numbers, next_numbers, put_and_make, remove_and_make};
+use crate::looking;
+use crate::making::{Numbers, next_numbers, put_and_make, remove_and_make};
 use ns_change::Prepared;
 use ns_types::evaluation::Trigger;
 use ns_types::job::Job;
@@ -111,7 +112,7 @@ pub fn deregister(
     let Some(tenant) = tables.tenants.get(namespace) else {
         return Err(Refusal::NotFound);
     };
-    let Some(job) = making::job(tenant, id) else {
+    let Some(job) = looking::job(tenant, id) else {
         return Err(Refusal::NotFound);
     };
     let Some(numbers) = next_numbers(tenant) else {

@@ -2,10 +2,17 @@
 //! it answers and what the step itself changes, and writes nothing. What only reads is answered.
 #![tactic(auto)]
 
+mod allocations;
 mod deregistration;
+mod evaluations;
+mod jobs;
+mod looking;
 mod making;
+mod reading;
 mod registration;
 mod sharing;
+mod usage;
 
 pub use deregistration::deregister;
+pub use reading::read;
 pub use registration::register;

@@ -1,7 +1,6 @@
 //! A job that is put or taken away, and the evaluation that is made of it.
 
-ghost use Rattle.std.specs.Prelude.{◌≡◌, IfOk, option_copied};
-ghost use Rattle.std.specs.FinMap.{get};
+ghost use Rattle.std.specs.Prelude.{◌≡◌, IfOk};
 ghost use Rattle.ns_types.specs.Settling.Making.{evaluation_of, with_job};
 ghost use Rattle.ns_change.specs.Changed.{HasEvaluationLeft, view, without_job};
 ghost use Rattle.ns_jobs.specs.Counted.{NextNumbers};
@@ -34,13 +33,6 @@ pub(crate) fn next_numbers(tenant: &TenantRows) -> Option<Numbers>
         evaluation: tenant.evaluation_number + 1,
         index: tenant.index + 1,
     })
-}
-
-/// The job of that id.
-pub(crate) fn job<'a>(tenant: &'a TenantRows, id: &Text) -> Option<&'a Job>
-    ensures { option_copied result ≡ get (tenant_of tenant.now).jobs id.now }
-{
-    tenant.jobs.get(id)
 }
 
 /// An evaluation of the job, with its type, priority and pool.

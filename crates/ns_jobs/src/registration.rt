@@ -11,7 +11,8 @@ ghost use Rattle.ns_jobs.specs.Counted.{HasFewVersions, HasFewVersionsIn, IsNext
 ghost use Rattle.ns_jobs.specs.Made.{IsDone, job_of, misses};
 ghost use Rattle.ns_world.specs.World.{tenant_of, world_of};
 
-use crate::making::{Numbers, job, next_numbers, put_and_make};
+use crate::looking::job;
+use crate::making::{Numbers, next_numbers, put_and_make};
 use crate::sharing::permits;
 use ns_alike::{same_document, same_number};
 use ns_change::Prepared;

@@ -1,9 +1,12 @@
+pub mod Asked
 pub mod Bounded
 pub mod Classes
 pub mod Concluded
 pub mod Ending
 pub mod Finished
+pub mod Indexes
 pub mod Offered
+pub mod Passing
 pub mod Released
 pub mod Rooms
 pub mod Settling

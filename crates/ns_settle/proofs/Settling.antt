@@ -96,7 +96,7 @@ module _ (w : World) (c : Change) where
       by None = refl
       by (Some q) = or_none (same_name name q)
 
-  quota_is : (name : Name) (q : QuotaRows) → get w.quotas name ≡ Some q → releases_quota w middle name q ≡ has_name (released_quotas w c) name
+  pub quota_is : (name : Name) (q : QuotaRows) → get w.quotas name ≡ Some q → releases_quota w middle name q ≡ has_name (released_quotas w c) name
   unfolding releases_quota
   quota_is name q is = (λ i. option_map_or (λ old. changes_limits old q) (is i) false || sym (quotas_here name) i)
       ∙ ap (λ b. not b || has_name (released_quotas w c) name) (same_limits_refl (limits_in q.quota.limits))
@@ -126,11 +126,19 @@ module _ (w : World) (c : Change) where
 
   -- ---- release numbers
 
-  pool_is : (name : Name) (p : PoolRows) → get middle.pools name ≡ Some p →
+  pub pool_is : (name : Name) (p : PoolRows) → get middle.pools name ≡ Some p →
       after_release (released_classes w middle name p) p ≡ after_release (classes_in name (released_rooms w c)) p
   pool_is name p is = release_alike (released_classes w middle name p) (classes_in name (released_rooms w c)) p (λ passes.
       ap (λ q. list_any passes (option_map_or (released_classes w middle name) q [])) (sym is) ∙ sym (rooms_are w c name passes)
       ∙ sym (any_image passes (λ r. r.1) (λ r. same_name name r.0) (released_rooms w c)))
+
+  -- what the change and its releases make of the pools
+  pub pools_after : map_rows (λ name p. after_release (released_classes w (changed w c) name p) p) (changed w c).pools ≡ map_rows
+      (λ name p. after_release (classes_in name (released_rooms w c)) (perhaps changed_pool (row_at c.pools name) p)) w.pools
+  unfolding changed
+  pools_after = map_rows-alike names one_name _ (λ name p. after_release (classes_in name (released_rooms w c)) p) (changed w c).pools (λ name p at. pool_is name p at)
+      ∙ map_rows-twice names one_name (λ name p. after_release (classes_in name (released_rooms w c)) p)
+      (λ name p. perhaps changed_pool (row_at c.pools name) p) w.pools
 
 module _ (w : World) (c awake : Change) (s : Settled) (is : IsSettled w c awake s) where
   same_pools : (changed w awake).pools ≡ (changed w c).pools
@@ -185,6 +193,11 @@ module _ (w : World) (c awake : Change) (s : Settled) (is : IsSettled w c awake 
   unfolding settle
   settle_is = ap (λ keys. stamp w (number_releases w (changed w c) (wake keys (changed w c)))) (woken_is w c)
       ∙ ap (λ x. stamp w (number_releases w (changed w c) x)) (sym is.woke) ∙ stamped_are
+
+  pub tenants_then : (settled_world w s).tenants ≡ map_rows (λ ns t. perhaps stamped_tenant (row_at awake.tenants ns) t) w.tenants
+  unfolding settled_world
+  tenants_then = map_rows-alike names one_name (λ ns t. perhaps settled_tenant (row_at s.tenants ns) t)
+      (λ ns t. perhaps stamped_tenant (row_at awake.tenants ns) t) w.tenants is.told
 
 -- ---- there is one such for each change
 

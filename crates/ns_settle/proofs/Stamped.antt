@@ -65,10 +65,10 @@ keys_told p q f g (e ∷ es) h = ap (λ b. map f (cond b (e.0 ∷ filter p (map 
 module _ (t : Tenant) (x : TenantChange) where
   -- ---- evaluations and allocations
 
-  evaluations_idle : IsIdle numbers one_number (changes_evaluation t) t.evaluations x.evaluations
+  pub evaluations_idle : IsIdle numbers one_number (changes_evaluation t) t.evaluations x.evaluations
   evaluations_idle n e is _ = kept_evaluation t n e is
 
-  allocations_idle : IsIdle numbers one_number (changes_allocation t) t.allocations x.allocations
+  pub allocations_idle : IsIdle numbers one_number (changes_allocation t) t.allocations x.allocations
   allocations_idle n a is _ = kept_allocation t n a is
 
   evaluations_told : map (λ e. Topic.EvaluationUpdated e.0) (filter (λ e. changes_evaluation t e.0 e.1) (entries (over t.evaluations x.evaluations)))
@@ -156,7 +156,7 @@ module _ (t : Tenant) (x : TenantChange) where
       by e None was (Some b) is _ = not_both e (none_of_any one_name (λ id _. changes_job t after id) after.jobs id b now is)
       by e None was None is some = not_both some refl
 
-  jobs_touched : (any_row (λ id _. changes_job t after id) after.jobs || any_row (λ id _. changes_job t after id) t.jobs) ≡ list_any
+  pub jobs_touched : (any_row (λ id _. changes_job t after id) after.jobs || any_row (λ id _. changes_job t after id) t.jobs) ≡ list_any
       (λ e. changes_job_row t e.0 e.1) (entries x.jobs)
   unfolding any_row
   jobs_touched = by _ refl _ refl ∙ any_alike (λ e. changes_job t after e.0) (λ e. changes_job_row t e.0 e.1) (entries x.jobs)

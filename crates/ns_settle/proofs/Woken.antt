@@ -3,17 +3,18 @@ use Rattle.std.specs.Prelude.{◌≡◌, Bool, true, false, cond, not, List, [],
 use Rattle.std.proofs.Common.{refl, sym, ap, ◌∙◌}
 use Rattle.std.specs.List.{list_any}
 use Rattle.std.specs.Option.{option_map_or}
-use Rattle.std.specs.FinMap.{contains_key}
+use Rattle.std.specs.FinMap.{contains_key, get}
 use Rattle.ns_types.specs.declared.evaluation.Evaluation.{Evaluation}
 use Rattle.ns_types.specs.declared.node.Class.{Class}
 use Rattle.ns_types.specs.State.Names.{Name, Key, has_key, same_key, same_name, same_number}
-use Rattle.ns_types.specs.State.Rows.{World, evaluation_at}
-use Rattle.ns_types.proofs.Lists.{any_alike, each, filter_none}
+use Rattle.ns_types.specs.State.Rows.{World, Tenant, evaluation_at}
+use Rattle.ns_types.proofs.Lists.{any_alike, each, filter_none, not_both}
 use Rattle.ns_types.proofs.Named.{one_number, same_name_is, same_name_refl, same_number_refl}
 use Rattle.ns_types.proofs.Tables.{tied}
 use Rattle.ns_change.specs.declared.change.Change.{Change}
 use Rattle.ns_change.specs.Changed.{changed}
-use Rattle.ns_settle.specs.Released.{is_woken, woken_by, woken_from}
+use Rattle.ns_settle.specs.Bounds.{does_wake, is_at_bound, shows_awake, waking_passes, waking_passes_in}
+use Rattle.ns_settle.specs.Released.{is_woken, released_quotas, released_rooms, releases_wake_at, stays, woken_by, woken_from}
 use Rattle.ns_change.proofs.Listed.{any_listed}
 
 same_key_refl : (k : Key) → same_key k k ≡ true
@@ -66,16 +67,19 @@ woken_tests w c rooms quotas = filter_members _ _ w.blocked w.blocked (λ k is. 
     ap (λ b. b && option_map_or (λ e. woken_by w rooms quotas e e.quota) (evaluation_at w k) false)
     (sym (any_listed (same_key k) w.blocked c.blocked ∙ ap (λ b. b || has_key c.blocked.added k) (left_in c.blocked.taken w.blocked k is))))
 
--- where nothing is released, none wakes
-pub woken_nothing : (w : World) (c : Change) (rooms : List (Name × Class)) (quotas : List Name) → rooms ≡ [] → quotas ≡ [] → [] ≡ woken_from w c rooms quotas
-woken_nothing w c rooms quotas no_rooms no_quotas = sym ((λ i. woken_from w c (no_rooms i) (no_quotas i))
-    ∙ filter_none (λ key. has_key (changed w c).blocked key && option_map_or (λ e. woken_by w [] [] e e.quota) (evaluation_at w key) false) w.blocked
-    (each _ (λ key. ap (λ b. has_key (changed w c).blocked key && b) (by (evaluation_at w key)) ∙ and_none (has_key (changed w c).blocked key)) w.blocked))
-  where
-    and_none : (b : Bool) → (b && false) ≡ false
-    and_none true = refl
-    and_none false = refl
+-- a list without elements
+pub empty_by_any : {A : Type 0} (xs : List A) → list_any (λ _. true) xs ≡ false → xs ≡ []
+empty_by_any [] is = refl
+empty_by_any (x ∷ xs) is = not_both refl is
 
+-- where nothing is released, none wakes
+and_none : (b : Bool) → (b && false) ≡ false
+and_none true = refl
+and_none false = refl
+
+wakes_nothing : (w : World) (key : Key) → releases_wake_at w [] [] key ≡ false
+wakes_nothing w key = by (evaluation_at w key)
+  where
     of : (e : Evaluation) (q : Option Name) → woken_by w [] [] e q ≡ false
     of e (Some q) = and_none (contains_key w.quotas q)
     of e None = refl
@@ -83,3 +87,24 @@ woken_nothing w c rooms quotas no_rooms no_quotas = sym ((λ i. woken_from w c (
     by : (o : Option Evaluation) → option_map_or (λ e. woken_by w [] [] e e.quota) o false ≡ false
     by None = refl
     by (Some e) = of e e.quota
+
+module _ (w : World) (c : Change) where
+  pub woken_nothing : (rooms : List (Name × Class)) (quotas : List Name) → rooms ≡ [] → quotas ≡ [] → [] ≡ woken_from w c rooms quotas
+  woken_nothing rooms quotas no_rooms no_quotas = sym ((λ i. woken_from w c (no_rooms i) (no_quotas i))
+      ∙ filter_none (λ key. has_key (changed w c).blocked key && releases_wake_at w [] [] key) w.blocked
+      (each _ (λ key. ap (λ b. has_key (changed w c).blocked key && b) (wakes_nothing w key) ∙ and_none (has_key (changed w c).blocked key)) w.blocked))
+
+  pub none_wakes : released_rooms w c ≡ [] → released_quotas w c ≡ [] → list_any (waking_passes w c) w.blocked ≡ false
+  none_wakes no_rooms no_quotas = any_alike (waking_passes w c) (λ _. false) w.blocked (each _ (λ key. by key (get w.tenants key.0)) w.blocked) ∙ none w.blocked
+    where
+      none : (keys : List Key) → list_any (λ _. false) keys ≡ false
+      none [] = refl
+      none (key ∷ keys) = none keys
+
+      sleeps : (key : Key) → does_wake w c key ≡ false
+      sleeps key = (λ i. is_woken w c.blocked (no_rooms i) (no_quotas i) key) ∙ ap (λ b. stays c.blocked key && b) (wakes_nothing w key) ∙
+          and_none (stays c.blocked key)
+
+      by : (key : Key) (t : Option Tenant) → option_map_or (waking_passes_in w c key) t false ≡ false
+      by key None = refl
+      by key (Some t) = ap (λ b. is_at_bound t.index && (b && shows_awake t key.1 (evaluation_at (changed w c) key))) (sleeps key) ∙ and_none (is_at_bound t.index)

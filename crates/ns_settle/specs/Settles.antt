@@ -1,20 +1,20 @@
 -- What the end of a step makes of a change, or that it can not be.
-use Rattle.std.specs.Prelude.{◌≡◌, ◌+◌, Bool, true, false, ◌&&◌, if◌then◌else◌, nat_lt, Option, Some, None, option_map}
+use Rattle.std.specs.Prelude.{◌≡◌, ◌+◌, Bool, false, ◌&&◌, if◌then◌else◌, nat_lt, Option, Some, None, option_map}
 use Rattle.std.specs.Option.{option_map_or}
 use Rattle.std.specs.List.{list_any}
 use Rattle.std.specs.FinMap.{entries, get}
 use Rattle.keyed.specs.Table.{row_at}
 use Rattle.ns_types.specs.State.Names.{Name}
 use Rattle.ns_types.specs.State.Rows.{World, Tenant}
-use Rattle.ns_types.specs.State.Tables.{any_row, table_of}
-use Rattle.ns_types.specs.Settling.Settle.{settle, wake}
-use Rattle.ns_types.specs.Steps.{greatest, is_past_bound, is_tenant_past_bound}
+use Rattle.ns_types.specs.State.Tables.{table_of}
+use Rattle.ns_types.specs.Settling.Settle.{wake}
+use Rattle.ns_types.specs.Steps.{greatest}
 use Rattle.ns_change.specs.declared.change.Change.{Change}
 use Rattle.ns_change.specs.declared.change.Settled.{Settled}
 use Rattle.ns_change.specs.declared.change.SettledTenant.{SettledTenant}
 use Rattle.ns_change.specs.declared.change.TenantChange.{TenantChange}
 use Rattle.ns_change.specs.Changed.{changed, perhaps}
-use Rattle.ns_change.specs.Settled.{settled_tenant, settled_world}
+use Rattle.ns_change.specs.Settled.{settled_tenant}
 use Rattle.ns_settle.specs.Released.{released_quotas, released_rooms, woken_keys}
 use Rattle.ns_settle.specs.Stamped.{changed_events, stamped_rows, stamped_tenant, touches}
 
@@ -68,8 +68,3 @@ is_last w ns x = option_map_or (λ x. option_map_or (λ t. touches t x && nat_lt
 
 abbrev pub any_last : World → Change → Bool
 any_last w c = list_any (λ e. is_last w e.0 e.1) (entries c.tenants)
-
--- all that the step changes, or that it is refused for want of an index
-abbrev pub SettlesTo : World → World → Option Settled → Type 0
-SettlesTo w w' (Some s) = settled_world w s ≡ settle w w'
-SettlesTo w w' None = any_row (λ _ t. is_tenant_past_bound t) w.tenants ≡ false → is_past_bound (settle w w') ≡ true

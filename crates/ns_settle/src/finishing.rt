@@ -1,12 +1,14 @@
 //! The end of a step: blocked evaluations wake, and changed rows get their indexes and events.
 
-ghost use Rattle.std.specs.Prelude.{◌≡◌, ◌+◌, false, nat_lt, IfOk, Some};
+ghost use Rattle.std.specs.Prelude.{◌≡◌, false, IfOk, Some};
 ghost use Rattle.std.specs.FinMap.{entries};
 ghost use Rattle.std.specs.List.{list_any};
-ghost use Rattle.ns_types.specs.Steps.{greatest};
+ghost use Rattle.ns_types.specs.Settling.Settle.{settle};
+ghost use Rattle.ns_types.specs.Steps.{is_past_bound};
 ghost use Rattle.ns_types.specs.State.Tables.{table_of};
 ghost use Rattle.ns_change.specs.Changed.{view};
-ghost use Rattle.ns_settle.specs.Settles.{SettlesTo, is_last, settled_slot};
+ghost use Rattle.ns_change.specs.Settled.{settled_world};
+ghost use Rattle.ns_settle.specs.Settles.{is_last, settled_slot};
 ghost use Rattle.ns_settle.specs.Stamped.{events_at, stamp_change};
 ghost use Rattle.ns_world.specs.World.{tenant_of, world_of};
 
@@ -49,32 +51,6 @@ fn events_at(
         change.allocations.as_slice(),
     )?;
     Ok(events)
-}
-
-/// Whether the index can not rise any more.
-fn is_at_bound(index: u64) -> bool
-    ensures { result ≡ nat_lt greatest (index + 1) }
-{
-    index == u64::MAX
-}
-
-/// Whether a row of the namespace changed, and its index can not rise any more.
-fn is_last(tables: &Tables, slot: &TenantSlot) -> bool
-    ensures { result ≡ is_last (world_of tables.now) slot.now.0 slot.now.1 }
-{
-    let Some(change) = &slot.1 else {
-        return false;
-    };
-    match tables.tenants.get(&slot.0) {
-        Some(tenant) => touches(tenant, change) && is_at_bound(tenant.index),
-        None => false,
-    }
-}
-
-fn any_last(tables: &Tables, slots: &[TenantSlot]) -> bool
-    ensures { result ≡ list_any (λ e. is_last (world_of tables.now) e.0 e.1) slots.now }
-{
-    slots.iter().any(|slot| is_last(tables, slot))
 }
 
 /// The changed rows of a namespace with the index.
@@ -161,18 +137,18 @@ fn settle_tenants(
     Ok(NameTable::from_slots(rows))
 }
 
-/// All that a step changes, by what it changes itself. None: an index passes its bound, and the step is refused.
-pub fn settle(tables: &Tables, mut change: Change) -> Result<Option<Settled>, AllocError>
-    ensures { IfOk result (λ settled.
-        SettlesTo (world_of tables.now) (view tables.now change) settled) }
+/// All that a step changes, by what it changes itself. Want of memory is the only error.
+pub fn settle(tables: &Tables, mut change: Change) -> Result<Settled, AllocError>
+    requires { is_past_bound (settle (world_of tables.now) (view tables.now change)) ≡ false }
+    ensures settled { IfOk result (λ settled. settled_world (world_of tables.now) settled
+        ≡ settle (world_of tables.now) (view tables.now change)) }
+    ensures fits { IfOk result (λ settled.
+        is_past_bound (settled_world (world_of tables.now) settled) ≡ false) }
 {
     let rooms = released_rooms(tables, &change)?;
     let quotas = released_quotas(tables, &change)?;
-    let keys = woken_keys(tables, &change, rooms.as_slice(), quotas.as_slice())?;
+    let keys = woken_keys(tables, &change)?;
     wake(tables, &mut change, keys.as_slice())?;
-    if any_last(tables, change.tenants.as_slice()) {
-        return Ok(None);
-    }
     let Change {
         tenants,
         pools,
@@ -181,7 +157,7 @@ pub fn settle(tables: &Tables, mut change: Change) -> Result<Option<Settled>, Al
         blocked,
     } = change;
     let tenants = settle_tenants(tables, tenants)?;
-    Ok(Some(Settled {
+    Ok(Settled {
         tenants,
         pools,
         ready,
@@ -189,5 +165,5 @@ pub fn settle(tables: &Tables, mut change: Change) -> Result<Option<Settled>, Al
         blocked,
         rooms,
         quotas,
-    }))
+    })
 }

@@ -7,16 +7,18 @@ ghost use Rattle.ns_settle.specs.Released.{rooms_ended, rooms_ended_in, rooms_of
 ghost use Rattle.ns_world.specs.World.{pool_of, tenant_of, world_of};
 ghost use Rattle.ns_change.specs.Changed.{view};
 
-use crate::blocked::Room;
 use crate::releasing::ended;
 use ns_alike::{class_of, is_free, same_offer};
 use ns_change::{Change, PoolChange, TenantChange, node};
 use ns_types::allocation::Allocation;
-use ns_types::node::Node;
+use ns_types::node::{Class, Node};
 use ns_types::rows::Rows;
 use ns_types::text::Text;
 use ns_world::{PoolRows, Tables, TenantRows};
 use std::alloc::{AllocError, Global};
+
+/// A released class with its pool.
+pub type Room = (Text, Class);
 
 /// A changed node with its name, or one that is gone.
 type NodeSlot = (Text, Option<Node>);
@@ -40,7 +42,7 @@ fn differs(rows: &PoolRows, name: &Text, node: &Node) -> bool
     }
 }
 
-fn gives_itself(rows: &PoolRows, name: &Text, node: &Node) -> bool
+pub fn gives_itself(rows: &PoolRows, name: &Text, node: &Node) -> bool
     ensures { result ≡ gives_itself (pool_of rows.now) name.now node.now }
 {
     is_free(node) && differs(rows, name, node)

@@ -93,7 +93,7 @@ impl Shown for Allocation {
 }
 
 /// Whether the row is new, or shown otherwise than before.
-fn changes_row<R: Shown>(before: &NumberTable<R>, number: u64, row: &R) -> bool
+pub fn changes_row<R: Shown>(before: &NumberTable<R>, number: u64, row: &R) -> bool
     ensures { result ≡ changes_row R.kind (rows before.now) number row.now }
 {
     match before.get(number) {
@@ -246,13 +246,15 @@ pub fn tell_jobs(
 
 // ---- whether a row of the namespace changed
 
-fn any_job(tenant: &TenantRows, slots: &[JobSlot]) -> bool
+/// Whether a job is new, shown otherwise, or gone.
+pub fn any_job(tenant: &TenantRows, slots: &[JobSlot]) -> bool
     ensures { result ≡ list_any (changes_job_slot (tenant_of tenant.now)) slots.now }
 {
     slots.iter().any(|slot| changes_job_slot(tenant, slot))
 }
 
-fn any_row<R: Shown>(before: &NumberTable<R>, slots: &[(u64, Option<R>)]) -> bool
+/// Whether a row is new, or shown otherwise than before.
+pub fn any_row<R: Shown>(before: &NumberTable<R>, slots: &[(u64, Option<R>)]) -> bool
     ensures { result ≡ list_any (changes_slot R.kind (rows before.now)) slots.now }
 {
     slots.iter().any(|slot| changes_slot(before, slot))

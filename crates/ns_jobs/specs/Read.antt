@@ -1,0 +1,104 @@
+-- What a read in a namespace says.
+use Rattle.std.specs.Prelude.{ℕ, ◌+◌, ◌<◌, ◌^◌, Bool, true, false, cond, List, Option, Some, None, Result}
+use Rattle.std.specs.Prelude.{filter, map, sum_by}
+use Rattle.std.specs.FinMap.{entries}
+use Rattle.keyed.specs.Table.{row_list}
+use Rattle.ns_types.specs.declared.allocation.Allocation.{Allocation}
+use Rattle.ns_types.specs.declared.evaluation.Evaluation.{Evaluation}
+use Rattle.ns_types.specs.declared.id.IdKind.TheVariants as IdKind
+use Rattle.ns_types.specs.declared.job.Job.{Job}
+use Rattle.ns_types.specs.declared.refusal.Refusal.{Refusal}
+use Rattle.ns_types.specs.declared.reply.AllocationShown.{AllocationShown}
+use Rattle.ns_types.specs.declared.reply.Content.{Content}
+use Rattle.ns_types.specs.declared.reply.EvaluationShown.{EvaluationShown}
+use Rattle.ns_types.specs.declared.reply.JobShown.{JobShown}
+use Rattle.ns_types.specs.declared.resources.Resources.{Resources}
+use Rattle.ns_types.specs.declared.step.AskCommand.{AskCommand}
+use Rattle.ns_types.specs.Asking.Asks.{ask, asked_in}
+use Rattle.ns_types.specs.Asking.Reads.{job_shown}
+use Rattle.ns_types.specs.Settling.Outcome.{Changes}
+use Rattle.ns_types.specs.State.Id.{id_text}
+use Rattle.ns_types.specs.State.Names.{Name, begins_with, same_name}
+use Rattle.ns_types.specs.State.Rows.{World, Tenant, is_live}
+use Rattle.ns_types.specs.State.Sums.{names_quota, quota_use}
+use Rattle.ns_world.specs.declared.tables.Tables.{Tables}
+use Rattle.ns_world.specs.declared.tables.TenantRows.{TenantRows}
+use Rattle.ns_world.specs.World.{tenant_of, world_of}
+
+-- the command changes nothing
+abbrev pub only_reads : AskCommand → Bool
+only_reads (AskCommand.Register r) = false
+only_reads (AskCommand.Deregister id purge) = false
+only_reads (AskCommand.StopAllocation n) = false
+only_reads _ = true
+
+-- what is said, or why not, and the tables are as they were
+abbrev pub Reads : Name → AskCommand → Tables → Result Content Refusal → Type 0
+Reads ns command t result = Changes (ask ns command (world_of t)) (world_of t) result (world_of t)
+
+-- of a namespace with these rows
+abbrev pub ReadsIn : Name → AskCommand → World → TenantRows → Result Content Refusal → Type 0
+ReadsIn ns command w x result = Changes (asked_in ns command w (tenant_of x)) w result w
+
+-- whatever else there is
+abbrev pub SaysIn : Name → AskCommand → TenantRows → Result Content Refusal → Type 0
+SaysIn ns command x result = (w : World) → ReadsIn ns command w x result
+
+-- ---- lists
+
+-- the jobs of the slots whose ids begin so
+abbrev pub jobs_shown : Name → Name → Tenant → List (Name × Option Job) → List JobShown
+jobs_shown ns prefix t slots = map (λ e. job_shown ns t e.0 e.1) (filter (λ e. begins_with prefix e.0) (row_list slots))
+
+-- which evaluations a command lists: those of a job, or those whose ids begin so
+abbrev pub lists_evaluation : AskCommand → EvaluationShown → Bool
+lists_evaluation (AskCommand.JobEvaluations job) e = same_name job e.row.job
+lists_evaluation (AskCommand.ListEvaluations prefix) e = begins_with prefix (id_text IdKind.Evaluation e.number)
+lists_evaluation _ e = false
+
+abbrev pub evaluations_shown : Name → AskCommand → List (ℕ × Option Evaluation) → List EvaluationShown
+evaluations_shown ns command slots = filter (lists_evaluation command)
+    (map (λ e. record { namespace = ns; number = e.0; row = e.1 }) (row_list slots))
+
+abbrev pub lists_allocation : AskCommand → AllocationShown → Bool
+lists_allocation (AskCommand.JobAllocations job) a = same_name job a.row.job
+lists_allocation (AskCommand.ListAllocations prefix) a = begins_with prefix (id_text IdKind.Allocation a.number)
+lists_allocation _ a = false
+
+abbrev pub allocations_shown : Name → AskCommand → List (ℕ × Option Allocation) → List AllocationShown
+allocations_shown ns command slots = filter (lists_allocation command)
+    (map (λ a. record { namespace = ns; number = a.0; row = a.1 }) (row_list slots))
+
+-- ---- the use of a quota
+
+-- each sum has a number of the program
+pub record UseFits (used : Resources) : Type 0 where
+  pub cpu : used.cpu < 2 ^ 64
+  pub memory : used.memory < 2 ^ 64
+
+-- those of all quotas
+abbrev pub UsesFit : World → Type 0
+UsesFit w = (quota : Name) → UseFits (quota_use w quota)
+
+abbrev pub live_amount : (Resources → ℕ) → ℕ × Option Allocation → ℕ
+live_amount amount (n, None) = 0
+live_amount amount (n, Some a) = cond (is_live a) (amount a.size) 0
+
+-- with what the live allocations of the slots take
+abbrev pub with_live : Resources → List (ℕ × Option Allocation) → Resources
+with_live used slots = record {
+  cpu = used.cpu + sum_by (live_amount (λ r. r.cpu)) slots;
+  memory = used.memory + sum_by (live_amount (λ r. r.memory)) slots;
+}
+
+abbrev pub tenant_amount : Name → (Resources → ℕ) → Name × Option TenantRows → ℕ
+tenant_amount quota amount (ns, None) = 0
+tenant_amount quota amount (ns, Some x) =
+    cond (names_quota quota x.namespace) (sum_by (live_amount amount) (entries x.allocations)) 0
+
+-- with what the namespaces of the slots take of the quota
+abbrev pub with_tenants : Name → Resources → List (Name × Option TenantRows) → Resources
+with_tenants quota used slots = record {
+  cpu = used.cpu + sum_by (tenant_amount quota (λ r. r.cpu)) slots;
+  memory = used.memory + sum_by (tenant_amount quota (λ r. r.memory)) slots;
+}

@@ -1,0 +1,144 @@
+//! Jobs as replies show them, with their statuses.
+
+ghost use Rattle.std.specs.Prelude.{◌≡◌, ◌&&◌, IfOk};
+ghost use Rattle.std.specs.List.{list_any};
+ghost use Rattle.keyed.specs.Table.{at_slot};
+ghost use Rattle.ns_types.specs.declared.step.AskCommand.TheVariants as AskCommand;
+ghost use Rattle.ns_types.specs.Asking.Reads.{job_shown, job_status};
+ghost use Rattle.ns_types.specs.State.Names.{same_name};
+ghost use Rattle.ns_types.specs.State.Rows.{is_held, is_live, is_run};
+ghost use Rattle.ns_jobs.specs.Read.{SaysIn, jobs_shown};
+ghost use Rattle.ns_world.specs.World.{tenant_of};
+
+use crate::looking::{self, begins};
+use ns_alike::same_text;
+use ns_types::allocation::{Allocation, ClientStatus, DesiredStatus};
+use ns_types::job::Job;
+use ns_types::refusal::Refusal;
+use ns_types::reply::{Content, JobShown, JobStatus};
+use ns_types::rows::Rows;
+use ns_types::text::Text;
+use ns_world::TenantRows;
+use std::alloc::{AllocError, Global};
+
+/// An allocation with its number, or a vacant slot.
+pub(crate) type AllocationSlot = (u64, Option<Allocation>);
+
+fn is_run(desired: DesiredStatus) -> bool
+    ensures { result ≡ is_run desired }
+{
+    match desired {
+        DesiredStatus::Run => true,
+        DesiredStatus::Stop | DesiredStatus::Evict => false,
+    }
+}
+
+fn is_held(client: ClientStatus) -> bool
+    ensures { result ≡ is_held client }
+{
+    match client {
+        ClientStatus::Pending | ClientStatus::Running => true,
+        ClientStatus::Complete | ClientStatus::Failed | ClientStatus::Lost => false,
+    }
+}
+
+/// Whether the allocation counts: it is desired to run, and its client has not ended it.
+pub(crate) fn is_live(allocation: &Allocation) -> bool
+    ensures { result ≡ is_live allocation.now }
+{
+    is_run(allocation.desired) && is_held(allocation.client)
+}
+
+fn is_live_of(slot: &AllocationSlot, id: &Text) -> bool
+    ensures { result ≡ at_slot (λ e. same_name id.now e.1.job && is_live e.1) slot.now }
+{
+    match &slot.1 {
+        Some(allocation) => same_text(id, &allocation.job) && is_live(allocation),
+        None => false,
+    }
+}
+
+fn any_live_of(slots: &[AllocationSlot], id: &Text) -> bool
+    ensures { result
+        ≡ list_any (at_slot (λ e. same_name id.now e.1.job && is_live e.1)) slots.now }
+{
+    slots.iter().any(|slot| is_live_of(slot, id))
+}
+
+/// Dead if it is stopped, running if it has a live allocation, otherwise pending.
+fn job_status(tenant: &TenantRows, id: &Text, job: &Job) -> JobStatus
+    ensures { result ≡ job_status (tenant_of tenant.now) id.now job.now }
+{
+    if job.stop {
+        JobStatus::Dead
+    } else if any_live_of(tenant.allocations.as_slice(), id) {
+        JobStatus::Running
+    } else {
+        JobStatus::Pending
+    }
+}
+
+fn job_shown(
+    namespace: &Text,
+    tenant: &TenantRows,
+    id: &Text,
+    job: &Job,
+) -> Result<JobShown, AllocError>
+    ensures { IfOk result
+        (λ shown. shown ≡ job_shown namespace.now (tenant_of tenant.now) id.now job.now) }
+{
+    Ok(JobShown {
+        namespace: namespace.clone()?,
+        id: id.clone()?,
+        row: job.clone()?,
+        status: job_status(tenant, id, job),
+    })
+}
+
+/// The jobs whose ids begin so, by id.
+fn jobs_shown(
+    alloc: Global,
+    namespace: &Text,
+    tenant: &TenantRows,
+    prefix: &Text,
+    slots: &[(Text, Option<Job>)],
+) -> Result<Rows<JobShown>, AllocError>
+    ensures { IfOk result (λ shown. shown
+        ≡ jobs_shown namespace.now prefix.now (tenant_of tenant.now) slots.now) }
+{
+    let mut shown = Rows::new(alloc);
+    let mut rest = slots;
+    while let Some(((id, row), others)) = rest.split_first() {
+        if let Some(job) = row {
+            if begins(prefix, id) {
+                shown.push(job_shown(namespace, tenant, id, job)?)?;
+            }
+        }
+        rest = others;
+    }
+    Ok(shown)
+}
+
+/// What the read of a job says.
+pub(crate) fn read_job(namespace: &Text, tenant: &TenantRows, id: &Text) -> Result<Content, Refusal>
+    ensures { SaysIn namespace.now (AskCommand.ReadJob id.now) tenant.now result }
+{
+    let Some(job) = looking::job(tenant, id) else {
+        return Err(Refusal::NotFound);
+    };
+    let shown = job_shown(namespace, tenant, id, job)?;
+    Ok(Content::Job(shown))
+}
+
+/// What the list of jobs says.
+pub(crate) fn list_jobs(
+    alloc: Global,
+    namespace: &Text,
+    tenant: &TenantRows,
+    prefix: &Text,
+) -> Result<Content, Refusal>
+    ensures { SaysIn namespace.now (AskCommand.ListJobs prefix.now) tenant.now result }
+{
+    let jobs = jobs_shown(alloc, namespace, tenant, prefix, tenant.jobs.as_slice())?;
+    Ok(Content::Jobs(jobs))
+}

@@ -1,0 +1,51 @@
+//! Rows of a namespace by id and number, and ids by their beginnings.
+
+ghost use Rattle.std.specs.Prelude.{◌≡◌, option_copied};
+ghost use Rattle.std.specs.FinMap.{get};
+ghost use Rattle.ns_types.specs.State.Id.{id_text};
+ghost use Rattle.ns_types.specs.State.Names.{begins_with};
+ghost use Rattle.ns_world.specs.World.{tenant_of};
+
+use ns_types::allocation::Allocation;
+use ns_types::evaluation::Evaluation;
+use ns_types::id::{IdKind, id_str};
+use ns_types::job::Job;
+use ns_types::text::Text;
+use ns_world::TenantRows;
+
+pub(crate) fn job<'a>(tenant: &'a TenantRows, id: &Text) -> Option<&'a Job>
+    ensures { option_copied result ≡ get (tenant_of tenant.now).jobs id.now }
+{
+    tenant.jobs.get(id)
+}
+
+pub(crate) fn evaluation(tenant: &TenantRows, number: u64) -> Option<&Evaluation>
+    ensures { option_copied result ≡ get (tenant_of tenant.now).evaluations number }
+{
+    tenant.evaluations.get(number)
+}
+
+pub(crate) fn allocation(tenant: &TenantRows, number: u64) -> Option<&Allocation>
+    ensures { option_copied result ≡ get (tenant_of tenant.now).allocations number }
+{
+    tenant.allocations.get(number)
+}
+
+/// Whether the id of a job begins so.
+pub(crate) fn begins(prefix: &Text, id: &Text) -> bool
+    ensures { result ≡ begins_with prefix.now id.now }
+{
+    id.as_str()
+        .as_bytes()
+        .starts_with(prefix.as_str().as_bytes())
+}
+
+/// Whether the id of that kind and number begins so.
+pub(crate) fn id_begins(prefix: &Text, kind: IdKind, number: u64) -> bool
+    ensures { result ≡ begins_with prefix.now (id_text kind number) }
+{
+    let mut buffer = [0; 36];
+    id_str(kind, number, &mut buffer)
+        .as_bytes()
+        .starts_with(prefix.as_str().as_bytes())
+}

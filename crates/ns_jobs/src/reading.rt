@@ -1,0 +1,121 @@
+//! What is read in a namespace.
+
+ghost use Rattle.std.specs.Prelude.{◌≡◌, IfOk, IsTrue, filter, nat_le};
+ghost use Rattle.ns_types.specs.declared.step.AskCommand.TheVariants as AskCommand;
+ghost use Rattle.ns_types.specs.Asking.Reads.{events_from};
+ghost use Rattle.ns_jobs.specs.Read.{Reads, ReadsIn, SaysIn, UsesFit, only_reads};
+ghost use Rattle.ns_world.specs.World.{tenant_of, world_of};
+
+use crate::allocations::{list_allocations, read_allocation};
+use crate::evaluations::{list_evaluations, read_evaluation};
+use crate::jobs::{list_jobs, read_job};
+use crate::usage::quota_usage;
+use ns_types::event::{Event, Topic};
+use ns_types::refusal::Refusal;
+use ns_types::reply::{Content, NamespaceShown};
+use ns_types::rows::Rows;
+use ns_types::step::AskCommand;
+use ns_types::text::Text;
+use ns_world::{Tables, TenantRows};
+use std::alloc::{AllocError, Global};
+
+/// What the read of the namespace's record says.
+fn read_namespace(namespace: &Text, tenant: &TenantRows) -> Result<Content, Refusal>
+    ensures { SaysIn namespace.now AskCommand.ReadNamespace tenant.now result }
+{
+    Ok(Content::Namespace(NamespaceShown {
+        name: namespace.clone()?,
+        row: tenant.namespace.clone()?,
+    }))
+}
+
+fn copied_topic(topic: &Topic) -> Result<Topic, AllocError>
+    ensures { IfOk result (λ copy. copy ≡ topic.now) }
+{
+    match topic {
+        Topic::JobRegistered(id) => Ok(Topic::JobRegistered(id.clone()?)),
+        Topic::JobDeregistered(id) => Ok(Topic::JobDeregistered(id.clone()?)),
+        Topic::EvaluationUpdated(number) => Ok(Topic::EvaluationUpdated(*number)),
+        Topic::AllocationUpdated(number) => Ok(Topic::AllocationUpdated(*number)),
+    }
+}
+
+fn copied(event: &Event) -> Result<Event, AllocError>
+    ensures { IfOk result (λ copy. copy ≡ event.now) }
+{
+    Ok(Event {
+        index: event.index,
+        topic: copied_topic(&event.topic)?,
+    })
+}
+
+/// Those whose index is at least that one, the newest last.
+fn events_since(alloc: Global, index: u64, events: &[Event]) -> Result<Rows<Event>, AllocError>
+    ensures { IfOk result (λ kept. kept ≡ filter (λ e. nat_le index e.index) events.now) }
+{
+    let mut kept = Rows::new(alloc);
+    for event in events {
+        if index <= event.index {
+            kept.push(copied(event)?)?;
+        }
+    }
+    Ok(kept)
+}
+
+/// What the read of events says.
+fn events_from(
+    alloc: Global,
+    namespace: &Text,
+    tenant: &TenantRows,
+    index: u64,
+) -> Result<Content, AllocError>
+    ensures { IfOk result
+        (λ said. said ≡ events_from namespace.now index (tenant_of tenant.now)) }
+{
+    let name = namespace.clone()?;
+    let kept = events_since(alloc, index, tenant.events.as_slice())?;
+    Ok(Content::Events(name, kept))
+}
+
+/// What a command that only reads says of a namespace.
+fn read_in(
+    tables: &Tables,
+    namespace: &Text,
+    tenant: &TenantRows,
+    command: &AskCommand,
+) -> Result<Content, Refusal>
+    requires reads { IsTrue (only_reads command.now) }
+    requires fits { UsesFit (world_of tables.now) }
+    ensures { ReadsIn namespace.now command.now (world_of tables.now) tenant.now result }
+{
+    let alloc = tables.alloc;
+    match command {
+        AskCommand::ListJobs(prefix) => list_jobs(alloc, namespace, tenant, prefix),
+        AskCommand::ReadJob(id) => read_job(namespace, tenant, id),
+        AskCommand::ReadEvaluation(number) => read_evaluation(namespace, tenant, *number),
+        AskCommand::ReadAllocation(number) => read_allocation(namespace, tenant, *number),
+        AskCommand::JobEvaluations(_) | AskCommand::ListEvaluations(_) => {
+            Ok(list_evaluations(alloc, namespace, tenant, command)?)
+        }
+        AskCommand::JobAllocations(_) | AskCommand::ListAllocations(_) => {
+            Ok(list_allocations(alloc, namespace, tenant, command)?)
+        }
+        AskCommand::ReadNamespace => read_namespace(namespace, tenant),
+        AskCommand::QuotaUsage(quota) => quota_usage(tables, tenant, quota),
+        AskCommand::Events(index) => Ok(events_from(alloc, namespace, tenant, *index)?),
+        _ => unreachable!(),
+    }
+}
+
+/// Answers a command that only reads. `NotFound`: there is no such namespace, or in it no such job, evaluation or
+/// allocation, or the quota is not the namespace's.
+pub fn read(tables: &Tables, namespace: &Text, command: &AskCommand) -> Result<Content, Refusal>
+    requires reads { IsTrue (only_reads command.now) }
+    requires fits { UsesFit (world_of tables.now) }
+    ensures { Reads namespace.now command.now tables.now result }
+{
+    let Some(tenant) = tables.tenants.get(namespace) else {
+        return Err(Refusal::NotFound);
+    };
+    read_in(tables, namespace, tenant, command)
+}
