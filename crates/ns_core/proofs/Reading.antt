@@ -66,7 +66,7 @@ pub reads_alone : (command : AskCommand) → IsTrue (only_reads (served_ask comm
 reads_alone (AskCommand.Register r) only served = only
 reads_alone (AskCommand.Deregister id purge) only served = served
 reads_alone (AskCommand.StopAllocation n) only served = served
-reads_alone _ only served = tt
+reads_alone _ only served = refl
 
 pub read_makes : (s : State) (ns : Name) (secret : Option Name) (command : AskCommand) → IsHeld s.world → IsServedAsk command
     → only_reads (served_ask command) ≡ true → right_of command (rights_of s.acl secret ns) ≡ true

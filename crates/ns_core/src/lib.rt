@@ -4,6 +4,7 @@
 mod administration;
 mod parts;
 mod pool;
+mod reads;
 mod rights;
 mod server;
 

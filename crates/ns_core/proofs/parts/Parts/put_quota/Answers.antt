@@ -46,25 +46,25 @@ returns-in_err-content-clause-made c =
     let s = state_of c.args.self.now in
     let w' = world_of (record c.args.self.now { tables = c.put_quota.new.tables }) in
     let kept = put_keeps c.args.name.now c.args.quota.now (world_of c.args.self.now) w' c.in_err-content.field-0.0
-    c.in_err-content.ensures in
+    c.in_err-content.ensures.made in
     let p = err_from_is_err_and c.from_residual.result c.from_residual.ensures.1 in
     λ secret allowed. rw (p.1, p.2) (subst
     (λ w. Makes (Step.Admin secret (AdminCommand.PutQuota c.args.name.now c.args.quota.now)) s (Err c.in_err-content.field-0.0) (record s { world = w }))
     (sym kept)
     (quota_makes s c.args.name.now c.args.quota.now c.requires.early secret allowed
     (release_passes (world_of c.args.self.now) c.args.name.now c.args.quota.now c.requires.early ∙ fits c.before.before.before.before.before)
-    (Err c.in_err-content.field-0.0) w' c.in_err-content.ensures))
+    (Err c.in_err-content.field-0.0) w' c.in_err-content.ensures.made))
 
 pub returns-in_err-content-clause-held : goal.returns-in_err-content-clause-held
 returns-in_err-content-clause-held c = subst IsHeld (sym (put_keeps c.args.name.now c.args.quota.now (world_of c.args.self.now)
     (world_of (record c.args.self.now { tables = c.put_quota.new.tables })) c.in_err-content.field-0.0
-    c.in_err-content.ensures)) c.requires
+    c.in_err-content.ensures.made)) c.requires
 
 pub release_quota-requires : goal.release_quota-requires
 release_quota-requires c = λ row at.
     let other = sym c.is_relimited-releases.ensures ∙ c.if-releases-2.true in
     may_release (world_of c.args.self.now) (world_of (record c.args.self.now { tables = c.put_quota.new.tables }))
-    c.args.name.now c.args.quota.now c.in_ok-content.content c.in_ok-content.ensures other
+    c.args.name.now c.args.quota.now c.in_ok-content.content c.in_ok-content.ensures.made other
     (release_fits (world_of c.args.self.now) c.args.name.now c.args.quota.now (fits c.before.before.before.before.before.before) other)
     (quota_of row) (quota_is c.put_quota.new.tables c.args.name.now (Some row) at)
 
@@ -73,7 +73,7 @@ within c = release_passes (world_of c.args.self.now) c.args.name.now c.args.quot
 
 done : (c : goal.After-plain) → put_quota c.args.name.now c.args.quota.now (world_of c.args.self.now) ≡ Done c.in_ok-content.content
     (world_of (record c.args.self.now { tables = c.put_quota.new.tables }))
-done c = c.in_ok-content.ensures
+done c = c.in_ok-content.ensures.made
 
 final : (c : goal.After-plain) → state_of c.if-releases-2.self ≡ relimited_state (state_of c.args.self.now) c.args.name.now c.args.quota.now
 final c = elim c.if-releases-2.branch [
