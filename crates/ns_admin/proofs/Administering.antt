@@ -9,8 +9,8 @@ use Rattle.ns_types.specs.declared.records.Pool.{Pool}
 use Rattle.ns_types.specs.declared.records.Quota.{Quota}
 use Rattle.ns_types.specs.declared.refusal.Refusal.{Refusal}
 use Rattle.ns_types.specs.declared.step.AdminCommand.{AdminCommand}
-use Rattle.ns_types.specs.Asking.Admins.{delete_namespace, delete_pool, delete_quota, has_live, has_open, is_relimited, put_namespace, put_pool_record, put_quota}
-use Rattle.ns_types.specs.Asking.Admins.{read_quota, with_namespace, with_pool, with_quota}
+use Rattle.ns_types.specs.Asking.Admins.{delete_namespace, delete_pool, delete_quota, has_live, has_open, is_relimited, put_namespace, put_pool_record}
+use Rattle.ns_types.specs.Asking.Admins.{put_quota, read_quota, with_namespace, with_pool, with_quota}
 use Rattle.ns_types.specs.Asking.Policies.{administer, create_token, delete_policy, delete_token, put_policy, read_policy, with_acl, with_world}
 use Rattle.ns_types.specs.Settling.Making.{put_pool, put_tenant}
 use Rattle.ns_types.specs.Settling.Outcome.{Outcome, NotEnabled, Refused, Done, found, lift, unless}

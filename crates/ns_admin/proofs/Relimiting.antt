@@ -1,6 +1,7 @@
 -- What a put of a quota with other limits leads to, in every world.
 use Rattle.std.specs.Prelude.{◌≡◌, Bool, true, false, cond, ◌&&◌, ◌||◌, if◌then◌else◌, List, [], ◌∷◌, ◌++◌, Option, Some, None, is_some, filter, fold}
 use Rattle.std.proofs.Common.{refl, sym, ap, ◌∙◌}
+use Rattle.std.proofs.Math.Bool.{or-true}
 use Rattle.std.specs.List.{list_any}
 use Rattle.std.specs.Option.{option_map_or}
 use Rattle.std.specs.FinMap.{get, insert}
@@ -78,16 +79,12 @@ wake_quotas keys w = ap (λ x. x.quotas) (wake_beside w.quotas keys w)
 
 -- ---- entries of a list
 
-or_true : (b : Bool) → (b || true) ≡ true
-or_true true = refl
-or_true false = refl
-
 -- its members pass the test of membership
 among : (p q : Key → Bool) → ((k : Key) → p k ≡ q k) → (base keys : List Key) → ((k : Key) → has_key keys k ≡ true → has_key base k ≡ true)
     → filter (λ k. has_key base k && p k) keys ≡ filter q keys
 among p q same base [] inside = refl
 among p q same base (k ∷ keys) inside =
-    let rest = among p q same base keys (λ other is. inside other (ap (λ b. same_key other k || b) is ∙ or_true (same_key other k))) in
+    let rest = among p q same base keys (λ other is. inside other (ap (λ b. same_key other k || b) is ∙ or-true (same_key other k))) in
     (λ i. cond (inside k (ap (λ b. b || has_key keys k) (same_key_refl k)) i && p k) (k ∷ rest i) (rest i)) ∙
     ap (λ b. cond b (k ∷ filter q keys) (filter q keys)) (same k)
 

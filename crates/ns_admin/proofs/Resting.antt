@@ -1,7 +1,8 @@
 -- Steps on records: the rows of namespaces, pools and quotas stay as they are but for their records, a new owner has nothing, and what goes had nothing
 -- that lives. Such a step releases at most quotas with other limits; where there is none, it settles as it is.
-use Rattle.std.specs.Prelude.{◌≡◌, ℕ, ◌+◌, Bool, true, false, if◌then◌else◌, ◌&&◌, ◌||◌, [], Option, Some, None, is_some, nat_lt, map}
+use Rattle.std.specs.Prelude.{◌≡◌, ℕ, ◌+◌, true, false, if◌then◌else◌, ◌&&◌, ◌||◌, [], Option, Some, None, is_some, nat_lt, map}
 use Rattle.std.proofs.Common.{refl, sym, ap, subst, ◌∙◌}
+use Rattle.std.proofs.Math.Bool.{and-false}
 use Rattle.std.specs.List.{list_any}
 use Rattle.std.specs.Option.{option_and_then, option_map_or}
 use Rattle.std.specs.FinMap.{get, get-empty}
@@ -129,13 +130,9 @@ module _ (w w' : World) (rests : Rests w w') where
 
     pub wakes_none : woken w w' ≡ []
     unfolding woken
-    wakes_none = filter_none _ w.blocked (each _ (λ key. ap (λ b. has_key w'.blocked key && b) (by (evaluation_at w key)) ∙ none (has_key w'.blocked key))
+    wakes_none = filter_none _ w.blocked (each _ (λ key. ap (λ b. has_key w'.blocked key && b) (by (evaluation_at w key)) ∙ and-false (has_key w'.blocked key))
         w.blocked)
       where
-        none : (b : Bool) → (b && false) ≡ false
-        none true = refl
-        none false = refl
-
         by : (e : Option Evaluation) → option_map_or (wakes w w') e false ≡ false
         by None = refl
         by (Some e) = wakes_not e

@@ -14,8 +14,8 @@ use Rattle.ns_types.specs.declared.reply.PoolShown.{PoolShown}
 use Rattle.ns_types.specs.declared.reply.QuotaShown.{QuotaShown}
 use Rattle.ns_types.specs.declared.worker.Worker.{Worker}
 use Rattle.ns_types.specs.Access.Sharing.{is_confined, overlaps, permits}
-use Rattle.ns_types.specs.Asking.Admins.{forbids_put, has_live, has_open, is_withdrawn, looks_to_pool, names_pool}
-use Rattle.ns_types.specs.Asking.Admins.{uses_pool, with_namespace, with_pool, with_quota}
+use Rattle.ns_types.specs.Asking.Admins.{forbids_put, has_live, has_open, looks_to_pool, names_pool}
+use Rattle.ns_types.specs.Asking.Admins.{with_namespace, with_pool, with_quota}
 use Rattle.ns_types.specs.Settling.Making.{put_pool, put_tenant}
 use Rattle.ns_types.specs.State.Names.{Name, same_name}
 use Rattle.ns_types.specs.State.Rows.{World, Tenant, QuotaRows, is_live, is_open}
@@ -71,10 +71,21 @@ shares_quota namespace other = option_map_or (λ quota. names_quota quota other)
 
 -- ---- what a namespace has
 
--- a job, an open evaluation, a kept snapshot or a live allocation of it names a pool that the new record no longer
--- permits
-abbrev pub has_withdrawn : Namespace → Tenant → Bool
-has_withdrawn new t = uses_pool (is_withdrawn t.namespace new) t
+-- a job of it is of a pool that passes
+abbrev pub has_job_in : (Name → Bool) → Tenant → Bool
+has_job_in passes t = any_row (λ _ job. passes job.document.pool) t.jobs
+
+-- an open evaluation
+abbrev pub has_open_in : (Name → Bool) → Tenant → Bool
+has_open_in passes t = any_row (λ _ e. is_open e.status && passes e.pool) t.evaluations
+
+-- a kept snapshot
+abbrev pub has_kept_in : (Name → Bool) → Tenant → Bool
+has_kept_in passes t = any_row (λ _ worker. option_map_or (λ kept. passes kept.pool) worker.kept false) t.workers
+
+-- a live allocation
+abbrev pub has_live_in : (Name → Bool) → Tenant → Bool
+has_live_in passes t = any_row (λ _ a. is_live a && passes a.pool) t.allocations
 
 -- a job, an open evaluation or a live allocation
 abbrev pub has_work : Tenant → Bool

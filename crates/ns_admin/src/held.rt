@@ -1,7 +1,7 @@
 //! What a namespace has that forbids a change: jobs, open evaluations, snapshots that workers keep and live
 //! allocations.
 
-ghost use Rattle.std.specs.Prelude.{◌≡◌, ◌&&◌, ◌||◌, true, false};
+ghost use Rattle.std.specs.Prelude.{◌≡◌, ◌||◌, true, false};
 ghost use Rattle.std.specs.List.{list_any};
 ghost use Rattle.std.specs.Option.{option_map_or};
 ghost use Rattle.keyed.specs.Table.{at_slot, rows};
@@ -9,7 +9,8 @@ ghost use Rattle.ns_types.specs.Asking.Admins.{forbids_put, has_live, has_open, 
 ghost use Rattle.ns_types.specs.State.Rows.{is_live, is_open};
 ghost use Rattle.ns_types.specs.State.Tables.{any_row};
 ghost use Rattle.ns_admin.specs.Asked.{passes};
-ghost use Rattle.ns_admin.specs.Viewed.{has_withdrawn, has_work, is_unfinished, job_in, kept_in, live_in, lives, open_in};
+ghost use Rattle.ns_admin.specs.Viewed.{has_job_in, has_kept_in, has_live_in, has_open_in, has_work};
+ghost use Rattle.ns_admin.specs.Viewed.{is_unfinished, job_in, kept_in, live_in, lives, open_in};
 ghost use Rattle.ns_world.specs.World.{tenant_of};
 
 use crate::sharing::{is_withdrawn, same_quota};
@@ -185,7 +186,7 @@ pub(crate) fn has_rows<V: Drop>(table: &NameTable<V>) -> bool
 }
 
 fn has_job_in(tenant: &TenantRows, asked: &Asked) -> bool
-    ensures { result ≡ any_row (λ _ job. passes asked.now job.document.pool) (rows tenant.now.jobs) }
+    ensures { result ≡ has_job_in (passes asked.now) (tenant_of tenant.now) }
 {
     any_job_in(tenant.jobs.as_slice(), asked)
 }
@@ -197,14 +198,13 @@ fn has_open(tenant: &TenantRows) -> bool
 }
 
 fn has_open_in(tenant: &TenantRows, asked: &Asked) -> bool
-    ensures { result ≡ any_row (λ _ e. is_open e.status && passes asked.now e.pool) (rows tenant.now.evaluations) }
+    ensures { result ≡ has_open_in (passes asked.now) (tenant_of tenant.now) }
 {
     any_open_in(tenant.evaluations.as_slice(), asked)
 }
 
 fn has_kept_in(tenant: &TenantRows, asked: &Asked) -> bool
-    ensures { result ≡ any_row (λ _ worker. option_map_or (λ kept. passes asked.now kept.pool) worker.kept false)
-        (rows tenant.now.workers) }
+    ensures { result ≡ has_kept_in (passes asked.now) (tenant_of tenant.now) }
 {
     any_kept_in(tenant.workers.as_slice(), asked)
 }
@@ -216,7 +216,7 @@ fn has_live(tenant: &TenantRows) -> bool
 }
 
 fn has_live_in(tenant: &TenantRows, asked: &Asked) -> bool
-    ensures { result ≡ any_row (λ _ a. is_live a && passes asked.now a.pool) (rows tenant.now.allocations) }
+    ensures { result ≡ has_live_in (passes asked.now) (tenant_of tenant.now) }
 {
     any_live_in(tenant.allocations.as_slice(), asked)
 }

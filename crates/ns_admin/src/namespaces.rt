@@ -101,7 +101,8 @@ pub fn put_namespace(
     name: &Text,
     namespace: &Namespace,
 ) -> Result<Content, Refusal>
-    ensures made { ChangesTables (put_namespace name.now namespace.now) tables.old result tables.new }
+    ensures made { let put = put_namespace name.now namespace.now in
+        ChangesTables put tables.old result tables.new }
     ensures refused { OnErr result (tables.new ≡ tables.old) }
 {
     if lacks_quota(tables, namespace) {
