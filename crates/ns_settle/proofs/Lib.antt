@@ -1,7 +1,6 @@
 pub mod Asked
 pub mod Bounded
 pub mod Classes
-pub mod Concluded
 pub mod Ending
 pub mod Finished
 pub mod Indexes

@@ -1,0 +1,41 @@
+//! A step ends: its change settles, and goes into the tables.
+
+ghost use Rattle.std.specs.Prelude.{◌≡◌, false, OnErr, OnOk};
+ghost use Rattle.ns_types.specs.Settling.Settle.{settle};
+ghost use Rattle.ns_types.specs.Steps.{is_past_bound};
+ghost use Rattle.ns_change.specs.Changed.{view};
+ghost use Rattle.ns_conclude.specs.Concludes.{Concludes};
+ghost use Rattle.ns_world.specs.World.{world_of};
+
+use ns_change::Change;
+use ns_commit::apply;
+use ns_settle::{is_past_bound, settle};
+use ns_types::refusal::Refusal;
+use ns_world::Tables;
+use std::alloc::AllocError;
+
+/// All that the step changes goes into the tables, or nothing. Want of memory is the only error.
+fn make(tables: &mut Tables, change: Change) -> Result<(), AllocError>
+    requires { is_past_bound (settle (world_of tables.old) (view tables.old change)) ≡ false }
+    ensures ok { OnOk result (world_of tables.new
+        ≡ settle (world_of tables.old) (view tables.old change)) }
+    ensures err { OnErr result (world_of tables.new ≡ world_of tables.old) }
+{
+    let settled = settle(tables, change)?;
+    apply(tables, settled)
+}
+
+/// Ends a step by what it changes itself. An error changes nothing. `Full`: a counter would pass its bound, which is
+/// judged without memory. `Memory`, which comes last: the step would have been made.
+pub fn conclude(tables: &mut Tables, change: Change) -> Result<(), Refusal>
+    requires { is_past_bound (world_of tables.old) ≡ false }
+    ensures { Concludes (world_of tables.old) (view tables.old change) result
+        (world_of tables.new) }
+{
+    if is_past_bound(tables, &change) {
+        drop(change);
+        return Err(Refusal::Full);
+    }
+    make(tables, change)?;
+    Ok(())
+}
