@@ -20,7 +20,7 @@ use Rattle.ns_change.specs.declared.change.Prepared.{Prepared}
 use Rattle.ns_change.specs.Prepared.{Prepares}
 use Rattle.ns_jobs.specs.Counted.{counted, counted_ask, passes_in}
 use Rattle.ns_world.specs.declared.tables.Tables.{Tables}
-use Rattle.ns_core.specs.Concluded.{Concludes}
+use Rattle.ns_conclude.specs.Concludes.{Concludes}
 
 -- what a refused outcome is refused with, and the world of one that is done
 abbrev refusal_of : Refusal → Outcome World → Refusal

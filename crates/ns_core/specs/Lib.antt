@@ -1,4 +1,3 @@
 pub mod Answering
-pub mod Concluded
 pub mod Held
 pub mod Viewed

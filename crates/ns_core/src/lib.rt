@@ -2,6 +2,7 @@
 #![tactic(auto)]
 
 mod administration;
+mod asks;
 mod parts;
 mod pool;
 mod reads;

@@ -45,6 +45,21 @@ impl Core {
         Ok(Core { parts })
     }
 
+    /// Makes the step that is asked in a namespace by a secret.
+    pub fn ask(
+        &mut self,
+        namespace: &Text,
+        secret: Option<&Text>,
+        command: &AskCommand,
+    ) -> Result<Reply, Refusal>
+        requires { IsServedAsk command.now }
+        ensures { let step = Step.Ask namespace.now (option_copied secret.entry) command.now in
+            Makes step self.old result self.new }
+    {
+        let parts = &mut self.parts;
+        parts.ask(namespace, secret, command)
+    }
+
     /// Makes the step that an administrator asks with a secret.
     pub fn admin(&mut self, secret: Option<&Text>, command: &AdminCommand) -> Result<Reply, Refusal>
         ensures { let step = Step.Admin (option_copied secret.entry) command.now in
