@@ -1,27 +1,19 @@
 -- What the parts' tables change, as changes of the state.
-use Rattle.std.specs.Prelude.{◌≡◌, ℕ, ◌+◌, ◌-◌, ◌<◌, ◌≤◌, ◌^◌, nat_le, not, Bool, true, false, cond, ◌&&◌, Option, Some, None, Result, Ok, Err, is_some, nat_lt}
-use Rattle.std.proofs.lemmas.Bool.Decides.{leb_tells}
-use Rattle.std.proofs.Common.{arith, inl, inr, refl, sym, ap, subst, ◌∙◌}
+use Rattle.std.specs.Prelude.{◌≡◌, ◌+◌, Bool, true, false, cond, ◌&&◌, Option, Some, None, is_some, nat_lt}
+use Rattle.std.proofs.Common.{refl, sym, ap, subst, ◌∙◌}
 use Rattle.std.specs.Option.{option_map_or}
 use Rattle.std.specs.Ordering.{eq_by_cmp}
 use Rattle.std.specs.FinMap.{get, get-empty, get-insert, insert, same_map}
-use Rattle.ns_types.specs.declared.job.Job.{Job}
 use Rattle.ns_types.specs.declared.records.Quota.{Quota}
-use Rattle.ns_types.specs.declared.refusal.Refusal.{Refusal}
-use Rattle.ns_types.specs.declared.refusal.Refusal.TheVariants as Refusal
-use Rattle.ns_types.specs.declared.reply.Content.{Content}
 use Rattle.ns_types.specs.declared.step.AdminCommand.{AdminCommand}
-use Rattle.ns_types.specs.declared.step.AdminCommand.TheVariants as AdminCommand
-use Rattle.ns_types.specs.Asking.Policies.{administer}
 use Rattle.ns_types.specs.Asking.Admins.{with_quota}
 use Rattle.ns_types.specs.State.Names.{Name, ByName, name_cmp}
-use Rattle.ns_types.specs.Settling.Outcome.{Changes, Outcome, lift}
-use Rattle.ns_types.specs.State.Rows.{State, World, Tenant, QuotaRows}
+use Rattle.ns_types.specs.State.Rows.{World, Tenant, QuotaRows}
 use Rattle.ns_types.specs.Settling.Settle.{after_quota_release}
-use Rattle.ns_types.specs.Steps.{greatest, is_past_bound}
+use Rattle.ns_types.specs.Steps.{greatest}
 use Rattle.ns_types.proofs.Lists.{not_both}
 use Rattle.ns_types.proofs.Named.{names, one_name}
-use Rattle.ns_types.proofs.Tables.{none_of_any, tied}
+use Rattle.ns_types.proofs.Tables.{none_of_any}
 use Rattle.ns_steps.specs.Administered.{IsCalm, IsTenantOf, relimited}
 use Rattle.ns_types.specs.Asking.Admins.{is_relimited}
 use Rattle.ns_steps.specs.Early.{IsEarly}

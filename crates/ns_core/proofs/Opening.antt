@@ -1,10 +1,10 @@
 -- The opening parts hold the opening state.
-use Rattle.std.specs.Prelude.{◌≡◌, T, Bool, true, false, cond, List, [], Option, Some, None, is_some}
-use Rattle.std.proofs.Common.{refl, sym, ap, subst, ◌∙◌}
+use Rattle.std.specs.Prelude.{◌≡◌, T, Bool, true, false, cond, Some, is_some}
+use Rattle.std.proofs.Common.{sym, ap, subst, ◌∙◌}
 use Rattle.std.specs.FinMap.{empty, get, get-empty, get-insert}
 use Rattle.std.specs.Ordering.{eq_by_cmp}
 use Rattle.ns_types.proofs.Named.{names}
-use Rattle.ns_types.specs.State.Names.{Key, Name, name_cmp, default_name}
+use Rattle.ns_types.specs.State.Names.{Name, name_cmp, default_name}
 use Rattle.ns_types.specs.State.Rows.{Acl, Tenant}
 use Rattle.ns_types.specs.Steps.{opening, opening_acl, opening_tenant, opening_world}
 use Rattle.ns_steps.proofs.Early.{opening_early}

@@ -1,12 +1,10 @@
 -- A command that is prepared, and then concluded, makes its step.
-use Rattle.std.specs.Prelude.{◌≡◌, Bool, true, false, cond, if◌then◌else◌, Option, Some, None, Result, Ok, Err}
-use Rattle.std.proofs.Common.{refl, sym, ap, subst, ◌∙◌}
+use Rattle.std.specs.Prelude.{◌≡◌, Bool, true, false, cond, Option, None, Ok, Err}
+use Rattle.std.proofs.Common.{refl, sym, ap, ◌∙◌}
 use Rattle.ns_types.specs.declared.refusal.Refusal.{Refusal}
-use Rattle.ns_types.specs.declared.refusal.Refusal.TheVariants as Refusal
 use Rattle.ns_types.specs.declared.reply.Content.{Content}
 use Rattle.ns_types.specs.declared.step.AskCommand.{AskCommand}
 use Rattle.ns_types.specs.declared.step.Step.{Step}
-use Rattle.ns_types.specs.declared.step.Step.TheVariants as Step
 use Rattle.ns_types.specs.Access.Rights.{rights_of}
 use Rattle.ns_types.specs.Asking.Asks.{ask, right_of}
 use Rattle.ns_types.specs.Asking.Policies.{in_world, with_world}
@@ -14,9 +12,8 @@ use Rattle.ns_types.specs.Settling.Outcome.{Outcome, NotEnabled, Refused, Done, 
 use Rattle.ns_types.specs.Settling.Settle.{settle}
 use Rattle.ns_types.specs.State.Names.{Name}
 use Rattle.ns_types.specs.State.Rows.{State, World}
-use Rattle.ns_types.specs.Steps.{Answer, Makes, act, after, concluded, concluded_with, is_made, is_past_bound, reply_of, said}
+use Rattle.ns_types.specs.Steps.{Makes, act, after, concluded, is_made, is_past_bound, reply_of, said}
 use Rattle.ns_types.proofs.Lists.{not_both}
-use Rattle.ns_change.specs.declared.change.Prepared.{Prepared}
 use Rattle.ns_change.specs.Prepared.{Prepares}
 use Rattle.ns_jobs.specs.Counted.{counted, counted_ask, passes_in}
 use Rattle.ns_world.specs.declared.tables.Tables.{Tables}
@@ -42,6 +39,15 @@ is_enabled _ = true
 -- the bound of a counter is passed exactly where the namespace's next numbers pass it
 abbrev pub IsCounted : Name → AskCommand → World → Type 0
 IsCounted ns command w = (content : Content) (w' : World) → ask ns command w ≡ Done content w' → is_past_bound (settle w w') ≡ passes_in w ns
+
+-- what is done, where no counter stands in its way
+pub done_of : (o : Outcome World) (p : Bool) (content : Content) (w' : World) → counted p o ≡ Done content w' → o ≡ Done content w'
+done_of NotEnabled true content w' e = not_both (ap is_done e) refl
+done_of NotEnabled false content w' e = e
+done_of (Refused refusal) true content w' e = e
+done_of (Refused refusal) false content w' e = e
+done_of (Done c x) true content w' e = not_both (ap is_done e) refl
+done_of (Done c x) false content w' e = e
 
 module _ (s : State) (ns : Name) (secret : Option Name) (command : AskCommand) (allowed : right_of command (rights_of s.acl secret ns) ≡ true) where
   abbrev step : Step
@@ -103,15 +109,6 @@ module _ (s : State) (ns : Name) (secret : Option Name) (command : AskCommand) (
         by Refusal.Memory h = (memory o refl p refl h, refl)
         by Refusal.NotEnabled h = (idle o refl p h, refl)
         by r h = (refuses r o refl p refl h, refl)
-
-  -- what is done, where no counter stands in its way
-  pub done_is : (o : Outcome World) (p : Bool) (content : Content) (w' : World) → counted p o ≡ Done content w' → o ≡ Done content w'
-  done_is NotEnabled true content w' e = not_both (ap is_done e) refl
-  done_is NotEnabled false content w' e = e
-  done_is (Refused refusal) true content w' e = e
-  done_is (Refused refusal) false content w' e = e
-  done_is (Done c x) true content w' e = not_both (ap is_done e) refl
-  done_is (Done c x) false content w' e = e
 
   -- ---- what it leaves
 

@@ -1,14 +1,13 @@
 -- What is read while nothing is placed.
-use Rattle.std.specs.Prelude.{◌≡◌, ℕ, ◌+◌, ◌<◌, ◌^◌, Bool, true, false, cond, List, [], ◌∷◌, Option, Some, None, Result, Ok, Err, sum_by, IsTrue}
+use Rattle.std.specs.Prelude.{◌≡◌, ℕ, ◌+◌, ◌<◌, ◌^◌, Bool, true, false, cond, List, [], ◌∷◌, Option, Result, sum_by, IsTrue}
 use Rattle.std.proofs.Common.{refl, sym, ap, subst, ◌∙◌, arith}
-use Rattle.std.specs.FinMap.{get, entries}
+use Rattle.std.specs.FinMap.{entries}
 use Rattle.std.proofs.lemmas.List.Sums.{sum_by-cons}
 use Rattle.ns_types.specs.declared.allocation.Allocation.{Allocation}
 use Rattle.ns_types.specs.declared.refusal.Refusal.{Refusal}
 use Rattle.ns_types.specs.declared.reply.Content.{Content}
 use Rattle.ns_types.specs.declared.resources.Resources.{Resources}
 use Rattle.ns_types.specs.declared.step.AskCommand.{AskCommand}
-use Rattle.ns_types.specs.declared.step.AskCommand.TheVariants as AskCommand
 use Rattle.ns_types.specs.declared.step.Step.TheVariants as Step
 use Rattle.ns_types.specs.Access.Rights.{rights_of}
 use Rattle.ns_types.specs.Asking.Asks.{ask, right_of}

@@ -1,5 +1,5 @@
 -- A registration that is done, and what it leaves.
-use Rattle.std.specs.Prelude.{◌≡◌, ℕ, ◌+◌, ◌≤◌, ◌&&◌, not, Bool, true, false, cond, if◌then◌else◌, Option, Some, None}
+use Rattle.std.specs.Prelude.{◌≡◌, ◌+◌, ◌≤◌, ◌&&◌, not, Bool, true, false, cond, if◌then◌else◌, Option, Some, None}
 use Rattle.std.proofs.Common.{refl, sym, ap, subst, ◌∙◌, arith}
 use Rattle.std.specs.Option.{option_map_or}
 use Rattle.std.specs.Ordering.{eq_by_cmp}
@@ -7,11 +7,10 @@ use Rattle.std.specs.FinMap.{get, get-insert}
 use Rattle.ns_types.specs.declared.job.Job.{Job}
 use Rattle.ns_types.specs.declared.job.Registration.{Registration}
 use Rattle.ns_types.specs.declared.refusal.Refusal.{Refusal}
-use Rattle.ns_types.specs.declared.refusal.Refusal.TheVariants as Refusal
 use Rattle.ns_types.specs.declared.reply.Content.{Content}
 use Rattle.ns_types.specs.declared.step.AskCommand.TheVariants as AskCommand
 use Rattle.ns_types.specs.Asking.Asks.{ask, asked_in, document_of, first_refusal, registered_job, registered_with}
-use Rattle.ns_types.specs.Settling.Outcome.{Outcome, Refused, Done, is_done, refused_by}
+use Rattle.ns_types.specs.Settling.Outcome.{Refused, Done, is_done, refused_by}
 use Rattle.ns_types.specs.Settling.Same.{same_document}
 use Rattle.ns_types.specs.Settling.Settle.{settle}
 use Rattle.ns_types.specs.State.Names.{Name, name_cmp}
@@ -24,7 +23,7 @@ use Rattle.ns_steps.specs.Early.{IsEarly}
 use Rattle.ns_steps.specs.Registered.{job_of, next_index, passes_bound, registered_tenant, registered_world}
 use Rattle.ns_steps.proofs.Early.{fresh, registered_early}
 use Rattle.ns_steps.proofs.Registering.{over_registered, settled_registration}
-use Rattle.ns_jobs.specs.Counted.{HasFewVersions, passes_in}
+use Rattle.ns_jobs.specs.Counted.{HasFewVersions}
 use Rattle.ns_core.specs.Held.{HasNoAllocations, IsHeld}
 use Rattle.ns_core.proofs.Preparing.{IsCounted, world_left}
 

@@ -11,8 +11,10 @@ ghost use Rattle.ns_core.specs.Viewed.{world_of};
 
 use crate::parts::Parts;
 use crate::rights::has_any;
-use ns_admin::{delete_namespace, delete_pool, delete_quota, put_namespace, put_pool, put_quota};
-use ns_admin::{is_exhausted, is_relimited, list_quotas, read_quota, release_quota};
+use ns_admin::{
+    delete_namespace, delete_pool, delete_quota, is_exhausted, is_relimited, list_quotas,
+    put_namespace, put_pool, put_quota, read_quota, release_quota,
+};
 use ns_types::records::Quota;
 use ns_types::refusal::Refusal;
 use ns_types::reply::{Content, Reply};

@@ -42,8 +42,8 @@ impl Parts {
     /// The reply to what was asked in a namespace: with its index.
     pub fn reply(&self, namespace: &Text, content: Content) -> Reply
         ensures { result ≡ record {
-            index = option_map (λ t. t.index) (get (world_of self.now).tenants namespace.now);
-            content = content;
+          index = option_map (λ t. t.index) (get (world_of self.now).tenants namespace.now);
+          content = content;
         } }
     {
         Reply {

@@ -1,4 +1,4 @@
-use Rattle.std.proofs.Common.{refl, sym, ap, ◌∙◌}
+use Rattle.std.proofs.Common.{refl, sym, ap}
 use Rattle.ns_types.specs.Asking.Policies.{administer, with_acl, with_world}
 use Rattle.ns_types.specs.Settling.Outcome.{Done}
 use Rattle.ns_types.proofs.Outcomes.{memory_last}

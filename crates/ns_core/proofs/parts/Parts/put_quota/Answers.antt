@@ -3,7 +3,7 @@ use Rattle.std.proofs.Common.{refl, sym, ap, subst, ◌∙◌}
 use Rattle.std.proofs.lemmas.Result.{err_from_is_err_and}
 use Rattle.ns_types.specs.declared.step.AdminCommand.TheVariants as AdminCommand
 use Rattle.ns_types.specs.declared.step.Step.TheVariants as Step
-use Rattle.ns_types.specs.Asking.Admins.{is_relimited, put_quota}
+use Rattle.ns_types.specs.Asking.Admins.{put_quota}
 use Rattle.ns_types.specs.Settling.Outcome.{Done}
 use Rattle.ns_types.specs.Steps.{Makes, greatest, said}
 use Rattle.ns_steps.specs.Administered.{relimited, relimited_state}

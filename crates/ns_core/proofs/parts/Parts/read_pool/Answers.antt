@@ -1,10 +1,9 @@
-use Rattle.std.specs.Prelude.{◌≡◌, Bool, true, false, None, Ok, Err}
+use Rattle.std.specs.Prelude.{◌≡◌, Bool, true, false, Ok, Err}
 use Rattle.std.proofs.Common.{not, refl, sym, ap, ◌∙◌}
 use Rattle.ns_types.proofs.Tests.{is_no, is_yes}
 use Rattle.std.specs.Option.{option_copied}
 use Rattle.ns_types.specs.declared.acl.PoolRights.{PoolRights}
 use Rattle.ns_types.specs.declared.refusal.Refusal.TheVariants as Refusal
-use Rattle.ns_types.specs.declared.reply.Content.TheVariants as Content
 use Rattle.ns_types.specs.declared.step.NodeCommand.TheVariants as NodeCommand
 use Rattle.ns_types.specs.declared.step.Step.TheVariants as Step
 use Rattle.ns_types.specs.Settling.Outcome.{Done}
