@@ -1,34 +1,27 @@
 -- What the parts' tables change, as changes of the state.
-use Rattle.std.specs.Prelude.{◌≡◌, ℕ, ◌+◌, ◌-◌, ◌<◌, ◌≤◌, ◌^◌, nat_le, not, Bool, true, false, cond, ◌&&◌, Option, Some, None, Result, Ok, Err, is_some, nat_lt}
-use Rattle.std.proofs.lemmas.Bool.Decides.{leb_tells}
-use Rattle.std.proofs.Common.{arith, inl, inr, refl, sym, ap, subst, ◌∙◌}
+use Rattle.std.specs.Prelude.{◌≡◌, ◌+◌, Bool, true, false, cond, ◌&&◌, Option, Some, None, is_some, nat_lt}
+use Rattle.std.proofs.Common.{refl, sym, ap, subst, ◌∙◌}
 use Rattle.std.specs.Option.{option_map_or}
 use Rattle.std.specs.Ordering.{eq_by_cmp}
 use Rattle.std.specs.FinMap.{get, get-empty, get-insert, insert, same_map}
-use Rattle.ns_types.specs.declared.job.Job.{Job}
 use Rattle.ns_types.specs.declared.records.Quota.{Quota}
-use Rattle.ns_types.specs.declared.refusal.Refusal.{Refusal}
-use Rattle.ns_types.specs.declared.refusal.Refusal.TheVariants as Refusal
-use Rattle.ns_types.specs.declared.reply.Content.{Content}
 use Rattle.ns_types.specs.declared.step.AdminCommand.{AdminCommand}
-use Rattle.ns_types.specs.declared.step.AdminCommand.TheVariants as AdminCommand
-use Rattle.ns_types.specs.Asking.Policies.{administer}
 use Rattle.ns_types.specs.Asking.Admins.{with_quota}
 use Rattle.ns_types.specs.State.Names.{Name, ByName, name_cmp}
-use Rattle.ns_types.specs.Settling.Outcome.{Changes, Outcome, lift}
-use Rattle.ns_types.specs.State.Rows.{State, World, Tenant, QuotaRows}
+use Rattle.ns_types.specs.State.Rows.{World, Tenant, QuotaRows}
 use Rattle.ns_types.specs.Settling.Settle.{after_quota_release}
-use Rattle.ns_types.specs.Steps.{greatest, is_past_bound}
+use Rattle.ns_types.specs.Steps.{greatest}
 use Rattle.ns_types.proofs.Lists.{not_both}
 use Rattle.ns_types.proofs.Named.{names, one_name}
-use Rattle.ns_types.proofs.Tables.{none_of_any, tied}
+use Rattle.ns_types.proofs.Tables.{none_of_any}
 use Rattle.ns_steps.specs.Administered.{IsCalm, IsTenantOf, relimited}
 use Rattle.ns_types.specs.Asking.Admins.{is_relimited}
 use Rattle.ns_steps.specs.Early.{IsEarly}
 use Rattle.ns_steps.proofs.Registering.{all_within}
 use Rattle.ns_steps.proofs.Resting.{Rests}
-use Rattle.ns_core.specs.Held.{HasFewVersions, IsHeld}
-use Rattle.ns_tables.specs.Viewed.{is_exhausted}
+use Rattle.ns_core.specs.Held.{HasNoAllocations, IsHeld}
+use Rattle.ns_jobs.specs.Counted.{HasFewVersions}
+use Rattle.ns_admin.specs.Viewed.{is_exhausted}
 use Rattle.ns_core.specs.Viewed.{exhausts}
 
 -- ---- a quota's release number
@@ -63,11 +56,19 @@ put_twice m k u v = same_map names one_name _ _ (λ q. get-insert names (insert 
 
 -- where records alone change, jobs have as few versions as before
 pub rests_held : (w w' : World) → Rests w w' → IsEarly w' → IsHeld w → IsHeld w'
-rests_held w w' rests early held = record { early = early; versions = λ ns t' is. by ns t' (get w.tenants ns) refl (rests.tenant ns t' is) }
+rests_held w w' rests early held = record {
+  early = early;
+  versions = λ ns t' is. by ns t' (get w.tenants ns) refl (rests.tenant ns t' is);
+  placed = λ ns t' is. placed ns t' (get w.tenants ns) refl (rests.tenant ns t' is);
+}
   where
     by : (ns : Name) (t' : Tenant) (o : Option Tenant) → get w.tenants ns ≡ o → IsTenantOf o t' → HasFewVersions t'
     by ns t' None none new = λ id job at. not_both refl (ap is_some (sym at ∙ ap (λ t. get t.jobs id) new ∙ get-empty name_cmp id))
     by ns t' (Some t) there same = subst HasFewVersions (sym same) (λ id job at. held.versions ns t there id job at)
+
+    placed : (ns : Name) (t' : Tenant) (o : Option Tenant) → get w.tenants ns ≡ o → IsTenantOf o t' → HasNoAllocations t'
+    placed ns t' None none new = ap (λ t. t.allocations) new
+    placed ns t' (Some t) there same = ap (λ t. t.allocations) same ∙ held.placed ns t there
 
 -- any other command releases nothing
 pub calm_of : (command : AdminCommand) → ((name : Name) (quota : Quota) → command ≡ AdminCommand.PutQuota name quota → ⊥) → IsCalm command

@@ -1,7 +1,7 @@
 pub mod Answering
-pub mod Asked
-pub mod Busy
 pub mod Opening
-pub mod Putting
 pub mod Changing
 pub mod Quotas
+pub mod Preparing
+pub mod Registering
+pub mod Reading

@@ -1,32 +1,26 @@
 -- A put of a quota, and the release after it.
-use Rattle.std.specs.Prelude.{◌≡◌, ℕ, ◌+◌, ◌-◌, ◌<◌, ◌≤◌, ◌^◌, Bool, true, false, cond, ◌&&◌, if◌then◌else◌, Option, Some, None, Result, Ok, Err, nat_lt}
-use Rattle.std.proofs.Common.{arith, inl, inr, refl, sym, ap, subst, ◌∙◌}
+use Rattle.std.specs.Prelude.{◌≡◌, ◌+◌, ◌-◌, ◌<◌, ◌^◌, Bool, true, false, cond, ◌&&◌, if◌then◌else◌, Option, Some, None, Err, nat_lt}
+use Rattle.std.proofs.Common.{arith, inl, inr, refl, sym, ap, ◌∙◌}
 use Rattle.std.proofs.lemmas.Bool.Decides.{leb_tells}
 use Rattle.std.specs.Option.{option_map_or}
 use Rattle.std.specs.FinMap.{get, insert}
 use Rattle.ns_types.specs.declared.records.Quota.{Quota}
 use Rattle.ns_types.specs.declared.refusal.Refusal.{Refusal}
-use Rattle.ns_types.specs.declared.refusal.Refusal.TheVariants as Refusal
 use Rattle.ns_types.specs.declared.reply.Content.{Content}
-use Rattle.ns_types.specs.declared.reply.Content.TheVariants as Content
-use Rattle.ns_types.specs.declared.step.AdminCommand.TheVariants as AdminCommand
-use Rattle.ns_types.specs.declared.step.Step.TheVariants as Step
-use Rattle.ns_types.specs.Asking.Policies.{may_administer}
 use Rattle.ns_types.specs.Asking.Admins.{is_full, put_quota, with_quota}
 use Rattle.ns_types.specs.State.Names.{Name}
-use Rattle.ns_types.specs.Settling.Outcome.{Changes, Outcome, NotEnabled, Refused, Done, unless}
-use Rattle.ns_types.specs.State.Rows.{State, World, QuotaRows}
+use Rattle.ns_types.specs.Settling.Outcome.{Changes, Outcome, Refused, Done, unless}
+use Rattle.ns_types.specs.State.Rows.{World, QuotaRows}
 use Rattle.ns_types.specs.Settling.Releases.{changes_limits}
 use Rattle.ns_types.specs.Settling.Settle.{after_quota_release}
-use Rattle.ns_types.specs.Steps.{Makes, greatest}
+use Rattle.ns_types.specs.Steps.{greatest}
 use Rattle.ns_types.proofs.Lists.{not_both}
 use Rattle.ns_types.proofs.Named.{names, one_name}
-use Rattle.ns_steps.specs.Administered.{relimited, relimited_state}
+use Rattle.ns_steps.specs.Administered.{relimited}
 use Rattle.ns_types.specs.Asking.Admins.{is_relimited}
-use Rattle.ns_steps.specs.Early.{IsEarly}
 use Rattle.ns_types.proofs.TableRows.{get_put}
 use Rattle.ns_types.proofs.Tests.{same_Some}
-use Rattle.ns_tables.specs.Viewed.{is_exhausted, with_release}
+use Rattle.ns_admin.specs.Viewed.{is_exhausted, with_release}
 use Rattle.ns_core.specs.Viewed.{exhausts}
 use Rattle.ns_core.proofs.Changing.{put_twice}
 

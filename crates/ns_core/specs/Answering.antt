@@ -5,22 +5,17 @@ use Rattle.ns_types.specs.declared.records.Quota.{Quota}
 use Rattle.ns_types.specs.declared.refusal.Refusal.{Refusal}
 use Rattle.ns_types.specs.declared.reply.Content.{Content}
 use Rattle.ns_types.specs.declared.step.AdminCommand.{AdminCommand}
-use Rattle.ns_types.specs.declared.step.AdminCommand.TheVariants as AdminCommand
 use Rattle.ns_types.specs.declared.step.AskCommand.{AskCommand}
-use Rattle.ns_types.specs.declared.step.AskCommand.TheVariants as AskCommand
 use Rattle.ns_types.specs.declared.step.Step.{Step}
-use Rattle.ns_types.specs.declared.step.Step.TheVariants as Step
 use Rattle.ns_types.specs.Access.Rights.{has_any, pool_rights_of, rights_of}
-use Rattle.ns_types.specs.Asking.Asks.{asked_in, right_of}
+use Rattle.ns_types.specs.Asking.Asks.{right_of}
 use Rattle.ns_types.specs.Asking.Policies.{administer, may_administer}
 use Rattle.ns_types.specs.Settling.Outcome.{Changes}
 use Rattle.ns_types.specs.State.Names.{Name}
 use Rattle.ns_types.specs.State.Rows.{Acl}
 use Rattle.ns_types.specs.Steps.{Answer, Makes}
-use Rattle.ns_tables.specs.declared.tables.TenantRows.{TenantRows}
-use Rattle.ns_tables.specs.Viewed.{tenant_of}
 use Rattle.ns_core.specs.declared.parts.Parts.{Parts}
-use Rattle.ns_core.specs.Viewed.{state_of, world_of}
+use Rattle.ns_core.specs.Viewed.{state_of}
 
 abbrev pub MakesStep : Step → Parts → Answer → Parts → Type 0
 MakesStep step old result new = Makes step (state_of old) result (state_of new)
@@ -41,11 +36,6 @@ MakesPutQuota name quota old result new = (secret : Option Name)
     → MakesStep (Step.Admin secret (AdminCommand.PutQuota name quota)) old result new
 
 -- ---- what a change says
-
--- of a command that only reads, in a namespace with these rows
-abbrev pub ReadsIn : Name → AskCommand → TenantRows → Result Content Refusal → Type 0
-ReadsIn ns command x result = (parts : Parts) →
-    Changes (asked_in ns command (world_of parts) (tenant_of x)) (world_of parts) result (world_of parts)
 
 abbrev pub ChangesBy : Option Name → AdminCommand → Parts → Result Content Refusal → Parts → Type 0
 ChangesBy secret command old result new =

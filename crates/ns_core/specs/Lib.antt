@@ -1,5 +1,3 @@
 pub mod Answering
 pub mod Held
-pub mod Making
-pub mod Puts
 pub mod Viewed

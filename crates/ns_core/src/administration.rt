@@ -10,7 +10,11 @@ ghost use Rattle.ns_core.specs.Held.{IsHeld};
 ghost use Rattle.ns_core.specs.Viewed.{world_of};
 
 use crate::parts::Parts;
-use crate::reads::has_any;
+use crate::rights::has_any;
+use ns_admin::{
+    delete_namespace, delete_pool, delete_quota, is_exhausted, is_relimited, list_quotas,
+    put_namespace, put_pool, put_quota, read_quota, release_quota,
+};
 use ns_types::records::Quota;
 use ns_types::refusal::Refusal;
 use ns_types::reply::{Content, Reply};
@@ -44,7 +48,7 @@ impl Parts {
         let sees = |name: &Text|
             ensures { result ≡ sees acl.entry.now (option_copied secret.entry) name.now }
         { has_any(acl.rights(secret, name)) };
-        Ok(self.tables.list_namespaces(sees)?)
+        Ok(ns_admin::list_namespaces(&self.tables, sees)?)
     }
 
     fn list_pools(&self, secret: Option<&Text>) -> Result<Content, Refusal>
@@ -54,7 +58,7 @@ impl Parts {
         let sees = |name: &Text|
             ensures { result ≡ sees_pool acl.entry.now (option_copied secret.entry) name.now }
         { acl.pool_rights(secret, name).read };
-        Ok(self.tables.list_pools(sees)?)
+        Ok(ns_admin::list_pools(&self.tables, sees)?)
     }
 
     /// Makes the change that is asked by a secret that may, where it releases nothing.
@@ -68,14 +72,14 @@ impl Parts {
     {
         match command {
             AdminCommand::ListNamespaces => self.list_namespaces(secret),
-            AdminCommand::PutNamespace(name, row) => self.tables.put_namespace(name, row),
-            AdminCommand::DeleteNamespace(name) => self.tables.delete_namespace(name),
-            AdminCommand::ListQuotas => Ok(self.tables.list_quotas()?),
-            AdminCommand::ReadQuota(name) => self.tables.read_quota(name),
-            AdminCommand::DeleteQuota(name) => self.tables.delete_quota(name),
+            AdminCommand::PutNamespace(name, row) => put_namespace(&mut self.tables, name, row),
+            AdminCommand::DeleteNamespace(name) => delete_namespace(&mut self.tables, name),
+            AdminCommand::ListQuotas => Ok(list_quotas(&self.tables)?),
+            AdminCommand::ReadQuota(name) => read_quota(&self.tables, name),
+            AdminCommand::DeleteQuota(name) => delete_quota(&mut self.tables, name),
             AdminCommand::ListPools => self.list_pools(secret),
-            AdminCommand::PutPool(name, pool) => self.tables.put_pool(name, pool),
-            AdminCommand::DeletePool(name) => self.tables.delete_pool(name),
+            AdminCommand::PutPool(name, pool) => put_pool(&mut self.tables, name, pool),
+            AdminCommand::DeletePool(name) => delete_pool(&mut self.tables, name),
             AdminCommand::ReadPolicy(name) => self.acl.read_policy(name),
             AdminCommand::PutPolicy(name, policy) => self.acl.put_policy(name, policy),
             AdminCommand::DeletePolicy(name) => self.acl.delete_policy(name),
@@ -91,13 +95,13 @@ impl Parts {
         ensures made { MakesPutQuota name.now quota.now self.old result self.new }
         ensures held { IsHeld (world_of self.new) }
     {
-        let releases = self.tables.is_relimited(name, quota);
-        if releases && self.tables.is_exhausted(name) {
+        let releases = is_relimited(&self.tables, name, quota);
+        if releases && is_exhausted(&self.tables, name) {
             return Err(Refusal::Full);
         }
-        let content = self.tables.put_quota(name, quota)?;
+        let content = put_quota(&mut self.tables, name, quota)?;
         if releases {
-            self.tables.release_quota(name);
+            release_quota(&mut self.tables, name);
         }
         Ok(plain(content))
     }

@@ -6,7 +6,7 @@ mod asks;
 mod parts;
 mod pool;
 mod reads;
-mod registration;
+mod rights;
 mod server;
 
 pub use server::Core;

@@ -1,21 +1,20 @@
-//! All that a core holds. Its helpers speak of slots and room, which the core's state leaves out.
+//! All that a core holds: the access lists, and the tables of the whole world.
 
-ghost use Rattle.std.specs.Prelude.{◌≡◌, IfOk};
+ghost use Rattle.std.specs.Prelude.{◌≡◌, IfOk, option_map};
+ghost use Rattle.std.specs.FinMap.{get};
 ghost use Rattle.ns_types.specs.Steps.{opening};
-ghost use Rattle.ns_core.specs.Viewed.{state_of};
+ghost use Rattle.ns_core.specs.Viewed.{state_of, world_of};
 
 use ns_acl::Acl;
-use ns_tables::Tables;
-use ns_types::key::EvalKey;
+use ns_types::reply::{Content, Reply};
 use ns_types::text::Text;
+use ns_world::Tables;
 use std::alloc::{AllocError, Global};
 
 #[derive(Drop)]
 pub struct Parts {
-    pub alloc: Global,
     pub acl: Acl,
     pub tables: Tables,
-    pub ready: Vec<EvalKey>,
 }
 
 impl Parts {
@@ -24,10 +23,32 @@ impl Parts {
         ensures { IfOk result (λ parts. state_of parts ≡ opening bootstrap.now) }
     {
         Ok(Parts {
-            alloc,
             acl: Acl::new(alloc, bootstrap)?,
-            tables: Tables::opening(alloc)?,
-            ready: Vec::new(alloc),
+            tables: ns_admin::opening(alloc)?,
         })
+    }
+
+    /// The namespace's index, if it is there.
+    fn index(&self, namespace: &Text) -> Option<u64>
+        ensures { result
+            ≡ option_map (λ t. t.index) (get (world_of self.now).tenants namespace.now) }
+    {
+        match self.tables.tenants.get(namespace) {
+            Some(tenant) => Some(tenant.index),
+            None => None,
+        }
+    }
+
+    /// The reply to what was asked in a namespace: with its index.
+    pub fn reply(&self, namespace: &Text, content: Content) -> Reply
+        ensures { result ≡ record {
+          index = option_map (λ t. t.index) (get (world_of self.now).tenants namespace.now);
+          content = content;
+        } }
+    {
+        Reply {
+            index: self.index(namespace),
+            content,
+        }
     }
 }

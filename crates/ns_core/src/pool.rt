@@ -37,7 +37,7 @@ impl Parts {
         let Some(pool) = self.tables.pools.get(name) else {
             return Err(Refusal::NotFound);
         };
-        let content = pool_shown(name, pool)?;
+        let content = pool_shown(name, &pool.pool)?;
         Ok(plain(content))
     }
 }

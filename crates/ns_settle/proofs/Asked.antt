@@ -10,7 +10,8 @@ use Rattle.ns_types.specs.State.Names.{Name}
 use Rattle.ns_types.specs.State.Rows.{World}
 use Rattle.ns_change.specs.declared.change.Change.{Change}
 use Rattle.ns_change.specs.Changed.{changed}
-use Rattle.ns_change.proofs.Any.{any_append, any_flat}
+use Rattle.std.proofs.lemmas.List.Folds.{list_any-append}
+use Rattle.ns_change.proofs.Any.{any_flat}
 use Rattle.ns_settle.specs.Released.{ended_of, quota_left, quotas_ended_in, released_quotas, released_rooms, rooms_ended_in, rooms_left, rooms_of_pool}
 use Rattle.ns_settle.proofs.Released.{flat_flat}
 
@@ -21,7 +22,7 @@ module _ (w : World) (c : Change) where
   rooms_asked p = (λ i. sym (any_flat p (rooms_of_pool w) (entries c.pools)) i
       || (sym (any_flat p (rooms_ended_in w (changed w c)) (entries c.tenants)) ∙
       ap (list_any p) (flat_flat (rooms_left (changed w c)) (λ s. ended_of w s.0 s.1) (entries c.tenants))) i)
-      ∙ sym (any_append p (flat_map (rooms_of_pool w) (entries c.pools)) _)
+      ∙ sym (list_any-append p (flat_map (rooms_of_pool w) (entries c.pools)) _)
 
   pub quotas_asked : (p : Name → Bool) → list_any (λ slot. list_any p (quotas_ended_in w slot)) (entries c.tenants) ≡ list_any p (released_quotas w c)
   quotas_asked p = sym (any_flat p (quotas_ended_in w) (entries c.tenants)) ∙

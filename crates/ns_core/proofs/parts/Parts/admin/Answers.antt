@@ -1,11 +1,10 @@
-use Rattle.std.specs.Prelude.{◌≡◌, Ok, Err}
-use Rattle.std.proofs.Common.{refl, sym, ap, subst, ◌∙◌}
+use Rattle.std.specs.Prelude.{Ok, Err}
+use Rattle.std.proofs.Common.{refl, sym, ap, ◌∙◌}
 use Rattle.std.proofs.lemmas.Result.{err_from_is_err_and}
 use Rattle.std.specs.Option.{option_copied}
-use Rattle.ns_types.specs.declared.step.Step.TheVariants as Step
-use Rattle.ns_types.specs.Steps.{Makes, said}
+use Rattle.ns_types.specs.Steps.{said}
 use Rattle.ns_steps.proofs.Concluding.{admin_denied, admin_makes, admin_rests}
-use Rattle.ns_core.specs.Viewed.{state_of, world_of}
+use Rattle.ns_core.specs.Viewed.{state_of}
 use Rattle.ns_core.proofs.Changing.{calm_of, rests_held}
 use Rattle.ns_core.proofs.parts.Parts.admin.Goals as goal
 

@@ -1,4 +1,4 @@
-use Rattle.std.proofs.Common.{refl, sym, ap, ◌∙◌}
+use Rattle.std.proofs.Common.{refl, sym, ap}
 use Rattle.ns_types.specs.Asking.Policies.{administer, with_acl, with_world}
 use Rattle.ns_types.specs.Settling.Outcome.{Done}
 use Rattle.ns_types.proofs.Outcomes.{memory_last}
@@ -9,29 +9,29 @@ use Rattle.ns_core.proofs.parts.Parts.administer.Goals as goal
 pub returns-in-DeleteNamespace : goal.returns-in-DeleteNamespace
 unfolding administer
 returns-in-DeleteNamespace c = rw c.in-DeleteNamespace.is
-    (changes_lift (with_world c.args.self.now.acl) _ _ (world_of (record c.args.self.now { tables = c.delete_namespace.new.self })) c.delete_namespace.result
-    (c.delete_namespace.ensures c.args.self.now.ready.items))
+    (changes_lift (with_world c.args.self.now.acl) _ _ (world_of (record c.args.self.now { tables = c.delete_namespace.new.tables })) c.delete_namespace.result
+    c.delete_namespace.ensures.made)
 
 pub returns-in_ok-list_quotas-in-ListQuotas : goal.returns-in_ok-list_quotas-in-ListQuotas
 unfolding administer
 returns-in_ok-list_quotas-in-ListQuotas c = rw c.in-ListQuotas.is
-    (ap (λ content. Done content (state_of c.args.self.now)) (sym (c.in_ok-list_quotas-in-ListQuotas.ensures c.args.self.now.ready.items)))
+    (ap (λ content. Done content (state_of c.args.self.now)) (sym c.in_ok-list_quotas-in-ListQuotas.ensures))
 
 pub returns-in-ReadQuota : goal.returns-in-ReadQuota
 unfolding administer
 returns-in-ReadQuota c = rw c.in-ReadQuota.is (changes_lift (with_world c.args.self.now.acl) _ _ (world_of c.args.self.now) c.read_quota.result
-    (c.read_quota.ensures c.args.self.now.ready.items))
+    c.read_quota.ensures)
 
 pub returns-in-DeleteQuota : goal.returns-in-DeleteQuota
 unfolding administer
 returns-in-DeleteQuota c = rw c.in-DeleteQuota.is
-    (changes_lift (with_world c.args.self.now.acl) _ _ (world_of (record c.args.self.now { tables = c.delete_quota.new.self })) c.delete_quota.result
-    (c.delete_quota.ensures c.args.self.now.ready.items))
+    (changes_lift (with_world c.args.self.now.acl) _ _ (world_of (record c.args.self.now { tables = c.delete_quota.new.tables })) c.delete_quota.result
+    c.delete_quota.ensures.made)
 
 pub returns-in-DeletePool : goal.returns-in-DeletePool
 unfolding administer
 returns-in-DeletePool c = rw c.in-DeletePool.is (changes_lift (with_world c.args.self.now.acl) _ _
-    (world_of (record c.args.self.now { tables = c.delete_pool.new.self })) c.delete_pool.result (c.delete_pool.ensures c.args.self.now.ready.items))
+    (world_of (record c.args.self.now { tables = c.delete_pool.new.tables })) c.delete_pool.result c.delete_pool.ensures.made)
 
 pub returns-in-ReadPolicy : goal.returns-in-ReadPolicy
 unfolding administer
@@ -60,12 +60,12 @@ returns-in_err-list_quotas-in-ListQuotas c = rw c.in-ListQuotas.is (memory_last 
 pub returns-in-PutNamespace : goal.returns-in-PutNamespace
 unfolding administer
 returns-in-PutNamespace c = rw c.in-PutNamespace.is (changes_lift (with_world c.args.self.now.acl) _ _
-    (world_of (record c.args.self.now { tables = c.put_namespace.new.self })) c.put_namespace.result (c.put_namespace.ensures c.args.self.now.ready.items))
+    (world_of (record c.args.self.now { tables = c.put_namespace.new.tables })) c.put_namespace.result c.put_namespace.ensures.made)
 
 pub returns-in-PutPool : goal.returns-in-PutPool
 unfolding administer
 returns-in-PutPool c = rw c.in-PutPool.is (changes_lift (with_world c.args.self.now.acl) _ _
-    (world_of (record c.args.self.now { tables = c.put_pool.new.self })) c.put_pool.result (c.put_pool.ensures c.args.self.now.ready.items))
+    (world_of (record c.args.self.now { tables = c.put_pool.new.tables })) c.put_pool.result c.put_pool.ensures.made)
 
 pub returns-in-PutPolicy : goal.returns-in-PutPolicy
 unfolding administer

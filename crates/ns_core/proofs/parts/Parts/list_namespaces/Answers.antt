@@ -11,8 +11,7 @@ pub returns : goal.returns
 unfolding administer
 returns c = ap (λ content. Done content (state_of c.args.self.now))
     (sym (c.in_ok-list_namespaces.ensures (λ ns. has_any (rights_of c.args.self.now.acl (option_copied c.args.secret) ns))
-    (λ name b returned. returned.says.met ∙ ap (λ ns. has_any (rights_of c.args.self.now.acl (option_copied c.args.secret) ns)) returned.shows)
-    c.args.self.now.ready.items))
+    (λ name b returned. returned.says.met ∙ ap (λ ns. has_any (rights_of c.args.self.now.acl (option_copied c.args.secret) ns)) returned.shows)))
 
 pub returns-in_err-list_namespaces : goal.returns-in_err-list_namespaces
 unfolding administer

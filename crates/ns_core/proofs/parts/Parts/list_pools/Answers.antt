@@ -11,8 +11,7 @@ pub returns : goal.returns
 unfolding administer
 returns c = ap (λ content. Done content (state_of c.args.self.now))
     (sym (c.in_ok-list_pools.ensures (λ pool. (pool_rights_of c.args.self.now.acl (option_copied c.args.secret) pool).read)
-    (λ name b returned. returned.says.met ∙ ap (λ ns. (pool_rights_of c.args.self.now.acl (option_copied c.args.secret) ns).read) returned.shows)
-    c.args.self.now.ready.items))
+    (λ name b returned. returned.says.met ∙ ap (λ ns. (pool_rights_of c.args.self.now.acl (option_copied c.args.secret) ns).read) returned.shows)))
 
 pub returns-in_err-list_pools : goal.returns-in_err-list_pools
 unfolding administer

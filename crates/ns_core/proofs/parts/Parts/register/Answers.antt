@@ -1,85 +1,62 @@
-use Rattle.std.proofs.Common.{refl, sym, ap, subst, ◌∙◌}
-use Rattle.std.specs.Option.{option_copied}
-use Rattle.std.specs.Prelude.{◌≡◌, Ok}
+use Rattle.std.specs.Prelude.{Ok, Err}
+use Rattle.std.proofs.Common.{sym, ap, subst, ◌∙◌}
+use Rattle.std.proofs.lemmas.Result.{err_from_is_err_and}
+use Rattle.ns_types.specs.declared.reply.Content.{Content}
 use Rattle.ns_types.specs.declared.step.AskCommand.TheVariants as AskCommand
 use Rattle.ns_types.specs.declared.step.Step.TheVariants as Step
-use Rattle.ns_tables.specs.Viewed.{tenant_of}
-use Rattle.ns_steps.proofs.Steps.{ask_nowhere}
-use Rattle.ns_types.specs.Steps.{said}
-use Rattle.ns_steps.specs.Registered.{registered_state}
-use Rattle.ns_core.specs.Held.{IsHeld}
-use Rattle.ns_core.specs.Making.{reply_with}
-use Rattle.ns_core.specs.Puts.{PutsRows}
+use Rattle.ns_types.specs.Asking.Asks.{ask}
+use Rattle.ns_types.specs.State.Rows.{Acl}
+use Rattle.ns_types.specs.Steps.{Makes, index_shown, reply_of, said}
+use Rattle.ns_change.specs.Changed.{view}
+use Rattle.ns_jobs.specs.Counted.{passes_in}
 use Rattle.ns_core.specs.Viewed.{state_of, world_of}
-use Rattle.ns_core.proofs.Answering.{memory_made, register_exhausted, register_leads, register_refuses, register_wants}
-use Rattle.ns_core.proofs.Busy.{nowhere, tenant_at}
-use Rattle.ns_core.proofs.Putting.{held_registered, kept_state, reply_made, state_made, world_made}
+use Rattle.ns_core.proofs.Preparing.{concluded_makes, concluded_refuses, done_of, prepare_refuses}
+use Rattle.ns_core.proofs.Registering.{counts, registers_held}
 use Rattle.ns_core.proofs.parts.Parts.register.Goals as goal
 
-pub returns-in_default-clause-made : goal.returns-in_default-clause-made
-returns-in_default-clause-made c = λ secret allowed. (
-  ask_nowhere (state_of c.args.self.now) c.args.namespace.now secret
-      (AskCommand.Register c.args.registration.now) allowed
-      (nowhere c.args.self.now c.args.namespace.now (sym c.get.ensures ∙ ap option_copied c.in_default.is)),
-  refl,
-)
+pub returns-in_err-prepared-clause-made : goal.returns-in_err-prepared-clause-made
+returns-in_err-prepared-clause-made c = λ secret allowed.
+    let command = AskCommand.Register c.args.registration.now in
+    let p = err_from_is_err_and c.from_residual.result c.from_residual.ensures.1 in
+    rw (p.1, p.2) (prepare_refuses (state_of c.args.self.now) c.args.namespace.now secret command allowed
+    (counts c.args.namespace.now c.args.registration.now (world_of c.args.self.now) c.requires.early)
+    c.args.self.now.tables c.in_err-prepared.field-0.0 c.in_err-prepared.ensures)
 
-pub returns-in-Some-first_refusal-clause-made : goal.returns-in-Some-first_refusal-clause-made
-returns-in-Some-first_refusal-clause-made c = λ secret allowed. register_refuses (state_of c.args.self.now) c.args.namespace.now secret
-    c.args.registration.now (tenant_of c.in-Some.tenant.now) allowed
-    (tenant_at c.args.self.now c.args.namespace.now c.in-Some.tenant.now (sym c.get.ensures ∙ ap option_copied c.in-Some.is)) c.requires.early _
-    (sym c.first_refusal.ensures ∙ c.in-Some-first_refusal.is)
-
-pub returns-then-passes_bound-clause-made : goal.returns-then-passes_bound-clause-made
-returns-then-passes_bound-clause-made c = λ secret allowed. register_exhausted (state_of c.args.self.now) c.args.namespace.now secret
-    c.args.registration.now (tenant_of c.in-Some.tenant.now) allowed
-    (tenant_at c.args.self.now c.args.namespace.now c.in-Some.tenant.now (sym c.get.ensures ∙ ap option_copied c.in-Some.is)) c.requires.early
-    (sym c.first_refusal.ensures ∙ c.in_default-first_refusal.is) (sym c.passes_bound.ensures ∙ c.if-passes_bound.true)
-
-pub make-requires-clause-versions : goal.make-requires-clause-versions
-make-requires-clause-versions c = c.requires.versions _ _
-    (tenant_at c.args.self.now c.args.namespace.now c.in-Some.tenant.now (sym c.get.ensures ∙ ap option_copied c.in-Some.is))
-
-pub returns-in_err-made-clause-made : goal.returns-in_err-made-clause-made
-returns-in_err-made-clause-made c = λ secret allowed. memory_made (Step.Ask c.args.namespace.now secret (AskCommand.Register c.args.registration.now))
-    (state_of c.args.self.now) _ c.from_residual.result c.from_residual.ensures.1
-    (register_wants (state_of c.args.self.now) c.args.namespace.now secret c.args.registration.now (tenant_of c.in-Some.tenant.now) allowed
-    (tenant_at c.args.self.now c.args.namespace.now c.in-Some.tenant.now (sym c.get.ensures ∙ ap option_copied c.in-Some.is)) c.requires.early
-    (sym c.first_refusal.ensures ∙ c.in_default-first_refusal.is) (sym c.passes_bound.ensures ∙ c.if-passes_bound.false)) refl
-
-pub returns-in_err-put-clause-made : goal.returns-in_err-put-clause-made
-returns-in_err-put-clause-made c = λ secret allowed. memory_made (Step.Ask c.args.namespace.now secret (AskCommand.Register c.args.registration.now))
-    (state_of c.args.self.now) _ c.from_residual-in_err-put.result c.from_residual-in_err-put.ensures.1
-    (register_wants (state_of c.args.self.now) c.args.namespace.now secret c.args.registration.now (tenant_of c.in-Some.tenant.now) allowed
-    (tenant_at c.args.self.now c.args.namespace.now c.in-Some.tenant.now (sym c.get.ensures ∙ ap option_copied c.in-Some.is)) c.requires.early
-    (sym c.first_refusal.ensures ∙ c.in_default-first_refusal.is) (sym c.passes_bound.ensures ∙ c.if-passes_bound.false))
-    (kept_state c.args.self.now c.put.new.self c.in_err-put.ensures.refused)
-
-pub returns-in_err-put-clause-held : goal.returns-in_err-put-clause-held
-returns-in_err-put-clause-held c =
-    subst (λ s. IsHeld s.world) (sym (kept_state c.args.self.now c.put.new.self c.in_err-put.ensures.refused)) c.requires
+pub returns-in_err-content-clause-made : goal.returns-in_err-content-clause-made
+returns-in_err-content-clause-made c = λ secret allowed.
+    let s = state_of c.args.self.now in
+    let command = AskCommand.Register c.args.registration.now in
+    let p = err_from_is_err_and c.from_residual-in_err-content.result c.from_residual-in_err-content.ensures.1 in
+    let done = done_of (ask c.args.namespace.now command s.world) (passes_in s.world c.args.namespace.now)
+    c.in_ok-prepared.prepared.content (view c.args.self.now.tables c.in_ok-prepared.prepared.change) c.in_ok-prepared.ensures in
+    rw (p.1, p.2) (subst (λ (acl : Acl). Makes (Step.Ask c.args.namespace.now secret command) s (Err c.in_err-content.field-0.0)
+    (record { acl = acl; world = world_of c.conclude.new.self })) (sym c.in_err-content.ensures.acl)
+    (concluded_refuses s c.args.namespace.now secret command allowed c.in_ok-prepared.prepared.content
+    (view c.args.self.now.tables c.in_ok-prepared.prepared.change) done Content c.in_err-content.field-0.0 (world_of c.conclude.new.self)
+    c.in_err-content.ensures.world))
 
 pub returns-clause-made : goal.returns-clause-made
-returns-clause-made c =
-    let at = sym c.get.ensures ∙ ap option_copied c.in-Some.is in
-    let puts = subst (λ b. PutsRows c.args.self.now c.args.namespace.now c.args.registration.now.id c.in_ok-made.made b c.put.new.self c.in-Some.tenant.now)
-    c.is_busy-waits.ensures (c.in_ok-put.ensures.done c.in-Some.tenant.now at) in
-    λ secret allowed. register_leads (state_of c.args.self.now) c.args.namespace.now secret c.args.registration.now (tenant_of c.in-Some.tenant.now) allowed
-    (tenant_at c.args.self.now c.args.namespace.now c.in-Some.tenant.now at) c.requires.early
-    (sym c.first_refusal.ensures ∙ c.in_default-first_refusal.is) (sym c.passes_bound.ensures ∙ c.if-passes_bound.false)
-    ∙ ap (λ reply. said (Ok reply) (registered_state c.args.namespace.now c.args.registration.now (state_of c.args.self.now) (tenant_of c.in-Some.tenant.now)))
-    (sym (c.reply_with.ensures ∙ ap reply_with c.numbers_of-numbers.ensures ∙
-    reply_made c.in_ok-made.made c.args.namespace.now c.args.registration.now (tenant_of c.in-Some.tenant.now) c.in_ok-made.ensures))
-    ∙ ap (λ s. said (Ok c.reply_with.result) s) (sym
-    (state_made c.args.self.now c.put.new.self c.args.namespace.now c.args.registration.now c.in_ok-made.made c.in-Some.tenant.now c.in_ok-made.ensures
-    puts))
+returns-clause-made c = λ secret allowed.
+    let s = state_of c.args.self.now in
+    let command = AskCommand.Register c.args.registration.now in
+    let step = Step.Ask c.args.namespace.now secret command in
+    let x = world_of c.conclude.new.self in
+    let content = c.in_ok-prepared.prepared.content in
+    let done = done_of (ask c.args.namespace.now command s.world) (passes_in s.world c.args.namespace.now)
+    content (view c.args.self.now.tables c.in_ok-prepared.prepared.change) c.in_ok-prepared.ensures in
+    concluded_makes s c.args.namespace.now secret command allowed content (view c.args.self.now.tables c.in_ok-prepared.prepared.change) done x
+    c.in_ok-content.ensures.world.0 c.in_ok-content.ensures.world.1
+    ∙ ap (λ (acl : Acl). said (Ok (reply_of step content x)) (record { acl = acl; world = x })) (sym c.in_ok-content.ensures.acl)
+    ∙ ap (λ (content : Content). said (Ok (record { index = index_shown step x; content = content })) (state_of c.conclude.new.self))
+    (sym c.in_ok-content.ensures.content)
+    ∙ ap (λ reply. said (Ok reply) (state_of c.conclude.new.self)) (sym c.reply.ensures)
 
 pub returns-clause-held : goal.returns-clause-held
 returns-clause-held c =
-    let at = sym c.get.ensures ∙ ap option_copied c.in-Some.is in
-    let puts = subst (λ b. PutsRows c.args.self.now c.args.namespace.now c.args.registration.now.id c.in_ok-made.made b c.put.new.self c.in-Some.tenant.now)
-    c.is_busy-waits.ensures (c.in_ok-put.ensures.done c.in-Some.tenant.now at) in
-    subst IsHeld (sym (world_made c.args.self.now c.put.new.self c.args.namespace.now c.args.registration.now c.in_ok-made.made c.in-Some.tenant.now
-    c.in_ok-made.ensures puts))
-    (held_registered c.args.namespace.now c.args.registration.now (world_of c.args.self.now) (tenant_of c.in-Some.tenant.now) c.requires
-    (tenant_at c.args.self.now c.args.namespace.now c.in-Some.tenant.now at) (sym c.passes_bound.ensures ∙ c.if-passes_bound.false))
+    let w = world_of c.args.self.now in
+    let ns = c.args.namespace.now in
+    let command = AskCommand.Register c.args.registration.now in
+    registers_held ns c.args.registration.now w (view c.args.self.now.tables c.in_ok-prepared.prepared.change) (world_of c.conclude.new.self)
+    c.in_ok-prepared.prepared.content c.requires (done_of (ask ns command w) (passes_in w ns) c.in_ok-prepared.prepared.content
+    (view c.args.self.now.tables c.in_ok-prepared.prepared.change) c.in_ok-prepared.ensures)
+    c.in_ok-content.ensures.world.0 c.in_ok-content.ensures.world.1

@@ -1,0 +1,126 @@
+-- A command that is prepared, and then concluded, makes its step.
+use Rattle.std.specs.Prelude.{◌≡◌, Bool, true, false, cond, Option, None, Ok, Err}
+use Rattle.std.proofs.Common.{refl, sym, ap, ◌∙◌}
+use Rattle.ns_types.specs.declared.refusal.Refusal.{Refusal}
+use Rattle.ns_types.specs.declared.reply.Content.{Content}
+use Rattle.ns_types.specs.declared.step.AskCommand.{AskCommand}
+use Rattle.ns_types.specs.declared.step.Step.{Step}
+use Rattle.ns_types.specs.Access.Rights.{rights_of}
+use Rattle.ns_types.specs.Asking.Asks.{ask, right_of}
+use Rattle.ns_types.specs.Asking.Policies.{in_world, with_world}
+use Rattle.ns_types.specs.Settling.Outcome.{Outcome, NotEnabled, Refused, Done, is_done, lift}
+use Rattle.ns_types.specs.Settling.Settle.{settle}
+use Rattle.ns_types.specs.State.Names.{Name}
+use Rattle.ns_types.specs.State.Rows.{State, World}
+use Rattle.ns_types.specs.Steps.{Makes, act, after, concluded, is_made, is_past_bound, reply_of, said}
+use Rattle.ns_types.proofs.Lists.{not_both}
+use Rattle.ns_change.specs.Prepared.{Prepares}
+use Rattle.ns_jobs.specs.Counted.{counted, counted_ask, passes_in}
+use Rattle.ns_world.specs.declared.tables.Tables.{Tables}
+use Rattle.ns_conclude.specs.Concludes.{Concludes}
+
+-- what a refused outcome is refused with, and the world of one that is done
+abbrev refusal_of : Refusal → Outcome World → Refusal
+refusal_of other (Refused refusal) = refusal
+refusal_of other _ = other
+
+abbrev pub world_left : World → Outcome World → World
+world_left other (Done content w) = w
+world_left other _ = other
+
+abbrev content_of : Content → Outcome World → Content
+content_of other (Done content w) = content
+content_of other _ = other
+
+abbrev is_enabled : Outcome World → Bool
+is_enabled NotEnabled = false
+is_enabled _ = true
+
+-- the bound of a counter is passed exactly where the namespace's next numbers pass it
+abbrev pub IsCounted : Name → AskCommand → World → Type 0
+IsCounted ns command w = (content : Content) (w' : World) → ask ns command w ≡ Done content w' → is_past_bound (settle w w') ≡ passes_in w ns
+
+-- what is done, where no counter stands in its way
+pub done_of : (o : Outcome World) (p : Bool) (content : Content) (w' : World) → counted p o ≡ Done content w' → o ≡ Done content w'
+done_of NotEnabled true content w' e = not_both (ap is_done e) refl
+done_of NotEnabled false content w' e = e
+done_of (Refused refusal) true content w' e = e
+done_of (Refused refusal) false content w' e = e
+done_of (Done c x) true content w' e = not_both (ap is_done e) refl
+done_of (Done c x) false content w' e = e
+
+module _ (s : State) (ns : Name) (secret : Option Name) (command : AskCommand) (allowed : right_of command (rights_of s.acl secret ns) ≡ true) where
+  abbrev step : Step
+  step = Step.Ask ns secret command
+
+  asks : after step s ≡ concluded step s (lift (with_world s.acl) (ask ns command s.world))
+  unfolding after act
+  asks = ap (λ b. cond b (concluded step s (in_world s (ask ns command))) (said (Err Refusal.Denied) s)) allowed
+
+  outcome : (o : Outcome World) → ask ns command s.world ≡ o → after step s ≡ concluded step s (lift (with_world s.acl) o)
+  outcome o is = asks ∙ ap (λ o. concluded step s (lift (with_world s.acl) o)) is
+
+  abbrev left : World → State
+  left w = record s { world = w }
+
+  settles : (content : Content) (w' : World) → ask ns command s.world ≡ Done content w' → (b : Bool) → is_past_bound (settle s.world w') ≡ b →
+      after step s ≡ cond b (said (Err Refusal.Full) s) (said (Ok (reply_of step content (settle s.world w'))) (left (settle s.world w')))
+  settles content w' is b past = outcome (Done content w') is
+      ∙ ap (λ b. cond b (said (Err Refusal.Full) s) (said (Ok (reply_of step content (settle s.world w'))) (left (settle s.world w')))) past
+
+  -- ---- what it is refused with
+
+  module _ (count : IsCounted ns command s.world) where
+    memory : (o : Outcome World) → ask ns command s.world ≡ o → (p : Bool) → passes_in s.world ns ≡ p → is_done (counted p o) ≡ true →
+        is_made (after step s) ≡ true
+    memory NotEnabled is true past e = not_both e refl
+    memory NotEnabled is false past e = not_both e refl
+    memory (Refused refusal) is true past e = not_both e refl
+    memory (Refused refusal) is false past e = not_both e refl
+    memory (Done content w') is true past e = not_both e refl
+    memory (Done content w') is false past e = ap is_made (settles content w' is false (count content w' is ∙ past))
+
+    idle : (o : Outcome World) → ask ns command s.world ≡ o → (p : Bool) → counted p o ≡ NotEnabled → after step s ≡ None
+    idle NotEnabled is p e = outcome NotEnabled is
+    idle (Refused refusal) is true e = not_both refl (ap is_enabled e)
+    idle (Refused refusal) is false e = not_both refl (ap is_enabled e)
+    idle (Done content w') is true e = not_both refl (ap is_enabled e)
+    idle (Done content w') is false e = not_both refl (ap is_enabled e)
+
+    refuses : (r : Refusal) (o : Outcome World) → ask ns command s.world ≡ o → (p : Bool) → passes_in s.world ns ≡ p → counted p o ≡ Refused r →
+        after step s ≡ said (Err r) s
+    refuses r NotEnabled is true past e = not_both (ap is_enabled e) refl
+    refuses r NotEnabled is false past e = not_both (ap is_enabled e) refl
+    refuses r (Refused refusal) is true past e = outcome (Refused refusal) is ∙ ap (λ o. said (Err (refusal_of r o)) s) e
+    refuses r (Refused refusal) is false past e = outcome (Refused refusal) is ∙ ap (λ o. said (Err (refusal_of r o)) s) e
+    refuses r (Done content w') is true past e = settles content w' is true (count content w' is ∙ past) ∙ ap (λ o. said (Err (refusal_of r o)) s) e
+    refuses r (Done content w') is false past e = not_both (ap is_done (sym e)) refl
+
+    pub prepare_refuses : (t : Tables) (refusal : Refusal) → Prepares (counted_ask ns command s.world) t (Err refusal) → Makes step s (Err refusal) s
+    prepare_refuses t refusal h = by refusal h
+      where
+        o : Outcome World
+        o = ask ns command s.world
+
+        p : Bool
+        p = passes_in s.world ns
+
+        by : (r : Refusal) → Prepares (counted_ask ns command s.world) t (Err r) → Makes step s (Err r) s
+        by Refusal.Memory h = (memory o refl p refl h, refl)
+        by Refusal.NotEnabled h = (idle o refl p h, refl)
+        by r h = (refuses r o refl p refl h, refl)
+
+  -- ---- what it leaves
+
+  module _ (content : Content) (w' : World) (is : ask ns command s.world ≡ Done content w') where
+    pub concluded_refuses : (A : Type 0) (refusal : Refusal) (x : World) → Concludes {A = A} s.world w' (Err refusal) x → Makes step s (Err refusal) (left x)
+    concluded_refuses A refusal x h = by refusal h
+      where
+        by : (r : Refusal) → Concludes {A = A} s.world w' (Err r) x → Makes step s (Err r) (left x)
+        by Refusal.Full h = (settles content w' is true h.0, ap left h.1)
+        by Refusal.Memory h = (ap is_made (settles content w' is false h.0), ap left h.1)
+        by r h = absurd h
+
+    pub concluded_makes : (x : World) → x ≡ settle s.world w' → is_past_bound x ≡ false → after step s ≡ said (Ok (reply_of step content x)) (left x)
+    concluded_makes x e within = settles content w' is false (ap is_past_bound (sym e) ∙ within)
+        ∙ ap (λ x. said (Ok (reply_of step content x)) (left x)) (sym e)
