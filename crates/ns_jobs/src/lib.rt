@@ -11,8 +11,10 @@ mod making;
 mod reading;
 mod registration;
 mod sharing;
+mod stopping;
 mod usage;
 
 pub use deregistration::deregister;
 pub use reading::read;
 pub use registration::register;
+pub use stopping::stop_allocation;
