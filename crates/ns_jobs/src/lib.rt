@@ -6,6 +6,7 @@ mod allocations;
 mod deregistration;
 mod evaluations;
 mod jobs;
+pub mod laws;
 mod looking;
 mod making;
 mod reading;
