@@ -57,3 +57,14 @@ abbrev pub CountingIsSettling : Type 0
 CountingIsSettling = (w : World) (ns : Name) (command : AskCommand) (t : Tenant) (content : Content) (x : World)
     → only_reads command ≡ false → get w.tenants ns ≡ Some t → get t.evaluations (t.evaluation_number + 1) ≡ None
     → passes_bound t ≡ true → ask ns command w ≡ Done content x → is_past_bound (settle w x) ≡ true
+
+abbrev pub writes_jobs : AskCommand → Bool
+writes_jobs (AskCommand.Register r) = true
+writes_jobs (AskCommand.Deregister id purge) = true
+writes_jobs _ = false
+
+-- A registration or a deregistration that passes no counter of its namespace passes no bound at all.
+abbrev pub JobsPassNothingElse : Type 0
+JobsPassNothingElse = (w : World) (ns : Name) (command : AskCommand) (t : Tenant) (content : Content) (x : World)
+    → writes_jobs command ≡ true → get w.tenants ns ≡ Some t → is_past_bound w ≡ false → passes_bound t ≡ false
+    → ask ns command w ≡ Done content x → is_past_bound (settle w x) ≡ false
