@@ -225,7 +225,8 @@ module _ (w : World) (ns : Name) (t u : Tenant) (e : Evaluation) (at : get w.ten
 pub jobs_fit : JobsPassNothingElse
 jobs_fit w ns command t content x jobs at within fits is = asked command jobs (sym (asks w ns command t at) ∙ is)
   where
-    registered : (r : Registration) (o : Option Refusal) → refused_by o (registered_with ns r w t (job_of r t)) ≡ Done content x → is_past_bound (settle w x) ≡ false
+    registered : (r : Registration) (o : Option Refusal) → refused_by o (registered_with ns r w t (job_of r t)) ≡ Done content x →
+        is_past_bound (settle w x) ≡ false
     registered r (Some refusal) is = not_both (ap is_done is) refl
     registered r None is = subst (λ x. is_past_bound (settle w x) ≡ false) (ap (world_or w) is)
         (within_made w ns t (with_job r.id (job_of r t) t) (evaluation_of r.id (job_of r t).document Trigger.JobRegister) at within fits refl refl refl refl)
