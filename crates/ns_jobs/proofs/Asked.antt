@@ -1,8 +1,9 @@
 -- What is asked comes to, test by test.
-use Rattle.std.specs.Prelude.{◌≡◌, Bool, true, false, Option, Some, None, Result, Err, is_none}
+use Rattle.std.specs.Prelude.{◌≡◌, ℕ, Bool, true, false, not, Option, Some, None, Result, Err, is_none}
 use Rattle.std.proofs.Common.{refl, ap, sym, subst, ◌∙◌}
 use Rattle.std.specs.Option.{option_map_or}
 use Rattle.std.specs.FinMap.{contains_key, get}
+use Rattle.ns_types.specs.declared.allocation.Allocation.{Allocation}
 use Rattle.ns_types.specs.declared.job.Job.{Job}
 use Rattle.ns_types.specs.declared.job.Registration.{Registration}
 use Rattle.ns_types.specs.declared.refusal.Member.TheVariants as Member
@@ -10,17 +11,18 @@ use Rattle.ns_types.specs.declared.refusal.Refusal.{Refusal}
 use Rattle.ns_types.specs.declared.step.AskCommand.{AskCommand}
 use Rattle.ns_types.specs.Access.Sharing.{permits}
 use Rattle.ns_types.specs.Asking.Asks.{ask, asked_in, deregister_job, first_refusal, has_no_room, is_outdated, pool_of, registered_with}
-use Rattle.ns_types.specs.Settling.Outcome.{Outcome, NotEnabled, Refused, Done, found, is_done, refused_by}
+use Rattle.ns_types.specs.Settling.Outcome.{Outcome, NotEnabled, Refused, Done, found, is_done, refused_by, unless}
 use Rattle.ns_types.specs.State.Names.{Name}
-use Rattle.ns_types.specs.State.Rows.{World, Tenant}
+use Rattle.ns_types.specs.State.Rows.{World, Tenant, is_live}
 use Rattle.ns_types.proofs.Lists.{not_both}
+use Rattle.ns_types.proofs.Outcomes.{unless_not, unless_so}
 use Rattle.ns_types.proofs.Registrations.{by_tests}
 use Rattle.ns_types.proofs.Tests.{same_Some}
 use Rattle.ns_change.specs.declared.change.Prepared.{Prepared}
 use Rattle.ns_change.specs.Prepared.{Prepares}
 use Rattle.ns_world.specs.declared.tables.Tables.{Tables}
 use Rattle.ns_jobs.specs.Counted.{counted, counted_ask, passes_bound, passes_in}
-use Rattle.ns_jobs.specs.Made.{job_of}
+use Rattle.ns_jobs.specs.Made.{job_of, stopped_with}
 
 still_refused : (passes : Bool) (o : Outcome World) (r : Refusal) → o ≡ Refused r → counted passes o ≡ Refused r
 still_refused true o r is = ap (counted true) is
@@ -111,3 +113,26 @@ module _ (w : World) (ns id : Name) (purge : Bool) (t : Tenant) (at : get w.tena
 
     pub deregisters : passes_bound t ≡ false → counted_ask ns (AskCommand.Deregister id purge) w ≡ deregister_job ns id purge w t job
     deregisters fits = stands w ns (AskCommand.Deregister id purge) t at fits ∙ ap deregisters_at there
+
+-- ---- stopping an allocation
+
+module _ (w : World) (ns : Name) (n : ℕ) (t : Tenant) (at : get w.tenants ns ≡ Some t) where
+  abbrev stops_at : Option Allocation → Outcome World
+  stops_at a = found a (λ a. unless (not (is_live a)) Refusal.Conflict (stopped_with ns n w t a))
+
+  pub no_allocation : get t.allocations n ≡ None → counted_ask ns (AskCommand.StopAllocation n) w ≡ Refused Refusal.NotFound
+  no_allocation none = refuses w ns (AskCommand.StopAllocation n) t at Refusal.NotFound (ap stops_at none)
+
+  module _ (a : Allocation) (there : get t.allocations n ≡ Some a) where
+    pub not_live : is_live a ≡ false → counted_ask ns (AskCommand.StopAllocation n) w ≡ Refused Refusal.Conflict
+    not_live ended = refuses w ns (AskCommand.StopAllocation n) t at Refusal.Conflict (ap stops_at there ∙ unless_so (not (is_live a)) _ _ (ap not ended))
+
+    module _ (live : is_live a ≡ true) where
+      stop_is : asked_in ns (AskCommand.StopAllocation n) w t ≡ stopped_with ns n w t a
+      stop_is = ap stops_at there ∙ unless_not (not (is_live a)) _ _ (ap not live)
+
+      pub stop_full : passes_bound t ≡ true → counted_ask ns (AskCommand.StopAllocation n) w ≡ Refused Refusal.Full
+      stop_full = full w ns (AskCommand.StopAllocation n) t at (ap is_done stop_is)
+
+      pub stops : passes_bound t ≡ false → counted_ask ns (AskCommand.StopAllocation n) w ≡ stopped_with ns n w t a
+      stops fits = stands w ns (AskCommand.StopAllocation n) t at fits ∙ stop_is

@@ -1,3 +1,4 @@
 pub mod Asked
+pub mod Past
 pub mod Prepared
 pub mod Used

@@ -3,10 +3,12 @@ use Rattle.std.specs.Prelude.{◌≡◌, ℕ, ◌+◌, ◌<◌, ◌≤◌, ◌^�
 use Rattle.std.proofs.Common.{arith, refl, ap, sym, subst, ◌∙◌}
 use Rattle.std.proofs.lemmas.Bool.{ltb-false}
 use Rattle.std.specs.Option.{option_map_or}
-use Rattle.std.specs.FinMap.{get}
+use Rattle.std.specs.FinMap.{get, insert}
 use Rattle.keyed.specs.Table.{row_at}
+use Rattle.ns_types.specs.declared.allocation.Allocation.{Allocation}
+use Rattle.ns_types.specs.declared.allocation.DesiredStatus.TheVariants as DesiredStatus
 use Rattle.ns_types.specs.declared.evaluation.Evaluation.{Evaluation}
-use Rattle.ns_types.specs.Settling.Making.{change_tenant, make, make_in, put_tenant, with_evaluation}
+use Rattle.ns_types.specs.Settling.Making.{change_tenant, make, make_in, put_tenant, with_desired, with_evaluation}
 use Rattle.ns_types.specs.State.Names.{Name}
 use Rattle.ns_types.specs.State.Rows.{World, Tenant}
 use Rattle.ns_types.specs.Steps.{greatest}
@@ -62,3 +64,16 @@ module _ (w : World) (ns : Name) (t : Tenant) (at : get w.tenants ns ≡ Some t)
       ∙ ap (λ o. option_map_or (make_in ns e (put_tenant ns (f t) w)) o (put_tenant ns (f t) w)) (get_put names one_name w.tenants ns (f t))
       ∙ ap (λ m. queue (record w { tenants = m }) (ns, (f t).evaluation_number + 1))
       (insert_twice names one_name w.tenants ns (f t) (with_evaluation e (f t)))
+
+-- ---- an allocation that is stopped
+
+abbrev stopped_by : ℕ → Tenant → Option Allocation → Tenant
+stopped_by n t o = option_map_or (λ a. record t { allocations = insert t.allocations n (record a { desired = DesiredStatus.Stop }) }) o t
+
+-- the number of its last evaluation stays
+pub stop_keeps : (n : ℕ) (t : Tenant) → (with_desired n DesiredStatus.Stop t).evaluation_number ≡ t.evaluation_number
+stop_keeps n t = by (get t.allocations n)
+  where
+    by : (o : Option Allocation) → (stopped_by n t o).evaluation_number ≡ t.evaluation_number
+    by None = refl
+    by (Some a) = refl

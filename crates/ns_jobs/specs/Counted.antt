@@ -4,12 +4,15 @@ use Rattle.std.specs.Option.{option_map_or}
 use Rattle.std.specs.FinMap.{get}
 use Rattle.ns_types.specs.declared.job.Job.{Job}
 use Rattle.ns_types.specs.declared.refusal.Refusal.TheVariants as Refusal
+use Rattle.ns_types.specs.declared.reply.Content.{Content}
 use Rattle.ns_types.specs.declared.step.AskCommand.{AskCommand}
 use Rattle.ns_types.specs.Asking.Asks.{ask}
 use Rattle.ns_types.specs.Settling.Outcome.{Outcome, Refused, Done}
 use Rattle.ns_types.specs.State.Names.{Name}
 use Rattle.ns_types.specs.State.Rows.{World, Tenant}
-use Rattle.ns_types.specs.Steps.{greatest}
+use Rattle.ns_types.specs.Settling.Settle.{settle}
+use Rattle.ns_types.specs.Steps.{greatest, is_past_bound}
+use Rattle.ns_jobs.specs.Read.{only_reads}
 use Rattle.ns_jobs.specs.declared.making.Numbers.{Numbers}
 
 -- the namespace's next index, or the number of its next evaluation, would pass its bound
@@ -45,3 +48,23 @@ HasFewVersions t = (id : Name) (job : Job) → get t.jobs id ≡ Some job → jo
 
 abbrev pub HasFewVersionsIn : World → Name → Type 0
 HasFewVersionsIn w ns = (t : Tenant) → get w.tenants ns ≡ Some t → HasFewVersions t
+
+-- ---- what settling makes of it
+
+-- Where nothing stands yet under the number of the namespace's next evaluation: a step that makes one, with a counter
+-- of the namespace at its bound, is past the bound once it has settled.
+abbrev pub CountingIsSettling : Type 0
+CountingIsSettling = (w : World) (ns : Name) (command : AskCommand) (t : Tenant) (content : Content) (x : World)
+    → only_reads command ≡ false → get w.tenants ns ≡ Some t → get t.evaluations (t.evaluation_number + 1) ≡ None
+    → passes_bound t ≡ true → ask ns command w ≡ Done content x → is_past_bound (settle w x) ≡ true
+
+abbrev pub writes_jobs : AskCommand → Bool
+writes_jobs (AskCommand.Register r) = true
+writes_jobs (AskCommand.Deregister id purge) = true
+writes_jobs _ = false
+
+-- A registration or a deregistration that passes no counter of its namespace passes no bound at all.
+abbrev pub JobsPassNothingElse : Type 0
+JobsPassNothingElse = (w : World) (ns : Name) (command : AskCommand) (t : Tenant) (content : Content) (x : World)
+    → writes_jobs command ≡ true → get w.tenants ns ≡ Some t → is_past_bound w ≡ false → passes_bound t ≡ false
+    → ask ns command w ≡ Done content x → is_past_bound (settle w x) ≡ false

@@ -2,11 +2,15 @@
 use Rattle.std.specs.Prelude.{◌≡◌, ℕ, ◌+◌, Bool, false, not, Option}
 use Rattle.std.specs.Option.{option_map_or}
 use Rattle.std.specs.FinMap.{get}
+use Rattle.ns_types.specs.declared.allocation.Allocation.{Allocation}
+use Rattle.ns_types.specs.declared.allocation.DesiredStatus.TheVariants as DesiredStatus
 use Rattle.ns_types.specs.declared.evaluation.Evaluation.{Evaluation}
+use Rattle.ns_types.specs.declared.evaluation.Trigger.TheVariants as Trigger
 use Rattle.ns_types.specs.declared.job.Job.{Job}
 use Rattle.ns_types.specs.declared.job.Registration.{Registration}
+use Rattle.ns_types.specs.declared.reply.Content.TheVariants as Content
 use Rattle.ns_types.specs.Asking.Asks.{document_of, meets, registered_job}
-use Rattle.ns_types.specs.Settling.Making.{change_tenant, make}
+use Rattle.ns_types.specs.Settling.Making.{change_tenant, evaluation_for, make, make_in, with_desired}
 use Rattle.ns_types.specs.Settling.Outcome.{Outcome, Done}
 use Rattle.ns_types.specs.State.Names.{Name}
 use Rattle.ns_types.specs.State.Rows.{World, Tenant}
@@ -21,6 +25,13 @@ with_made ns f e w = make ns (λ _. e) (change_tenant ns f w)
 -- the outcome is what is answered and changed
 abbrev pub IsDone : Outcome World → Tables → Prepared → Type 0
 IsDone outcome t x = outcome ≡ Done x.content (view t x.change)
+
+-- ---- stopping an allocation
+
+-- one that is live
+abbrev pub stopped_with : Name → ℕ → World → Tenant → Allocation → Outcome World
+stopped_with ns n w t a = Done (Content.Stopped (t.evaluation_number + 1) (t.index + 1))
+    (make_in ns (evaluation_for t a Trigger.AllocStop) w (with_desired n DesiredStatus.Stop t))
 
 -- ---- registration
 

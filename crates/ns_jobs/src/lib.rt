@@ -6,13 +6,16 @@ mod allocations;
 mod deregistration;
 mod evaluations;
 mod jobs;
+pub mod laws;
 mod looking;
 mod making;
 mod reading;
 mod registration;
 mod sharing;
+mod stopping;
 mod usage;
 
 pub use deregistration::deregister;
 pub use reading::read;
 pub use registration::register;
+pub use stopping::stop_allocation;

@@ -1,15 +1,19 @@
-//! A job that is put or taken away, and the evaluation that is made of it.
+//! What changes of a job or an allocation, and the evaluation that is made with it.
 
 ghost use Rattle.std.specs.Prelude.{◌≡◌, IfOk};
-ghost use Rattle.ns_types.specs.Settling.Making.{evaluation_of, with_job};
+ghost use Rattle.ns_types.specs.declared.allocation.DesiredStatus.TheVariants as DesiredStatus;
+ghost use Rattle.ns_types.specs.Settling.Making.{evaluation_for, evaluation_of, new_evaluation, with_desired, with_job};
 ghost use Rattle.ns_change.specs.Changed.{HasEvaluationLeft, view, without_job};
 ghost use Rattle.ns_jobs.specs.Counted.{NextNumbers};
 ghost use Rattle.ns_jobs.specs.Made.{with_made};
 ghost use Rattle.ns_world.specs.World.{tenant_of, world_of};
 
-use ns_change::{Change, make, put_job, remove_job};
+use crate::looking::job;
+use ns_change::{Change, make, put_job, remove_job, set_desired};
+use ns_types::allocation::{Allocation, DesiredStatus};
 use ns_types::evaluation::{Evaluation, Status, Trigger};
-use ns_types::job::{Document, Job};
+use ns_types::job::{Document, Job, JobKind};
+use ns_types::key::EvalKey;
 use ns_types::rows::Rows;
 use ns_types::text::Text;
 use ns_world::{Tables, TenantRows};
@@ -35,20 +39,23 @@ pub(crate) fn next_numbers(tenant: &TenantRows) -> Option<Numbers>
     })
 }
 
-/// An evaluation of the job, with its type, priority and pool.
-pub(crate) fn evaluation_of(
+/// An evaluation of the job, which is pending.
+fn new_evaluation(
     alloc: Global,
     id: &Text,
-    document: &Document,
+    kind: JobKind,
+    priority: u64,
+    pool: &Text,
     trigger: Trigger,
 ) -> Result<Evaluation, AllocError>
-    ensures { IfOk result (λ made. made ≡ evaluation_of id.now document.now trigger) }
+    ensures { IfOk result
+        (λ made. made ≡ new_evaluation id.now kind priority pool.now trigger) }
 {
     Ok(Evaluation {
         job: id.clone()?,
-        kind: document.kind,
-        priority: document.priority,
-        pool: document.pool.clone()?,
+        kind,
+        priority,
+        pool: pool.clone()?,
         trigger,
         status: Status::Pending,
         previous: None,
@@ -60,6 +67,40 @@ pub(crate) fn evaluation_of(
         create_index: 0,
         modify_index: 0,
     })
+}
+
+/// An evaluation of the job, with its type, priority and pool.
+fn evaluation_of(
+    alloc: Global,
+    id: &Text,
+    document: &Document,
+    trigger: Trigger,
+) -> Result<Evaluation, AllocError>
+    ensures { IfOk result (λ made. made ≡ evaluation_of id.now document.now trigger) }
+{
+    let pool = &document.pool;
+    new_evaluation(alloc, id, document.kind, document.priority, pool, trigger)
+}
+
+/// An evaluation of the job of an allocation that ends. If the job is gone, it has the priority and the pool of the
+/// allocation, and is of type `service`.
+pub(crate) fn evaluation_for(
+    alloc: Global,
+    tenant: &TenantRows,
+    ended: &Allocation,
+    trigger: Trigger,
+) -> Result<Evaluation, AllocError>
+    ensures { IfOk result
+        (λ made. made ≡ evaluation_for (tenant_of tenant.now) ended.now trigger) }
+{
+    let id = &ended.job;
+    match job(tenant, id) {
+        Some(job) => evaluation_of(alloc, id, &job.document, trigger),
+        None => {
+            let pool = &ended.pool;
+            new_evaluation(alloc, id, JobKind::Service, ended.priority, pool, trigger)
+        }
+    }
 }
 
 /// The job is put, and an evaluation of it is made.
@@ -96,6 +137,24 @@ pub(crate) fn remove_and_make(
     let evaluation = evaluation_of(tables.alloc, id, document, trigger)?;
     let mut change = Change::new(tables.alloc);
     remove_job(tables, &mut change, namespace, id)?;
+    make(tables, &mut change, namespace, evaluation)?;
+    Ok(change)
+}
+
+/// The allocation is desired to stop, and the evaluation is made.
+pub(crate) fn stop_and_make(
+    tables: &Tables,
+    namespace: &Text,
+    number: u64,
+    evaluation: Evaluation,
+) -> Result<Change, AllocError>
+    requires { HasEvaluationLeft (world_of tables.now) namespace.now }
+    ensures { let f = with_desired number DesiredStatus.Stop in IfOk result (λ change.
+        view tables.now change ≡ with_made namespace.now f evaluation (world_of tables.now)) }
+{
+    let key = EvalKey::new(namespace.clone()?, number);
+    let mut change = Change::new(tables.alloc);
+    set_desired(tables, &mut change, &key, DesiredStatus::Stop)?;
     make(tables, &mut change, namespace, evaluation)?;
     Ok(change)
 }
