@@ -1,2 +1,4 @@
 pub mod Levels
+pub mod Loaded
 pub mod Puts
+pub mod Sums

@@ -1,2 +1,3 @@
 pub mod Index
 pub mod Levels
+pub mod Loads

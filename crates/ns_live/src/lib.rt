@@ -2,6 +2,7 @@
 #![tactic(auto)]
 
 mod live;
+mod loads;
 mod node_keys;
 mod pool_keys;
 

@@ -7,13 +7,20 @@ ghost use Rattle.keyed.specs.Table.{row_at};
 ghost use Rattle.ns_types.specs.declared.allocation.Allocation.{Allocation};
 ghost use Rattle.ns_types.specs.State.Names.{Key, Name, same_key};
 ghost use Rattle.ns_types.specs.State.Rows.{is_live, is_live_on};
-ghost use Rattle.ns_live.specs.Index.{AddsRow, HasRoomFor, Indexes, has_room, holds, with_row};
-ghost use Rattle.ns_live.specs.Levels.{Adds, Drops, Keeps, holds_in_pool, has_pool_room, same_at};
+ghost use Rattle.ns_types.specs.State.Sums.{node_load};
+ghost use Rattle.ns_live.specs.Index.{AddsRow, HasRoomFor, Indexes, IsRight, has_room, holds, with_row};
+ghost use Rattle.ns_live.specs.Levels.{Adds, Drops, Keeps, holds_in_pool, holds_key, has_pool_room, same_at};
+ghost use Rattle.ns_live.specs.Loads.{IsCounted};
+ghost use Rattle.ns_world.specs.World.{world_of};
 
+use crate::loads::{keys_load, none};
+use crate::node_keys::NodeKeys;
 use crate::pool_keys::PoolKeys;
 use keyed::NameTable;
 use ns_types::allocation::{Allocation, ClientStatus, DesiredStatus};
+use ns_types::resources::Resources;
 use ns_types::text::{Text, same_text};
+use ns_world::Tables;
 use std::alloc::{AllocError, Global};
 
 /// The keys of all live allocations, by the pool and the node that they are on.
@@ -93,6 +100,30 @@ impl Live {
             if !is_live_on(after, &row.pool, &row.node) {
                 self.remove(&row.pool, &row.node, namespace, number);
             }
+        }
+    }
+
+    /// The keys of the live allocations on this node, where there are some.
+    pub fn keys_on(&self, pool: &Text, node: &Text) -> Option<&NodeKeys>
+        ensures { (key : Key) →
+            option_map_or (λ keys. holds_key keys key) (option_copied result) false
+            ≡ holds self.now pool.now node.now key }
+    {
+        match self.pools.get(pool) {
+            Some(nodes) => nodes.keys_on(node),
+            None => None,
+        }
+    }
+
+    /// What the live allocations on this node take together. It takes no memory.
+    pub fn load(&self, tables: &Tables, pool: &Text, node: &Text) -> Resources
+        requires right { IsRight (world_of tables.now) self.now }
+        requires fits { IsCounted (node_load (world_of tables.now) pool.now node.now) }
+        ensures { result ≡ node_load (world_of tables.now) pool.now node.now }
+    {
+        match self.keys_on(pool, node) {
+            Some(keys) => keys_load(tables, keys),
+            None => none(),
         }
     }
 
