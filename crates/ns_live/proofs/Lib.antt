@@ -1,4 +1,5 @@
 pub mod Levels
+pub mod Listing
 pub mod Loaded
 pub mod Puts
 pub mod Sums

@@ -52,7 +52,7 @@ module _ {K X C : Type 0} (f : K → X → ℕ) (look : K → Option X) where
           ∙ sym (right ∙ ap (λ r. option_map_or (f e.0) r 0 + sum_by (λ e. option_map_or (f e.0) (look e.0) 0) es) is)
 
 module _ {K X C : Type 0} {R : K → K → Ordering} (o : IsTotalOrder R) (same : IsAntisymmetric R) where
-  looked : (m : FinMap R X) (c : FinMap R C) → retain_keys m (contains_key c) ≡ rows (table_of (λ k _. get m k) c)
+  pub looked : (m : FinMap R X) (c : FinMap R C) → retain_keys m (contains_key c) ≡ rows (table_of (λ k _. get m k) c)
   looked m c = same_map o same _ _ (λ q. get-retain o same m (contains_key c) q ∙ by q (get c q)
       ∙ ap flat (sym (get-table_of o same (λ k _. get m k) c q)) ∙ sym (get-rows o _ q))
     where

@@ -2,7 +2,8 @@
 
 ghost use Rattle.std.specs.Prelude.{◌≡◌};
 ghost use Rattle.ns_types.specs.State.Resources.{none, plus};
-ghost use Rattle.ns_live.specs.Loads.{IsCounted, each_resource, keys_amount, namespace_amount, number_amount, numbers_amount};
+ghost use Rattle.ns_live.specs.Loads.{IsCounted, each_resource, keys_amount};
+ghost use Rattle.ns_live.specs.Loads.{namespace_amount, number_amount, numbers_amount};
 
 use crate::node_keys::NodeKeys;
 use keyed::NumberTable;
