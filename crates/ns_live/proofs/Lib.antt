@@ -1,3 +1,4 @@
+pub mod Bounded
 pub mod Levels
 pub mod Listing
 pub mod Loaded

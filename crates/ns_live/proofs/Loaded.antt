@@ -8,7 +8,7 @@ use Rattle.keyed.proofs.Tables.{get-rows}
 use Rattle.ns_types.specs.declared.allocation.Allocation.{Allocation}
 use Rattle.ns_types.specs.declared.resources.Resources.{Resources}
 use Rattle.ns_types.specs.State.Names.{Name, Key, ByNumber}
-use Rattle.ns_types.specs.State.Rows.{Tenant, allocation_at, is_live_on}
+use Rattle.ns_types.specs.State.Rows.{World, Tenant, allocation_at, is_live_on}
 use Rattle.ns_types.specs.State.Sums.{node_load, node_sum, tenant_sum}
 use Rattle.ns_types.proofs.Named.{names, numbers, one_name, one_number}
 use Rattle.ns_types.proofs.Tables.{each_row}
@@ -22,7 +22,7 @@ use Rattle.ns_live.specs.Loads.{each_resource, keys_amount, namespace_amount, nu
 use Rattle.ns_live.proofs.Levels.{none_there}
 use Rattle.ns_live.proofs.Sums.{sum_alike, sum_at_keys, sum_none}
 
-module _ (t : Tables) (pool node : Name) (amount : Resources → ℕ) where
+module _ (w : World) (pool node : Name) (amount : Resources → ℕ) where
   abbrev live : Allocation → Bool
   live = is_live_on pool node
 
@@ -30,25 +30,23 @@ module _ (t : Tables) (pool node : Name) (amount : Resources → ℕ) where
   counted n row = cond (live row) (amount row.size) 0
 
   abbrev lives_at : Key → Bool
-  lives_at key = option_map_or live (allocation_at (world_of t) key) false
+  lives_at key = option_map_or live (allocation_at w key) false
 
   not_counted : (n : ℕ) (row : Allocation) → live row ≡ false → counted n row ≡ 0
   not_counted n row dead = ap (λ b. cond b (amount row.size) 0) dead
 
-  -- ---- a namespace in which nothing is live there
+  -- ---- where nothing is live
 
-  nothing_in : (ns : Name) (tenant : Tenant) → get (world_of t).tenants ns ≡ Some tenant → ((n : ℕ) → lives_at (ns, n) ≡ false) →
-      tenant_sum live amount tenant ≡ 0
+  nothing_in : (ns : Name) (tenant : Tenant) → get w.tenants ns ≡ Some tenant → ((n : ℕ) → lives_at (ns, n) ≡ false) → tenant_sum live amount tenant ≡ 0
   nothing_in ns tenant at none = sum_none (λ e. counted e.0 e.1) (entries tenant.allocations)
       (each_row numbers one_number (λ n row. counted n row ≡ 0) tenant.allocations
       (λ n row there. not_counted n row (sym (ap (λ r. option_map_or live r false)
       (ap (option_and_then (λ (x : Tenant). get x.allocations n)) at ∙ there)) ∙ none n)))
 
-  pub nothing_there : ((key : Key) → lives_at key ≡ false) → node_sum (world_of t) pool node amount ≡ 0
+  pub nothing_there : ((key : Key) → lives_at key ≡ false) → node_sum w pool node amount ≡ 0
   unfolding node_sum
-  nothing_there none = sum_none (λ e. tenant_sum live amount e.1) (entries (world_of t).tenants)
-      (each_row names one_name (λ ns tenant. tenant_sum live amount tenant ≡ 0) (world_of t).tenants
-      (λ ns tenant at. nothing_in ns tenant at (λ n. none (ns, n))))
+  nothing_there none = sum_none (λ e. tenant_sum live amount e.1) (entries w.tenants)
+      (each_row names one_name (λ ns tenant. tenant_sum live amount tenant ≡ 0) w.tenants (λ ns tenant at. nothing_in ns tenant at (λ n. none (ns, n))))
 
   -- ---- a namespace's rows at its numbers
 
@@ -78,39 +76,46 @@ module _ (t : Tables) (pool node : Name) (amount : Resources → ℕ) where
         ∙ sum_alike (λ e. option_map_or (counted e.0) (get (rows rows_of) e.0) 0) (number_amount rows_of amount) (entries held)
         (each_row numbers one_number (λ n slot. option_map_or (counted n) (get (rows rows_of) n) 0 ≡ number_amount rows_of amount (n, slot)) held at_number)
 
-  -- ---- all namespaces
+-- ---- all namespaces
 
-  module _ (keys : NodeKeys) (right : (key : Key) → holds_key keys key ≡ lives_at key) where
-    none_held : (ns : Name) → row_at keys.namespaces ns ≡ None → (n : ℕ) → lives_at (ns, n) ≡ false
+module _ (t : Tables) (pool node : Name) (amount : Resources → ℕ) where
+  abbrev on : Allocation → Bool
+  on = is_live_on pool node
+
+  abbrev on_at : Key → Bool
+  on_at key = option_map_or on (allocation_at (world_of t) key) false
+
+  module _ (keys : NodeKeys) (right : (key : Key) → holds_key keys key ≡ on_at key) where
+    none_held : (ns : Name) → row_at keys.namespaces ns ≡ None → (n : ℕ) → on_at (ns, n) ≡ false
     none_held ns none n = sym (right (ns, n)) ∙ ap (λ r. option_map_or (λ (held : ByNumber (Option Unit)). is_some (row_at held n)) r false) none
 
     right_in : (ns : Name) (tenant : TenantRows) (held : ByNumber (Option Unit)) → row_at t.tenants ns ≡ Some tenant → row_at keys.namespaces ns ≡ Some held →
-        (n : ℕ) → is_some (row_at held n) ≡ option_map_or live (row_at tenant.allocations n) false
+        (n : ℕ) → is_some (row_at held n) ≡ option_map_or on (row_at tenant.allocations n) false
     right_in ns tenant held at there n = sym (ap (λ r. option_map_or (λ (held : ByNumber (Option Unit)). is_some (row_at held n)) r false) there)
-        ∙ right (ns, n) ∙ ap (λ r. option_map_or live r false)
+        ∙ right (ns, n) ∙ ap (λ r. option_map_or on r false)
         (ap (option_and_then (λ (x : Tenant). get x.allocations n)) (tenant_at t ns ∙ ap (option_map tenant_of) at) ∙ get-rows numbers tenant.allocations n)
 
     at_namespace : (ns : Name) (slot : Option (ByNumber (Option Unit))) → get keys.namespaces ns ≡ Some slot →
-        option_map_or (λ tenant. tenant_sum live amount tenant) (get (world_of t).tenants ns) 0 ≡ namespace_amount t.tenants amount (ns, slot)
+        option_map_or (λ tenant. tenant_sum on amount tenant) (get (world_of t).tenants ns) 0 ≡ namespace_amount t.tenants amount (ns, slot)
     at_namespace ns None is = by (get (world_of t).tenants ns) refl
       where
-        by : (r : Option Tenant) → get (world_of t).tenants ns ≡ r → option_map_or (λ tenant. tenant_sum live amount tenant) r 0 ≡ 0
+        by : (r : Option Tenant) → get (world_of t).tenants ns ≡ r → option_map_or (λ tenant. tenant_sum on amount tenant) r 0 ≡ 0
         by None at = refl
-        by (Some tenant) at = nothing_in ns tenant at (none_held ns (ap flat is))
-    at_namespace ns (Some held) is = ap (λ r. option_map_or (λ tenant. tenant_sum live amount tenant) r 0) (tenant_at t ns) ∙ by (row_at t.tenants ns) refl
+        by (Some tenant) at = nothing_in (world_of t) pool node amount ns tenant at (none_held ns (ap flat is))
+    at_namespace ns (Some held) is = ap (λ r. option_map_or (λ tenant. tenant_sum on amount tenant) r 0) (tenant_at t ns) ∙ by (row_at t.tenants ns) refl
       where
-        by : (r : Option TenantRows) → row_at t.tenants ns ≡ r → option_map_or (λ tenant. tenant_sum live amount tenant) (option_map tenant_of r) 0
+        by : (r : Option TenantRows) → row_at t.tenants ns ≡ r → option_map_or (λ tenant. tenant_sum on amount tenant) (option_map tenant_of r) 0
             ≡ option_map_or (λ tenant. numbers_amount tenant.allocations held amount) r 0
         by None at = refl
-        by (Some tenant) at = rows_counted tenant.allocations held (right_in ns tenant held at (ap flat is))
+        by (Some tenant) at = rows_counted (world_of t) pool node amount tenant.allocations held (right_in ns tenant held at (ap flat is))
 
     pub loaded : node_sum (world_of t) pool node amount ≡ keys_amount t.tenants keys amount
     unfolding node_sum
-    loaded = sum_at_keys names one_name (λ _ tenant. tenant_sum live amount tenant) (world_of t).tenants keys.namespaces
-        (λ ns tenant at out. nothing_in ns tenant at (none_held ns (ap flat (none_there (get keys.namespaces ns) out))))
-        ∙ sum_alike (λ e. option_map_or (λ tenant. tenant_sum live amount tenant) (get (world_of t).tenants e.0) 0) (namespace_amount t.tenants amount)
+    loaded = sum_at_keys names one_name (λ _ tenant. tenant_sum on amount tenant) (world_of t).tenants keys.namespaces
+        (λ ns tenant at out. nothing_in (world_of t) pool node amount ns tenant at (none_held ns (ap flat (none_there (get keys.namespaces ns) out))))
+        ∙ sum_alike (λ e. option_map_or (λ tenant. tenant_sum on amount tenant) (get (world_of t).tenants e.0) 0) (namespace_amount t.tenants amount)
         (entries keys.namespaces)
-        (each_row names one_name (λ ns slot. option_map_or (λ tenant. tenant_sum live amount tenant) (get (world_of t).tenants ns) 0
+        (each_row names one_name (λ ns slot. option_map_or (λ tenant. tenant_sum on amount tenant) (get (world_of t).tenants ns) 0
         ≡ namespace_amount t.tenants amount (ns, slot)) keys.namespaces at_namespace)
 
 -- ---- both resources
@@ -126,6 +131,6 @@ module _ (t : Tables) (pool node : Name) where
   pub load_none : ((key : Key) → option_map_or (is_live_on pool node) (allocation_at (world_of t) key) false ≡ false) →
       node_load (world_of t) pool node ≡ record { cpu = 0; memory = 0 }
   load_none none = λ i. record {
-    cpu = nothing_there t pool node (λ r. r.cpu) none i;
-    memory = nothing_there t pool node (λ r. r.memory) none i;
+    cpu = nothing_there (world_of t) pool node (λ r. r.cpu) none i;
+    memory = nothing_there (world_of t) pool node (λ r. r.memory) none i;
   }

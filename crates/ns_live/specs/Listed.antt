@@ -7,7 +7,8 @@ use Rattle.ns_live.specs.declared.node_keys.NodeKeys.{NodeKeys}
 
 -- by namespace, then by number
 abbrev pub keys_in : NodeKeys → List Key
-keys_in held = flat_map (λ namespace. map (λ n. (namespace.0, n)) (keys (rows namespace.1))) (entries (rows held.namespaces))
+keys_in held = flat_map (λ namespace. map (λ n. (namespace.0, n)) (keys (rows namespace.1)))
+    (entries (rows held.namespaces))
 
 -- the rows that are found at the keys, in the order of the keys
 abbrev pub found_at : {K X : Type 0} → (K → Option X) → List K → List (K × X)
