@@ -79,7 +79,8 @@ impl Live {
         Ok(())
     }
 
-    /// The row under this key was `before` and is `after` from now on. It takes no memory.
+    /// The row under this key was `before` and is `after` from now on. It takes no memory: for a row that is live there
+    /// has to be room, which other keys keep.
     pub fn put(
         &mut self,
         namespace: &Text,
@@ -115,7 +116,8 @@ impl Live {
         }
     }
 
-    /// What the live allocations on this node take together. It takes no memory.
+    /// What the live allocations on this node take together, by an index that is right for the tables. It takes no memory.
+    /// In a valid world the load fits: its nodes have room for what is on them.
     pub fn load(&self, tables: &Tables, pool: &Text, node: &Text) -> Resources
         requires right { IsRight (world_of tables.now) self.now }
         requires fits { IsCounted (node_load (world_of tables.now) pool.now node.now) }
@@ -182,7 +184,7 @@ impl Live {
         }
     }
 
-    /// Holds the key on the node no longer. It takes no memory.
+    /// Holds the key on the node no longer. It takes no memory. A set without keys and room goes with its last key.
     fn remove(&mut self, pool: &Text, node: &Text, namespace: &Text, number: u64)
         ensures { Drops holds_in_pool has_pool_room (same_at (same_at same_key))
             (pool.now, (node.now, (namespace.now, number))) self.old self.new }
