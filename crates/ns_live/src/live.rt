@@ -116,7 +116,8 @@ impl Live {
         }
     }
 
-    /// What the live allocations on this node take together, by an index that is right for the tables. It takes no memory.
+    /// What the live allocations on this node take together, by an index that is right for the tables.
+    /// It takes no memory.
     /// In a valid world the load fits: its nodes have room for what is on them.
     pub fn load(&self, tables: &Tables, pool: &Text, node: &Text) -> Resources
         requires right { IsRight (world_of tables.now) self.now }
