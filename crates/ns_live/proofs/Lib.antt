@@ -1,4 +1,5 @@
 pub mod Bounded
+pub mod Changing
 pub mod Levels
 pub mod Listing
 pub mod Loaded
