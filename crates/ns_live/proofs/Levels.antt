@@ -14,7 +14,7 @@ use Rattle.ns_types.proofs.Named.{names, numbers, one_name, one_number, same_nam
 use Rattle.ns_types.proofs.Tables.{tied}
 use Rattle.ns_live.specs.Levels.{Adds, Drops, Keeps, at_name, holds_number, same_at}
 
-not_true : {A : Type 0} → IsTrue false → A
+pub not_true : {A : Type 0} → IsTrue false → A
 not_true e = absurd (subst T (sym e) tt)
 
 -- ---- rows

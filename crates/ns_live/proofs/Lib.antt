@@ -1,2 +1,7 @@
+pub mod Bounded
+pub mod Changing
 pub mod Levels
+pub mod Listing
+pub mod Loaded
 pub mod Puts
+pub mod Sums

@@ -1,9 +1,11 @@
 -- An index of live allocations by node: which keys it holds where, and when that is right.
 use Rattle.std.specs.Prelude.{◌≡◌, ◌&&◌, ◌||◌, Bool, true, false, IsTrue, Option, Some, None}
-use Rattle.std.specs.Prelude.{if◌then◌else◌}
-use Rattle.std.specs.Option.{option_map_or}
+use Rattle.std.specs.Prelude.{ℕ, if◌then◌else◌}
+use Rattle.std.specs.FinMap.{get}
+use Rattle.std.specs.Option.{option_map_or, unwrap_or}
+use Rattle.keyed.specs.Table.{row_at}
 use Rattle.ns_types.specs.declared.allocation.Allocation.{Allocation}
-use Rattle.ns_types.specs.State.Names.{Name, Key, same_key}
+use Rattle.ns_types.specs.State.Names.{Name, Key, ByNumber, same_key, same_name}
 use Rattle.ns_types.specs.State.Rows.{World, allocation_at, is_live, is_live_on}
 use Rattle.ns_live.specs.declared.live.Live.{Live}
 use Rattle.ns_live.specs.Levels.{has_pool_room, holds_in_pool}
@@ -40,3 +42,14 @@ pub record AddsRow (key : Key) (row : Option Allocation) (old new : Live) : Type
       ((same_key other key && option_map_or (is_live_on pool node) row false) || holds old pool node other)
   pub room : (pool node : Name) (other : Key) →
       IsTrue (has_room old pool node other) → IsTrue (has_room new pool node other)
+
+-- ---- all changed rows of a namespace: a slot with a row is the row's new value, a vacant one takes the row away
+
+abbrev pub with_changes : Name → ByNumber (Option Allocation) → (Key → Option Allocation) → Key → Option Allocation
+with_changes namespace changes row_of key =
+    if same_name key.0 namespace then unwrap_or (get changes key.1) (row_of key) else row_of key
+
+-- each changed row, where it is live, can be indexed without memory
+abbrev pub HasRoomForAll : Live → Name → ByNumber (Option Allocation) → Type 0
+HasRoomForAll live namespace changes = (n : ℕ) (row : Allocation) → row_at changes n ≡ Some row →
+    HasRoomFor live (namespace, n) (Some row)

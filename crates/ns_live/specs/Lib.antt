@@ -1,2 +1,4 @@
 pub mod Index
 pub mod Levels
+pub mod Listed
+pub mod Loads

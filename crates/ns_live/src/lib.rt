@@ -1,9 +1,13 @@
-//! Which allocations are live on which node.
+//! Which allocations are live on which node: an index by pool, node, namespace and number, so that none has to be
+//! looked for among the rows of all namespaces. Room for a key is made before it is needed.
 #![tactic(auto)]
 
 mod live;
+mod loads;
 mod node_keys;
 mod pool_keys;
+#[cfg(test)]
+mod tests;
 
 pub use live::Live;
 pub use node_keys::NodeKeys;

@@ -1,19 +1,27 @@
 //! The live allocations on all nodes.
 
-ghost use Rattle.std.specs.Prelude.{◌≡◌, false, IsTrue, OnOk, Option, Some, is_some, option_copied};
+ghost use Rattle.std.specs.Prelude.{◌≡◌, ℕ, false, IsTrue, OnOk, Option, Some, is_some, option_copied};
 ghost use Rattle.std.specs.Option.{option_map_or};
 ghost use Rattle.std.specs.FinMap.{empty};
 ghost use Rattle.keyed.specs.Table.{row_at};
 ghost use Rattle.ns_types.specs.declared.allocation.Allocation.{Allocation};
-ghost use Rattle.ns_types.specs.State.Names.{Key, Name, same_key};
+ghost use Rattle.ns_types.specs.State.Names.{Key, Name, same_key, same_name};
 ghost use Rattle.ns_types.specs.State.Rows.{is_live, is_live_on};
-ghost use Rattle.ns_live.specs.Index.{AddsRow, HasRoomFor, Indexes, has_room, holds, with_row};
-ghost use Rattle.ns_live.specs.Levels.{Adds, Drops, Keeps, holds_in_pool, has_pool_room, same_at};
+ghost use Rattle.ns_types.specs.State.Sums.{node_load};
+ghost use Rattle.ns_live.specs.Index.{AddsRow, HasRoomFor, HasRoomForAll, Indexes, IsRight};
+ghost use Rattle.ns_live.specs.Index.{has_room, holds, with_changes, with_row};
+ghost use Rattle.ns_live.specs.Levels.{Adds, Drops, Keeps, holds_in_pool, holds_key, has_pool_room, same_at};
+ghost use Rattle.ns_live.specs.Loads.{IsCounted};
+ghost use Rattle.ns_world.specs.World.{world_of};
 
+use crate::loads::{keys_load, none};
+use crate::node_keys::NodeKeys;
 use crate::pool_keys::PoolKeys;
-use keyed::NameTable;
+use keyed::{NameTable, NumberTable};
 use ns_types::allocation::{Allocation, ClientStatus, DesiredStatus};
+use ns_types::resources::Resources;
 use ns_types::text::{Text, same_text};
+use ns_world::Tables;
 use std::alloc::{AllocError, Global};
 
 /// The keys of all live allocations, by the pool and the node that they are on.
@@ -72,7 +80,8 @@ impl Live {
         Ok(())
     }
 
-    /// The row under this key was `before` and is `after` from now on. It takes no memory.
+    /// The row under this key was `before` and is `after` from now on. It takes no memory: for a row that is live there
+    /// has to be room, which other keys keep.
     pub fn put(
         &mut self,
         namespace: &Text,
@@ -96,6 +105,70 @@ impl Live {
         }
     }
 
+    /// Makes room for all changed rows of a namespace. Want of memory is the only error.
+    pub fn reserve_all(
+        &mut self,
+        namespace: &Text,
+        changes: &NumberTable<Allocation>,
+    ) -> Result<(), AllocError>
+        ensures same { (pool : Name) (node : Name) (key : Key) →
+            holds self.new pool node key ≡ holds self.old pool node key }
+        ensures room { (pool : Name) (node : Name) (key : Key) →
+            IsTrue (has_room self.old pool node key) → IsTrue (has_room self.new pool node key) }
+        ensures ok { OnOk result (HasRoomForAll self.new namespace.now changes.now) }
+    {
+        for slot in changes.as_slice() {
+            self.reserve_row(namespace, slot.0, slot.1.as_ref())?;
+        }
+        Ok(())
+    }
+
+    /// The namespace's rows are those of the table, and are changed so from now on: as `put`, row by row.
+    pub fn put_all(
+        &mut self,
+        namespace: &Text,
+        table: &NumberTable<Allocation>,
+        changes: &NumberTable<Allocation>,
+    )
+        requires { HasRoomForAll self.old namespace.now changes.now }
+        ensures index { (row_of : Key → Option Allocation) → Indexes row_of self.old →
+            ((n : ℕ) → row_of (namespace.now, n) ≡ row_at table.now n) →
+            Indexes (with_changes namespace.now changes.now row_of) self.new }
+        ensures room { (pool : Name) (node : Name) (key : Key) →
+            same_name key.0 namespace.now ≡ false →
+            IsTrue (has_room self.old pool node key) → IsTrue (has_room self.new pool node key) }
+    {
+        for slot in changes.as_slice() {
+            self.put(namespace, slot.0, table.get(slot.0), slot.1.as_ref());
+        }
+    }
+
+    /// The keys of the live allocations on this node, where there are some.
+    pub fn keys_on(&self, pool: &Text, node: &Text) -> Option<&NodeKeys>
+        ensures { (key : Key) →
+            option_map_or (λ keys. holds_key keys key) (option_copied result) false
+            ≡ holds self.now pool.now node.now key }
+    {
+        match self.pools.get(pool) {
+            Some(nodes) => nodes.keys_on(node),
+            None => None,
+        }
+    }
+
+    /// What the live allocations on this node take together, by an index that is right for the tables.
+    /// It takes no memory.
+    /// In a valid world the load fits: its nodes have room for what is on them.
+    pub fn load(&self, tables: &Tables, pool: &Text, node: &Text) -> Resources
+        requires right { IsRight (world_of tables.now) self.now }
+        requires fits { IsCounted (node_load (world_of tables.now) pool.now node.now) }
+        ensures { result ≡ node_load (world_of tables.now) pool.now node.now }
+    {
+        match self.keys_on(pool, node) {
+            Some(keys) => keys_load(tables, keys),
+            None => none(),
+        }
+    }
+
     /// Holds the key where the row is live. It takes no memory.
     fn add(&mut self, namespace: &Text, number: u64, row: Option<&Allocation>)
         requires { HasRoomFor self.old (namespace.now, number) (option_copied row) }
@@ -105,6 +178,26 @@ impl Live {
             if is_live(row) {
                 self.insert(&row.pool, &row.node, namespace, number);
             }
+        }
+    }
+
+    /// The same as `reserve`, of a row that may be none.
+    fn reserve_row(
+        &mut self,
+        namespace: &Text,
+        number: u64,
+        row: Option<&Allocation>,
+    ) -> Result<(), AllocError>
+        ensures same { (pool : Name) (node : Name) (key : Key) →
+            holds self.new pool node key ≡ holds self.old pool node key }
+        ensures room { (pool : Name) (node : Name) (key : Key) →
+            IsTrue (has_room self.old pool node key) → IsTrue (has_room self.new pool node key) }
+        ensures ok { OnOk result (
+            HasRoomFor self.new (namespace.now, number) (option_copied row.entry)) }
+    {
+        match row {
+            Some(row) => self.reserve(namespace, number, row),
+            None => Ok(()),
         }
     }
 
@@ -151,7 +244,7 @@ impl Live {
         }
     }
 
-    /// Holds the key on the node no longer. It takes no memory.
+    /// Holds the key on the node no longer. It takes no memory. A set without keys and room goes with its last key.
     fn remove(&mut self, pool: &Text, node: &Text, namespace: &Text, number: u64)
         ensures { Drops holds_in_pool has_pool_room (same_at (same_at same_key))
             (pool.now, (node.now, (namespace.now, number))) self.old self.new }

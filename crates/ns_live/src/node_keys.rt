@@ -1,7 +1,7 @@
 //! The live allocations on one node.
 
 ghost use Rattle.std.specs.Prelude.{◌≡◌, IsTrue, OnOk, is_some};
-ghost use Rattle.std.specs.FinMap.{empty};
+ghost use Rattle.std.specs.FinMap.{empty, entries};
 ghost use Rattle.keyed.specs.Table.{row_at};
 ghost use Rattle.ns_types.specs.State.Names.{same_key};
 ghost use Rattle.ns_live.specs.Levels.{Adds, Drops, Keeps, holds_key, has_key_room};
@@ -24,6 +24,13 @@ impl NodeKeys {
         NodeKeys {
             namespaces: NameTable::new(alloc),
         }
+    }
+
+    /// The namespaces in their order, each with the numbers of its keys, which rise. A vacant slot is no key.
+    pub fn as_slice(&self) -> &[(Text, Option<NumberTable<()>>)]
+        ensures { result.now ≡ entries self.now.namespaces }
+    {
+        self.namespaces.as_slice()
     }
 
     /// Whether it holds no key and has room for none.

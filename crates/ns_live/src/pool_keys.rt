@@ -1,6 +1,6 @@
 //! The live allocations on the nodes of one pool.
 
-ghost use Rattle.std.specs.Prelude.{◌≡◌, IsTrue, OnOk, is_some};
+ghost use Rattle.std.specs.Prelude.{◌≡◌, IsTrue, OnOk, is_some, option_copied};
 ghost use Rattle.std.specs.FinMap.{empty};
 ghost use Rattle.keyed.specs.Table.{row_at};
 ghost use Rattle.ns_types.specs.State.Names.{same_key};
@@ -32,6 +32,12 @@ impl PoolKeys {
         ensures { IsTrue result → self.now.nodes ≡ empty }
     {
         self.nodes.as_slice().is_empty()
+    }
+
+    pub(crate) fn keys_on(&self, node: &Text) -> Option<&NodeKeys>
+        ensures { option_copied result ≡ row_at self.now.nodes node.now }
+    {
+        self.nodes.get(node)
     }
 
     /// Makes a set for the node, unless it is there.
