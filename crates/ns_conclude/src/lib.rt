@@ -5,5 +5,7 @@
 #![tactic(auto)]
 
 mod concluded;
+#[cfg(test)]
+mod tests;
 
 pub use concluded::conclude;
