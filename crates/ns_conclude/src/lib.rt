@@ -1,9 +1,11 @@
 //! The end of a step, from its change to the tables: `conclude` refuses the step where a counter would pass its bound,
 //! and else lets the change settle and puts it in, all of it or nothing. Want of memory comes last, where the step would
-//! have been made. `proofs/Concluding` says that what it answers is the model's answer to the step, and what it leaves
-//! the model's state.
+//! have been made. The lemma `makes` of `proofs/Concluding` says that what is answered is the model's answer to the step,
+//! and what is left the model's state.
 #![tactic(auto)]
 
 mod concluded;
+#[cfg(test)]
+mod tests;
 
 pub use concluded::conclude;

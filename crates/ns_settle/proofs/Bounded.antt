@@ -147,11 +147,13 @@ module _ (w : World) (c : Change) where
   pub pools_within : any_row (λ _ p. is_pool_past_bound p) w.pools ≡ false →
       any_row (λ _ p. is_pool_past_bound p) (settle w (changed w c)).pools ≡ pools_pass w c
   pools_within within = ap (any_row (λ _ p. is_past p)) pools_then
-      ∙ any_row-mapped (λ _ p. is_past p) (λ name p. after_release (classes_in name (released_rooms w c)) (perhaps changed_pool (row_at c.pools name) p)) w.pools
+      ∙ any_row-mapped (λ _ p. is_past p)
+      (λ name p. after_release (classes_in name (released_rooms w c)) (perhaps changed_pool (row_at c.pools name) p)) w.pools
       ∙ any_row-alike names one_name _ (λ name p. (list_any (λ r. same_name name r.0) (released_rooms w c) && is_at_bound p.release)
       || places_in name (row_at c.pools name)) w.pools
       (λ name p at. pool_past name p (none_of_any one_name (λ _ p. is_past p) w.pools name p within at))
-      ∙ any_row-either (λ name p. list_any (λ r. same_name name r.0) (released_rooms w c) && is_at_bound p.release) (λ name _. places_in name (row_at c.pools name))
+      ∙ any_row-either (λ name p. list_any (λ r. same_name name r.0) (released_rooms w c) && is_at_bound p.release)
+      (λ name _. places_in name (row_at c.pools name))
       w.pools
       ∙ (λ i. any_chosen (λ r. r.0) (λ p. is_at_bound p.release) w.pools (released_rooms w c) i || places i)
     where

@@ -1,5 +1,6 @@
 -- Indexes and numbers of namespaces pass their bounds only where the change, or an evaluation that wakes, makes them.
-use Rattle.std.specs.Prelude.{◌≡◌, ℕ, ◌+◌, Bool, true, false, not, cond, if◌then◌else◌, List, [], ◌∷◌, Option, Some, None, ◌&&◌, ◌||◌, nat_lt, filter, option_map}
+use Rattle.std.specs.Prelude.{◌≡◌, ℕ, ◌+◌, Bool, true, false, not, cond, if◌then◌else◌, List, [], ◌∷◌, Option, Some, None, ◌&&◌, ◌||◌, nat_lt}
+use Rattle.std.specs.Prelude.{filter, option_map}
 use Rattle.std.proofs.Common.{refl, sym, ap, ◌∙◌}
 use Rattle.std.specs.Option.{option_and_then, option_map_or}
 use Rattle.std.specs.List.{list_any}
@@ -184,7 +185,8 @@ module _ (ns : Name) (keys : List Key) (t : Tenant) (within : is_tenant_past_bou
   past_after : (x : Option TenantChange) → is_tenant_past_bound (stamp_tenant (Some t) (unblocked_in keys ns (perhaps changed_tenant x t)))
       ≡ (change_passes x || (is_at_bound t.index && waking_in x))
   past_after None = stamped_past t (unblocked_in keys ns t) (left_none _ _ (left_none _ _ within))
-      ∙ (λ i. (right_none (nat_lt greatest t.index) _ (left_none _ _ within) i || right_none (nat_lt greatest t.index || nat_lt greatest t.evaluation_number) _ within i)
+      ∙ (λ i. (right_none (nat_lt greatest t.index) _ (left_none _ _ within) i
+      || right_none (nat_lt greatest t.index || nat_lt greatest t.evaluation_number) _ within i)
       || (is_at_bound t.index && nothing_touched i))
   past_after (Some x) = stamped_past t (awake ns keys t x) (left_none _ _ (left_none _ _ within))
       ∙ ap (λ b. is_number_past x || (is_at_bound t.index && b)) (awake_touched ns keys t x)
@@ -228,7 +230,8 @@ module _ (w : World) (c : Change) where
   moved false false q = refl
 
   one_past : (ns : Name) (t : Tenant) → is_tenant_past_bound t ≡ false →
-      is_tenant_past_bound (stamp_tenant (Some t) (unblocked_in keys_now ns (perhaps changed_tenant (row_at c.tenants ns) t))) ≡ (by_change ns t || by_waking ns t)
+      is_tenant_past_bound (stamp_tenant (Some t) (unblocked_in keys_now ns (perhaps changed_tenant (row_at c.tenants ns) t)))
+      ≡ (by_change ns t || by_waking ns t)
   one_past ns t within = past_after ns keys_now t within (row_at c.tenants ns) ∙ (λ i. changes (row_at c.tenants ns) i || wakes i)
     where
       changes : (x : Option TenantChange) → change_passes ns keys_now t within x ≡ option_map_or (λ x. passes_in w c ns x t) x false
@@ -243,7 +246,8 @@ module _ (w : World) (c : Change) where
   changes_pass = any_row-before names one_name by_change w.tenants c.tenants
       (λ ns t at out. ap (λ x. option_map_or (λ x. passes_in w c ns x t) x false) (no_slot (get c.tenants ns) out))
       ∙ any_alike _ (tenant_passes w c) (entries c.tenants) (each_row names one_name _ c.tenants
-      (λ ns x at. ap (λ r. option_map_or (λ t. option_map_or (λ x. passes_in w c ns x t) (flat r) false) (get w.tenants ns) false) at ∙ by ns x (get w.tenants ns)))
+      (λ ns x at. ap (λ r. option_map_or (λ t. option_map_or (λ x. passes_in w c ns x t) (flat r) false) (get w.tenants ns) false) at ∙
+      by ns x (get w.tenants ns)))
     where
       by : (ns : Name) (x : Option TenantChange) (t : Option Tenant) → option_map_or (λ t. option_map_or (λ x. passes_in w c ns x t) x false) t false
           ≡ option_map_or (λ x. option_map_or (passes_in w c ns x) t false) x false

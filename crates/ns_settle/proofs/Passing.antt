@@ -12,7 +12,8 @@ use Rattle.ns_types.proofs.Tables.{get-table_of}
 use Rattle.ns_change.specs.declared.change.Change.{Change}
 use Rattle.ns_change.specs.declared.change.PoolChange.{PoolChange}
 use Rattle.ns_change.specs.declared.change.TenantChange.{TenantChange}
-use Rattle.ns_settle.specs.Bounds.{is_at_bound, is_place_past, passes_in, places_pass, quota_passes, room_passes, tenant_passes, waking_passes, waking_passes_in}
+use Rattle.ns_settle.specs.Bounds.{is_at_bound, is_place_past, passes_in, places_pass, quota_passes, room_passes}
+use Rattle.ns_settle.specs.Bounds.{tenant_passes, waking_passes, waking_passes_in}
 use Rattle.ns_types.specs.declared.node.Class.{Class}
 use Rattle.ns_world.specs.declared.tables.PoolRows.{PoolRows}
 use Rattle.ns_world.specs.declared.tables.QuotaRows.{QuotaRows}

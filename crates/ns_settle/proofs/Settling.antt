@@ -136,7 +136,8 @@ module _ (w : World) (c : Change) where
   pub pools_after : map_rows (λ name p. after_release (released_classes w (changed w c) name p) p) (changed w c).pools ≡ map_rows
       (λ name p. after_release (classes_in name (released_rooms w c)) (perhaps changed_pool (row_at c.pools name) p)) w.pools
   unfolding changed
-  pools_after = map_rows-alike names one_name _ (λ name p. after_release (classes_in name (released_rooms w c)) p) (changed w c).pools (λ name p at. pool_is name p at)
+  pools_after = map_rows-alike names one_name _ (λ name p. after_release (classes_in name (released_rooms w c)) p) (changed w c).pools
+      (λ name p at. pool_is name p at)
       ∙ map_rows-twice names one_name (λ name p. after_release (classes_in name (released_rooms w c)) p)
       (λ name p. perhaps changed_pool (row_at c.pools name) p) w.pools
 

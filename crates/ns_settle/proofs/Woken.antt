@@ -107,4 +107,5 @@ module _ (w : World) (c : Change) where
 
       by : (key : Key) (t : Option Tenant) → option_map_or (waking_passes_in w c key) t false ≡ false
       by key None = refl
-      by key (Some t) = ap (λ b. is_at_bound t.index && (b && shows_awake t key.1 (evaluation_at (changed w c) key))) (sleeps key) ∙ and_none (is_at_bound t.index)
+      by key (Some t) = ap (λ b. is_at_bound t.index && (b && shows_awake t key.1 (evaluation_at (changed w c) key))) (sleeps key) ∙
+          and_none (is_at_bound t.index)

@@ -6,8 +6,8 @@ ghost use Rattle.ns_types.specs.declared.node.Class.{Class};
 ghost use Rattle.ns_types.specs.State.Names.{Name};
 ghost use Rattle.ns_types.specs.State.Rows.{class_of};
 ghost use Rattle.ns_change.specs.Changed.{view};
-ghost use Rattle.ns_settle.specs.Released.{quotas_ended, quotas_ended_in, released_quotas, released_rooms, room_at, quota_left};
-ghost use Rattle.ns_settle.specs.Released.{rooms_at, rooms_ended, rooms_ended_in, rooms_of_pool};
+ghost use Rattle.ns_settle.specs.Released.{quota_left, quotas_ended, quotas_ended_in, released_quotas};
+ghost use Rattle.ns_settle.specs.Released.{released_rooms, room_at, rooms_at, rooms_ended, rooms_ended_in, rooms_of_pool};
 ghost use Rattle.ns_world.specs.World.{pool_of, tenant_of, world_of};
 
 use crate::giving::gives_itself;
