@@ -1,7 +1,6 @@
 //! A server takes steps itself.
 
 ghost use Rattle.std.specs.Prelude.{◌≡◌, IfOk};
-ghost use Rattle.ns_types.specs.State.Rows.{State};
 ghost use Rattle.ns_types.specs.Steps.{opening};
 
 use crate::answering::{Api, Takes};

@@ -1,6 +1,6 @@
 //! One connection, answered over what takes the steps.
 
-ghost use Rattle.std.specs.Prelude.{◌≡◌, ℕ, ◌+◌, ◌≤◌, min, length, IfOk, IsErrOf, IsTrue, false, Err};
+ghost use Rattle.std.specs.Prelude.{◌≡◌, ◌+◌, ◌≤◌, min, length, IfOk, IsErrOf, IsTrue, false, Err};
 ghost use Rattle.ns_types.specs.Wire.Http.{End};
 ghost use Rattle.ns_http.specs.Conversation.{streams_between, EndsWell, IsReadFault};
 ghost use Rattle.ns_http.specs.Counts.{IsOpen, IsWriteFault};

@@ -1,6 +1,6 @@
 //! The documents of nodes, and their status and eligibility.
 
-ghost use Rattle.std.specs.Prelude.{◌≡◌, [], IfOk, IfErr, IsTrue};
+ghost use Rattle.std.specs.Prelude.{[], IfOk, IfErr, IsTrue};
 ghost use Rattle.serde_json.specs.View.{view, members_view};
 ghost use Rattle.ns_types.specs.State.Limits.{is_good_offer};
 ghost use Rattle.ns_types.specs.Validity.{IsInOrder};

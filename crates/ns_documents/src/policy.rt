@@ -1,6 +1,6 @@
 //! The document of a policy.
 
-ghost use Rattle.std.specs.Prelude.{◌≡◌, IfOk, IfErr, IsTrue};
+ghost use Rattle.std.specs.Prelude.{IfOk, IfErr, IsTrue};
 ghost use Rattle.serde_json.specs.View.{view};
 ghost use Rattle.ns_types.specs.State.Limits.{is_good_policy};
 ghost use Rattle.ns_json.specs.Reading.{Gives, same, body_in, IsOfDocument};

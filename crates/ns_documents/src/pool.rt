@@ -1,6 +1,6 @@
 //! The document of a pool.
 
-ghost use Rattle.std.specs.Prelude.{◌≡◌, IfOk, IfErr, IsTrue, option_copied};
+ghost use Rattle.std.specs.Prelude.{IfOk, IfErr, IsTrue, option_copied};
 ghost use Rattle.serde_json.specs.View.{view};
 ghost use Rattle.ns_types.specs.State.Limits.{is_text};
 ghost use Rattle.ns_json.specs.Reading.{Gives, same, body_in, IsOfDocument};

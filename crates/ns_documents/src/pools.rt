@@ -1,6 +1,6 @@
 //! Which pools a namespace may use.
 
-ghost use Rattle.std.specs.Prelude.{◌≡◌, [], None};
+ghost use Rattle.std.specs.Prelude.{[], None};
 ghost use Rattle.serde_json.specs.View.{view};
 ghost use Rattle.ns_types.specs.State.Names.{default_name};
 ghost use Rattle.ns_json.specs.Reading.{Gives, same, or_else, some, present};

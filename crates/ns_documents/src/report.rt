@@ -1,9 +1,7 @@
 //! What a client reports of an allocation.
 
-ghost use Rattle.std.specs.Prelude.{◌≡◌, IfOk, IfErr, IsTrue};
+ghost use Rattle.std.specs.Prelude.{IfErr};
 ghost use Rattle.serde_json.specs.View.{view};
-ghost use Rattle.ns_types.specs.declared.name.NameKind.TheVariants as NameKind;
-ghost use Rattle.ns_types.specs.State.Name.{is_name};
 ghost use Rattle.ns_json.specs.Reading.{Gives, same, body_in, IsOfDocument};
 ghost use Rattle.ns_documents.specs.Nodes.{reported_in, report_in};
 

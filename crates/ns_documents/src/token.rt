@@ -1,6 +1,6 @@
 //! The document of a token.
 
-ghost use Rattle.std.specs.Prelude.{◌≡◌, ℕ, List, [], IfOk, IfErr, IsTrue};
+ghost use Rattle.std.specs.Prelude.{ℕ, List, [], IfOk, IfErr, IsTrue};
 ghost use Rattle.serde_json.specs.View.{view};
 ghost use Rattle.ns_types.specs.declared.acl.TokenKind.TheVariants.{Client};
 ghost use Rattle.ns_types.specs.State.Limits.{is_good_token};

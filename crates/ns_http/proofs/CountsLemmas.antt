@@ -5,7 +5,7 @@ use Rattle.std.specs.declared.io.Error.{Error}
 use Rattle.std.proofs.lemmas.Bool.{ne_eqb, or_from, cases_lt, lt-ltb}
 use Rattle.std.proofs.Math.Bool.{or-true}
 use Rattle.ns_http.specs.declared.counting.Counts.{Counts}
-use Rattle.ns_http.specs.Counts.{CountsRead, IsOpen, HasGrown, HasFailed, IsInterruptedOut, IsWriteFault, more, more_if, after_write, is_interruption, is_lost}
+use Rattle.ns_http.specs.Counts.{CountsRead, IsOpen, HasGrown, HasFailed, IsWriteFault, more, more_if, after_write, is_interruption}
 
 -- no read came after the end or a failure
 pub last_read : (c k : Counts) (r : Result ℕ Error) → CountsRead c k r → IsOpen c → k.went_on ≡ false

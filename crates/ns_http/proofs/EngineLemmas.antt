@@ -9,6 +9,7 @@ use Rattle.ns_types.specs.Wire.Http.{Message, print_message, IsMessage, closes, 
 use Rattle.ns_types.specs.Wire.Http.{Clean, Partial, is_closed, IsRest}
 use Rattle.ns_types.specs.declared.reply.Rendered.{Rendered}
 use Rattle.ns_types.specs.Wire.Responses.{refusal_of, wire, Exchange, wires, Answers}
+use Rattle.ns_types.proofs.ReadingLemmas.{MatchBool-map}
 use Rattle.ns_http.specs.declared.head.Request.{Request}
 use Rattle.ns_http.specs.Head.{asked, FindsWhole}
 use Rattle.ns_http.specs.Output.{WritesSome, Queues}
@@ -17,10 +18,6 @@ use Rattle.ns_http.specs.Steps.{Makes, Queued, CutsShort}
 use Rattle.httparse.specs.Grammar.{print_request}
 use Rattle.ns_http.proofs.HeadLemmas.{length-print_request}
 use Rattle.ns_http.proofs.StreamLemmas.{Appends-then, Appends-none, WritesSome-then}
-
-MatchBool-map : {P Q R T : Type 0} (b : Bool) → (P → R) → (Q → T) → MatchBool b P Q → MatchBool b R T
-MatchBool-map true f g x = f x
-MatchBool-map false f g x = g x
 
 -- requests and then others
 pub Takes-then : (bytes : List ℕ) (xs ys : List Received) (middle rest : List ℕ) (closed : Bool) → Takes bytes xs false middle → Takes middle ys closed rest →

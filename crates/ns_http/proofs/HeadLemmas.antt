@@ -3,7 +3,7 @@ use Rattle.std.proofs.Common.{◌≡◌, ℕ, ◌+◌, ◌<◌, ◌≤◌, min, 
 use Rattle.std.proofs.Common.{arith}
 use Rattle.std.specs.Prelude.{Ok}
 use Rattle.std.proofs.lemmas.List.Elements.{All-weaker}
-use Rattle.std.proofs.lemmas.List.{take-append-drop, take_all, drop_at, drop-drop, length-map, length-take-le, length-append, length-take, length-drop}
+use Rattle.std.proofs.lemmas.List.{take-append-drop, drop_at, drop-drop, length-map, length-take-le, length-append, length-take, length-drop}
 use Rattle.std.proofs.lemmas.Bool.{cases_Bool, cases_lt}
 use Rattle.std.specs.Str.Parse.{digits_value}
 use Rattle.httparse.specs.declared.spans.HeaderSpan.{HeaderSpan}
@@ -11,7 +11,7 @@ use Rattle.httparse.specs.declared.spans.RequestSpans.{RequestSpans}
 use Rattle.httparse.specs.Grammar.{RequestHead, print_request, ReadsRequest, HasNoRequest, NeverHasRequest, MayBecomeRequest}
 use Rattle.httparse.specs.Spans.{IsRequestAt, IsRequestWithin, IsHeaderWithin, RequestExceeds, RequestOverflows, name_and_value, header_bytes, span_bytes}
 use Rattle.ns_types.specs.declared.reply.HeadFault.TheVariants.{BadHead, TooLarge}
-use Rattle.ns_types.specs.Wire.Http.{Header, IsHead, RefusesHead, malformed, too_long, too_many, in_head, in_body, token_of, asks_close, length_of, is_length}
+use Rattle.ns_types.specs.Wire.Http.{Header, IsHead, RefusesHead, malformed, too_long, too_many, in_body, token_of, asks_close, length_of, is_length}
 use Rattle.ns_types.specs.Wire.Http.{body_len_of, body_len}
 use Rattle.std.specs.Option.{option_copied}
 use Rattle.ns_http.specs.HeadStands.{HeadStands}

@@ -5,7 +5,6 @@ use Rattle.ns_types.specs.Wire.Http.{Asked}
 use Rattle.ns_types.specs.declared.reply.Rendered.{Rendered}
 use Rattle.ns_types.specs.Wire.Responses.{Exchange, wires}
 use Rattle.ns_http.specs.declared.engine.Step.{Step}
-use Rattle.ns_http.specs.declared.engine.Step.TheVariants as Step
 use Rattle.ns_http.specs.Head.{Waits}
 use Rattle.ns_http.specs.Conversation.{Serves}
 use Rattle.ns_http.specs.Output.{WritesSome, Queues}

@@ -1,5 +1,5 @@
 //! One connection, from its first byte to its end.
-ghost use Rattle.std.specs.Prelude.{◌≡◌, ℕ, ◌+◌, ◌-◌, ◌^◌, ◌<◌, ◌≤◌, min, [], length, IfOk, OnOk, OnErr, IsErrOf, IsTrue, false};
+ghost use Rattle.std.specs.Prelude.{◌≡◌, ◌+◌, ◌-◌, ◌^◌, ◌<◌, ◌≤◌, min, [], length, IfOk, OnOk, OnErr, IsErrOf, IsTrue, false};
 ghost use Rattle.ns_types.specs.Wire.Http.{End};
 ghost use Rattle.ns_http.specs.Conversation.{streams_between, Conversation, CutShort, EndsWell, IsReadFault};
 ghost use Rattle.ns_http.specs.Counts.{HasGrown, IsOpen, IsWriteFault};

@@ -1,5 +1,5 @@
 //! One request at the front of what was read.
-ghost use Rattle.std.specs.Prelude.{◌≡◌, ◌+◌, ◌<◌, length};
+ghost use Rattle.std.specs.Prelude.{◌+◌, ◌<◌};
 ghost use Rattle.ns_http.specs.Head.{Finds};
 ghost use Rattle.ns_http.specs.HeadStands.{HeadStands};
 

@@ -1,5 +1,5 @@
 //! Responses as bytes.
-ghost use Rattle.std.specs.Prelude.{◌≡◌, ◌<◌, ◌≤◌, ◌+◌, ℕ, List, [], ◌++◌, length, IfOk, OnOk, OnErr, vec_len, vec_capacity, decimal, false};
+ghost use Rattle.std.specs.Prelude.{◌≡◌, ◌<◌, ◌≤◌, ◌+◌, [], ◌++◌, length, IfOk, OnOk, OnErr, vec_len, vec_capacity, decimal, false};
 ghost use Rattle.ns_types.specs.Wire.Responses.{index_line, close_line, response_head};
 ghost use Rattle.ns_http.specs.Counts.{HasGrown, IsOpen, IsWriteFault};
 ghost use Rattle.ns_http.specs.Output.{wire_of, WritesAll, WritesPart};

@@ -1,7 +1,6 @@
 //! Groups and tasks of a job document.
 
-ghost use Rattle.std.specs.Prelude.{◌≡◌, [], IfOk};
-ghost use Rattle.std.specs.List.{list_any};
+ghost use Rattle.std.specs.Prelude.{◌≡◌, []};
 ghost use Rattle.serde_json.specs.View.{view, items_view};
 ghost use Rattle.ns_json.specs.Reading.{Gives, same, each, has_name, or_else, present};
 ghost use Rattle.ns_json.specs.Registration.{resources_in, default_resources, no_constraints, task_in, tasks_in, group_in, groups_in};

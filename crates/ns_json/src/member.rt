@@ -1,6 +1,6 @@
 //! Members of documents, and the values of each kind.
 
-ghost use Rattle.std.specs.Prelude.{◌≡◌, ℕ, List, Option, option_map, map, false};
+ghost use Rattle.std.specs.Prelude.{◌≡◌, Option, option_map, false};
 ghost use Rattle.serde_json.specs.View.{view, items_view};
 ghost use Rattle.ns_json.specs.Reading.{Gives, same, present, demanded, an_object, a_flag, a_number, a_text, a_name, an_id, a_list, or_else, top, json_in};
 ghost use Rattle.ns_json.specs.Registration.{name_if_any};

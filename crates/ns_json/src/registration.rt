@@ -1,6 +1,6 @@
 //! The document of a registration.
 
-ghost use Rattle.std.specs.Prelude.{◌≡◌, [], None, IfErr};
+ghost use Rattle.std.specs.Prelude.{[], None, IfErr};
 ghost use Rattle.serde_json.specs.View.{view};
 ghost use Rattle.ns_types.specs.declared.job.JobKind.TheVariants.{Service};
 ghost use Rattle.ns_json.specs.Reading.{Gives, same, present, or_else, body_in, IsOfDocument};

@@ -1,6 +1,6 @@
 //! Room for the reply of a write, which is made before its step.
 
-ghost use Rattle.std.specs.Prelude.{◌≡◌, ◌≤◌, IfOk, Ok, Some, None, string_bytes, vec_capacity, length, map, []};
+ghost use Rattle.std.specs.Prelude.{◌≡◌, ◌≤◌, IfOk, Ok, Some, None, string_bytes, vec_capacity, map, []};
 ghost use Rattle.json.specs.Print.{print};
 ghost use Rattle.json.specs.Tree;
 ghost use Rattle.ns_types.specs.declared.reply.Content.TheVariants as Content;

@@ -1,7 +1,7 @@
 //! The table of the paths.
 
 ghost use Rattle.std.specs.Prelude.{◌≡◌};
-ghost use Rattle.ns_request.specs.Endpoints.{pattern_of, methods_of, parts_of, every_endpoint};
+ghost use Rattle.ns_request.specs.Endpoints.{pattern_of, methods_of, parts_of};
 
 use crate::method::Methods;
 use crate::part::Part;

@@ -168,7 +168,7 @@ RefusesHead-more bytes more fault (too_many x over) =
     too_many (x.0, x.1 ++ more, ap (λ l. l ++ more) x.2 ∙ append_assoc x.0 x.1 more, x.3, x.4, x.5)
     (λ later h rest reads. over (more ++ later) h rest (subst (λ b. ReadsRequest b h rest) (append_assoc bytes more later) reads))
 
-MatchBool-map : {P Q R T : Type 0} (b : Bool) → (P → R) → (Q → T) → MatchBool b P Q → MatchBool b R T
+pub MatchBool-map : {P Q R T : Type 0} (b : Bool) → (P → R) → (Q → T) → MatchBool b P Q → MatchBool b R T
 MatchBool-map true f g x = f x
 MatchBool-map false f g x = g x
 

@@ -1,8 +1,6 @@
 //! The program `nsd`.
 #![tactic(auto)]
 
-ghost use Rattle.std.specs.Prelude.{◌≡◌};
-
 mod random;
 mod run;
 #[cfg(test)]

@@ -2,7 +2,7 @@
 use super::SameBits;
 use crate::run::run_words;
 use ns_http::Counted;
-use std::alloc::{AllocError, Global};
+use std::alloc::Global;
 use std::io::{self, ErrorKind, Read, Write};
 use std::rt::HostRuntime;
 
