@@ -17,7 +17,6 @@ use Rattle.ns_types.proofs.Lists.{not_both}
 use Rattle.ns_change.specs.Prepared.{Prepares}
 use Rattle.ns_jobs.specs.Counted.{counted, counted_ask, passes_in}
 use Rattle.ns_world.specs.declared.tables.Tables.{Tables}
-use Rattle.ns_conclude.specs.Concludes.{Concludes}
 
 -- what a refused outcome is refused with, and the world of one that is done
 abbrev refusal_of : Refusal → Outcome World → Refusal
@@ -110,17 +109,8 @@ module _ (s : State) (ns : Name) (secret : Option Name) (command : AskCommand) (
         by Refusal.NotEnabled h = (idle o refl p h, refl)
         by r h = (refuses r o refl p refl h, refl)
 
-  -- ---- what it leaves
+  -- ---- what it does
 
-  module _ (content : Content) (w' : World) (is : ask ns command s.world ≡ Done content w') where
-    pub concluded_refuses : (A : Type 0) (refusal : Refusal) (x : World) → Concludes {A = A} s.world w' (Err refusal) x → Makes step s (Err refusal) (left x)
-    concluded_refuses A refusal x h = by refusal h
-      where
-        by : (r : Refusal) → Concludes {A = A} s.world w' (Err r) x → Makes step s (Err r) (left x)
-        by Refusal.Full h = (settles content w' is true h.0, ap left h.1)
-        by Refusal.Memory h = (ap is_made (settles content w' is false h.0), ap left h.1)
-        by r h = absurd h
-
-    pub concluded_makes : (x : World) → x ≡ settle s.world w' → is_past_bound x ≡ false → after step s ≡ said (Ok (reply_of step content x)) (left x)
-    concluded_makes x e within = settles content w' is false (ap is_past_bound (sym e) ∙ within)
-        ∙ ap (λ x. said (Ok (reply_of step content x)) (left x)) (sym e)
+  pub acts : (content : Content) (w' : World) → ask ns command s.world ≡ Done content w' → act step s ≡ Done content (left w')
+  unfolding act
+  acts content w' is = ap (lift (with_world s.acl)) is

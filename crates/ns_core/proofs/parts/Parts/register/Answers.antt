@@ -10,7 +10,8 @@ use Rattle.ns_types.specs.Steps.{Makes, index_shown, reply_of, said}
 use Rattle.ns_change.specs.Changed.{view}
 use Rattle.ns_jobs.specs.Counted.{passes_in}
 use Rattle.ns_core.specs.Viewed.{state_of, world_of}
-use Rattle.ns_core.proofs.Preparing.{concluded_makes, concluded_refuses, done_of, prepare_refuses}
+use Rattle.ns_conclude.proofs.Concluding.{makes}
+use Rattle.ns_core.proofs.Preparing.{acts, done_of, prepare_refuses}
 use Rattle.ns_core.proofs.Registering.{counts, registers_held}
 use Rattle.ns_core.proofs.parts.Parts.register.Goals as goal
 
@@ -31,9 +32,9 @@ returns-in_err-content-clause-made c = λ secret allowed.
     c.in_ok-prepared.prepared.content (view c.args.self.now.tables c.in_ok-prepared.prepared.change) c.in_ok-prepared.ensures in
     rw (p.1, p.2) (subst (λ (acl : Acl). Makes (Step.Ask c.args.namespace.now secret command) s (Err c.in_err-content.field-0.0)
     (record { acl = acl; world = world_of c.conclude.new.self })) (sym c.in_err-content.ensures.acl)
-    (concluded_refuses s c.args.namespace.now secret command allowed c.in_ok-prepared.prepared.content
-    (view c.args.self.now.tables c.in_ok-prepared.prepared.change) done Content c.in_err-content.field-0.0 (world_of c.conclude.new.self)
-    c.in_err-content.ensures.world))
+    (makes (Step.Ask c.args.namespace.now secret command) s allowed c.in_ok-prepared.prepared.content
+    (view c.args.self.now.tables c.in_ok-prepared.prepared.change) (acts s c.args.namespace.now secret command allowed _ _ done)
+    (Err {T = Content} c.in_err-content.field-0.0) (world_of c.conclude.new.self) c.in_err-content.ensures.world))
 
 pub returns-clause-made : goal.returns-clause-made
 returns-clause-made c = λ secret allowed.
@@ -44,8 +45,8 @@ returns-clause-made c = λ secret allowed.
     let content = c.in_ok-prepared.prepared.content in
     let done = done_of (ask c.args.namespace.now command s.world) (passes_in s.world c.args.namespace.now)
     content (view c.args.self.now.tables c.in_ok-prepared.prepared.change) c.in_ok-prepared.ensures in
-    concluded_makes s c.args.namespace.now secret command allowed content (view c.args.self.now.tables c.in_ok-prepared.prepared.change) done x
-    c.in_ok-content.ensures.world.0 c.in_ok-content.ensures.world.1
+    makes step s allowed content (view c.args.self.now.tables c.in_ok-prepared.prepared.change)
+    (acts s c.args.namespace.now secret command allowed _ _ done) (Ok c.in_ok-content.content) x c.in_ok-content.ensures.world
     ∙ ap (λ (acl : Acl). said (Ok (reply_of step content x)) (record { acl = acl; world = x })) (sym c.in_ok-content.ensures.acl)
     ∙ ap (λ (content : Content). said (Ok (record { index = index_shown step x; content = content })) (state_of c.conclude.new.self))
     (sym c.in_ok-content.ensures.content)
