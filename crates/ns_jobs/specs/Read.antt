@@ -76,9 +76,10 @@ pub record UseFits (used : Resources) : Type 0 where
   pub cpu : used.cpu < 2 ^ 64
   pub memory : used.memory < 2 ^ 64
 
--- those of all quotas
-abbrev pub UsesFit : World → Type 0
-UsesFit w = (quota : Name) → UseFits (quota_use w quota)
+-- those of the quota that a command asks for
+abbrev pub UsageFits : AskCommand → World → Type 0
+UsageFits (AskCommand.QuotaUsage quota) w = UseFits (quota_use w quota)
+UsageFits _ w = Unit {0}
 
 abbrev pub live_amount : (Resources → ℕ) → ℕ × Option Allocation → ℕ
 live_amount amount (n, None) = 0

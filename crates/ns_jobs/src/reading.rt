@@ -3,7 +3,7 @@
 ghost use Rattle.std.specs.Prelude.{◌≡◌, IfOk, IsTrue, filter, nat_le};
 ghost use Rattle.ns_types.specs.declared.step.AskCommand.TheVariants as AskCommand;
 ghost use Rattle.ns_types.specs.Asking.Reads.{events_from};
-ghost use Rattle.ns_jobs.specs.Read.{Reads, ReadsIn, SaysIn, UsesFit, only_reads};
+ghost use Rattle.ns_jobs.specs.Read.{Reads, ReadsIn, SaysIn, UsageFits, only_reads};
 ghost use Rattle.ns_world.specs.World.{tenant_of, world_of};
 
 use crate::allocations::{list_allocations, read_allocation};
@@ -85,7 +85,7 @@ fn read_in(
     command: &AskCommand,
 ) -> Result<Content, Refusal>
     requires reads { IsTrue (only_reads command.now) }
-    requires fits { UsesFit (world_of tables.now) }
+    requires fits { UsageFits command.now (world_of tables.now) }
     ensures { ReadsIn namespace.now command.now (world_of tables.now) tenant.now result }
 {
     let alloc = tables.alloc;
@@ -111,7 +111,7 @@ fn read_in(
 /// allocation, or the quota is not the namespace's.
 pub fn read(tables: &Tables, namespace: &Text, command: &AskCommand) -> Result<Content, Refusal>
     requires reads { IsTrue (only_reads command.now) }
-    requires fits { UsesFit (world_of tables.now) }
+    requires fits { UsageFits command.now (world_of tables.now) }
     ensures { Reads namespace.now command.now tables.now result }
 {
     let Some(tenant) = tables.tenants.get(namespace) else {
