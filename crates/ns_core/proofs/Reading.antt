@@ -25,7 +25,7 @@ use Rattle.ns_steps.specs.Answers.{answer_of}
 use Rattle.ns_steps.specs.Served.{IsServedAsk, only_reads, served_ask}
 use Rattle.ns_steps.proofs.Reading.{changes_lift, reads_make}
 use Rattle.ns_jobs.specs.Read
-use Rattle.ns_jobs.specs.Read.{UsesFit}
+use Rattle.ns_jobs.specs.Read.{UsageFits, UseFits}
 use Rattle.ns_core.specs.Held.{HasNoAllocations, IsHeld}
 
 -- ---- the use of a quota is none
@@ -53,11 +53,15 @@ none_used w held quota = λ i. record { cpu = by (λ r. r.cpu) i; memory = by (�
         (entries w.tenants) ≡ 0
     by amount = of_all quota amount (entries w.tenants) (each_row names one_name (λ _ t. HasNoAllocations t) w.tenants held.placed)
 
-pub uses_fit : (w : World) → IsHeld w → UsesFit w
-uses_fit w held quota = record {
+usage_fits : (w : World) → IsHeld w → (quota : Name) → UseFits (quota_use w quota)
+usage_fits w held quota = record {
   cpu = subst (λ used. used.cpu < 2 ^ 64) (sym (none_used w held quota)) (omega arith);
   memory = subst (λ used. used.memory < 2 ^ 64) (sym (none_used w held quota)) (omega arith);
 }
+
+pub uses_fit : (w : World) → IsHeld w → (command : AskCommand) → UsageFits command w
+uses_fit w held (AskCommand.QuotaUsage quota) = usage_fits w held quota
+uses_fit w held _ = tt
 
 -- ---- a read as a step
 

@@ -10,7 +10,7 @@ pub read-requires-clause-reads : goal.read-requires-clause-reads
 read-requires-clause-reads c = reads_alone c.args.command.now c.requires.reads c.requires.served
 
 pub read-requires-clause-fits : goal.read-requires-clause-fits
-read-requires-clause-fits c = uses_fit (world_of c.args.self.now) c.requires.held
+read-requires-clause-fits c = uses_fit (world_of c.args.self.now) c.requires.held c.args.command.now
 
 pub returns : goal.returns
 returns c = λ secret allowed. read_makes (state_of c.args.self.now) c.args.namespace.now secret c.args.command.now c.requires.held c.requires.served
