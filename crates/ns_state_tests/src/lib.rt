@@ -16,6 +16,4 @@ mod quota;
 #[cfg(test)]
 mod server;
 #[cfg(test)]
-mod store;
-#[cfg(test)]
 mod tables;
