@@ -6,9 +6,13 @@ mod acl;
 #[cfg(test)]
 mod by_key;
 #[cfg(test)]
+mod ends;
+#[cfg(test)]
 mod jobs;
 #[cfg(test)]
 mod limits;
+#[cfg(test)]
+mod live;
 #[cfg(test)]
 mod owned;
 #[cfg(test)]
@@ -17,3 +21,5 @@ mod quota;
 mod server;
 #[cfg(test)]
 mod tables;
+#[cfg(test)]
+mod worker;

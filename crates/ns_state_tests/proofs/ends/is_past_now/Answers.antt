@@ -4,8 +4,8 @@ use Rattle.std.specs.List.{list_any}
 use Rattle.keyed.specs.Table.{at_slot}
 use Rattle.ns_types.specs.Steps.{greatest, is_past_bound, is_pool_past_bound, is_tenant_past_bound}
 use Rattle.ns_world.specs.World.{pool_of, quota_of, tenant_of, world_of}
-use Rattle.ns_conclude.proofs.Stored.{any_stored}
-use Rattle.ns_conclude.proofs.tests.is_past_now.Goals as goal
+use Rattle.ns_state_tests.proofs.Stored.{any_stored}
+use Rattle.ns_state_tests.proofs.ends.is_past_now.Goals as goal
 
 pub returns : goal.returns
 unfolding is_past_bound world_of

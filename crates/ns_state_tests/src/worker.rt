@@ -4,7 +4,7 @@ ghost use Rattle.std.specs.Bool.{OnTrue};
 ghost use Rattle.ns_broker.specs.Nacking.{HasNackLeft};
 ghost use Rattle.ns_world.specs.World.{world_of};
 
-use crate::{dequeue, nack, worker_at};
+use ns_broker::{dequeue, nack, worker_at};
 use keyed::{NameTable, NumberTable, Series};
 use ns_change::Prepared;
 use ns_types::evaluation::{Evaluation, Status, Trigger};

@@ -4,8 +4,8 @@ use Rattle.std.specs.List.{list_any}
 use Rattle.keyed.specs.Table.{at_slot}
 use Rattle.ns_types.specs.Steps.{greatest}
 use Rattle.ns_change.proofs.Any.{or_else}
-use Rattle.ns_conclude.proofs.Stored.{any_held}
-use Rattle.ns_conclude.proofs.tests.are_rows_past.Goals as goal
+use Rattle.ns_state_tests.proofs.Stored.{any_held}
+use Rattle.ns_state_tests.proofs.ends.are_rows_past.Goals as goal
 
 pub returns-else-is_past : goal.returns-else-is_past
 returns-else-is_past c = or_else _ _ _ _ c.if-is_past.false c.is_past.ensures

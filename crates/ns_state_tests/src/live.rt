@@ -1,5 +1,5 @@
 // That calls succeed where there is memory.
-use crate::Live;
+use ns_live::Live;
 use ns_types::allocation::{Allocation, ClientStatus, DesiredStatus};
 use ns_types::resources::Resources;
 use ns_types::text::Text;
