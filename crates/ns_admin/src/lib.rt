@@ -10,8 +10,6 @@ mod namespaces;
 mod pools;
 mod quotas;
 mod sharing;
-#[cfg(test)]
-mod tests;
 
 pub use beginning::opening;
 pub use laws::{

@@ -6,8 +6,6 @@ mod looking;
 mod nacking;
 mod serving;
 mod taking;
-#[cfg(test)]
-mod tests;
 
 pub use looking::{first_plan, row_of, served_ready, worker_at};
 pub use nacking::nack;

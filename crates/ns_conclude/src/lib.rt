@@ -5,7 +5,5 @@
 #![tactic(auto)]
 
 mod concluded;
-#[cfg(test)]
-mod tests;
 
 pub use concluded::conclude;

@@ -6,8 +6,6 @@ mod live;
 mod loads;
 mod node_keys;
 mod pool_keys;
-#[cfg(test)]
-mod tests;
 
 pub use live::Live;
 pub use node_keys::NodeKeys;

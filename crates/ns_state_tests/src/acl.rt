@@ -11,29 +11,31 @@ use ns_types::text::Text;
 use std::alloc::{AllocError, Global};
 use std::test::Fail;
 
-/// What a call answers, in short.
+/// What a call shows.
 #[derive(Clone, Copy, PartialEq, Eq)]
-enum Said {
-    Written,
+enum Shown {
+    Nothing,
     Policy,
     Token,
     Other,
-    Refused(Refusal),
 }
 
-fn kind_of(content: &Content) -> Said {
+/// What a call answers, in short.
+type Said = Result<Shown, Refusal>;
+
+fn kind_of(content: &Content) -> Shown {
     match content {
-        Content::Written => Said::Written,
-        Content::Policy(_) => Said::Policy,
-        Content::Token(_) => Said::Token,
-        _ => Said::Other,
+        Content::Written => Shown::Nothing,
+        Content::Policy(_) => Shown::Policy,
+        Content::Token(_) => Shown::Token,
+        _ => Shown::Other,
     }
 }
 
 fn in_short(answer: &Result<Content, Refusal>) -> Said {
     match answer {
-        Ok(content) => kind_of(content),
-        Err(refusal) => Said::Refused(*refusal),
+        Ok(content) => Ok(kind_of(content)),
+        Err(refusal) => Err(*refusal),
     }
 }
 
@@ -134,7 +136,9 @@ fn put(
 ) -> Result<Said, AllocError> {
     let name = Text::from_str(alloc, name)?;
     let policy = policy(alloc, kind, pattern, word)?;
-    Ok(put_policy(acl, &name, &policy))
+    let said = put_policy(acl, &name, &policy);
+    drop(policy);
+    Ok(said)
 }
 
 fn push_name(names: &mut Rows<Text>, alloc: Global, name: &str) -> Result<(), AllocError> {
@@ -206,17 +210,17 @@ const POLICIES: &[(&str, &str, Word)] = &[
 fn puts_policies(acl: &mut Acl, alloc: Global) -> Result<bool, AllocError> {
     let mut right = true;
     for &(name, pattern, word) in POLICIES {
-        right &= put(acl, alloc, name, RuleKind::Namespace, pattern, word)? == Said::Written;
+        right &= put(acl, alloc, name, RuleKind::Namespace, pattern, word)? == Ok(Shown::Nothing);
     }
     Ok(right)
 }
 
 fn makes_tokens(acl: &mut Acl, alloc: Global) -> Result<bool, AllocError> {
     Ok(
-        (create(acl, alloc, "read", &["p1", "p2"])? == Said::Token)
-            & (create(acl, alloc, "denied", &["p1", "p2", "p3"])? == Said::Token)
-            & (create(acl, alloc, "stars", &["p2", "p4"])? == Said::Token)
-            & (create(acl, alloc, "nothing", &["p5"])? == Said::Token),
+        (create(acl, alloc, "read", &["p1", "p2"])? == Ok(Shown::Token))
+            & (create(acl, alloc, "denied", &["p1", "p2", "p3"])? == Ok(Shown::Token))
+            & (create(acl, alloc, "stars", &["p2", "p4"])? == Ok(Shown::Token))
+            & (create(acl, alloc, "nothing", &["p5"])? == Ok(Shown::Token)),
     )
 }
 
@@ -267,9 +271,9 @@ fn gives_to_all(acl: &mut Acl, alloc: Global) -> Result<bool, AllocError> {
     let name = "anonymous";
     let west = Text::from_str(alloc, "west")?;
     let mut right = has_without_secret(acl, &west, Word::Deny, Word::Deny);
-    right &= put(acl, alloc, name, RuleKind::Namespace, "*", Word::Read)? == Said::Written;
+    right &= put(acl, alloc, name, RuleKind::Namespace, "*", Word::Read)? == Ok(Shown::Nothing);
     right &= has_without_secret(acl, &west, Word::Read, Word::Deny);
-    right &= put(acl, alloc, name, RuleKind::Pool, "w*", Word::Write)? == Said::Written;
+    right &= put(acl, alloc, name, RuleKind::Pool, "w*", Word::Write)? == Ok(Shown::Nothing);
     right &= has_without_secret(acl, &west, Word::Deny, Word::Write);
     Ok(right)
 }
@@ -310,11 +314,11 @@ fn knows_tokens(rt: HostRuntime) -> Result<(), Fail> {
 fn changes_policy(acl: &mut Acl, alloc: Global) -> Result<bool, AllocError> {
     let name = Text::from_str(alloc, "p1")?;
     let namespace = RuleKind::Namespace;
-    let mut right = read_policy(acl, &name) == Said::Refused(Refusal::NotFound);
-    right &= put(acl, alloc, "p1", namespace, "*", Word::Read)? == Said::Written;
-    right &= read_policy(acl, &name) == Said::Policy;
-    right &= delete_policy(acl, &name) == Said::Written;
-    right &= delete_policy(acl, &name) == Said::Refused(Refusal::NotFound);
+    let mut right = read_policy(acl, &name) == Err(Refusal::NotFound);
+    right &= put(acl, alloc, "p1", namespace, "*", Word::Read)? == Ok(Shown::Nothing);
+    right &= read_policy(acl, &name) == Ok(Shown::Policy);
+    right &= delete_policy(acl, &name) == Ok(Shown::Nothing);
+    right &= delete_policy(acl, &name) == Err(Refusal::NotFound);
     Ok(right)
 }
 
@@ -326,11 +330,11 @@ fn changes_policies(rt: HostRuntime) -> Result<(), Fail> {
 }
 
 fn changes_token(acl: &mut Acl, new: &NewToken, bootstrap: &Text) -> bool {
-    let mut right = create_token(acl, new) == Said::Token;
-    right &= create_token(acl, new) == Said::Refused(Refusal::Conflict);
-    right &= delete_token(acl, &new.accessor) == Said::Written;
-    right &= delete_token(acl, &new.accessor) == Said::Refused(Refusal::NotFound);
-    right &= delete_token(acl, bootstrap) == Said::Refused(Refusal::InUse);
+    let mut right = create_token(acl, new) == Ok(Shown::Token);
+    right &= create_token(acl, new) == Err(Refusal::Conflict);
+    right &= delete_token(acl, &new.accessor) == Ok(Shown::Nothing);
+    right &= delete_token(acl, &new.accessor) == Err(Refusal::NotFound);
+    right &= delete_token(acl, bootstrap) == Err(Refusal::InUse);
     right
 }
 

@@ -3,7 +3,7 @@ ghost use Rattle.std.specs.FinMap.{insert};
 ghost use Rattle.keyed.specs.Table.{row_at};
 
 use crate::owned::holds;
-use keyed::{NameTable, NumberTable};
+use keyed::{NameTable, NumberTable, Series};
 use ns_types::text::Text;
 use std::alloc::{AllocError, Global};
 use std::test::Fail;
@@ -82,25 +82,52 @@ fn has_numbers(table: &NumberTable<char>) -> bool {
     table.get(6) == Some(&'g') && table.get(15).is_none() && table.len() == 2
 }
 
-/// Whether vacant slots go and rows stay, until they are taken or removed.
+/// Whether vacant slots go and rows stay, until they are taken.
 fn clears_numbers(table: &mut NumberTable<char>) -> bool {
     let takes_row = table.take(1) == Some('a');
     table.clear_slot(4);
     let keeps_slots = table.as_slice().len() == 3;
     table.clear_room();
-    let keeps_row = table.as_slice().len() == 1;
+    takes_row & keeps_slots & (table.as_slice().len() == 1)
+}
+
+fn removes_number(table: &mut NumberTable<char>) -> bool {
     table.remove(6);
-    takes_row && keeps_slots && keeps_row && table.len() == 0
+    table.len() == 0
 }
 
 fn keeps_numbers(table: &mut NumberTable<char>) -> Result<bool, AllocError> {
     write_numbers(table)?;
-    Ok(has_numbers(table) && clears_numbers(table))
+    Ok(has_numbers(table) & clears_numbers(table) & removes_number(table))
 }
 
 #[test]
 fn keeps_rows_by_number(rt: HostRuntime) -> Result<(), Fail> {
     let table = NumberTable::new(rt.alloc());
     assert!(rt; holds(Ok(table), keeps_numbers)?);
+    Ok(())
+}
+
+/// Adds the number, and keeps the last hundred.
+fn add_number(series: &mut Series<u64>, number: u64) -> Result<(), AllocError> {
+    series.reserve(1)?;
+    series.push(number);
+    series.keep_last(100);
+    Ok(())
+}
+
+/// Whether the oldest of 101 numbers is gone, and no other.
+fn keeps_last_hundred(series: &mut Series<u64>) -> Result<bool, AllocError> {
+    for number in 1..102 {
+        add_number(series, number)?;
+    }
+    let kept = series.as_slice();
+    Ok((kept.len() == 100) & (kept.first() == Some(&2)) & (kept.last() == Some(&101)))
+}
+
+#[test]
+fn keeps_a_hundred_rows(rt: HostRuntime) -> Result<(), Fail> {
+    let series = Series::new(rt.alloc());
+    assert!(rt; holds(Ok(series), keeps_last_hundred)?);
     Ok(())
 }

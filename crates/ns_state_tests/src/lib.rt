@@ -6,9 +6,13 @@ mod acl;
 #[cfg(test)]
 mod by_key;
 #[cfg(test)]
+mod ends;
+#[cfg(test)]
 mod jobs;
 #[cfg(test)]
 mod limits;
+#[cfg(test)]
+mod live;
 #[cfg(test)]
 mod owned;
 #[cfg(test)]
@@ -16,6 +20,6 @@ mod quota;
 #[cfg(test)]
 mod server;
 #[cfg(test)]
-mod store;
-#[cfg(test)]
 mod tables;
+#[cfg(test)]
+mod worker;

@@ -3,13 +3,14 @@
 use crate::owned::{holds, seen};
 use crate::tables::refusal;
 use ns_acl::Acl;
-use ns_tables::Tables;
+use ns_admin::{opening as opening_tables, put_namespace, put_pool, put_quota};
 use ns_types::acl::{Policy, TokenKind};
 use ns_types::records::{Namespace, Pool, Quota};
 use ns_types::refusal::Refusal;
 use ns_types::rows::Rows;
 use ns_types::step::NewToken;
 use ns_types::text::Text;
+use ns_world::Tables;
 use std::alloc::{AllocError, Global};
 use std::test::Fail;
 
@@ -32,7 +33,7 @@ fn described(alloc: Global) -> Result<Text, AllocError> {
 fn fill_namespaces(tables: &mut Tables, namespace: &Namespace) -> Result<Refused, AllocError> {
     for number in FIRST..LAST {
         let name = name_of(tables.alloc, number)?;
-        if let Some(refused) = seen(tables.put_namespace(&name, namespace), refusal) {
+        if let Some(refused) = seen(put_namespace(tables, &name, namespace), refusal) {
             return Ok(Some((number, refused)));
         }
     }
@@ -42,7 +43,7 @@ fn fill_namespaces(tables: &mut Tables, namespace: &Namespace) -> Result<Refused
 fn fill_pools(tables: &mut Tables, pool: &Pool) -> Result<Refused, AllocError> {
     for number in FIRST..LAST {
         let name = name_of(tables.alloc, number)?;
-        if let Some(refused) = seen(tables.put_pool(&name, pool), refusal) {
+        if let Some(refused) = seen(put_pool(tables, &name, pool), refusal) {
             return Ok(Some((number, refused)));
         }
     }
@@ -52,7 +53,7 @@ fn fill_pools(tables: &mut Tables, pool: &Pool) -> Result<Refused, AllocError> {
 fn fill_quotas(tables: &mut Tables, quota: &Quota) -> Result<Refused, AllocError> {
     for number in FIRST..LAST {
         let name = name_of(tables.alloc, number)?;
-        if let Some(refused) = seen(tables.put_quota(&name, quota), refusal) {
+        if let Some(refused) = seen(put_quota(tables, &name, quota), refusal) {
             return Ok(Some((number, refused)));
         }
     }
@@ -69,12 +70,14 @@ fn has_ten_thousand_namespaces(tables: &mut Tables) -> Result<bool, AllocError> 
         allowed: None,
         denied: Rows::new(alloc),
     };
-    Ok(fill_namespaces(tables, &namespace)? == Some((19_999, Refusal::Full)))
+    let refused = fill_namespaces(tables, &namespace);
+    drop(namespace);
+    Ok(refused? == Some((19_999, Refusal::Full)))
 }
 
 #[test]
 fn fills_namespaces(rt: HostRuntime) -> Result<(), Fail> {
-    assert!(rt; holds(Tables::opening(rt.alloc()), has_ten_thousand_namespaces)?);
+    assert!(rt; holds(opening_tables(rt.alloc()), has_ten_thousand_namespaces)?);
     Ok(())
 }
 
@@ -88,7 +91,7 @@ fn has_ten_thousand_pools(tables: &mut Tables) -> Result<bool, AllocError> {
 
 #[test]
 fn fills_pools(rt: HostRuntime) -> Result<(), Fail> {
-    assert!(rt; holds(Tables::opening(rt.alloc()), has_ten_thousand_pools)?);
+    assert!(rt; holds(opening_tables(rt.alloc()), has_ten_thousand_pools)?);
     Ok(())
 }
 
@@ -102,7 +105,7 @@ fn has_ten_thousand_quotas(tables: &mut Tables) -> Result<bool, AllocError> {
 
 #[test]
 fn fills_quotas(rt: HostRuntime) -> Result<(), Fail> {
-    assert!(rt; holds(Tables::opening(rt.alloc()), has_ten_thousand_quotas)?);
+    assert!(rt; holds(opening_tables(rt.alloc()), has_ten_thousand_quotas)?);
     Ok(())
 }
 
@@ -122,7 +125,9 @@ fn has_ten_thousand_policies(acl: &mut Acl, alloc: Global) -> Result<bool, Alloc
         text: described(alloc)?,
         rules: Rows::new(alloc),
     };
-    Ok(fill_policies(acl, alloc, &policy)? == Some((20_000, Refusal::Full)))
+    let refused = fill_policies(acl, alloc, &policy);
+    drop(policy);
+    Ok(refused? == Some((20_000, Refusal::Full)))
 }
 
 fn opening(alloc: Global) -> Result<Acl, AllocError> {
@@ -151,7 +156,9 @@ fn numbered_token(alloc: Global, number: u64) -> Result<NewToken, AllocError> {
 fn fill_tokens(acl: &mut Acl, alloc: Global) -> Result<Refused, AllocError> {
     for number in FIRST..LAST {
         let new = numbered_token(alloc, number)?;
-        if let Some(refused) = seen(acl.create_token(&new), refusal) {
+        let answer = seen(acl.create_token(&new), refusal);
+        drop(new);
+        if let Some(refused) = answer {
             return Ok(Some((number, refused)));
         }
     }

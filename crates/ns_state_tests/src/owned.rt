@@ -1,5 +1,6 @@
 // Each large value is owned by one of these alone, as the value of any type that it is for them. What looks at it has a reference.
 
+use ns_types::refusal::Refusal;
 use std::alloc::AllocError;
 
 /// What `look` says of the value, which is then let go.
@@ -18,4 +19,17 @@ pub(crate) fn holds<T: Drop, F: FnOnce(&mut T) -> Result<bool, AllocError>>(
 {
     let mut state = state?;
     check(&mut state)
+}
+
+/// What the call answers with ample memory: one that was refused for memory is made again.
+pub(crate) fn repeated<S, T: Drop, F: Fn(&mut S) -> Result<T, Refusal>>(
+    state: &mut S,
+    call: F,
+) -> Result<T, Refusal>
+    requires { F.IsAlwaysCallable call }
+{
+    match call(state) {
+        Err(Refusal::Memory) => call(state),
+        answer => answer,
+    }
 }

@@ -2,7 +2,7 @@
 ghost use Rattle.std.specs.Prelude.{IfOk};
 ghost use Rattle.ns_steps.specs.Served.{IsServedAsk};
 
-use crate::owned::{holds, seen};
+use crate::owned::{holds, repeated, seen};
 use ns_core::Core;
 use ns_types::job::{Group, JobKind, Registration, Task};
 use ns_types::records::{Namespace, Pool, Quota};
@@ -227,10 +227,7 @@ fn registers_and_reads(rt: HostRuntime) {
 
 /// The answer with ample memory: a call that was refused for memory is made again.
 fn administered(core: &mut Core, secret: &Text, command: &AdminCommand) -> Result<Reply, Refusal> {
-    match core.admin(Some(secret), command) {
-        Err(Refusal::Memory) => core.admin(Some(secret), command),
-        answer => answer,
-    }
+    repeated(core, |core| core.admin(Some(secret), command))
 }
 
 fn is_written(answer: &Result<Reply, Refusal>) -> bool {
@@ -322,10 +319,10 @@ fn has_pool(answer: &Result<Reply, Refusal>) -> bool {
 }
 
 fn reads_pool(core: &mut Core, root: &Text, east: &Text) -> bool {
-    let read = match core.node(east, Some(root), &NodeCommand::ReadPool) {
-        Err(Refusal::Memory) => core.node(east, Some(root), &NodeCommand::ReadPool),
-        answer => answer,
-    };
+    let read = repeated(
+        core,
+        |core| core.node(east, Some(root), &NodeCommand::ReadPool),
+    );
     seen(read, has_pool)
 }
 

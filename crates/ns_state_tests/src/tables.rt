@@ -1,12 +1,15 @@
 // Tables with ample memory: what administrators lay out, and each refusal.
-ghost use Rattle.std.specs.Prelude.{◌≡◌, IfOk, List};
+ghost use Rattle.std.specs.Prelude.{◌≡◌, IfOk};
 ghost use Rattle.ns_types.specs.Asking.Admins.{list_namespaces};
-ghost use Rattle.ns_types.specs.State.Names.{Key, same_name};
-ghost use Rattle.ns_tables.specs.Viewed.{world_of};
+ghost use Rattle.ns_types.specs.State.Names.{same_name};
+ghost use Rattle.ns_world.specs.World.{world_of};
 
 use crate::owned::{holds, seen};
-use ns_store::NamespaceRows;
-use ns_tables::{Tables, overlaps, same_quota};
+use keyed::NameTable;
+use ns_admin::{
+    is_confined_in, is_relimited, list_namespaces, list_pools, list_quotas, opening, overlaps,
+    permits_in, release_quota, same_quota, shares,
+};
 use ns_types::job::{Document, Job, JobKind};
 use ns_types::records::{Namespace, Pool, Quota};
 use ns_types::refusal::{Member, Refusal};
@@ -14,6 +17,7 @@ use ns_types::reply::Content;
 use ns_types::resources::{Limit, Limits};
 use ns_types::rows::Rows;
 use ns_types::text::{Text, same_text};
+use ns_world::Tables;
 use std::alloc::{AllocError, Global};
 use std::test::Fail;
 
@@ -28,7 +32,7 @@ fn put_pool(tables: &mut Tables, name: &str) -> Result<Option<Refusal>, AllocErr
     let name = Text::from_str(tables.alloc, name)?;
     let description = Text::from_str(tables.alloc, "")?;
     let pool = Pool { description };
-    Ok(seen(tables.put_pool(&name, &pool), refusal))
+    Ok(seen(ns_admin::put_pool(tables, &name, &pool), refusal))
 }
 
 fn quota(alloc: Global, cpu: Limit) -> Result<Quota, AllocError> {
@@ -45,7 +49,9 @@ fn quota(alloc: Global, cpu: Limit) -> Result<Quota, AllocError> {
 fn put_quota(tables: &mut Tables, name: &str) -> Result<Option<Refusal>, AllocError> {
     let name = Text::from_str(tables.alloc, name)?;
     let quota = quota(tables.alloc, Limit::AtMost(1000))?;
-    Ok(seen(tables.put_quota(&name, &quota), refusal))
+    let refusal = seen(ns_admin::put_quota(tables, &name, &quota), refusal);
+    drop(quota);
+    Ok(refusal)
 }
 
 fn one_name(alloc: Global, name: &str) -> Result<Rows<Text>, AllocError> {
@@ -70,6 +76,13 @@ fn confined(
     })
 }
 
+/// Puts the namespace and lets its record go.
+fn put_once(tables: &mut Tables, name: &Text, namespace: Namespace) -> Option<Refusal> {
+    let refusal = seen(ns_admin::put_namespace(tables, name, &namespace), refusal);
+    drop(namespace);
+    refusal
+}
+
 /// Puts a namespace with that quota, whose default pool is the one pool that it may use.
 fn put(
     tables: &mut Tables,
@@ -80,27 +93,27 @@ fn put(
     let name = Text::from_str(tables.alloc, name)?;
     let quota = Text::from_str(tables.alloc, quota)?;
     let namespace = confined(tables.alloc, pool, pool, Some(quota))?;
-    Ok(seen(tables.put_namespace(&name, &namespace), refusal))
+    Ok(put_once(tables, &name, namespace))
 }
 
 fn delete_namespace(tables: &mut Tables, name: &str) -> Result<Option<Refusal>, AllocError> {
     let name = Text::from_str(tables.alloc, name)?;
-    Ok(seen(tables.delete_namespace(&name), refusal))
+    Ok(seen(ns_admin::delete_namespace(tables, &name), refusal))
 }
 
 fn delete_pool(tables: &mut Tables, name: &str) -> Result<Option<Refusal>, AllocError> {
     let name = Text::from_str(tables.alloc, name)?;
-    Ok(seen(tables.delete_pool(&name), refusal))
+    Ok(seen(ns_admin::delete_pool(tables, &name), refusal))
 }
 
 fn delete_quota(tables: &mut Tables, name: &str) -> Result<Option<Refusal>, AllocError> {
     let name = Text::from_str(tables.alloc, name)?;
-    Ok(seen(tables.delete_quota(&name), refusal))
+    Ok(seen(ns_admin::delete_quota(tables, &name), refusal))
 }
 
 fn read_quota(tables: &Tables, name: &str) -> Result<Option<Refusal>, AllocError> {
     let name = Text::from_str(tables.alloc, name)?;
-    Ok(seen(tables.read_quota(&name), refusal))
+    Ok(seen(ns_admin::read_quota(tables, &name), refusal))
 }
 
 fn job(alloc: Global, pool: &str) -> Result<Job, AllocError> {
@@ -121,14 +134,13 @@ fn job(alloc: Global, pool: &str) -> Result<Job, AllocError> {
 }
 
 fn put_job(
-    rows: &mut NamespaceRows,
+    jobs: &mut NameTable<Job>,
     alloc: Global,
     id: &Text,
     pool: &str,
 ) -> Result<(), AllocError> {
-    let next = rows.evaluation_number();
-    rows.reserve_registration(id, next, 0)?;
-    rows.put_job(id, job(alloc, pool)?);
+    jobs.reserve(id)?;
+    jobs.set(id, job(alloc, pool)?);
     Ok(())
 }
 
@@ -137,7 +149,7 @@ fn register(tables: &mut Tables, namespace: &str, pool: &str) -> Result<(), Allo
     let alloc = tables.alloc;
     let namespace = Text::from_str(alloc, namespace)?;
     if let Some(tenant) = tables.tenants.get_mut(&namespace) {
-        put_job(&mut tenant.rows, alloc, &namespace, pool)?;
+        put_job(&mut tenant.jobs, alloc, &namespace, pool)?;
     }
     Ok(())
 }
@@ -158,9 +170,9 @@ fn looks(tables: &Tables, name: &str, pool: &str) -> Result<(bool, bool, bool), 
     let name = Text::from_str(tables.alloc, name)?;
     let pool = Text::from_str(tables.alloc, pool)?;
     Ok((
-        tables.permits(&name, &pool),
-        tables.confined(&name),
-        tables.shares(&name),
+        permits_in(tables, &name, &pool),
+        is_confined_in(tables, &name),
+        shares(tables, &name),
     ))
 }
 
@@ -177,7 +189,7 @@ fn looks_laid_out(tables: &mut Tables) -> Result<bool, AllocError> {
 
 #[test]
 fn lays_out_tenants(rt: HostRuntime) -> Result<(), Fail> {
-    assert!(rt; holds(Tables::opening(rt.alloc()), looks_laid_out)?);
+    assert!(rt; holds(opening(rt.alloc()), looks_laid_out)?);
     Ok(())
 }
 
@@ -197,7 +209,7 @@ fn refuses_what_is_missing(tables: &mut Tables) -> Result<bool, AllocError> {
 
 #[test]
 fn names_what_is_missing(rt: HostRuntime) -> Result<(), Fail> {
-    assert!(rt; holds(Tables::opening(rt.alloc()), refuses_what_is_missing)?);
+    assert!(rt; holds(opening(rt.alloc()), refuses_what_is_missing)?);
     Ok(())
 }
 
@@ -205,13 +217,12 @@ fn refuses_allowed_pool(tables: &mut Tables) -> Result<bool, AllocError> {
     lay_out(tables)?;
     let name = Text::from_str(tables.alloc, "tc")?;
     let namespace = confined(tables.alloc, "east", "north", None)?;
-    let answer = seen(tables.put_namespace(&name, &namespace), refusal);
-    Ok(answer == Some(Refusal::BadField(Member::Allowed)))
+    Ok(put_once(tables, &name, namespace) == Some(Refusal::BadField(Member::Allowed)))
 }
 
 #[test]
 fn names_a_missing_allowed_pool(rt: HostRuntime) -> Result<(), Fail> {
-    assert!(rt; holds(Tables::opening(rt.alloc()), refuses_allowed_pool)?);
+    assert!(rt; holds(opening(rt.alloc()), refuses_allowed_pool)?);
     Ok(())
 }
 
@@ -231,7 +242,7 @@ fn refuses_what_is_in_use(tables: &mut Tables) -> Result<bool, AllocError> {
 
 #[test]
 fn keeps_what_is_in_use(rt: HostRuntime) -> Result<(), Fail> {
-    assert!(rt; holds(Tables::opening(rt.alloc()), refuses_what_is_in_use)?);
+    assert!(rt; holds(opening(rt.alloc()), refuses_what_is_in_use)?);
     Ok(())
 }
 
@@ -248,7 +259,7 @@ fn deletes_one_of_each(tables: &mut Tables) -> Result<bool, AllocError> {
 
 #[test]
 fn deletes_what_is_unused(rt: HostRuntime) -> Result<(), Fail> {
-    assert!(rt; holds(Tables::opening(rt.alloc()), deletes_one_of_each)?);
+    assert!(rt; holds(opening(rt.alloc()), deletes_one_of_each)?);
     Ok(())
 }
 
@@ -271,10 +282,10 @@ fn count(listed: &Result<Content, AllocError>) -> Result<usize, AllocError> {
 
 // What a caller of a list learns.
 fn list_one(tables: &Tables, name: &Text) -> Result<Content, AllocError>
-    ensures { (ready : List Key) → IfOk result (λ content.
-        content ≡ list_namespaces (same_name name.now) (world_of ready tables.now)) }
+    ensures { IfOk result (λ content.
+        content ≡ list_namespaces (same_name name.now) (world_of tables.now)) }
 {
-    tables.list_namespaces(|other| same_text(name, other))
+    list_namespaces(tables, |other| same_text(name, other))
 }
 
 fn lists_tables(tables: &mut Tables) -> Result<bool, AllocError> {
@@ -282,14 +293,14 @@ fn lists_tables(tables: &mut Tables) -> Result<bool, AllocError> {
     let name = Text::from_str(tables.alloc, "tb")?;
     Ok(
         (seen(list_one(tables, &name), count)? == 1)
-            & (seen(tables.list_pools(|_| true), count)? == 3)
-            & (seen(tables.list_quotas(), count)? == 2),
+            & (seen(list_pools(tables, |_| true), count)? == 3)
+            & (seen(list_quotas(tables), count)? == 2),
     )
 }
 
 #[test]
 fn lists_what_passes(rt: HostRuntime) -> Result<(), Fail> {
-    assert!(rt; holds(Tables::opening(rt.alloc()), lists_tables)?);
+    assert!(rt; holds(opening(rt.alloc()), lists_tables)?);
     Ok(())
 }
 
@@ -297,7 +308,9 @@ fn lists_what_passes(rt: HostRuntime) -> Result<(), Fail> {
 fn changes(tables: &Tables, cpu: Limit) -> Result<bool, AllocError> {
     let name = Text::from_str(tables.alloc, "qa")?;
     let quota = quota(tables.alloc, cpu)?;
-    Ok(tables.is_relimited(&name, &quota))
+    let relimited = is_relimited(tables, &name, &quota);
+    drop(quota);
+    Ok(relimited)
 }
 
 fn tells_limits_apart(tables: &mut Tables) -> Result<bool, AllocError> {
@@ -307,7 +320,7 @@ fn tells_limits_apart(tables: &mut Tables) -> Result<bool, AllocError> {
 
 #[test]
 fn compares_limits(rt: HostRuntime) -> Result<(), Fail> {
-    assert!(rt; holds(Tables::opening(rt.alloc()), tells_limits_apart)?);
+    assert!(rt; holds(opening(rt.alloc()), tells_limits_apart)?);
     Ok(())
 }
 
@@ -315,7 +328,7 @@ fn compares_limits(rt: HostRuntime) -> Result<(), Fail> {
 fn released(tables: &mut Tables, name: &Text) -> Option<u64> {
     let quota = tables.quotas.get(name)?;
     if quota.release < u64::MAX {
-        tables.release_quota(name);
+        release_quota(tables, name);
     }
     let quota = tables.quotas.get(name)?;
     Some(quota.release)
@@ -329,27 +342,24 @@ fn counts_releases(tables: &mut Tables) -> Result<bool, AllocError> {
 
 #[test]
 fn numbers_releases(rt: HostRuntime) -> Result<(), Fail> {
-    assert!(rt; holds(Tables::opening(rt.alloc()), counts_releases)?);
+    assert!(rt; holds(opening(rt.alloc()), counts_releases)?);
     Ok(())
 }
 
-fn shares_with_west(east: &Namespace, alloc: Global) -> Result<bool, AllocError> {
-    let west = confined(alloc, "west", "east", None)?;
-    let shares = same_quota(east, &west) & overlaps(east, &west);
-    drop(west);
-    Ok(shares)
+/// Whether two namespaces share their quota, which is none, and a pool.
+fn share(east: &Namespace, west: &Namespace) -> bool {
+    same_quota(east, west) & overlaps(east, west)
 }
 
-/// Whether two namespaces share their quota, which is none, and a pool.
-fn share(alloc: Global) -> Result<bool, AllocError> {
-    let east = confined(alloc, "east", "east", None)?;
-    let shares = shares_with_west(&east, alloc);
-    drop(east);
-    shares
+fn shares_with_west(east: &Namespace, alloc: Global) -> Result<bool, AllocError> {
+    let west = confined(alloc, "west", "east", None);
+    holds(west, |west| Ok(share(east, west)))
 }
 
 #[test]
 fn compares_records(rt: HostRuntime) -> Result<(), Fail> {
-    assert!(rt; share(rt.alloc())?);
+    let alloc = rt.alloc();
+    let east = confined(alloc, "east", "east", None);
+    assert!(rt; holds(east, |east| shares_with_west(east, alloc))?);
     Ok(())
 }

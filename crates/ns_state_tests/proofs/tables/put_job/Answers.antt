@@ -1,8 +1,8 @@
-use Rattle.std.proofs.Common.{ap}
-use Rattle.keyed.proofs.Tables.{slot_made}
+use Rattle.std.proofs.Common.{IsTrue, sym, subst}
 use Rattle.ns_types.proofs.Named.{names}
+use Rattle.keyed.specs.Table.{has_slot}
+use Rattle.keyed.proofs.Tables.{has_slot-with_slot_here}
 use Rattle.ns_state_tests.proofs.tables.put_job.Goals as goal
 
-pub put_job-requires : goal.put_job-requires
-put_job-requires c = slot_made names c.args.rows.now.jobs c.reserve_registration.new.self.jobs c.args.id.now
-    (ap (λ s. s.jobs) c.in_ok-reserve_registration.ensures.slots)
+pub set-requires : goal.set-requires
+set-requires c = subst (λ m. IsTrue (has_slot m c.args.id.now)) (sym c.in_ok-reserve.ensures.ok) (has_slot-with_slot_here names _ _)

@@ -1,0 +1,323 @@
+// That a step ends where there is memory: where nothing settles, where an evaluation wakes, and where its index can not
+// rise. What the tables hold is within the bound of each counter by its type; `is_past_now` reads it, for `conclude`.
+
+ghost use Rattle.std.specs.Prelude.{◌≡◌, nat_lt};
+ghost use Rattle.std.specs.List.{list_any};
+ghost use Rattle.keyed.specs.Table.{at_slot};
+ghost use Rattle.ns_types.specs.Steps.{greatest, is_past_bound, is_pool_past_bound, is_tenant_past_bound};
+ghost use Rattle.ns_world.specs.World.{pool_of, tenant_of, world_of};
+
+use ns_conclude::conclude;
+use keyed::{NameTable, NumberTable, Series};
+use ns_change::{Change, ListChange, PoolChange};
+use ns_types::evaluation::{Evaluation, Status, Trigger};
+use ns_types::job::JobKind;
+use ns_types::key::EvalKey;
+use ns_types::node::{Node, NodeStatus, Offer};
+use ns_types::records::{Namespace, Pool};
+use ns_types::refusal::Refusal;
+use ns_types::resources::Resources;
+use ns_types::rows::Rows;
+use ns_types::text::Text;
+use ns_world::{PoolRows, QuotaRows, Tables, TenantRows};
+use std::alloc::{AllocError, Global};
+use std::test::Fail;
+
+// ---- counters
+
+fn is_past(number: u64) -> bool
+    ensures { result ≡ nat_lt greatest number }
+{
+    number > u64::MAX
+}
+
+fn is_tenant_past(slot: &(Text, Option<TenantRows>)) -> bool
+    ensures { result ≡ at_slot (λ e. is_tenant_past_bound (tenant_of e.1)) slot.now }
+{
+    match &slot.1 {
+        Some(rows) => is_past(rows.index)
+            || is_past(rows.evaluation_number)
+            || is_past(rows.allocation_number),
+        None => false,
+    }
+}
+
+fn is_node_past(slot: &(Text, Option<Node>)) -> bool
+    ensures { result ≡ at_slot (λ e. nat_lt greatest e.1.places) slot.now }
+{
+    match &slot.1 {
+        Some(node) => is_past(node.places),
+        None => false,
+    }
+}
+
+fn any_node_past(slots: &[(Text, Option<Node>)]) -> bool
+    ensures { result ≡ list_any (at_slot (λ e. nat_lt greatest e.1.places)) slots.now }
+{
+    slots.iter().any(|slot| is_node_past(slot))
+}
+
+fn are_rows_past(rows: &PoolRows) -> bool
+    ensures { result ≡ is_pool_past_bound (pool_of rows.now) }
+{
+    is_past(rows.release) || any_node_past(rows.nodes.as_slice())
+}
+
+fn is_pool_past(slot: &(Text, Option<PoolRows>)) -> bool
+    ensures { result ≡ at_slot (λ e. is_pool_past_bound (pool_of e.1)) slot.now }
+{
+    match &slot.1 {
+        Some(rows) => are_rows_past(rows),
+        None => false,
+    }
+}
+
+fn is_quota_past(slot: &(Text, Option<QuotaRows>)) -> bool
+    ensures { result ≡ at_slot (λ e. nat_lt greatest e.1.release) slot.now }
+{
+    match &slot.1 {
+        Some(rows) => is_past(rows.release),
+        None => false,
+    }
+}
+
+fn any_tenant_past(slots: &[(Text, Option<TenantRows>)]) -> bool
+    ensures { result ≡ list_any (at_slot (λ e. is_tenant_past_bound (tenant_of e.1))) slots.now }
+{
+    slots.iter().any(|slot| is_tenant_past(slot))
+}
+
+fn any_pool_past(slots: &[(Text, Option<PoolRows>)]) -> bool
+    ensures { result ≡ list_any (at_slot (λ e. is_pool_past_bound (pool_of e.1))) slots.now }
+{
+    slots.iter().any(|slot| is_pool_past(slot))
+}
+
+fn any_quota_past(slots: &[(Text, Option<QuotaRows>)]) -> bool
+    ensures { result ≡ list_any (at_slot (λ e. nat_lt greatest e.1.release)) slots.now }
+{
+    slots.iter().any(|slot| is_quota_past(slot))
+}
+
+/// Whether some counter has passed its bound.
+fn is_past_now(tables: &Tables) -> bool
+    ensures { result ≡ is_past_bound (world_of tables.now) }
+{
+    let tenants = any_tenant_past(tables.tenants.as_slice());
+    let pools = any_pool_past(tables.pools.as_slice());
+    let quotas = any_quota_past(tables.quotas.as_slice());
+    tenants | pools | quotas
+}
+
+/// Ends a step.
+fn end(tables: &mut Tables, change: Change) -> Result<(), Refusal> {
+    if is_past_now(tables) {
+        drop(change);
+        return Err(Refusal::Foreign);
+    }
+    conclude(tables, change)
+}
+
+// ---- tables and changes
+
+fn text(alloc: Global, word: &str) -> Result<Text, AllocError> {
+    Text::from_str(alloc, word)
+}
+
+/// A table of one row.
+fn one<V: Drop>(alloc: Global, name: &str, row: V) -> Result<NameTable<V>, AllocError> {
+    let name = text(alloc, name)?;
+    let mut table = NameTable::new(alloc);
+    table.reserve(&name)?;
+    table.set(&name, row);
+    Ok(table)
+}
+
+/// Evaluation 3 alone, which is blocked.
+fn evaluations(alloc: Global) -> Result<NumberTable<Evaluation>, AllocError> {
+    let job = text(alloc, "j")?;
+    let pool = text(alloc, "p")?;
+    let mut table = NumberTable::new(alloc);
+    table.reserve(3)?;
+    let row = Evaluation {
+        job,
+        kind: JobKind::Batch,
+        priority: 1,
+        pool,
+        trigger: Trigger::NodeUpdate,
+        status: Status::Blocked,
+        previous: None,
+        follower: None,
+        quota: None,
+        escapes: false,
+        infeasible: Rows::new(alloc),
+        nacks: 0,
+        create_index: 1,
+        modify_index: 1,
+    };
+    table.set(3, row);
+    Ok(table)
+}
+
+fn namespace(alloc: Global) -> Result<Namespace, AllocError> {
+    Ok(Namespace {
+        description: text(alloc, "")?,
+        quota: None,
+        default_pool: text(alloc, "p")?,
+        allowed: None,
+        denied: Rows::new(alloc),
+    })
+}
+
+fn tenant(alloc: Global, index: u64) -> Result<TenantRows, AllocError> {
+    let evaluations = evaluations(alloc)?;
+    Ok(TenantRows {
+        namespace: namespace(alloc)?,
+        index,
+        evaluation_number: 3,
+        allocation_number: 0,
+        jobs: NameTable::new(alloc),
+        evaluations,
+        allocations: NumberTable::new(alloc),
+        workers: NumberTable::new(alloc),
+        events: Series::new(alloc),
+    })
+}
+
+/// The node of the pool, eligible or not.
+fn nodes(alloc: Global, eligible: bool) -> Result<NameTable<Node>, AllocError> {
+    let node = Node {
+        offer: Offer {
+            class: text(alloc, "c")?,
+            attributes: Rows::new(alloc),
+            capacity: Resources { cpu: 1, memory: 1 },
+        },
+        status: NodeStatus::Ready,
+        eligible,
+        places: 0,
+    };
+    one(alloc, "x", node)
+}
+
+fn pool(alloc: Global) -> Result<PoolRows, AllocError> {
+    Ok(PoolRows {
+        pool: Pool {
+            description: text(alloc, "")?,
+        },
+        release: 0,
+        classes: Series::new(alloc),
+        nodes: nodes(alloc, false)?,
+    })
+}
+
+fn blocked(alloc: Global) -> Result<Series<EvalKey>, AllocError> {
+    let key = EvalKey::new(text(alloc, "n")?, 3);
+    let mut keys = Series::new(alloc);
+    keys.reserve(1)?;
+    keys.push(key);
+    Ok(keys)
+}
+
+/// A namespace with that index and a blocked evaluation, and a pool whose node is not eligible.
+fn tables(alloc: Global, index: u64) -> Result<Tables, AllocError> {
+    Ok(Tables {
+        alloc,
+        tenants: one(alloc, "n", tenant(alloc, index)?)?,
+        pools: one(alloc, "p", pool(alloc)?)?,
+        quotas: NameTable::new(alloc),
+        ready: Series::new(alloc),
+        plans: Series::new(alloc),
+        blocked: blocked(alloc)?,
+    })
+}
+
+fn same_list(alloc: Global) -> ListChange {
+    ListChange {
+        taken: Rows::new(alloc),
+        added: Rows::new(alloc),
+    }
+}
+
+/// The node becomes eligible.
+fn eligible(alloc: Global) -> Result<Change, AllocError> {
+    let nodes = nodes(alloc, true)?;
+    Ok(Change {
+        tenants: NameTable::new(alloc),
+        pools: one(alloc, "p", PoolChange { nodes })?,
+        ready: same_list(alloc),
+        plans: same_list(alloc),
+        blocked: same_list(alloc),
+    })
+}
+
+// ---- what the steps leave
+
+/// Whether the evaluation has woken at that index, with its event, and the pool has a release.
+fn is_awake(tables: &Tables, namespace: &Text, pool: &Text, index: u64) -> bool {
+    let is_pending = match tables.evaluation(namespace, 3) {
+        Some(row) => matches!(row.status, Status::Pending) && row.modify_index == index,
+        None => false,
+    };
+    let is_told = match tables.tenants.get(namespace) {
+        Some(rows) => rows.index == index && rows.events.as_slice().len() == 1,
+        None => false,
+    };
+    let is_released = match tables.pools.get(pool) {
+        Some(rows) => rows.release == 1 && rows.classes.as_slice().len() == 1,
+        None => false,
+    };
+    is_pending & is_told & is_released
+}
+
+fn is_listed(tables: &Tables, ready: usize, blocked: usize) -> bool {
+    tables.ready.as_slice().len() == ready && tables.blocked.as_slice().len() == blocked
+}
+
+fn wakes(tables: &mut Tables, alloc: Global) -> Result<bool, AllocError> {
+    let namespace = text(alloc, "n")?;
+    let pool = text(alloc, "p")?;
+    let ended = end(tables, eligible(alloc)?);
+    Ok(ended.is_ok() && is_awake(tables, &namespace, &pool, 8) && is_listed(tables, 1, 0))
+}
+
+fn is_full(tables: &mut Tables, alloc: Global) -> Result<bool, AllocError> {
+    let ended = end(tables, eligible(alloc)?);
+    Ok(matches!(ended, Err(Refusal::Full)) && is_listed(tables, 0, 1))
+}
+
+fn stays(tables: &mut Tables, alloc: Global) -> Result<bool, AllocError> {
+    let ended = end(tables, Change::new(alloc));
+    Ok(ended.is_ok() && is_listed(tables, 0, 1))
+}
+
+/// What `check` says of the tables, which it may change, and which are then let go.
+fn holds<F: FnOnce(&mut Tables) -> Result<bool, AllocError>>(
+    tables: Result<Tables, AllocError>,
+    check: F,
+) -> Result<bool, AllocError>
+    requires { F.IsAlwaysCallable check }
+{
+    let mut tables = tables?;
+    check(&mut tables)
+}
+
+#[test]
+fn ends_where_nothing_settles(rt: HostRuntime) -> Result<(), Fail> {
+    let alloc = rt.alloc();
+    assert!(rt; holds(tables(alloc, 7), |tables| stays(tables, alloc))?);
+    Ok(())
+}
+
+#[test]
+fn a_node_wakes_an_evaluation(rt: HostRuntime) -> Result<(), Fail> {
+    let alloc = rt.alloc();
+    assert!(rt; holds(tables(alloc, 7), |tables| wakes(tables, alloc))?);
+    Ok(())
+}
+
+#[test]
+fn an_index_at_its_bound_is_full(rt: HostRuntime) -> Result<(), Fail> {
+    let alloc = rt.alloc();
+    assert!(rt; holds(tables(alloc, u64::MAX), |tables| is_full(tables, alloc))?);
+    Ok(())
+}

@@ -1,5 +1,0 @@
-pub mod Holdings
-pub mod Listing
-pub mod Opening
-pub mod World
-pub mod Written
