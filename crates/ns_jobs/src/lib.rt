@@ -11,7 +11,6 @@ mod looking;
 mod making;
 mod reading;
 mod registration;
-mod sharing;
 mod stopping;
 mod usage;
 

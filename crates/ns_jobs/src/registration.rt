@@ -13,7 +13,7 @@ ghost use Rattle.ns_world.specs.World.{tenant_of, world_of};
 
 use crate::looking::job;
 use crate::making::{Numbers, next_numbers, put_and_make};
-use crate::sharing::permits;
+use ns_admin::permits;
 use ns_alike::{same_document, same_number};
 use ns_change::Prepared;
 use ns_types::evaluation::Trigger;

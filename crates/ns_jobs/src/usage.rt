@@ -8,7 +8,7 @@ ghost use Rattle.ns_jobs.specs.Read.{ReadsIn, UseFits, live_amount, tenant_amoun
 ghost use Rattle.ns_world.specs.World.{world_of};
 
 use crate::jobs::{AllocationSlot, is_live};
-use crate::sharing::names_quota;
+use ns_admin::names_quota;
 use ns_types::refusal::Refusal;
 use ns_types::reply::Content;
 use ns_types::resources::Resources;
