@@ -6,7 +6,7 @@ ghost use Rattle.keyed.specs.Table.{row_at};
 ghost use Rattle.ns_change.specs.Changed.{changed_pool};
 ghost use Rattle.ns_change.specs.Settled.{classes_in};
 ghost use Rattle.ns_types.specs.State.Names.{Name, same_name};
-ghost use Rattle.ns_types.specs.State.Rows.{PoolRows as Pool};
+ghost use Rattle.ns_types.specs.State.Rows;
 ghost use Rattle.ns_commit.specs.Committed.{CanRise, ClassPut, HasNodeRoom, HaveClassRoom, KeepsNodes};
 ghost use Rattle.ns_commit.specs.Committed.{GainsClassRoom, HavePoolRoom, IsPoolCleared};
 ghost use Rattle.ns_commit.specs.Committed.{numbered_pools, raised_pool, releases, settled_pools};
@@ -76,7 +76,7 @@ fn reserve_classes(table: &mut NameTable<PoolRows>, rooms: &[Room]) -> Result<()
 }
 
 impl Owner<PoolChange> for PoolRows {
-    ghost Seen = { Pool };
+    ghost Seen = { Rows.PoolRows };
 
     ghost seen = { pool_of };
 
