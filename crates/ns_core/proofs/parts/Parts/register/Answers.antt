@@ -1,6 +1,7 @@
-use Rattle.std.specs.Prelude.{Ok, Err}
+use Rattle.std.specs.Prelude.{Result, Ok, Err}
 use Rattle.std.proofs.Common.{sym, ap, subst, ◌∙◌}
 use Rattle.std.proofs.lemmas.Result.{err_from_is_err_and}
+use Rattle.ns_types.specs.declared.refusal.Refusal.{Refusal}
 use Rattle.ns_types.specs.declared.reply.Content.{Content}
 use Rattle.ns_types.specs.declared.step.AskCommand.TheVariants as AskCommand
 use Rattle.ns_types.specs.declared.step.Step.TheVariants as Step
@@ -30,11 +31,12 @@ returns-in_err-content-clause-made c = λ secret allowed.
     let p = err_from_is_err_and c.from_residual-in_err-content.result c.from_residual-in_err-content.ensures.1 in
     let done = done_of (ask c.args.namespace.now command s.world) (passes_in s.world c.args.namespace.now)
     c.in_ok-prepared.prepared.content (view c.args.self.now.tables c.in_ok-prepared.prepared.change) c.in_ok-prepared.ensures in
+    let result : Result Content Refusal = Err c.in_err-content.field-0.0 in
     rw (p.1, p.2) (subst (λ (acl : Acl). Makes (Step.Ask c.args.namespace.now secret command) s (Err c.in_err-content.field-0.0)
     (record { acl = acl; world = world_of c.conclude.new.self })) (sym c.in_err-content.ensures.acl)
     (makes (Step.Ask c.args.namespace.now secret command) s allowed c.in_ok-prepared.prepared.content
     (view c.args.self.now.tables c.in_ok-prepared.prepared.change) (acts s c.args.namespace.now secret command allowed _ _ done)
-    (Err {T = Content} c.in_err-content.field-0.0) (world_of c.conclude.new.self) c.in_err-content.ensures.world))
+    result (world_of c.conclude.new.self) c.in_err-content.ensures.world))
 
 pub returns-clause-made : goal.returns-clause-made
 returns-clause-made c = λ secret allowed.
