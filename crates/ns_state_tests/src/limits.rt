@@ -7,6 +7,7 @@ use ns_admin::{opening as opening_tables, put_namespace, put_pool, put_quota};
 use ns_types::acl::{Policy, TokenKind};
 use ns_types::records::{Namespace, Pool, Quota};
 use ns_types::refusal::Refusal;
+use ns_types::reply::Content;
 use ns_types::rows::Rows;
 use ns_types::step::NewToken;
 use ns_types::text::Text;
@@ -30,30 +31,17 @@ fn described(alloc: Global) -> Result<Text, AllocError> {
     Text::from_str(alloc, "")
 }
 
-fn fill_namespaces(tables: &mut Tables, namespace: &Namespace) -> Result<Refused, AllocError> {
+/// Puts a row of each name in turn, until one is refused.
+fn fill<T, F: Fn(&mut T, &Text) -> Result<Content, Refusal>>(
+    state: &mut T,
+    alloc: Global,
+    put: F,
+) -> Result<Refused, AllocError>
+    requires { F.IsAlwaysCallable put }
+{
     for number in FIRST..LAST {
-        let name = name_of(tables.alloc, number)?;
-        if let Some(refused) = seen(put_namespace(tables, &name, namespace), refusal) {
-            return Ok(Some((number, refused)));
-        }
-    }
-    Ok(None)
-}
-
-fn fill_pools(tables: &mut Tables, pool: &Pool) -> Result<Refused, AllocError> {
-    for number in FIRST..LAST {
-        let name = name_of(tables.alloc, number)?;
-        if let Some(refused) = seen(put_pool(tables, &name, pool), refusal) {
-            return Ok(Some((number, refused)));
-        }
-    }
-    Ok(None)
-}
-
-fn fill_quotas(tables: &mut Tables, quota: &Quota) -> Result<Refused, AllocError> {
-    for number in FIRST..LAST {
-        let name = name_of(tables.alloc, number)?;
-        if let Some(refused) = seen(put_quota(tables, &name, quota), refusal) {
+        let name = name_of(alloc, number)?;
+        if let Some(refused) = seen(put(state, &name), refusal) {
             return Ok(Some((number, refused)));
         }
     }
@@ -70,7 +58,11 @@ fn has_ten_thousand_namespaces(tables: &mut Tables) -> Result<bool, AllocError> 
         allowed: None,
         denied: Rows::new(alloc),
     };
-    let refused = fill_namespaces(tables, &namespace);
+    let refused = fill(
+        tables,
+        alloc,
+        |tables, name| put_namespace(tables, name, &namespace),
+    );
     drop(namespace);
     Ok(refused? == Some((19_999, Refusal::Full)))
 }
@@ -83,10 +75,14 @@ fn fills_namespaces(rt: HostRuntime) -> Result<(), Fail> {
 
 /// The pool `default` is there, so 9,999 more have room.
 fn has_ten_thousand_pools(tables: &mut Tables) -> Result<bool, AllocError> {
+    let alloc = tables.alloc;
     let pool = Pool {
-        description: described(tables.alloc)?,
+        description: described(alloc)?,
     };
-    Ok(fill_pools(tables, &pool)? == Some((19_999, Refusal::Full)))
+    Ok(
+        fill(tables, alloc, |tables, name| put_pool(tables, name, &pool))?
+            == Some((19_999, Refusal::Full)),
+    )
 }
 
 #[test]
@@ -96,11 +92,18 @@ fn fills_pools(rt: HostRuntime) -> Result<(), Fail> {
 }
 
 fn has_ten_thousand_quotas(tables: &mut Tables) -> Result<bool, AllocError> {
+    let alloc = tables.alloc;
     let quota = Quota {
-        description: described(tables.alloc)?,
+        description: described(alloc)?,
         limits: None,
     };
-    Ok(fill_quotas(tables, &quota)? == Some((20_000, Refusal::Full)))
+    Ok(
+        fill(
+            tables,
+            alloc,
+            |tables, name| put_quota(tables, name, &quota),
+        )? == Some((20_000, Refusal::Full)),
+    )
 }
 
 #[test]
@@ -109,23 +112,13 @@ fn fills_quotas(rt: HostRuntime) -> Result<(), Fail> {
     Ok(())
 }
 
-fn fill_policies(acl: &mut Acl, alloc: Global, policy: &Policy) -> Result<Refused, AllocError> {
-    for number in FIRST..LAST {
-        let name = name_of(alloc, number)?;
-        if let Some(refused) = seen(acl.put_policy(&name, policy), refusal) {
-            return Ok(Some((number, refused)));
-        }
-    }
-    Ok(None)
-}
-
 fn has_ten_thousand_policies(acl: &mut Acl, alloc: Global) -> Result<bool, AllocError> {
     let policy = Policy {
         description: described(alloc)?,
         text: described(alloc)?,
         rules: Rows::new(alloc),
     };
-    let refused = fill_policies(acl, alloc, &policy);
+    let refused = fill(acl, alloc, |acl, name| acl.put_policy(name, &policy));
     drop(policy);
     Ok(refused? == Some((20_000, Refusal::Full)))
 }
