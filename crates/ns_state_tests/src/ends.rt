@@ -7,9 +7,9 @@ ghost use Rattle.keyed.specs.Table.{at_slot};
 ghost use Rattle.ns_types.specs.Steps.{greatest, is_past_bound, is_pool_past_bound, is_tenant_past_bound};
 ghost use Rattle.ns_world.specs.World.{pool_of, tenant_of, world_of};
 
-use ns_conclude::conclude;
 use keyed::{NameTable, NumberTable, Series};
 use ns_change::{Change, ListChange, PoolChange};
+use ns_conclude::conclude;
 use ns_types::evaluation::{Evaluation, Status, Trigger};
 use ns_types::job::JobKind;
 use ns_types::key::EvalKey;

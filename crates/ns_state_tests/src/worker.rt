@@ -4,8 +4,8 @@ ghost use Rattle.std.specs.Bool.{OnTrue};
 ghost use Rattle.ns_broker.specs.Nacking.{HasNackLeft};
 ghost use Rattle.ns_world.specs.World.{world_of};
 
-use ns_broker::{dequeue, nack, worker_at};
 use keyed::{NameTable, NumberTable, Series};
+use ns_broker::{dequeue, nack, worker_at};
 use ns_change::Prepared;
 use ns_types::evaluation::{Evaluation, Status, Trigger};
 use ns_types::job::JobKind;
