@@ -5,21 +5,17 @@ use Rattle.std.specs.Option.{option_map_or}
 use Rattle.std.specs.Ordering.{eq_by_cmp, nat_cmp}
 use Rattle.std.specs.FinMap.{FinMap, get, get-insert, insert, same_map}
 use Rattle.keyed.specs.Table.{has_slot, row_at, with_slot}
-use Rattle.std.specs.Prelude.{ℕ, ◌-◌, nat_le, filter, length, List, [], ◌∷◌, not, suc}
-use Rattle.std.proofs.Common.{arith, Ordering}
-use Rattle.std.proofs.lemmas.Bool.Decides.{nat_tests}
+use Rattle.std.proofs.Common.{Ordering}
 use Rattle.std.specs.Cmp.{IsTotalOrder}
-use Rattle.std.specs.FinMap.{IsAntisymmetric, contains_key, entries, len, len-entries, remove, retain_keys}
-use Rattle.keyed.specs.Table.{emptied, row_list, rows}
-use Rattle.keyed.proofs.Tables.{entries-rows, has_slot-with_slot_here}
-use Rattle.keyed.proofs.Over.{over-gone, over_apart, retain-over}
-use Rattle.ns_types.proofs.Tables.{entries-retain, get-retain}
-use Rattle.ns_change.specs.Changed.{is_kept}
+use Rattle.std.specs.FinMap.{IsAntisymmetric, remove}
+use Rattle.keyed.specs.Table.{emptied}
+use Rattle.keyed.proofs.Tables.{has_slot-with_slot_here}
+use Rattle.keyed.proofs.Over.{over-gone}
 use Rattle.ns_change.proofs.Opening.{insert_twice}
 use Rattle.ns_types.specs.declared.allocation.Allocation.{Allocation}
 use Rattle.ns_types.specs.Working.Commit.{with_allocation}
 use Rattle.ns_types.specs.Settling.Making.{change_tenant, put_pool}
-use Rattle.ns_types.specs.State.Names.{Name, ByName, name_cmp}
+use Rattle.ns_types.specs.State.Names.{Name, name_cmp}
 use Rattle.ns_types.specs.State.Rows.{PoolRows}
 use Rattle.ns_types.specs.State.Tables.{map_rows}
 use Rattle.ns_types.proofs.Named.{names, one_name, numbers, one_number}
@@ -93,7 +89,7 @@ module _ (t : Tables) (c left : Change) (ns : Name) (x : TenantChange) (opened :
             (ap (over base.allocations) is ∙ over-slot numbers one_number base.allocations x.allocations (x.allocation_number + 1) a) i;
       })
 
--- ---- nodes that go, and how many there are
+-- ---- nodes that go
 
 module _ {K X : Type 0} {R : K → K → Ordering} (o : IsTotalOrder R) (same : IsAntisymmetric R) where
   -- a slot made vacant takes the row away
@@ -104,57 +100,3 @@ module _ {K X : Type 0} {R : K → K → Ordering} (o : IsTotalOrder R) (same : 
       by : (b : Bool) → insert (cond b c (insert c k None)) k None ≡ insert c k None
       by true = refl
       by false = insert_twice o same c k None None
-
--- those that pass, and those that do not
-split_count : {A : Type 0} (p : A → Bool) (xs : List A) → length xs ≡ length (filter (λ x. not (p x)) xs) + length (filter p xs)
-split_count p [] = refl
-split_count p (x ∷ xs) = let rest = split_count p xs in
-    elim (p x) as (λ b. suc (length xs) ≡ length (cond (not b) (x ∷ filter (λ x. not (p x)) xs) (filter (λ x. not (p x)) xs)) + length
-    (cond b (x ∷ filter p xs) (filter p xs))) [
-      | true ↦ omega (arith, rest)
-      | false ↦ omega (arith, rest)
-    ]
-
-module _ {X : Type 0} (m : ByName (Option X)) (c : ByName (Option X)) where
-  kept_slots : (es : List (Name × Option X)) → filter (λ e. not (contains_key c e.0)) (row_list es) ≡ row_list (filter (is_kept c) es)
-  kept_slots [] = refl
-  kept_slots ((k, None) ∷ es) = kept_slots es
-  kept_slots ((k, Some x) ∷ es) = elim (not (contains_key c k)) as (λ b. cond b ((k, x) ∷ filter (λ e. not (contains_key c e.0)) (row_list es))
-      (filter (λ e. not (contains_key c e.0)) (row_list es)) ≡ row_list (cond b ((k, Some x) ∷ filter (is_kept c) es) (filter (is_kept c) es))) [
-        | true ↦ ap (λ l. (k, x) ∷ l) (kept_slots es)
-        | false ↦ kept_slots es
-      ]
-
-  kept_rows : (es : List (Name × Option X)) → length (row_list (filter (is_kept c) es)) ≡ length (filter (is_kept c) es)
-  kept_rows [] = refl
-  kept_rows ((k, None) ∷ es) = kept_rows es
-  kept_rows ((k, Some x) ∷ es) = elim (not (contains_key c k)) as (λ b. length (row_list (cond b ((k, Some x) ∷ filter (is_kept c) es) (filter (is_kept c) es)))
-      ≡ length (cond b ((k, Some x) ∷ filter (is_kept c) es) (filter (is_kept c) es))) [
-        | true ↦ ap suc (kept_rows es)
-        | false ↦ kept_rows es
-      ]
-
-  apart : retain_keys (over (rows m) c) (λ k. not (contains_key c k)) ≡ retain_keys (rows m) (λ k. not (contains_key c k))
-  apart = same_map names one_name _ _ (λ q. get-retain names one_name (over (rows m) c) (λ k. not (contains_key c k)) q
-      ∙ by q (contains_key c q) refl ∙ sym (get-retain names one_name (rows m) (λ k. not (contains_key c k)) q))
-    where
-      by : (q : Name) (b : Bool) → contains_key c q ≡ b → cond (not (contains_key c q)) (get (over (rows m) c) q) None
-          ≡ cond (not (contains_key c q)) (get (rows m) q) None
-      by q true is = (λ i. cond (not (is i)) (get (over (rows m) c) q) None) ∙ sym (λ i. cond (not (is i)) (get (rows m) q) None)
-      by q false is = ap (λ r. cond (not (contains_key c q)) r None) (over_apart names one_name (rows m) c q is)
-
-  pub count_over_is : len (over (rows m) c) ≡ length (filter (is_kept c) (entries m)) + len (rows c)
-  count_over_is = len-entries (over (rows m) c) ∙ split_count (λ e. contains_key c e.0) (entries (over (rows m) c))
-      ∙ (λ i. kept i + chosen i)
-    where
-      kept : length (filter (λ e. not (contains_key c e.0)) (entries (over (rows m) c))) ≡ length (filter (is_kept c) (entries m))
-      kept = ap length (sym (entries-retain names one_name (over (rows m) c) (λ k. not (contains_key c k))) ∙ ap entries apart
-          ∙ entries-retain names one_name (rows m) (λ k. not (contains_key c k)) ∙ ap (filter (λ e. not (contains_key c e.0))) (entries-rows m)
-          ∙ kept_slots (entries m)) ∙ kept_rows (entries m)
-
-      chosen : length (filter (λ e. contains_key c e.0) (entries (over (rows m) c))) ≡ len (rows c)
-      chosen = ap length (sym (entries-retain names one_name (over (rows m) c) (contains_key c)) ∙ ap entries (retain-over names one_name (rows m) c)) ∙
-          sym (len-entries (rows c))
-
-pub less_taken : (n b a : ℕ) → nat_le (n - b) a ≡ nat_le n (a + b)
-less_taken n b a = grind (arith, nat_tests)

@@ -1,15 +1,15 @@
 -- The world as a change leaves it.
-use Rattle.std.specs.Prelude.{◌≡◌, ℕ, ◌+◌, ◌<◌, ◌^◌, Bool, false, not, List, [], ◌∷◌, ◌++◌, filter, Option}
-use Rattle.std.specs.Prelude.{Some, Result, OnOk, nat_le}
+use Rattle.std.specs.Prelude.{◌≡◌, ℕ, ◌+◌, ◌<◌, ◌^◌, not, List, [], ◌∷◌, ◌++◌, filter, Option}
+use Rattle.std.specs.Prelude.{Some, Result, OnOk}
 use Rattle.std.specs.Option.{option_and_then, option_map_or}
 use Rattle.std.specs.Ordering.{nat_cmp}
-use Rattle.std.specs.FinMap.{FinMap, contains_key, empty, get, insert, len, remove}
+use Rattle.std.specs.FinMap.{FinMap, empty, get, insert, remove}
 use Rattle.keyed.specs.Table.{row_at}
 use Rattle.ns_types.specs.declared.allocation.Allocation.{Allocation}
 use Rattle.ns_types.specs.declared.evaluation.Evaluation.{Evaluation}
 use Rattle.ns_types.specs.declared.node.Node.{Node}
 use Rattle.ns_types.specs.Settling.Making.{change_tenant, put_pool}
-use Rattle.ns_types.specs.State.Names.{Name, Key, ByName, has_key}
+use Rattle.ns_types.specs.State.Names.{Name, Key, has_key}
 use Rattle.ns_types.specs.State.Rows.{World, Tenant, PoolRows, node_at}
 use Rattle.ns_types.specs.State.Tables.{map_rows}
 use Rattle.ns_types.specs.Working.Commit.{with_place}
@@ -106,14 +106,6 @@ count_place pool name w = option_map_or (λ row. change_pool pool (with_place na
 
 abbrev pub without_node : Name → PoolRows → PoolRows
 without_node name pool = record pool { nodes = remove pool.nodes name }
-
--- the pool has at least so many nodes
-abbrev pub has_nodes : World → Name → ℕ → Bool
-has_nodes w pool count = option_map_or (λ p. nat_le count (len p.nodes)) (get w.pools pool) false
-
--- a slot has a row that the change does not hold
-abbrev pub is_kept : {X Y : Type 0} → ByName X → Name × Option Y → Bool
-is_kept changed slot = option_map_or (λ _. not (contains_key changed slot.0)) slot.1 false
 
 -- ---- numbers that can be given
 
