@@ -16,7 +16,7 @@ ghost use Rattle.ns_world.specs.World.{tenant_of};
 use crate::sharing::{is_withdrawn, same_quota};
 use keyed::NameTable;
 use ns_alike::same_text;
-use ns_types::allocation::{Allocation, ClientStatus, DesiredStatus};
+use ns_types::allocation::Allocation;
 use ns_types::evaluation::{Evaluation, Status};
 use ns_types::job::Job;
 use ns_types::records::Namespace;
@@ -59,16 +59,6 @@ fn is_open(evaluation: &Evaluation) -> bool
     matches!(evaluation.status, Status::Pending | Status::Blocked)
 }
 
-fn is_live(allocation: &Allocation) -> bool
-    ensures { result ≡ is_live allocation.now }
-{
-    matches!(allocation.desired, DesiredStatus::Run)
-        && matches!(
-            allocation.client,
-            ClientStatus::Pending | ClientStatus::Running
-        )
-}
-
 fn is_job_in(slot: &JobSlot, asked: &Asked) -> bool
     ensures { result ≡ at_slot (job_in (passes asked.now)) slot.now }
 {
@@ -100,7 +90,7 @@ fn keeps_in(worker: &Worker, asked: &Asked) -> bool
     ensures { result ≡ option_map_or (λ kept. passes asked.now kept.pool) worker.now.kept false }
 {
     match &worker.kept {
-        Some(kept) => asked.passes(&kept.pool),
+        Some(kept) => asked.passes(&kept.get().pool),
         None => false,
     }
 }
@@ -118,7 +108,7 @@ fn lives(slot: &AllocationSlot) -> bool
     ensures { result ≡ at_slot lives slot.now }
 {
     match &slot.1 {
-        Some(allocation) => is_live(allocation),
+        Some(allocation) => allocation.is_live(),
         None => false,
     }
 }
@@ -127,7 +117,7 @@ fn is_live_in(slot: &AllocationSlot, asked: &Asked) -> bool
     ensures { result ≡ at_slot (live_in (passes asked.now)) slot.now }
 {
     match &slot.1 {
-        Some(allocation) => is_live(allocation) && asked.passes(&allocation.pool),
+        Some(allocation) => allocation.is_live() && asked.passes(&allocation.pool),
         None => false,
     }
 }

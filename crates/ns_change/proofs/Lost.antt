@@ -19,7 +19,7 @@ use Rattle.ns_world.specs.declared.tables.Tables.{Tables}
 use Rattle.ns_world.specs.declared.tables.TenantRows.{TenantRows}
 use Rattle.ns_world.specs.World.{tenant_of, world_of}
 use Rattle.ns_change.specs.Gone.{live_key, live_keys, live_keys_in, lost_row, rows_gone}
-use Rattle.ns_change.proofs.Any.{any_flat}
+use Rattle.ns_types.proofs.Elements.{any_flat}
 use Rattle.ns_change.proofs.Gone.{IsLiveSet, lost_are}
 
 module _ (pool node : Name) where

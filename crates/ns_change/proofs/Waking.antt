@@ -9,16 +9,13 @@ use Rattle.ns_types.specs.Settling.Making.{change_tenant, put_tenant, with_statu
 use Rattle.ns_types.specs.State.Names.{Name, Key, ByName, ByNumber, same_name, same_number, has_key}
 use Rattle.ns_types.specs.Working.Queue.{queue}
 use Rattle.ns_types.specs.State.Rows.{World, Tenant}
-use Rattle.ns_types.specs.Settling.Settle.{pending, unblocked_in, wake}
+use Rattle.ns_types.specs.Settling.Settle.{pending, unblocked_in, wake, woken_row}
 use Rattle.ns_types.specs.State.Tables.{map_rows}
 use Rattle.ns_types.proofs.Named.{names, one_name, numbers, one_number}
 use Rattle.ns_types.proofs.Tables.{get-map_rows, map_rows_idle, tied}
 
 abbrev pub unblock_one : World → Key → World
 unblock_one w key = change_tenant key.0 (with_status key.1 Status.Pending) w
-
-abbrev woken_row : List Key → Name → ℕ → Evaluation → Evaluation
-woken_row keys ns n e = cond (has_key keys (ns, n)) (pending e) e
 
 twice : (b : Bool) (e : Evaluation) → cond b (pending (pending e)) (pending e) ≡ pending e
 twice true e = refl

@@ -10,7 +10,7 @@ ghost use Rattle.ns_world.specs.World.{world_of};
 use crate::change::Change;
 use crate::evicting::set_client;
 use ns_alike::same_text;
-use ns_types::allocation::{Allocation, ClientStatus, DesiredStatus};
+use ns_types::allocation::{Allocation, ClientStatus};
 use ns_types::key::EvalKey;
 use ns_types::rows::Rows;
 use ns_types::text::Text;
@@ -23,20 +23,10 @@ type AllocationSlot = (u64, Option<Allocation>);
 /// A namespace with what it owns, or a vacant slot.
 type TenantSlot = (Text, Option<TenantRows>);
 
-fn is_live(allocation: &Allocation) -> bool
-    ensures { result ≡ is_live allocation.now }
-{
-    matches!(allocation.desired, DesiredStatus::Run)
-        && matches!(
-            allocation.client,
-            ClientStatus::Pending | ClientStatus::Running
-        )
-}
-
 fn is_live_on(pool: &Text, node: &Text, allocation: &Allocation) -> bool
     ensures { result ≡ is_live_on pool.now node.now allocation.now }
 {
-    is_live(allocation) && (same_text(pool, &allocation.pool) && same_text(node, &allocation.node))
+    allocation.is_live() && (same_text(pool, &allocation.pool) && same_text(node, &allocation.node))
 }
 
 fn add_key(

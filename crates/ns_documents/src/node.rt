@@ -2,8 +2,7 @@
 
 ghost use Rattle.std.specs.Prelude.{[], IfOk, IfErr, IsTrue};
 ghost use Rattle.serde_json.specs.View.{view, members_view};
-ghost use Rattle.ns_types.specs.State.Limits.{is_good_offer};
-ghost use Rattle.ns_types.specs.Validity.{IsInOrder};
+ghost use Rattle.ns_types.specs.State.Limits.{is_good_offer, IsInOrder};
 ghost use Rattle.ns_json.specs.Reading.{Gives, same, present, or_else, body_in, IsOfDocument};
 ghost use Rattle.ns_documents.specs.Nodes.{AreByKey, with_attribute, each_attribute, attributes_in};
 ghost use Rattle.ns_documents.specs.Nodes.{amount_in, node_in, node_status_in, eligibility_in};

@@ -6,13 +6,13 @@ ghost use Rattle.keyed.specs.Table.{at_slot};
 ghost use Rattle.ns_types.specs.declared.step.AskCommand.TheVariants as AskCommand;
 ghost use Rattle.ns_types.specs.Asking.Reads.{job_shown, job_status};
 ghost use Rattle.ns_types.specs.State.Names.{same_name};
-ghost use Rattle.ns_types.specs.State.Rows.{is_held, is_live, is_run};
+ghost use Rattle.ns_types.specs.State.Rows.{is_live};
 ghost use Rattle.ns_jobs.specs.Read.{SaysIn, jobs_shown};
 ghost use Rattle.ns_world.specs.World.{tenant_of};
 
 use crate::looking::{self, begins};
 use ns_alike::same_text;
-use ns_types::allocation::{Allocation, ClientStatus, DesiredStatus};
+use ns_types::allocation::Allocation;
 use ns_types::job::Job;
 use ns_types::refusal::Refusal;
 use ns_types::reply::{Content, JobShown, JobStatus};
@@ -24,36 +24,11 @@ use std::alloc::{AllocError, Global};
 /// An allocation with its number, or a vacant slot.
 pub(crate) type AllocationSlot = (u64, Option<Allocation>);
 
-fn is_run(desired: DesiredStatus) -> bool
-    ensures { result ≡ is_run desired }
-{
-    match desired {
-        DesiredStatus::Run => true,
-        DesiredStatus::Stop | DesiredStatus::Evict => false,
-    }
-}
-
-fn is_held(client: ClientStatus) -> bool
-    ensures { result ≡ is_held client }
-{
-    match client {
-        ClientStatus::Pending | ClientStatus::Running => true,
-        ClientStatus::Complete | ClientStatus::Failed | ClientStatus::Lost => false,
-    }
-}
-
-/// Whether the allocation counts: it is desired to run, and its client has not ended it.
-pub(crate) fn is_live(allocation: &Allocation) -> bool
-    ensures { result ≡ is_live allocation.now }
-{
-    is_run(allocation.desired) && is_held(allocation.client)
-}
-
 fn is_live_of(slot: &AllocationSlot, id: &Text) -> bool
     ensures { result ≡ at_slot (λ e. same_name id.now e.1.job && is_live e.1) slot.now }
 {
     match &slot.1 {
-        Some(allocation) => same_text(id, &allocation.job) && is_live(allocation),
+        Some(allocation) => same_text(id, &allocation.job) && allocation.is_live(),
         None => false,
     }
 }

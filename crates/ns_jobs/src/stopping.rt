@@ -8,7 +8,6 @@ ghost use Rattle.ns_jobs.specs.Counted.{IsNext, counted_ask};
 ghost use Rattle.ns_jobs.specs.Made.{IsDone, stopped_with};
 ghost use Rattle.ns_world.specs.World.{tenant_of, world_of};
 
-use crate::jobs::is_live;
 use crate::looking::allocation;
 use crate::making::{Numbers, evaluation_for, next_numbers, stop_and_make};
 use ns_change::Prepared;
@@ -55,7 +54,7 @@ pub fn stop_allocation(tables: &Tables, namespace: &Text, number: u64) -> Result
     let Some(row) = allocation(tenant, number) else {
         return Err(Refusal::NotFound);
     };
-    if !is_live(row) {
+    if !row.is_live() {
         return Err(Refusal::Conflict);
     }
     let Some(numbers) = next_numbers(tenant) else {

@@ -7,7 +7,7 @@ ghost use Rattle.ns_types.specs.State.Sums.{quota_use};
 ghost use Rattle.ns_jobs.specs.Read.{ReadsIn, UseFits, live_amount, tenant_amount, with_live, with_tenants};
 ghost use Rattle.ns_world.specs.World.{world_of};
 
-use crate::jobs::{AllocationSlot, is_live};
+use crate::jobs::AllocationSlot;
 use ns_admin::names_quota;
 use ns_types::refusal::Refusal;
 use ns_types::reply::Content;
@@ -29,7 +29,7 @@ fn add_slot(used: Resources, slot: &AllocationSlot) -> Resources
     let Some(allocation) = &slot.1 else {
         return used;
     };
-    if !is_live(allocation) {
+    if !allocation.is_live() {
         return used;
     }
     Resources {

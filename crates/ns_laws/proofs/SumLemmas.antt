@@ -21,7 +21,7 @@ use Rattle.ns_types.specs.Validity.{IsSound, IsSoundNode, IsSoundAllocation}
 use Rattle.ns_types.proofs.Lists.{not_both, each, any_alike}
 use Rattle.ns_types.proofs.Named.{names, one_name, numbers, one_number, same_name_refl, first_of_both, second_of_both}
 use Rattle.ns_types.proofs.Tables.{each_row, none_of_any}
-use Rattle.ns_types.proofs.Elements.{each_append, all_from}
+use Rattle.ns_types.proofs.Elements.{each_append, all_from, any_flat, any_map}
 use Rattle.ns_laws.specs.Sums as law
 use Rattle.ns_laws.specs.Sums.{live_sum}
 use Rattle.ns_types.specs.State.Resources.{is_within}
@@ -99,14 +99,6 @@ sum_by_classes f has cs (x ∷ xs) h =
 pub each_flat : {A C : Type 0} (P : A → Type 0) (g : C → List A) (cs : List C) → Each (λ c. Each P (g c)) cs → Each P (flat_map g cs)
 each_flat P g [] h = tt
 each_flat P g (c ∷ cs) h = each_append P (g c) (flat_map g cs) h.0 (each_flat P g cs h.1)
-
-any_flat : {A C : Type 0} (p : A → Bool) (g : C → List A) (cs : List C) → list_any p (flat_map g cs) ≡ list_any (λ c. list_any p (g c)) cs
-any_flat p g [] = refl
-any_flat p g (c ∷ cs) = list_any-append p (g c) (flat_map g cs) ∙ ap (λ b. list_any p (g c) || b) (any_flat p g cs)
-
-any_map : {A C : Type 0} (p : A → Bool) (h : C → A) (cs : List C) → list_any p (map h cs) ≡ list_any (λ c. p (h c)) cs
-any_map p h [] = refl
-any_map p h (c ∷ cs) = ap (λ b. p (h c) || b) (any_map p h cs)
 
 -- ---- allocations and nodes
 

@@ -24,7 +24,7 @@ use Rattle.ns_types.proofs.Lists.{filter_all, filter_none}
 use Rattle.ns_types.proofs.Named.{names, numbers, one_name, one_number}
 use Rattle.ns_types.proofs.TableRows.{entries_empty, some_row}
 use Rattle.ns_types.proofs.Tests.{not_Some, same_Some}
-use Rattle.ns_types.proofs.Elements.{any_map}
+use Rattle.ns_types.proofs.Elements.{any_flat, any_map, any_same, any_under}
 use Rattle.ns_types.proofs.Tables.{any_row-none, chosen, each_row, entries-table_of, filter-retain, get-map_rows, flat_map-retain, tied}
 use Rattle.ns_live.specs.declared.node_keys.NodeKeys.{NodeKeys}
 use Rattle.ns_live.specs.Levels.{holds_key, holds_number}
@@ -199,19 +199,6 @@ module _ (w : World) (pool node : Name) (none : (key : Key) → option_map_or (i
       ∙ ap (flat_map (λ e. option_map_or (λ t. map (λ a. (e.0, a)) (losing_jobs pool node t)) (get w.tenants e.0) [])) no_namespace
 
 -- ---- the keys in order
-
-any_same : {A : Type 0} (p q : A → Bool) → ((x : A) → p x ≡ q x) → (xs : List A) → list_any p xs ≡ list_any q xs
-any_same p q e [] = refl
-any_same p q e (x ∷ xs) = λ i. e x i || any_same p q e xs i
-
-any_flat : {A B : Type 0} (p : B → Bool) (f : A → List B) (xs : List A) → list_any p (flat_map f xs) ≡ list_any (λ x. list_any p (f x)) xs
-any_flat p f [] = refl
-any_flat p f (x ∷ xs) = list_any-append p (f x) (flat_map f xs) ∙ ap (λ b. list_any p (f x) || b) (any_flat p f xs)
-
-any_under : {A : Type 0} (b : Bool) (p : A → Bool) (xs : List A) → list_any (λ x. b && p x) xs ≡ (b && list_any p xs)
-any_under true p xs = refl
-any_under false p [] = refl
-any_under false p (x ∷ xs) = any_under false p xs
 
 module _ {K X : Type 0} {R : K → K → Ordering} (o : IsTotalOrder R) (same : IsAntisymmetric R) (k : K) (f : X → Bool) where
   abbrev asks : K → X → Bool

@@ -18,7 +18,7 @@ use crate::loads::{keys_load, none};
 use crate::node_keys::NodeKeys;
 use crate::pool_keys::PoolKeys;
 use keyed::{NameTable, NumberTable};
-use ns_types::allocation::{Allocation, ClientStatus, DesiredStatus};
+use ns_types::allocation::Allocation;
 use ns_types::resources::Resources;
 use ns_types::text::{Text, same_text};
 use ns_world::Tables;
@@ -31,21 +31,12 @@ pub struct Live {
     pools: NameTable<PoolKeys>,
 }
 
-fn is_live(row: &Allocation) -> bool
-    ensures { result ≡ is_live row.now }
-{
-    match (row.desired, row.client) {
-        (DesiredStatus::Run, ClientStatus::Pending | ClientStatus::Running) => true,
-        _ => false,
-    }
-}
-
 fn is_live_on(row: Option<&Allocation>, pool: &Text, node: &Text) -> bool
     ensures { result ≡
         option_map_or (is_live_on pool.now node.now) (option_copied row.entry) false }
 {
     match row {
-        Some(row) => is_live(row) && same_text(pool, &row.pool) && same_text(node, &row.node),
+        Some(row) => row.is_live() && same_text(pool, &row.pool) && same_text(node, &row.node),
         None => false,
     }
 }
@@ -74,7 +65,7 @@ impl Live {
             IsTrue (has_room self.old pool node key) → IsTrue (has_room self.new pool node key) }
         ensures ok { OnOk result (HasRoomFor self.new (namespace.now, number) (Some row.now)) }
     {
-        if is_live(row) {
+        if row.is_live() {
             self.reserve_at(&row.pool, &row.node, namespace, number)?;
         }
         Ok(())
@@ -175,7 +166,7 @@ impl Live {
         ensures { AddsRow (namespace.now, number) (option_copied row.entry) self.old self.new }
     {
         if let Some(row) = row {
-            if is_live(row) {
+            if row.is_live() {
                 self.insert(&row.pool, &row.node, namespace, number);
             }
         }

@@ -7,7 +7,7 @@ ghost use Rattle.ns_settle.specs.Released.{ended_list, ended_one, quotas_ended, 
 ghost use Rattle.ns_world.specs.World.{tenant_of, world_of};
 
 use ns_change::{Change, TenantChange};
-use ns_types::allocation::{Allocation, ClientStatus, DesiredStatus};
+use ns_types::allocation::Allocation;
 use ns_types::rows::Rows;
 use ns_types::text::Text;
 use ns_world::{Tables, TenantRows};
@@ -19,29 +19,11 @@ type AllocationSlot = (u64, Option<Allocation>);
 /// A changed namespace with its name.
 type TenantSlot = (Text, Option<TenantChange>);
 
-fn is_live(allocation: &Allocation) -> bool
-    ensures { result ≡ is_live allocation.now }
-{
-    let runs = match allocation.desired {
-        DesiredStatus::Run => true,
-        DesiredStatus::Stop => false,
-        DesiredStatus::Evict => false,
-    };
-    let held = match allocation.client {
-        ClientStatus::Pending => true,
-        ClientStatus::Running => true,
-        ClientStatus::Complete => false,
-        ClientStatus::Failed => false,
-        ClientStatus::Lost => false,
-    };
-    runs & held
-}
-
 fn lives_on(row: Option<&Allocation>) -> bool
     ensures { result ≡ option_map_or is_live (option_copied row.entry) false }
 {
     match row {
-        Some(row) => is_live(row),
+        Some(row) => row.is_live(),
         None => false,
     }
 }
@@ -54,7 +36,7 @@ pub fn ended<'a>(tenant: &'a TenantRows, slot: &AllocationSlot) -> Option<&'a Al
     let Some(old) = tenant.allocations.get(slot.0) else {
         return None;
     };
-    let ends = is_live(old) & !lives_on(slot.1.as_ref());
+    let ends = old.is_live() & !lives_on(slot.1.as_ref());
     if ends { Some(old) } else { None }
 }
 

@@ -6,6 +6,7 @@ use Rattle.std.specs.declared.cmp.Ordering.{Ordering}
 use Rattle.std.specs.FinMap.Entries.{find}
 use Rattle.std.specs.Ordering.{eq_by_cmp}
 use Rattle.std.proofs.lemmas.List.Elements.{All-nil, All-cons}
+use Rattle.std.proofs.lemmas.List.Folds.{list_any-append}
 use Rattle.ns_types.specs.State.Lists.{Each, first_each}
 use Rattle.ns_types.proofs.Lists.{not_both}
 use Rattle.ns_types.proofs.Named.{first_of_both, second_of_both}
@@ -165,3 +166,20 @@ found_of {X = X} R P (e ∷ es) k x h is = by (found_of R P es k x h.1) (eq_by_c
     by : (find R k es ≡ Some x → P x) → (b : Bool) → cond b (Some e.1) (find R k es) ≡ Some x → P x
     by later true is = subst P (same_Some e.1 x is) h.0
     by later false is = later is
+
+-- ---- whether some element passes
+
+module _ {A B : Type 0} where
+  pub any_flat : (p : B → Bool) (f : A → List B) (xs : List A) → list_any p (flat_map f xs) ≡ list_any (λ x. list_any p (f x)) xs
+  any_flat p f [] = refl
+  any_flat p f (x ∷ xs) = list_any-append p (f x) (flat_map f xs) ∙ ap (λ b. list_any p (f x) || b) (any_flat p f xs)
+
+module _ {A : Type 0} where
+  pub any_same : (p q : A → Bool) → ((x : A) → p x ≡ q x) → (xs : List A) → list_any p xs ≡ list_any q xs
+  any_same p q e [] = refl
+  any_same p q e (x ∷ xs) = λ i. e x i || any_same p q e xs i
+
+  pub any_under : (b : Bool) (p : A → Bool) (xs : List A) → list_any (λ x. b && p x) xs ≡ (b && list_any p xs)
+  any_under true p xs = refl
+  any_under false p [] = refl
+  any_under false p (x ∷ xs) = any_under false p xs

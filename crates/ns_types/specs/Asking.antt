@@ -1,4 +1,5 @@
 pub mod Asks
+pub mod Good
 pub mod Reads
 pub mod Admins
 pub mod Policies

@@ -1,5 +1,8 @@
 //! Allocations: what was placed on nodes.
 
+ghost use Rattle.std.specs.Prelude.{◌≡◌};
+ghost use Rattle.ns_types.specs.State.Rows.{is_live};
+
 use crate::resources::Resources;
 use crate::text::Text;
 
@@ -36,4 +39,14 @@ pub struct Allocation {
     pub client: ClientStatus,
     pub create_index: u64,
     pub modify_index: u64,
+}
+
+impl Allocation {
+    /// Whether it is to run, and its client has not said that it ended or is lost.
+    pub fn is_live(&self) -> bool
+        ensures { result ≡ is_live self.now }
+    {
+        matches!(self.desired, DesiredStatus::Run)
+            && matches!(self.client, ClientStatus::Pending | ClientStatus::Running)
+    }
 }

@@ -5,6 +5,7 @@ pub mod acl;
 pub mod allocation;
 pub mod evaluation;
 pub mod event;
+pub mod good;
 pub mod id;
 pub mod job;
 pub mod key;

@@ -6,6 +6,7 @@ use crate::job::Job;
 use crate::node::Node;
 use crate::resources::{Limits, Resources};
 use crate::rows::Rows;
+use crate::shared::Shared;
 use crate::text::Text;
 
 /// An allocation of the evaluation's own job that is live or done.
@@ -52,7 +53,7 @@ pub struct Snapshot {
     pub own: Rows<OwnAllocation>,
     pub pool: Text,
     /// By name.
-    pub nodes: Rows<PoolNode>,
+    pub nodes: Rows<Shared<PoolNode>>,
     /// The number of the pool's last release.
     pub release: u64,
     pub quota: Option<QuotaSeen>,

@@ -2,6 +2,7 @@
 
 use crate::acl::{Policy, TokenKind};
 use crate::allocation::ClientStatus;
+use crate::good::{GoodAdmin, GoodAsk, GoodTelling};
 use crate::job::Registration;
 use crate::node::{NodeStatus, Offer};
 use crate::records::{Namespace, Pool, Quota};
@@ -84,9 +85,9 @@ pub enum NodeCommand {
 /// One event of the server. A worker's step names the worker and the namespace that it works for.
 #[derive(Drop)]
 pub enum Step {
-    Ask(Text, Option<Text>, AskCommand),
-    Admin(Option<Text>, AdminCommand),
-    Node(Text, Option<Text>, NodeCommand),
+    Ask(Text, Option<Text>, GoodAsk),
+    Admin(Option<Text>, GoodAdmin),
+    Node(Text, Option<Text>, GoodTelling),
     Dequeue(u64, Text, u64),
     Snap(u64, Text),
     Submit(u64, Text),

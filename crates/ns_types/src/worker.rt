@@ -1,5 +1,6 @@
 //! Workers that have an evaluation. An idle one has no row.
 
+use crate::shared::Shared;
 use crate::snapshot::Snapshot;
 
 #[derive(Clone, Copy, Debug, PartialEq, Eq)]
@@ -20,5 +21,6 @@ pub struct Worker {
     pub evaluation: u64,
     pub phase: Phase,
     pub tries: u64,
-    pub kept: Option<Snapshot>,
+    /// A plan's snapshot is known by being this one.
+    pub kept: Option<Shared<Snapshot>>,
 }

@@ -23,7 +23,7 @@ use Rattle.ns_types.specs.State.Rows.{World, Tenant, is_live}
 use Rattle.ns_types.specs.Settling.Same.{same_document}
 use Rattle.ns_types.specs.State.Sums.{names_quota, quota_use}
 use Rattle.ns_types.specs.Validity.{IsSound, IsSoundTenant}
-use Rattle.ns_types.specs.Within.{is_good_ask}
+use Rattle.ns_types.specs.Asking.Good.{is_good_ask}
 use Rattle.ns_types.proofs.Named.{names, one_name, first_of_both, second_of_both}
 use Rattle.ns_types.proofs.Registrations.{accepted}
 use Rattle.ns_types.proofs.TableRows.{row_of_insert, row_of_remove}

@@ -12,7 +12,7 @@ use Rattle.ns_types.specs.Working.Queue.{queue}
 use Rattle.ns_types.specs.Settling.Releases.{released_classes, woken}
 use Rattle.ns_types.specs.State.Rows.{World, Tenant, PoolRows, is_open, is_blocked, evaluation_at}
 use Rattle.ns_types.specs.Settling.Settle.{pending, unblocked_in, wake, after_release, number_releases, is_touched, changes_evaluation, created_at}
-use Rattle.ns_types.specs.Settling.Settle.{stamped_evaluation, stamped, stamp_tenant, stamp, settle}
+use Rattle.ns_types.specs.Settling.Settle.{woken_row, stamped_evaluation, stamped, stamp_tenant, stamp, settle}
 use Rattle.ns_types.specs.State.Tables.{map_rows}
 use Rattle.ns_types.specs.Validity.{IsSound, IsSoundTenant, IsSoundEvaluation}
 use Rattle.ns_types.proofs.Lists.{not_both}
@@ -164,9 +164,6 @@ filed_sound pools w s o = record {
     there key l = ap is_some (ap (option_and_then (λ (t : Tenant). get t.evaluations key.1)) l.is_tenant ∙ l.entry.is_row)
 
 -- ---- wakes
-
-abbrev woken_row : List Key → Name → ℕ → Evaluation → Evaluation
-woken_row keys ns n e = cond (has_key keys (ns, n)) (pending e) e
 
 module _ (pools : Name → Bool) (index : Name → ℕ) where
   queues_filed : (keys : List Key) (w : World) → IsFiled pools index w → IsFiled pools index (fold queue w keys)

@@ -22,8 +22,8 @@ use Rattle.ns_types.specs.Asking.Nodes.{report, asked_in_pool, ask_pool}
 use Rattle.ns_types.specs.Settling.Outcome.{Done, unless}
 use Rattle.ns_types.specs.State.Rows.{World, PoolRows, is_ready, allocation_at}
 use Rattle.ns_types.specs.State.Tables.{map_rows}
-use Rattle.ns_types.specs.Validity.{IsInOrder}
-use Rattle.ns_types.specs.Within.{IsGoodTelling}
+use Rattle.ns_types.specs.State.Limits.{IsInOrder}
+use Rattle.ns_types.specs.Asking.Good.{IsGoodTelling}
 use Rattle.ns_types.proofs.Named.{names, one_name, first_of_both, second_of_both}
 use Rattle.ns_types.proofs.TableRows.{row_of_insert, row_of_remove}
 use Rattle.ns_audit.proofs.ValidRecords.Statement.{IsGoodNode, IsGoodPool}

@@ -9,13 +9,13 @@ use Rattle.ns_types.specs.declared.node.Node.{Node}
 use Rattle.ns_types.specs.declared.step.Step.{Step}
 use Rattle.ns_types.specs.Asking.Admins.{most_rows}
 use Rattle.ns_types.specs.Asking.Asks.{most_jobs}
-use Rattle.ns_types.specs.State.Limits.{is_text, is_pool_name, is_good_offer}
+use Rattle.ns_types.specs.State.Limits.{is_text, is_pool_name, is_good_offer, IsInOrder}
 use Rattle.ns_types.specs.State.Name.{is_name}
 use Rattle.ns_types.specs.State.Names.{Name}
 use Rattle.ns_types.specs.Asking.Nodes.{most_nodes}
 use Rattle.ns_types.specs.State.Rows.{State, World, Tenant, PoolRows, QuotaRows}
 use Rattle.ns_types.specs.Steps.{Answer, said, after, is_past_bound, opening}
-use Rattle.ns_types.specs.Validity.{IsInOrder, IsSoundRecord, IsSoundJob, IsSoundQuota, IsSoundAcl, IsValid}
+use Rattle.ns_types.specs.Validity.{IsSoundRecord, IsSoundJob, IsSoundQuota, IsSoundAcl, IsValid}
 use Rattle.ns_types.specs.Within.{IsGoodStep}
 
 -- all that is said of a node, but for its load

@@ -13,7 +13,8 @@ use Rattle.ns_types.specs.State.Rows.{Acl, State, World}
 use Rattle.ns_types.specs.Settling.Settle.{settle}
 use Rattle.ns_types.specs.Steps.{Answer, said, act, after, is_allowed, concluded, reply_of, is_past_bound}
 use Rattle.ns_types.specs.Validity.{IsSoundAcl, IsSound}
-use Rattle.ns_types.specs.Within.{is_good_admin, IsGoodStep}
+use Rattle.ns_types.specs.Asking.Good.{is_good_admin}
+use Rattle.ns_types.specs.Within.{IsGoodStep}
 use Rattle.ns_types.proofs.Named.{first_of_both, second_of_both}
 use Rattle.ns_types.proofs.Tests.{not_Some, same_Some}
 use Rattle.ns_audit.specs.Orderly.{IsSteady}

@@ -24,10 +24,11 @@ use Rattle.ns_types.specs.State.Tables.{map_rows, any_row}
 abbrev pub pending : Evaluation → Evaluation
 pending e = record e { status = Status.Pending }
 
+abbrev pub woken_row : List Key → Name → ℕ → Evaluation → Evaluation
+woken_row keys ns n e = if has_key keys (ns, n) then pending e else e
+
 abbrev pub unblocked_in : List Key → Name → Tenant → Tenant
-unblocked_in keys ns t = record t {
-  evaluations = map_rows (λ n e. if has_key keys (ns, n) then pending e else e) t.evaluations;
-}
+unblocked_in keys ns t = record t { evaluations = map_rows (woken_row keys ns) t.evaluations }
 
 -- the evaluations are no longer blocked, and each is ready or waits
 unfoldable pub wake : List Key → World → World

@@ -1,6 +1,7 @@
 -- How large members, lists and tables may be.
-use Rattle.std.specs.Prelude.{ℕ, ◌^◌, ◌==◌, Bool, true, not, ◌&&◌, ◌||◌, List, length, nat_le, is_none, codes, map}
+use Rattle.std.specs.Prelude.{◌≡◌, ℕ, ◌^◌, ◌==◌, Bool, true, not, ◌&&◌, ◌||◌, List, length, nat_le, is_none, codes, map}
 use Rattle.std.specs.Option.{option_map_or}
+use Rattle.std.specs.FinMap.{entries, from_entries}
 use Rattle.std.specs.List.{list_all}
 use Rattle.std.specs.Str.{bytes_eq}
 use Rattle.ns_types.specs.declared.acl.Policy.{Policy}
@@ -19,7 +20,7 @@ use Rattle.ns_types.specs.declared.resources.Limit.{Limit}
 use Rattle.ns_types.specs.declared.resources.Resources.{Resources}
 use Rattle.ns_types.specs.State.Lists.{is_empty, first_each}
 use Rattle.ns_types.specs.State.Name.{is_name}
-use Rattle.ns_types.specs.State.Names.{Name, same_name, has_name}
+use Rattle.ns_types.specs.State.Names.{Name, name_cmp, same_name, has_name}
 use Rattle.ns_types.specs.State.Resources.{limits_in}
 use Rattle.ns_types.specs.Wire.Words.{target_text}
 
@@ -76,6 +77,12 @@ is_good_registration r = is_name NameKind.Job r.id && is_between 1 100 r.priorit
 abbrev pub is_good_offer : Offer → Bool
 is_good_offer o = is_text o.class && nat_le (length o.attributes) 64
     && list_all (λ a. is_text a.key && is_text a.value) o.attributes && is_amount o.capacity
+
+-- attributes stand by key, each key once
+abbrev pub IsInOrder : Offer → Type 0
+IsInOrder offer =
+    let pairs = map (λ a. (a.key, a.value)) offer.attributes in
+    entries (from_entries {R = name_cmp} pairs) ≡ pairs
 
 -- ---- records
 
