@@ -1,14 +1,13 @@
 -- A step that puts one node, or takes it away, and does nothing else.
 use Rattle.std.specs.Prelude.{◌≡◌, Bool, true, false, cond, ◌&&◌, ◌||◌, List, [], ◌∷◌, ◌++◌, Option, Some, None, option_map, flat_map, map, filter}
-use Rattle.std.specs.Prelude.{if◌then◌else◌, nat_lt}
+use Rattle.std.specs.Prelude.{nat_lt}
 use Rattle.std.proofs.Common.{refl, sym, ap, ◌∙◌, append-nil}
 use Rattle.std.specs.Option.{option_and_then, option_map_or}
 use Rattle.std.specs.List.{list_any}
-use Rattle.std.specs.FinMap.{FinMap, empty, entries, entries-insert, get, get-empty, insert, remove}
+use Rattle.std.specs.FinMap.{empty, entries, entries-insert, get, get-empty, insert}
 use Rattle.std.specs.FinMap.Entries.{put}
-use Rattle.keyed.specs.Table.{at_slot, flat, has_slot, row_at, row_list, with_slot}
+use Rattle.keyed.specs.Table.{flat, has_slot, row_at, row_list, with_slot}
 use Rattle.keyed.proofs.Tables.{has_slot-with_slot_here}
-use Rattle.keyed.specs.Over.{over}
 use Rattle.keyed.proofs.Over.{over-gone, over-put}
 use Rattle.ns_types.specs.declared.node.Class.{Class}
 use Rattle.ns_types.specs.declared.node.Node.{Node}
@@ -17,7 +16,7 @@ use Rattle.ns_types.specs.declared.allocation.Allocation.{Allocation}
 use Rattle.ns_types.specs.Settling.Making.{put_pool, with_node}
 use Rattle.ns_types.specs.Settling.Settle.{settle}
 use Rattle.ns_types.specs.State.Names.{Name, Key, name_cmp}
-use Rattle.ns_types.specs.State.Rows.{World, PoolRows, Tenant, class_of, evaluation_at}
+use Rattle.ns_types.specs.State.Rows.{World, PoolRows, class_of}
 use Rattle.ns_types.specs.Steps.{greatest, is_past_bound}
 use Rattle.ns_types.proofs.Lists.{any_alike, each}
 use Rattle.ns_types.proofs.Named.{names, one_name}

@@ -1,10 +1,8 @@
 use Rattle.std.proofs.Common.{ap, sym, ◌∙◌, ◌||◌}
 use Rattle.std.specs.List.{list_any}
-use Rattle.std.specs.Prelude.{◌≡◌}
 use Rattle.ns_types.specs.declared.node.Class.{Class}
 use Rattle.ns_types.specs.State.Names.{Name}
 use Rattle.ns_types.specs.State.Rows.{class_of}
-use Rattle.ns_settle.specs.Bounds.{room_passes}
 use Rattle.ns_settle.specs.Room.{room_waking_passes}
 use Rattle.ns_settle.proofs.given.given_room_passes.Goals as goal
 use Rattle.ns_world.specs.World.{world_of}
