@@ -8,7 +8,9 @@ mod eligible;
 mod prepared;
 mod registered;
 mod removed;
+mod status;
 
-pub use eligible::{set_eligible, set_ready};
+pub use eligible::set_eligible;
 pub use registered::register_node;
 pub use removed::remove_node;
+pub use status::set_status;
