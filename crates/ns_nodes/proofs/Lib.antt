@@ -1,3 +1,4 @@
 pub mod Asked
 pub mod Idle
+pub mod Listed
 pub mod Within

@@ -5,12 +5,14 @@
 
 mod bounds;
 mod eligible;
+mod listing;
 mod prepared;
 mod registered;
 mod removed;
 mod status;
 
 pub use eligible::set_eligible;
+pub use listing::list_nodes;
 pub use registered::register_node;
 pub use removed::remove_node;
 pub use status::set_status;
