@@ -1,8 +1,10 @@
 pub mod Applying
 pub mod Counted
+pub mod Levels
 pub mod Mapped
 pub mod Ordered
 pub mod Over
 pub mod Places
+pub mod Queues
 pub mod Tables
 pub mod Viewing

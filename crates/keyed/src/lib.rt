@@ -2,11 +2,15 @@
 //! A slot has a row, or is vacant: room for a row, made before it is needed.
 #![tactic(auto)]
 
+mod key_queue;
+mod key_set;
 mod names;
 mod numbers;
 mod series;
 mod slots;
 
+pub use key_queue::KeyQueue;
+pub use key_set::KeySet;
 pub use names::NameTable;
 pub use numbers::NumberTable;
 pub use series::Series;

@@ -1,1 +1,3 @@
 pub mod Asked
+pub mod Idle
+pub mod Within

@@ -6,7 +6,6 @@ use Rattle.std.specs.FinMap.{get, get-remove, insert, remove}
 use Rattle.ns_types.specs.declared.records.Namespace.{Namespace}
 use Rattle.ns_types.specs.declared.records.Pool.{Pool}
 use Rattle.ns_types.specs.declared.refusal.Refusal.{Refusal}
-use Rattle.ns_types.specs.declared.refusal.Refusal.TheVariants as Refusal
 use Rattle.ns_types.specs.Asking.Admins.{delete_namespace, delete_pool, delete_quota, has_live, has_open, put_namespace, put_pool_record, with_namespace}
 use Rattle.ns_types.specs.Asking.Admins.{with_pool}
 use Rattle.ns_types.specs.Settling.Making.{put_tenant}

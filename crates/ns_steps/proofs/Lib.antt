@@ -6,3 +6,5 @@ pub mod Administering
 pub mod Concluding
 pub mod Telling
 pub mod Reading
+pub mod Quiet
+pub mod Quieting

@@ -1,21 +1,19 @@
 -- A read answers what its change says.
-use Rattle.std.specs.Prelude.{◌≡◌, true, false, cond, Option, Some, None, Result, Ok, Err}
+use Rattle.std.specs.Prelude.{◌≡◌, true, false, cond, Option, Some, Result, Ok, Err}
 use Rattle.std.proofs.Common.{refl, sym, ap, subst, ◌∙◌}
 use Rattle.std.specs.FinMap.{get}
 use Rattle.ns_types.specs.declared.refusal.Refusal.{Refusal}
-use Rattle.ns_types.specs.declared.refusal.Refusal.TheVariants as Refusal
 use Rattle.ns_types.specs.declared.reply.Content.{Content}
 use Rattle.ns_types.specs.declared.step.AskCommand.{AskCommand}
 use Rattle.ns_types.specs.declared.step.NodeCommand.TheVariants as NodeCommand
 use Rattle.ns_types.specs.declared.step.Step.{Step}
-use Rattle.ns_types.specs.declared.step.Step.TheVariants as Step
 use Rattle.ns_types.specs.Access.Rights.{pool_rights_of, rights_of}
 use Rattle.ns_types.specs.Asking.Asks.{ask, asked_in, right_of}
 use Rattle.ns_types.specs.Asking.Nodes.{ask_pool, read_pool}
 use Rattle.ns_types.specs.Asking.Policies.{with_world}
 use Rattle.ns_types.specs.Settling.Outcome.{Changes, Outcome, NotEnabled, Refused, Done, found, is_done, lift}
 use Rattle.ns_types.specs.State.Names.{Name}
-use Rattle.ns_types.specs.State.Rows.{PoolRows, State, Tenant, World}
+use Rattle.ns_types.specs.State.Rows.{PoolRows, State, Tenant}
 use Rattle.ns_types.specs.Steps.{Makes, act, after, concluded, concluded_with, is_allowed, is_made, is_past_bound, reply_of, said}
 use Rattle.ns_types.proofs.Lists.{not_both}
 use Rattle.ns_steps.specs.Answers.{answer_of}

@@ -1,9 +1,8 @@
 -- What is answered in a namespace, and what a registration answers, case by case.
-use Rattle.std.specs.Prelude.{◌≡◌, Bool, true, false, cond, if◌then◌else◌, not, ◌||◌, Option, Some, None, Ok, Err, nat_lt, option_map}
+use Rattle.std.specs.Prelude.{◌≡◌, Bool, true, false, cond, if◌then◌else◌, not, Option, Some, None, Ok, Err, option_map}
 use Rattle.std.proofs.Common.{refl, sym, ap, ◌∙◌}
 use Rattle.std.specs.Option.{option_map_or}
 use Rattle.std.specs.FinMap.{get}
-use Rattle.ns_types.specs.declared.job.Job.{Job}
 use Rattle.ns_types.specs.declared.job.Registration.{Registration}
 use Rattle.ns_types.specs.declared.refusal.Refusal.{Refusal}
 use Rattle.ns_types.specs.declared.reply.Content.{Content}
@@ -14,11 +13,10 @@ use Rattle.ns_types.specs.Asking.Policies.{in_world, with_world}
 use Rattle.ns_types.specs.Asking.Asks.{ask, asked_in, first_refusal, registered_with, right_of}
 use Rattle.ns_types.specs.State.Names.{Name}
 use Rattle.ns_types.specs.Settling.Outcome.{Refused, Done, lift, refused_by}
-use Rattle.ns_types.specs.Asking.Reads.{job_shown}
 use Rattle.ns_types.specs.Access.Rights.{rights_of}
 use Rattle.ns_types.specs.State.Rows.{State, Tenant, World}
 use Rattle.ns_types.specs.Settling.Settle.{settle}
-use Rattle.ns_types.specs.Steps.{Answer, act, after, concluded, concluded_with, greatest, is_past_bound, reply_of, said}
+use Rattle.ns_types.specs.Steps.{Answer, act, after, concluded, concluded_with, is_past_bound, reply_of, said}
 use Rattle.ns_types.proofs.Tests.{not_Some, same_Some}
 use Rattle.ns_types.proofs.Named.{names, one_name}
 use Rattle.ns_types.proofs.TableRows.{get_put}
@@ -26,7 +24,6 @@ use Rattle.ns_steps.specs.Early.{IsFresh}
 use Rattle.ns_steps.specs.Registered.{job_of, next_index, next_number, passes_bound, registered_reply, registered_state, registered_tenant, registered_world}
 use Rattle.ns_steps.specs.Registered.{registration_refusal}
 use Rattle.ns_steps.proofs.Registering.{over_registered, settled_registration}
-use Rattle.ns_types.proofs.Settling.{settle_same}
 
 abbrev pub told : Reply → Answer → Reply
 told other (Ok reply) = reply

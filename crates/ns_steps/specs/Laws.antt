@@ -1,5 +1,5 @@
 -- Laws of a registration and of a read of a job.
-use Rattle.std.specs.Prelude.{◌≡◌, ◌≢◌, ◌||◌, true, false, if◌then◌else◌, [], Some, None, IsTrue, nat_lt, Result, Ok}
+use Rattle.std.specs.Prelude.{◌≡◌, ◌≢◌, true, false, if◌then◌else◌, [], Some, None, IsTrue, nat_lt, Result, Ok}
 use Rattle.std.specs.Prelude.{Err, Option}
 use Rattle.std.specs.FinMap.{get}
 use Rattle.ns_types.specs.declared.job.Registration.{Registration}

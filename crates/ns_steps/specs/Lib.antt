@@ -5,3 +5,4 @@ pub mod Administered
 pub mod Laws
 pub mod Served
 pub mod Answers
+pub mod Quiet

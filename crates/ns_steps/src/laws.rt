@@ -1,5 +1,6 @@
 //! Laws of a registration, of a read, and of administrators' steps, each the contract of a function that does nothing.
 
+ghost use Rattle.ns_steps.specs.Quiet.{OpeningIsQuiet, StaysQuiet};
 ghost use Rattle.ns_steps.specs.Laws.{AdministrationMakes, QuotaPutMakes, ReadingMakes, ReadingRests, RegistrationIs, RegistrationRefused, RegistrationReleasesNothing, ServedDecides, ServedTells};
 
 /// A registration releases no class of a pool and no quota, and wakes no blocked evaluation.
@@ -45,4 +46,14 @@ pub fn administration_makes()
 /// A put of a quota answers what its change says, and leaves the quota with one more release where its limits are others.
 pub fn quota_put_makes()
     ensures { QuotaPutMakes }
+{}
+
+/// Only a step that applies a plan or finishes may place or block: every other one leaves a quiet world quiet.
+pub fn stays_quiet()
+    ensures { StaysQuiet }
+{}
+
+/// A server that has just begun is quiet.
+pub fn opening_is_quiet()
+    ensures { OpeningIsQuiet }
 {}

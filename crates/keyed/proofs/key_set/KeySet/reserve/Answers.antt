@@ -1,0 +1,26 @@
+use Rattle.std.proofs.Common.{ap, refl, sym, ◌∙◌}
+use Rattle.std.specs.Option.{option_copied_mut}
+use Rattle.keyed.specs.Table.{has_slot}
+use Rattle.keyed.proofs.Tables.{slot_made}
+use Rattle.ns_types.proofs.Named.{numbers}
+use Rattle.keyed.specs.Levels.{has_key_room, holds_key, holds_number}
+use Rattle.keyed.specs.declared.key_set.KeySet.{KeySet}
+use Rattle.keyed.proofs.Levels.{keeps_at, keeps_same, keeps_then, number_room, room_here}
+use Rattle.keyed.proofs.key_set.KeySet.reserve.Goals as goal
+
+pub returns-in_err-reserve-clause-same : goal.returns-in_err-reserve-clause-same
+returns-in_err-reserve-clause-same c = keeps_then holds_key has_key_room _ _ _ c.open.ensures.same
+    (keeps_at (λ (s : KeySet). s.numbers) holds_number has_slot c.open.new.self _ c.args.name.now c.in-Some.numbers.now
+    c.reserve.new.self (sym c.get_mut.ensures.value ∙ ap option_copied_mut c.in-Some.is) refl
+    (keeps_same holds_number has_slot _ _ c.in_err-reserve.ensures.err))
+
+pub returns-in_ok-reserve-clause-same : goal.returns-in_ok-reserve-clause-same
+returns-in_ok-reserve-clause-same c = keeps_then holds_key has_key_room _ _ _ c.open.ensures.same
+    (keeps_at (λ (s : KeySet). s.numbers) holds_number has_slot c.open.new.self _ c.args.name.now c.in-Some.numbers.now
+    c.reserve.new.self (sym c.get_mut.ensures.value ∙ ap option_copied_mut c.in-Some.is) refl (number_room _ _ _ c.in_ok-reserve.ensures.ok))
+
+pub returns-in_ok-reserve-clause-ok : goal.returns-in_ok-reserve-clause-ok
+returns-in_ok-reserve-clause-ok c = room_here (λ (s : KeySet). s.numbers) holds_number has_slot c.open.new.self _ c.args.name.now
+    c.in-Some.numbers.now
+    c.reserve.new.self (sym c.get_mut.ensures.value ∙ ap option_copied_mut c.in-Some.is) refl c.args.number
+    (slot_made numbers _ _ _ c.in_ok-reserve.ensures.ok)

@@ -1,0 +1,125 @@
+//! Sets of keys.
+
+ghost use Rattle.std.specs.Prelude.{◌≡◌, IsTrue, OnOk, is_some, option_copied};
+ghost use Rattle.std.specs.FinMap.{empty, entries};
+ghost use Rattle.keyed.specs.Levels.{Adds, Drops, Keeps, Vacates, holds_key, has_key_room};
+ghost use Rattle.keyed.specs.Table.{row_at};
+ghost use Rattle.ns_types.specs.State.Names.{Key, same_key};
+
+use crate::names::NameTable;
+use crate::numbers::NumberTable;
+use ns_types::text::Text;
+use std::alloc::{AllocError, Global};
+
+/// A set of keys: by name, then by number.
+#[derive(Drop)]
+pub struct KeySet {
+    numbers: NameTable<NumberTable<()>>,
+}
+
+impl KeySet {
+    /// No keys. It takes no memory.
+    pub fn new(alloc: Global) -> KeySet
+        ensures { result.numbers ≡ empty }
+    {
+        KeySet {
+            numbers: NameTable::new(alloc),
+        }
+    }
+
+    /// The names in their order, each with the numbers of its keys, which rise. A vacant slot is no key.
+    pub fn as_slice(&self) -> &[(Text, Option<NumberTable<()>>)]
+        ensures { result.now ≡ entries self.now.numbers }
+    {
+        self.numbers.as_slice()
+    }
+
+    /// Whether it holds no key and has room for none.
+    pub fn is_empty(&self) -> bool
+        ensures { IsTrue result → self.now.numbers ≡ empty }
+    {
+        self.numbers.as_slice().is_empty()
+    }
+
+    /// The numbers of the name's keys, which rise. A vacant slot is no key.
+    pub fn numbers_of(&self, name: &Text) -> Option<&NumberTable<()>>
+        ensures { option_copied result ≡ row_at self.now.numbers name.now }
+    {
+        self.numbers.get(name)
+    }
+
+    /// Whether it holds the key.
+    pub fn has(&self, name: &Text, number: u64) -> bool
+        ensures { result ≡ holds_key self.now (name.now, number) }
+    {
+        match self.numbers.get(name) {
+            Some(numbers) => numbers.get(number).is_some(),
+            None => false,
+        }
+    }
+
+    /// Makes a table for the name, unless it is there.
+    fn open(&mut self, alloc: Global, name: &Text) -> Result<(), AllocError>
+        ensures same { Keeps holds_key has_key_room self.old self.new }
+        ensures ok { OnOk result (IsTrue (is_some (row_at self.new.numbers name.now))) }
+    {
+        self.numbers.reserve(name)?;
+        if self.numbers.get(name).is_none() {
+            self.numbers.set(name, NumberTable::new(alloc));
+        }
+        Ok(())
+    }
+
+    /// Makes room for the key. Want of memory is the only error.
+    pub fn reserve(&mut self, alloc: Global, name: &Text, number: u64) -> Result<(), AllocError>
+        ensures same { Keeps holds_key has_key_room self.old self.new }
+        ensures ok { OnOk result (IsTrue (has_key_room self.new (name.now, number))) }
+    {
+        self.open(alloc, name)?;
+        if let Some(numbers) = self.numbers.get_mut(name) {
+            numbers.reserve(number)?;
+        }
+        Ok(())
+    }
+
+    /// Holds the key from now on. It takes no memory.
+    pub fn insert(&mut self, name: &Text, number: u64)
+        requires { IsTrue (has_key_room self.old (name.now, number)) }
+        ensures { Adds holds_key has_key_room same_key (name.now, number) self.old self.new }
+    {
+        if let Some(numbers) = self.numbers.get_mut(name) {
+            numbers.set(number, ());
+        }
+    }
+
+    /// Holds the key no longer. It takes no memory.
+    pub fn remove(&mut self, name: &Text, number: u64)
+        ensures { Drops holds_key has_key_room same_key (name.now, number) self.old self.new }
+    {
+        let Some(numbers) = self.numbers.get_mut(name) else {
+            return;
+        };
+        numbers.remove(number);
+        if numbers.as_slice().is_empty() {
+            self.numbers.remove(name);
+        }
+    }
+
+    /// Holds the key no longer, and keeps room for it. It takes no memory.
+    pub fn vacate(&mut self, name: &Text, number: u64)
+        ensures { Vacates holds_key has_key_room same_key (name.now, number) self.old self.new }
+    {
+        if let Some(numbers) = self.numbers.get_mut(name) {
+            numbers.take(number);
+        }
+    }
+
+    /// Takes the room for the key away again, unless it holds the key.
+    pub fn clear(&mut self, name: &Text, number: u64)
+        ensures { (key : Key) → holds_key self.new key ≡ holds_key self.old key }
+    {
+        if !self.has(name, number) {
+            self.remove(name, number);
+        }
+    }
+}
