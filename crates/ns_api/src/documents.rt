@@ -1,6 +1,9 @@
 //! What requests want with a document.
 
-ghost use Rattle.std.specs.Prelude.{◌≡◌, IfOk, option_copied};
+ghost use Rattle.std.specs.Prelude.{◌≡◌, IfOk, IsTrue, option_copied};
+ghost use Rattle.ns_types.specs.declared.name.NameKind.TheVariants as NameKind;
+ghost use Rattle.ns_types.specs.State.Name.{is_name};
+ghost use Rattle.ns_documents.specs.Members.{is_path_name};
 ghost use Rattle.ns_http.specs.Head.{asked};
 ghost use Rattle.ns_api.specs.Asking.{
   fourth_part,
@@ -13,12 +16,13 @@ ghost use Rattle.ns_api.specs.Asking.{
 };
 ghost use Rattle.ns_api.specs.Wanted.{IsServedWanted, Wants};
 
-use crate::wanted::Wanted;
+use crate::wanted::{GoodToken, Wanted, administers};
 use ns_documents::{read_namespace, read_policy, read_pool, read_quota, read_token};
 use ns_http::Request;
 use ns_json::read_registration;
+use ns_types::good::GoodAsk;
 use ns_types::refusal::Refusal;
-use ns_types::step::{AdminCommand, AskCommand, NewToken};
+use ns_types::step::{AdminCommand, AskCommand};
 use ns_types::text::Text;
 use std::alloc::Global;
 
@@ -30,7 +34,7 @@ pub fn register(alloc: Global, request: &Request<'_>) -> Result<Wanted, Refusal>
     let document = read_registration(alloc, request.body)?;
     Ok(Wanted::Ask(
         document.namespace,
-        AskCommand::Register(document.registration),
+        GoodAsk::new(AskCommand::Register(document.registration)),
     ))
 }
 
@@ -41,11 +45,12 @@ pub fn put_namespace(
     request: &Request<'_>,
     named: Option<&Text>,
 ) -> Result<Wanted, Refusal>
+    requires { IsTrue (is_path_name NameKind.Namespace (option_copied named)) }
     ensures wanted { Wants request.now result (namespace_put (option_copied named.entry)) }
     ensures served { IfOk result IsServedWanted }
 {
     let document = read_namespace(alloc, named, request.body)?;
-    Ok(Wanted::Admin(AdminCommand::PutNamespace(document.name, document.namespace)))
+    Ok(administers(AdminCommand::PutNamespace(document.name, document.namespace)))
 }
 
 /// The same of a quota.
@@ -55,11 +60,12 @@ pub fn put_quota(
     request: &Request<'_>,
     named: Option<&Text>,
 ) -> Result<Wanted, Refusal>
+    requires { IsTrue (is_path_name NameKind.Quota (option_copied named)) }
     ensures wanted { Wants request.now result (quota_put (option_copied named.entry)) }
     ensures served { IfOk result IsServedWanted }
 {
     let document = read_quota(alloc, named, request.body)?;
-    Ok(Wanted::Admin(AdminCommand::PutQuota(document.name, document.quota)))
+    Ok(administers(AdminCommand::PutQuota(document.name, document.quota)))
 }
 
 /// The same of a pool.
@@ -69,22 +75,24 @@ pub fn put_pool(
     request: &Request<'_>,
     named: Option<&Text>,
 ) -> Result<Wanted, Refusal>
+    requires { IsTrue (is_path_name NameKind.Pool (option_copied named)) }
     ensures wanted { Wants request.now result (pool_put (option_copied named.entry)) }
     ensures served { IfOk result IsServedWanted }
 {
     let document = read_pool(alloc, named, request.body)?;
-    Ok(Wanted::Admin(AdminCommand::PutPool(document.name, document.pool)))
+    Ok(administers(AdminCommand::PutPool(document.name, document.pool)))
 }
 
 /// A put of the policy that the path names.
 #[tactic(auto, unfolding(crate::specs::Asking::admin_by, crate::specs::Asking::admin_of, crate::specs::Asking::bearer_in, crate::specs::Wanted::step_of))]
 pub fn put_policy(alloc: Global, request: &Request<'_>, name: &Text) -> Result<Wanted, Refusal>
-    requires { name.now ≡ fourth_part (asked request.now) }
+    requires part { name.now ≡ fourth_part (asked request.now) }
+    requires named { IsTrue (is_name NameKind.Policy name.now) }
     ensures wanted { Wants request.now result policy_put }
     ensures served { IfOk result IsServedWanted }
 {
     let policy = read_policy(alloc, request.body)?;
-    Ok(Wanted::Admin(AdminCommand::PutPolicy(name.clone()?, policy)))
+    Ok(administers(AdminCommand::PutPolicy(name.clone()?, policy)))
 }
 
 /// A new token, whose two texts are drawn afterwards.
@@ -94,13 +102,5 @@ pub fn create_token(alloc: Global, request: &Request<'_>) -> Result<Wanted, Refu
     ensures served { IfOk result IsServedWanted }
 {
     let document = read_token(alloc, request.body)?;
-    let accessor = Text::from_str(alloc, "")?;
-    let secret = Text::from_str(alloc, "")?;
-    Ok(Wanted::Admin(AdminCommand::CreateToken(NewToken {
-        accessor,
-        secret,
-        name: document.name,
-        kind: document.kind,
-        policies: document.policies,
-    })))
+    Ok(Wanted::Token(GoodToken::new(document)))
 }

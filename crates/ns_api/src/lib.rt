@@ -16,3 +16,4 @@ pub use asking::asked;
 pub use cores::{close, open};
 pub use drawing::Draws;
 pub use serving::serve;
+pub use wanted::{Draft, GoodToken};

@@ -7,7 +7,7 @@ ghost use Rattle.ns_api.specs.Asking.{asked_of, canonical};
 ghost use Rattle.ns_api.specs.Wanted.{IsServedWanted, Wants};
 
 use crate::documents::{create_token, put_namespace, put_policy, put_pool, put_quota, register};
-use crate::wanted::Wanted;
+use crate::wanted::{Wanted, administers, asks, asks_in, tells};
 use ns_request::{Endpoint, Method, Target};
 use ns_types::refusal::Refusal;
 use ns_types::step::{AdminCommand, AskCommand, NodeCommand};
@@ -35,17 +35,17 @@ fn read(alloc: Global, target: &Target<'_>) -> Result<Wanted, Refusal>
     let wanted = match target.endpoint {
         Endpoint::Jobs => {
             let prefix = Text::from_str(alloc, target.query.prefix())?;
-            Wanted::Ask(None, AskCommand::ListJobs(prefix))
+            asks(AskCommand::ListJobs(prefix))
         }
-        Endpoint::Job => Wanted::Ask(None, AskCommand::ReadJob(target.name.clone()?)),
-        Endpoint::Namespaces => Wanted::Admin(AdminCommand::ListNamespaces),
-        Endpoint::Namespace => Wanted::AskIn(target.name.clone()?, AskCommand::ReadNamespace),
-        Endpoint::Quotas => Wanted::Admin(AdminCommand::ListQuotas),
-        Endpoint::Quota => Wanted::Admin(AdminCommand::ReadQuota(target.name.clone()?)),
-        Endpoint::QuotaUsage => Wanted::Ask(None, AskCommand::QuotaUsage(target.name.clone()?)),
-        Endpoint::Pools => Wanted::Admin(AdminCommand::ListPools),
-        Endpoint::Pool => Wanted::Node(target.name.clone()?, NodeCommand::ReadPool),
-        Endpoint::Policy => Wanted::Admin(AdminCommand::ReadPolicy(target.name.clone()?)),
+        Endpoint::Job => asks(AskCommand::ReadJob(target.name.clone()?)),
+        Endpoint::Namespaces => administers(AdminCommand::ListNamespaces),
+        Endpoint::Namespace => asks_in(target.name.clone()?, AskCommand::ReadNamespace),
+        Endpoint::Quotas => administers(AdminCommand::ListQuotas),
+        Endpoint::Quota => administers(AdminCommand::ReadQuota(target.name.clone()?)),
+        Endpoint::QuotaUsage => asks(AskCommand::QuotaUsage(target.name.clone()?)),
+        Endpoint::Pools => administers(AdminCommand::ListPools),
+        Endpoint::Pool => tells(target.name.clone()?, NodeCommand::ReadPool),
+        Endpoint::Policy => administers(AdminCommand::ReadPolicy(target.name.clone()?)),
         _ => return Err(Refusal::NotServed),
     };
     Ok(wanted)
@@ -84,7 +84,7 @@ fn delete(alloc: Global, target: &Target<'_>) -> Result<Wanted, Refusal>
         Endpoint::Token => AdminCommand::DeleteToken(canonical(alloc, target.name.as_str())?),
         _ => return Err(Refusal::NotServed),
     };
-    Ok(Wanted::Admin(command))
+    Ok(administers(command))
 }
 
 /// What is wanted of the path by its method.
