@@ -11,7 +11,8 @@ use Rattle.ns_steps.specs.Served.{IsServed, IsServedAsk, IsServedNode}
 use Rattle.ns_api.specs.declared.wanted.Bearer.{Bearer}
 use Rattle.ns_api.specs.declared.wanted.Draft.{Draft}
 use Rattle.ns_api.specs.declared.wanted.Wanted.{Wanted}
-use Rattle.ns_api.specs.Asking.{namespace_of, new_token}
+use Rattle.ns_api.specs.Asking.{new_token}
+use Rattle.ns_api.specs.Parts.{namespace_of}
 use Rattle.ns_request.specs.Gives.{Refuses}
 use Rattle.ns_request.specs.Queries.{namespace_in}
 use Rattle.ns_request.specs.Secrets.{secret_of}

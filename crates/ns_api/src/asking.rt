@@ -4,7 +4,8 @@ ghost use Rattle.std.specs.Prelude.{◌≡◌, IfOk};
 ghost use Rattle.ns_http.specs.Head;
 ghost use Rattle.ns_json.specs.Reading.{same};
 ghost use Rattle.ns_request.specs.Gives.{Gives};
-ghost use Rattle.ns_api.specs.Asking.{asked, asked_of, namespace_of};
+ghost use Rattle.ns_api.specs.Asking.{asked, asked_of};
+ghost use Rattle.ns_api.specs.Parts.{namespace_of};
 ghost use Rattle.ns_api.specs.Wanted.{bearer_of, draft_step, IsServedDraft, IsServedWanted, step_by};
 
 use crate::tables::wanted;

@@ -6,7 +6,6 @@ ghost use Rattle.ns_types.specs.State.Name.{is_name};
 ghost use Rattle.ns_documents.specs.Members.{is_path_name};
 ghost use Rattle.ns_http.specs.Head.{asked};
 ghost use Rattle.ns_api.specs.Asking.{
-  fourth_part,
   namespace_put,
   policy_put,
   pool_put,
@@ -14,6 +13,7 @@ ghost use Rattle.ns_api.specs.Asking.{
   registration_asked,
   token_asked,
 };
+ghost use Rattle.ns_api.specs.Parts.{fourth_part};
 ghost use Rattle.ns_api.specs.Wanted.{IsServedWanted, Wants};
 
 use crate::wanted::{GoodToken, Wanted, administers};
@@ -39,7 +39,7 @@ pub fn register(alloc: Global, request: &Request<'_>) -> Result<Wanted, Refusal>
 }
 
 /// A put, where `named` is the name that the path holds, if it holds one.
-#[tactic(auto, unfolding(crate::specs::Asking::admin_by, crate::specs::Asking::admin_of, crate::specs::Asking::bearer_in, crate::specs::Wanted::step_of))]
+#[tactic(auto, unfolding(crate::specs::Asking::admin_by, crate::specs::Asking::admin_of, crate::specs::Parts::bearer_in, crate::specs::Wanted::step_of))]
 pub fn put_namespace(
     alloc: Global,
     request: &Request<'_>,
@@ -54,7 +54,7 @@ pub fn put_namespace(
 }
 
 /// The same of a quota.
-#[tactic(auto, unfolding(crate::specs::Asking::admin_by, crate::specs::Asking::admin_of, crate::specs::Asking::bearer_in, crate::specs::Wanted::step_of))]
+#[tactic(auto, unfolding(crate::specs::Asking::admin_by, crate::specs::Asking::admin_of, crate::specs::Parts::bearer_in, crate::specs::Wanted::step_of))]
 pub fn put_quota(
     alloc: Global,
     request: &Request<'_>,
@@ -69,7 +69,7 @@ pub fn put_quota(
 }
 
 /// The same of a pool.
-#[tactic(auto, unfolding(crate::specs::Asking::admin_by, crate::specs::Asking::admin_of, crate::specs::Asking::bearer_in, crate::specs::Wanted::step_of))]
+#[tactic(auto, unfolding(crate::specs::Asking::admin_by, crate::specs::Asking::admin_of, crate::specs::Parts::bearer_in, crate::specs::Wanted::step_of))]
 pub fn put_pool(
     alloc: Global,
     request: &Request<'_>,
@@ -84,7 +84,7 @@ pub fn put_pool(
 }
 
 /// A put of the policy that the path names.
-#[tactic(auto, unfolding(crate::specs::Asking::admin_by, crate::specs::Asking::admin_of, crate::specs::Asking::bearer_in, crate::specs::Wanted::step_of))]
+#[tactic(auto, unfolding(crate::specs::Asking::admin_by, crate::specs::Asking::admin_of, crate::specs::Parts::bearer_in, crate::specs::Wanted::step_of))]
 pub fn put_policy(alloc: Global, request: &Request<'_>, name: &Text) -> Result<Wanted, Refusal>
     requires part { name.now ≡ fourth_part (asked request.now) }
     requires named { IsTrue (is_name NameKind.Policy name.now) }
@@ -96,7 +96,7 @@ pub fn put_policy(alloc: Global, request: &Request<'_>, name: &Text) -> Result<W
 }
 
 /// A new token, whose two texts are drawn afterwards.
-#[tactic(auto, unfolding(crate::specs::Asking::admin_by, crate::specs::Asking::admin_of, crate::specs::Asking::bearer_in, crate::specs::Wanted::step_of))]
+#[tactic(auto, unfolding(crate::specs::Asking::admin_by, crate::specs::Asking::admin_of, crate::specs::Parts::bearer_in, crate::specs::Wanted::step_of))]
 pub fn create_token(alloc: Global, request: &Request<'_>) -> Result<Wanted, Refusal>
     ensures wanted { Wants request.now result token_asked }
     ensures served { IfOk result IsServedWanted }
