@@ -11,7 +11,7 @@ use Rattle.ns_types.specs.State.Rows.{World}
 use Rattle.ns_change.specs.declared.change.Change.{Change}
 use Rattle.ns_change.specs.Changed.{changed}
 use Rattle.std.proofs.lemmas.List.Folds.{list_any-append}
-use Rattle.ns_change.proofs.Any.{any_flat}
+use Rattle.ns_types.proofs.Elements.{any_flat}
 use Rattle.ns_settle.specs.Released.{ended_of, quota_left, quotas_ended_in, released_quotas, released_rooms, rooms_ended_in, rooms_left, rooms_of_pool}
 use Rattle.ns_settle.proofs.Released.{flat_flat}
 

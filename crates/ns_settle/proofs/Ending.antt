@@ -20,7 +20,7 @@ use Rattle.ns_change.specs.declared.change.TenantChange.{TenantChange}
 use Rattle.ns_change.specs.Changed.{changed, changed_tenant, perhaps}
 use Rattle.ns_settle.specs.Released.{at_ended, ended_one, ended_in, ended_of, ended_rows}
 use Rattle.keyed.specs.Over.{over}
-use Rattle.ns_change.proofs.Any.{any_flat}
+use Rattle.ns_types.proofs.Elements.{any_flat}
 use Rattle.ns_change.proofs.Seen.{tenant_after}
 use Rattle.keyed.proofs.Over.{get-over, over_apart, any_row-before}
 

@@ -29,7 +29,7 @@ use Rattle.ns_change.specs.Changed.{changed, changed_pool, perhaps}
 use Rattle.ns_settle.specs.Released.{at_ended, ended_rows, gives_itself, changed_classes, room_left, in_pool, released_rooms, at_room}
 use Rattle.keyed.proofs.Over.{any_row-before, any_row-over, passed}
 use Rattle.std.proofs.lemmas.List.Folds.{list_any-append}
-use Rattle.ns_change.proofs.Any.{any_flat}
+use Rattle.ns_types.proofs.Elements.{any_flat}
 use Rattle.ns_settle.proofs.Ending.{ends_is}
 
 -- ---- tests of lists

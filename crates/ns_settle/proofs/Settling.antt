@@ -32,7 +32,7 @@ use Rattle.ns_change.specs.Settled.{classes_in, settled_tenant, settled_world, t
 use Rattle.ns_settle.specs.Settles.{IsSettled, IsTold, settled_by, settled_slot, shown_if, unshown}
 use Rattle.ns_settle.specs.Stamped.{changed_events, stamped_rows, stamped_tenant, touches}
 use Rattle.ns_settle.proofs.Classes.{release_alike}
-use Rattle.ns_change.proofs.Any.{any_flat}
+use Rattle.ns_types.proofs.Elements.{any_flat}
 use Rattle.ns_settle.proofs.Ending.{ends_is}
 use Rattle.ns_settle.proofs.Rooms.{any_image, rooms_are}
 use Rattle.ns_settle.proofs.Stamped.{stamped_is}

@@ -2,7 +2,7 @@ use Rattle.std.proofs.Common.{ap, sym, ◌∙◌}
 use Rattle.std.specs.List.{list_any}
 use Rattle.std.specs.Option.{option_copied}
 use Rattle.std.specs.FinMap.{entries}
-use Rattle.ns_change.proofs.Any.{any_flat}
+use Rattle.ns_types.proofs.Elements.{any_flat}
 use Rattle.ns_settle.specs.Released.{changed_classes, in_pool, rooms_at}
 use Rattle.ns_world.specs.World.{pool_of, world_of}
 use Rattle.ns_settle.proofs.Offered.{changed_nowhere, changed_there}

@@ -5,7 +5,7 @@ use Rattle.std.specs.Prelude.{flat_map}
 use Rattle.std.specs.FinMap.{entries}
 use Rattle.ns_types.specs.declared.allocation.Allocation.{Allocation}
 use Rattle.ns_types.specs.declared.records.Namespace.{Namespace}
-use Rattle.ns_change.proofs.Any.{any_flat}
+use Rattle.ns_types.proofs.Elements.{any_flat}
 use Rattle.ns_settle.specs.Released.{ended_of, ended_one, quota_left, quotas_ended}
 use Rattle.ns_world.specs.World.{tenant_of, world_of}
 use Rattle.ns_settle.proofs.Released.{ended_nowhere, ended_there, flat_flat}

@@ -3,7 +3,7 @@ use Rattle.std.specs.List.{list_any}
 use Rattle.std.specs.Option.{option_copied}
 use Rattle.std.specs.Prelude.{flat_map}
 use Rattle.std.specs.FinMap.{entries}
-use Rattle.ns_change.proofs.Any.{any_flat}
+use Rattle.ns_types.proofs.Elements.{any_flat}
 use Rattle.ns_change.specs.Changed.{view}
 use Rattle.ns_settle.specs.Released.{ended_of, ended_one, rooms_ended, rooms_left}
 use Rattle.ns_world.specs.World.{tenant_of, world_of}
