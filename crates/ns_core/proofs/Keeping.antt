@@ -1,8 +1,7 @@
 -- What is true of every core stays true: each step within the limits keeps the state valid, and those made so far keep it
 -- quiet.
-use Rattle.std.specs.Prelude.{◌≡◌, false, Some, Ok, Err}
+use Rattle.std.specs.Prelude.{◌≡◌, false, Ok, Err}
 use Rattle.std.proofs.Common.{sym, subst}
-use Rattle.std.specs.FinMap.{get}
 use Rattle.ns_types.specs.declared.refusal.Refusal.TheVariants as Refusal
 use Rattle.ns_types.specs.declared.step.Step.{Step}
 use Rattle.ns_types.specs.State.Names.{Name}

@@ -1,5 +1,5 @@
 -- Steps that are refused, and those that change what they say.
-use Rattle.std.specs.Prelude.{◌≡◌, true, false, cond, Err}
+use Rattle.std.specs.Prelude.{◌≡◌, false, cond, Err}
 use Rattle.std.proofs.Common.{refl, ap}
 use Rattle.ns_types.specs.declared.refusal.Refusal.{Refusal}
 use Rattle.ns_types.specs.declared.step.Step.{Step}

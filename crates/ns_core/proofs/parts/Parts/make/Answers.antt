@@ -1,7 +1,5 @@
 use Rattle.std.specs.Prelude.{Ok, Err}
-use Rattle.std.proofs.Common.{sym, ap, subst, ◌∙◌}
-use Rattle.ns_types.specs.declared.reply.Content.{Content}
-use Rattle.ns_types.specs.Steps.{index_shown, said}
+use Rattle.std.proofs.Common.{subst}
 use Rattle.ns_change.specs.Changed.{view}
 use Rattle.ns_conclude.proofs.Concluding.{makes}
 use Rattle.ns_core.specs.Answering.{PreparesStep}
