@@ -1,11 +1,15 @@
 // One namespace with ample memory and as many jobs as it may have: one more is refused as too many, and changes nothing.
-ghost use Rattle.std.specs.Prelude.{IfOk};
+ghost use Rattle.std.specs.Prelude.{IfOk, IsTrue};
+ghost use Rattle.ns_types.specs.declared.name.NameKind.TheVariants as NameKind;
+ghost use Rattle.ns_types.specs.State.Name.{is_name};
 ghost use Rattle.ns_steps.specs.Served.{IsServedAsk};
 
 use crate::owned::{holds, seen};
-use crate::server::{asked, is_refused, is_registered};
+use crate::server::{asked, groups, is_refused, is_registered, root};
 use ns_core::Core;
+use ns_types::good::GoodAsk;
 use ns_types::job::{JobKind, Registration};
+use ns_types::name::{Name, NameKind};
 use ns_types::refusal::Refusal;
 use ns_types::reply::{Content, Reply};
 use ns_types::rows::Rows;
@@ -18,19 +22,30 @@ use std::test::Fail;
 /// The number after that of the last job that has room.
 const END: u64 = 1001;
 
+/// The text as a job's id, or `none` where it can't be one.
+fn job_id(alloc: Global, text: &str) -> Result<Text, AllocError>
+    ensures { IfOk result (λ id. IsTrue (is_name NameKind.Job id)) }
+{
+    match Name::read(NameKind::Job, text) {
+        Some(id) => Text::from_str(alloc, id.as_str()),
+        None => Text::from_str(alloc, "none"),
+    }
+}
+
 /// A job whose id is the number.
-fn registration(alloc: Global, number: u64) -> Result<AskCommand, AllocError>
+fn registration(alloc: Global, number: u64) -> Result<GoodAsk, AllocError>
     ensures { IfOk result IsServedAsk }
 {
-    Ok(AskCommand::Register(Registration {
-        id: Text::from_string(format!(in alloc; "{number}")?),
+    let number = format!(in alloc; "{number}")?;
+    Ok(GoodAsk::new(AskCommand::Register(Registration {
+        id: job_id(alloc, number.as_str())?,
         kind: JobKind::Batch,
         priority: 50,
         pool: None,
         constraints: Rows::new(alloc),
-        groups: Rows::new(alloc),
+        groups: groups(alloc)?,
         enforced: None,
-    }))
+    })))
 }
 
 fn registers(
@@ -85,7 +100,7 @@ fn lists(
     namespace: &Text,
     index: u64,
 ) -> Result<bool, AllocError> {
-    let list = AskCommand::ListJobs(Text::from_str(alloc, "")?);
+    let list = GoodAsk::new(AskCommand::ListJobs(Text::from_str(alloc, "")?));
     let right = seen(asked(core, Some(root), namespace, &list), |answer| {
         is_list(answer, 1000, index)
     });
@@ -129,11 +144,11 @@ fn has_a_thousand_jobs(core: &mut Core, alloc: Global, root: &Text) -> Result<bo
 #[test]
 fn fills_jobs(rt: HostRuntime) -> Result<(), Fail> {
     let alloc = rt.alloc();
-    let root = Text::from_str(alloc, "root")?;
+    let root = root(alloc)?;
     assert!(rt;
         holds(
             Core::new(alloc, &root),
-            |core| has_a_thousand_jobs(core, alloc, &root)
+            |core| has_a_thousand_jobs(core, alloc, root.get())
         )?
     );
     Ok(())

@@ -1,10 +1,15 @@
 // Steps with ample memory, and with each growth refused in turn: a refused call is made again, and then answers.
-ghost use Rattle.std.specs.Prelude.{IfOk};
+ghost use Rattle.std.specs.Prelude.{◌≡◌, ◌∷◌, [], IfOk, IsTrue, codes};
+ghost use Rattle.ns_types.specs.declared.name.NameKind.TheVariants as NameKind;
+ghost use Rattle.ns_types.specs.State.Limits.{is_good_namespace, is_pool_name};
+ghost use Rattle.ns_types.specs.State.Name.{is_name};
 ghost use Rattle.ns_steps.specs.Served.{IsServedAsk};
 
 use crate::owned::{holds, repeated, seen};
 use ns_core::Core;
+use ns_types::good::{GoodAdmin, GoodAsk, GoodTelling};
 use ns_types::job::{Group, JobKind, Registration, Task};
+use ns_types::name::Secret;
 use ns_types::records::{Namespace, Pool, Quota};
 use ns_types::refusal::Refusal;
 use ns_types::reply::{Content, JobStatus, Reply};
@@ -15,7 +20,19 @@ use ns_types::text::Text;
 use std::alloc::{AllocError, Global};
 use std::rt::HostRuntime;
 
-fn tasks(alloc: Global) -> Result<Rows<Task>, AllocError> {
+/// The secret of the first token.
+pub(crate) fn root(alloc: Global) -> Result<Secret, AllocError> {
+    match Secret::read(alloc, "root")? {
+        Some(root) => Ok(root),
+        None => unreachable!(),
+    }
+}
+
+fn tasks(alloc: Global) -> Result<Rows<Task>, AllocError>
+    ensures { let size : Resources = record { cpu = 100; memory = 300 } in
+        let task : Task = record { name = codes "t"; resources = size } in
+        IfOk result (λ tasks. tasks ≡ task ∷ []) }
+{
     let mut tasks = Rows::new(alloc);
     tasks.push(Task {
         name: Text::from_str(alloc, "t")?,
@@ -27,7 +44,13 @@ fn tasks(alloc: Global) -> Result<Rows<Task>, AllocError> {
     Ok(tasks)
 }
 
-fn groups(alloc: Global) -> Result<Rows<Group>, AllocError> {
+/// One group of one task.
+pub(crate) fn groups(alloc: Global) -> Result<Rows<Group>, AllocError>
+    ensures { let size : Resources = record { cpu = 100; memory = 300 } in
+        let task : Task = record { name = codes "t"; resources = size } in
+        let group : Group = record { name = codes "g"; count = 1; tasks = task ∷ [] } in
+        IfOk result (λ groups. groups ≡ group ∷ []) }
+{
     let mut groups = Rows::new(alloc);
     groups.push(Group {
         name: Text::from_str(alloc, "g")?,
@@ -37,10 +60,10 @@ fn groups(alloc: Global) -> Result<Rows<Group>, AllocError> {
     Ok(groups)
 }
 
-fn registration(alloc: Global, enforced: Option<u64>) -> Result<AskCommand, AllocError>
+fn registration(alloc: Global, enforced: Option<u64>) -> Result<GoodAsk, AllocError>
     ensures { IfOk result IsServedAsk }
 {
-    Ok(AskCommand::Register(Registration {
+    Ok(GoodAsk::new(AskCommand::Register(Registration {
         id: Text::from_str(alloc, "web")?,
         kind: JobKind::Service,
         priority: 50,
@@ -48,7 +71,7 @@ fn registration(alloc: Global, enforced: Option<u64>) -> Result<AskCommand, Allo
         constraints: Rows::new(alloc),
         groups: groups(alloc)?,
         enforced,
-    }))
+    })))
 }
 
 /// The answer with ample memory: a call that was refused for memory is made again.
@@ -56,7 +79,7 @@ pub(crate) fn asked(
     core: &mut Core,
     secret: Option<&Text>,
     namespace: &Text,
-    command: &AskCommand,
+    command: &GoodAsk,
 ) -> Result<Reply, Refusal>
     requires { IsServedAsk command.now }
 {
@@ -104,7 +127,7 @@ pub(crate) fn is_refused(
     core: &mut Core,
     secret: Option<&Text>,
     namespace: &Text,
-    command: &AskCommand,
+    command: &GoodAsk,
     wanted: Refusal,
 ) -> bool
     requires { IsServedAsk command.now }
@@ -116,7 +139,7 @@ pub(crate) fn is_registered(
     core: &mut Core,
     secret: &Text,
     namespace: &Text,
-    command: &AskCommand,
+    command: &GoodAsk,
     wanted: (u64, u64, u64),
 ) -> bool
     requires { IsServedAsk command.now }
@@ -128,7 +151,7 @@ fn reads_pending(
     core: &mut Core,
     secret: &Text,
     namespace: &Text,
-    command: &AskCommand,
+    command: &GoodAsk,
     index: u64,
 ) -> bool
     requires { IsServedAsk command.now }
@@ -138,10 +161,10 @@ fn reads_pending(
     })
 }
 
-fn read(alloc: Global) -> Result<AskCommand, AllocError>
+fn read(alloc: Global) -> Result<GoodAsk, AllocError>
     ensures { IfOk result IsServedAsk }
 {
-    Ok(AskCommand::ReadJob(Text::from_str(alloc, "web")?))
+    Ok(GoodAsk::new(AskCommand::ReadJob(Text::from_str(alloc, "web")?)))
 }
 
 /// Whether a job that is new is registered once.
@@ -150,7 +173,7 @@ fn registers_new(
     alloc: Global,
     root: &Text,
     namespace: &Text,
-    read: &AskCommand,
+    read: &GoodAsk,
 ) -> Result<bool, AllocError>
     requires { IsServedAsk read.now }
 {
@@ -170,7 +193,7 @@ fn registers_any(
     root: &Text,
     other: &Text,
     namespace: &Text,
-    read: &AskCommand,
+    read: &GoodAsk,
 ) -> Result<bool, AllocError>
     requires { IsServedAsk read.now }
 {
@@ -188,7 +211,7 @@ fn answers_both(
     core: &mut Core,
     alloc: Global,
     root: &Text,
-    read: &AskCommand,
+    read: &GoodAsk,
 ) -> Result<bool, AllocError>
     requires { IsServedAsk read.now }
 {
@@ -209,9 +232,9 @@ fn answers_root(core: &mut Core, alloc: Global, root: &Text) -> Result<bool, All
 
 /// Whether each answer is the one that ample memory gives.
 fn answers(alloc: Global) -> Result<bool, AllocError> {
-    let root = Text::from_str(alloc, "root")?;
+    let root = root(alloc)?;
     holds(Core::new(alloc, &root), |core| {
-        answers_root(core, alloc, &root)
+        answers_root(core, alloc, root.get())
     })
 }
 
@@ -226,7 +249,7 @@ fn registers_and_reads(rt: HostRuntime) {
 }
 
 /// The answer with ample memory: a call that was refused for memory is made again.
-fn administered(core: &mut Core, secret: &Text, command: &AdminCommand) -> Result<Reply, Refusal> {
+fn administered(core: &mut Core, secret: &Text, command: &GoodAdmin) -> Result<Reply, Refusal> {
     repeated(core, |core| core.admin(Some(secret), command))
 }
 
@@ -237,18 +260,22 @@ fn is_written(answer: &Result<Reply, Refusal>) -> bool {
     }
 }
 
-fn writes(core: &mut Core, secret: &Text, command: &AdminCommand) -> bool {
+fn writes(core: &mut Core, secret: &Text, command: &GoodAdmin) -> bool {
     seen(administered(core, secret, command), is_written)
 }
 
-fn refuses(core: &mut Core, secret: &Text, command: &AdminCommand) -> bool {
+fn refuses(core: &mut Core, secret: &Text, command: &GoodAdmin) -> bool {
     seen(
         administered(core, secret, command),
         |answer| answer.is_err(),
     )
 }
 
-fn namespace_in(alloc: Global, pool: &Text, quota: &Text) -> Result<Namespace, AllocError> {
+fn namespace_in(alloc: Global, pool: &Text, quota: &Text) -> Result<Namespace, AllocError>
+    requires pool { IsTrue (is_pool_name pool.now) }
+    requires quota { IsTrue (is_name NameKind.Quota quota.now) }
+    ensures { IfOk result (λ namespace. IsTrue (is_good_namespace namespace)) }
+{
     Ok(Namespace {
         description: Text::from_str(alloc, "")?,
         quota: Some(quota.clone()?),
@@ -258,20 +285,24 @@ fn namespace_in(alloc: Global, pool: &Text, quota: &Text) -> Result<Namespace, A
     })
 }
 
-fn puts_pool(core: &mut Core, alloc: Global, root: &Text, east: &Text) -> Result<bool, AllocError> {
+fn puts_pool(core: &mut Core, alloc: Global, root: &Text, east: &Text) -> Result<bool, AllocError>
+    requires { IsTrue (is_pool_name east.now) }
+{
     let description = Text::from_str(alloc, "")?;
-    let pool = AdminCommand::PutPool(east.clone()?, Pool { description });
+    let pool = GoodAdmin::new(AdminCommand::PutPool(east.clone()?, Pool { description }));
     let writes = writes(core, root, &pool);
     drop(pool);
     Ok(writes)
 }
 
-fn puts_quota(core: &mut Core, alloc: Global, root: &Text, ta: &Text) -> Result<bool, AllocError> {
+fn puts_quota(core: &mut Core, alloc: Global, root: &Text, ta: &Text) -> Result<bool, AllocError>
+    requires { IsTrue (is_name NameKind.Quota ta.now) }
+{
     let quota = Quota {
         description: Text::from_str(alloc, "")?,
         limits: None,
     };
-    let quota = AdminCommand::PutQuota(ta.clone()?, quota);
+    let quota = GoodAdmin::new(AdminCommand::PutQuota(ta.clone()?, quota));
     let writes = writes(core, root, &quota);
     drop(quota);
     Ok(writes)
@@ -283,7 +314,10 @@ fn puts_parts(
     root: &Text,
     east: &Text,
     ta: &Text,
-) -> Result<bool, AllocError> {
+) -> Result<bool, AllocError>
+    requires pool { IsTrue (is_pool_name east.now) }
+    requires quota { IsTrue (is_name NameKind.Quota ta.now) }
+{
     Ok(puts_pool(core, alloc, root, east)? & puts_quota(core, alloc, root, ta)?)
 }
 
@@ -294,8 +328,13 @@ fn puts_namespace(
     root: &Text,
     east: &Text,
     ta: &Text,
-) -> Result<bool, AllocError> {
-    let namespace = AdminCommand::PutNamespace(ta.clone()?, namespace_in(alloc, east, ta)?);
+) -> Result<bool, AllocError>
+    requires pool { IsTrue (is_pool_name east.now) }
+    requires quota { IsTrue (is_name NameKind.Quota ta.now) }
+    requires named { IsTrue (is_name NameKind.Namespace ta.now) }
+{
+    let namespace = namespace_in(alloc, east, ta)?;
+    let namespace = GoodAdmin::new(AdminCommand::PutNamespace(ta.clone()?, namespace));
     let refuses = refuses(core, root, &namespace);
     let puts_parts = puts_parts(core, alloc, root, east, ta);
     let writes = writes(core, root, &namespace);
@@ -305,7 +344,7 @@ fn puts_namespace(
 
 /// Whether nobody deletes the pool, which is in use.
 fn keeps_pool(core: &mut Core, root: &Text, east: &Text, ta: &Text) -> Result<bool, AllocError> {
-    let delete = AdminCommand::DeletePool(east.clone()?);
+    let delete = GoodAdmin::new(AdminCommand::DeletePool(east.clone()?));
     let keeps = refuses(core, root, &delete) & refuses(core, ta, &delete);
     drop(delete);
     Ok(keeps)
@@ -319,11 +358,10 @@ fn has_pool(answer: &Result<Reply, Refusal>) -> bool {
 }
 
 fn reads_pool(core: &mut Core, root: &Text, east: &Text) -> bool {
-    let read = repeated(
-        core,
-        |core| core.node(east, Some(root), &NodeCommand::ReadPool),
-    );
-    seen(read, has_pool)
+    let read = GoodTelling::new(NodeCommand::ReadPool);
+    let reply = repeated(core, |core| core.node(east, Some(root), &read));
+    drop(read);
+    seen(reply, has_pool)
 }
 
 fn lays_out_tenant(core: &mut Core, alloc: Global, root: &Text) -> Result<bool, AllocError> {
@@ -336,9 +374,9 @@ fn lays_out_tenant(core: &mut Core, alloc: Global, root: &Text) -> Result<bool, 
 
 /// A pool, a quota and a namespace are put, and the pool is read.
 fn lays_out(alloc: Global) -> Result<bool, AllocError> {
-    let root = Text::from_str(alloc, "root")?;
+    let root = root(alloc)?;
     holds(Core::new(alloc, &root), |core| {
-        lays_out_tenant(core, alloc, &root)
+        lays_out_tenant(core, alloc, root.get())
     })
 }
 
