@@ -8,6 +8,7 @@ ghost use Rattle.ns_types.specs.State.Names.{Key, has_key};
 use crate::key_set::KeySet;
 use ns_types::key::EvalKey;
 use ns_types::rows::Rows;
+use ns_types::text::Text;
 use std::alloc::{AllocError, Global};
 use std::marker::Model;
 
@@ -86,10 +87,10 @@ impl KeyQueue {
     }
 
     /// Whether the key is among them: a look-up in the set.
-    pub fn has(&self, key: &EvalKey) -> bool
-        ensures { result ≡ has_key self.now.items key.now }
+    pub fn has(&self, namespace: &Text, number: u64) -> bool
+        ensures { result ≡ has_key self.now.items (namespace.now, number) }
     {
-        self.held.has(key.namespace(), key.number())
+        self.held.has(namespace, number)
     }
 
     /// Makes room for those keys. Want of memory is the only error.

@@ -1,5 +1,6 @@
 //! Tables by key, in plain sorted `Vec`s, which contracts see as finite maps from keys to slots.
-//! A slot has a row, or is vacant: room for a row, made before it is needed.
+//! A slot has a row, or is vacant: room for a row, made before it is needed. Sets of keys, and lists of keys that know which
+//! they have.
 #![tactic(auto)]
 
 mod key_queue;

@@ -9,7 +9,7 @@ ghost use Rattle.ns_world.specs.World.{pool_of, tenant_of, world_of};
 use crate::looking::DEFAULT;
 use crate::namespaces::new_tenant;
 use crate::pools::new_pool;
-use keyed::{NameTable, Series};
+use keyed::{KeyQueue, NameTable, Series};
 use ns_types::records::{Namespace, Pool};
 use ns_types::rows::Rows;
 use ns_types::text::Text;
@@ -58,8 +58,8 @@ pub fn opening(alloc: Global) -> Result<Tables, AllocError>
         tenants: single(alloc, &default, opening_tenant(alloc)?)?,
         pools: single(alloc, &default, opening_pool(alloc)?)?,
         quotas: NameTable::new(alloc),
-        ready: Series::new(alloc),
-        plans: Series::new(alloc),
-        blocked: Series::new(alloc),
+        ready: KeyQueue::new(alloc),
+        plans: KeyQueue::new(alloc),
+        blocked: KeyQueue::new(alloc),
     })
 }

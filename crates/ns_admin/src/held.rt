@@ -184,13 +184,13 @@ fn has_job_in(tenant: &TenantRows, asked: &Asked) -> bool
 fn has_open(tenant: &TenantRows) -> bool
     ensures { result ≡ has_open (tenant_of tenant.now) }
 {
-    any_unfinished(tenant.evaluations.as_slice())
+    any_unfinished(tenant.evaluations.rows().as_slice())
 }
 
 fn has_open_in(tenant: &TenantRows, asked: &Asked) -> bool
     ensures { result ≡ has_open_in (passes asked.now) (tenant_of tenant.now) }
 {
-    any_open_in(tenant.evaluations.as_slice(), asked)
+    any_open_in(tenant.evaluations.rows().as_slice(), asked)
 }
 
 fn has_kept_in(tenant: &TenantRows, asked: &Asked) -> bool

@@ -15,7 +15,7 @@ use ns_types::records::Namespace;
 use ns_types::refusal::{Member, Refusal};
 use ns_types::reply::Content;
 use ns_types::text::Text;
-use ns_world::{Tables, TenantRows};
+use ns_world::{EvaluationTable, Tables, TenantRows};
 use std::alloc::{AllocError, Global};
 
 /// Whether the namespace names a quota that is not there.
@@ -64,7 +64,7 @@ pub(crate) fn new_tenant(alloc: Global, namespace: Namespace) -> TenantRows
         evaluation_number: 0,
         allocation_number: 0,
         jobs: NameTable::new(alloc),
-        evaluations: NumberTable::new(alloc),
+        evaluations: EvaluationTable::new(alloc),
         allocations: NumberTable::new(alloc),
         workers: NumberTable::new(alloc),
         events: Series::new(alloc),

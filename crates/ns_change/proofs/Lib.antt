@@ -1,4 +1,5 @@
 pub mod Any
+pub mod Candidates
 pub mod Gone
 pub mod Listed
 pub mod Lost

@@ -19,7 +19,10 @@ use Rattle.ns_types.specs.Settling.Making.{change_tenant, put_tenant, with_statu
 use Rattle.ns_types.specs.State.Rows.{World, Tenant, is_blocked, is_pending}
 use Rattle.ns_types.specs.Working.Work.{blocked_of, cancel_blocked}
 use Rattle.ns_types.proofs.Lists.{not_both}
-use Rattle.ns_types.proofs.Named.{names, one_name, numbers, one_number}
+use Rattle.ns_types.proofs.Named.{first_of_both, names, one_name, numbers, one_number, same_name_is}
+use Rattle.ns_types.specs.declared.evaluation.Evaluation.{Evaluation}
+use Rattle.keyed.specs.Levels.{holds_number}
+use Rattle.ns_world.specs.Evaluations.{HasNumbersOf}
 use Rattle.ns_types.proofs.Tables.{each_row, insert_same, tied}
 use Rattle.ns_change.specs.declared.change.Change.{Change}
 use Rattle.ns_change.specs.declared.change.TenantChange.{TenantChange}
@@ -211,47 +214,55 @@ module _ {X : Type 0} (p : ℕ → X → Bool) where
   pub search_is : (m : FinMap nat_cmp (Option X)) → option_map (λ e. e.0) (find (at_slot (λ e. p e.0 e.1)) (entries m)) ≡ first p (rows m)
   search_is m = searched (entries m) ∙ ap (λ es. option_map (λ e. e.0) (find (λ e. p e.0 e.1) es)) (sym (entries-rows m))
 
-  module _ (c : FinMap nat_cmp (Option X)) where
-    abbrev pub unheld : ℕ → X → Bool
-    unheld k x = not (contains_key c k) && p k x
+-- ---- by the numbers of a job's rows
 
-    none : (b : Bool) → (b && false) ≡ false
-    none true = refl
-    none false = refl
+leads_alike : (a b : ℕ → Bool) → ((q : ℕ) → a q ≡ b q) → (r : Option ℕ) → Leads a r → Leads b r
+leads_alike a b e None h = λ q. sym (e q) ∙ h q
+leads_alike a b e (Some k) h = (sym (e k) ∙ h.0, λ q lt. sym (e q) ∙ h.1 q lt)
 
-    slot_alike : (slot : ℕ × Option X) → (not (contains_key c slot.0) && at_slot (λ e. p e.0 e.1) slot) ≡ at_slot (λ e. unheld e.0 e.1) slot
-    slot_alike (k, None) = none (not (contains_key c k))
-    slot_alike (k, Some x) = refl
+-- the first of numbers among which all are that pass
+pub numbered : (g : ℕ → Bool) (m : FinMap nat_cmp (Option Unit)) → ((q : ℕ) → g q ≡ true → is_some (get m q) ≡ true) →
+    Leads g (option_map (λ e. e.0) (find (λ e. g e.0) (entries m)))
+numbered g m covers = leads_alike (row_passes (λ k _. g k) m) g (λ q. by q (get m q) refl (g q) refl) _ (first_holds (λ k _. g k) m)
+  where
+    by : (q : ℕ) (r : Option (Option Unit)) → get m q ≡ r → (b : Bool) → g q ≡ b → option_map_or (λ _. g q) r false ≡ g q
+    by q (Some r) is b t = refl
+    by q None is true t = not_both (covers q t) (ap is_some is)
+    by q None is false t = sym t
 
-    pub search_left : (m : FinMap nat_cmp (Option X)) →
-        option_map (λ e. e.0) (find (λ slot. not (contains_key c slot.0) && at_slot (λ e. p e.0 e.1) slot) (entries m)) ≡ first unheld (rows m)
-    search_left m = ap (λ f. option_map (λ e. e.0) (find f (entries m))) (λ i slot. slot_alike slot i) ∙ searched_left (entries m) ∙
-        ap (λ es. option_map (λ e. e.0) (find (λ e. unheld e.0 e.1) es)) (sym (entries-rows m))
-      where
-        searched_left : (es : List (ℕ × Option X)) → option_map (λ e. e.0) (find (at_slot (λ e. unheld e.0 e.1)) es) ≡ option_map (λ e. e.0)
-            (find (λ e. unheld e.0 e.1) (row_list es))
-        searched_left [] = refl
-        searched_left ((k, None) ∷ es) = searched_left es
-        searched_left ((k, Some x) ∷ es) = elim (unheld k x) as
-            (λ b. option_map (λ e. e.0) (cond b (Some (k, Some x)) (find (at_slot (λ e. unheld e.0 e.1)) es)) ≡ option_map (λ e. e.0)
-            (cond b (Some (k, x)) (find (λ e. unheld e.0 e.1) (row_list es)))) [
-              | true ↦ refl
-              | false ↦ searched_left es
-            ]
+module _ (is : Status → Bool) (job : Name) (slots : FinMap nat_cmp (Option Evaluation)) (r : Option (FinMap nat_cmp (Option Unit)))
+    (covers : HasNumbersOf job slots r) where
+  abbrev has : ℕ → Bool
+  has q = option_map_or (λ m. holds_number m q) r false
 
-    unheld_is : (m : FinMap nat_cmp X) (q : ℕ) → row_passes unheld m q ≡ unheld_passes p m c q
-    unheld_is m q = by (get m q)
-      where
-        by : (r : Option X) → option_map_or (unheld q) r false ≡ (not (contains_key c q) && option_map_or (p q) r false)
-        by None = sym (none (not (contains_key c q)))
-        by (Some x) = refl
+  passing_has : (q : ℕ) → row_passes (of_job is job) (rows slots) q ≡ true → has q ≡ true
+  passing_has q passes = by (get (rows slots) q) refl passes
+    where
+      by : (r : Option Evaluation) → get (rows slots) q ≡ r → option_map_or (of_job is job q) r false ≡ true → has q ≡ true
+      by None g t = not_both t refl
+      by (Some e) g t = covers q e (sym (get-rows numbers slots q) ∙ g) (sym (same_name_is job e.job (first_of_both _ _ t)))
 
-    unheld_leads : (m : FinMap nat_cmp X) (r : Option ℕ) → IsFirst unheld m r → Leads (unheld_passes p m c) r
-    unheld_leads m None h = λ q. sym (unheld_is m q) ∙ h q
-    unheld_leads m (Some k) h = (sym (unheld_is m k) ∙ h.0, λ q lt. sym (unheld_is m q) ∙ h.1 q lt)
+-- what a table of numbers holds has its slot
+pub has_slot_of : (m : FinMap nat_cmp (Option Unit)) (q : ℕ) → holds_number m q ≡ true → is_some (get m q) ≡ true
+has_slot_of m q held = by (get m q) held
+  where
+    by : (r : Option (Option Unit)) → is_some (flat r) ≡ true → is_some r ≡ true
+    by None held = held
+    by (Some r) held = refl
 
-    pub first_searched : (m : FinMap nat_cmp X) → first p (over m c) ≡ lesser (first p (rows c)) (first unheld m)
-    first_searched m = first_over p m c (first unheld m) (unheld_leads m (first unheld m) (first_holds unheld m))
+module _ (is : Status → Bool) (job : Name) (slots : FinMap nat_cmp (Option Evaluation)) (g : ℕ → Bool)
+    (passing : (q : ℕ) → g q ≡ true → row_passes (of_job is job) (rows slots) q ≡ true) where
+  pub led_by : (m : FinMap nat_cmp (Option Unit)) (es : List (ℕ × Option Unit)) (r : Option ℕ) → HasNumbersOf job slots (Some m) → es ≡ entries m →
+      r ≡ option_map (λ e. e.0) (find (λ e. g e.0) es) → Leads g r
+  led_by m es r covers listed is_first = subst (Leads g) (sym (is_first ∙ ap (λ es. option_map (λ e. e.0) (find (λ e. g e.0) es)) listed))
+      (numbered g m (λ q t. has_slot_of m q (passing_has is job slots (Some m) covers q (passing q t))))
+
+  pub led_by_none : HasNumbersOf job slots None → Leads g None
+  led_by_none covers q = by (g q) refl
+    where
+      by : (b : Bool) → g q ≡ b → g q ≡ false
+      by true t = not_both (passing_has is job slots None covers q (passing q t)) refl
+      by false t = t
 
 -- ---- in the tables with a change over them
 
@@ -263,17 +274,16 @@ module _ (t : Tables) (c : Change) (ns job : Name) (wanted : Status) where
   pub nowhere : row_at t.tenants ns ≡ None → None ≡ first_there (get (view t c).tenants ns)
   nowhere is = sym (ap first_there (none_seen t c ns is))
 
-  pub in_kept : (x : TenantRows) → row_at t.tenants ns ≡ Some x → row_at c.tenants ns ≡ None →
-      option_map (λ e. e.0) (find (at_slot (standing wanted job)) (entries x.evaluations)) ≡ first_there (get (view t c).tenants ns)
-  in_kept x is none = search_is (of_job (stands wanted) job) x.evaluations ∙ sym (ap first_there (kept_seen t c ns x is none))
+  pub in_kept : (x : TenantRows) (r : Option ℕ) → row_at t.tenants ns ≡ Some x → row_at c.tenants ns ≡ None →
+      Leads (row_passes (of_job (stands wanted) job) (rows x.evaluations.slots)) r → r ≡ first_there (get (view t c).tenants ns)
+  in_kept x r is none leads = sym (first_is (of_job (stands wanted) job) (rows x.evaluations.slots) r leads)
+      ∙ sym (ap first_there (kept_seen t c ns x is none))
 
-  pub in_changed : (x : TenantRows) (y : TenantChange) → row_at t.tenants ns ≡ Some x → row_at c.tenants ns ≡ Some y
-      → lesser (option_map (λ e. e.0) (find (at_slot (standing wanted job)) (entries y.evaluations)))
-      (option_map (λ e. e.0) (find (λ slot. not (contains_key y.evaluations slot.0) && at_slot (standing wanted job) slot) (entries x.evaluations)))
-      ≡ first_there (get (view t c).tenants ns)
-  in_changed x y is some = (λ i. lesser (search_is (of_job (stands wanted) job) y.evaluations i)
-      (search_left (of_job (stands wanted) job) y.evaluations x.evaluations i))
-      ∙ sym (first_searched (of_job (stands wanted) job) y.evaluations (rows x.evaluations)) ∙ sym (ap first_there (changed_seen t c ns x y is some))
+  pub in_changed : (x : TenantRows) (y : TenantChange) (r : Option ℕ) → row_at t.tenants ns ≡ Some x → row_at c.tenants ns ≡ Some y →
+      Leads (unheld_passes (of_job (stands wanted) job) (rows x.evaluations.slots) y.evaluations) r
+      → lesser (option_map (λ e. e.0) (find (at_slot (standing wanted job)) (entries y.evaluations))) r ≡ first_there (get (view t c).tenants ns)
+  in_changed x y r is some leads = ap (λ o. lesser o r) (search_is (of_job (stands wanted) job) y.evaluations)
+      ∙ sym (first_over (of_job (stands wanted) job) (rows x.evaluations.slots) y.evaluations r leads) ∙ sym (ap first_there (changed_seen t c ns x y is some))
 
 -- ---- what is done with it
 

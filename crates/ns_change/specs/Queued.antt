@@ -33,6 +33,10 @@ first_slot passes slots = option_map (λ e. e.0) (find passes slots)
 abbrev pub is_of : Tables → Change → Name → Name → Key → Bool
 is_of t c ns job key = is_of_job (view t c) ns job key
 
+-- the evaluation of that number stays in the list, and is of the job
+abbrev pub is_left_in : Tables → Change → List Key → List Key → Name → Name → ℕ → Bool
+is_left_in t c base taken ns job n = has_key base (ns, n) && (not (has_key taken (ns, n)) && is_of t c ns job (ns, n))
+
 -- a worker of the namespace has one of the job
 abbrev pub works_on : Tables → Change → Name → Name → ℕ × Option Worker → Bool
 works_on t c ns job slot = at_slot (λ e. is_of t c ns job (ns, e.1.evaluation)) slot

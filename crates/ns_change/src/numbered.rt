@@ -49,7 +49,7 @@ impl NumberedRow for Evaluation {
     ghost put_in = { put_evaluation };
 
     fn stored(tenant: &TenantRows) -> &NumberTable<Evaluation> {
-        &tenant.evaluations
+        tenant.evaluations.rows()
     }
 
     fn changed(change: &TenantChange) -> &NumberTable<Evaluation> {

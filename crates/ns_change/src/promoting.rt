@@ -1,12 +1,13 @@
 //! The first evaluation of a job that waits, and the one that is blocked.
 
-ghost use Rattle.std.specs.Prelude.{◌≡◌};
-ghost use Rattle.keyed.specs.Table.{at_slot};
+ghost use Rattle.std.specs.Prelude.{◌≡◌, ◌&&◌};
+ghost use Rattle.keyed.specs.Table.{at_slot, rows};
+ghost use Rattle.ns_types.specs.State.Names.{same_name};
 ghost use Rattle.ns_types.specs.Working.Queue.{promote};
 ghost use Rattle.ns_types.specs.Working.Work.{cancel_blocked};
 ghost use Rattle.ns_change.specs.Changed.{Does, DoesIn, view};
-ghost use Rattle.ns_change.specs.Queued.{first_of_job, first_slot, is_left};
-ghost use Rattle.ns_change.specs.Waiting.{lesser, stands, standing};
+ghost use Rattle.ns_change.specs.Queued.{first_of_job, first_slot};
+ghost use Rattle.ns_change.specs.Waiting.{Leads, lesser, of_job, row_passes, stands, standing, unheld_passes};
 
 use crate::change::Change;
 use crate::editing::set_status;
@@ -16,7 +17,7 @@ use ns_alike::same_text;
 use ns_types::evaluation::{Evaluation, Status};
 use ns_types::key::EvalKey;
 use ns_types::text::Text;
-use ns_world::Tables;
+use ns_world::{Tables, TenantRows};
 use std::alloc::AllocError;
 
 /// An evaluation with its number, or a vacant slot.
@@ -32,11 +33,17 @@ fn stands(wanted: Status, status: Status) -> bool
     }
 }
 
+fn is_row_of(row: &Evaluation, job: &Text, wanted: Status) -> bool
+    ensures { result ≡ (same_name job.now row.now.job && stands wanted row.now.status) }
+{
+    same_text(job, &row.job) && stands(wanted, row.status)
+}
+
 fn is_of(slot: &EvaluationSlot, job: &Text, wanted: Status) -> bool
     ensures { result ≡ at_slot (standing wanted job.now) slot.now }
 {
     match &slot.1 {
-        Some(evaluation) => same_text(job, &evaluation.job) && stands(wanted, evaluation.status),
+        Some(evaluation) => is_row_of(evaluation, job, wanted),
         None => false,
     }
 }
@@ -50,20 +57,77 @@ fn first_in(slots: &[EvaluationSlot], job: &Text, wanted: Status) -> Option<u64>
         .map(|slot| slot.0)
 }
 
+/// Whether the row of that number, as it was before the step, is of the job and stands so.
+fn is_stored(tenant: &TenantRows, job: &Text, wanted: Status, number: u64) -> bool
+    ensures { result ≡ row_passes (of_job (stands wanted) job.now)
+        (rows tenant.now.evaluations.slots) number }
+{
+    match tenant.evaluations.rows().get(number) {
+        Some(evaluation) => is_row_of(evaluation, job, wanted),
+        None => false,
+    }
+}
+
+/// A number, or a vacant slot.
+type NumberSlot = (u64, Option<()>);
+
+fn first_numbered(
+    tenant: &TenantRows,
+    job: &Text,
+    wanted: Status,
+    slots: &[NumberSlot],
+) -> Option<u64>
+    ensures { result ≡ first_slot (λ slot. row_passes (of_job (stands wanted) job.now)
+        (rows tenant.now.evaluations.slots) slot.0) slots.now }
+{
+    slots
+        .iter()
+        .find(|slot| is_stored(tenant, job, wanted, slot.0))
+        .map(|slot| slot.0)
+}
+
 /// Of those that are not changed the first.
+fn first_unchanged(
+    tenant: &TenantRows,
+    changed: &NumberTable<Evaluation>,
+    job: &Text,
+    wanted: Status,
+    slots: &[NumberSlot],
+) -> Option<u64>
+    ensures { result ≡ first_slot (λ slot. unheld_passes (of_job (stands wanted) job.now)
+        (rows tenant.now.evaluations.slots) changed.now slot.0) slots.now }
+{
+    slots
+        .iter()
+        .find(|slot| !changed.has_slot(slot.0) && is_stored(tenant, job, wanted, slot.0))
+        .map(|slot| slot.0)
+}
+
+/// The job's first before the step: only the job's own numbers are looked up.
+fn first_before(tenant: &TenantRows, job: &Text, wanted: Status) -> Option<u64>
+    ensures { Leads (row_passes (of_job (stands wanted) job.now)
+        (rows tenant.now.evaluations.slots)) result }
+{
+    match tenant.evaluations.numbers_of(job) {
+        Some(numbers) => first_numbered(tenant, job, wanted, numbers.as_slice()),
+        None => None,
+    }
+}
+
+/// The job's first before the step of those that are not changed.
 fn first_left(
-    slots: &[EvaluationSlot],
+    tenant: &TenantRows,
     changed: &NumberTable<Evaluation>,
     job: &Text,
     wanted: Status,
 ) -> Option<u64>
-    ensures { result
-        ≡ first_slot (is_left changed.now (at_slot (standing wanted job.now))) slots.now }
+    ensures { Leads (unheld_passes (of_job (stands wanted) job.now)
+        (rows tenant.now.evaluations.slots) changed.now) result }
 {
-    slots
-        .iter()
-        .find(|slot| !changed.has_slot(slot.0) && is_of(slot, job, wanted))
-        .map(|slot| slot.0)
+    match tenant.evaluations.numbers_of(job) {
+        Some(numbers) => first_unchanged(tenant, changed, job, wanted, numbers.as_slice()),
+        None => None,
+    }
 }
 
 fn lesser(a: Option<u64>, b: Option<u64>) -> Option<u64>
@@ -89,13 +153,12 @@ fn first_of_job(
     let Some(tenant) = tables.tenants.get(namespace) else {
         return None;
     };
-    let slots = tenant.evaluations.as_slice();
     let Some(changed) = change.tenants.get(namespace) else {
-        return first_in(slots, job, wanted);
+        return first_before(tenant, job, wanted);
     };
     lesser(
         first_in(changed.evaluations.as_slice(), job, wanted),
-        first_left(slots, &changed.evaluations, job, wanted),
+        first_left(tenant, &changed.evaluations, job, wanted),
     )
 }
 

@@ -1,24 +1,27 @@
 //! The queue after a change, and whom a step wakes.
 
-ghost use Rattle.std.specs.Prelude.{◌≡◌, OnOk};
+ghost use Rattle.std.specs.Prelude.{◌≡◌, ℕ, IsTrue, OnOk, Some};
+ghost use Rattle.keyed.specs.Table.{row_at};
+ghost use Rattle.ns_types.specs.declared.evaluation.Evaluation.{Evaluation};
 ghost use Rattle.std.specs.List.{list_any};
+ghost use Rattle.ns_types.specs.State.Names.{has_key};
 ghost use Rattle.ns_types.specs.Settling.Making.{make};
 ghost use Rattle.ns_types.specs.Settling.Settle.{wake};
 ghost use Rattle.ns_types.specs.Working.Queue.{is_busy, queue};
 ghost use Rattle.ns_change.specs.Changed.{Does, HasEvaluationLeft, changed_list, view};
-ghost use Rattle.ns_change.specs.Queued.{TakesOut, any_left, is_left, is_of, is_worked_on, works_on};
+ghost use Rattle.ns_change.specs.Queued.{TakesOut, any_left, is_left, is_left_in, is_of, is_worked_on, works_on};
 
 use crate::change::{Change, ListChange};
 use crate::editing::{open, set_status};
 use crate::looking::evaluation;
-use keyed::NumberTable;
-use ns_alike::{has_key, same_text};
+use keyed::{KeyQueue, NumberTable};
+use ns_alike::{has_key, same_number, same_text};
 use ns_types::evaluation::{Evaluation, Status};
 use ns_types::key::EvalKey;
 use ns_types::rows::Rows;
 use ns_types::text::Text;
 use ns_types::worker::Worker;
-use ns_world::Tables;
+use ns_world::{Tables, TenantRows};
 use std::alloc::{AllocError, Global};
 
 /// Whether that evaluation is of the job.
@@ -41,21 +44,94 @@ fn is_of_job(
     }
 }
 
-/// Whether one of the keys that stay is of the job.
-fn is_among_left(
+/// Whether the evaluation of that number is among the keys.
+fn has_number(keys: &[EvalKey], namespace: &Text, number: u64) -> bool
+    ensures { result ≡ has_key keys.now (namespace.now, number) }
+{
+    keys.iter().any(|key| same_text(namespace, key.namespace())
+        && same_number(number, key.number()))
+}
+
+/// Whether the evaluation of that number stays in the list, and is of the job.
+fn is_left(
     tables: &Tables,
     change: &Change,
-    base: &[EvalKey],
+    base: &KeyQueue,
+    taken: &[EvalKey],
+    namespace: &Text,
+    job: &Text,
+    number: u64,
+) -> bool
+    ensures { result ≡ is_left_in tables.now change.now base.now.items taken.now namespace.now
+        job.now number }
+{
+    base.has(namespace, number)
+        && !has_number(taken, namespace, number)
+        && is_of_job(tables, change, namespace, job, namespace, number)
+}
+
+/// Whether one of those numbers stays in the list, and is of the job.
+fn is_among_left<T>(
+    tables: &Tables,
+    change: &Change,
+    base: &KeyQueue,
+    taken: &[EvalKey],
+    namespace: &Text,
+    job: &Text,
+    slots: &[(u64, Option<T>)],
+) -> bool
+    ensures { result ≡ list_any (λ slot. is_left_in tables.now change.now base.now.items taken.now
+        namespace.now job.now slot.0) slots.now }
+{
+    slots.iter().any(|slot| is_left(tables, change, base, taken, namespace, job, slot.0))
+}
+
+/// Whether one of the job's numbers in the namespace's table stays in the list.
+fn any_stored_left(
+    tables: &Tables,
+    change: &Change,
+    base: &KeyQueue,
+    taken: &[EvalKey],
+    namespace: &Text,
+    job: &Text,
+    tenant: &TenantRows,
+) -> bool
+    ensures sound { IsTrue result → IsTrue (
+        any_left (is_of tables.now change.now namespace.now job.now) taken.now base.now.items) }
+    ensures complete { (n : ℕ) (e : Evaluation) → row_at tenant.now.evaluations.slots n ≡ Some e
+        → e.job ≡ job.now → IsTrue (is_left_in tables.now change.now base.now.items taken.now
+        namespace.now job.now n) → IsTrue result }
+{
+    match tenant.evaluations.numbers_of(job) {
+        Some(numbers) => {
+            let slots = numbers.as_slice();
+            is_among_left(tables, change, base, taken, namespace, job, slots)
+        }
+        None => false,
+    }
+}
+
+/// Whether one of the keys that stay is of the job. Only the job's own evaluations are looked up, and those that change.
+fn any_left(
+    tables: &Tables,
+    change: &Change,
+    base: &KeyQueue,
     taken: &[EvalKey],
     namespace: &Text,
     job: &Text,
 ) -> bool
     ensures { result
-        ≡ any_left (is_of tables.now change.now namespace.now job.now) taken.now base.now }
+        ≡ any_left (is_of tables.now change.now namespace.now job.now) taken.now base.now.items }
 {
-    base.iter().any(|key| {
-        !has_key(taken, key) && is_key_of_job(tables, change, namespace, job, key)
-    })
+    let Some(tenant) = tables.tenants.get(namespace) else {
+        return false;
+    };
+    let among_stored = any_stored_left(tables, change, base, taken, namespace, job, tenant);
+    let Some(changed) = change.tenants.get(namespace) else {
+        return among_stored;
+    };
+    let slots = changed.evaluations.as_slice();
+    among_stored || is_among_left(tables, change, base, taken, namespace, job, slots)
 }
 
 fn is_key_of_job(
@@ -94,15 +170,15 @@ fn is_among(
 fn is_listed(
     tables: &Tables,
     change: &Change,
-    base: &[EvalKey],
+    base: &KeyQueue,
     list: &ListChange,
     namespace: &Text,
     job: &Text,
 ) -> bool
     ensures { result ≡ list_any (is_of tables.now change.now namespace.now job.now)
-        (changed_list base.now list.now) }
+        (changed_list base.now.items list.now) }
 {
-    is_among_left(tables, change, base, list.taken.as_slice(), namespace, job)
+    any_left(tables, change, base, list.taken.as_slice(), namespace, job)
         || is_among(tables, change, list.added.as_slice(), namespace, job)
 }
 
@@ -174,14 +250,8 @@ fn is_worked_on(tables: &Tables, change: &Change, namespace: &Text, job: &Text) 
 pub(crate) fn is_busy(tables: &Tables, change: &Change, namespace: &Text, job: &Text) -> bool
     ensures { result ≡ is_busy (view tables.now change.now) namespace.now job.now }
 {
-    is_listed(
-        tables,
-        change,
-        tables.ready.as_slice(),
-        &change.ready,
-        namespace,
-        job,
-    ) || is_worked_on(tables, change, namespace, job)
+    is_listed(tables, change, &tables.ready, &change.ready, namespace, job)
+        || is_worked_on(tables, change, namespace, job)
 }
 
 /// The evaluation is ready, or it waits for another one of its job.

@@ -23,9 +23,17 @@ use Rattle.ns_types.proofs.Lists.{not_both}
 use Rattle.ns_steps.specs.Served.{IsServed, IsServedAsk, IsServedNode, IsToldBy, is_reading, only_reads, served_admin, served_ask, served_node}
 use Rattle.ns_steps.specs.Told.{Holds, Shape}
 use Rattle.ns_types.proofs.Tests.{same_Some}
-use Rattle.ns_steps.proofs.Administering.{is_of_step}
 use Rattle.ns_types.proofs.Settling.{settle_same}
-use Rattle.ns_steps.proofs.Steps.{told}
+
+-- a refusal of a step that is enabled: of the state, and not of memory
+abbrev is_of_step : Refusal → Bool
+is_of_step Refusal.NotEnabled = false
+is_of_step Refusal.Memory = false
+is_of_step _ = true
+
+abbrev told : Reply → Answer → Reply
+told other (Ok reply) = reply
+told other (Err refusal) = other
 
 -- ---- lines of the table
 

@@ -3,6 +3,8 @@
 //! these tables; they are written in one place alone, where a settled change is committed.
 #![tactic(auto)]
 
+mod evaluations;
 mod tables;
 
+pub use evaluations::EvaluationTable;
 pub use tables::{PoolRows, QuotaRows, Tables, TenantRows};

@@ -5,12 +5,12 @@ ghost use Rattle.std.specs.FinMap.{contains_key};
 ghost use Rattle.ns_types.specs.State.Rows.{evaluation_at};
 ghost use Rattle.ns_world.specs.World.{world_of};
 
-use keyed::{NameTable, NumberTable, Series};
+use crate::evaluations::EvaluationTable;
+use keyed::{KeyQueue, NameTable, NumberTable, Series};
 use ns_types::allocation::Allocation;
 use ns_types::evaluation::Evaluation;
 use ns_types::event::Event;
 use ns_types::job::Job;
-use ns_types::key::EvalKey;
 use ns_types::node::{Class, Node};
 use ns_types::records::{Namespace, Pool, Quota};
 use ns_types::text::Text;
@@ -26,7 +26,7 @@ pub struct TenantRows {
     pub evaluation_number: u64,
     pub allocation_number: u64,
     pub jobs: NameTable<Job>,
-    pub evaluations: NumberTable<Evaluation>,
+    pub evaluations: EvaluationTable,
     pub allocations: NumberTable<Allocation>,
     /// Those that are busy for it.
     pub workers: NumberTable<Worker>,
@@ -60,9 +60,9 @@ pub struct Tables {
     pub tenants: NameTable<TenantRows>,
     pub pools: NameTable<PoolRows>,
     pub quotas: NameTable<QuotaRows>,
-    pub ready: Series<EvalKey>,
-    pub plans: Series<EvalKey>,
-    pub blocked: Series<EvalKey>,
+    pub ready: KeyQueue,
+    pub plans: KeyQueue,
+    pub blocked: KeyQueue,
 }
 
 impl Tables {
@@ -70,7 +70,7 @@ impl Tables {
         ensures { option_copied result ≡ evaluation_at (world_of self.now) (namespace.now, number) }
     {
         match self.tenants.get(namespace) {
-            Some(tenant) => tenant.evaluations.get(number),
+            Some(tenant) => tenant.evaluations.rows().get(number),
             None => None,
         }
     }

@@ -1,7 +1,6 @@
-use Rattle.std.proofs.Common.{ap, sym, ◌∙◌, not}
+use Rattle.std.proofs.Common.{ap, sym, ◌∙◌}
 use Rattle.std.specs.Option.{option_copied}
-use Rattle.std.specs.Prelude.{◌&&◌, find, option_map}
-use Rattle.std.specs.FinMap.{contains_key}
+use Rattle.std.specs.Prelude.{find, option_map}
 use Rattle.keyed.specs.Table.{at_slot}
 use Rattle.ns_change.specs.Waiting.{lesser, standing}
 use Rattle.ns_change.proofs.Waiting.{in_changed, in_kept, nowhere}
@@ -12,17 +11,14 @@ returns-in_default c = nowhere c.args.tables.now c.args.change.now c.args.namesp
     (sym c.get.ensures ∙ ap option_copied c.in_default.is)
 
 pub returns-in_default-get : goal.returns-in_default-get
-returns-in_default-get c = c.first_in.ensures ∙ ap (λ es. option_map (λ e. e.0) (find (at_slot (standing c.args.wanted c.args.job.now)) es))
-    c.as_slice-slots.ensures
-    ∙ in_kept c.args.tables.now c.args.change.now c.args.namespace.now c.args.job.now c.args.wanted c.in-Some.tenant.now
-    (sym c.get.ensures ∙ ap option_copied c.in-Some.is) (sym c.get-2.ensures ∙ ap option_copied c.in_default-get.is)
+returns-in_default-get c = in_kept c.args.tables.now c.args.change.now c.args.namespace.now c.args.job.now c.args.wanted c.in-Some.tenant.now
+    c.first_before.result (sym c.get.ensures ∙ ap option_copied c.in-Some.is) (sym c.get-2.ensures ∙ ap option_copied c.in_default-get.is)
+    c.first_before.ensures
 
 pub returns : goal.returns
 returns c = c.lesser.ensures
-    ∙ (λ i. lesser
-    ((c.first_in-2.ensures ∙ ap (λ es. option_map (λ e. e.0) (find (at_slot (standing c.args.wanted c.args.job.now)) es)) c.as_slice.ensures) i)
-    ((c.first_left.ensures ∙ ap (λ es. option_map (λ e. e.0)
-    (find (λ slot. not (contains_key c.in-Some-get.changed.now.evaluations slot.0) && at_slot (standing c.args.wanted c.args.job.now) slot) es))
-    c.as_slice-slots.ensures) i))
+    ∙ ap (λ o. lesser o c.first_left.result)
+    (c.first_in.ensures ∙ ap (λ es. option_map (λ e. e.0) (find (at_slot (standing c.args.wanted c.args.job.now)) es)) c.as_slice.ensures)
     ∙ in_changed c.args.tables.now c.args.change.now c.args.namespace.now c.args.job.now c.args.wanted c.in-Some.tenant.now c.in-Some-get.changed.now
-    (sym c.get.ensures ∙ ap option_copied c.in-Some.is) (sym c.get-2.ensures ∙ ap option_copied c.in-Some-get.is)
+    c.first_left.result (sym c.get.ensures ∙ ap option_copied c.in-Some.is) (sym c.get-2.ensures ∙ ap option_copied c.in-Some-get.is)
+    c.first_left.ensures

@@ -8,17 +8,17 @@ use Rattle.ns_change.proofs.Listed.{any_listed}
 use Rattle.ns_change.proofs.Any.{or_else, or_then}
 use Rattle.ns_change.proofs.queueing.is_listed.Goals as goal
 
-pub returns-then-is_among_left : goal.returns-then-is_among_left
-returns-then-is_among_left c =
+pub returns-then-any_left : goal.returns-then-any_left
+returns-then-any_left c =
     let f = is_of_job (view c.args.tables.now c.args.change.now) c.args.namespace.now c.args.job.now in
-    or_then _ _ (list_any f c.args.list.now.added) c.if-is_among_left.true
-    (c.is_among_left.ensures ∙ ap (λ taken. list_any (λ key. not (has_key taken key) && f key) c.args.base.now) c.as_slice.ensures)
-    ∙ sym (any_listed f c.args.base.now c.args.list.now)
+    or_then _ _ (list_any f c.args.list.now.added) c.if-any_left.true
+    (c.any_left.ensures ∙ ap (λ taken. list_any (λ key. not (has_key taken key) && f key) c.args.base.now.items) c.as_slice.ensures)
+    ∙ sym (any_listed f c.args.base.now.items c.args.list.now)
 
-pub returns-else-is_among_left : goal.returns-else-is_among_left
-returns-else-is_among_left c =
+pub returns-else-any_left : goal.returns-else-any_left
+returns-else-any_left c =
     let f = is_of_job (view c.args.tables.now c.args.change.now) c.args.namespace.now c.args.job.now in
-    or_else _ _ _ _ c.if-is_among_left.false (c.is_among_left.ensures ∙ ap (λ taken. list_any (λ key. not (has_key taken key) && f key) c.args.base.now)
+    or_else _ _ _ _ c.if-any_left.false (c.any_left.ensures ∙ ap (λ taken. list_any (λ key. not (has_key taken key) && f key) c.args.base.now.items)
     c.as_slice.ensures)
-    (c.is_among.ensures ∙ ap (list_any f) c.as_slice-else-is_among_left.ensures)
-    ∙ sym (any_listed f c.args.base.now c.args.list.now)
+    (c.is_among.ensures ∙ ap (list_any f) c.as_slice-else-any_left.ensures)
+    ∙ sym (any_listed f c.args.base.now.items c.args.list.now)

@@ -1,0 +1,149 @@
+-- Evaluations by number and the numbers of each job.
+use Rattle.std.specs.Prelude.{◌≡◌, ℕ, true, false, Bool, cond, ◌||◌, IsTrue, List, [], ◌∷◌, Option, Some, None, is_some, unwrap_or}
+use Rattle.std.specs.Prelude.{Result, Ok, Err, OnOk}
+use Rattle.std.proofs.Common.{refl, sym, ap, subst, ◌∙◌}
+use Rattle.std.specs.Ordering.{eq_by_cmp, nat_cmp}
+use Rattle.std.specs.Option.{option_map_or}
+use Rattle.std.specs.FinMap.{FinMap, contains_key, empty, entries, get, get-empty, get-entries}
+use Rattle.std.specs.FinMap.Entries.{find}
+use Rattle.keyed.proofs.Over.{get-over}
+use Rattle.keyed.proofs.Tables.{get-rows}
+use Rattle.keyed.specs.Levels.{Adds, Keeps, holds_key, holds_number, has_key_room}
+use Rattle.keyed.specs.Over.{over}
+use Rattle.keyed.specs.Table.{flat, row_at, rows}
+use Rattle.keyed.specs.declared.key_set.KeySet.{KeySet}
+use Rattle.ns_types.proofs.Lists.{each_map, not_both}
+use Rattle.ns_types.proofs.Named.{numbers, one_number, same_key_refl}
+use Rattle.ns_types.proofs.Tables.{each_row, tied}
+use Rattle.ns_types.specs.State.Lists.{Each}
+use Rattle.ns_types.specs.State.Names.{ByNumber, Key, Name, same_key, same_number}
+use Rattle.ns_types.specs.declared.evaluation.Evaluation.{Evaluation}
+use Rattle.ns_world.specs.Evaluations.{HasJobRoom, HasNumbersOf, IsIndexOf}
+
+-- ---- what a set says of each slot, one after another
+
+module _ (says : KeySet → Key → Bool) where
+  abbrev pub Grows : KeySet → KeySet → Type 0
+  Grows a b = (key : Key) → IsTrue (says a key) → IsTrue (says b key)
+
+  abbrev pub SaysOf : KeySet → ℕ × Option Evaluation → Type 0
+  SaysOf set slot = (e : Evaluation) → slot.1 ≡ Some e → IsTrue (says set (e.job, slot.0))
+
+  -- it is said of the slots before `rest`
+  abbrev pub Done : KeySet → List (ℕ × Option Evaluation) → List (ℕ × Option Evaluation) → Type 0
+  Done set rest slots = (later : KeySet) → Grows set later → Each (SaysOf later) rest → Each (SaysOf later) slots
+
+  pub done_next : (set new : KeySet) (slot : ℕ × Option Evaluation) (rest left slots : List (ℕ × Option Evaluation)) → rest ≡ slot ∷ left →
+      Grows set new → SaysOf new slot → Done set rest slots → Done new left slots
+  done_next set new slot rest left slots steps grows here done later g all = done later (λ key t. g key (grows key t))
+      (subst (Each (SaysOf later)) (sym steps) (λ e is. g (e.job, slot.0) (here e is), all))
+
+  pub done_all : (set : KeySet) (rest slots : List (ℕ × Option Evaluation)) → rest ≡ [] → Done set rest slots → Each (SaysOf set) slots
+  done_all set rest slots none done = done set (λ key t. t) (subst (Each (SaysOf set)) (sym none) tt)
+
+each_found : {X : Type 0} (P : ℕ × X → Type 0) (es : List (ℕ × X)) → Each P es → (k : ℕ) (x : X) → find nat_cmp k es ≡ Some x → P (k, x)
+each_found P [] all k x is = not_both (ap is_some is) refl
+each_found {X = X} P (e ∷ es) all k x is = by (each_found P es all.1 k x) (same_number k e.0) refl is
+  where
+    by : (find nat_cmp k es ≡ Some x → P (k, x)) → (b : Bool) → same_number k e.0 ≡ b → cond b (Some e.1) (find nat_cmp k es) ≡ Some x → P (k, x)
+    by later true t is = subst P (λ i. (sym (tied one_number k e.0 t) i, option_map_or (λ (y : X). y) (is i) e.1)) all.0
+    by later false t is = later is
+
+-- what is said of each slot is said of each row
+pub said_at : (says : KeySet → Key → Bool) (set : KeySet) (changes : ByNumber (Option Evaluation)) (slots : List (ℕ × Option Evaluation)) →
+    slots ≡ entries changes → Each (SaysOf says set) slots → (n : ℕ) (e : Evaluation) → row_at changes n ≡ Some e → IsTrue (says set (e.job, n))
+said_at says set changes slots is all n e row = by (get changes n) refl row
+  where
+    by : (r : Option (Option Evaluation)) → get changes n ≡ r → flat r ≡ Some e → IsTrue (says set (e.job, n))
+    by None g row = not_both (ap is_some row) refl
+    by (Some slot) g row = each_found (SaysOf says set) (entries changes) (subst (Each (SaysOf says set)) is all) n slot
+        (sym (get-entries changes n) ∙ g) e row
+
+-- what is said of each row is said of each slot
+pub said_each : (says : KeySet → Key → Bool) (set : KeySet) (changes : ByNumber (Option Evaluation)) (slots : List (ℕ × Option Evaluation)) →
+    slots ≡ entries changes → ((n : ℕ) (e : Evaluation) → row_at changes n ≡ Some e → IsTrue (says set (e.job, n))) → Each (SaysOf says set) slots
+said_each says set changes slots is all = subst (Each (SaysOf says set)) (sym is)
+    (each_row numbers one_number (λ n slot. (e : Evaluation) → slot ≡ Some e → IsTrue (says set (e.job, n))) changes
+    (λ n slot g e row. all n e (ap flat g ∙ row)))
+
+-- a vacant slot says nothing
+pub vacant_says : (says : KeySet → Key → Bool) (set : KeySet) (slot : ℕ × Option Evaluation) → slot.1 ≡ None → SaysOf says set slot
+vacant_says says set slot none e is = not_both (ap is_some is) (ap is_some none)
+
+-- a row says what is said of its key
+pub row_says : (says : KeySet → Key → Bool) (set : KeySet) (slot : ℕ × Option Evaluation) (row : Evaluation) → slot.1 ≡ Some row →
+    IsTrue (says set (row.job, slot.0)) → SaysOf says set slot
+row_says says set slot row is said e same = subst (λ (x : Evaluation). IsTrue (says set (x.job, slot.0)))
+    (λ i. option_map_or (λ (y : Evaluation). y) ((sym is ∙ same) i) row) said
+
+-- ---- the loops, slot by slot
+
+abbrev pub IsReservingJobs : KeySet → KeySet → List (ℕ × Option Evaluation) → List (ℕ × Option Evaluation) → Type 0
+IsReservingJobs set old rest slots = ((key : Key) → holds_key set key ≡ holds_key old key) × Done has_key_room set rest slots
+
+abbrev pub IsIndexingJobs : KeySet → KeySet → List (ℕ × Option Evaluation) → List (ℕ × Option Evaluation) → Type 0
+IsIndexingJobs set old rest slots = (Grows holds_key old set × Each (HasJobRoom set) rest) × Done holds_key set rest slots
+
+module _ (slot : ℕ × Option Evaluation) (rest left slots : List (ℕ × Option Evaluation)) (steps : rest ≡ slot ∷ left) (old held new matched : KeySet) where
+  pub reserve_pass : slot.1 ≡ None → matched ≡ held → IsReservingJobs held old rest slots → IsReservingJobs matched old left slots
+  reserve_pass none e h = subst (λ m. IsReservingJobs m old left slots) (sym e)
+      (h.0, done_next has_key_room held held slot rest left slots steps (λ key t. t) (vacant_says has_key_room held slot none) h.1)
+
+  pub reserve_step : (row : Evaluation) → slot.1 ≡ Some row → Keeps holds_key has_key_room held new → IsTrue (has_key_room new (row.job, slot.0)) →
+      matched ≡ new → IsReservingJobs held old rest slots → IsReservingJobs matched old left slots
+  reserve_step row is k there e h = subst (λ m. IsReservingJobs m old left slots) (sym e)
+      (λ q. k.held q ∙ h.0 q, done_next has_key_room held new slot rest left slots steps (λ key. k.room key) (row_says has_key_room new slot row is there) h.1)
+
+  pub index_pass : slot.1 ≡ None → matched ≡ held → IsIndexingJobs held old rest slots → IsIndexingJobs matched old left slots
+  index_pass none e h = subst (λ m. IsIndexingJobs m old left slots) (sym e) (
+    (h.0.0, (subst (Each (HasJobRoom held)) steps h.0.1).1),
+    done_next holds_key held held slot rest left slots steps (λ key t. t) (vacant_says holds_key held slot none) h.1,
+  )
+
+  pub index_step : (row : Evaluation) → slot.1 ≡ Some row → Adds holds_key has_key_room same_key (row.job, slot.0) held new → matched ≡ new →
+      IsIndexingJobs held old rest slots → IsIndexingJobs matched old left slots
+  index_step row is a e h = subst (λ m. IsIndexingJobs m old left slots) (sym e) (
+    (
+      λ key t. grows key (h.0.0 key t),
+      each_map (λ other room x at. a.room (x.job, other.0) (room x at)) left (subst (Each (HasJobRoom held)) steps h.0.1).1,
+    ),
+    done_next holds_key held new slot rest left slots steps grows (row_says holds_key new slot row is
+        (a.held (row.job, slot.0) ∙ ap (λ b. b || holds_key held (row.job, slot.0)) (same_key_refl (row.job, slot.0)))) h.1,
+  )
+    where
+      by : (b c : Bool) → c ≡ true → (b || c) ≡ true
+      by true c t = refl
+      by false c t = t
+
+      grows : Grows holds_key held new
+      grows key t = a.held key ∙ by (same_key key (row.job, slot.0)) (holds_key held key) t
+
+-- ---- the index
+
+pub none_indexed : (by_job : KeySet) (slots : ByNumber (Option Evaluation)) → slots ≡ empty → IsIndexOf by_job slots
+none_indexed by_job slots is n e row = not_both (ap is_some row) (ap is_some (ap (λ m. row_at m n) is ∙ ap flat (get-empty nat_cmp n)))
+
+-- what is held stays held, and rows stay or are held
+pub still_indexed : (old new : KeySet) (before after : ByNumber (Option Evaluation)) → IsIndexOf old before → Grows holds_key old new →
+    rows after ≡ rows before → IsIndexOf new after
+still_indexed old new before after is grows same n e row = grows (e.job, n)
+    (is n e (sym (get-rows numbers before n) ∙ ap (λ m. get m n) (sym same) ∙ get-rows numbers after n ∙ row))
+
+pub changed_indexed : (old new : KeySet) (before after changes : ByNumber (Option Evaluation)) → IsIndexOf old before → Grows holds_key old new →
+    ((n : ℕ) (e : Evaluation) → row_at changes n ≡ Some e → IsTrue (holds_key new (e.job, n))) → rows after ≡ over (rows before) changes →
+    IsIndexOf new after
+changed_indexed old new before after changes is grows indexed same n e row = by (get changes n) refl
+    (sym (get-over numbers one_number (rows before) changes n) ∙ ap (λ m. get m n) (sym same) ∙ get-rows numbers after n ∙ row)
+  where
+    by : (r : Option (Option Evaluation)) → get changes n ≡ r → unwrap_or r (get (rows before) n) ≡ Some e → IsTrue (holds_key new (e.job, n))
+    by None g row = grows (e.job, n) (is n e (sym (get-rows numbers before n) ∙ row))
+    by (Some slot) g row = indexed n e (ap flat g ∙ row)
+
+pub numbers_there : (by_job : KeySet) (slots : ByNumber (Option Evaluation)) (job : Name) (r : Option (ByNumber (Option Unit))) → IsIndexOf by_job slots →
+    r ≡ row_at by_job.numbers job → HasNumbersOf job slots r
+numbers_there by_job slots job r is same n e row of = subst (λ r. IsTrue (option_map_or (λ m. holds_number m n) r false)) (sym same)
+    (subst (λ j. IsTrue (holds_key by_job (j, n))) of (is n e row))
+
+pub on_ok : {T E : Type 0} (r : Result T E) {P Q : Type 0} → (P → Q) → OnOk r P → OnOk r Q
+on_ok (Ok x) f p = f p
+on_ok (Err e) f p = tt
