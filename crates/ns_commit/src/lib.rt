@@ -1,7 +1,7 @@
 //! A settled change goes into the tables: rows of namespaces with their indexes and events, nodes, release numbers of
 //! pools, classes and quotas, and the three lists. `reserve` makes room for all of it, which may be refused and leaves
 //! the world as it was; `commit` moves it in and takes no memory; `apply` is both. Each looks up what the change has.
-//! Only the three lists are gone through whole, and of a pool with releases its classes.
+//! Only a list that entries leave is gone through whole, and of a pool with releases its classes.
 #![tactic(auto)]
 
 mod clearing;

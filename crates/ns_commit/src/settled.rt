@@ -5,7 +5,7 @@ ghost use Rattle.ns_change.specs.Settled.{settled_world};
 ghost use Rattle.ns_commit.specs.Committed.{AreCleared, Fits, HasRoom};
 ghost use Rattle.ns_world.specs.World.{world_of};
 
-use crate::lists::{commit_list, reserve_list};
+use crate::lists::{clear_list, commit_list, reserve_list};
 use crate::owners::{clear_all, commit_all, reserve_all};
 use crate::pools::{commit_pools, reserve_pools};
 use crate::quotas::commit_quotas;
@@ -33,6 +33,9 @@ fn clear(tables: &mut Tables, settled: &Settled)
 {
     clear_all(&mut tables.tenants, &settled.tenants);
     clear_all(&mut tables.pools, &settled.pools);
+    clear_list(&mut tables.ready, &settled.ready);
+    clear_list(&mut tables.plans, &settled.plans);
+    clear_list(&mut tables.blocked, &settled.blocked);
 }
 
 /// Makes room for all that a settled step changes. Want of memory is the only error: then the world is as it was, and no
