@@ -6,6 +6,7 @@ use Rattle.std.specs.Option.{option_map_or}
 use Rattle.std.specs.List.{list_any}
 use Rattle.std.specs.FinMap.{FinMap, insert}
 use Rattle.keyed.specs.Over.{HasRoomFor}
+use Rattle.keyed.specs.Queue.{CanAdd}
 use Rattle.keyed.specs.Table.{has_slot, row_at}
 use Rattle.ns_types.specs.declared.node.Class.{Class}
 use Rattle.ns_types.specs.State.Names.{Name, ByName, name_cmp, has_name, same_name}
@@ -20,6 +21,7 @@ use Rattle.ns_change.specs.declared.change.TenantChange.{TenantChange}
 use Rattle.ns_change.specs.Changed.{changed_pool, perhaps}
 use Rattle.ns_change.specs.Settled.{classes_in, settled_world}
 use Rattle.ns_commit.specs.Owners.{EachChanged}
+use Rattle.ns_world.specs.Evaluations.{HasEvaluationRoom}
 use Rattle.ns_world.specs.World.{pool_of}
 use Rattle.ns_world.specs.declared.tables.PoolRows.{PoolRows}
 use Rattle.ns_world.specs.declared.tables.QuotaRows.{QuotaRows}
@@ -31,7 +33,7 @@ use Rattle.ns_world.specs.declared.tables.TenantRows.{TenantRows}
 -- a slot for each changed row
 pub record HasRowRoom (x : TenantChange) (t : TenantRows) : Type 0 where
   pub jobs : HasRoomFor x.jobs t.jobs
-  pub evaluations : HasRoomFor x.evaluations t.evaluations
+  pub evaluations : HasEvaluationRoom x.evaluations t.evaluations
   pub allocations : HasRoomFor x.allocations t.allocations
   pub workers : HasRoomFor x.workers t.workers
 
@@ -53,7 +55,7 @@ IsCleared {K = K} c m = (k : K) → IsTrue (has_slot c k) → IsTrue (has_slot m
 
 pub record IsTenantCleared (x : SettledTenant) (t : TenantRows) : Type 0 where
   pub jobs : IsCleared x.rows.jobs t.jobs
-  pub evaluations : IsCleared x.rows.evaluations t.evaluations
+  pub evaluations : IsCleared x.rows.evaluations t.evaluations.slots
   pub allocations : IsCleared x.rows.allocations t.allocations
   pub workers : IsCleared x.rows.workers t.workers
 
@@ -138,9 +140,9 @@ pub record HasRoom (s : Settled) (t : Tables) : Type 0 where
   pub tenants : EachChanged HasTenantRoom s.tenants t.tenants
   pub pools : HavePoolRoom s.pools s.rooms t.pools
   pub quotas : CanRise (λ quota. quota.release) (has_name s.quotas) t.quotas
-  pub ready : length s.ready.added ≤ t.ready.room
-  pub plans : length s.plans.added ≤ t.plans.room
-  pub blocked : length s.blocked.added ≤ t.blocked.room
+  pub ready : CanAdd s.ready.added t.ready
+  pub plans : CanAdd s.plans.added t.plans
+  pub blocked : CanAdd s.blocked.added t.blocked
 
 -- no changed row of a namespace or node has a vacant slot
 pub record AreCleared (s : Settled) (t : Tables) : Type 0 where

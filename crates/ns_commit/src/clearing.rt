@@ -5,6 +5,8 @@ ghost use Rattle.keyed.specs.Table.{rows};
 ghost use Rattle.ns_commit.specs.Committed.{IsCleared};
 
 use keyed::{NameTable, NumberTable};
+use ns_types::evaluation::Evaluation;
+use ns_world::EvaluationTable;
 
 /// Takes the vacant slots of the changed rows out.
 pub(crate) fn clear_names<V: Drop>(table: &mut NameTable<V>, changes: &NameTable<V>)
@@ -23,5 +25,15 @@ pub(crate) fn clear_numbers<V: Drop>(table: &mut NumberTable<V>, changes: &Numbe
 {
     for slot in changes.as_slice() {
         table.clear_slot(slot.0);
+    }
+}
+
+/// Takes the vacant slots of the changed evaluations out.
+pub(crate) fn clear_evaluations(table: &mut EvaluationTable, changes: &NumberTable<Evaluation>)
+    ensures rows { rows table.new.slots ≡ rows table.old.slots }
+    ensures cleared { IsCleared changes.now table.new.slots }
+{
+    for slot in changes.as_slice() {
+        table.clear_slot(slot);
     }
 }

@@ -8,7 +8,7 @@ ghost use Rattle.ns_live.specs.Index.{IsRight, KeepsKeys};
 ghost use Rattle.ns_world.specs.World.{world_of};
 
 use crate::indexing::{commit_index, reserve_index};
-use crate::lists::{commit_list, reserve_list};
+use crate::lists::{clear_list, commit_list, reserve_list};
 use crate::owners::{clear_all, commit_all, reserve_all};
 use crate::pools::{commit_pools, reserve_pools};
 use crate::quotas::commit_quotas;
@@ -40,6 +40,9 @@ fn clear(tables: &mut Tables, settled: &Settled)
 {
     clear_all(&mut tables.tenants, &settled.tenants);
     clear_all(&mut tables.pools, &settled.pools);
+    clear_list(&mut tables.ready, &settled.ready);
+    clear_list(&mut tables.plans, &settled.plans);
+    clear_list(&mut tables.blocked, &settled.blocked);
 }
 
 /// Makes room for all that a settled step changes. Want of memory is the only error: then no changed row of a namespace, nor

@@ -1,8 +1,16 @@
-use Rattle.std.proofs.Common.{ap, ◌∙◌, ◌++◌, not, rules}
-use Rattle.std.proofs.lemmas.Fn.{filter_same}
+use Rattle.std.proofs.Common.{ap, arith, filter, not, ◌∙◌, ◌++◌}
 use Rattle.ns_types.specs.State.Names.{has_key}
 use Rattle.ns_commit.proofs.lists.commit_list.Goals as goal
 
+pub append-requires : goal.append-requires
+append-requires c = record {
+  places =
+      let places = c.requires.places in
+      let room = c.take_out.ensures.room in
+      omega arith;
+  slots = λ key has. c.take_out.ensures.slots key (c.requires.slots key has);
+}
+
 pub returns : goal.returns
-returns c = c.append.ensures ∙ ap (λ l. l ++ c.args.change.added)
-    (filter_same _ (λ key. not (has_key c.args.change.taken key)) _ (λ x b f h. search rules) _ _ c.retain.ensures.items)
+returns c = c.clear_room.ensures ∙ c.append.ensures ∙ ap (λ l. l ++ c.args.change.added)
+    (c.take_out.ensures.items ∙ ap (λ taken. filter (λ key. not (has_key taken key)) c.args.list.now.items) c.as_slice.ensures)
