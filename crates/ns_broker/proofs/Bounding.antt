@@ -209,7 +209,7 @@ take_is_unseen w number key e within at = in_its w key.0 key.1 e at _ (λ t is r
     (ap (λ o. (without_ready key (option_map_or (λ t. put_tenant key.0 (with_worker number (new_worker key.1 e) t) w) o w)).quotas) is)
     refl refl refl refl (untouched t))
 
-abbrev world_or : World → Outcome World → World
+abbrev pub world_or : World → Outcome World → World
 world_or w (Done content x) = x
 world_or w _ = w
 

@@ -4,3 +4,4 @@ pub mod Looked
 pub mod Making
 pub mod Nacked
 pub mod Preferred
+pub mod Snaps

@@ -15,7 +15,7 @@ use Rattle.ns_types.specs.Settling.Settle.{settle}
 use Rattle.ns_types.specs.State.Names.{Name}
 use Rattle.ns_types.specs.State.Rows.{State, World, Tenant, is_open, is_pending}
 use Rattle.ns_types.specs.Steps.{Makes, act, after, concluded, is_allowed, is_made, is_past_bound, reply_of, said}
-use Rattle.ns_types.specs.Working.Work.{dequeue, nack}
+use Rattle.ns_types.specs.Working.Work.{dequeue, nack, snap}
 use Rattle.ns_types.proofs.Lists.{not_both}
 use Rattle.ns_types.proofs.Tests.{not_Some, same_Some}
 use Rattle.ns_change.specs.declared.change.Prepared.{Prepared}
@@ -25,6 +25,7 @@ use Rattle.ns_world.specs.declared.tables.Tables.{Tables}
 use Rattle.ns_broker.specs.Bounded.{PassesNothing, bounded}
 use Rattle.ns_broker.specs.Nacking.{SoundHasNackLeft}
 use Rattle.ns_broker.proofs.Bounding.{dequeue_fits}
+use Rattle.ns_broker.proofs.Snaps.{snap_fits}
 
 abbrev refusal_of : Refusal → Outcome World → Refusal
 refusal_of other (Refused refusal) = refusal
@@ -110,12 +111,16 @@ as_bounded f fits w within = by (f w) refl
     by (Refused refusal) is = refl
     by (Done content x) is = ap (λ b. cond b (Refused Refusal.Full) (Done content x)) (fits w content x within is)
 
--- ---- a worker takes an evaluation, and gives one back
+-- ---- a worker takes an evaluation, looks, and gives one back
 
 module _ (worker : ℕ) (ns : Name) (s : State) where
   dequeue_acts : (n : ℕ) → act (Step.Dequeue worker ns n) s ≡ lift (with_world s.acl) (dequeue worker (ns, n) s.world)
   unfolding act
   dequeue_acts n = refl
+
+  snap_acts : act (Step.Snap worker ns) s ≡ lift (with_world s.acl) (snap worker ns s.world)
+  unfolding act
+  snap_acts = refl
 
   nack_acts : act (Step.Nack worker ns) s ≡ lift (with_world s.acl) (nack worker ns s.world)
   unfolding act
@@ -130,6 +135,15 @@ module _ (worker : ℕ) (ns : Name) (s : State) where
     pub dequeue_does : (n : ℕ) (x : Prepared) → Prepares (dequeue worker (ns, n) s.world) t (Ok x) →
         act (Step.Dequeue worker ns n) s ≡ Done x.content (record s { world = view t x.change })
     dequeue_does n x h = dequeue_acts n ∙ ap (lift (with_world s.acl)) h
+
+    pub snap_refuses : is_past_bound s.world ≡ false → (refusal : Refusal) → Prepares (snap worker ns s.world) t (Err refusal) →
+        Makes (Step.Snap worker ns) s (Err refusal) s
+    snap_refuses within refusal h = refuses (Step.Snap worker ns) s _ snap_acts refl t refusal
+        (subst (λ o. Prepares o t (Err refusal)) (sym (as_bounded _ (snap_fits worker ns) s.world within)) h)
+
+    pub snap_does : (x : Prepared) → Prepares (snap worker ns s.world) t (Ok x) →
+        act (Step.Snap worker ns) s ≡ Done x.content (record s { world = view t x.change })
+    snap_does x h = snap_acts ∙ ap (lift (with_world s.acl)) h
 
     pub nack_refuses : (refusal : Refusal) → Prepares (bounded s.world (nack worker ns s.world)) t (Err refusal) →
         Makes (Step.Nack worker ns) s (Err refusal) s

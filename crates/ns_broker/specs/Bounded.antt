@@ -11,7 +11,7 @@ use Rattle.ns_types.specs.Settling.Settle.{settle}
 use Rattle.ns_types.specs.State.Names.{Key, Name}
 use Rattle.ns_types.specs.State.Rows.{World}
 use Rattle.ns_types.specs.Steps.{greatest, is_past_bound}
-use Rattle.ns_types.specs.Working.Work.{dequeue}
+use Rattle.ns_types.specs.Working.Work.{dequeue, snap}
 
 -- where a counter would have passed its bound once the step has settled, what would be done is refused
 abbrev pub bounded : World → Outcome World → Outcome World
@@ -38,3 +38,7 @@ PassesNothing act = (w : World) (content : Content) (x : World) → is_past_boun
 -- a worker takes an evaluation
 abbrev pub DequeuePassesNothing : Type 0
 DequeuePassesNothing = (number : ℕ) (key : Key) → PassesNothing (dequeue number key)
+
+-- it looks
+abbrev pub SnapPassesNothing : Type 0
+SnapPassesNothing = (number : ℕ) (ns : Name) → PassesNothing (snap number ns)

@@ -2,3 +2,4 @@ pub mod Bounded
 pub mod Looking
 pub mod Nacking
 pub mod Serving
+pub mod Snapping

@@ -1,4 +1,5 @@
-//! The evaluation broker: which evaluation is served next, and the steps in which a worker takes one and gives it back.
+//! The evaluation broker: which evaluation is served next, and the steps in which a worker takes one, looks, and gives
+//! it back.
 //! Each step is a command over the tables: what it answers and changes, or that it is not enabled.
 #![tactic(auto)]
 
@@ -6,9 +7,11 @@ pub mod laws;
 mod looking;
 mod nacking;
 mod serving;
+mod snapping;
 mod taking;
 
-pub use looking::{first_plan, row_of, served_ready, worker_at};
+pub use looking::{first_plan, phase, row_of, served_ready, worker_at};
 pub use nacking::nack;
 pub use serving::served;
+pub use snapping::{Snapped, snap};
 pub use taking::dequeue;

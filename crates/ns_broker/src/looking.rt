@@ -10,7 +10,7 @@ use crate::serving::served;
 use crate::taking::{TenantSlot, is_busy_for};
 use ns_types::key::EvalKey;
 use ns_types::text::Text;
-use ns_types::worker::Worker;
+use ns_types::worker::{Phase, Worker};
 use ns_world::Tables;
 
 /// The evaluation that is served next.
@@ -63,6 +63,16 @@ pub fn row_of(tables: &Tables, number: u64) -> Option<(&Text, &Worker)>
 {
     match busy_slot(tables.tenants.as_slice(), number) {
         Some(slot) => row_in(slot, number),
+        None => None,
+    }
+}
+
+/// How far the worker is. None: it is idle.
+pub fn phase(tables: &Tables, number: u64) -> Option<Phase>
+    ensures { result ≡ option_map (λ r. r.1.phase) (row_of (world_of tables.now) number) }
+{
+    match row_of(tables, number) {
+        Some((_, worker)) => Some(worker.phase),
         None => None,
     }
 }

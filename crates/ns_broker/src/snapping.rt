@@ -1,0 +1,117 @@
+//! A worker looks: it takes a snapshot.
+
+ghost use Rattle.std.specs.Prelude.{◌≡◌, IfOk};
+ghost use Rattle.ns_types.specs.Working.Snapshot.{snapshot_of};
+ghost use Rattle.ns_types.specs.Working.Work.{may_snap, with_snapshot, with_worker};
+ghost use Rattle.ns_broker.specs.Snapping.{Keeps, Snaps, UseFitsIn};
+ghost use Rattle.ns_live.specs.Index.{IsRight};
+ghost use Rattle.ns_snapshot.specs.Seen.{UseOfFits};
+ghost use Rattle.ns_world.specs.World.{tenant_of, world_of};
+
+use ns_change::{Change, Prepared, put_row};
+use ns_live::Live;
+use ns_snapshot::snapshot;
+use ns_types::evaluation::Evaluation;
+use ns_types::refusal::Refusal;
+use ns_types::reply::Content;
+use ns_types::shared::Shared;
+use ns_types::snapshot::Snapshot;
+use ns_types::text::Text;
+use ns_types::worker::{Phase, Worker};
+use ns_world::{Tables, TenantRows};
+use std::alloc::AllocError;
+
+/// What a worker that looks answers and changes, with the snapshot that its row keeps.
+#[derive(Drop)]
+pub struct Snapped {
+    pub prepared: Prepared,
+    pub snapshot: Shared<Snapshot>,
+}
+
+/// Whether it has just taken its evaluation, or something of its plan was dropped and tries remain.
+fn may_snap(worker: &Worker) -> bool
+    ensures { result ≡ may_snap worker.now.tries worker.now.phase }
+{
+    match worker.phase {
+        Phase::Took => true,
+        Phase::Dropped => worker.tries != 0,
+        _ => false,
+    }
+}
+
+fn with_snapshot(worker: &Worker, kept: Shared<Snapshot>) -> Worker
+    ensures { result ≡ with_snapshot kept worker.now }
+{
+    Worker {
+        evaluation: worker.evaluation,
+        phase: Phase::Snapped,
+        tries: worker.tries,
+        kept: Some(kept),
+    }
+}
+
+/// The worker's row in the namespace is that one.
+fn keep(
+    tables: &Tables,
+    number: u64,
+    namespace: &Text,
+    worker: Worker,
+) -> Result<Change, AllocError>
+    ensures { IfOk result (Keeps number namespace.now worker tables.now) }
+{
+    let mut change = Change::new(tables.alloc);
+    put_row(tables, &mut change, namespace, number, worker)?;
+    Ok(change)
+}
+
+/// The snapshot of the worker's evaluation as it is now.
+fn look(
+    tables: &Tables,
+    live: &Live,
+    namespace: &Text,
+    tenant: &TenantRows,
+    number: u64,
+    evaluation: &Evaluation,
+) -> Result<Shared<Snapshot>, AllocError>
+    requires right { IsRight (world_of tables.now) live.now }
+    requires fits { UseOfFits (world_of tables.now) (tenant_of tenant.now) }
+    ensures { let w = world_of tables.now in IfOk result (λ seen. seen
+        ≡ snapshot_of w namespace.now (tenant_of tenant.now) number evaluation.now) }
+{
+    let seen = snapshot(tables, live, namespace, tenant, number, evaluation)?;
+    Shared::new(tables.alloc, seen)
+}
+
+/// The worker that has an evaluation of the namespace takes a snapshot, which its row keeps and which is answered: one
+/// value that both share. `NotEnabled`: the worker has none of the namespace, or it is not its turn to look. The index
+/// of live allocations is right, and what is used of the namespace's quota fits 64 bits, as in each valid world.
+pub fn snap(tables: &Tables, live: &Live, number: u64, namespace: &Text) -> Result<Snapped, Refusal>
+    requires right { IsRight (world_of tables.now) live.now }
+    requires fits { UseFitsIn (world_of tables.now) namespace.now }
+    ensures { Snaps number namespace.now tables.now result }
+{
+    let Some(tenant) = tables.tenants.get(namespace) else {
+        return Err(Refusal::NotEnabled);
+    };
+    let Some(worker) = tenant.workers.get(number) else {
+        return Err(Refusal::NotEnabled);
+    };
+    let Some(row) = tenant.evaluations.get(worker.evaluation) else {
+        return Err(Refusal::NotEnabled);
+    };
+    if !may_snap(worker) {
+        return Err(Refusal::NotEnabled);
+    }
+    let snapshot = look(tables, live, namespace, tenant, worker.evaluation, row)?;
+    let change = keep(
+        tables,
+        number,
+        namespace,
+        with_snapshot(worker, snapshot.share()?),
+    )?;
+    let content = Content::Snapped(worker.evaluation);
+    Ok(Snapped {
+        prepared: Prepared { content, change },
+        snapshot,
+    })
+}
