@@ -1,5 +1,5 @@
 // Each call may be refused for want of memory once, and then answers as with ample memory.
-use ns_api::asked;
+use ns_api::{Draft, asked};
 use ns_http::Request;
 use ns_request::Routes;
 use ns_types::refusal::{Member, Refusal};
@@ -17,14 +17,14 @@ fn routes(alloc: Global) -> Result<Routes, AllocError> {
     }
 }
 
-fn refusal_in(answer: &Result<Step, Refusal>) -> Option<Refusal> {
+fn refusal_in(answer: &Result<Draft, Refusal>) -> Option<Refusal> {
     match answer {
         Err(refusal) => Some(*refusal),
         Ok(_) => None,
     }
 }
 
-fn ask(alloc: Global, routes: &Routes, request: &Request<'_>) -> Result<Step, Refusal> {
+fn ask(alloc: Global, routes: &Routes, request: &Request<'_>) -> Result<Draft, Refusal> {
     let answer = asked(alloc, routes, request);
     if refusal_in(&answer) != Some(Refusal::Memory) {
         return answer;
@@ -57,15 +57,15 @@ fn refusal_of(
 
 /// Whether the answer is a step in that namespace, with that secret, about that job.
 fn is_step(
-    answer: &Result<Step, Refusal>,
+    answer: &Result<Draft, Refusal>,
     namespace: &str,
     secret: Option<&str>,
     id: &str,
 ) -> bool {
-    let Ok(Step::Ask(named, bearer, command)) = answer else {
+    let Ok(Draft::Step(Step::Ask(named, bearer, command))) = answer else {
         return false;
     };
-    let asked_id = match command {
+    let asked_id = match command.get() {
         AskCommand::Register(registration) => registration.id.as_str(),
         AskCommand::ReadJob(id) => id.as_str(),
         _ => "",
@@ -91,18 +91,34 @@ fn is_asked(
     is_asked
 }
 
+fn is_registration(answer: &Result<Draft, Refusal>) -> bool {
+    match answer {
+        Ok(Draft::Step(Step::Ask(_, _, command))) => {
+            matches!(command.get(), AskCommand::Register(_))
+        }
+        _ => false,
+    }
+}
+
+fn is_read_of_a_job(answer: &Result<Draft, Refusal>) -> bool {
+    match answer {
+        Ok(Draft::Step(Step::Ask(_, _, command))) => {
+            matches!(command.get(), AskCommand::ReadJob(_))
+        }
+        _ => false,
+    }
+}
+
 fn registers(alloc: Global, routes: &Routes) -> bool {
     let answer = ask(alloc, routes, &request(b"POST", "/v1/jobs", WEB));
-    let registers = is_step(&answer, "default", Some("root"), "web")
-        && matches!(&answer, Ok(Step::Ask(_, _, AskCommand::Register(_))));
+    let registers = is_step(&answer, "default", Some("root"), "web") && is_registration(&answer);
     drop(answer);
     registers
 }
 
 fn reads_job(alloc: Global, routes: &Routes) -> bool {
     let answer = ask(alloc, routes, &request(b"GET", "/v1/job/web", b""));
-    let reads = is_step(&answer, "default", Some("root"), "web")
-        && matches!(&answer, Ok(Step::Ask(_, _, AskCommand::ReadJob(_))));
+    let reads = is_step(&answer, "default", Some("root"), "web") && is_read_of_a_job(&answer);
     drop(answer);
     reads
 }
