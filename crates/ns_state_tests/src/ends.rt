@@ -101,7 +101,7 @@ fn any_quota_past(slots: &[(Text, Option<QuotaRows>)]) -> bool
 }
 
 /// Whether some counter has passed its bound.
-fn is_past_now(tables: &Tables) -> bool
+pub(crate) fn is_past_now(tables: &Tables) -> bool
     ensures { result ≡ is_past_bound (world_of tables.now) }
 {
     let tenants = any_tenant_past(tables.tenants.as_slice());
@@ -111,7 +111,7 @@ fn is_past_now(tables: &Tables) -> bool
 }
 
 /// Ends a step beside an index of no keys.
-fn end(tables: &mut Tables, change: Change) -> Result<(), Refusal> {
+pub(crate) fn end(tables: &mut Tables, change: Change) -> Result<(), Refusal> {
     if is_past_now(tables) {
         drop(change);
         return Err(Refusal::Foreign);

@@ -1,11 +1,13 @@
-// With ample memory a worker takes an evaluation, and gives it back; at the third nack it has failed.
+// With ample memory workers take evaluations, as many as there are workers, and give them back; at the third nack an
+// evaluation has failed.
 
 ghost use Rattle.std.specs.Bool.{OnTrue};
 ghost use Rattle.ns_broker.specs.Nacking.{HasNackLeft};
 ghost use Rattle.ns_world.specs.World.{world_of};
 
+use crate::ends::{end, is_past_now};
 use keyed::{NameTable, NumberTable, Series};
-use ns_broker::{dequeue, nack, worker_at};
+use ns_broker::{dequeue, nack, phase, row_of, served_ready, worker_at};
 use ns_change::Prepared;
 use ns_types::evaluation::{Evaluation, Status, Trigger};
 use ns_types::job::JobKind;
@@ -15,12 +17,12 @@ use ns_types::refusal::Refusal;
 use ns_types::reply::Content;
 use ns_types::rows::Rows;
 use ns_types::text::Text;
-use ns_types::worker::{Phase, Worker};
+use ns_types::worker::Phase;
 use ns_world::{Tables, TenantRows};
 use std::alloc::{AllocError, Global};
 use std::test::Fail;
 
-fn evaluation(alloc: Global, nacks: u64) -> Result<Evaluation, AllocError> {
+fn evaluation(alloc: Global) -> Result<Evaluation, AllocError> {
     Ok(Evaluation {
         job: Text::from_str(alloc, "web")?,
         kind: JobKind::Service,
@@ -33,7 +35,7 @@ fn evaluation(alloc: Global, nacks: u64) -> Result<Evaluation, AllocError> {
         quota: None,
         escapes: false,
         infeasible: Rows::new(alloc),
-        nacks,
+        nacks: 0,
         create_index: 1,
         modify_index: 1,
     })
@@ -49,79 +51,71 @@ fn namespace(alloc: Global) -> Result<Namespace, AllocError> {
     })
 }
 
-/// The worker 0 has the evaluation 1.
-fn worker() -> Worker {
-    Worker {
-        evaluation: 1,
-        phase: Phase::Took,
-        tries: 5,
-        kept: None,
-    }
-}
-
-fn one_row<V: Drop>(alloc: Global, number: u64, row: V) -> Result<NumberTable<V>, AllocError> {
+/// Evaluations of one job, from number 1 on.
+fn evaluations(alloc: Global, count: u64) -> Result<NumberTable<Evaluation>, AllocError> {
     let mut table = NumberTable::new(alloc);
-    table.reserve(number)?;
-    if table.has_slot(number) {
-        table.set(number, row);
-    } else {
-        drop(row);
+    for number in 0..count {
+        let number = number + 1;
+        let row = evaluation(alloc)?;
+        table.reserve(number)?;
+        if table.has_slot(number) {
+            table.set(number, row);
+        } else {
+            drop(row);
+        }
     }
     Ok(table)
 }
 
-/// A namespace with an evaluation, and with its worker, if it has one.
-fn tenant(
-    alloc: Global,
-    nacks: u64,
-    workers: NumberTable<Worker>,
-) -> Result<TenantRows, AllocError> {
+/// A namespace with that many evaluations, at that index.
+fn tenant(alloc: Global, count: u64, index: u64) -> Result<TenantRows, AllocError> {
     Ok(TenantRows {
         namespace: namespace(alloc)?,
-        index: 1,
-        evaluation_number: 1,
+        index,
+        evaluation_number: count,
         allocation_number: 0,
         jobs: NameTable::new(alloc),
-        evaluations: one_row(alloc, 1, evaluation(alloc, nacks)?)?,
+        evaluations: evaluations(alloc, count)?,
         allocations: NumberTable::new(alloc),
-        workers,
+        workers: NumberTable::new(alloc),
         events: Series::new(alloc),
     })
 }
 
 fn tenants(
     alloc: Global,
-    key: &EvalKey,
+    name: &Text,
     tenant: TenantRows,
 ) -> Result<NameTable<TenantRows>, AllocError> {
     let mut tenants = NameTable::new(alloc);
-    tenants.reserve(key.namespace())?;
-    if tenants.has_slot(key.namespace()) {
-        tenants.set(key.namespace(), tenant);
+    tenants.reserve(name)?;
+    if tenants.has_slot(name) {
+        tenants.set(name, tenant);
     } else {
         drop(tenant);
     }
     Ok(tenants)
 }
 
-fn ready(alloc: Global, key: &EvalKey) -> Result<Series<EvalKey>, AllocError> {
+/// All of them, in their order.
+fn ready(alloc: Global, name: &Text, count: u64) -> Result<Series<EvalKey>, AllocError> {
+    let mut keys = Rows::new(alloc);
+    for number in 0..count {
+        keys.push(EvalKey::new(name.clone()?, number + 1))?;
+    }
     let mut ready = Series::new(alloc);
-    ready.reserve(1)?;
-    ready.push(key.clone()?);
+    ready.reserve(keys.as_slice().len())?;
+    ready.append(keys);
     Ok(ready)
 }
 
-/// Tables of that namespace alone.
-fn tables(
-    alloc: Global,
-    key: &EvalKey,
-    nacks: u64,
-    workers: NumberTable<Worker>,
-) -> Result<Tables, AllocError> {
-    let ready = ready(alloc, key)?;
+/// Tables of the namespace `default` alone, with that many evaluations, which are ready.
+fn tables(alloc: Global, count: u64, index: u64) -> Result<Tables, AllocError> {
+    let name = Text::from_str(alloc, "default")?;
+    let ready = ready(alloc, &name, count)?;
     Ok(Tables {
         alloc,
-        tenants: tenants(alloc, key, tenant(alloc, nacks, workers)?)?,
+        tenants: tenants(alloc, &name, tenant(alloc, count, index)?)?,
         pools: NameTable::new(alloc),
         quotas: NameTable::new(alloc),
         ready,
@@ -131,10 +125,10 @@ fn tables(
 }
 
 /// Whether one nack more can be counted.
-fn has_nack_left(tables: &Tables, namespace: &Text) -> bool
-    ensures { OnTrue result (HasNackLeft (world_of tables.now) 0 namespace.now) }
+fn has_nack_left(tables: &Tables, number: u64, namespace: &Text) -> bool
+    ensures { OnTrue result (HasNackLeft (world_of tables.now) number namespace.now) }
 {
-    let Some(worker) = worker_at(tables, 0, namespace) else {
+    let Some(worker) = worker_at(tables, number, namespace) else {
         return false;
     };
     match tables.evaluation(namespace, worker.evaluation) {
@@ -143,55 +137,147 @@ fn has_nack_left(tables: &Tables, namespace: &Text) -> bool
     }
 }
 
-/// The status that a nack gives the evaluation.
-fn status_after(answer: Result<Prepared, Refusal>) -> Option<Status> {
+/// What a step answers, once it has ended.
+fn ended(tables: &mut Tables, answer: Result<Prepared, Refusal>) -> Option<Content> {
     let Ok(prepared) = answer else {
         return None;
     };
-    let status = match &prepared.content {
-        Content::Nacked(status) => Some(*status),
+    let Prepared { content, change } = prepared;
+    match end(tables, change) {
+        Ok(()) => Some(content),
+        Err(_) => {
+            drop(content);
+            None
+        }
+    }
+}
+
+/// The number of the evaluation that the worker takes: the one that is served next.
+fn taken(tables: &mut Tables, number: u64) -> Result<Option<u64>, AllocError> {
+    let Some(key) = served_ready(tables) else {
+        return Ok(None);
+    };
+    let key = key.clone()?;
+    let answer = dequeue(tables, number, &key);
+    let content = ended(tables, answer);
+    let evaluation = match &content {
+        Some(Content::Took(evaluation)) => Some(*evaluation),
         _ => None,
     };
-    drop(prepared);
+    drop(content);
+    Ok(evaluation)
+}
+
+/// What a nack answers.
+fn nacked(tables: &Tables, number: u64, namespace: &Text) -> Result<Prepared, Refusal> {
+    if is_past_now(tables) || !has_nack_left(tables, number, namespace) {
+        return Err(Refusal::Foreign);
+    }
+    nack(tables, number, namespace)
+}
+
+/// The status that it has when the worker has given it back.
+fn given_back(tables: &mut Tables, number: u64, namespace: &Text) -> Option<Status> {
+    let answer = nacked(tables, number, namespace);
+    let content = ended(tables, answer);
+    let status = match &content {
+        Some(Content::Nacked(status)) => Some(*status),
+        _ => None,
+    };
+    drop(content);
     status
 }
 
-fn nacked(tables: &Tables, namespace: &Text) -> Option<Status> {
-    if !has_nack_left(tables, namespace) {
-        return None;
+fn is_refused(answer: Result<Prepared, Refusal>, refusal: Refusal) -> bool {
+    match answer {
+        Ok(prepared) => {
+            drop(prepared);
+            false
+        }
+        Err(found) => found == refusal,
     }
-    status_after(nack(tables, 0, namespace))
 }
 
-fn after_nacks(alloc: Global, nacks: u64) -> Result<Option<Status>, AllocError> {
-    let key = EvalKey::new(Text::from_str(alloc, "default")?, 1);
-    let tables = tables(alloc, &key, nacks, one_row(alloc, 0, worker())?)?;
-    let status = nacked(&tables, key.namespace());
-    drop(tables);
-    Ok(status)
+/// Whether each of the 64 takes the next one.
+fn all_take(tables: &mut Tables) -> Result<bool, AllocError> {
+    let mut do_take = true;
+    for number in 0..64 {
+        let took = taken(tables, number)?;
+        do_take &= took == Some(number + 1) && matches!(phase(tables, number), Some(Phase::Took));
+    }
+    Ok(do_take)
 }
 
-fn is_taken(alloc: Global) -> Result<bool, AllocError> {
-    let key = EvalKey::new(Text::from_str(alloc, "default")?, 1);
-    let tables = tables(alloc, &key, 0, NumberTable::new(alloc))?;
-    let answer = dequeue(&tables, 0, &key);
-    let is_taken = answer.is_ok();
-    drop(answer);
-    drop(tables);
-    Ok(is_taken)
+/// Whether neither a busy worker nor a 65th takes the last one.
+fn none_takes(tables: &Tables, key: &EvalKey) -> bool {
+    is_refused(dequeue(tables, 64, key), Refusal::NotEnabled)
+        && is_refused(dequeue(tables, 5, key), Refusal::NotEnabled)
+}
+
+fn sixty_four_work(alloc: Global) -> Result<bool, AllocError> {
+    let mut tables = tables(alloc, 65, 1)?;
+    let key = EvalKey::new(Text::from_str(alloc, "default")?, 65);
+    Ok(all_take(&mut tables)? && none_takes(&tables, &key))
+}
+
+/// The worker takes the only evaluation and gives it back, three times.
+fn thrice(tables: &mut Tables, namespace: &Text) -> Result<bool, AllocError> {
+    let mut is_right = true;
+    for status in [Status::Pending, Status::Pending, Status::Failed] {
+        let took = taken(tables, 0)?;
+        is_right &= took == Some(1) && given_back(tables, 0, namespace) == Some(status);
+    }
+    Ok(is_right)
+}
+
+/// Whether it has failed after three nacks, which gave one index and one event, and the worker is idle.
+fn has_failed(tables: &Tables, namespace: &Text) -> bool {
+    let is_failed = match tables.evaluation(namespace, 1) {
+        Some(row) => row.nacks == 3 && row.modify_index == 2,
+        None => false,
+    };
+    let is_told = match tables.tenants.get(namespace) {
+        Some(rows) => rows.index == 2 && rows.events.as_slice().len() == 1,
+        None => false,
+    };
+    let is_idle = row_of(tables, 0).is_none() && tables.ready.as_slice().is_empty();
+    is_failed & is_told & is_idle
+}
+
+fn fails_at_the_third(alloc: Global) -> Result<bool, AllocError> {
+    let mut tables = tables(alloc, 1, 1)?;
+    let name = Text::from_str(alloc, "default")?;
+    Ok(thrice(&mut tables, &name)? && has_failed(&tables, &name))
+}
+
+/// At the last index only the third nack is refused, which replies would show.
+fn is_full_at_the_third(alloc: Global) -> Result<bool, AllocError> {
+    let mut tables = tables(alloc, 1, u64::MAX)?;
+    let name = Text::from_str(alloc, "default")?;
+    let mut is_right = true;
+    for _ in 0..2 {
+        let took = taken(&mut tables, 0)?;
+        is_right &= took == Some(1) && given_back(&mut tables, 0, &name) == Some(Status::Pending);
+    }
+    let took = taken(&mut tables, 0)?;
+    is_right &= took == Some(1);
+    Ok(is_right && is_refused(nacked(&tables, 0, &name), Refusal::Full))
 }
 
 #[test]
-fn a_worker_takes_what_is_ready(rt: HostRuntime) -> Result<(), Fail> {
-    assert!(rt; is_taken(rt.alloc())?);
+fn sixty_four_workers_take_and_no_65th(rt: HostRuntime) -> Result<(), Fail> {
+    assert!(rt; sixty_four_work(rt.alloc())?);
     Ok(())
 }
 
 #[test]
 fn the_third_nack_fails_it(rt: HostRuntime) -> Result<(), Fail> {
-    let statuses = [Status::Pending, Status::Pending, Status::Failed];
-    for (nacks, status) in (0..).zip(statuses) {
-        assert_eq!(rt; after_nacks(rt.alloc(), nacks)?, Some(status), "at {nacks}");
-    }
+    assert!(rt; fails_at_the_third(rt.alloc())?);
+    Ok(())
+}
+
+#[test]
+fn the_third_nack_is_full_at_the_last_index(rt: HostRuntime) -> Result<(), Fail> {
+    assert!(rt; is_full_at_the_third(rt.alloc())?);
     Ok(())
 }
