@@ -1,5 +1,6 @@
 -- A put of a quota with other limits, and its release, where nothing is blocked.
-use Rattle.std.specs.Prelude.{◌≡◌, ◌+◌, ◌-◌, ◌<◌, ◌^◌, Bool, true, false, cond, ◌||◌, ◌&&◌, not, [], Option, Some, None, Result, Ok, Err, filter, is_some, nat_le, nat_lt}
+use Rattle.std.specs.Prelude.{◌≡◌, ◌+◌, ◌-◌, ◌<◌, ◌^◌, Bool, true, false, cond, ◌||◌, ◌&&◌, not, [], Option, Some, None, Result, Ok, Err}
+use Rattle.std.specs.Prelude.{filter, is_some, nat_le, nat_lt}
 use Rattle.std.proofs.Common.{arith, inl, inr, refl, sym, ap, subst, ◌∙◌}
 use Rattle.std.proofs.lemmas.Bool.Decides.{leb_tells}
 use Rattle.std.specs.Option.{option_map_or}

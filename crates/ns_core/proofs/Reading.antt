@@ -82,7 +82,8 @@ pub ask_reads : (s : State) (ns : Name) (secret : Option Name) (command : AskCom
     → (result : Result Content Refusal) → Changes (ask ns command s.world) s.world result s.world
     → Makes (Step.Ask ns secret command) s (answer_of (Step.Ask ns secret command) s.world result) s
 unfolding act
-ask_reads s ns secret command held served only allowed result h = reads_make (Step.Ask ns secret command) s allowed (within s held) served (reads command served only)
+ask_reads s ns secret command held served only allowed result h =
+    reads_make (Step.Ask ns secret command) s allowed (within s held) served (reads command served only)
     result (changes_lift (with_world s.acl) (ask ns command s.world) s.world s.world result h)
 
 pub pool_reads : (s : State) (pool : Name) (secret : Option Name) (command : NodeCommand) → IsHeld s → IsServedNode command

@@ -91,7 +91,8 @@ quiet_fold f keeps (x ∷ xs) w quiet = quiet_fold f keeps xs (f w x) (keeps w x
 -- ---- new evaluations
 
 pub quiet_make_in : (ns : Name) (e : Evaluation) (w : World) (t : Tenant) → IsQuiet w → HasNone t → IsQuiet (make_in ns e w t)
-quiet_make_in ns e w t quiet none = quiet_queue (put_tenant ns (with_evaluation e t) w) (ns, t.evaluation_number + 1) (quiet_put w ns (with_evaluation e t) quiet none)
+quiet_make_in ns e w t quiet none = quiet_queue (put_tenant ns (with_evaluation e t) w) (ns, t.evaluation_number + 1)
+    (quiet_put w ns (with_evaluation e t) quiet none)
 
 pub quiet_make : (ns : Name) (f : Tenant → Evaluation) (w : World) → IsQuiet w → IsQuiet (make ns f w)
 quiet_make ns f w quiet = by (get w.tenants ns) refl

@@ -27,8 +27,8 @@ use Rattle.ns_types.specs.State.Rows.{Acl, PoolRows, State, Tenant, World, alloc
 use Rattle.ns_types.specs.State.Sums.{names_quota}
 use Rattle.ns_types.specs.State.Tables.{map_rows}
 use Rattle.ns_types.specs.Steps.{Answer, act, after, concluded, is_allowed, is_past_bound, reply_of, said}
-use Rattle.ns_types.specs.Working.Work.{at_work, dequeue, dequeue_in, given_back, given_up, is_idle, is_submitted, may_snap, may_submit, most_nacks, nack, nack_for, snap}
-use Rattle.ns_types.specs.Working.Work.{snap_for, submit, submit_for, submitted, with_nack, without_worker, workers_end}
+use Rattle.ns_types.specs.Working.Work.{at_work, dequeue, dequeue_in, given_back, given_up, is_idle, is_submitted, may_snap, may_submit, most_nacks, nack, nack_for}
+use Rattle.ns_types.specs.Working.Work.{snap, snap_for, submit, submit_for, submitted, with_nack, without_worker, workers_end}
 use Rattle.ns_types.specs.Working.Queue.{is_served}
 use Rattle.ns_types.proofs.Lists.{not_both}
 use Rattle.ns_types.proofs.Named.{numbers, one_number}
@@ -127,8 +127,10 @@ tells_quiet pool w quiet NodeCommand.ReadPool p = quiet
 tells_quiet pool w quiet NodeCommand.ListNodes p = quiet
 tells_quiet pool w quiet (NodeCommand.PutNode name offer) p =
     leaves_unless IsQuiet _ _ _ (leaves_unless IsQuiet _ _ _ (in_pools pool w quiet _))
-tells_quiet pool w quiet (NodeCommand.DeleteNode name) p = leaves_found IsQuiet (get p.nodes name) _ (λ node is. leaves_unless IsQuiet _ _ _ (in_pools pool w quiet _))
-tells_quiet pool w quiet (NodeCommand.SetStatus name status) p = leaves_found IsQuiet (get p.nodes name) _ (λ node is. by _ (in_pools pool w quiet _) (is_ready status))
+tells_quiet pool w quiet (NodeCommand.DeleteNode name) p =
+    leaves_found IsQuiet (get p.nodes name) _ (λ node is. leaves_unless IsQuiet _ _ _ (in_pools pool w quiet _))
+tells_quiet pool w quiet (NodeCommand.SetStatus name status) p =
+    leaves_found IsQuiet (get p.nodes name) _ (λ node is. by _ (in_pools pool w quiet _) (is_ready status))
   where
     by : (x : World) → IsQuiet x → (b : Bool) → IsQuiet (if b then x else go_down pool name x)
     by x quiet true = quiet
@@ -171,7 +173,8 @@ module _ (s : State) (quiet : IsQuiet s.world) where
   admin_quiet : (secret : Option Name) (command : AdminCommand) → Leaves IsQuietState (administer secret command s)
   unfolding administer put_namespace delete_namespace put_quota delete_quota put_pool_record delete_pool
   admin_quiet secret AdminCommand.ListNamespaces = quiet
-  admin_quiet secret (AdminCommand.PutNamespace name namespace) = world_quiet (put_namespace name namespace s.world) (put_namespace_quiet name namespace s.world quiet)
+  admin_quiet secret (AdminCommand.PutNamespace name namespace) =
+      world_quiet (put_namespace name namespace s.world) (put_namespace_quiet name namespace s.world quiet)
   admin_quiet secret (AdminCommand.DeleteNamespace name) = world_quiet (delete_namespace name s.world)
       (leaves_found IsQuiet (get s.world.tenants name) _ (λ t is. leaves_unless IsQuiet _ _ _ (leaves_unless IsQuiet _ _ _ (quiet_remove s.world name quiet))))
   admin_quiet secret AdminCommand.ListQuotas = quiet
@@ -180,7 +183,8 @@ module _ (s : State) (quiet : IsQuiet s.world) where
   admin_quiet secret (AdminCommand.DeleteQuota name) = world_quiet (delete_quota name s.world)
       (leaves_found IsQuiet (get s.world.quotas name) _ (λ q is. leaves_unless IsQuiet _ _ _ (in_quotas _)))
   admin_quiet secret AdminCommand.ListPools = quiet
-  admin_quiet secret (AdminCommand.PutPool name pool) = world_quiet (put_pool_record name pool s.world) (leaves_unless IsQuiet _ _ _ (in_pools name s.world quiet _))
+  admin_quiet secret (AdminCommand.PutPool name pool) =
+      world_quiet (put_pool_record name pool s.world) (leaves_unless IsQuiet _ _ _ (in_pools name s.world quiet _))
   admin_quiet secret (AdminCommand.DeletePool name) = world_quiet (delete_pool name s.world)
       (leaves_found IsQuiet (get s.world.pools name) _ (λ p is. leaves_unless IsQuiet _ _ _ (leaves_unless IsQuiet _ _ _ (in_pools name s.world quiet _))))
   admin_quiet secret (AdminCommand.ReadPolicy name) = acl_quiet _
@@ -192,7 +196,8 @@ module _ (s : State) (quiet : IsQuiet s.world) where
 -- ---- workers
 
 module _ (w : World) (quiet : IsQuiet w) (number : ℕ) (ns : Name) where
-  at_work_quiet : (go : Tenant → Worker → Evaluation → Outcome World) → ((t : Tenant) (worker : Worker) (e : Evaluation) → HasNone t → Leaves IsQuiet (go t worker e))
+  at_work_quiet : (go : Tenant → Worker → Evaluation → Outcome World)
+      → ((t : Tenant) (worker : Worker) (e : Evaluation) → HasNone t → Leaves IsQuiet (go t worker e))
       → Leaves IsQuiet (at_work number ns w go)
   at_work_quiet go h = leaves_there IsQuiet (get w.tenants ns) _ (λ t is. leaves_there IsQuiet (get t.workers number) _
       (λ worker _. leaves_there IsQuiet (get t.evaluations worker.evaluation) _ (λ e _. h t worker e (quiet.placed ns t is))))
@@ -227,7 +232,8 @@ module _ (w : World) (quiet : IsQuiet w) (number : ℕ) (ns : Name) where
       ends : (n : ℕ) (t : Tenant) → HasNone t → HasNone (with_status n Status.Failed t)
       ends n t none = by (get t.evaluations n)
         where
-          by : (o : Option Evaluation) → HasNone (option_map_or (λ e. record t { evaluations = insert t.evaluations n (record e { status = Status.Failed }) }) o t)
+          by : (o : Option Evaluation) →
+              HasNone (option_map_or (λ e. record t { evaluations = insert t.evaluations n (record e { status = Status.Failed }) }) o t)
           by None = none
           by (Some e) = none
 

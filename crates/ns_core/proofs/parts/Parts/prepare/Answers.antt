@@ -26,5 +26,6 @@ returns-in-Deregister c = λ secret allowed. prepares c.args.self.now c.args.nam
 pub returns-in-StopAllocation : goal.returns-in-StopAllocation
 returns-in-StopAllocation c = λ secret allowed. prepares c.args.self.now c.args.namespace.now secret c.args.command.now allowed
     (counts (state_of c.args.self.now) c.requires.held c.args.namespace.now c.args.command.now c.requires.writes) c.stop_allocation.result
-    (subst (λ (command : AskCommand). Prepares (counted_ask c.args.namespace.now command (world_of c.args.self.now)) c.args.self.now.tables c.stop_allocation.result)
+    (subst (λ (command : AskCommand). Prepares (counted_ask c.args.namespace.now command (world_of c.args.self.now)) c.args.self.now.tables
+    c.stop_allocation.result)
     (sym c.in-StopAllocation.is) c.stop_allocation.ensures)

@@ -8,5 +8,6 @@ use Rattle.ns_core.proofs.Keeping.{keeps}
 use Rattle.ns_core.proofs.server.Core.ask.Goals as goal
 
 pub invariant_of-self : goal.invariant_of-self
-invariant_of-self c = keeps (Step.Ask c.args.namespace.now (option_copied c.args.secret) c.get.result.now) (state_of c.self.inside.parts) (state_of c.ask.new.self)
+invariant_of-self c = keeps (Step.Ask c.args.namespace.now (option_copied c.args.secret) c.get.result.now) (state_of c.self.inside.parts)
+    (state_of c.ask.new.self)
     (subst (λ command. IsTrue (is_good_ask command)) (sym c.get.ensures.same) c.get.ensures.good) refl c.self.invariant c.ask.result c.ask.ensures
