@@ -60,7 +60,8 @@ impl Parts {
         secret: Option<&Text>,
         command: &AdminCommand,
     ) -> Result<Content, Refusal>
-        ensures { ChangesBy (option_copied secret.entry) command.now self.old result self.new }
+        ensures made { ChangesBy (option_copied secret.entry) command.now self.old result self.new }
+        ensures live { self.new.live ≡ self.old.live }
     {
         match command {
             AdminCommand::ListNamespaces => self.list_namespaces(secret),
@@ -87,6 +88,7 @@ impl Parts {
         requires within { is_past_bound (world_of self.old) ≡ false }
         requires other { is_relimited name.now quota.now (world_of self.old) ≡ true }
         ensures acl { self.new.acl ≡ self.old.acl }
+        ensures live { self.new.live ≡ self.old.live }
         ensures made { Relimits name.now quota.now self.old result self.new }
         ensures content { IfOk result (λ content. content ≡ Content.Written) }
     {
@@ -101,8 +103,9 @@ impl Parts {
     /// Makes the step that an administrator asks, or leaves the state as it is.
     pub fn admin(&mut self, secret: Option<&Text>, command: &AdminCommand) -> Result<Reply, Refusal>
         requires { IsHeld (state_of self.old) }
-        ensures { let step = Step.Admin (option_copied secret.entry) command.now in
+        ensures made { let step = Step.Admin (option_copied secret.entry) command.now in
             MakesStep step self.old result self.new }
+        ensures live { self.new.live ≡ self.old.live }
     {
         if !self.may_administer(secret, command) {
             return Err(Refusal::Denied);

@@ -7,7 +7,7 @@ ghost use Rattle.ns_types.specs.Asking.Asks.{right_of};
 ghost use Rattle.ns_steps.specs.Served.{IsServedAsk};
 ghost use Rattle.ns_jobs.specs.Read.{only_reads};
 ghost use Rattle.ns_core.specs.Answering.{MakesAsk, MakesStep, PreparesAsk};
-ghost use Rattle.ns_core.specs.Held.{IsHeld};
+ghost use Rattle.ns_core.specs.Held.{IsHeld, IsIndexed};
 ghost use Rattle.ns_core.specs.Viewed.{state_of};
 
 use crate::parts::Parts;
@@ -69,7 +69,8 @@ impl Parts {
     fn write(&mut self, namespace: &Text, command: &AskCommand) -> Result<Reply, Refusal>
         requires held { IsHeld (state_of self.old) }
         requires writes { only_reads command.now ≡ false }
-        ensures { MakesAsk namespace.now command.now self.old result self.new }
+        ensures made { MakesAsk namespace.now command.now self.old result self.new }
+        ensures index { IsIndexed self.old → IsIndexed self.new }
     {
         let prepared = self.prepare(namespace, command);
         let content = self.make(prepared)?;
@@ -85,8 +86,9 @@ impl Parts {
     ) -> Result<Reply, Refusal>
         requires held { IsHeld (state_of self.old) }
         requires served { IsServedAsk command.now }
-        ensures { let step = Step.Ask namespace.now (option_copied secret.entry) command.now in
+        ensures made { let step = Step.Ask namespace.now (option_copied secret.entry) command.now in
             MakesStep step self.old result self.new }
+        ensures index { IsIndexed self.old → IsIndexed self.new }
     {
         if !self.may_ask(namespace, secret, command) {
             return Err(Refusal::Denied);

@@ -7,7 +7,7 @@ ghost use Rattle.ns_types.specs.declared.step.Step.TheVariants as Step;
 ghost use Rattle.ns_types.specs.Access.Rights.{pool_rights_of};
 ghost use Rattle.ns_types.specs.Asking.Nodes.{pool_right_of};
 ghost use Rattle.ns_core.specs.Answering.{MakesStep, ReadsPool};
-ghost use Rattle.ns_core.specs.Held.{IsHeld};
+ghost use Rattle.ns_core.specs.Held.{IsHeld, IsIndexed};
 ghost use Rattle.ns_core.specs.Viewed.{state_of};
 
 use crate::parts::{Parts, plain};
@@ -59,8 +59,9 @@ impl Parts {
     ) -> Result<Reply, Refusal>
         requires held { IsHeld (state_of self.old) }
         requires reads { command.now ≡ NodeCommand.ReadPool }
-        ensures { let step = Step.Node pool.now (option_copied secret.entry) command.now in
+        ensures made { let step = Step.Node pool.now (option_copied secret.entry) command.now in
             MakesStep step self.old result self.new }
+        ensures index { IsIndexed self.old → IsIndexed self.new }
     {
         if !self.may_tell(pool, secret, command) {
             return Err(Refusal::Denied);

@@ -1,14 +1,16 @@
-//! All that a core holds: the access lists, and the tables of the whole world.
+//! All that a core holds: the access lists, the tables of the whole world, and the index of live allocations.
 
 ghost use Rattle.std.specs.Prelude.{◌≡◌, IfOk, None, false, option_map};
 ghost use Rattle.std.specs.FinMap.{get};
 ghost use Rattle.ns_types.specs.Steps.{is_past_bound, opening};
 ghost use Rattle.ns_core.specs.Answering.{MakesPrepared};
+ghost use Rattle.ns_core.specs.Held.{IsIndexed};
 ghost use Rattle.ns_core.specs.Viewed.{state_of, world_of};
 
 use ns_acl::Acl;
 use ns_change::Prepared;
 use ns_conclude::conclude;
+use ns_live::Live;
 use ns_types::refusal::Refusal;
 use ns_types::reply::{Content, Reply};
 use ns_types::text::Text;
@@ -19,26 +21,30 @@ use std::alloc::{AllocError, Global};
 pub struct Parts {
     pub acl: Acl,
     pub tables: Tables,
+    pub live: Live,
 }
 
 impl Parts {
     /// The parts of a server that has just begun.
     pub fn opening(alloc: Global, bootstrap: &Text) -> Result<Parts, AllocError>
-        ensures { IfOk result (λ parts. state_of parts ≡ opening bootstrap.now) }
+        ensures state { IfOk result (λ parts. state_of parts ≡ opening bootstrap.now) }
+        ensures index { IfOk result IsIndexed }
     {
         Ok(Parts {
             acl: Acl::new(alloc, bootstrap)?,
             tables: ns_admin::opening(alloc)?,
+            live: Live::new(alloc),
         })
     }
 
     /// Settles what was prepared for a step, or leaves the parts as they are.
     pub fn make(&mut self, prepared: Result<Prepared, Refusal>) -> Result<Content, Refusal>
         requires { is_past_bound (world_of self.old) ≡ false }
-        ensures { MakesPrepared prepared self.old result self.new }
+        ensures made { MakesPrepared prepared self.old result self.new }
+        ensures index { IsIndexed self.old → IsIndexed self.new }
     {
         let Prepared { content, change } = prepared?;
-        if let Err(refusal) = conclude(&mut self.tables, change) {
+        if let Err(refusal) = conclude(&mut self.tables, &mut self.live, change) {
             drop(content);
             return Err(refusal);
         }

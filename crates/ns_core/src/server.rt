@@ -10,6 +10,7 @@ ghost use Rattle.ns_steps.specs.Served.{IsServedAsk};
 
 use crate::parts::Parts;
 use ns_types::good::{GoodAdmin, GoodAsk, GoodTelling};
+use ns_types::name::Secret;
 use ns_types::refusal::Refusal;
 use ns_types::reply::Reply;
 use ns_types::text::Text;
@@ -31,21 +32,20 @@ impl Model for Core {
 
     ghost coded = { Prim.hlevel (codes, code) };
 
-    ghost use Rattle.ns_core.specs.Held.{IsHeld};
+    ghost use Rattle.ns_core.specs.Held.{IsKept};
     ghost use Rattle.ns_core.specs.Viewed.{state_of};
 
     ghost view = { λ c. state_of c.parts };
 
-    ghost invariant = { λ c. IsHeld (state_of c.parts) };
+    ghost invariant = { λ c. IsKept c.parts };
 }
 
 impl Core {
     /// A server that has just begun: the namespace and the pool `default`, and one management token with that secret.
-    pub fn new(alloc: Global, bootstrap: &Text) -> Result<Core, AllocError>
-        requires { IsTrue (is_name NameKind.Secret bootstrap.now) }
+    pub fn new(alloc: Global, bootstrap: &Secret) -> Result<Core, AllocError>
         ensures { IfOk result (λ core. core ≡ opening bootstrap.now) }
     {
-        let parts = Parts::opening(alloc, bootstrap)?;
+        let parts = Parts::opening(alloc, bootstrap.get())?;
         Ok(Core { parts })
     }
 
