@@ -1,9 +1,10 @@
 //! One stored conversation.
 
 use crate::same_bytes::SameBytes;
+use anyhow::Context;
 use ns_http::Counted;
 use ns_pipe::pipe;
-use ns_types::name::{Name, NameKind};
+use ns_types::name::Secret;
 use std::alloc::Global;
 use std::io::Write;
 
@@ -12,22 +13,24 @@ use std::io::Write;
 pub struct Conversation<'a> {
     /// The first line.
     head: &'a str,
-    bootstrap: Name<'a>,
+    bootstrap: Secret,
     /// By how much each draw is greater than the one before.
     step: u8,
     input: &'a str,
 }
 
+const BAD_HEAD: &str = "a bad first line";
+
 impl<'a> Conversation<'a> {
     /// Its first line holds the bootstrap secret, the step of the draws and a name. All that follows is the input.
-    pub fn read(text: &'a str) -> Option<Conversation<'a>> {
-        let (head, input) = text.split_once('\n')?;
-        let (secret, rest) = head.split_once(' ')?;
-        let (step, _) = rest.split_once(' ')?;
-        Some(Conversation {
+    pub fn read(alloc: Global, text: &'a str) -> anyhow::Result<Conversation<'a>> {
+        let (head, input) = text.split_once('\n').context(BAD_HEAD)?;
+        let (secret, rest) = head.split_once(' ').context(BAD_HEAD)?;
+        let (step, _) = rest.split_once(' ').context(BAD_HEAD)?;
+        Ok(Conversation {
             head,
-            bootstrap: Name::read(NameKind::Secret, secret)?,
-            step: step.parse().ok()?,
+            bootstrap: Secret::read(alloc, secret)?.context(BAD_HEAD)?,
+            step: step.parse().ok().context(BAD_HEAD)?,
             input,
         })
     }

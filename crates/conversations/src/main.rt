@@ -15,7 +15,7 @@ const MARK: &str = "\n=== ";
 /// Serves the conversations of the text, one after the other.
 fn serve_all<W: Write>(alloc: Global, text: &str, out: &mut W) -> anyhow::Result<()> {
     for part in text.split(MARK) {
-        let conversation = Conversation::read(part).context("a bad first line")?;
+        let conversation = Conversation::read(alloc, part)?;
         conversation.serve(alloc, out)?;
     }
     Ok(())

@@ -1,5 +1,5 @@
--- What a table ends as, where a `&mut` to a row is returned: the row at the key is the last one that was written through
--- it. Where there was no row, all stays.
+-- What a table ends as, where a `&mut` to a row is returned: the row at the key is the last one that was written
+-- through it. Where there was no row, all stays.
 use Rattle.std.specs.Prelude.{ℕ, Bool, List, Option, Some}
 use Rattle.std.specs.declared.cmp.Ordering.{Ordering}
 use Rattle.std.specs.Borrow.{LendsIf, Fml, RattleType, MutBor}
@@ -15,7 +15,8 @@ module _ (V : RattleType) where
   lends_at_name table key row = LendsIf (NameTable.the_row V) V table row (λ w. insert table.now key (Some w)) table.now
 
   abbrev pub lends_at_number : MutBor (ByNumber (Option V.Denot)) → ℕ → Option (MutBor V.Denot) → Fml
-  lends_at_number table key row = LendsIf (NumberTable.the_row V) V table row (λ w. insert table.now key (Some w)) table.now
+  lends_at_number table key row =
+      LendsIf (NumberTable.the_row V) V table row (λ w. insert table.now key (Some w)) table.now
 
 -- the order of keys, as a bound on their type gives it
 abbrev pub Order : Type 0 → Type 0
@@ -23,7 +24,8 @@ Order K = record { partial_cmp : K → K → Option Ordering; eq : K → K → B
 
 module _ (K V : RattleType) (order : Order K.Denot) where
   abbrev slots_row : RattleType
-  slots_row = Slots.the_row K V (record { cmp = order.cmp }) (record { eq = order.eq }) (record { partial_cmp = order.partial_cmp })
+  slots_row = Slots.the_row K V (record { cmp = order.cmp }) (record { eq = order.eq })
+      (record { partial_cmp = order.partial_cmp })
 
   abbrev pub lends_at_key : MutBor (List (K.Denot × Option V.Denot)) → K.Denot → Option (MutBor V.Denot) → Fml
   lends_at_key slots key row = LendsIf slots_row V slots row (λ w. put order.cmp key (Some w) slots.now) slots.now

@@ -9,7 +9,7 @@ use Rattle.ns_types.proofs.Tables.{table_of-empty, table_of-insert}
 use Rattle.ns_types.specs.State.Names.{ByName, default_name}
 use Rattle.ns_types.specs.State.Tables.{table_of}
 use Rattle.ns_types.specs.Steps.{opening_pool, opening_tenant, opening_world}
-use Rattle.ns_world.specs.declared.tables.PoolRows.{PoolRows as StoredPool}
+use Rattle.ns_world.specs.declared.tables.PoolRows.{PoolRows}
 use Rattle.ns_world.specs.declared.tables.Tables.{Tables}
 use Rattle.ns_world.specs.declared.tables.TenantRows.{TenantRows}
 use Rattle.ns_world.specs.World.{pool_of, quota_of, tenant_of, world_of}
@@ -20,7 +20,7 @@ one_row : {X Y : Type 0} (f : X → Y) (m : ByName X) (x : X) (y : Y) → m ≡ 
 one_row f m x y e g = ap (table_of (λ _ x. f x)) e ∙ table_of-insert names one_name (λ _ x. f x) empty default_name x
     ∙ ap (λ m. insert m default_name (f x)) (table_of-empty names one_name (λ _ x. f x)) ∙ ap (insert empty default_name) g
 
-pub opening_tables : (t : Tables) (x : TenantRows) (p : StoredPool) → rows t.tenants ≡ insert empty default_name x → tenant_of x ≡ opening_tenant
+pub opening_tables : (t : Tables) (x : TenantRows) (p : PoolRows) → rows t.tenants ≡ insert empty default_name x → tenant_of x ≡ opening_tenant
     → rows t.pools ≡ insert empty default_name p → pool_of p ≡ opening_pool → t.quotas ≡ empty
     → t.ready.items ≡ [] → t.plans.items ≡ [] → t.blocked.items ≡ [] → world_of t ≡ opening_world
 unfolding world_of

@@ -16,14 +16,14 @@ use Rattle.ns_types.specs.State.Tables.{map_rows}
 use Rattle.ns_types.specs.Working.Queue.{is_busy, queue}
 use Rattle.ns_types.proofs.Lists.{not_both}
 use Rattle.ns_types.proofs.Named.{names, one_name, same_key_refl}
-use Rattle.ns_types.proofs.Settling.{ends_none}
+use Rattle.ns_types.proofs.Settling.{ends_none, no_classes}
 use Rattle.ns_types.proofs.Tables.{map_rows_idle, tied}
 use Rattle.ns_types.proofs.TableRows.{get_other, get_put, map_rows-put}
 use Rattle.ns_types.proofs.Tests.{same_Some}
 use Rattle.ns_admin.specs.Laws.{QuotaPutSettles, is_limited_by, limited}
 use Rattle.ns_admin.specs.Viewed.{after_release as with_one_more, with_quota_put, with_quota_written}
 use Rattle.ns_admin.proofs.Administering.{limits_kept, put_quota_rests}
-use Rattle.ns_admin.proofs.Resting.{classes_none, classes_of_none, keeps_live}
+use Rattle.ns_admin.proofs.Resting.{classes_none, keeps_live}
 
 -- ---- waking looks at no quota
 
@@ -137,7 +137,7 @@ module _ (w : World) (name : Name) (quota : Quota) (relimited : is_relimited nam
     where
       by : (o : Option Name) → wakes_by w put e o ≡ option_map_or (λ other. same_name other name) o false
       by (Some other) = released_at other
-      by None = ap (list_any (can_use e)) (classes_of_none w put (put_quota_rests w name quota) e.pool)
+      by None = ap (list_any (can_use e)) (no_classes w put (classes_none w put (put_quota_rests w name quota)) e.pool)
 
   woken_is : woken w put ≡ limited name w
   unfolding woken

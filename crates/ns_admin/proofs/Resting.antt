@@ -1,25 +1,21 @@
 -- Steps on records: the rows of namespaces, pools and quotas stay as they are but for their records, a new owner has nothing, and what goes had nothing
 -- that lives. Such a step releases at most quotas with other limits; where there is none, it settles as it is.
-use Rattle.std.specs.Prelude.{◌≡◌, ℕ, ◌+◌, true, false, if◌then◌else◌, ◌&&◌, ◌||◌, [], Option, Some, None, is_some, nat_lt, map}
+use Rattle.std.specs.Prelude.{◌≡◌, ℕ, ◌+◌, true, false, if◌then◌else◌, ◌||◌, [], Option, Some, None, is_some, nat_lt, map}
 use Rattle.std.proofs.Common.{refl, sym, ap, subst, ◌∙◌}
-use Rattle.std.proofs.Math.Bool.{and-false}
-use Rattle.std.specs.List.{list_any}
 use Rattle.std.specs.Option.{option_and_then, option_map_or}
 use Rattle.std.specs.FinMap.{get, get-empty}
 use Rattle.ns_types.specs.declared.allocation.Allocation.{Allocation}
-use Rattle.ns_types.specs.declared.evaluation.Evaluation.{Evaluation}
 use Rattle.ns_types.specs.declared.node.Node.{Node}
 use Rattle.ns_types.specs.Asking.Admins.{new_tenant, with_pool}
-use Rattle.ns_types.specs.State.Names.{Name, has_key, name_cmp}
-use Rattle.ns_types.specs.Settling.Releases.{changes_limits, classes_of, counts_in, gives_room, is_released_quota, released_classes, releases_quota}
-use Rattle.ns_types.specs.Settling.Releases.{wakes, wakes_by, woken}
-use Rattle.ns_types.specs.State.Rows.{World, Tenant, PoolRows, QuotaRows, class_of, evaluation_at, is_live}
-use Rattle.ns_types.specs.Settling.Settle.{after_quota_release, after_release, is_touched, number_releases, settle, stamp, stamp_tenant, stamped, wake}
+use Rattle.ns_types.specs.State.Names.{Name, name_cmp}
+use Rattle.ns_types.specs.Settling.Releases.{changes_limits, counts_in, gives_room, released_classes, releases_quota}
+use Rattle.ns_types.specs.State.Rows.{World, Tenant, PoolRows, QuotaRows, class_of, is_live}
+use Rattle.ns_types.specs.Settling.Settle.{is_touched, settle, stamp, stamp_tenant, stamped}
 use Rattle.ns_types.specs.Steps.{greatest, is_past_bound, is_pool_past_bound, is_tenant_past_bound}
 use Rattle.ns_types.specs.State.Tables.{any_row}
-use Rattle.ns_types.proofs.Lists.{each, filter_none, left_none, not_both, right_none}
+use Rattle.ns_types.proofs.Lists.{left_none, not_both, right_none}
 use Rattle.ns_types.proofs.Named.{names, one_name}
-use Rattle.ns_types.proofs.Settling.{KeepsLive, ends_none, live_in, node_gives_none, untouched, wake_none}
+use Rattle.ns_types.proofs.Settling.{KeepsLive, ends_none, live_in, node_gives_none, stamps_alone, untouched}
 use Rattle.ns_types.proofs.Tables.{any_row-none, map_rows_idle, none_of_any}
 use Rattle.ns_types.proofs.TableRows.{any_row-empty, filter_no_row}
 
@@ -83,13 +79,6 @@ module _ (w w' : World) (rests : Rests w w') where
   classes_none name p' is = ap (λ es. map (λ e. class_of e.1) es)
       (filter_no_row names one_name (gives_room w w' name) p'.nodes (λ n node at. gives_none name p' n node is at))
 
-  pub classes_of_none : (name : Name) → classes_of w w' name ≡ []
-  classes_of_none name = by (get w'.pools name) refl
-    where
-      by : (o : Option PoolRows) → get w'.pools name ≡ o → option_map_or (released_classes w w' name) o [] ≡ []
-      by None is = refl
-      by (Some p) is = classes_none name p is
-
   -- ---- nothing is stamped
 
   rested : (ns : Name) (t' : Tenant) → get w'.tenants ns ≡ Some t' → stamp_tenant (get w.tenants ns) t' ≡ t'
@@ -113,41 +102,8 @@ module _ (w w' : World) (rests : Rests w w') where
     unfolding releases_quota
     quota_none name q' is = λ i. keeps name q' is i || ends_none w w' keeps_live (counts_in name) i
 
-    released_quota_none : (name : Name) → is_released_quota w w' name ≡ false
-    released_quota_none name = by (get w'.quotas name) refl
-      where
-        by : (o : Option QuotaRows) → get w'.quotas name ≡ o → option_map_or (releases_quota w w' name) o false ≡ false
-        by None is = refl
-        by (Some q) is = quota_none name q is
-
-    wakes_not : (e : Evaluation) → wakes w w' e ≡ false
-    unfolding wakes
-    wakes_not e = by e.quota
-      where
-        by : (q : Option Name) → wakes_by w w' e q ≡ false
-        by (Some q) = released_quota_none q
-        by None = ap (list_any _) (classes_of_none e.pool)
-
-    pub wakes_none : woken w w' ≡ []
-    unfolding woken
-    wakes_none = filter_none _ w.blocked (each _ (λ key. ap (λ b. has_key w'.blocked key && b) (by (evaluation_at w key)) ∙ and-false (has_key w'.blocked key))
-        w.blocked)
-      where
-        by : (e : Option Evaluation) → option_map_or (wakes w w') e false ≡ false
-        by None = refl
-        by (Some e) = wakes_not e
-
-    pub numbers_none : number_releases w w' w' ≡ w'
-    unfolding number_releases
-    numbers_none = λ i. record w' {
-      pools = map_rows_idle names one_name _ w'.pools (λ name p is. ap (λ classes. after_release classes p) (classes_none name p is)) i;
-      quotas = map_rows_idle names one_name _ w'.quotas (λ name q is. ap (λ b. after_quota_release b q) (quota_none name q is)) i;
-    }
-
     pub settles_so : settle w w' ≡ w'
-    unfolding settle
-    settles_so = ap (λ keys. stamp w (number_releases w w' (wake keys w'))) wakes_none ∙ ap (λ x. stamp w (number_releases w w' x)) (wake_none w')
-        ∙ ap (stamp w) numbers_none ∙ stamps_none
+    settles_so = stamps_alone w w' classes_none quota_none ∙ stamps_none
 
   -- ---- no counter passes its bound
 

@@ -11,8 +11,8 @@ use Rattle.ns_types.specs.Asking.Admins.{is_full, new_tenant, with_namespace, wi
 use Rattle.ns_types.specs.Settling.Making.{put_pool, put_tenant}
 use Rattle.ns_types.specs.State.Names.{Name, name_cmp}
 use Rattle.ns_types.proofs.Tests.{some_mapped}
-use Rattle.ns_world.specs.declared.tables.PoolRows.{PoolRows as StoredPool}
-use Rattle.ns_world.specs.declared.tables.QuotaRows.{QuotaRows as StoredQuota}
+use Rattle.ns_world.specs.declared.tables.PoolRows.{PoolRows}
+use Rattle.ns_world.specs.declared.tables.QuotaRows.{QuotaRows}
 use Rattle.ns_world.specs.declared.tables.Tables.{Tables}
 use Rattle.ns_world.specs.declared.tables.TenantRows.{TenantRows}
 use Rattle.ns_world.specs.World.{pool_of, quota_of, tenant_of, world_of}
@@ -26,14 +26,14 @@ module _ (t : Tables) (name : Name) where
   pub tenant_is : (x : Option TenantRows) → row_at t.tenants name ≡ x → get (world_of t).tenants name ≡ option_map tenant_of x
   tenant_is x e = tenant_at t name ∙ ap (option_map tenant_of) e
 
-  pub pool_is : (x : Option StoredPool) → row_at t.pools name ≡ x → get (world_of t).pools name ≡ option_map pool_of x
+  pub pool_is : (x : Option PoolRows) → row_at t.pools name ≡ x → get (world_of t).pools name ≡ option_map pool_of x
   pool_is x e = pool_at t name ∙ ap (option_map pool_of) e
 
-  pub quota_is : (x : Option StoredQuota) → row_at t.quotas name ≡ x → get (world_of t).quotas name ≡ option_map quota_of x
+  pub quota_is : (x : Option QuotaRows) → row_at t.quotas name ≡ x → get (world_of t).quotas name ≡ option_map quota_of x
   unfolding world_of
   quota_is x e = found_at quota_of t.quotas name x e
 
-  pub pool_there : (x : Option StoredPool) → row_at t.pools name ≡ x → contains_key (world_of t).pools name ≡ is_some x
+  pub pool_there : (x : Option PoolRows) → row_at t.pools name ≡ x → contains_key (world_of t).pools name ≡ is_some x
   pool_there x e = ap is_some (pool_is x e) ∙ some_mapped pool_of x
 
   -- ---- whether there is room
@@ -80,7 +80,7 @@ module _ (t : Tables) (name : Name) where
   -- ---- pools
 
   -- the record of a pool that is there, over what it has
-  pub pool_over : (n : FinMap name_cmp (Option StoredPool)) (pool : Pool) (x : StoredPool) → row_at t.pools name ≡ Some x →
+  pub pool_over : (n : FinMap name_cmp (Option PoolRows)) (pool : Pool) (x : PoolRows) → row_at t.pools name ≡ Some x →
       n ≡ insert t.pools name (Some (record x { pool = pool }))
       → world_of (record t { pools = n }) ≡ put_pool name (with_pool pool (get (world_of t).pools name)) (world_of t)
   unfolding world_of
@@ -90,7 +90,7 @@ module _ (t : Tables) (name : Name) where
   }
 
   -- the record of a new one
-  pub pool_new : (m n : FinMap name_cmp (Option StoredPool)) (pool : Pool) (x : StoredPool) → row_at t.pools name ≡ None →
+  pub pool_new : (m n : FinMap name_cmp (Option PoolRows)) (pool : Pool) (x : PoolRows) → row_at t.pools name ≡ None →
       pool_of x ≡ with_pool pool None → m ≡ with_slot t.pools name → n ≡ insert m name (Some x)
       → world_of (record t { pools = n }) ≡ put_pool name (with_pool pool (get (world_of t).pools name)) (world_of t)
   unfolding world_of
@@ -99,7 +99,7 @@ module _ (t : Tables) (name : Name) where
         ∙ ap (insert (world_of t).pools name) (new ∙ ap (with_pool pool) (sym (pool_is None at)))) i;
   }
 
-  pub pool_removed : (n : FinMap name_cmp (Option StoredPool)) → n ≡ remove t.pools name →
+  pub pool_removed : (n : FinMap name_cmp (Option PoolRows)) → n ≡ remove t.pools name →
       world_of (record t { pools = n }) ≡ record (world_of t) { pools = remove (world_of t).pools name }
   unfolding world_of
   pool_removed n e = λ i. record (world_of t) { pools = shown-remove pool_of t.pools n name e i }
@@ -107,7 +107,7 @@ module _ (t : Tables) (name : Name) where
   -- ---- quotas
 
   -- the record of a quota that is there, with its release number
-  pub quota_over : (n : FinMap name_cmp (Option StoredQuota)) (quota : Quota) (x : StoredQuota) → row_at t.quotas name ≡ Some x →
+  pub quota_over : (n : FinMap name_cmp (Option QuotaRows)) (quota : Quota) (x : QuotaRows) → row_at t.quotas name ≡ Some x →
       n ≡ insert t.quotas name (Some (record x { quota = quota }))
       → world_of (record t { quotas = n }) ≡ with_quota_written name (with_quota quota (get (world_of t).quotas name)) (world_of t)
   unfolding world_of
@@ -117,7 +117,7 @@ module _ (t : Tables) (name : Name) where
   }
 
   -- the record of a new one
-  pub quota_new : (m n : FinMap name_cmp (Option StoredQuota)) (quota : Quota) → row_at t.quotas name ≡ None →
+  pub quota_new : (m n : FinMap name_cmp (Option QuotaRows)) (quota : Quota) → row_at t.quotas name ≡ None →
       m ≡ with_slot t.quotas name → n ≡ insert m name (Some (record { quota = quota; release = 0 }))
       → world_of (record t { quotas = n }) ≡ with_quota_written name (with_quota quota (get (world_of t).quotas name)) (world_of t)
   unfolding world_of
@@ -126,13 +126,13 @@ module _ (t : Tables) (name : Name) where
         ∙ ap (λ y. insert (world_of t).quotas name (with_quota quota y)) (sym (quota_is None at))) i;
   }
 
-  pub quota_removed : (n : FinMap name_cmp (Option StoredQuota)) → n ≡ remove t.quotas name →
+  pub quota_removed : (n : FinMap name_cmp (Option QuotaRows)) → n ≡ remove t.quotas name →
       world_of (record t { quotas = n }) ≡ record (world_of t) { quotas = remove (world_of t).quotas name }
   unfolding world_of
   quota_removed n e = λ i. record (world_of t) { quotas = shown-remove quota_of t.quotas n name e i }
 
   -- a quota that is there is released, and one that is not there changes nothing
-  pub released : (n : FinMap name_cmp (Option StoredQuota)) (x : StoredQuota) → row_at t.quotas name ≡ Some x →
+  pub released : (n : FinMap name_cmp (Option QuotaRows)) (x : QuotaRows) → row_at t.quotas name ≡ Some x →
       n ≡ insert t.quotas name (Some (record x { release = x.release + 1 }))
       → world_of (record t { quotas = n }) ≡ with_release name (world_of t)
   unfolding world_of

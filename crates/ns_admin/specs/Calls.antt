@@ -9,7 +9,7 @@ use Rattle.ns_types.specs.declared.reply.Content.{Content}
 use Rattle.ns_types.specs.Settling.Outcome.{Changes, Outcome}
 use Rattle.ns_types.specs.State.Names.{Name}
 use Rattle.ns_types.specs.State.Rows.{World}
-use Rattle.ns_world.specs.declared.tables.QuotaRows.{QuotaRows as StoredQuota}
+use Rattle.ns_world.specs.declared.tables.QuotaRows.{QuotaRows}
 use Rattle.ns_world.specs.declared.tables.Tables.{Tables}
 use Rattle.ns_world.specs.World.{world_of}
 
@@ -25,7 +25,7 @@ Writes change old result new = OnOk result (world_of new ≡ change (world_of ol
 
 -- the quota, if it is there, may have one more release
 abbrev pub MayRelease : Tables → Name → Type 0
-MayRelease tables name = (row : StoredQuota) → row_at tables.quotas name ≡ Some row → row.release < 2 ^ 64 - 1
+MayRelease tables name = (row : QuotaRows) → row_at tables.quotas name ≡ Some row → row.release < 2 ^ 64 - 1
 
 -- ---- lists of those whose names pass
 

@@ -22,7 +22,7 @@ use Rattle.ns_types.specs.State.Rows.{World, Tenant, QuotaRows, is_live, is_open
 use Rattle.ns_types.specs.State.Sums.{names_quota}
 use Rattle.ns_types.specs.State.Tables.{any_row}
 use Rattle.ns_types.specs.Steps.{greatest}
-use Rattle.ns_world.specs.declared.tables.PoolRows.{PoolRows as StoredPool}
+use Rattle.ns_world.specs.declared.tables.PoolRows.{PoolRows}
 use Rattle.ns_world.specs.declared.tables.QuotaRows.{QuotaRows as StoredQuota}
 use Rattle.ns_world.specs.declared.tables.TenantRows.{TenantRows}
 use Rattle.ns_world.specs.World.{tenant_of}
@@ -132,5 +132,5 @@ quota_shown e = record { name = e.0; row = e.1.quota }
 abbrev pub content_of_quota : Name → Quota → Content
 content_of_quota name quota = Content.Quota (record { name = name; row = quota })
 
-abbrev pub pool_shown : Name × StoredPool → PoolShown
+abbrev pub pool_shown : Name × PoolRows → PoolShown
 pool_shown e = record { name = e.0; row = e.1.pool }

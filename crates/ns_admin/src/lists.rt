@@ -14,6 +14,44 @@ use ns_types::text::Text;
 use ns_world::{PoolRows, QuotaRows, Tables, TenantRows};
 use std::alloc::{AllocError, Global};
 
+/// A row that lists by name show.
+trait Listed {
+    ghost use Rattle.ns_types.specs.State.Names.{Name};
+
+    type Shown: Drop;
+
+    ghost listed: { Name × Self → Self.Shown };
+
+    fn show(&self, name: &Text) -> Result<Self::Shown, AllocError>
+        ensures { IfOk result (λ shown. shown ≡ listed (name.now, self.now)) };
+}
+
+impl Listed for TenantRows {
+    type Shown = NamespaceShown;
+
+    ghost listed = { namespace_shown };
+
+    fn show(&self, name: &Text) -> Result<NamespaceShown, AllocError> {
+        Ok(NamespaceShown {
+            name: name.clone()?,
+            row: self.namespace.clone()?,
+        })
+    }
+}
+
+impl Listed for PoolRows {
+    type Shown = PoolShown;
+
+    ghost listed = { pool_shown };
+
+    fn show(&self, name: &Text) -> Result<PoolShown, AllocError> {
+        Ok(PoolShown {
+            name: name.clone()?,
+            row: self.pool.clone()?,
+        })
+    }
+}
+
 fn show_quotas(alloc: Global, slots: &[Slot<QuotaRows>]) -> Result<Rows<QuotaShown>, AllocError>
     ensures { IfOk result (λ shown. shown ≡ map quota_shown (row_list slots.now)) }
 {
@@ -31,47 +69,21 @@ fn show_quotas(alloc: Global, slots: &[Slot<QuotaRows>]) -> Result<Rows<QuotaSho
     Ok(shown)
 }
 
-fn show_namespaces<F: Fn(&Text) -> bool>(
+/// What lists show of the rows whose names pass, by name.
+fn show_passing<V: Listed, F: Fn(&Text) -> bool>(
     alloc: Global,
-    slots: &[Slot<TenantRows>],
+    slots: &[Slot<V>],
     shows: F,
-) -> Result<Rows<NamespaceShown>, AllocError>
+) -> Result<Rows<V::Shown>, AllocError>
     requires { F.IsAlwaysCallable shows }
-    ensures { ShowsPassing F.Fn shows namespace_shown slots.now result }
+    ensures { ShowsPassing F.Fn shows V.listed slots.now result }
 {
     let mut shown = Rows::new(alloc);
     let mut rest = slots;
     while let Some(((name, row), others)) = rest.split_first() {
-        if let Some(tenant) = row {
+        if let Some(found) = row {
             if shows(name) {
-                shown.push(NamespaceShown {
-                    name: name.clone()?,
-                    row: tenant.namespace.clone()?,
-                })?;
-            }
-        }
-        rest = others;
-    }
-    Ok(shown)
-}
-
-fn show_pools<F: Fn(&Text) -> bool>(
-    alloc: Global,
-    slots: &[Slot<PoolRows>],
-    shows: F,
-) -> Result<Rows<PoolShown>, AllocError>
-    requires { F.IsAlwaysCallable shows }
-    ensures { ShowsPassing F.Fn shows pool_shown slots.now result }
-{
-    let mut shown = Rows::new(alloc);
-    let mut rest = slots;
-    while let Some(((name, row), others)) = rest.split_first() {
-        if let Some(pool) = row {
-            if shows(name) {
-                shown.push(PoolShown {
-                    name: name.clone()?,
-                    row: pool.pool.clone()?,
-                })?;
+                shown.push(found.show(name)?)?;
             }
         }
         rest = others;
@@ -95,7 +107,7 @@ pub fn list_namespaces<F: Fn(&Text) -> bool>(
     requires { F.IsAlwaysCallable shows }
     ensures { ListsPassing F.Fn shows list_namespaces tables.now result }
 {
-    let shown = show_namespaces(tables.alloc, tables.tenants.as_slice(), shows)?;
+    let shown = show_passing(tables.alloc, tables.tenants.as_slice(), shows)?;
     Ok(Content::Namespaces(shown))
 }
 
@@ -104,6 +116,6 @@ pub fn list_pools<F: Fn(&Text) -> bool>(tables: &Tables, shows: F) -> Result<Con
     requires { F.IsAlwaysCallable shows }
     ensures { ListsPassing F.Fn shows list_pools tables.now result }
 {
-    let shown = show_pools(tables.alloc, tables.pools.as_slice(), shows)?;
+    let shown = show_passing(tables.alloc, tables.pools.as_slice(), shows)?;
     Ok(Content::Pools(shown))
 }

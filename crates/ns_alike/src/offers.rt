@@ -24,8 +24,9 @@ pub fn same_resources(a: Resources, b: Resources) -> bool
     same_number(a.cpu, b.cpu) && same_number(a.memory, b.memory)
 }
 
+/// Whether the attributes are equal.
 #[tactic(auto, using(crate::proofs::Equal::attribute_ties))]
-fn same_attribute(a: &Attribute, b: &Attribute) -> bool
+pub fn same_attribute(a: &Attribute, b: &Attribute) -> bool
     ensures { result ≡ eq_by_cmp attribute_cmp a.now b.now }
 {
     same_text(&a.key, &b.key) && same_text(&a.value, &b.value)
@@ -83,7 +84,8 @@ pub fn is_free(node: &Node) -> bool
     }
 }
 
-fn is_unique(key: &Text) -> bool
+/// Whether the attribute of that key is not part of a node's class.
+pub fn is_unique(key: &Text) -> bool
     ensures { result ≡ is_unique key.now }
 {
     key.as_str().as_bytes().starts_with(b"unique.")

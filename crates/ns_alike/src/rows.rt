@@ -89,24 +89,31 @@ fn same_cause(a: &Evaluation, b: &Evaluation) -> bool
         && same_trigger(a.trigger, b.trigger)
 }
 
-/// Whether what became of them is the same of both.
-fn same_course(a: &Evaluation, b: &Evaluation) -> bool
-    ensures { result ≡ same_course a.now b.now }
+/// Whether what became of them is the same of both, once the second is of that status.
+fn same_course(a: &Evaluation, b: &Evaluation, status: Status) -> bool
+    ensures { result ≡ same_course a.now (record b.now { status = status }) }
 {
-    same_status(a.status, b.status)
+    same_status(a.status, status)
         && same_optional_number(a.previous, b.previous)
         && same_optional_number(a.follower, b.follower)
         && same_optional_text(a.quota.as_ref(), b.quota.as_ref())
         && same_flag(a.escapes, b.escapes)
 }
 
+/// Whether replies show the same of both, once the second is of that status.
+pub fn same_with_status(a: &Evaluation, b: &Evaluation, status: Status) -> bool
+    ensures { result ≡ same_evaluation a.now (record b.now { status = status }) }
+{
+    let cause = same_cause(a, b);
+    let course = same_course(a, b, status);
+    cause & course
+}
+
 /// Whether replies show the same of both.
 pub fn same_evaluation(a: &Evaluation, b: &Evaluation) -> bool
     ensures { result ≡ same_evaluation a.now b.now }
 {
-    let cause = same_cause(a, b);
-    let course = same_course(a, b);
-    cause & course
+    same_with_status(a, b, b.status)
 }
 
 /// Whether replies show the same of both.

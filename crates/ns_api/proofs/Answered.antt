@@ -73,6 +73,14 @@ rendered_shape Shape.Job (Content.Job shown) reads t = tt
 rendered_shape Shape.Job _ reads t = absurd t
 rendered_shape Shape.Jobs (Content.Jobs shown) reads t = tt
 rendered_shape Shape.Jobs _ reads t = absurd t
+rendered_shape Shape.Evaluation (Content.Evaluation shown) reads t = tt
+rendered_shape Shape.Evaluation _ reads t = absurd t
+rendered_shape Shape.Evaluations (Content.Evaluations shown) reads t = tt
+rendered_shape Shape.Evaluations _ reads t = absurd t
+rendered_shape Shape.Allocation (Content.Allocation shown) reads t = tt
+rendered_shape Shape.Allocation _ reads t = absurd t
+rendered_shape Shape.Allocations (Content.Allocations shown) reads t = tt
+rendered_shape Shape.Allocations _ reads t = absurd t
 rendered_shape Shape.Namespace (Content.Namespace shown) reads t = tt
 rendered_shape Shape.Namespace _ reads t = absurd t
 rendered_shape Shape.Namespaces (Content.Namespaces shown) reads t = tt
@@ -85,11 +93,14 @@ rendered_shape Shape.Pool (Content.Pool shown) reads t = tt
 rendered_shape Shape.Pool _ reads t = absurd t
 rendered_shape Shape.Pools (Content.Pools shown) reads t = tt
 rendered_shape Shape.Pools _ reads t = absurd t
+rendered_shape Shape.Nodes (Content.Nodes shown) reads t = tt
+rendered_shape Shape.Nodes _ reads t = absurd t
 rendered_shape Shape.Policy (Content.Policy shown) reads t = tt
 rendered_shape Shape.Policy _ reads t = absurd t
 rendered_shape Shape.Usage (Content.Usage name used) reads t = tt
 rendered_shape Shape.Usage _ reads t = absurd t
 rendered_shape Shape.Registered _ reads t = not_both refl reads
+rendered_shape Shape.Stopped _ reads t = not_both refl reads
 rendered_shape Shape.Written _ reads t = not_both refl reads
 rendered_shape (Shape.TokenOf new) _ reads t = not_both refl reads
 
@@ -113,8 +124,14 @@ room_of_registered : (room : Option Name) (content : Content) → Holds Shape.Re
 room_of_registered room (Content.Registered evaluation index modified) t = tt
 room_of_registered room _ t = absurd t
 
+room_of_stopped : (room : Option Name) (content : Content) → Holds Shape.Stopped content → HasRoom room content
+room_of_stopped room (Content.Stopped evaluation index) t = tt
+room_of_stopped room _ t = absurd t
+
 write_fits : (step : Step) (content : Content) → IsServed step → is_reading step ≡ false → IsToldBy step content → HasRoom (room_of step) content
 write_fits (Step.Ask ns secret (AskCommand.Register r)) content served e t = room_of_registered None content t
+write_fits (Step.Ask ns secret (AskCommand.Deregister id purge)) content served e t = room_of_registered None content t
+write_fits (Step.Ask ns secret (AskCommand.StopAllocation n)) content served e t = room_of_stopped None content t
 write_fits (Step.Ask ns secret _) content served e t = not_both refl e
 write_fits (Step.Admin secret (AdminCommand.PutNamespace name namespace)) content served e t = room_of_written None content t
 write_fits (Step.Admin secret (AdminCommand.DeleteNamespace name)) content served e t = room_of_written None content t
@@ -128,7 +145,10 @@ write_fits (Step.Admin secret (AdminCommand.CreateToken new)) content served e t
     subst (λ c. HasRoom (room_of (Step.Admin secret (AdminCommand.CreateToken new))) c) (sym t) refl
 write_fits (Step.Admin secret (AdminCommand.DeleteToken accessor)) content served e t = room_of_written None content t
 write_fits (Step.Admin secret _) content served e t = not_both refl e
-write_fits (Step.Node pool secret NodeCommand.ReadPool) content served e t = not_both refl e
+write_fits (Step.Node pool secret (NodeCommand.PutNode name offer)) content served e t = room_of_written None content t
+write_fits (Step.Node pool secret (NodeCommand.DeleteNode name)) content served e t = room_of_written None content t
+write_fits (Step.Node pool secret (NodeCommand.SetStatus name status)) content served e t = room_of_written None content t
+write_fits (Step.Node pool secret (NodeCommand.SetEligible name eligible)) content served e t = room_of_written None content t
 write_fits (Step.Node pool secret _) content served e t = not_both refl e
 write_fits _ content served e t = not_both refl e
 

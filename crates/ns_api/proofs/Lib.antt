@@ -2,3 +2,4 @@ pub mod Runs
 pub mod Connections
 pub mod Answered
 pub mod Steps
+mod Drawn

@@ -1,6 +1,7 @@
 -- What a request asks for: a step, or the refusal that needs no state.
 use Rattle.std.specs.Prelude.{ℕ, List, [], Option, Some, None, option_map, unwrap_or, Result, Ok, Err}
 use Rattle.uuid.specs.Text.{hyphenated_text, lower, parsed}
+use Rattle.ns_types.specs.declared.id.IdKind.TheVariants as IdKind
 use Rattle.ns_types.specs.declared.refusal.Refusal.{Refusal}
 use Rattle.ns_types.specs.declared.step.AdminCommand.{AdminCommand}
 use Rattle.ns_types.specs.declared.step.AskCommand.{AskCommand}
@@ -8,7 +9,7 @@ use Rattle.ns_types.specs.declared.step.NewToken.{NewToken}
 use Rattle.ns_types.specs.declared.step.NodeCommand.TheVariants as NodeCommand
 use Rattle.ns_types.specs.declared.step.Step.{Step}
 use Rattle.ns_types.specs.Wire.Http.{Asked}
-use Rattle.ns_types.specs.State.Names.{Name, default_name}
+use Rattle.ns_types.specs.State.Names.{Name}
 use Rattle.ns_documents.specs.declared.token.TokenDocument.{TokenDocument}
 use Rattle.ns_documents.specs.Access.{policy_in, token_in}
 use Rattle.ns_documents.specs.Records
@@ -17,21 +18,13 @@ use Rattle.ns_json.specs.Registration.{registration_in}
 use Rattle.ns_request.specs.declared.endpoint.Endpoint.{Endpoint}
 use Rattle.ns_request.specs.declared.method.Method.{Method}
 use Rattle.ns_request.specs.Finding.{found}
-use Rattle.ns_request.specs.Queries.{namespace_in, prefix_of}
+use Rattle.ns_request.specs.Queries.{namespace_in, purge_in}
 use Rattle.ns_request.specs.Secrets.{secret_of}
-use Rattle.ns_request.specs.Targets.{path_in, query_in, text_at}
+use Rattle.ns_request.specs.Targets.{query_in}
+use Rattle.ns_api.specs.Parts.{bearer_in, fourth_part, namespace_of, number_in, prefix_in, third_part}
+use Rattle.ns_api.specs.Telling.{eligibility_put, node_deleted, node_put, nodes_listed, status_put}
 
--- ---- who asks, and where
-
--- the parameter's namespace, else the document's, else `default`
-abbrev pub namespace_of : Option Name → Option Name → Name
-namespace_of parameter document = unwrap_or parameter (unwrap_or document default_name)
-
--- the secret of a request that names no namespace; a parameter that is no namespace's name is a fault all the same
-unfoldable pub bearer_in : Asked → Result (Option Name) Refusal
-bearer_in a = do
-  parameter ← namespace_in (query_in a.target)
-  Ok (secret_of a.token)
+-- ---- commands by who asks
 
 unfoldable pub ask_of : AskCommand → Asked → Result Step Refusal
 ask_of command a = do
@@ -43,20 +36,17 @@ admin_of command a = do
   secret ← bearer_in a
   Ok (Step.Admin secret command)
 
--- ---- parts of the request
-
-abbrev pub third_part : Asked → Name
-third_part a = text_at 3 (path_in a.target)
-
-abbrev pub fourth_part : Asked → Name
-fourth_part a = text_at 4 (path_in a.target)
-
-abbrev pub prefix_in : Asked → Name
-prefix_in a = prefix_of (query_in a.target)
-
 -- the text of the UUID that a text is, in lower case with hyphens
 abbrev pub canonical : Name → Name
 canonical text = unwrap_or (option_map (hyphenated_text lower) (parsed text)) []
+
+-- ---- a deregistration; a fault of the namespace comes first
+
+unfoldable pub deregistration_asked : Asked → Result Step Refusal
+deregistration_asked a = do
+  parameter ← namespace_in (query_in a.target)
+  purge ← purge_in (query_in a.target)
+  Ok (Step.Ask (namespace_of parameter None) (secret_of a.token) (AskCommand.Deregister (third_part a) purge))
 
 -- ---- documents; their faults come before the parameter's
 
@@ -119,7 +109,22 @@ by_kind Method.Delete get write delete = delete
 unfoldable pub asked_of : Endpoint → Method → Asked → Result Step Refusal
 asked_of Endpoint.Jobs method a = by_kind method (ask_of (AskCommand.ListJobs (prefix_in a)) a) (registration_asked a)
     not_served
-asked_of Endpoint.Job method a = by_kind method (ask_of (AskCommand.ReadJob (third_part a)) a) not_served not_served
+asked_of Endpoint.Job method a = by_kind method (ask_of (AskCommand.ReadJob (third_part a)) a) not_served
+    (deregistration_asked a)
+asked_of Endpoint.JobAllocations method a = by_kind method (ask_of (AskCommand.JobAllocations (third_part a)) a)
+    not_served not_served
+asked_of Endpoint.JobEvaluations method a = by_kind method (ask_of (AskCommand.JobEvaluations (third_part a)) a)
+    not_served not_served
+asked_of Endpoint.Evaluations method a = by_kind method (ask_of (AskCommand.ListEvaluations (prefix_in a)) a)
+    not_served not_served
+asked_of Endpoint.Evaluation method a = by_kind method
+    (ask_of (AskCommand.ReadEvaluation (number_in IdKind.Evaluation a)) a) not_served not_served
+asked_of Endpoint.Allocations method a = by_kind method (ask_of (AskCommand.ListAllocations (prefix_in a)) a)
+    not_served not_served
+asked_of Endpoint.Allocation method a = by_kind method
+    (ask_of (AskCommand.ReadAllocation (number_in IdKind.Allocation a)) a) not_served not_served
+asked_of Endpoint.AllocationStop method a = by_kind method not_served
+    (ask_of (AskCommand.StopAllocation (number_in IdKind.Allocation a)) a) not_served
 asked_of Endpoint.Namespaces method a = by_kind method (admin_of AdminCommand.ListNamespaces a) not_served not_served
 asked_of Endpoint.NewNamespace method a = by_kind method not_served (namespace_put None a) not_served
 asked_of Endpoint.Namespace method a = by_kind method (namespace_read a) (namespace_put (Some (third_part a)) a)
@@ -133,12 +138,17 @@ asked_of Endpoint.QuotaUsage method a = by_kind method (ask_of (AskCommand.Quota
 asked_of Endpoint.Pools method a = by_kind method (admin_of AdminCommand.ListPools a) (pool_put None a) not_served
 asked_of Endpoint.Pool method a = by_kind method (pool_read a) (pool_put (Some (fourth_part a)) a)
     (admin_of (AdminCommand.DeletePool (fourth_part a)) a)
+asked_of Endpoint.PoolNodes method a = by_kind method (nodes_listed a) not_served not_served
+asked_of Endpoint.Node method a = by_kind method not_served (node_put a) (node_deleted a)
+asked_of Endpoint.NodeStatus method a = by_kind method not_served (status_put a) not_served
+asked_of Endpoint.NodeEligibility method a = by_kind method not_served (eligibility_put a) not_served
 asked_of Endpoint.Policy method a = by_kind method (admin_of (AdminCommand.ReadPolicy (fourth_part a)) a) (policy_put a)
     (admin_of (AdminCommand.DeletePolicy (fourth_part a)) a)
 asked_of Endpoint.NewToken method a = by_kind method not_served (token_asked a) not_served
 asked_of Endpoint.Token method a = by_kind method not_served not_served
     (admin_of (AdminCommand.DeleteToken (canonical (fourth_part a))) a)
-asked_of _ method a = not_served
+asked_of Endpoint.NodeReport method a = not_served
+asked_of Endpoint.EventStream method a = not_served
 
 unfoldable pub asked : Asked → Result Step Refusal
 asked a = do

@@ -1,5 +1,6 @@
-pub mod Asking
+pub mod Parts
 pub mod Telling
+pub mod Asking
 pub mod Wanted
 pub mod Drawing
 pub mod Rooms

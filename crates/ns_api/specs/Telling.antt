@@ -1,4 +1,4 @@
--- What a request tells of a node: a step, or the refusal that needs no state. No request asks for these steps yet.
+-- What a request tells of a node: a step, or the refusal that needs no state.
 use Rattle.std.specs.Prelude.{List, ℕ, Result, Ok}
 use Rattle.ns_types.specs.declared.refusal.Refusal.{Refusal}
 use Rattle.ns_types.specs.declared.step.NodeCommand.{NodeCommand}
@@ -7,13 +7,9 @@ use Rattle.ns_types.specs.Wire.Http.{Asked}
 use Rattle.ns_types.specs.State.Names.{Name}
 use Rattle.ns_documents.specs.Nodes.{node_in, node_status_in, eligibility_in, report_in}
 use Rattle.ns_json.specs.Reading.{◌>>=◌, body_in}
-use Rattle.ns_request.specs.Targets.{path_in, text_at}
-use Rattle.ns_api.specs.Asking.{bearer_in, fourth_part}
+use Rattle.ns_api.specs.Parts.{bearer_in, fourth_part, sixth_part}
 
 -- the pool is the path's fourth part, and the node its sixth
-abbrev pub sixth_part : Asked → Name
-sixth_part a = text_at 6 (path_in a.target)
-
 unfoldable pub node_of : NodeCommand → Asked → Result Step Refusal
 node_of command a = do
   secret ← bearer_in a
@@ -40,5 +36,6 @@ status_put = node_by (body_in node_status_in) NodeCommand.SetStatus
 abbrev pub eligibility_put : Asked → Result Step Refusal
 eligibility_put = node_by (body_in eligibility_in) NodeCommand.SetEligible
 
+-- no request asks for it yet
 abbrev pub report_put : Asked → Result Step Refusal
 report_put = node_by (body_in report_in) NodeCommand.Report

@@ -9,15 +9,17 @@ ghost use Rattle.ns_replies.specs.Rendered.{HasRoom, IsRendered};
 ghost use Rattle.ns_api.specs.Answering.{AnswersAsked, AnswersOrWants, ShowsOrWants};
 ghost use Rattle.ns_api.specs.Rooms.{room_of};
 ghost use Rattle.ns_api.specs.Serving.{held};
+ghost use Rattle.ns_api.specs.Wanted.{draft_step, IsServedDraft};
 
 use crate::asking::asked;
 use crate::drawing::{Draws, drawn};
+use crate::wanted::Draft;
 use ns_http::{Answer, Request};
 use ns_replies::{Room, render};
 use ns_request::Routes;
 use ns_types::refusal::Refusal;
 use ns_types::reply::{Reply, Response};
-use ns_types::step::{AdminCommand, AskCommand, Step};
+use ns_types::step::{AdminCommand, AskCommand, NodeCommand, Step};
 use std::alloc::{AllocError, Global};
 
 /// What takes steps.
@@ -47,14 +49,24 @@ fn is_read(step: &Step) -> bool
     ensures { result ≡ is_reading step.now }
 {
     match step {
-        Step::Ask(_, _, command) => !matches!(command, AskCommand::Register(_)),
+        Step::Ask(_, _, command) => !matches!(
+            command.get(),
+            AskCommand::Register(_) | AskCommand::Deregister(_, _) | AskCommand::StopAllocation(_)
+        ),
         Step::Admin(_, command) => matches!(
-            command,
+            command.get(),
             AdminCommand::ListNamespaces
                 | AdminCommand::ListQuotas
                 | AdminCommand::ReadQuota(_)
                 | AdminCommand::ListPools
                 | AdminCommand::ReadPolicy(_)
+        ),
+        Step::Node(_, _, command) => !matches!(
+            command.get(),
+            NodeCommand::PutNode(_, _)
+                | NodeCommand::DeleteNode(_)
+                | NodeCommand::SetStatus(_, _)
+                | NodeCommand::SetEligible(_, _)
         ),
         _ => true,
     }
@@ -64,8 +76,11 @@ fn is_read(step: &Step) -> bool
 fn room_for(alloc: Global, step: &Step) -> Result<Room, AllocError>
     ensures { IfOk result (λ room. room ≡ room_of step.now) }
 {
-    match step {
-        Step::Admin(_, AdminCommand::CreateToken(new)) => Room::for_token(alloc, new),
+    let Step::Admin(_, command) = step else {
+        return Room::new(alloc);
+    };
+    match command.get() {
+        AdminCommand::CreateToken(new) => Room::for_token(alloc, new),
         _ => Room::new(alloc),
     }
 }
@@ -160,12 +175,12 @@ impl<T: Takes, D: Draws> Api<T, D> {
     }
 
     /// Draws what the step lacks, and takes it.
-    fn make(&mut self, wanted: Step) -> Response
-        requires { IsServed wanted }
-        ensures { AnswersAsked D.draws (Ok wanted)
+    fn make(&mut self, draft: Draft) -> Response
+        requires { IsServedDraft draft }
+        ensures { AnswersAsked D.draws (Ok (draft_step draft))
             (held T.state self.old) (rendered_of result) (held T.state self.new) }
     {
-        match drawn(self.alloc, &mut self.draws, wanted) {
+        match drawn(self.alloc, &mut self.draws, draft) {
             Ok(step) => {
                 let response = self.step(&step);
                 drop(step);
@@ -187,7 +202,7 @@ impl<T: Takes, D: Draws> Answer for Api<T, D> {
 
     fn answer(&mut self, request: &Request<'_>) -> Response {
         match asked(self.alloc, &self.routes, request) {
-            Ok(wanted) => self.make(wanted),
+            Ok(draft) => self.make(draft),
             Err(refusal) => Response::Refused(refusal),
         }
     }

@@ -3,13 +3,13 @@
 ghost use Rattle.std.specs.Prelude.{◌≡◌, IfOk};
 ghost use Rattle.ns_http.specs.Head;
 ghost use Rattle.ns_json.specs.Reading.{same};
-ghost use Rattle.ns_steps.specs.Served.{IsServed};
 ghost use Rattle.ns_request.specs.Gives.{Gives};
-ghost use Rattle.ns_api.specs.Asking.{asked, asked_of, namespace_of};
-ghost use Rattle.ns_api.specs.Wanted.{bearer_of, IsServedWanted, step_by};
+ghost use Rattle.ns_api.specs.Asking.{asked, asked_of};
+ghost use Rattle.ns_api.specs.Parts.{namespace_of};
+ghost use Rattle.ns_api.specs.Wanted.{bearer_of, draft_step, IsServedDraft, IsServedWanted, step_by};
 
 use crate::tables::wanted;
-use crate::wanted::{Bearer, Wanted};
+use crate::wanted::{Bearer, Draft, Wanted};
 use ns_http::Request;
 use ns_request::{Routes, Target, secret};
 use ns_types::refusal::Refusal;
@@ -44,38 +44,41 @@ fn bearer(alloc: Global, target: &Target<'_>) -> Result<Bearer, Refusal>
 }
 
 /// The step that is wanted, of who asks.
-fn step(alloc: Global, bearer: Bearer, wanted: Wanted) -> Result<Step, AllocError>
+fn draft(alloc: Global, bearer: Bearer, wanted: Wanted) -> Result<Draft, AllocError>
     requires { IsServedWanted wanted }
-    ensures step { IfOk result (λ step. step ≡ step_by bearer wanted) }
-    ensures served { IfOk result IsServed }
+    ensures step { IfOk result (λ draft. draft_step draft ≡ step_by bearer wanted) }
+    ensures served { IfOk result IsServedDraft }
 {
     let Bearer { namespace, secret } = bearer;
     match wanted {
         Wanted::Ask(document, command) => {
             match namespace_or_default(alloc, namespace, document) {
-                Ok(namespace) => Ok(Step::Ask(namespace, secret, command)),
+                Ok(namespace) => Ok(Draft::Step(Step::Ask(namespace, secret, command))),
                 Err(error) => {
                     drop(command);
                     Err(error)
                 }
             }
         }
-        Wanted::AskIn(namespace, command) => Ok(Step::Ask(namespace, secret, command)),
-        Wanted::Admin(command) => Ok(Step::Admin(secret, command)),
-        Wanted::Node(pool, command) => Ok(Step::Node(pool, secret, command)),
+        Wanted::AskIn(namespace, command) => {
+            Ok(Draft::Step(Step::Ask(namespace, secret, command)))
+        }
+        Wanted::Admin(command) => Ok(Draft::Step(Step::Admin(secret, command))),
+        Wanted::Token(token) => Ok(Draft::Token(secret, token)),
+        Wanted::Node(pool, command) => Ok(Draft::Step(Step::Node(pool, secret, command))),
     }
 }
 
 /// The step that a target asks for, or the refusal that needs no state.
 #[tactic(auto, unfolding(crate::specs::Wanted::step_of))]
-fn asked_of(alloc: Global, target: &Target<'_>) -> Result<Step, Refusal>
-    ensures step { Gives same result
+fn asked_of(alloc: Global, target: &Target<'_>) -> Result<Draft, Refusal>
+    ensures step { Gives draft_step result
         (asked_of target.now.endpoint target.now.method (Head.asked target.now.request)) }
-    ensures served { IfOk result IsServed }
+    ensures served { IfOk result IsServedDraft }
 {
     let wanted = wanted(alloc, target)?;
     match bearer(alloc, target) {
-        Ok(bearer) => Ok(step(alloc, bearer, wanted)?),
+        Ok(bearer) => Ok(draft(alloc, bearer, wanted)?),
         Err(refusal) => {
             drop(wanted);
             Err(refusal)
@@ -83,14 +86,14 @@ fn asked_of(alloc: Global, target: &Target<'_>) -> Result<Step, Refusal>
     }
 }
 
-/// The step that a request asks for, or the refusal that needs no state. Of a new token the two texts are empty.
+/// The step that a request asks for, or the refusal that needs no state. A new token's two texts are yet to be drawn.
 #[tactic(auto, unfolding(crate::specs::Asking::asked))]
-pub fn asked(alloc: Global, routes: &Routes, request: &Request<'_>) -> Result<Step, Refusal>
-    ensures step { Gives same result (asked (Head.asked request.now)) }
-    ensures served { IfOk result IsServed }
+pub fn asked(alloc: Global, routes: &Routes, request: &Request<'_>) -> Result<Draft, Refusal>
+    ensures step { Gives draft_step result (asked (Head.asked request.now)) }
+    ensures served { IfOk result IsServedDraft }
 {
     let target = Target::find(alloc, routes, request)?;
-    let step = asked_of(alloc, &target);
+    let draft = asked_of(alloc, &target);
     drop(target);
-    step
+    draft
 }

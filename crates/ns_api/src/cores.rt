@@ -6,11 +6,10 @@ ghost use Rattle.ns_types.specs.Steps.{opening};
 use crate::answering::{Api, Takes};
 use crate::drawing::Draws;
 use ns_core::Core;
-use ns_types::name::Name;
+use ns_types::name::Secret;
 use ns_types::refusal::Refusal;
 use ns_types::reply::Reply;
 use ns_types::step::Step;
-use ns_types::text::Text;
 use std::alloc::{AllocError, Global};
 
 impl Takes for Core {
@@ -31,14 +30,13 @@ impl Takes for Core {
 /// A new server, which answers requests.
 pub fn open<D: Draws + Drop>(
     alloc: Global,
-    bootstrap: &Name<'_>,
+    bootstrap: &Secret,
     draws: D,
 ) -> Result<Api<Core, D>, AllocError>
     ensures taker { IfOk result (λ api. api.taker ≡ opening bootstrap.now) }
     ensures drawer { IfOk result (λ api. api.draws ≡ draws) }
 {
-    let secret = Text::from_str(alloc, bootstrap.as_str())?;
-    let core = Core::new(alloc, &secret)?;
+    let core = Core::new(alloc, bootstrap)?;
     Api::new(alloc, core, draws)
 }
 

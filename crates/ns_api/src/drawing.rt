@@ -1,12 +1,17 @@
 //! The two texts of a new token.
 
-ghost use Rattle.std.specs.Prelude.{◌≡◌, IfOk};
+ghost use Rattle.std.specs.Prelude.{◌≡◌, IfOk, IsTrue};
+ghost use Rattle.ns_types.specs.declared.name.NameKind.TheVariants as NameKind;
 ghost use Rattle.ns_types.specs.declared.step.Step.TheVariants as Step;
 ghost use Rattle.ns_types.specs.declared.step.AdminCommand.TheVariants as AdminCommand;
 ghost use Rattle.ns_steps.specs.Served.{IsServed};
+ghost use Rattle.ns_types.specs.State.Name.{is_name};
+ghost use Rattle.ns_api.specs.Asking.{new_token};
 ghost use Rattle.ns_api.specs.Drawing.{GivesDrawn, random_id};
+ghost use Rattle.ns_api.specs.Wanted.{draft_step, IsServedDraft};
 
-use ns_types::step::{AdminCommand, NewToken, Step};
+use crate::wanted::{Draft, GoodToken};
+use ns_types::step::Step;
 use ns_types::text::Text;
 use std::alloc::{AllocError, Global};
 use uuid::Builder;
@@ -25,7 +30,9 @@ pub trait Draws {
 
 /// The text of the UUID of version 4 with these bits.
 fn random_id(alloc: Global, bytes: [u8; 16]) -> Result<Text, AllocError>
-    ensures { IfOk result (λ text. text ≡ random_id bytes) }
+    ensures text { IfOk result (λ text. text ≡ random_id bytes) }
+    // It can be a secret.
+    ensures good { IfOk result (λ text. IsTrue (is_name NameKind.Secret text)) }
 {
     let id = Builder::from_random_bytes(bytes).into_uuid();
     let mut buffer = [0; 36];
@@ -37,9 +44,9 @@ fn drawn_token<D: Draws>(
     alloc: Global,
     draws: &mut D,
     bearer: Option<Text>,
-    token: NewToken,
+    token: GoodToken,
 ) -> Result<Step, AllocError>
-    ensures drawn { let wanted = Step.Admin bearer (AdminCommand.CreateToken token) in
+    ensures drawn { let wanted = Step.Admin bearer (AdminCommand.CreateToken (new_token token)) in
         GivesDrawn D.draws wanted draws.old result draws.new }
     ensures served { IfOk result IsServed }
 {
@@ -47,42 +54,17 @@ fn drawn_token<D: Draws>(
     let second = draws.draw();
     let accessor = random_id(alloc, first)?;
     let secret = random_id(alloc, second)?;
-    Ok(Step::Admin(
-        bearer,
-        AdminCommand::CreateToken(NewToken {
-            accessor,
-            secret,
-            name: token.name,
-            kind: token.kind,
-            policies: token.policies,
-        }),
-    ))
-}
-
-/// The same of what an administrator asks.
-fn drawn_command<D: Draws>(
-    alloc: Global,
-    draws: &mut D,
-    bearer: Option<Text>,
-    command: AdminCommand,
-) -> Result<Step, AllocError>
-    ensures drawn { GivesDrawn D.draws (Step.Admin bearer command) draws.old result draws.new }
-    ensures served { IfOk result IsServed }
-{
-    match command {
-        AdminCommand::CreateToken(token) => drawn_token(alloc, draws, bearer, token),
-        command => Ok(Step::Admin(bearer, command)),
-    }
+    Ok(Step::Admin(bearer, token.with_texts(accessor, secret)))
 }
 
 /// The step that is made where this one is asked for. Want of memory comes after the draws.
-pub fn drawn<D: Draws>(alloc: Global, draws: &mut D, wanted: Step) -> Result<Step, AllocError>
-    requires { IsServed wanted }
-    ensures drawn { GivesDrawn D.draws wanted draws.old result draws.new }
+pub fn drawn<D: Draws>(alloc: Global, draws: &mut D, draft: Draft) -> Result<Step, AllocError>
+    requires { IsServedDraft draft }
+    ensures drawn { GivesDrawn D.draws (draft_step draft) draws.old result draws.new }
     ensures served { IfOk result IsServed }
 {
-    match wanted {
-        Step::Admin(bearer, command) => drawn_command(alloc, draws, bearer, command),
-        step => Ok(step),
+    match draft {
+        Draft::Step(step) => Ok(step),
+        Draft::Token(bearer, token) => drawn_token(alloc, draws, bearer, token),
     }
 }

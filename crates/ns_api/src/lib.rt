@@ -9,6 +9,7 @@ mod drawing;
 pub mod laws;
 mod serving;
 mod tables;
+mod telling;
 mod wanted;
 
 pub use answering::{Api, Takes};
@@ -16,3 +17,4 @@ pub use asking::asked;
 pub use cores::{close, open};
 pub use drawing::Draws;
 pub use serving::serve;
+pub use wanted::{Draft, GoodToken};

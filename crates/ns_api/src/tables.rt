@@ -1,14 +1,19 @@
 //! What is wanted at each path, by its methods.
 
-ghost use Rattle.std.specs.Prelude.{◌≡◌, IfOk, is_some, true};
+ghost use Rattle.std.specs.Prelude.{◌≡◌, IfOk, is_some, true, unwrap_or};
 ghost use Rattle.uuid.specs.Text.{parsed};
 ghost use Rattle.ns_request.specs.declared.method.Method.TheVariants as Method;
-ghost use Rattle.ns_api.specs.Asking.{asked_of, canonical};
+ghost use Rattle.ns_json.specs.Ids.{id_of};
+ghost use Rattle.ns_http.specs.Head.{asked};
+ghost use Rattle.ns_api.specs.Asking.{asked_of, canonical, deregistration_asked};
+ghost use Rattle.ns_api.specs.Parts.{prefix_in, third_part};
 ghost use Rattle.ns_api.specs.Wanted.{IsServedWanted, Wants};
 
 use crate::documents::{create_token, put_namespace, put_policy, put_pool, put_quota, register};
-use crate::wanted::Wanted;
+use crate::telling::{put_eligibility, put_node, put_status};
+use crate::wanted::{Wanted, administers, asks, asks_in, tells};
 use ns_request::{Endpoint, Method, Target};
+use ns_types::id::{IdKind, id_read};
 use ns_types::refusal::Refusal;
 use ns_types::step::{AdminCommand, AskCommand, NodeCommand};
 use ns_types::text::Text;
@@ -27,31 +32,71 @@ fn canonical(alloc: Global, text: &str) -> Result<Text, AllocError>
     Text::from_str(alloc, id.hyphenated().encode_lower(&mut buffer))
 }
 
-#[tactic(auto, unfolding(crate::specs::Asking::asked_of, crate::specs::Asking::ask_of, crate::specs::Asking::admin_of, crate::specs::Asking::bearer_in, crate::specs::Asking::namespace_read, crate::specs::Asking::pool_read, crate::specs::Wanted::step_of))]
+/// The number of the id that the path names.
+fn number(kind: IdKind, id: &Text) -> u64
+    requires { is_some (id_of kind id.now) ≡ true }
+    ensures { result ≡ unwrap_or (id_of kind id.now) 0 }
+{
+    let Some(number) = id_read(kind, id.as_str()) else {
+        unreachable!()
+    };
+    number
+}
+
+/// The text with which the ids of a list begin.
+fn prefix(alloc: Global, target: &Target<'_>) -> Result<Text, AllocError>
+    ensures { IfOk result (λ prefix. prefix ≡ prefix_in (asked target.now.request)) }
+{
+    Text::from_str(alloc, target.query.prefix())
+}
+
+/// A deregistration of the job that the path names.
+#[tactic(auto, unfolding(crate::specs::Asking::deregistration_asked, crate::specs::Wanted::step_of))]
+fn deregister(alloc: Global, target: &Target<'_>) -> Result<Wanted, Refusal>
+    requires { target.now.name ≡ third_part (asked target.now.request) }
+    ensures wanted { Wants target.now.request result deregistration_asked }
+    ensures served { IfOk result IsServedWanted }
+{
+    // A fault of the namespace comes before that of the purge.
+    drop(target.query.namespace(alloc)?);
+    let purge = target.query.purge()?;
+    Ok(asks(AskCommand::Deregister(target.name.clone()?, purge)))
+}
+
+#[tactic(auto, unfolding(crate::specs::Asking::asked_of, crate::specs::Asking::ask_of, crate::specs::Asking::admin_of, crate::specs::Parts::bearer_in, crate::specs::Asking::namespace_read, crate::specs::Asking::pool_read, crate::specs::Telling::node_of, crate::specs::Wanted::step_of))]
 fn read(alloc: Global, target: &Target<'_>) -> Result<Wanted, Refusal>
     ensures wanted { Wants target.now.request result (asked_of target.now.endpoint Method.Get) }
     ensures served { IfOk result IsServedWanted }
 {
-    let wanted = match target.endpoint {
-        Endpoint::Jobs => {
-            let prefix = Text::from_str(alloc, target.query.prefix())?;
-            Wanted::Ask(None, AskCommand::ListJobs(prefix))
-        }
-        Endpoint::Job => Wanted::Ask(None, AskCommand::ReadJob(target.name.clone()?)),
-        Endpoint::Namespaces => Wanted::Admin(AdminCommand::ListNamespaces),
-        Endpoint::Namespace => Wanted::AskIn(target.name.clone()?, AskCommand::ReadNamespace),
-        Endpoint::Quotas => Wanted::Admin(AdminCommand::ListQuotas),
-        Endpoint::Quota => Wanted::Admin(AdminCommand::ReadQuota(target.name.clone()?)),
-        Endpoint::QuotaUsage => Wanted::Ask(None, AskCommand::QuotaUsage(target.name.clone()?)),
-        Endpoint::Pools => Wanted::Admin(AdminCommand::ListPools),
-        Endpoint::Pool => Wanted::Node(target.name.clone()?, NodeCommand::ReadPool),
-        Endpoint::Policy => Wanted::Admin(AdminCommand::ReadPolicy(target.name.clone()?)),
-        _ => return Err(Refusal::NotServed),
-    };
-    Ok(wanted)
+    match target.endpoint {
+        Endpoint::Jobs => Ok(asks(AskCommand::ListJobs(prefix(alloc, target)?))),
+        Endpoint::Job => Ok(asks(AskCommand::ReadJob(target.name.clone()?))),
+        Endpoint::JobAllocations => Ok(asks(AskCommand::JobAllocations(target.name.clone()?))),
+        Endpoint::JobEvaluations => Ok(asks(AskCommand::JobEvaluations(target.name.clone()?))),
+        Endpoint::Evaluations => Ok(asks(AskCommand::ListEvaluations(prefix(alloc, target)?))),
+        Endpoint::Evaluation => Ok(asks(AskCommand::ReadEvaluation(number(
+            IdKind::Evaluation,
+            &target.name,
+        )))),
+        Endpoint::Allocations => Ok(asks(AskCommand::ListAllocations(prefix(alloc, target)?))),
+        Endpoint::Allocation => Ok(asks(AskCommand::ReadAllocation(number(
+            IdKind::Allocation,
+            &target.name,
+        )))),
+        Endpoint::Namespaces => Ok(administers(AdminCommand::ListNamespaces)),
+        Endpoint::Namespace => Ok(asks_in(target.name.clone()?, AskCommand::ReadNamespace)),
+        Endpoint::Quotas => Ok(administers(AdminCommand::ListQuotas)),
+        Endpoint::Quota => Ok(administers(AdminCommand::ReadQuota(target.name.clone()?))),
+        Endpoint::QuotaUsage => Ok(asks(AskCommand::QuotaUsage(target.name.clone()?))),
+        Endpoint::Pools => Ok(administers(AdminCommand::ListPools)),
+        Endpoint::Pool => Ok(tells(target.name.clone()?, NodeCommand::ReadPool)),
+        Endpoint::PoolNodes => Ok(tells(target.name.clone()?, NodeCommand::ListNodes)),
+        Endpoint::Policy => Ok(administers(AdminCommand::ReadPolicy(target.name.clone()?))),
+        _ => Err(Refusal::NotServed),
+    }
 }
 
-#[tactic(auto, unfolding(crate::specs::Asking::asked_of))]
+#[tactic(auto, unfolding(crate::specs::Asking::asked_of, crate::specs::Asking::ask_of, crate::specs::Wanted::step_of))]
 fn write(alloc: Global, target: &Target<'_>) -> Result<Wanted, Refusal>
     ensures wanted { Wants target.now.request result (asked_of target.now.endpoint Method.Write) }
     ensures served { IfOk result IsServedWanted }
@@ -65,26 +110,43 @@ fn write(alloc: Global, target: &Target<'_>) -> Result<Wanted, Refusal>
         Endpoint::Quota => put_quota(alloc, request, Some(&target.name)),
         Endpoint::Pools => put_pool(alloc, request, None),
         Endpoint::Pool => put_pool(alloc, request, Some(&target.name)),
+        Endpoint::AllocationStop => Ok(asks(AskCommand::StopAllocation(number(
+            IdKind::Allocation,
+            &target.name,
+        )))),
+        Endpoint::Node => put_node(alloc, request, &target.name, &target.node),
+        Endpoint::NodeStatus => put_status(alloc, request, &target.name, &target.node),
+        Endpoint::NodeEligibility => put_eligibility(alloc, request, &target.name, &target.node),
         Endpoint::Policy => put_policy(alloc, request, &target.name),
         Endpoint::NewToken => create_token(alloc, request),
         _ => Err(Refusal::NotServed),
     }
 }
 
-#[tactic(auto, unfolding(crate::specs::Asking::asked_of, crate::specs::Asking::admin_of, crate::specs::Asking::bearer_in, crate::specs::Wanted::step_of))]
+#[tactic(auto, unfolding(crate::specs::Asking::asked_of, crate::specs::Asking::admin_of, crate::specs::Parts::bearer_in, crate::specs::Telling::node_of, crate::specs::Wanted::step_of))]
 fn delete(alloc: Global, target: &Target<'_>) -> Result<Wanted, Refusal>
     ensures wanted { Wants target.now.request result (asked_of target.now.endpoint Method.Delete) }
     ensures served { IfOk result IsServedWanted }
 {
-    let command = match target.endpoint {
-        Endpoint::Namespace => AdminCommand::DeleteNamespace(target.name.clone()?),
-        Endpoint::Quota => AdminCommand::DeleteQuota(target.name.clone()?),
-        Endpoint::Pool => AdminCommand::DeletePool(target.name.clone()?),
-        Endpoint::Policy => AdminCommand::DeletePolicy(target.name.clone()?),
-        Endpoint::Token => AdminCommand::DeleteToken(canonical(alloc, target.name.as_str())?),
+    let wanted = match target.endpoint {
+        Endpoint::Job => return deregister(alloc, target),
+        Endpoint::Namespace => administers(AdminCommand::DeleteNamespace(target.name.clone()?)),
+        Endpoint::Quota => administers(AdminCommand::DeleteQuota(target.name.clone()?)),
+        Endpoint::Pool => administers(AdminCommand::DeletePool(target.name.clone()?)),
+        Endpoint::Node => {
+            tells(
+                target.name.clone()?,
+                NodeCommand::DeleteNode(target.node.clone()?),
+            )
+        }
+        Endpoint::Policy => administers(AdminCommand::DeletePolicy(target.name.clone()?)),
+        Endpoint::Token => {
+            let accessor = canonical(alloc, target.name.as_str())?;
+            administers(AdminCommand::DeleteToken(accessor))
+        }
         _ => return Err(Refusal::NotServed),
     };
-    Ok(Wanted::Admin(command))
+    Ok(wanted)
 }
 
 /// What is wanted of the path by its method.

@@ -1,3 +1,4 @@
+pub mod Bounded
 pub mod Looking
 pub mod Nacking
 pub mod Serving

@@ -6,6 +6,7 @@ use Rattle.ns_types.specs.declared.worker.Worker.{Worker}
 use Rattle.ns_types.specs.Settling.Making.{change_tenant}
 use Rattle.ns_types.specs.State.Names.{Name}
 use Rattle.ns_types.specs.State.Rows.{World, Tenant, evaluation_at}
+use Rattle.ns_types.specs.Validity.{IsSound}
 use Rattle.ns_types.specs.Working.Looks.{worker_at}
 use Rattle.ns_types.specs.Working.Queue.{promote}
 use Rattle.ns_types.specs.Working.Work.{without_worker}
@@ -15,6 +16,10 @@ use Rattle.ns_change.specs.Changed.{put_evaluation, with_ready}
 abbrev pub HasNackLeft : World → ℕ → Name → Type 0
 HasNackLeft w number ns = (worker : Worker) → (e : Evaluation) → worker_at w number ns ≡ Some worker →
     evaluation_at w (ns, worker.evaluation) ≡ Some e → e.nacks + 1 < 2 ^ 64
+
+-- in a valid world it can
+abbrev pub SoundHasNackLeft : Type 0
+SoundHasNackLeft = (w : World) → IsSound w → (number : ℕ) (ns : Name) → HasNackLeft w number ns
 
 abbrev pub nacked : Evaluation → Evaluation
 nacked e = record e { nacks = e.nacks + 1 }

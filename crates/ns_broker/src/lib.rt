@@ -2,6 +2,7 @@
 //! Each step is a command over the tables: what it answers and changes, or that it is not enabled.
 #![tactic(auto)]
 
+pub mod laws;
 mod looking;
 mod nacking;
 mod serving;

@@ -1,10 +1,12 @@
 //! A worker gives its evaluation back.
 
-ghost use Rattle.std.specs.Prelude.{◌≡◌, ◌+◌, ◌<◌, ◌^◌};
+ghost use Rattle.std.specs.Prelude.{◌≡◌, ◌+◌, ◌<◌, ◌^◌, false};
 ghost use Rattle.ns_types.specs.declared.evaluation.Status.TheVariants as Status;
 ghost use Rattle.ns_types.specs.declared.reply.Content.TheVariants as Content;
 ghost use Rattle.ns_types.specs.Settling.Outcome.{Done};
+ghost use Rattle.ns_types.specs.Steps.{is_past_bound};
 ghost use Rattle.ns_types.specs.Working.Work.{is_submitted, nack};
+ghost use Rattle.ns_broker.specs.Bounded.{bounded, cannot_fail, is_failed, is_last_index};
 ghost use Rattle.ns_broker.specs.Nacking.{HasNackLeft, left, put_away, put_back};
 ghost use Rattle.ns_change.specs.Changed.{Does, DoesIn};
 ghost use Rattle.ns_change.specs.Prepared.{Prepares};
@@ -119,13 +121,38 @@ fn give_up(
     prepare(Content::Nacked(Status::Failed), change, made)
 }
 
+fn is_failed(status: Status) -> bool
+    ensures { result ≡ is_failed status }
+{
+    matches!(status, Status::Failed)
+}
+
+/// Whether the namespace's index is at its bound.
+fn is_last_index(tables: &Tables, namespace: &Text) -> bool
+    ensures { result ≡ is_last_index (world_of tables.now) namespace.now }
+{
+    match tables.tenants.get(namespace) {
+        Some(tenant) => tenant.index >= u64::MAX,
+        None => false,
+    }
+}
+
+/// Whether the evaluation would fail by this, and the namespace has no index left for that.
+fn cannot_fail(tables: &Tables, namespace: &Text, row: &Evaluation) -> bool
+    ensures { result ≡ cannot_fail (world_of tables.now) namespace.now row.now }
+{
+    !is_failed(row.status) && is_last_index(tables, namespace)
+}
+
 /// The worker gives its evaluation of the namespace back, which gets a nack. With fewer than three it is ready again,
 /// behind the others; with three it has failed, and the next one of its job is ready. `NotEnabled`: the worker has none
-/// of the namespace, or its plan waits. The premise is that one nack more can be counted: in a valid world no evaluation
-/// has more than three.
+/// of the namespace, or its plan waits. `Full`: it would have failed, and the namespace's index is at its bound. The
+/// premises hold in each valid world: one nack more can be counted, and no counter has passed its bound.
 pub fn nack(tables: &Tables, number: u64, namespace: &Text) -> Result<Prepared, Refusal>
-    requires { HasNackLeft (world_of tables.now) number namespace.now }
-    ensures { Prepares (nack number namespace.now (world_of tables.now)) tables.now result }
+    requires left { HasNackLeft (world_of tables.now) number namespace.now }
+    requires within { is_past_bound (world_of tables.now) ≡ false }
+    ensures { let w = world_of tables.now in
+        Prepares (bounded w (nack number namespace.now w)) tables.now result }
 {
     let Some(worker) = worker_at(tables, number, namespace) else {
         return Err(Refusal::NotEnabled);
@@ -137,8 +164,10 @@ pub fn nack(tables: &Tables, number: u64, namespace: &Text) -> Result<Prepared, 
         return Err(Refusal::NotEnabled);
     }
     if row.nacks < NACKS {
-        give_back(tables, number, namespace, worker.evaluation, row)
-    } else {
-        give_up(tables, number, namespace, worker.evaluation, row)
+        return give_back(tables, number, namespace, worker.evaluation, row);
     }
+    if cannot_fail(tables, namespace, row) {
+        return Err(Refusal::Full);
+    }
+    give_up(tables, number, namespace, worker.evaluation, row)
 }

@@ -1,5 +1,6 @@
 pub mod Classes
 pub mod Cleared
+pub mod Following
 pub mod Numbered
 pub mod Owned
 pub mod Raised

@@ -79,9 +79,30 @@ pub get-changed : {A X : Type 0} (change : A → X → A) (c : FinMap name_cmp (
     get (changed_owners change c m) q ≡ option_map (perhaps change (row_at c q)) (get m q)
 get-changed change c m q = get-map_rows names one_name (λ name a. perhaps change (row_at c name) a) m q
 
-same : {A X : Type 0} (f : A → X → A) (r : Option A) → option_map (perhaps f None) r ≡ r
-same f None = refl
-same f (Some a) = refl
+pub none_changed : {A X : Type 0} (f : A → X → A) (r : Option A) → option_map (perhaps f None) r ≡ r
+none_changed f None = refl
+none_changed f (Some a) = refl
+
+-- ---- an entry, and those after it
+
+module _ {X : Type 0} (k : Name) (x : X) (es rest : List (Name × X)) (is : es ≡ (k, x) ∷ rest) where
+  pub found_here : find name_cmp k es ≡ Some x
+  found_here = ap (find name_cmp k) is ∙ ap (λ t. cond t (Some x) (find name_cmp k rest)) (same_name_refl k)
+
+  pub found_other : (q : Name) → same_name q k ≡ false → find name_cmp q es ≡ find name_cmp q rest
+  found_other q e = ap (find name_cmp q) is ∙ ap (λ t. cond t (Some x) (find name_cmp q rest)) e
+
+  module _ (rises : T (is_sorted name_cmp es)) where
+    sorted : T (is_sorted name_cmp ((k, x) ∷ rest))
+    sorted = subst (λ es. T (is_sorted name_cmp es)) is rises
+
+    pub no_more : find name_cmp k rest ≡ None
+    no_more = (absent name_cmp names k rest (first _ _ sorted)).0
+
+    pub rest_sorted : T (is_sorted name_cmp rest)
+    rest_sorted = second _ _ sorted
+
+-- ---- changes that are made one by one
 
 module _ {Row A X : Type 0} (seen : Row → A) (change : A → X → A) (Room : X → Row → Type 0) where
   -- the rows, once the changes of es are in as well, come out as `all`, and there is room for them
@@ -107,35 +128,23 @@ module _ {Row A X : Type 0} (seen : Row → A) (change : A → X → A) (Room : 
 
   module _ (old new : FinMap name_cmp (Option Row)) (k : Name) (slot : Option X) (es rest : List (Name × Option X)) (all : ByName A)
       (is : es ≡ (k, slot) ∷ rest) (h : Ahead old es all) where
-    sorted : T (is_sorted name_cmp ((k, slot) ∷ rest))
-    sorted = subst (λ es. T (is_sorted name_cmp es)) is h.sorted
-
-    no_more : find name_cmp k rest ≡ None
-    no_more = (absent name_cmp names k rest (first _ _ sorted)).0
-
-    found_here : find name_cmp k es ≡ Some slot
-    found_here = ap (find name_cmp k) is ∙ ap (λ t. cond t (Some slot) (find name_cmp k rest)) (same_name_refl k)
-
-    found_other : (q : Name) → same_name q k ≡ false → find name_cmp q es ≡ find name_cmp q rest
-    found_other q e = ap (find name_cmp q) is ∙ ap (λ t. cond t (Some slot) (find name_cmp q rest)) e
-
     whole_here : option_map seen (row_at new k) ≡ option_map (perhaps change slot) (option_map seen (row_at old k)) →
         option_map (perhaps change (flat (find name_cmp k rest))) (option_map seen (row_at new k)) ≡ get all k
-    whole_here put = ap (λ r. option_map (perhaps change (flat r)) (option_map seen (row_at new k))) no_more ∙ same change (option_map seen (row_at new k))
-        ∙ put ∙ ap (λ r. option_map (perhaps change (flat r)) (option_map seen (row_at old k))) (sym found_here) ∙ h.whole k
+    whole_here put = ap (λ r. option_map (perhaps change (flat r)) (option_map seen (row_at new k))) (no_more k slot es rest is h.sorted) ∙ none_changed change (option_map seen (row_at new k))
+        ∙ put ∙ ap (λ r. option_map (perhaps change (flat r)) (option_map seen (row_at old k))) (sym (found_here k slot es rest is)) ∙ h.whole k
 
     whole_other : (q : Name) → same_name q k ≡ false → row_at new q ≡ row_at old q →
         option_map (perhaps change (flat (find name_cmp q rest))) (option_map seen (row_at new q)) ≡ get all q
-    whole_other q e stays = (λ i. option_map (perhaps change (flat (sym (found_other q e) i))) (option_map seen (stays i))) ∙ h.whole q
+    whole_other q e stays = (λ i. option_map (perhaps change (flat (sym (found_other k slot es rest is q e) i))) (option_map seen (stays i))) ∙ h.whole q
 
     step : option_map seen (row_at new k) ≡ option_map (perhaps change slot) (option_map seen (row_at old k))
         → ((q : Name) → same_name q k ≡ false → row_at new q ≡ row_at old q) → Ahead new rest all
     step put others = record {
       whole = at_each _ k (whole_here put) (λ q e. whole_other q e (others q e));
-      sorted = second _ _ sorted;
+      sorted = rest_sorted k slot es rest is h.sorted;
       room = at_each (λ q. (x : X) (row : Row) → flat (find name_cmp q rest) ≡ Some x → row_at new q ≡ Some row → Room x row) k
-          (λ x row at there. absurd (not_Some x (sym (ap flat no_more) ∙ at)))
-          (λ q e x row at there. h.room q x row (ap flat (found_other q e) ∙ at) (sym (others q e) ∙ there));
+          (λ x row at there. absurd (not_Some x (sym (ap flat (no_more k slot es rest is h.sorted)) ∙ at)))
+          (λ q e x row at there. h.room q x row (ap flat (found_other k slot es rest is q e) ∙ at) (sym (others q e) ∙ there));
     }
 
     pub one_done : (x : X) → slot ≡ Some x → ChangesRow (λ a b. seen b ≡ change (seen a) x) k old new → Ahead new rest all
@@ -144,13 +153,13 @@ module _ {Row A X : Type 0} (seen : Row → A) (change : A → X → A) (Room : 
 
     pub none_done : slot ≡ None → new ≡ old → Ahead new rest all
     none_done none stays = step
-        (ap (λ m. option_map seen (row_at m k)) stays ∙ sym (same change _) ∙ ap (λ s. option_map (perhaps change s) (option_map seen (row_at old k))) (sym
+        (ap (λ m. option_map seen (row_at m k)) stays ∙ sym (none_changed change _) ∙ ap (λ s. option_map (perhaps change s) (option_map seen (row_at old k))) (sym
         none))
         (λ q e. ap (λ m. row_at m q) stays)
 
     pub room_now : (x : X) → slot ≡ Some x → IfSome (row_at old k) (Room x)
-    room_now x some = if_there (Room x) (row_at old k) (λ row at. h.room k x row (ap flat found_here ∙ some) at)
+    room_now x some = if_there (Room x) (row_at old k) (λ row at. h.room k x row (ap flat (found_here k slot es rest is) ∙ some) at)
 
   pub all_done : (m : FinMap name_cmp (Option Row)) (es : List (Name × Option X)) (all : ByName A) → es ≡ [] → Ahead m es all → owners seen m ≡ all
-  all_done m es all is h = same_map names one_name _ _ (λ q. get-owners seen m q ∙ sym (same change _)
+  all_done m es all is h = same_map names one_name _ _ (λ q. get-owners seen m q ∙ sym (none_changed change _)
       ∙ ap (λ es. option_map (perhaps change (flat (find name_cmp q es))) (option_map seen (row_at m q))) (sym is) ∙ h.whole q)

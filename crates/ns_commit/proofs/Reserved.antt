@@ -15,7 +15,7 @@ use Rattle.ns_types.proofs.Tests.{not_Some, same_Some}
 use Rattle.ns_change.specs.Settled.{classes_in}
 use Rattle.ns_commit.specs.Committed.{GainsClassRoom, HaveClassRoom, KeepsNodes, releases}
 use Rattle.ns_commit.specs.Owners.{Always, ChangesRow, EachChanged, owners}
-use Rattle.ns_commit.proofs.Owned.{at_each, by_turn, get-owners, if_there, there_if}
+use Rattle.ns_commit.proofs.Owned.{at_each, by_turn, found_other, get-owners, if_there, there_if}
 use Rattle.ns_world.specs.declared.tables.PoolRows.{PoolRows}
 use Rattle.ns_world.specs.World.{pool_of}
 
@@ -55,9 +55,6 @@ module _ {Row A X : Type 0} (seen : Row → A) (Can Room : X → Row → Type 0)
     pub can_now : (x : X) → slot ≡ Some x → IfSome (row_at old k) (Can x)
     can_now x some = if_there (Can x) (row_at old k) (λ row at. h.can k x row (slot_is ∙ some) at)
 
-    find_other : (q : Name) → same_name q k ≡ false → find name_cmp q es ≡ find name_cmp q rest
-    find_other q e = ap (find name_cmp q) is ∙ ap (λ t. cond t (Some slot) (find name_cmp q rest)) e
-
     seen_after : ChangesRow (λ a b. seen b ≡ seen a) k old new → (q : Name) → option_map seen (row_at new q) ≡ option_map seen (row_at before q)
     seen_after put = at_each _ k
         (by_turn _ (λ r s. option_map seen s ≡ option_map seen r) refl (λ a b is. ap Some is) (row_at old k) (row_at new k) put.here ∙ h.seen_is k)
@@ -80,7 +77,7 @@ module _ {Row A X : Type 0} (seen : Row → A) (Can Room : X → Row → Type 0)
       stand = stand.1;
       room = at_each (λ q. (x : X) (row : Row) → find name_cmp q rest ≡ None → row_at c q ≡ Some x → row_at new q ≡ Some row → Room x row) k
           (λ y row none at there. subst (λ x. Room x row) (same_Some x y (sym (slot_is ∙ some) ∙ at)) (there_if (Room x) (row_at new k) room row there))
-          (λ q e y row none at there. h.room q y row (find_other q e ∙ none) at (sym (put.others q e) ∙ there));
+          (λ q e y row none at there. h.room q y row (found_other k slot es rest is q e ∙ none) at (sym (put.others q e) ∙ there));
     }
 
     pub slot_passed : slot ≡ None → new ≡ old → Reserved new before rest c
@@ -90,7 +87,7 @@ module _ {Row A X : Type 0} (seen : Row → A) (Can Room : X → Row → Type 0)
       stand = stand.1;
       room = at_each (λ q. (x : X) (row : Row) → find name_cmp q rest ≡ None → row_at c q ≡ Some x → row_at old q ≡ Some row → Room x row) k
           (λ x row _ at there. absurd (not_Some x (sym (slot_is ∙ none) ∙ at)))
-          (λ q e x row missing at there. h.room q x row (find_other q e ∙ missing) at there);
+          (λ q e x row missing at there. h.room q x row (found_other k slot es rest is q e ∙ missing) at there);
     })
 
 -- ---- classes

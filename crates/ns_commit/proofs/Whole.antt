@@ -22,9 +22,12 @@ use Rattle.ns_change.specs.Changed.{changed_list, changed_pool, perhaps}
 use Rattle.ns_change.specs.Settled.{classes_in, settled_tenant, settled_world}
 use Rattle.ns_commit.specs.Committed.{CanRise, CanTell, Fits, HasNodeRoom, HaveClassRoom, KeepsNodes}
 use Rattle.ns_commit.specs.Committed.{numbered_pools, raised_pool, raised_quota, released_quotas, releases, settled_pools, with_classes}
+use Rattle.ns_commit.specs.Indexed.{IsRightFor}
 use Rattle.ns_commit.specs.Owners.{EachChanged, changed_owners, owners}
 use Rattle.ns_commit.proofs.Owned.{get-changed, get-owners}
 use Rattle.ns_commit.proofs.Reserved.{is_some_class, releases_is}
+use Rattle.ns_live.specs.declared.live.Live.{Live}
+use Rattle.ns_live.specs.Index.{IsRight, KeepsKeys}
 use Rattle.ns_world.specs.declared.tables.PoolRows.{PoolRows}
 use Rattle.ns_world.specs.declared.tables.QuotaRows.{QuotaRows}
 use Rattle.ns_world.specs.declared.tables.Tables.{Tables}
@@ -147,6 +150,19 @@ settled_is s old new tenants pools quotas ready plans blocked i = record {
   plans = plans i;
   blocked = blocked i;
 }
+
+-- ---- the index
+
+pub index_is : (s : Settled) (old new : Tables) (before live : Live) →
+    owners tenant_of new.tenants ≡ changed_owners settled_tenant s.tenants (owners tenant_of old.tenants) →
+    (IsRightFor (owners tenant_of old.tenants) before → IsRightFor (changed_owners settled_tenant s.tenants (owners tenant_of old.tenants)) live) →
+    IsRight (world_of old) before → IsRight (world_of new) live
+unfolding world_of
+index_is s old new before live rows followed right = subst (λ tenants. IsRightFor tenants live) (sym rows) (followed right)
+
+pub index_stays : (old new : Tables) (before live : Live) → world_of new ≡ world_of old → KeepsKeys before live → IsRight (world_of old) before →
+    IsRight (world_of new) live
+index_stays old new before live same keys right = subst (λ w. IsRight w live) (sym same) (λ pool node key. keys pool node key ∙ right pool node key)
 
 -- ---- numbers within their bounds
 

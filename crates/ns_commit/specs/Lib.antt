@@ -1,2 +1,3 @@
 pub mod Committed
+pub mod Indexed
 pub mod Owners

@@ -1,24 +1,31 @@
-//! All that a settled step changes goes into the tables.
+//! All that a settled step changes goes into the tables, and into the index of live allocations beside them.
 
 ghost use Rattle.std.specs.Prelude.{◌≡◌, OnErr, OnOk};
 ghost use Rattle.ns_change.specs.Settled.{settled_world};
 ghost use Rattle.ns_commit.specs.Committed.{AreCleared, Fits, HasRoom};
+ghost use Rattle.ns_commit.specs.Indexed.{HasIndexRoom};
+ghost use Rattle.ns_live.specs.Index.{IsRight, KeepsKeys};
 ghost use Rattle.ns_world.specs.World.{world_of};
 
+use crate::indexing::{commit_index, reserve_index};
 use crate::lists::{clear_list, commit_list, reserve_list};
 use crate::owners::{clear_all, commit_all, reserve_all};
 use crate::pools::{commit_pools, reserve_pools};
 use crate::quotas::commit_quotas;
 use ns_change::Settled;
+use ns_live::Live;
 use ns_world::Tables;
 use std::alloc::AllocError;
 
 /// Makes room for all that a settled step changes; where memory is wanting, it stops there.
-fn reserve_parts(tables: &mut Tables, settled: &Settled) -> Result<(), AllocError>
+fn reserve_parts(tables: &mut Tables, live: &mut Live, settled: &Settled) -> Result<(), AllocError>
     requires { Fits (world_of tables.old) settled.now }
     ensures world { world_of tables.new ≡ world_of tables.old }
+    ensures keys { KeepsKeys live.old live.new }
     ensures room { OnOk result (HasRoom settled.now tables.new) }
+    ensures index_room { OnOk result (HasIndexRoom settled.now.tenants live.new) }
 {
+    reserve_index(live, &settled.tenants)?;
     reserve_all(&mut tables.tenants, &settled.tenants)?;
     reserve_pools(&mut tables.pools, &settled.pools, settled.rooms.as_slice())?;
     reserve_list(&mut tables.ready, &settled.ready)?;
@@ -38,25 +45,29 @@ fn clear(tables: &mut Tables, settled: &Settled)
     clear_list(&mut tables.blocked, &settled.blocked);
 }
 
-/// Makes room for all that a settled step changes. Want of memory is the only error: then the world is as it was, and no
-/// changed row of a namespace, nor node, has a vacant slot; room of lists may be left.
-pub fn reserve(tables: &mut Tables, settled: &Settled) -> Result<(), AllocError>
+/// Makes room for all that a settled step changes. Want of memory is the only error: then no changed row of a namespace, nor
+/// node, has a vacant slot; room of lists and of the index may be left. The world and the keys of the index stay.
+pub fn reserve(tables: &mut Tables, live: &mut Live, settled: &Settled) -> Result<(), AllocError>
     requires { Fits (world_of tables.old) settled.now }
     ensures world { world_of tables.new ≡ world_of tables.old }
+    ensures keys { KeepsKeys live.old live.new }
     ensures room { OnOk result (HasRoom settled.now tables.new) }
+    ensures index_room { OnOk result (HasIndexRoom settled.now.tenants live.new) }
     ensures cleared { OnErr result (AreCleared settled.now tables.new) }
 {
-    if let Err(refused) = reserve_parts(tables, settled) {
+    if let Err(refused) = reserve_parts(tables, live, settled) {
         clear(tables, settled);
         return Err(refused);
     }
     Ok(())
 }
 
-/// Moves all that a settled step changes in. It takes no memory.
-pub fn commit(tables: &mut Tables, settled: Settled)
-    requires { HasRoom settled tables.old }
-    ensures { world_of tables.new ≡ settled_world (world_of tables.old) settled }
+/// Moves all that a settled step changes in, and an index that was right for the tables stays so. It takes no memory.
+pub fn commit(tables: &mut Tables, live: &mut Live, settled: Settled)
+    requires room { HasRoom settled tables.old }
+    requires index_room { HasIndexRoom settled.tenants live.old }
+    ensures world { world_of tables.new ≡ settled_world (world_of tables.old) settled }
+    ensures index { IsRight (world_of tables.old) live.old → IsRight (world_of tables.new) live.new }
 {
     let Settled {
         tenants,
@@ -67,6 +78,7 @@ pub fn commit(tables: &mut Tables, settled: Settled)
         rooms,
         quotas,
     } = settled;
+    commit_index(live, &tables.tenants, &tenants);
     commit_all(&mut tables.tenants, tenants);
     commit_pools(&mut tables.pools, pools, rooms);
     commit_quotas(&mut tables.quotas, quotas.as_slice());
@@ -78,13 +90,15 @@ pub fn commit(tables: &mut Tables, settled: Settled)
 
 /// Moves all that a settled step changes in, or nothing. Want of memory is the only error; what is left of slots then is
 /// said at `reserve`.
-pub fn apply(tables: &mut Tables, settled: Settled) -> Result<(), AllocError>
+pub fn apply(tables: &mut Tables, live: &mut Live, settled: Settled) -> Result<(), AllocError>
     requires { Fits (world_of tables.old) settled }
     ensures ok { OnOk result (world_of tables.new ≡ settled_world (world_of tables.old) settled) }
+    ensures index { IsRight (world_of tables.old) live.old → IsRight (world_of tables.new) live.new }
     ensures err { OnErr result (world_of tables.new ≡ world_of tables.old) }
+    ensures keys { OnErr result (KeepsKeys live.old live.new) }
     ensures cleared { OnErr result (AreCleared settled tables.new) }
 {
-    reserve(tables, &settled)?;
-    commit(tables, settled);
+    reserve(tables, live, &settled)?;
+    commit(tables, live, settled);
     Ok(())
 }

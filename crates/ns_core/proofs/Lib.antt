@@ -1,7 +1,7 @@
-pub mod Answering
 pub mod Opening
-pub mod Changing
-pub mod Quotas
+pub mod Keeping
+pub mod Counting
 pub mod Preparing
-pub mod Registering
 pub mod Reading
+pub mod Making
+pub mod Quotas

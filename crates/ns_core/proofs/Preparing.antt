@@ -1,5 +1,5 @@
--- A command that is prepared, and then concluded, makes its step.
-use Rattle.std.specs.Prelude.{◌≡◌, Bool, true, false, cond, Option, None, Ok, Err}
+-- What is prepared for what is asked in a namespace is prepared for its step.
+use Rattle.std.specs.Prelude.{◌≡◌, Bool, true, false, cond, Option, None, Result, Ok, Err}
 use Rattle.std.proofs.Common.{refl, sym, ap, ◌∙◌}
 use Rattle.ns_types.specs.declared.refusal.Refusal.{Refusal}
 use Rattle.ns_types.specs.declared.reply.Content.{Content}
@@ -14,8 +14,14 @@ use Rattle.ns_types.specs.State.Names.{Name}
 use Rattle.ns_types.specs.State.Rows.{State, World}
 use Rattle.ns_types.specs.Steps.{Makes, act, after, concluded, is_made, is_past_bound, reply_of, said}
 use Rattle.ns_types.proofs.Lists.{not_both}
+use Rattle.ns_change.specs.declared.change.Prepared.{Prepared}
+use Rattle.ns_change.specs.Changed.{view}
 use Rattle.ns_change.specs.Prepared.{Prepares}
 use Rattle.ns_jobs.specs.Counted.{counted, counted_ask, passes_in}
+use Rattle.ns_core.specs.declared.parts.Parts.{Parts}
+use Rattle.ns_core.specs.Answering.{PreparesStep}
+use Rattle.ns_core.specs.Viewed.{state_of, world_of}
+use Rattle.ns_core.proofs.Counting.{IsCounted}
 use Rattle.ns_world.specs.declared.tables.Tables.{Tables}
 
 -- what a refused outcome is refused with, and the world of one that is done
@@ -23,24 +29,12 @@ abbrev refusal_of : Refusal → Outcome World → Refusal
 refusal_of other (Refused refusal) = refusal
 refusal_of other _ = other
 
-abbrev pub world_left : World → Outcome World → World
-world_left other (Done content w) = w
-world_left other _ = other
-
-abbrev content_of : Content → Outcome World → Content
-content_of other (Done content w) = content
-content_of other _ = other
-
 abbrev is_enabled : Outcome World → Bool
 is_enabled NotEnabled = false
 is_enabled _ = true
 
--- the bound of a counter is passed exactly where the namespace's next numbers pass it
-abbrev pub IsCounted : Name → AskCommand → World → Type 0
-IsCounted ns command w = (content : Content) (w' : World) → ask ns command w ≡ Done content w' → is_past_bound (settle w w') ≡ passes_in w ns
-
 -- what is done, where no counter stands in its way
-pub done_of : (o : Outcome World) (p : Bool) (content : Content) (w' : World) → counted p o ≡ Done content w' → o ≡ Done content w'
+done_of : (o : Outcome World) (p : Bool) (content : Content) (w' : World) → counted p o ≡ Done content w' → o ≡ Done content w'
 done_of NotEnabled true content w' e = not_both (ap is_done e) refl
 done_of NotEnabled false content w' e = e
 done_of (Refused refusal) true content w' e = e
@@ -95,7 +89,7 @@ module _ (s : State) (ns : Name) (secret : Option Name) (command : AskCommand) (
     refuses r (Done content w') is true past e = settles content w' is true (count content w' is ∙ past) ∙ ap (λ o. said (Err (refusal_of r o)) s) e
     refuses r (Done content w') is false past e = not_both (ap is_done (sym e)) refl
 
-    pub prepare_refuses : (t : Tables) (refusal : Refusal) → Prepares (counted_ask ns command s.world) t (Err refusal) → Makes step s (Err refusal) s
+    prepare_refuses : (t : Tables) (refusal : Refusal) → Prepares (counted_ask ns command s.world) t (Err refusal) → Makes step s (Err refusal) s
     prepare_refuses t refusal h = by refusal h
       where
         o : Outcome World
@@ -111,6 +105,13 @@ module _ (s : State) (ns : Name) (secret : Option Name) (command : AskCommand) (
 
   -- ---- what it does
 
-  pub acts : (content : Content) (w' : World) → ask ns command s.world ≡ Done content w' → act step s ≡ Done content (left w')
+  acts : (content : Content) (w' : World) → ask ns command s.world ≡ Done content w' → act step s ≡ Done content (left w')
   unfolding act
   acts content w' is = ap (lift (with_world s.acl)) is
+
+pub prepares : (parts : Parts) (ns : Name) (secret : Option Name) (command : AskCommand) → right_of command (rights_of parts.acl secret ns) ≡ true
+    → IsCounted ns command (world_of parts) → (result : Result Prepared Refusal) → Prepares (counted_ask ns command (world_of parts)) parts.tables result
+    → PreparesStep (Step.Ask ns secret command) parts result
+prepares parts ns secret command allowed count (Ok x) h = acts (state_of parts) ns secret command allowed x.content (view parts.tables x.change)
+    (done_of (ask ns command (world_of parts)) (passes_in (world_of parts) ns) x.content (view parts.tables x.change) h)
+prepares parts ns secret command allowed count (Err refusal) h = prepare_refuses (state_of parts) ns secret command allowed count parts.tables refusal h

@@ -1,48 +1,74 @@
 -- What the calls on the parts answer and leave.
-use Rattle.std.specs.Prelude.{◌≡◌, Bool, true, Option, Result}
-use Rattle.ns_types.specs.declared.job.Registration.{Registration}
+use Rattle.std.specs.Prelude.{◌≡◌, Bool, true, Option, Result, Ok, Err}
 use Rattle.ns_types.specs.declared.records.Quota.{Quota}
 use Rattle.ns_types.specs.declared.refusal.Refusal.{Refusal}
 use Rattle.ns_types.specs.declared.reply.Content.{Content}
 use Rattle.ns_types.specs.declared.step.AdminCommand.{AdminCommand}
 use Rattle.ns_types.specs.declared.step.AskCommand.{AskCommand}
+use Rattle.ns_types.specs.declared.step.NodeCommand.{NodeCommand}
 use Rattle.ns_types.specs.declared.step.Step.{Step}
 use Rattle.ns_types.specs.Access.Rights.{has_any, pool_rights_of, rights_of}
 use Rattle.ns_types.specs.Asking.Asks.{right_of}
-use Rattle.ns_types.specs.Asking.Policies.{administer, may_administer}
-use Rattle.ns_types.specs.Settling.Outcome.{Changes}
+use Rattle.ns_types.specs.Asking.Nodes.{ask_pool}
+use Rattle.ns_types.specs.Asking.Policies.{administer}
+use Rattle.ns_types.specs.Settling.Outcome.{Changes, Done}
 use Rattle.ns_types.specs.State.Names.{Name}
 use Rattle.ns_types.specs.State.Rows.{Acl}
-use Rattle.ns_types.specs.Steps.{Answer, Makes}
+use Rattle.ns_types.specs.Steps.{Answer, Makes, act, is_allowed}
+use Rattle.ns_steps.specs.Answers.{answer_of}
+use Rattle.ns_change.specs.declared.change.Prepared.{Prepared}
+use Rattle.ns_change.specs.Changed.{view}
+use Rattle.ns_admin.specs.Viewed.{with_quota_put}
+use Rattle.ns_conclude.specs.Concludes.{Concludes}
 use Rattle.ns_core.specs.declared.parts.Parts.{Parts}
-use Rattle.ns_core.specs.Viewed.{state_of}
+use Rattle.ns_core.specs.Viewed.{state_of, world_of}
 
 abbrev pub MakesStep : Step → Parts → Answer → Parts → Type 0
 MakesStep step old result new = Makes step (state_of old) result (state_of new)
 
--- ---- for a secret that may
+-- ---- what is prepared for a step, and then made
 
-abbrev pub MakesRegister : Name → Registration → Parts → Answer → Parts → Type 0
-MakesRegister ns r old result new = (secret : Option Name) → (rights_of old.acl secret ns).submit_job ≡ true →
-    MakesStep (Step.Ask ns secret (AskCommand.Register r)) old result new
+-- what the step says and changes itself, or the step's answer
+abbrev pub PreparesStep : Step → Parts → Result Prepared Refusal → Type 0
+PreparesStep step parts (Ok x) =
+    act step (state_of parts) ≡ Done x.content (record (state_of parts) { world = view parts.tables x.change })
+PreparesStep step parts (Err refusal) = MakesStep step parts (Err refusal) parts
 
-abbrev pub MakesRead : Name → AskCommand → Parts → Answer → Type 0
-MakesRead ns command parts result = (secret : Option Name) → right_of command (rights_of parts.acl secret ns) ≡ true →
-    MakesStep (Step.Ask ns secret command) parts result parts
+-- whichever step that is allowed it was prepared for
+abbrev pub MakesPrepared : Result Prepared Refusal → Parts → Result Content Refusal → Parts → Type 0
+MakesPrepared prepared old result new = (step : Step) → is_allowed step old.acl ≡ true → PreparesStep step old prepared
+    → MakesStep step old (answer_of step (world_of new) result) new
 
-abbrev pub MakesPutQuota : Name → Quota → Parts → Answer → Parts → Type 0
-MakesPutQuota name quota old result new = (secret : Option Name)
-    → may_administer old.acl secret (AdminCommand.PutQuota name quota) ≡ true
-    → MakesStep (Step.Admin secret (AdminCommand.PutQuota name quota)) old result new
+-- ---- what is asked in a namespace, by each secret that may
 
--- ---- what a change says
+abbrev pub MakesAsk : Name → AskCommand → Parts → Answer → Parts → Type 0
+MakesAsk ns command old result new = (secret : Option Name) → right_of command (rights_of old.acl secret ns) ≡ true →
+    MakesStep (Step.Ask ns secret command) old result new
 
+abbrev pub PreparesAsk : Name → AskCommand → Parts → Result Prepared Refusal → Type 0
+PreparesAsk ns command parts result = (secret : Option Name) → right_of command (rights_of parts.acl secret ns) ≡ true →
+    PreparesStep (Step.Ask ns secret command) parts result
+
+-- ---- reads of a pool
+
+abbrev pub ReadsPool : Name → NodeCommand → Parts → Result Content Refusal → Type 0
+ReadsPool pool command parts result =
+    Changes (ask_pool pool command (world_of parts)) (world_of parts) result (world_of parts)
+
+-- ---- administrators
+
+-- what a change says
 abbrev pub ChangesBy : Option Name → AdminCommand → Parts → Result Content Refusal → Parts → Type 0
 ChangesBy secret command old result new =
     Changes (administer secret command (state_of old)) (state_of old) result (state_of new)
 
 abbrev pub ReadsBy : Option Name → AdminCommand → Parts → Result Content Refusal → Type 0
 ReadsBy secret command parts result = ChangesBy secret command parts result parts
+
+-- the quota is put, and what that releases settles
+abbrev pub Relimits : Name → Quota → Parts → Result Content Refusal → Parts → Type 0
+Relimits name quota old result new =
+    Concludes (world_of old) (with_quota_put name quota (world_of old)) result (world_of new)
 
 -- ---- whose names a secret sees in lists
 

@@ -1,15 +1,18 @@
 //! What administrators ask, as steps over the parts.
 
-ghost use Rattle.std.specs.Prelude.{◌≡◌, option_copied, None};
+ghost use Rattle.std.specs.Prelude.{◌≡◌, IfOk, false, option_copied, true};
+ghost use Rattle.ns_types.specs.declared.reply.Content.TheVariants as Content;
 ghost use Rattle.ns_types.specs.declared.step.AdminCommand.TheVariants as AdminCommand;
 ghost use Rattle.ns_types.specs.declared.step.Step.TheVariants as Step;
+ghost use Rattle.ns_types.specs.Asking.Admins.{is_relimited};
 ghost use Rattle.ns_types.specs.Asking.Policies.{may_administer};
-ghost use Rattle.ns_steps.specs.Administered.{IsCalm};
-ghost use Rattle.ns_core.specs.Answering.{ChangesBy, MakesPutQuota, MakesStep, ReadsBy, sees, sees_pool};
+ghost use Rattle.ns_types.specs.Steps.{is_past_bound};
+ghost use Rattle.ns_steps.specs.Quiet.{IsQuiet};
+ghost use Rattle.ns_core.specs.Answering.{ChangesBy, MakesStep, ReadsBy, Relimits, sees, sees_pool};
 ghost use Rattle.ns_core.specs.Held.{IsHeld};
-ghost use Rattle.ns_core.specs.Viewed.{world_of};
+ghost use Rattle.ns_core.specs.Viewed.{state_of, world_of};
 
-use crate::parts::Parts;
+use crate::parts::{Parts, plain};
 use crate::rights::has_any;
 use ns_admin::{
     delete_namespace, delete_pool, delete_quota, is_exhausted, is_relimited, list_quotas,
@@ -20,16 +23,6 @@ use ns_types::refusal::Refusal;
 use ns_types::reply::{Content, Reply};
 use ns_types::step::AdminCommand;
 use ns_types::text::Text;
-
-/// The reply to a step that shows no index.
-pub fn plain(content: Content) -> Reply
-    ensures { result ≡ record { index = None; content = content } }
-{
-    Reply {
-        index: None,
-        content,
-    }
-}
 
 impl Parts {
     fn may_administer(&self, secret: Option<&Text>, command: &AdminCommand) -> bool
@@ -61,13 +54,12 @@ impl Parts {
         Ok(ns_admin::list_pools(&self.tables, sees)?)
     }
 
-    /// Makes the change that is asked by a secret that may, where it releases nothing.
+    /// Makes the change that is asked by a secret that may.
     fn administer(
         &mut self,
         secret: Option<&Text>,
         command: &AdminCommand,
     ) -> Result<Content, Refusal>
-        requires { IsCalm command.now }
         ensures { ChangesBy (option_copied secret.entry) command.now self.old result self.new }
     {
         match command {
@@ -76,6 +68,7 @@ impl Parts {
             AdminCommand::DeleteNamespace(name) => delete_namespace(&mut self.tables, name),
             AdminCommand::ListQuotas => Ok(list_quotas(&self.tables)?),
             AdminCommand::ReadQuota(name) => read_quota(&self.tables, name),
+            AdminCommand::PutQuota(name, quota) => put_quota(&mut self.tables, name, quota),
             AdminCommand::DeleteQuota(name) => delete_quota(&mut self.tables, name),
             AdminCommand::ListPools => self.list_pools(secret),
             AdminCommand::PutPool(name, pool) => put_pool(&mut self.tables, name, pool),
@@ -85,41 +78,41 @@ impl Parts {
             AdminCommand::DeletePolicy(name) => self.acl.delete_policy(name),
             AdminCommand::CreateToken(new) => self.acl.create_token(new),
             AdminCommand::DeleteToken(accessor) => self.acl.delete_token(accessor),
-            AdminCommand::PutQuota(_, _) => unreachable!(),
         }
     }
 
-    /// Puts a quota. With other limits it has one more release, unless that number would pass its bound.
-    fn put_quota(&mut self, name: &Text, quota: &Quota) -> Result<Reply, Refusal>
-        requires { IsHeld (world_of self.old) }
-        ensures made { MakesPutQuota name.now quota.now self.old result self.new }
-        ensures held { IsHeld (world_of self.new) }
+    /// Changes the limits of a quota, which releases it once more. `Full`: that number would pass its bound.
+    fn relimit(&mut self, name: &Text, quota: &Quota) -> Result<Content, Refusal>
+        requires quiet { IsQuiet (world_of self.old) }
+        requires within { is_past_bound (world_of self.old) ≡ false }
+        requires other { is_relimited name.now quota.now (world_of self.old) ≡ true }
+        ensures acl { self.new.acl ≡ self.old.acl }
+        ensures made { Relimits name.now quota.now self.old result self.new }
+        ensures content { IfOk result (λ content. content ≡ Content.Written) }
     {
-        let releases = is_relimited(&self.tables, name, quota);
-        if releases && is_exhausted(&self.tables, name) {
+        if is_exhausted(&self.tables, name) {
             return Err(Refusal::Full);
         }
         let content = put_quota(&mut self.tables, name, quota)?;
-        if releases {
-            release_quota(&mut self.tables, name);
-        }
-        Ok(plain(content))
+        release_quota(&mut self.tables, name);
+        Ok(content)
     }
 
     /// Makes the step that an administrator asks, or leaves the state as it is.
     pub fn admin(&mut self, secret: Option<&Text>, command: &AdminCommand) -> Result<Reply, Refusal>
-        requires { IsHeld (world_of self.old) }
-        ensures made { let step = Step.Admin (option_copied secret.entry) command.now in
+        requires { IsHeld (state_of self.old) }
+        ensures { let step = Step.Admin (option_copied secret.entry) command.now in
             MakesStep step self.old result self.new }
-        ensures held { IsHeld (world_of self.new) }
     {
         if !self.may_administer(secret, command) {
             return Err(Refusal::Denied);
         }
-        if let AdminCommand::PutQuota(name, quota) = command {
-            return self.put_quota(name, quota);
-        }
-        let content = self.administer(secret, command)?;
+        let content = match command {
+            AdminCommand::PutQuota(name, quota) if is_relimited(&self.tables, name, quota) => {
+                self.relimit(name, quota)?
+            }
+            _ => self.administer(secret, command)?,
+        };
         Ok(plain(content))
     }
 }

@@ -1,22 +1,18 @@
 //! What is asked in a namespace, as steps over the parts.
 
-ghost use Rattle.std.specs.Prelude.{◌≡◌, IfOk, false, option_copied};
+ghost use Rattle.std.specs.Prelude.{◌≡◌, false, option_copied, true};
 ghost use Rattle.ns_types.specs.declared.step.Step.TheVariants as Step;
 ghost use Rattle.ns_types.specs.Access.Rights.{rights_of};
 ghost use Rattle.ns_types.specs.Asking.Asks.{right_of};
-ghost use Rattle.ns_types.specs.Steps.{is_past_bound};
 ghost use Rattle.ns_steps.specs.Served.{IsServedAsk};
-ghost use Rattle.ns_change.specs.Changed.{view};
-ghost use Rattle.ns_core.specs.Answering.{MakesRegister, MakesStep};
-ghost use Rattle.ns_conclude.specs.Concludes.{Concludes};
+ghost use Rattle.ns_jobs.specs.Read.{only_reads};
+ghost use Rattle.ns_core.specs.Answering.{MakesAsk, MakesStep, PreparesAsk};
 ghost use Rattle.ns_core.specs.Held.{IsHeld};
-ghost use Rattle.ns_core.specs.Viewed.{world_of};
+ghost use Rattle.ns_core.specs.Viewed.{state_of};
 
 use crate::parts::Parts;
 use crate::rights::has_any;
 use ns_change::Prepared;
-use ns_conclude::conclude;
-use ns_types::job::Registration;
 use ns_types::refusal::Refusal;
 use ns_types::reply::{Content, Reply};
 use ns_types::step::AskCommand;
@@ -38,30 +34,45 @@ impl Parts {
         }
     }
 
-    /// Settles what a command changes, or leaves the parts as they are.
-    fn conclude(&mut self, prepared: Prepared) -> Result<Content, Refusal>
-        requires { is_past_bound (world_of self.old) ≡ false }
-        ensures acl { self.new.acl ≡ self.old.acl }
-        ensures world { Concludes (world_of self.old) (view self.old.tables prepared.change)
-            result (world_of self.new) }
-        ensures content { IfOk result (λ content. content ≡ prepared.content) }
+    /// Answers a command that only reads, by a secret that may.
+    fn read(&self, namespace: &Text, command: &AskCommand) -> Result<Reply, Refusal>
+        requires held { IsHeld (state_of self.now) }
+        requires served { IsServedAsk command.now }
+        requires reads { only_reads command.now ≡ true }
+        ensures { MakesAsk namespace.now command.now self.now result self.now }
     {
-        let Prepared { content, change } = prepared;
-        if let Err(refusal) = conclude(&mut self.tables, change) {
-            drop(content);
-            return Err(refusal);
-        }
-        Ok(content)
+        let content = ns_jobs::read(&self.tables, namespace, command)?;
+        Ok(self.reply(namespace, content))
     }
 
-    /// Registers a job, for a secret that may.
-    fn register(&mut self, namespace: &Text, registration: &Registration) -> Result<Reply, Refusal>
-        requires { IsHeld (world_of self.old) }
-        ensures made { MakesRegister namespace.now registration.now self.old result self.new }
-        ensures held { IsHeld (world_of self.new) }
+    /// What a command that writes comes to, with what it changes, by a secret that may.
+    fn prepare(&self, namespace: &Text, command: &AskCommand) -> Result<Prepared, Refusal>
+        requires held { IsHeld (state_of self.now) }
+        requires writes { only_reads command.now ≡ false }
+        ensures { PreparesAsk namespace.now command.now self.now result }
     {
-        let prepared = ns_jobs::register(&self.tables, namespace, registration)?;
-        let content = self.conclude(prepared)?;
+        match command {
+            AskCommand::Register(registration) => {
+                ns_jobs::register(&self.tables, namespace, registration)
+            }
+            AskCommand::Deregister(id, purge) => {
+                ns_jobs::deregister(&self.tables, namespace, id, *purge)
+            }
+            AskCommand::StopAllocation(number) => {
+                ns_jobs::stop_allocation(&self.tables, namespace, *number)
+            }
+            _ => unreachable!(),
+        }
+    }
+
+    /// Makes the step of a command that writes, by a secret that may.
+    fn write(&mut self, namespace: &Text, command: &AskCommand) -> Result<Reply, Refusal>
+        requires held { IsHeld (state_of self.old) }
+        requires writes { only_reads command.now ≡ false }
+        ensures { MakesAsk namespace.now command.now self.old result self.new }
+    {
+        let prepared = self.prepare(namespace, command);
+        let content = self.make(prepared)?;
         Ok(self.reply(namespace, content))
     }
 
@@ -72,17 +83,18 @@ impl Parts {
         secret: Option<&Text>,
         command: &AskCommand,
     ) -> Result<Reply, Refusal>
-        requires held { IsHeld (world_of self.old) }
+        requires held { IsHeld (state_of self.old) }
         requires served { IsServedAsk command.now }
-        ensures made { let step = Step.Ask namespace.now (option_copied secret.entry) command.now in
+        ensures { let step = Step.Ask namespace.now (option_copied secret.entry) command.now in
             MakesStep step self.old result self.new }
-        ensures held { IsHeld (world_of self.new) }
     {
         if !self.may_ask(namespace, secret, command) {
             return Err(Refusal::Denied);
         }
         match command {
-            AskCommand::Register(registration) => self.register(namespace, registration),
+            AskCommand::Register(_)
+            | AskCommand::Deregister(_, _)
+            | AskCommand::StopAllocation(_) => self.write(namespace, command),
             _ => self.read(namespace, command),
         }
     }

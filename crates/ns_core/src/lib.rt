@@ -3,9 +3,8 @@
 
 mod administration;
 mod asks;
+mod nodes;
 mod parts;
-mod pool;
-mod reads;
 mod rights;
 mod server;
 

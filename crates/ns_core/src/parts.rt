@@ -1,11 +1,15 @@
 //! All that a core holds: the access lists, and the tables of the whole world.
 
-ghost use Rattle.std.specs.Prelude.{◌≡◌, IfOk, option_map};
+ghost use Rattle.std.specs.Prelude.{◌≡◌, IfOk, None, false, option_map};
 ghost use Rattle.std.specs.FinMap.{get};
-ghost use Rattle.ns_types.specs.Steps.{opening};
+ghost use Rattle.ns_types.specs.Steps.{is_past_bound, opening};
+ghost use Rattle.ns_core.specs.Answering.{MakesPrepared};
 ghost use Rattle.ns_core.specs.Viewed.{state_of, world_of};
 
 use ns_acl::Acl;
+use ns_change::Prepared;
+use ns_conclude::conclude;
+use ns_types::refusal::Refusal;
 use ns_types::reply::{Content, Reply};
 use ns_types::text::Text;
 use ns_world::Tables;
@@ -26,6 +30,19 @@ impl Parts {
             acl: Acl::new(alloc, bootstrap)?,
             tables: ns_admin::opening(alloc)?,
         })
+    }
+
+    /// Settles what was prepared for a step, or leaves the parts as they are.
+    pub fn make(&mut self, prepared: Result<Prepared, Refusal>) -> Result<Content, Refusal>
+        requires { is_past_bound (world_of self.old) ≡ false }
+        ensures { MakesPrepared prepared self.old result self.new }
+    {
+        let Prepared { content, change } = prepared?;
+        if let Err(refusal) = conclude(&mut self.tables, change) {
+            drop(content);
+            return Err(refusal);
+        }
+        Ok(content)
     }
 
     /// The namespace's index, if it is there.
@@ -50,5 +67,15 @@ impl Parts {
             index: self.index(namespace),
             content,
         }
+    }
+}
+
+/// The reply to a step that shows no index.
+pub fn plain(content: Content) -> Reply
+    ensures { result ≡ record { index = None; content = content } }
+{
+    Reply {
+        index: None,
+        content,
     }
 }

@@ -1,14 +1,17 @@
 //! The server as one value, which contracts see as its state.
 
-ghost use Rattle.std.specs.Prelude.{◌≡◌, IfOk, option_copied};
+ghost use Rattle.std.specs.Prelude.{◌≡◌, IfOk, IsTrue, option_copied};
+ghost use Rattle.ns_types.specs.declared.name.NameKind.TheVariants as NameKind;
+ghost use Rattle.ns_types.specs.declared.step.NodeCommand.TheVariants as NodeCommand;
 ghost use Rattle.ns_types.specs.declared.step.Step.TheVariants as Step;
+ghost use Rattle.ns_types.specs.State.Name.{is_name};
 ghost use Rattle.ns_types.specs.Steps.{Makes, opening};
-ghost use Rattle.ns_steps.specs.Served.{IsServedAsk, IsServedNode};
+ghost use Rattle.ns_steps.specs.Served.{IsServedAsk};
 
 use crate::parts::Parts;
+use ns_types::good::{GoodAdmin, GoodAsk, GoodTelling};
 use ns_types::refusal::Refusal;
 use ns_types::reply::Reply;
-use ns_types::step::{AdminCommand, AskCommand, NodeCommand};
 use ns_types::text::Text;
 use std::alloc::{AllocError, Global};
 use std::marker::Model;
@@ -29,16 +32,17 @@ impl Model for Core {
     ghost coded = { Prim.hlevel (codes, code) };
 
     ghost use Rattle.ns_core.specs.Held.{IsHeld};
-    ghost use Rattle.ns_core.specs.Viewed.{state_of, world_of};
+    ghost use Rattle.ns_core.specs.Viewed.{state_of};
 
     ghost view = { λ c. state_of c.parts };
 
-    ghost invariant = { λ c. IsHeld (world_of c.parts) };
+    ghost invariant = { λ c. IsHeld (state_of c.parts) };
 }
 
 impl Core {
     /// A server that has just begun: the namespace and the pool `default`, and one management token with that secret.
     pub fn new(alloc: Global, bootstrap: &Text) -> Result<Core, AllocError>
+        requires { IsTrue (is_name NameKind.Secret bootstrap.now) }
         ensures { IfOk result (λ core. core ≡ opening bootstrap.now) }
     {
         let parts = Parts::opening(alloc, bootstrap)?;
@@ -50,40 +54,37 @@ impl Core {
         &mut self,
         namespace: &Text,
         secret: Option<&Text>,
-        command: &AskCommand,
+        command: &GoodAsk,
     ) -> Result<Reply, Refusal>
         requires { IsServedAsk command.now }
         ensures { let step = Step.Ask namespace.now (option_copied secret.entry) command.now in
             Makes step self.old result self.new }
     {
         let parts = &mut self.parts;
-        parts.ask(namespace, secret, command)
+        parts.ask(namespace, secret, command.get())
     }
 
     /// Makes the step that an administrator asks with a secret.
-    pub fn admin(&mut self, secret: Option<&Text>, command: &AdminCommand) -> Result<Reply, Refusal>
+    pub fn admin(&mut self, secret: Option<&Text>, command: &GoodAdmin) -> Result<Reply, Refusal>
         ensures { let step = Step.Admin (option_copied secret.entry) command.now in
             Makes step self.old result self.new }
     {
         let parts = &mut self.parts;
-        parts.admin(secret, command)
+        parts.admin(secret, command.get())
     }
 
-    /// Makes the step that a secret asks of a pool. So far the pool itself is read.
+    /// Makes the step that a secret tells of a pool. So far the pool itself is read.
     pub fn node(
         &mut self,
         pool: &Text,
         secret: Option<&Text>,
-        command: &NodeCommand,
+        command: &GoodTelling,
     ) -> Result<Reply, Refusal>
-        requires { IsServedNode command.now }
+        requires { command.now ≡ NodeCommand.ReadPool }
         ensures { let step = Step.Node pool.now (option_copied secret.entry) command.now in
             Makes step self.old result self.new }
     {
         let parts = &mut self.parts;
-        match command {
-            NodeCommand::ReadPool => parts.read_pool(pool, secret),
-            _ => unreachable!(),
-        }
+        parts.node(pool, secret, command.get())
     }
 }

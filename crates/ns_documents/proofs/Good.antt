@@ -2,7 +2,7 @@
 use Rattle.std.proofs.Common.{◌≡◌, ℕ, ◌+◌, ◌≤◌, ◌==◌, ℤ, pos, negsuc, List, [], ◌∷◌, ◌++◌, length, Bool, true, false, not, ◌&&◌, ◌||◌, nat_le, Option, Some}
 use Rattle.std.proofs.Common.{None, is_some, Ok, Err, IfOk, codes, if◌then◌else◌, refl, sym, ◌∙◌, subst, true≢false, arith, length-append, option_and_then}
 use Rattle.std.specs.Bool.{IsTrue}
-use Rattle.std.specs.List.{list_all}
+use Rattle.std.specs.List.{list_all, list_any}
 use Rattle.std.specs.Option.{option_map_or, is_none}
 use Rattle.std.specs.Str.{bytes_eq}
 use Rattle.std.proofs.lemmas.Bool.{eqb-false, le-leb, not-false, not_from_false}
@@ -29,10 +29,13 @@ use Rattle.ns_types.specs.State.Names.{Name, same_name, default_name}
 use Rattle.ns_types.specs.State.Names
 use Rattle.ns_types.specs.State.Resources.{limits_in, unlimited}
 use Rattle.ns_types.proofs.Lists.{left_none, right_none}
-use Rattle.ns_types.proofs.Named.{same_name_is}
+use Rattle.ns_types.proofs.Named.{same_name_is, first_of_both, second_of_both}
 use Rattle.ns_json.specs.Reading.{◌>>=◌, Read, Gives, same, top, present, demanded, or_else, or_refuse, some, an_object, a_text, a_name, has_name, unless}
 use Rattle.ns_json.specs.Reading.{a_list, a_number, each, unless_null}
 use Rattle.ns_json.specs.Registration.{name_if_any}
+use Rattle.ns_json.proofs.Distinct.{Distinct, distinct_more, distinct_is}
+use Rattle.ns_json.proofs.Posts.{Post, post_then, post_any, post_map, post_unless, post_else, post_some, read_so, read_if}
+use Rattle.ns_json.proofs.Posts.{text_good, name_good, name_if_any_good, number_good, list_of_good}
 use Rattle.ns_policy.specs.Json.{rules_of}
 use Rattle.ns_documents.specs.declared.namespace.NamedNamespace.{NamedNamespace}
 use Rattle.ns_documents.specs.declared.pools.PoolConfiguration.{PoolConfiguration}
@@ -44,73 +47,8 @@ use Rattle.ns_documents.specs.Records.{is_all, pool_or_default, default_pool_in,
 use Rattle.ns_documents.specs.Records.{limit_in, region_limit_in, region_in, entry_in, first_entry, entries_in, quota_in, pool_in}
 use Rattle.ns_documents.specs.Access.{with_accessor, rules_text_in, or_bad_rules, policy_in, token_kind_in, token_in}
 use Rattle.ns_documents.specs.Nodes.{with_value, with_attribute, each_attribute, attributes_in, amount_in, node_in}
-use Rattle.ns_documents.proofs.Distinct.{Distinct, distinct_more, distinct_is, pools_without_all}
-
--- ---- what holds of the value, where there is one
-
-abbrev Post : {A : Type 0} → Read A → (A → Type 0) → Type 0
-Post (Ok x) P = P x
-Post (Err e) P = Unit {0}
-
-post_then : {A B : Type 0} {P : A → Type 0} (r : Read A) (f : A → Read B) (Q : B → Type 0) → Post r P → ((x : A) → P x → Post (f x) Q) → Post (r >>= f) Q
-post_then (Ok x) f Q p h = h x p
-post_then (Err e) f Q p h = tt
-
-post_any : {A B : Type 0} (r : Read A) (f : A → Read B) (Q : B → Type 0) → ((x : A) → Post (f x) Q) → Post (r >>= f) Q
-post_any (Ok x) f Q h = h x
-post_any (Err e) f Q h = tt
-
-post_map : {A : Type 0} (r : Read A) (P Q : A → Type 0) → ((x : A) → P x → Q x) → Post r P → Post r Q
-post_map (Ok x) P Q f h = f x h
-post_map (Err e) P Q f h = tt
-
-post_both : {A : Type 0} (r : Read A) (P Q : A → Type 0) → Post r P → Post r Q → Post r (λ x. P x × Q x)
-post_both (Ok x) P Q h k = (h, k)
-post_both (Err e) P Q h k = tt
-
-post_if : {A : Type 0} (c : Bool) (x : A) (e : Refusal) (P : A → Type 0) → (c ≡ true → P x) → Post (if c then Ok x else Err e) P
-post_if true x e P h = h refl
-post_if false x e P h = tt
-
-post_unless : {A : Type 0} (bad : Bool) (m : Member) (x : A) (P : A → Type 0) → (bad ≡ false → P x) → Post (unless bad m x) P
-post_unless true m x P h = tt
-post_unless false m x P h = h refl
-
-post_else : {A : Type 0} (default : A) (read : Data → Read A) (P : A → Type 0) (d : Option Data) → P default → ((v : Data) → Post (read v) P) →
-    Post (or_else default read d) P
-post_else default read P None h k = h
-post_else default read P (Some v) h k = k v
-
-post_some : {A : Type 0} (r : Read A) (P : A → Type 0) (Q : Option A → Type 0) → ((x : A) → P x → Q (Some x)) → Post r P → Post (some r) Q
-post_some (Ok x) P Q f h = f x h
-post_some (Err e) P Q f h = tt
-
-read_so : {A : Type 0} (r read : Read A) (P : A → Type 0) → Gives same r read → Post read P → IfOk r P
-read_so (Ok x) read P h post = subst (λ q. Post q P) h post
-read_so (Err e) read P h post = tt
-
-read_if : {A : Type 0} (H : Type 0) (r read : Read A) (P : A → Type 0) → Gives same r read → (H → Post read P) → IfOk r (λ x. H → P x)
-read_if H (Ok x) read P h post = λ k. subst (λ q. Post q P) h (post k)
-read_if H (Err e) read P h post = tt
 
 -- ---- names and texts
-
-text_good : (m : Member) (d : Data) → Post (a_text m d) (λ s. IsTrue (is_text s))
-unfolding a_text
-text_good m d = post_any (or_refuse m (as_str d)) _ _ (λ s. post_if (nat_le (length s) 256) s _ _ (λ h. h))
-
-name_good : (m : Member) (kind : NameKind) (d : Data) → Post (a_name m kind d) (λ s. IsTrue (is_name kind s))
-unfolding a_name
-name_good m kind d = post_any (or_refuse m (as_str d)) _ _ (λ s. post_if (is_name kind s) s _ _ (λ h. h))
-
-name_at : (c : Bool) (m : Member) (kind : NameKind) (d : Data) →
-    Post (if c then Ok None else some (a_name m kind d)) (λ o. IsTrue (option_map_or (is_name kind) o true))
-name_at true m kind d = refl
-name_at false m kind d = post_some (a_name m kind d) (λ s. IsTrue (is_name kind s)) _ (λ s h. h) (name_good m kind d)
-
-name_if_any_good : (m : Member) (kind : NameKind) (d : Data) → Post (name_if_any m kind d) (λ o. IsTrue (option_map_or (is_name kind) o true))
-unfolding name_if_any
-name_if_any_good m kind d = post_any (a_text m d) _ _ (λ s. name_at (length s == 0) m kind d)
 
 description_good : (d : Data) → Post (description_in d) (λ s. IsTrue (is_text s))
 unfolding description_in
@@ -128,20 +66,6 @@ named_good kind (Some path) d h = post_else path (repeated path) (λ s. IsTrue (
 
 -- ---- lists of names
 
-each_good : {A : Type 0} (read : List A → Data → Read A) (P : List A → Type 0) (done : List A) (ds : Items) →
-    ((before : List A) (d : Data) → P before → Post (read before d) (λ x. P (before ++ x ∷ []))) → P done → Post (each read done ds) P
-unfolding each
-each_good read P done no_items step h = h
-each_good read P done (item d ds) step h = post_then (read done d) _ P (step done d h) (λ x k. each_good read P (done ++ x ∷ []) ds step k)
-
-each_length : {A : Type 0} (read : List A → Data → Read A) (done : List A) (ds : Items) →
-    Post (each read done ds) (λ xs. length xs ≡ length done + items_len ds)
-unfolding each
-each_length read done no_items = omega arith
-each_length read done (item d ds) =
-    post_any (read done d) _ _ (λ x. post_map (each read (done ++ x ∷ []) ds) (λ xs. length xs ≡ length (done ++ x ∷ []) + items_len ds) _
-    (λ xs e. omega (arith, e, length-append done (x ∷ []))) (each_length read (done ++ x ∷ []) ds))
-
 abbrev AllNamed : NameKind → List Name → Type 0
 AllNamed kind xs = IsTrue (list_all (is_name kind) xs) × Distinct xs
 
@@ -157,24 +81,31 @@ listed_good m kind before d h =
     (λ x k. post_unless (has_name same before x) m x (λ y. AllNamed kind (before ++ y ∷ []))
     (λ new. (all_more kind before x h.0 k, distinct_more before x h.1 new)))
 
-list_good : (m : Member) (most : ℕ) (d : Data) → Post (a_list m 0 most d) (λ ds. items_len ds ≤ most)
-unfolding a_list
-list_good m most d = post_any (or_refuse m (as_array d)) _ _
-    (λ ds. post_if (nat_le 0 (items_len ds) && nat_le (items_len ds) most) ds _ _ (λ h. grind (arith, nat_tests)))
-
 abbrev Listed : NameKind → ℕ → List Name → Type 0
 Listed kind most xs = AllNamed kind xs × (length xs ≤ most)
 
 names_good : (m : Member) (kind : NameKind) (most : ℕ) (d : Data) → Post (names_in m kind most d) (Listed kind most)
 unfolding names_in
 names_good m kind most d =
-    post_then (a_list m 0 most d) _ _ (list_good m most d)
-    (λ ds fits. post_map (each (listed_name m kind) [] ds) _ (Listed kind most)
-    (λ xs (k : AllNamed kind xs × (length xs ≡ 0 + items_len ds)). (k.0, omega arith))
-    (post_both (each (listed_name m kind) [] ds) (AllNamed kind) (λ xs. length xs ≡ 0 + items_len ds)
-    (each_good (listed_name m kind) (AllNamed kind) [] ds (listed_good m kind) (refl, tt)) (each_length (listed_name m kind) [] ds)))
+    post_map (a_list m 0 most d >>= λ ds. each (listed_name m kind) [] ds) _ (Listed kind most)
+    (λ xs (k : AllNamed kind xs × IsTrue (is_between 0 most (length xs))). (k.0, few xs k.1))
+    (list_of_good m 0 most (listed_name m kind) (AllNamed kind) d (listed_good m kind) (refl, tt))
+  where
+    few : (xs : List Name) → IsTrue (is_between 0 most (length xs)) → length xs ≤ most
+    few xs h = grind (arith, nat_tests)
 
 -- ---- the pools of a namespace
+
+-- names of pools, none of which is `all`
+pools_without_all : (xs : List Name) → list_all (is_name NameKind.Pool) xs ≡ true → list_any (λ x. bytes_eq x (codes "all")) xs ≡ false →
+    list_all is_pool_name xs ≡ true
+pools_without_all [] h none = refl
+pools_without_all (x ∷ xs) h none =
+    let here : is_name NameKind.Pool x ≡ true = first_of_both (is_name NameKind.Pool x) (list_all (is_name NameKind.Pool) xs) h in
+    let other : bytes_eq x (codes "all") ≡ false = left_none (bytes_eq x (codes "all")) (list_any (λ y. bytes_eq y (codes "all")) xs) none in
+    let more : list_all is_pool_name xs ≡ true = pools_without_all xs (second_of_both (is_name NameKind.Pool x) (list_all (is_name NameKind.Pool) xs) h)
+    (right_none (bytes_eq x (codes "all")) (list_any (λ y. bytes_eq y (codes "all")) xs) none) in
+    rw (here, other, more) refl
 
 pool_list : (xs : List Name) → Listed NameKind.Pool 1000 xs → has_name same xs (codes "all") ≡ false → IsTrue (is_pool_list xs)
 pool_list xs h none =
@@ -379,9 +310,8 @@ unfolding attributes_in
 attributes_good d = post_any (or_refuse Member.Attributes (as_object d)) _ _ (λ ms. each_attribute_good [] ms (omega arith, refl))
 
 amount_good : (m : Member) (d : Data) → Post (amount_in m d) (λ n. IsTrue (is_between 1 2147483647 n))
-unfolding amount_in a_number
-amount_good m d = post_any (demanded m d) _ _ (λ v. post_any (or_refuse m (option_and_then as_u64 (as_number v))) _ _
-    (λ n. post_if (nat_le 1 n && nat_le n 2147483647) n _ _ (λ h. h)))
+unfolding amount_in
+amount_good m d = post_any (demanded m d) _ _ (number_good m 1 2147483647)
 
 offer_from : (class : Name) (attributes : List Attribute) (cpu memory : ℕ) → IsTrue (is_text class) → AreAttributes attributes →
     IsTrue (is_between 1 2147483647 cpu) → IsTrue (is_between 1 2147483647 memory) →

@@ -1,5 +1,5 @@
 -- What is asked comes to, test by test.
-use Rattle.std.specs.Prelude.{◌≡◌, ℕ, Bool, true, false, not, Option, Some, None, Result, Err, is_none}
+use Rattle.std.specs.Prelude.{◌≡◌, ℕ, Bool, true, false, not, Option, Some, None, Err, is_none}
 use Rattle.std.proofs.Common.{refl, ap, sym, subst, ◌∙◌}
 use Rattle.std.specs.Option.{option_map_or}
 use Rattle.std.specs.FinMap.{contains_key, get}
@@ -18,7 +18,6 @@ use Rattle.ns_types.proofs.Lists.{not_both}
 use Rattle.ns_types.proofs.Outcomes.{unless_not, unless_so}
 use Rattle.ns_types.proofs.Registrations.{by_tests}
 use Rattle.ns_types.proofs.Tests.{same_Some}
-use Rattle.ns_change.specs.declared.change.Prepared.{Prepared}
 use Rattle.ns_change.specs.Prepared.{Prepares}
 use Rattle.ns_world.specs.declared.tables.Tables.{Tables}
 use Rattle.ns_jobs.specs.Counted.{counted, counted_ask, passes_bound, passes_in}
@@ -57,11 +56,6 @@ module _ (w : World) (ns : Name) (command : AskCommand) where
 
     pub stands : passes_bound t ≡ false → counted_ask ns command w ≡ asked_in ns command w t
     stands fits = λ i. counted ((passes ∙ fits) i) (asks i)
-
--- want of memory, where the step would be done
-pub out_of_memory : (outcome : Outcome World) (tables : Tables) (r : Result Prepared Refusal) → r ≡ Err Refusal.Memory → is_done outcome ≡ true →
-    Prepares outcome tables r
-out_of_memory outcome tables r e d = subst (Prepares outcome tables) (sym e) d
 
 -- ---- registration
 

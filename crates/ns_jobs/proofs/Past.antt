@@ -1,7 +1,6 @@
 -- A step that makes an evaluation, where a counter of its namespace is at its bound.
-use Rattle.std.specs.Prelude.{◌≡◌, ℕ, ◌+◌, Bool, true, false, cond, not, ◌||◌, List, [], ◌∷◌, ◌++◌, Option, Some, None, fold, option_map, nat_lt}
+use Rattle.std.specs.Prelude.{◌≡◌, ℕ, ◌+◌, Bool, true, false, cond, not, ◌||◌, List, Option, Some, None, fold, option_map, nat_lt}
 use Rattle.std.proofs.Common.{refl, ap, sym, subst, ◌∙◌}
-use Rattle.std.specs.Option.{option_map_or}
 use Rattle.std.specs.FinMap.{get, insert}
 use Rattle.ns_types.specs.declared.allocation.Allocation.{Allocation}
 use Rattle.ns_types.specs.declared.allocation.DesiredStatus.TheVariants as DesiredStatus
@@ -20,12 +19,13 @@ use Rattle.ns_types.specs.Settling.Same.{same_evaluation}
 use Rattle.ns_types.specs.Settling.Settle.{changes_allocation, changes_evaluation, changes_job, is_changed, is_touched, number_releases, pending, settle}
 use Rattle.ns_types.specs.Settling.Settle.{stamp, stamp_tenant, stamped, unblocked_in, wake}
 use Rattle.ns_types.specs.State.Names.{Key, Name, has_key}
-use Rattle.ns_types.specs.State.Rows.{World, Tenant, evaluation_at, is_live}
+use Rattle.ns_types.specs.State.Rows.{World, Tenant, is_live}
 use Rattle.ns_types.specs.State.Tables.{any_row}
 use Rattle.ns_types.specs.Steps.{greatest, is_past_bound, is_pool_past_bound, is_tenant_past_bound}
-use Rattle.ns_types.specs.Working.Queue.{is_busy, queue}
+use Rattle.ns_types.specs.Working.Queue.{queue}
 use Rattle.ns_types.proofs.Lists.{left_none, not_both, right_none}
 use Rattle.ns_types.proofs.Named.{names, numbers, one_name, one_number}
+use Rattle.ns_types.proofs.Queue.{queue_keeps, queues_keep}
 use Rattle.ns_types.proofs.Settling.{keeps_elsewhere, releases_nothing, stamp_one}
 use Rattle.ns_types.proofs.TableRows.{any_row-put, get_put, some_row}
 use Rattle.ns_types.proofs.Tables.{get-map_rows, none_of_any}
@@ -34,25 +34,6 @@ use Rattle.ns_jobs.specs.Made.{job_of, stopped_with}
 use Rattle.ns_jobs.specs.Read.{only_reads}
 use Rattle.ns_jobs.proofs.Asked.{asks}
 use Rattle.ns_jobs.proofs.Prepared.{stop_keeps}
-
--- ---- queueing changes the list of ready evaluations alone
-
-module _ {A : Type 0} (part : World → A) (keeps : (w : World) (keys : List Key) → part (record w { ready = keys }) ≡ part w) where
-  queue_keeps : (w : World) (key : Key) → part (queue w key) ≡ part w
-  unfolding queue
-  queue_keeps w key = by (evaluation_at w key)
-    where
-      or : (b : Bool) → part (cond b w (record w { ready = w.ready ++ key ∷ [] })) ≡ part w
-      or true = refl
-      or false = keeps w (w.ready ++ key ∷ [])
-
-      by : (o : Option Evaluation) → part (option_map_or (λ e. cond (is_busy w key.0 e.job) w (record w { ready = w.ready ++ key ∷ [] })) o w) ≡ part w
-      by None = refl
-      by (Some e) = or (is_busy w key.0 e.job)
-
-  queues_keep : (keys : List Key) (w : World) → part (fold queue w keys) ≡ part w
-  queues_keep [] w = refl
-  queues_keep (key ∷ keys) w = queues_keep keys (queue w key) ∙ queue_keeps w key
 
 queue_tenants : (w : World) (key : Key) → (queue w key).tenants ≡ w.tenants
 queue_tenants = queue_keeps (λ w. w.tenants) (λ w keys. refl)

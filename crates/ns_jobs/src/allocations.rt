@@ -20,7 +20,7 @@ use ns_world::TenantRows;
 use std::alloc::{AllocError, Global};
 
 /// A copy of the row.
-fn copied(row: &Allocation) -> Result<Allocation, AllocError>
+pub fn copied_allocation(row: &Allocation) -> Result<Allocation, AllocError>
     ensures { IfOk result (λ copy. copy ≡ row.now) }
 {
     Ok(Allocation {
@@ -51,7 +51,7 @@ fn allocation_shown(
     Ok(AllocationShown {
         namespace: namespace.clone()?,
         number,
-        row: copied(row)?,
+        row: copied_allocation(row)?,
     })
 }
 

@@ -14,7 +14,9 @@ mod registration;
 mod stopping;
 mod usage;
 
+pub use allocations::copied_allocation;
 pub use deregistration::deregister;
 pub use reading::read;
 pub use registration::register;
 pub use stopping::stop_allocation;
+pub use usage::quota_use;

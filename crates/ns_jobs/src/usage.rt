@@ -79,8 +79,9 @@ fn with_tenants(quota: &Text, used: Resources, slots: &[TenantSlot]) -> Resource
     sum
 }
 
-/// What the live allocations of all namespaces that name the quota take together.
-fn quota_use(tables: &Tables, quota: &Text) -> Resources
+/// What the live allocations of all namespaces that name the quota take together. It takes no memory. The premise is that
+/// the sums fit 64 bits.
+pub fn quota_use(tables: &Tables, quota: &Text) -> Resources
     requires { UseFits (quota_use (world_of tables.now) quota.now) }
     ensures { result ≡ quota_use (world_of tables.now) quota.now }
 {

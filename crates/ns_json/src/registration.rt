@@ -1,8 +1,9 @@
 //! The document of a registration.
 
-ghost use Rattle.std.specs.Prelude.{[], None, IfErr};
+ghost use Rattle.std.specs.Prelude.{[], None, IfOk, IfErr, IsTrue};
 ghost use Rattle.serde_json.specs.View.{view};
 ghost use Rattle.ns_types.specs.declared.job.JobKind.TheVariants.{Service};
+ghost use Rattle.ns_types.specs.State.Limits.{is_good_registration};
 ghost use Rattle.ns_json.specs.Reading.{Gives, same, present, or_else, body_in, IsOfDocument};
 ghost use Rattle.ns_json.specs.Registration.{name_if_any, pool_in, kind_in, absent, constraints_in, job_in, registration_in};
 
@@ -145,6 +146,8 @@ fn registration(alloc: Global, value: &Value) -> Result<RegistrationDocument, Re
 #[tactic(auto, unfolding(crate::specs::Reading::body_in))]
 pub fn read_registration(alloc: Global, body: &[u8]) -> Result<RegistrationDocument, Refusal>
     ensures value { Gives same result (body_in registration_in body.now) }
+    // What is read is within the limits.
+    ensures good { IfOk result (λ d. IsTrue (is_good_registration d.registration)) }
     // What the refusal can be.
     ensures kinds { IfErr result IsOfDocument }
 {

@@ -1,3 +1,4 @@
+pub mod Administered
 pub mod Bounded
 pub mod Changing
 pub mod Levels

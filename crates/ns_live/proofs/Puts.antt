@@ -4,11 +4,11 @@ use Rattle.std.proofs.Common.{refl, sym, ap, subst, ◌∙◌}
 use Rattle.std.specs.Option.{option_map_or}
 use Rattle.ns_types.specs.declared.allocation.Allocation.{Allocation}
 use Rattle.ns_types.specs.State.Names.{Name, Key, same_key, same_name}
-use Rattle.ns_types.specs.State.Rows.{World, allocation_at, is_live, is_live_on}
+use Rattle.ns_types.specs.State.Rows.{is_live, is_live_on}
 use Rattle.ns_types.proofs.Named.{first_of_both, same_key_is, same_name_is, second_of_both}
 use Rattle.ns_types.proofs.Tests.{or_none}
 use Rattle.ns_live.specs.declared.live.Live.{Live}
-use Rattle.ns_live.specs.Index.{AddsRow, Indexes, IsRight, has_room, holds, with_row}
+use Rattle.ns_live.specs.Index.{AddsRow, Indexes, has_room, holds, with_row}
 use Rattle.ns_live.specs.Levels.{Adds, Drops, has_pool_room, holds_in_pool, same_at}
 
 regrouped : (a b c : Bool) → (a && (b && c)) ≡ (c && (a && b))
@@ -117,18 +117,7 @@ pub room_left : (row : Allocation) (key : Key) (made new : Live) →
 room_left row key made new drops pool node other t h =
     drops.room (pool, (node, other)) (apart (same_name pool row.pool) (same_name node row.node) (same_key other key) t) h
 
--- ---- worlds
+-- ---- rows that are the same
 
--- an index of rows that are those of a world is right for it
-pub right_for : (row_of : Key → Option Allocation) (w : World) (live : Live) → Indexes row_of live → ((key : Key) → allocation_at w key ≡ row_of key) →
-    IsRight w live
-right_for row_of w live right same pool node key = right pool node key ∙ ap (λ r. option_map_or (is_live_on pool node) r false) (sym (same key))
-
--- one that holds nothing is right where nothing is live
-pub right_of_none : (w : World) (live : Live) → ((pool node : Name) (key : Key) → holds live pool node key ≡ false) →
-    ((key : Key) → option_map_or is_live (allocation_at w key) false ≡ false) → IsRight w live
-right_of_none w live nothing dead pool node key = nothing pool node key ∙ sym (by (allocation_at w key) (dead key))
-  where
-    by : (r : Option Allocation) → option_map_or is_live r false ≡ false → option_map_or (is_live_on pool node) r false ≡ false
-    by None e = refl
-    by (Some row) e = ap (λ b. b && (same_name pool row.pool && same_name node row.node)) e
+pub indexes_same : (row_of rows : Key → Option Allocation) (live : Live) → Indexes row_of live → ((key : Key) → rows key ≡ row_of key) → Indexes rows live
+indexes_same row_of rows live right same pool node key = right pool node key ∙ ap (λ r. option_map_or (is_live_on pool node) r false) (sym (same key))

@@ -18,6 +18,15 @@ holds live pool node key = holds_in_pool live (pool, (node, key))
 abbrev pub has_room : Live → Name → Name → Key → Bool
 has_room live pool node key = has_pool_room live (pool, (node, key))
 
+-- the same keys are held
+abbrev pub KeepsKeys : Live → Live → Type 0
+KeepsKeys old new = (pool node : Name) (key : Key) → holds new pool node key ≡ holds old pool node key
+
+-- there is no less room
+abbrev pub KeepsRoom : Live → Live → Type 0
+KeepsRoom old new = (pool node : Name) (key : Key) →
+    IsTrue (has_room old pool node key) → IsTrue (has_room new pool node key)
+
 -- on each node, of these rows, the keys of those that are live there and no others
 abbrev pub Indexes : (Key → Option Allocation) → Live → Type 0
 Indexes row_of live = (pool node : Name) (key : Key) →
@@ -40,8 +49,7 @@ HasRoomFor live key (Some row) = is_live row ≡ true → IsTrue (has_room live 
 pub record AddsRow (key : Key) (row : Option Allocation) (old new : Live) : Type 0 where
   pub held : (pool node : Name) (other : Key) → holds new pool node other ≡
       ((same_key other key && option_map_or (is_live_on pool node) row false) || holds old pool node other)
-  pub room : (pool node : Name) (other : Key) →
-      IsTrue (has_room old pool node other) → IsTrue (has_room new pool node other)
+  pub room : KeepsRoom old new
 
 -- ---- all changed rows of a namespace: a slot with a row is the row's new value, a vacant one takes the row away
 

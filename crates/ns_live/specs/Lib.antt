@@ -1,4 +1,5 @@
 pub mod Index
+pub mod Laws
 pub mod Levels
 pub mod Listed
 pub mod Loads

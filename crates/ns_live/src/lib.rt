@@ -2,6 +2,7 @@
 //! looked for among the rows of all namespaces. Room for a key is made before it is needed.
 #![tactic(auto)]
 
+pub mod laws;
 mod live;
 mod loads;
 mod node_keys;

@@ -8,7 +8,7 @@ ghost use Rattle.ns_types.specs.declared.allocation.Allocation.{Allocation};
 ghost use Rattle.ns_types.specs.State.Names.{Key, Name, same_key, same_name};
 ghost use Rattle.ns_types.specs.State.Rows.{is_live, is_live_on};
 ghost use Rattle.ns_types.specs.State.Sums.{node_load};
-ghost use Rattle.ns_live.specs.Index.{AddsRow, HasRoomFor, HasRoomForAll, Indexes, IsRight};
+ghost use Rattle.ns_live.specs.Index.{AddsRow, HasRoomFor, HasRoomForAll, Indexes, IsRight, KeepsKeys, KeepsRoom};
 ghost use Rattle.ns_live.specs.Index.{has_room, holds, with_changes, with_row};
 ghost use Rattle.ns_live.specs.Levels.{Adds, Drops, Keeps, holds_in_pool, holds_key, has_pool_room, same_at};
 ghost use Rattle.ns_live.specs.Loads.{IsCounted};
@@ -59,10 +59,8 @@ impl Live {
         number: u64,
         row: &Allocation,
     ) -> Result<(), AllocError>
-        ensures same { (pool : Name) (node : Name) (key : Key) →
-            holds self.new pool node key ≡ holds self.old pool node key }
-        ensures room { (pool : Name) (node : Name) (key : Key) →
-            IsTrue (has_room self.old pool node key) → IsTrue (has_room self.new pool node key) }
+        ensures same { KeepsKeys self.old self.new }
+        ensures room { KeepsRoom self.old self.new }
         ensures ok { OnOk result (HasRoomFor self.new (namespace.now, number) (Some row.now)) }
     {
         if row.is_live() {
@@ -102,10 +100,8 @@ impl Live {
         namespace: &Text,
         changes: &NumberTable<Allocation>,
     ) -> Result<(), AllocError>
-        ensures same { (pool : Name) (node : Name) (key : Key) →
-            holds self.new pool node key ≡ holds self.old pool node key }
-        ensures room { (pool : Name) (node : Name) (key : Key) →
-            IsTrue (has_room self.old pool node key) → IsTrue (has_room self.new pool node key) }
+        ensures same { KeepsKeys self.old self.new }
+        ensures room { KeepsRoom self.old self.new }
         ensures ok { OnOk result (HasRoomForAll self.new namespace.now changes.now) }
     {
         for slot in changes.as_slice() {
@@ -179,10 +175,8 @@ impl Live {
         number: u64,
         row: Option<&Allocation>,
     ) -> Result<(), AllocError>
-        ensures same { (pool : Name) (node : Name) (key : Key) →
-            holds self.new pool node key ≡ holds self.old pool node key }
-        ensures room { (pool : Name) (node : Name) (key : Key) →
-            IsTrue (has_room self.old pool node key) → IsTrue (has_room self.new pool node key) }
+        ensures same { KeepsKeys self.old self.new }
+        ensures room { KeepsRoom self.old self.new }
         ensures ok { OnOk result (
             HasRoomFor self.new (namespace.now, number) (option_copied row.entry)) }
     {

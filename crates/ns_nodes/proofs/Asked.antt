@@ -25,7 +25,7 @@ module _ (w : World) (pool name : Name) (go : PoolRows → Node → Outcome Worl
   abbrev at_node : Option PoolRows → Outcome World
   at_node r = found r (λ p. found (get p.nodes name) (go p))
 
-  no_node : node_at w pool name ≡ None → at_node (get w.pools pool) ≡ Refused Refusal.NotFound
+  pub no_node : node_at w pool name ≡ None → at_node (get w.pools pool) ≡ Refused Refusal.NotFound
   no_node is = by (get w.pools pool) is
     where
       by : (r : Option PoolRows) → option_and_then (λ p. get p.nodes name) r ≡ None → at_node r ≡ Refused Refusal.NotFound
@@ -33,7 +33,7 @@ module _ (w : World) (pool name : Name) (go : PoolRows → Node → Outcome Worl
       by (Some p) is = ap (λ o. found o (go p)) is
 
   -- where it changes the pool alone
-  one_node : (node : Node) (f : PoolRows → PoolRows) → node_at w pool name ≡ Some node →
+  pub one_node : (node : Node) (f : PoolRows → PoolRows) → node_at w pool name ≡ Some node →
       ((p : PoolRows) → go p node ≡ Done Content.Written (put_pool pool (f p) w)) → at_node (get w.pools pool) ≡ Done Content.Written (change_pool pool f w)
   one_node node f is goes = by (get w.pools pool) is
     where

@@ -1,1 +1,4 @@
 pub mod Asked
+pub mod Idle
+pub mod Listed
+pub mod Within

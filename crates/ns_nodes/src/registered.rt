@@ -1,15 +1,18 @@
 //! A node that says what it offers.
 
-ghost use Rattle.std.specs.Prelude.{◌≡◌, ◌&&◌, is_none, nat_le, option_copied};
+ghost use Rattle.std.specs.Prelude.{◌≡◌, ◌&&◌, false, is_none, nat_le, option_copied};
 ghost use Rattle.std.specs.FinMap.{len};
 ghost use Rattle.keyed.specs.Table.{rows};
 ghost use Rattle.ns_types.specs.declared.step.NodeCommand.TheVariants as NodeCommand;
 ghost use Rattle.ns_types.specs.Asking.Nodes.{ask_pool, most_nodes, with_offer};
 ghost use Rattle.ns_types.specs.State.Resources.{is_within};
 ghost use Rattle.ns_types.specs.State.Sums.{node_load};
+ghost use Rattle.ns_types.specs.Steps.{is_past_bound};
 ghost use Rattle.ns_change.specs.Prepared.{Prepares};
+ghost use Rattle.ns_nodes.specs.Bounded.{bounded};
 ghost use Rattle.ns_world.specs.World.{world_of};
 
+use crate::bounds::put_passes;
 use crate::prepared::put_alone;
 use keyed::NameTable;
 use ns_change::Prepared;
@@ -58,7 +61,7 @@ fn is_full(nodes: &NameTable<Node>, old: Option<&Node>) -> bool
 
 /// A node registers, for the first time or again. `load` is what the live allocations on it take together.
 /// `NotFound`: there is no such pool. `InUse`: it offers less than the load. `Full`: it is new, and the pool has 1,000
-/// nodes.
+/// nodes; or a counter would pass its bound, since the node gives room. In this order.
 pub fn register_node(
     tables: &Tables,
     pool: &Text,
@@ -66,9 +69,11 @@ pub fn register_node(
     offer: Offer,
     load: Resources,
 ) -> Result<Prepared, Refusal>
-    requires { load ≡ node_load (world_of tables.now) pool.now name.now }
-    ensures { Prepares (ask_pool pool.now (NodeCommand.PutNode name.now offer)
-        (world_of tables.now)) tables.now result }
+    requires load { load ≡ node_load (world_of tables.now) pool.now name.now }
+    requires bounds { is_past_bound (world_of tables.now) ≡ false }
+    ensures { let w = world_of tables.now in
+        let outcome = ask_pool pool.now (NodeCommand.PutNode name.now offer) w in
+        Prepares (bounded w outcome) tables.now result }
 {
     let Some(stored) = tables.pools.get(pool) else {
         drop(offer);
@@ -83,5 +88,10 @@ pub fn register_node(
         drop(offer);
         return Err(Refusal::Full);
     }
-    put_alone(tables, pool, name, with_offer(offer, old))
+    let row = with_offer(offer, old);
+    if put_passes(tables, pool, stored, name, &row) {
+        drop(row);
+        return Err(Refusal::Full);
+    }
+    put_alone(tables, pool, name, row)
 }

@@ -1,10 +1,12 @@
 //! A node that goes.
 
-ghost use Rattle.std.specs.Prelude.{◌≡◌};
+ghost use Rattle.std.specs.Prelude.{◌≡◌, false};
 ghost use Rattle.ns_types.specs.declared.step.NodeCommand.TheVariants as NodeCommand;
 ghost use Rattle.ns_types.specs.Asking.Nodes.{ask_pool};
 ghost use Rattle.ns_types.specs.State.Rows.{is_ready};
+ghost use Rattle.ns_types.specs.Steps.{is_past_bound};
 ghost use Rattle.ns_change.specs.Prepared.{Prepares};
+ghost use Rattle.ns_nodes.specs.Bounded.{bounded};
 ghost use Rattle.ns_world.specs.World.{world_of};
 
 use crate::prepared::node_of;
@@ -15,7 +17,7 @@ use ns_types::reply::Content;
 use ns_types::text::Text;
 use ns_world::Tables;
 
-fn is_ready(status: NodeStatus) -> bool
+pub(crate) fn is_ready(status: NodeStatus) -> bool
     ensures { result ≡ is_ready status }
 {
     match status {
@@ -24,10 +26,13 @@ fn is_ready(status: NodeStatus) -> bool
     }
 }
 
-/// The node is taken away. `NotFound`: there is no such pool, or no such node in it. `InUse`: it is not down.
+/// The node is taken away, which gives no room. `NotFound`: there is no such pool, or no such node in it. `InUse`: it is
+/// not down.
 pub fn remove_node(tables: &Tables, pool: &Text, name: &Text) -> Result<Prepared, Refusal>
-    ensures { Prepares (ask_pool pool.now (NodeCommand.DeleteNode name.now) (world_of tables.now))
-        tables.now result }
+    requires { is_past_bound (world_of tables.now) ≡ false }
+    ensures { let w = world_of tables.now in
+        let outcome = ask_pool pool.now (NodeCommand.DeleteNode name.now) w in
+        Prepares (bounded w outcome) tables.now result }
 {
     let Some(row) = node_of(tables, pool, name) else {
         return Err(Refusal::NotFound);

@@ -1,12 +1,12 @@
 //! What the program is asked to do.
 
-use ns_types::name::Name;
+use ns_types::name::Secret;
 
 /// What the words come to.
 #[derive(Drop)]
-pub enum Asked<'a> {
+pub enum Asked {
     /// To serve one connection, with that secret as the bootstrap token.
-    Pipe(Name<'a>),
+    Pipe(Secret),
     /// To show this help.
     Help(String),
     /// Nothing that can be done, for this reason.

@@ -9,14 +9,14 @@ use crate::lines::tell;
 use crate::status::{OUT_OF_MEMORY, READ_FAULT, SERVED, WRITE_FAULT};
 use ns_api::{Draws, close, open, serve};
 use ns_http::{ConnFault, Counted};
-use ns_types::name::Name;
+use ns_types::name::Secret;
 use std::alloc::Global;
 use std::io::{Read, Write};
 
 /// Serves one connection with a new server, and says the exit status.
 pub fn pipe<D: Draws + Drop, R: Read, W: Write, E: Write>(
     alloc: Global,
-    bootstrap: &Name<'_>,
+    bootstrap: &Secret,
     draws: D,
     reader: &mut Counted<R>,
     writer: &mut Counted<W>,

@@ -44,7 +44,7 @@ fn show<W: Write, E: Write>(help: &str, writer: &mut Counted<W>, errors: &mut Co
 /// Does what the words ask for, and says how that ended. Only a connection reads input.
 pub fn run<D: Draws + Drop, R: Read + Drop, W: Write + Drop, E: Write>(
     alloc: Global,
-    asked: &Asked<'_>,
+    asked: &Asked,
     draws: D,
     reader: R,
     writer: W,

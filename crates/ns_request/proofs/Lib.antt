@@ -1,5 +1,6 @@
 pub mod Ids
 pub mod Parts
+pub mod Rules
 pub mod Targets
 pub mod Queries
 pub mod Seeking

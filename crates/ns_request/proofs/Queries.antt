@@ -45,10 +45,11 @@ joined values left = record {
   next_token = option_or values.next_token (value_in (codes "next_token") left);
   index = option_or values.index (value_in (codes "index") left);
   prefix = option_or values.prefix (value_in (codes "prefix") left);
+  purge = option_or values.purge (value_in (codes "purge") left);
 }
 
 pub joined-none : (query : List ℕ) (left : Pairs) → left ≡ raw_pairs query →
-    joined (record { namespace = None; filter = None; per_page = None; next_token = None; index = None; prefix = None }) left ≡ values_of query
+    joined (record { namespace = None; filter = None; per_page = None; next_token = None; index = None; prefix = None; purge = None }) left ≡ values_of query
 unfolding parameter
 joined-none query left is = rw is
 
@@ -62,6 +63,7 @@ joined-first name value key text old new values left rest is decodes shows kept 
     let next_token = kept-first (codes "next_token") name value key text old.next_token rest decodes shows in
     let index = kept-first (codes "index") name value key text old.index rest decodes shows in
     let prefix = kept-first (codes "prefix") name value key text old.prefix rest decodes shows in
+    let purge = kept-first (codes "purge") name value key text old.purge rest decodes shows in
     let first : joined (values_with key text old) rest ≡ joined old left = rw is cc in
     ap (λ x. joined x rest) kept ∙ first ∙ same
 
@@ -71,4 +73,4 @@ or_none (Some x) = refl
 
 pub joined-all : (values : Values) (left : Pairs) → left ≡ [] → joined values left ≡ values
 joined-all values left is = rw is (rw
-    (or_none values.namespace, or_none values.filter, or_none values.per_page, or_none values.next_token, or_none values.index, or_none values.prefix) refl)
+    (or_none values.namespace, or_none values.filter, or_none values.per_page, or_none values.next_token, or_none values.index, or_none values.prefix, or_none values.purge) refl)

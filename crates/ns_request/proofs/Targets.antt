@@ -20,11 +20,11 @@ use Rattle.ns_request.specs.declared.endpoint.Placed.{Placed}
 use Rattle.ns_request.specs.declared.part.Part.{Part}
 use Rattle.ns_request.specs.declared.target.Named.{Named}
 use Rattle.ns_request.specs.Finding.{found_at}
-use Rattle.ns_request.specs.Judging.{judged, named_in, part_of}
+use Rattle.ns_request.specs.Judging.{judged, named_in, part_of, second_with}
 use Rattle.ns_request.specs.Methods.{method_of}
 use Rattle.ns_request.specs.Parts.{is_good, is_part, segment_at}
 use Rattle.ns_request.specs.Targets.{first_text, first_text_in, has_good_parts, is_every_pool, is_placed_part, is_pool}
-use Rattle.ns_request.specs.Targets.{names_every_pool, path_in, query_in, text_at}
+use Rattle.ns_request.specs.Targets.{names_every_pool, path_in, query_in, second_text, second_text_in, text_at}
 
 -- a part that has a text
 some_part : (part : Part) (segment text : List ℕ) → part_of part segment ≡ Some text →
@@ -54,19 +54,30 @@ first_of-append : (parts : List Placed) (placed : Placed) (path : List ℕ) →
 first_of-append [] placed path = refl
 first_of-append (part ∷ parts) placed path = refl
 
+-- and of the second
+abbrev pub second_of : List Placed → List ℕ → Option (List ℕ)
+second_of [] path = None
+second_of (placed ∷ rest) path = first_of rest path
+
+second_of-append : (parts : List Placed) (placed : Placed) (path : List ℕ) →
+    second_of (parts ++ placed ∷ []) path ≡ second_with (first_of parts path) (second_of parts path) (text_at placed.place path)
+second_of-append [] placed path = refl
+second_of-append (part ∷ parts) placed path = first_of-append parts placed path
+
 -- what these parts say
-pub record Says (parts : List Placed) (path : List ℕ) (first : Option (List ℕ)) (every_pool : Bool) : Type 0 where
+pub record Says (parts : List Placed) (path : List ℕ) (first second : Option (List ℕ)) (every_pool : Bool) : Type 0 where
   pub good : list_all (is_placed_part path) parts ≡ true
   pub first_is : first ≡ first_of parts path
+  pub second_is : second ≡ second_of parts path
   pub every_pool_is : every_pool ≡ list_any (is_every_pool path) parts
 
 pub says_more : (parts : List Placed) (i : ℕ) (default : Placed) (path segment text shown : List ℕ) (found : Option (List ℕ))
-    (first : Option (List ℕ)) (every_pool every : Bool) →
-    i < length parts → Says (take i parts) path first every_pool →
+    (first second : Option (List ℕ)) (every_pool every : Bool) →
+    i < length parts → Says (take i parts) path first second every_pool →
     segment ≡ segment_at (get_or parts i default).place path → found ≡ part_of (get_or parts i default).part segment → found ≡ Some text →
     shown ≡ text → every ≡ (is_pool (get_or parts i default).part && bytes_eq shown (codes "all")) →
-    Says (take (i + 1) parts) path (option_or first (Some text)) (every_pool || every)
-says_more parts i default path segment text shown found first every_pool every within says segment_is found_is is shown_is every_is =
+    Says (take (i + 1) parts) path (option_or first (Some text)) (second_with first second text) (every_pool || every)
+says_more parts i default path segment text shown found first second every_pool every within says segment_is found_is is shown_is every_is =
     let placed = get_or parts i default in
     let text_is = some_part placed.part (segment_at placed.place path) text (ap (part_of placed.part) (sym segment_is) ∙ sym found_is ∙ is) in
     record {
@@ -74,6 +85,10 @@ says_more parts i default path segment text shown found first every_pool every w
           ∙ ap (λ b. b && is_placed_part path placed) says.good ∙ text_is.0;
       first_is = ap (λ x. option_or first (Some x)) text_is.1 ∙ ap (λ o. option_or o (Some (text_at placed.place path))) says.first_is
           ∙ sym (first_of-append (take i parts) placed path) ∙ ap (λ l. first_of l path) (sym (take_more parts i default within));
+      second_is = ap (λ x. second_with first second x) text_is.1
+          ∙ ap (λ o. second_with o second (text_at placed.place path)) says.first_is
+          ∙ ap (λ o. second_with (first_of (take i parts) path) o (text_at placed.place path)) says.second_is
+          ∙ sym (second_of-append (take i parts) placed path) ∙ ap (λ l. second_of l path) (sym (take_more parts i default within));
       every_pool_is = ap (λ b. b || every) says.every_pool_is
           ∙ ap (λ b. list_any (is_every_pool path) (take i parts) || b)
           (every_is ∙ ap (λ x. is_pool placed.part && bytes_eq x (codes "all")) (shown_is ∙ text_is.1))
@@ -86,16 +101,22 @@ first_text-first_of : (parts : List Placed) (path : List ℕ) → first_text_in 
 first_text-first_of [] path = refl
 first_text-first_of (part ∷ parts) path = refl
 
-pub says_all : (endpoint : Endpoint) (parts taken : List Placed) (path name : List ℕ) (first : Option (List ℕ)) (every_pool : Bool) →
-    parts ≡ parts_of endpoint → taken ≡ parts → Says taken path first every_pool → unwrap_or first [] ≡ name →
-    Some (record { first = name; every_pool = every_pool }) ≡ named_in endpoint path
-says_all endpoint parts taken path name first every_pool same all says name_is =
+second_text-second_of : (parts : List Placed) (path : List ℕ) → second_text_in parts path ≡ unwrap_or (second_of parts path) []
+second_text-second_of [] path = refl
+second_text-second_of (part ∷ parts) path = first_text-first_of parts path
+
+pub says_all : (endpoint : Endpoint) (parts taken : List Placed) (path name node : List ℕ) (first second : Option (List ℕ)) (every_pool : Bool) →
+    parts ≡ parts_of endpoint → taken ≡ parts → Says taken path first second every_pool → name ≡ unwrap_or first [] → node ≡ unwrap_or second [] →
+    Some (record { first = name; second = node; every_pool = every_pool }) ≡ named_in endpoint path
+says_all endpoint parts taken path name node first second every_pool same all says name_is node_is =
     let is : taken ≡ parts_of endpoint = all ∙ same in
     let good : has_good_parts endpoint path ≡ true = subst (λ l. list_all (is_placed_part path) l ≡ true) is says.good in
     let every : every_pool ≡ names_every_pool endpoint path = subst (λ l. every_pool ≡ list_any (is_every_pool path) l) is says.every_pool_is in
     let text : name ≡ first_text endpoint path =
-    sym name_is ∙ ap (λ o. unwrap_or o []) says.first_is ∙ sym (first_text-first_of taken path) ∙ ap (λ l. first_text_in l path) is in
-    rw (good, text, every) refl
+    name_is ∙ ap (λ o. unwrap_or o []) says.first_is ∙ sym (first_text-first_of taken path) ∙ ap (λ l. first_text_in l path) is in
+    let second_is : node ≡ second_text endpoint path =
+    node_is ∙ ap (λ o. unwrap_or o []) says.second_is ∙ sym (second_text-second_of taken path) ∙ ap (λ l. second_text_in l path) is in
+    rw (good, text, second_is, every) refl
 
 -- one that does not follow its rule
 pub says_none : (endpoint : Endpoint) (parts : List Placed) (i : ℕ) (default : Placed) (path : List ℕ) →
@@ -113,7 +134,11 @@ pub named_some : (endpoint : Endpoint) (path : List ℕ) (named : Named) → nam
     (has_good_parts endpoint path ≡ true) × (named.every_pool ≡ names_every_pool endpoint path)
 named_some endpoint path named is = by (has_good_parts endpoint path) is
   where
-    by : (b : Bool) → (if b then Some (record { first = first_text endpoint path; every_pool = names_every_pool endpoint path }) else None) ≡ Some named
+    by : (b : Bool) → (if b then Some (record {
+      first = first_text endpoint path;
+      second = second_text endpoint path;
+      every_pool = names_every_pool endpoint path;
+    }) else None) ≡ Some named
         → (b ≡ true) × (named.every_pool ≡ names_every_pool endpoint path)
     by true e = (refl, cc)
     by false e = let bad : ⊥ = cc in absurd bad

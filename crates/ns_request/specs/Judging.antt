@@ -1,5 +1,6 @@
 -- What is found of a target on the way: its parts, and then its method.
 use Rattle.std.specs.Prelude.{ℕ, List, Option, Some, None, Result, Err, if◌then◌else◌}
+use Rattle.std.specs.Option.{option_or}
 use Rattle.percent_encoding.specs.Percent.{percent_decode}
 use Rattle.ns_types.specs.declared.refusal.Refusal.{Refusal}
 use Rattle.ns_request.specs.declared.endpoint.Endpoint.{Endpoint}
@@ -9,17 +10,27 @@ use Rattle.ns_request.specs.declared.target.Named.{Named}
 use Rattle.ns_request.specs.Finding.{found_by}
 use Rattle.ns_request.specs.Parts.{is_part}
 use Rattle.ns_request.specs.Queries.{is_unserved}
-use Rattle.ns_request.specs.Targets.{first_text, has_good_parts, names_every_pool}
+use Rattle.ns_request.specs.Targets.{first_text, has_good_parts, names_every_pool, second_text}
 
 -- the text of the part, where the segment stands for it
 abbrev pub part_of : Part → List ℕ → Option (List ℕ)
 part_of part segment = if is_part part segment then Some (percent_decode segment) else None
 
+-- one text more is the second where there is a first
+abbrev pub second_with : Option (List ℕ) → Option (List ℕ) → List ℕ → Option (List ℕ)
+second_with None second text = second
+second_with (Some first) second text = option_or second (Some text)
+
 -- what the parts of the path say, where each follows the rule of its name
 abbrev pub named_in : Endpoint → List ℕ → Option Named
 named_in endpoint path =
     if has_good_parts endpoint path
-    then Some (record { first = first_text endpoint path; every_pool = names_every_pool endpoint path }) else None
+    then Some (record {
+      first = first_text endpoint path;
+      second = second_text endpoint path;
+      every_pool = names_every_pool endpoint path;
+    })
+    else None
 
 -- the query is judged before the method
 abbrev pub judged : Endpoint → Option Method → List ℕ → Result (Endpoint × Method) Refusal

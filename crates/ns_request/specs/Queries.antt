@@ -77,3 +77,15 @@ namespace_in query = elim (parameter (codes "namespace") query) [
 -- the text with which the ids of a list begin
 abbrev pub prefix_of : List ℕ → Name
 prefix_of query = unwrap_or (parameter (codes "prefix") query) []
+
+-- ---- purging
+
+-- the parameter says yes or no, and absent it says no
+unfoldable pub purge_in : List ℕ → Result Bool Refusal
+purge_in query = elim (parameter (codes "purge") query) [
+  | None ↦ Ok false
+  | Some value ↦
+      if bytes_eq value (codes "true") || bytes_eq value (codes "1") then Ok true
+      else if length value == 0 || bytes_eq value (codes "false") || bytes_eq value (codes "0") then Ok false
+      else Err (BadField Member.Purge)
+]

@@ -45,6 +45,14 @@ abbrev pub first_text_in : List Placed → List ℕ → List ℕ
 first_text_in [] path = []
 first_text_in (placed ∷ rest) path = text_at placed.place path
 
+abbrev pub second_text_in : List Placed → List ℕ → List ℕ
+second_text_in [] path = []
+second_text_in (placed ∷ rest) path = first_text_in rest path
+
 -- the text of the first part that the path names, or none
 abbrev pub first_text : Endpoint → List ℕ → List ℕ
 first_text endpoint path = first_text_in (parts_of endpoint) path
+
+-- the text of the second one, or none
+abbrev pub second_text : Endpoint → List ℕ → List ℕ
+second_text endpoint path = second_text_in (parts_of endpoint) path

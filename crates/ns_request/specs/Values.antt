@@ -13,6 +13,7 @@ values_of query = record {
   next_token = parameter (codes "next_token") query;
   index = parameter (codes "index") query;
   prefix = parameter (codes "prefix") query;
+  purge = parameter (codes "purge") query;
 }
 
 -- the value is kept, where it is of that name and there is none yet
@@ -27,4 +28,5 @@ values_with name value old = record {
   next_token = kept (codes "next_token") name value old.next_token;
   index = kept (codes "index") name value old.index;
   prefix = kept (codes "prefix") name value old.prefix;
+  purge = kept (codes "purge") name value old.purge;
 }

@@ -2,7 +2,13 @@
 
 ghost use Rattle.std.specs.Prelude.{◌≡◌, true};
 ghost use Rattle.ns_http.specs.Head.{asked};
-ghost use Rattle.ns_request.specs.Targets.{first_text, has_good_parts, path_in, query_in};
+ghost use Rattle.ns_request.specs.Targets.{
+  first_text,
+  has_good_parts,
+  path_in,
+  query_in,
+  second_text,
+};
 
 use crate::endpoint::Endpoint;
 use crate::method::Method;
@@ -22,9 +28,12 @@ pub struct Target<'a> {
     pub method: Method,
     /// The text of the first part that the path names, empty where it names none.
     pub name: Text,
+    /// The text of the second part, which is a node's name, empty where the path names none.
+    pub node: Text,
     pub query: Query<'a>,
     pub ghost query_is: { query ≡ query_in (asked request).target },
     pub ghost name_is: { name ≡ first_text endpoint (path_in (asked request).target) },
+    pub ghost node_is: { node ≡ second_text endpoint (path_in (asked request).target) },
     pub ghost parts: { has_good_parts endpoint (path_in (asked request).target) ≡ true },
 }
 
@@ -77,6 +86,7 @@ impl<'a> Target<'a> {
                 endpoint,
                 method,
                 name: named.first,
+                node: named.second,
                 query,
             }),
             Err(refusal) => {

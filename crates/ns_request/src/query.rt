@@ -4,7 +4,7 @@ ghost use Rattle.std.specs.Prelude.{◌≡◌, IfOk, OnOk, Some, false};
 ghost use Rattle.std.specs.Option.{option_copied, option_map_or, option_or};
 ghost use Rattle.ns_json.specs.Reading.{same};
 ghost use Rattle.ns_request.specs.Gives.{Gives};
-ghost use Rattle.ns_request.specs.Queries.{is_awaited, is_not_empty, is_star, is_unserved, namespace_in, prefix_of};
+ghost use Rattle.ns_request.specs.Queries.{is_awaited, is_not_empty, is_star, is_unserved, namespace_in, prefix_of, purge_in};
 
 use crate::endpoint::Endpoint;
 use crate::method::Method;
@@ -24,6 +24,7 @@ struct Values {
     next_token: Option<Text>,
     index: Option<Text>,
     prefix: Option<Text>,
+    purge: Option<Text>,
 }
 
 const NO_VALUES: Values = Values {
@@ -33,6 +34,7 @@ const NO_VALUES: Values = Values {
     next_token: None,
     index: None,
     prefix: None,
+    purge: None,
 };
 
 /// Keeps the value, where there is none yet.
@@ -59,6 +61,7 @@ impl Values {
             "next_token" => keep_first(alloc, &mut self.next_token, value),
             "index" => keep_first(alloc, &mut self.index, value),
             "prefix" => keep_first(alloc, &mut self.prefix, value),
+            "purge" => keep_first(alloc, &mut self.purge, value),
             _ => Ok(()),
         }
     }
@@ -173,5 +176,23 @@ impl<'a> Query<'a> {
             Some(value) => value.as_str(),
             None => "",
         }
+    }
+
+    /// Whether a job that is deregistered is removed.
+    #[tactic(auto, unfolding(crate::specs::Queries::purge_in))]
+    pub fn purge(&self) -> Result<bool, Refusal>
+        ensures { Gives same result (purge_in self.now) }
+    {
+        let Some(value) = &self.values.purge else {
+            return Ok(false);
+        };
+        let text = value.as_str();
+        if text == "true" || text == "1" {
+            return Ok(true);
+        }
+        if text.is_empty() || text == "false" || text == "0" {
+            return Ok(false);
+        }
+        Err(Refusal::BadField(Member::Purge))
     }
 }

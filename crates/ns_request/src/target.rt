@@ -1,7 +1,8 @@
 //! The parts of a target.
 
-ghost use Rattle.std.specs.Prelude.{◌≡◌, ◌&&◌, IfOk, bytes_eq, codes};
-ghost use Rattle.ns_request.specs.Judging.{named_in, part_of};
+ghost use Rattle.std.specs.Prelude.{◌≡◌, ◌&&◌, IfOk, Some, [], bytes_eq, codes, unwrap_or};
+ghost use Rattle.std.specs.Option.{option_or};
+ghost use Rattle.ns_request.specs.Judging.{named_in, part_of, second_with};
 ghost use Rattle.ns_request.specs.Parts.{segment_at};
 ghost use Rattle.ns_request.specs.Targets.{is_pool, path_in, query_in};
 
@@ -56,11 +57,35 @@ fn is_every_pool(part: Part, text: &str) -> bool
     matches!(part, Part::Name(NameKind::Pool)) && text == "all"
 }
 
+/// Keeps the text, where it is the first or the second.
+fn keep(first: &mut Option<Text>, second: &mut Option<Text>, text: Text)
+    ensures first { first.new ≡ option_or first.old (Some text) }
+    ensures second { second.new ≡ second_with first.old second.old text }
+{
+    if first.is_none() {
+        *first = Some(text);
+    } else if second.is_none() {
+        *second = Some(text);
+    }
+}
+
+/// The text, or the empty one where there is none.
+fn text_or_empty(alloc: Global, text: Option<Text>) -> Text
+    ensures { result ≡ unwrap_or text [] }
+{
+    match text {
+        Some(text) => text,
+        None => Text::from_string(String::new(alloc)),
+    }
+}
+
 /// What the parts of a path say.
 #[derive(Drop)]
 pub struct Named {
     /// The text of the first part, empty where there is none.
     pub first: Text,
+    /// The text of the second part, empty where there is none.
+    pub second: Text,
     /// Whether a part is the pool `all`, which is none.
     pub every_pool: bool,
 }
@@ -70,17 +95,18 @@ pub fn named_in(alloc: Global, endpoint: Endpoint, path: &str) -> Result<Option<
     ensures { IfOk result (λ named. named ≡ named_in endpoint path.now) }
 {
     let mut first = None;
+    let mut second = None;
     let mut every_pool = false;
     for placed in endpoint.parts() {
         let Some(text) = part_of(alloc, placed.part, segment(path, placed.place))? else {
             return Ok(None);
         };
         every_pool |= is_every_pool(placed.part, text.as_str());
-        first = first.or(Some(text));
+        keep(&mut first, &mut second, text);
     }
-    let first = match first {
-        Some(first) => first,
-        None => Text::from_string(String::new(alloc)),
-    };
-    Ok(Some(Named { first, every_pool }))
+    Ok(Some(Named {
+        first: text_or_empty(alloc, first),
+        second: text_or_empty(alloc, second),
+        every_pool,
+    }))
 }

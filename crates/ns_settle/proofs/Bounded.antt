@@ -23,7 +23,8 @@ use Rattle.ns_settle.specs.Bounds.{is_at_bound, is_place_past, places_pass, pool
 use Rattle.ns_settle.specs.Released.{released_quotas, released_rooms}
 use Rattle.ns_change.specs.Changed.{changed, changed_pool, perhaps}
 use Rattle.ns_change.specs.Settled.{classes_in}
-use Rattle.ns_settle.proofs.Settling.{map_rows-alike, pools_after, queues_keep, quota_is, wake_pools}
+use Rattle.ns_types.proofs.Queue.{queues_keep}
+use Rattle.ns_settle.proofs.Settling.{map_rows-alike, pools_after, quota_is, wake_pools}
 use Rattle.keyed.proofs.Over.{any_both, any_row-before, any_row-over}
 use Rattle.ns_settle.proofs.Rooms.{any_image, any_row-at, any_swap}
 

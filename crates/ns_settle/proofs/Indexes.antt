@@ -34,7 +34,8 @@ use Rattle.ns_settle.specs.Stamped.{changes_job_row}
 use Rattle.keyed.proofs.Over.{any_row-before, any_row-over}
 use Rattle.ns_settle.proofs.Bounded.{any_named, any_row-either, any_row-mapped, any_with, no_slot, pools_within, quotas_within}
 use Rattle.ns_settle.proofs.Rooms.{any_and, any_row-at, any_swap}
-use Rattle.ns_settle.proofs.Settling.{queues_keep, woken_is}
+use Rattle.ns_types.proofs.Queue.{queues_keep}
+use Rattle.ns_settle.proofs.Settling.{woken_is}
 use Rattle.ns_settle.proofs.Stamped.{allocations_idle, jobs_touched}
 use Rattle.ns_settle.proofs.Woken.{woken_tests}
 

@@ -1,5 +1,5 @@
 -- A change that has settled leaves what the step's end makes of the world.
-use Rattle.std.specs.Prelude.{◌≡◌, Bool, true, false, cond, not, if◌then◌else◌, List, [], ◌∷◌, ◌++◌, filter, fold, Option, Some, None, ◌&&◌, ◌||◌, option_map}
+use Rattle.std.specs.Prelude.{◌≡◌, Bool, true, false, not, if◌then◌else◌, List, [], ◌∷◌, filter, Option, Some, None, ◌&&◌, ◌||◌, option_map}
 use Rattle.std.specs.Prelude.{is_some}
 use Rattle.std.proofs.Common.{refl, sym, ap, ◌∙◌, Ordering}
 use Rattle.std.specs.Option.{option_map_or}
@@ -11,7 +11,6 @@ use Rattle.ns_types.specs.declared.allocation.Allocation.{Allocation}
 use Rattle.ns_types.specs.declared.evaluation.Evaluation.{Evaluation}
 use Rattle.ns_types.specs.declared.records.Namespace.{Namespace}
 use Rattle.ns_types.specs.State.Names.{Name, Key, name_cmp, same_name, has_name, has_key}
-use Rattle.ns_types.specs.Working.Queue.{queue, is_busy}
 use Rattle.ns_types.specs.Settling.Releases.{changes_limits, counts_in, ends, is_released_quota, released_classes, releases_quota, wakes, wakes_by, woken}
 use Rattle.ns_types.specs.Settling.Releases.{can_use}
 use Rattle.ns_types.specs.State.Resources.{limits_in}
@@ -22,6 +21,7 @@ use Rattle.ns_types.proofs.Named.{names, one_name}
 use Rattle.ns_types.proofs.Lists.{any_alike, each}
 use Rattle.ns_types.proofs.Tables.{get-map_rows, get-table_of}
 use Rattle.ns_types.proofs.Alike.{same_limits_refl}
+use Rattle.ns_types.proofs.Queue.{queues_keep}
 use Rattle.ns_types.proofs.Settling.{stamp_same}
 use Rattle.ns_change.specs.declared.change.Change.{Change}
 use Rattle.ns_change.specs.declared.change.Settled.{Settled}
@@ -60,23 +60,6 @@ module _ {K X : Type 0} {R : K → K → Ordering} (o : IsTotalOrder R) (same : 
       by q (Some x) = refl
 
 -- ---- what waking leaves
-
-module _ {A : Type 0} (part : World → A) (kept : (w : World) (keys : List Key) → part (record w { ready = keys }) ≡ part w) where
-  queue_keeps : (w : World) (key : Key) → part (queue w key) ≡ part w
-  unfolding queue
-  queue_keeps w key = by (evaluation_at w key)
-    where
-      or : (b : Bool) → part (cond b w (record w { ready = w.ready ++ key ∷ [] })) ≡ part w
-      or true = refl
-      or false = kept w (w.ready ++ key ∷ [])
-
-      by : (e : Option Evaluation) → part (option_map_or (λ e. cond (is_busy w key.0 e.job) w (record w { ready = w.ready ++ key ∷ [] })) e w) ≡ part w
-      by None = refl
-      by (Some e) = or (is_busy w key.0 e.job)
-
-  pub queues_keep : (keys : List Key) (w : World) → part (fold queue w keys) ≡ part w
-  queues_keep [] w = refl
-  queues_keep (key ∷ keys) w = queues_keep keys (queue w key) ∙ queue_keeps w key
 
 pub wake_pools : (keys : List Key) (w : World) → (wake keys w).pools ≡ w.pools
 unfolding wake

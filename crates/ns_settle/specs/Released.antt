@@ -41,7 +41,8 @@ at_ended passes e = passes e.0 e.1
 
 -- a node is new, became free or offers otherwise
 abbrev pub differs : PoolRows → Name → Node → Bool
-differs p n node = option_map_or (λ old. not (is_free old) || not (same_offer old.offer node.offer)) (get p.nodes n) true
+differs p n node = option_map_or (λ old. not (is_free old) || not (same_offer old.offer node.offer))
+    (get p.nodes n) true
 
 -- a changed node that is free gives room itself, where it differs
 abbrev pub gives_itself : PoolRows → Name → Node → Bool

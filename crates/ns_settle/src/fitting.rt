@@ -10,23 +10,10 @@ ghost use Rattle.ns_types.specs.Settling.Releases.{can_use};
 ghost use Rattle.ns_settle.specs.Released.{at_room};
 
 use crate::asking::Question;
-use ns_alike::same_text;
+use ns_alike::{is_unique, same_attribute, same_text};
 use ns_types::evaluation::Evaluation;
 use ns_types::node::{Attribute, Class, Node};
 use ns_types::text::Text;
-
-fn is_unique(key: &Text) -> bool
-    ensures { result ≡ is_unique key.now }
-{
-    key.as_str().as_bytes().starts_with(b"unique.")
-}
-
-#[tactic(auto, using(ns_alike::proofs::Equal::attribute_ties))]
-fn same_attribute(a: &Attribute, b: &Attribute) -> bool
-    ensures { result ≡ eq_by_cmp attribute_cmp a.now b.now }
-{
-    same_text(&a.key, &b.key) && same_text(&a.value, &b.value)
-}
 
 /// Whether the attributes of a node that are not unique are those of a class.
 fn are_shared(attributes: &[Attribute], shared: &[Attribute]) -> bool

@@ -12,9 +12,12 @@ mod blocked;
 mod finishing;
 mod fitting;
 mod full;
+mod given;
 mod giving;
 mod releasing;
 mod stamping;
 
 pub use finishing::settle;
 pub use full::is_past_bound;
+pub use given::given_room_passes;
+pub use giving::gives_itself;

@@ -10,6 +10,7 @@ ghost use Rattle.ns_world.specs.World.{pool_of, tenant_of, world_of};
 use keyed::{NameTable, NumberTable, Series};
 use ns_change::{Change, ListChange, PoolChange};
 use ns_conclude::conclude;
+use ns_live::Live;
 use ns_types::evaluation::{Evaluation, Status, Trigger};
 use ns_types::job::JobKind;
 use ns_types::key::EvalKey;
@@ -109,13 +110,14 @@ fn is_past_now(tables: &Tables) -> bool
     tenants | pools | quotas
 }
 
-/// Ends a step.
+/// Ends a step beside an index of no keys.
 fn end(tables: &mut Tables, change: Change) -> Result<(), Refusal> {
     if is_past_now(tables) {
         drop(change);
         return Err(Refusal::Foreign);
     }
-    conclude(tables, change)
+    let mut live = Live::new(tables.alloc);
+    conclude(tables, &mut live, change)
 }
 
 // ---- tables and changes

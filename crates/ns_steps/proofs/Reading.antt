@@ -1,21 +1,11 @@
 -- A read answers what its change says.
-use Rattle.std.specs.Prelude.{◌≡◌, true, false, cond, Option, Some, None, Result, Ok, Err}
-use Rattle.std.proofs.Common.{refl, sym, ap, subst, ◌∙◌}
-use Rattle.std.specs.FinMap.{get}
+use Rattle.std.specs.Prelude.{◌≡◌, true, false, cond, Result, Ok, Err}
+use Rattle.std.proofs.Common.{refl, ap, subst, ◌∙◌}
 use Rattle.ns_types.specs.declared.refusal.Refusal.{Refusal}
-use Rattle.ns_types.specs.declared.refusal.Refusal.TheVariants as Refusal
 use Rattle.ns_types.specs.declared.reply.Content.{Content}
-use Rattle.ns_types.specs.declared.step.AskCommand.{AskCommand}
-use Rattle.ns_types.specs.declared.step.NodeCommand.TheVariants as NodeCommand
 use Rattle.ns_types.specs.declared.step.Step.{Step}
-use Rattle.ns_types.specs.declared.step.Step.TheVariants as Step
-use Rattle.ns_types.specs.Access.Rights.{pool_rights_of, rights_of}
-use Rattle.ns_types.specs.Asking.Asks.{ask, asked_in, right_of}
-use Rattle.ns_types.specs.Asking.Nodes.{ask_pool, read_pool}
-use Rattle.ns_types.specs.Asking.Policies.{with_world}
-use Rattle.ns_types.specs.Settling.Outcome.{Changes, Outcome, NotEnabled, Refused, Done, found, is_done, lift}
-use Rattle.ns_types.specs.State.Names.{Name}
-use Rattle.ns_types.specs.State.Rows.{PoolRows, State, Tenant, World}
+use Rattle.ns_types.specs.Settling.Outcome.{Changes, Outcome, NotEnabled, Refused, Done, is_done, lift}
+use Rattle.ns_types.specs.State.Rows.{State}
 use Rattle.ns_types.specs.Steps.{Makes, act, after, concluded, concluded_with, is_allowed, is_made, is_past_bound, reply_of, said}
 use Rattle.ns_types.proofs.Lists.{not_both}
 use Rattle.ns_steps.specs.Answers.{answer_of}
@@ -63,23 +53,3 @@ module _ (step : Step) (s : State) (allowed : is_allowed step s.acl ≡ true) (w
       by Refusal.Memory h = (made (act step s) refl (rests_by step s served only) h.0, refl)
       by Refusal.NotEnabled h = not_both (subst (Rests s) h.0 (rests_by step s served only)) refl
       by r h = (concludes (Refused r) h.0, refl)
-
--- in a namespace that is there
-pub ask_reads : (s : State) (ns : Name) (secret : Option Name) (command : AskCommand) (t : Tenant) → right_of command (rights_of s.acl secret ns) ≡ true
-    → is_past_bound s.world ≡ false → get s.world.tenants ns ≡ Some t → IsServed (Step.Ask ns secret command) → is_reading (Step.Ask ns secret command) ≡ true
-    → (result : Result Content Refusal) → Changes (asked_in ns command s.world t) s.world result s.world
-    → Makes (Step.Ask ns secret command) s (answer_of (Step.Ask ns secret command) s.world result) s
-unfolding act ask
-ask_reads s ns secret command t allowed within tenant served only result h = reads_make (Step.Ask ns secret command) s allowed within served only result
-    (changes_lift (with_world s.acl) (found (get s.world.tenants ns) (asked_in ns command s.world)) s.world s.world result
-    (subst (λ x. Changes (found x (asked_in ns command s.world)) s.world result s.world) (sym tenant) h))
-
--- a pool that is there
-pub pool_reads : (s : State) (name : Name) (secret : Option Name) (pool : PoolRows) → (pool_rights_of s.acl secret name).read ≡ true
-    → is_past_bound s.world ≡ false → get s.world.pools name ≡ Some pool
-    → (result : Result Content Refusal) → Changes (Done (read_pool name pool) s.world) s.world result s.world
-    → Makes (Step.Node name secret NodeCommand.ReadPool) s (answer_of (Step.Node name secret NodeCommand.ReadPool) s.world result) s
-unfolding act ask_pool
-pool_reads s name secret pool allowed within there result h = reads_make (Step.Node name secret NodeCommand.ReadPool) s allowed within refl refl result
-    (changes_lift (with_world s.acl) (found (get s.world.pools name) (λ p. Done (read_pool name p) s.world)) s.world s.world result
-    (subst (λ x. Changes (found x (λ p. Done (read_pool name p) s.world)) s.world result s.world) (sym there) h))

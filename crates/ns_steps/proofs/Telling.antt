@@ -7,25 +7,33 @@ use Rattle.ns_types.specs.declared.reply.Content.{Content}
 use Rattle.ns_types.specs.declared.reply.Reply.{Reply}
 use Rattle.ns_types.specs.declared.step.AdminCommand.{AdminCommand}
 use Rattle.ns_types.specs.declared.step.AskCommand.{AskCommand}
-use Rattle.ns_types.specs.declared.step.NodeCommand.TheVariants as NodeCommand
+use Rattle.ns_types.specs.declared.step.NodeCommand.{NodeCommand}
 use Rattle.ns_types.specs.declared.step.Step.{Step}
 use Rattle.ns_types.specs.Asking.Policies.{administer, create_token, delete_policy, delete_token, put_policy, read_policy, secret_of, with_acl, with_world}
 use Rattle.ns_types.specs.Asking.Admins.{delete_namespace, delete_pool, delete_quota, put_namespace, put_pool_record, put_quota, read_quota}
-use Rattle.ns_types.specs.Asking.Asks.{ask, asked_in, document_of, first_refusal, registered_job, registered_with}
+use Rattle.ns_types.specs.Asking.Asks.{ask, asked_in, deregister_job, document_of, first_refusal, registered_job, registered_with}
 use Rattle.ns_types.specs.State.Names.{Name}
-use Rattle.ns_types.specs.Asking.Nodes.{ask_pool}
+use Rattle.ns_types.specs.Asking.Nodes.{ask_pool, asked_in_pool}
 use Rattle.ns_types.specs.Settling.Outcome.{Outcome, NotEnabled, Refused, Done, found, lift, refused_by, unless}
-use Rattle.ns_types.specs.State.Rows.{State, Tenant, World}
+use Rattle.ns_types.specs.State.Rows.{PoolRows, State, Tenant, World}
 use Rattle.ns_types.specs.Settling.Settle.{settle}
 use Rattle.ns_types.specs.Steps.{Answer, act, after, concluded, is_allowed, is_past_bound, reply_of, said}
 use Rattle.ns_types.specs.State.Sums.{names_quota, quota_use}
 use Rattle.ns_types.proofs.Lists.{not_both}
-use Rattle.ns_steps.specs.Served.{IsServed, IsServedAsk, IsToldBy, is_reading, only_reads, served_admin, served_ask}
+use Rattle.ns_steps.specs.Served.{IsServed, IsServedAsk, IsServedNode, IsToldBy, is_reading, only_reads, served_admin, served_ask, served_node}
 use Rattle.ns_steps.specs.Told.{Holds, Shape}
 use Rattle.ns_types.proofs.Tests.{same_Some}
-use Rattle.ns_steps.proofs.Administering.{is_of_step}
 use Rattle.ns_types.proofs.Settling.{settle_same}
-use Rattle.ns_steps.proofs.Steps.{told}
+
+-- a refusal of a step that is enabled: of the state, and not of memory
+abbrev is_of_step : Refusal → Bool
+is_of_step Refusal.NotEnabled = false
+is_of_step Refusal.Memory = false
+is_of_step _ = true
+
+abbrev told : Reply → Answer → Reply
+told other (Ok reply) = reply
+told other (Err refusal) = other
 
 -- ---- lines of the table
 
@@ -99,32 +107,55 @@ told_of secret (AdminCommand.DeleteToken accessor) s =
 
 -- ---- what is asked in a namespace
 
-asked_in_pool : (ns : Name) (command : AskCommand) (w : World) (t : Tenant) → IsServedAsk command →
+told_in : (ns : Name) (command : AskCommand) (w : World) (t : Tenant) → IsServedAsk command →
     Tells (IsTold (served_ask command)) (asked_in ns command w t)
-asked_in_pool ns (AskCommand.Register r) w t served =
+told_in ns (AskCommand.Register r) w t served =
     tells_refused _ (first_refusal w t r) (registered_with ns r w t (registered_job (t.index + 1) (document_of t r) (get t.jobs r.id))) tt
-asked_in_pool ns (AskCommand.ReadJob id) w t served = tells_found _ (get t.jobs id) _ (λ job. tt)
-asked_in_pool ns (AskCommand.ListJobs prefix) w t served = tt
-asked_in_pool ns AskCommand.ReadNamespace w t served = tt
-asked_in_pool ns (AskCommand.QuotaUsage quota) w t served = by (names_quota quota t.namespace)
+told_in ns (AskCommand.ReadJob id) w t served = tells_found _ (get t.jobs id) _ (λ job. tt)
+told_in ns (AskCommand.Deregister id purge) w t served = tells_found _ (get t.jobs id) (deregister_job ns id purge w t) (λ job. tt)
+told_in ns (AskCommand.JobAllocations id) w t served = tt
+told_in ns (AskCommand.JobEvaluations id) w t served = tt
+told_in ns (AskCommand.ListEvaluations prefix) w t served = tt
+told_in ns (AskCommand.ReadEvaluation n) w t served = tells_found _ (get t.evaluations n) _ (λ e. tt)
+told_in ns (AskCommand.ListAllocations prefix) w t served = tt
+told_in ns (AskCommand.ReadAllocation n) w t served = tells_found _ (get t.allocations n) _ (λ a. tt)
+told_in ns (AskCommand.StopAllocation n) w t served = tells_found _ (get t.allocations n) _ (λ a. tells_unless _ _ _ _ tt)
+told_in ns (AskCommand.ListJobs prefix) w t served = tt
+told_in ns AskCommand.ReadNamespace w t served = tt
+told_in ns (AskCommand.QuotaUsage quota) w t served = by (names_quota quota t.namespace)
   where
     by : (b : Bool) → Tells (IsTold (Some Shape.Usage)) (cond b (Done (Content.Usage quota (quota_use w quota)) w) (Refused Refusal.NotFound))
     by true = tt
     by false = tt
-asked_in_pool ns _ w t served = not_both served refl
+told_in ns (AskCommand.Events index) w t served = not_both served refl
 
 told_ask : (ns : Name) (command : AskCommand) (w : World) → IsServedAsk command → Tells (IsTold (served_ask command)) (ask ns command w)
 unfolding ask
-told_ask ns command w served = tells_found _ (get w.tenants ns) (asked_in ns command w) (λ t. asked_in_pool ns command w t served)
+told_ask ns command w served = tells_found _ (get w.tenants ns) (asked_in ns command w) (λ t. told_in ns command w t served)
+
+-- ---- what is told of a pool
+
+told_of_pool : (pool : Name) (command : NodeCommand) (w : World) (p : PoolRows) → IsServedNode command →
+    Tells (IsTold (served_node command)) (asked_in_pool pool command w p)
+told_of_pool pool NodeCommand.ReadPool w p served = tt
+told_of_pool pool NodeCommand.ListNodes w p served = tt
+told_of_pool pool (NodeCommand.PutNode name offer) w p served = tells_unless _ _ _ _ (tells_unless _ _ _ _ tt)
+told_of_pool pool (NodeCommand.DeleteNode name) w p served = tells_found _ (get p.nodes name) _ (λ node. tells_unless _ _ _ _ tt)
+told_of_pool pool (NodeCommand.SetStatus name status) w p served = tells_found _ (get p.nodes name) _ (λ node. tt)
+told_of_pool pool (NodeCommand.SetEligible name eligible) w p served = tells_found _ (get p.nodes name) _ (λ node. tt)
+told_of_pool pool (NodeCommand.Report name report) w p served = not_both served refl
+
+told_node : (pool : Name) (command : NodeCommand) (w : World) → IsServedNode command → Tells (IsTold (served_node command)) (ask_pool pool command w)
+unfolding ask_pool
+told_node pool command w served = tells_found _ (get w.pools pool) (asked_in_pool pool command w) (λ p. told_of_pool pool command w p served)
 
 -- ---- every step that is served
 
 told_by : (step : Step) (s : State) → IsServed step → Tells (IsToldBy step) (act step s)
-unfolding act ask_pool
+unfolding act
 told_by (Step.Ask ns secret command) s served = tells_lift _ (with_world s.acl) (ask ns command s.world) (told_ask ns command s.world served)
 told_by (Step.Admin secret command) s served = told_of secret command s
-told_by (Step.Node pool secret NodeCommand.ReadPool) s served =
-    tells_lift _ (with_world s.acl) (ask_pool pool NodeCommand.ReadPool s.world) (tells_found _ (get s.world.pools pool) _ (λ p. tt))
+told_by (Step.Node pool secret command) s served = tells_lift _ (with_world s.acl) (ask_pool pool command s.world) (told_node pool command s.world served)
 told_by _ s served = not_both served refl
 
 decided_concluded : (P : Content → Type 0) (step : Step) (s : State) (o : Outcome State) → Tells P o → concluded step s o ≡ None → ⊥
@@ -175,6 +206,12 @@ rests_in : (ns : Name) (command : AskCommand) (w : World) (t : Tenant) → IsSer
     Rests w (asked_in ns command w t)
 rests_in ns (AskCommand.ReadJob id) w t served only = rests_found w (get t.jobs id) _ (λ job. refl)
 rests_in ns (AskCommand.ListJobs prefix) w t served only = refl
+rests_in ns (AskCommand.JobAllocations id) w t served only = refl
+rests_in ns (AskCommand.JobEvaluations id) w t served only = refl
+rests_in ns (AskCommand.ListEvaluations prefix) w t served only = refl
+rests_in ns (AskCommand.ReadEvaluation n) w t served only = rests_found w (get t.evaluations n) _ (λ e. refl)
+rests_in ns (AskCommand.ListAllocations prefix) w t served only = refl
+rests_in ns (AskCommand.ReadAllocation n) w t served only = rests_found w (get t.allocations n) _ (λ a. refl)
 rests_in ns AskCommand.ReadNamespace w t served only = refl
 rests_in ns (AskCommand.QuotaUsage quota) w t served only = by (names_quota quota t.namespace)
   where
@@ -182,7 +219,9 @@ rests_in ns (AskCommand.QuotaUsage quota) w t served only = by (names_quota quot
     by true = refl
     by false = refl
 rests_in ns (AskCommand.Register r) w t served only = not_both only refl
-rests_in ns _ w t served only = not_both served refl
+rests_in ns (AskCommand.Deregister id purge) w t served only = not_both only refl
+rests_in ns (AskCommand.StopAllocation n) w t served only = not_both only refl
+rests_in ns (AskCommand.Events index) w t served only = not_both served refl
 
 rests_ask : (ns : Name) (command : AskCommand) (w : World) → IsServedAsk command → only_reads (served_ask command) ≡ true → Rests w (ask ns command w)
 unfolding ask
@@ -199,12 +238,24 @@ rests_records secret (AdminCommand.ReadPolicy name) s only =
     rests_lift (with_acl s.world) s.acl (read_policy name s.acl) (rests_found s.acl (get s.acl.policies name) _ (λ policy. refl))
 rests_records secret _ s only = not_both only refl
 
+rests_of_pool : (pool : Name) (command : NodeCommand) (w : World) (p : PoolRows) → IsServedNode command → only_reads (served_node command) ≡ true →
+    Rests w (asked_in_pool pool command w p)
+rests_of_pool pool NodeCommand.ReadPool w p served only = refl
+rests_of_pool pool NodeCommand.ListNodes w p served only = refl
+rests_of_pool pool (NodeCommand.Report name report) w p served only = not_both served refl
+rests_of_pool pool _ w p served only = not_both only refl
+
+rests_node : (pool : Name) (command : NodeCommand) (w : World) → IsServedNode command → only_reads (served_node command) ≡ true →
+    Rests w (ask_pool pool command w)
+unfolding ask_pool
+rests_node pool command w served only = rests_found w (get w.pools pool) (asked_in_pool pool command w) (λ p. rests_of_pool pool command w p served only)
+
 pub rests_by : (step : Step) (s : State) → IsServed step → is_reading step ≡ true → Rests s (act step s)
-unfolding act ask_pool
+unfolding act
 rests_by (Step.Ask ns secret command) s served only = rests_lift (with_world s.acl) s.world (ask ns command s.world) (rests_ask ns command s.world served only)
 rests_by (Step.Admin secret command) s served only = rests_records secret command s only
-rests_by (Step.Node pool secret NodeCommand.ReadPool) s served only = rests_lift (with_world s.acl) s.world (ask_pool pool NodeCommand.ReadPool s.world)
-    (rests_found s.world (get s.world.pools pool) _ (λ p. refl))
+rests_by (Step.Node pool secret command) s served only =
+    rests_lift (with_world s.acl) s.world (ask_pool pool command s.world) (rests_node pool command s.world served only)
 rests_by _ s served only = not_both served refl
 
 rests_concluded : (step : Step) (s : State) (o : Outcome State) (answer : Answer) (s' : State) → Rests s o → concluded step s o ≡ said answer s' → s' ≡ s

@@ -13,10 +13,18 @@ use Rattle.ns_steps.specs.Told.{Shape, Holds, is_of_write}
 abbrev pub served_ask : AskCommand → Option Shape
 served_ask (AskCommand.Register r) = Some Shape.Registered
 served_ask (AskCommand.ReadJob id) = Some Shape.Job
+served_ask (AskCommand.Deregister id purge) = Some Shape.Registered
 served_ask (AskCommand.ListJobs prefix) = Some Shape.Jobs
+served_ask (AskCommand.JobAllocations id) = Some Shape.Allocations
+served_ask (AskCommand.JobEvaluations id) = Some Shape.Evaluations
+served_ask (AskCommand.ListEvaluations prefix) = Some Shape.Evaluations
+served_ask (AskCommand.ReadEvaluation n) = Some Shape.Evaluation
+served_ask (AskCommand.ListAllocations prefix) = Some Shape.Allocations
+served_ask (AskCommand.ReadAllocation n) = Some Shape.Allocation
+served_ask (AskCommand.StopAllocation n) = Some Shape.Stopped
 served_ask AskCommand.ReadNamespace = Some Shape.Namespace
 served_ask (AskCommand.QuotaUsage quota) = Some Shape.Usage
-served_ask _ = None
+served_ask (AskCommand.Events index) = None
 
 abbrev pub served_admin : AdminCommand → Option Shape
 served_admin AdminCommand.ListNamespaces = Some Shape.Namespaces
@@ -37,7 +45,12 @@ served_admin (AdminCommand.DeleteToken accessor) = Some Shape.Written
 
 abbrev pub served_node : NodeCommand → Option Shape
 served_node NodeCommand.ReadPool = Some Shape.Pool
-served_node _ = None
+served_node NodeCommand.ListNodes = Some Shape.Nodes
+served_node (NodeCommand.PutNode name offer) = Some Shape.Written
+served_node (NodeCommand.DeleteNode name) = Some Shape.Written
+served_node (NodeCommand.SetStatus name status) = Some Shape.Written
+served_node (NodeCommand.SetEligible name eligible) = Some Shape.Written
+served_node (NodeCommand.Report name report) = None
 
 abbrev pub served : Step → Option Shape
 served (Step.Ask ns secret command) = served_ask command

@@ -7,6 +7,10 @@ pub data Shape : Type 0 where
   -- of a read
   Job : Shape
   Jobs : Shape
+  Evaluation : Shape
+  Evaluations : Shape
+  Allocation : Shape
+  Allocations : Shape
   Namespace : Shape
   Namespaces : Shape
   Quota : Shape
@@ -14,9 +18,12 @@ pub data Shape : Type 0 where
   Usage : Shape
   Pool : Shape
   Pools : Shape
+  Nodes : Shape
   Policy : Shape
-  -- the numbers that a registration tells
+  -- the numbers that a registration or a deregistration tells
   Registered : Shape
+  -- those that a stop of an allocation tells
+  Stopped : Shape
   -- a write of a record has nothing to say
   Written : Shape
   -- the new token, with its secret
@@ -25,6 +32,7 @@ pub data Shape : Type 0 where
 -- a reply that shows no rows is that of a write
 abbrev pub is_of_write : Shape → Bool
 is_of_write Shape.Registered = true
+is_of_write Shape.Stopped = true
 is_of_write Shape.Written = true
 is_of_write (Shape.TokenOf new) = true
 is_of_write _ = false
@@ -32,6 +40,10 @@ is_of_write _ = false
 abbrev pub Holds : Shape → Content → Type 0
 Holds Shape.Job (Content.Job job) = Unit {0}
 Holds Shape.Jobs (Content.Jobs jobs) = Unit {0}
+Holds Shape.Evaluation (Content.Evaluation evaluation) = Unit {0}
+Holds Shape.Evaluations (Content.Evaluations evaluations) = Unit {0}
+Holds Shape.Allocation (Content.Allocation allocation) = Unit {0}
+Holds Shape.Allocations (Content.Allocations allocations) = Unit {0}
 Holds Shape.Namespace (Content.Namespace namespace) = Unit {0}
 Holds Shape.Namespaces (Content.Namespaces namespaces) = Unit {0}
 Holds Shape.Quota (Content.Quota quota) = Unit {0}
@@ -39,8 +51,10 @@ Holds Shape.Quotas (Content.Quotas quotas) = Unit {0}
 Holds Shape.Usage (Content.Usage name used) = Unit {0}
 Holds Shape.Pool (Content.Pool pool) = Unit {0}
 Holds Shape.Pools (Content.Pools pools) = Unit {0}
+Holds Shape.Nodes (Content.Nodes nodes) = Unit {0}
 Holds Shape.Policy (Content.Policy policy) = Unit {0}
 Holds Shape.Registered (Content.Registered evaluation index modified) = Unit {0}
+Holds Shape.Stopped (Content.Stopped evaluation index) = Unit {0}
 Holds Shape.Written Content.Written = Unit {0}
 Holds (Shape.TokenOf new) content = content ≡ Content.Token
     (record { accessor = new.accessor; secret = new.secret; name = new.name; kind = new.kind; policies = new.policies })

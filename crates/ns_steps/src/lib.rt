@@ -1,4 +1,4 @@
-//! What a registration and a read of a job lead to, said outright.
+//! The table of the steps that are served, and what the reply to each holds.
 #![tactic(auto)]
 
 pub mod laws;

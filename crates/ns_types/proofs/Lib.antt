@@ -5,6 +5,7 @@ pub mod Ids
 pub mod Lists
 pub mod Named
 pub mod Outcomes
+pub mod Queue
 pub mod ReadingLemmas
 pub mod Registrations
 pub mod Settling

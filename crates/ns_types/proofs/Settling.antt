@@ -1,6 +1,7 @@
 -- What a step does at its end where it releases nothing, and where it changes one namespace.
 use Rattle.std.specs.Prelude.{◌≡◌, ℕ, ◌+◌, if◌then◌else◌, Bool, true, false, not, ◌&&◌, ◌||◌, [], Option, Some, None, map, is_some}
 use Rattle.std.proofs.Common.{refl, sym, ap, ◌∙◌}
+use Rattle.std.proofs.Math.Bool.{and-false}
 use Rattle.std.specs.Option.{option_map_or, option_and_then}
 use Rattle.std.specs.List.{list_any}
 use Rattle.std.specs.Ordering.{eq_by_cmp}
@@ -10,7 +11,7 @@ use Rattle.ns_types.specs.declared.evaluation.Evaluation.{Evaluation}
 use Rattle.ns_types.specs.declared.job.Job.{Job}
 use Rattle.ns_types.specs.declared.node.Node.{Node}
 use Rattle.ns_types.specs.declared.records.Namespace.{Namespace}
-use Rattle.ns_types.specs.State.Names.{Name, Key, name_cmp, has_key}
+use Rattle.ns_types.specs.State.Names.{Name, name_cmp, has_key}
 use Rattle.ns_types.specs.Settling.Releases.{ends, is_on, counts_in, changes_limits, gives_room, released_classes, classes_of, releases_quota}
 use Rattle.ns_types.specs.Settling.Releases.{is_released_quota, same_offer, wakes, wakes_by, woken}
 use Rattle.ns_types.specs.State.Resources.{limits_in}
@@ -82,6 +83,61 @@ module _ (w w' : World) (live : KeepsLive w w') where
       (λ i. option_map_or (λ old. not (is_free old) || not (same_offer old.offer node.offer)) (at i) true || ends_none (is_on name n) i)
       ∙ (λ i. (not (free i) || not (same_offer_refl node.offer i)) || false))
 
+-- ---- where no pool gives room and no quota is released, rows are stamped and nothing else
+
+pub wake_none : (w : World) → wake [] w ≡ w
+unfolding wake
+wake_none w = λ i. record w {
+  tenants = map_rows_idle names one_name _ w.tenants
+      (λ ns t is i. record t { evaluations = map_rows_idle numbers one_number (λ n e. e) t.evaluations (λ n e at. refl) i }) i;
+  blocked = filter_all (λ _. true) w.blocked (each _ (λ key. refl) w.blocked) i;
+}
+
+module _ (w w' : World) (no_room : (name : Name) (pool : PoolRows) → get w'.pools name ≡ Some pool → released_classes w w' name pool ≡ []) where
+  pub no_classes : (name : Name) → classes_of w w' name ≡ []
+  no_classes name = by (get w'.pools name) refl
+    where
+      by : (p : Option PoolRows) → get w'.pools name ≡ p → option_map_or (released_classes w w' name) p [] ≡ []
+      by None is = refl
+      by (Some pool) is = no_room name pool is
+
+  module _ (no_quota : (name : Name) (quota : QuotaRows) → get w'.quotas name ≡ Some quota → releases_quota w w' name quota ≡ false) where
+    released_none : (name : Name) → is_released_quota w w' name ≡ false
+    released_none name = by (get w'.quotas name) refl
+      where
+        by : (q : Option QuotaRows) → get w'.quotas name ≡ q → option_map_or (releases_quota w w' name) q false ≡ false
+        by None is = refl
+        by (Some quota) is = no_quota name quota is
+
+    wakes_not : (e : Evaluation) → wakes w w' e ≡ false
+    unfolding wakes
+    wakes_not e = by e.quota
+      where
+        by : (q : Option Name) → wakes_by w w' e q ≡ false
+        by (Some q) = released_none q
+        by None = ap (list_any _) (no_classes e.pool)
+
+    pub none_woken : woken w w' ≡ []
+    unfolding woken
+    none_woken = filter_none _ w.blocked (each _ (λ key. ap (λ b. has_key w'.blocked key && b) (by (evaluation_at w key)) ∙ and-false (has_key w'.blocked key))
+        w.blocked)
+      where
+        by : (e : Option Evaluation) → option_map_or (wakes w w') e false ≡ false
+        by None = refl
+        by (Some e) = wakes_not e
+
+    none_numbered : number_releases w w' w' ≡ w'
+    unfolding number_releases
+    none_numbered = λ i. record w' {
+      pools = map_rows_idle names one_name _ w'.pools (λ name pool is. ap (λ classes. after_release classes pool) (no_room name pool is)) i;
+      quotas = map_rows_idle names one_name _ w'.quotas (λ name quota is. ap (λ b. after_quota_release b quota) (no_quota name quota is)) i;
+    }
+
+    pub stamps_alone : settle w w' ≡ stamp w w'
+    unfolding settle
+    stamps_alone = ap (λ keys. stamp w (number_releases w w' (wake keys w'))) none_woken
+        ∙ ap (λ x. stamp w (number_releases w w' x)) (wake_none w') ∙ ap (stamp w) none_numbered
+
 -- ---- where room is kept nothing is released
 
 module _ (w w' : World) (keeps : KeepsRoom w w') where
@@ -101,60 +157,11 @@ module _ (w w' : World) (keeps : KeepsRoom w w') where
       || ends_none w w' keeps.live (counts_in name) i)
       ∙ ap (λ b. not b || false) (same_limits_refl (limits_in quota.quota.limits))
 
-  classes_of_none : (name : Name) → classes_of w w' name ≡ []
-  classes_of_none name = by (get w'.pools name) refl
-    where
-      by : (p : Option PoolRows) → get w'.pools name ≡ p → option_map_or (released_classes w w' name) p [] ≡ []
-      by None is = refl
-      by (Some pool) is = classes_none name pool is
-
-  released_quota_none : (name : Name) → is_released_quota w w' name ≡ false
-  released_quota_none name = by (get w'.quotas name) refl
-    where
-      by : (q : Option QuotaRows) → get w'.quotas name ≡ q → option_map_or (releases_quota w w' name) q false ≡ false
-      by None is = refl
-      by (Some quota) is = quota_none name quota is
-
-  wakes_not : (e : Evaluation) → wakes w w' e ≡ false
-  unfolding wakes
-  wakes_not e = by e.quota
-    where
-      by : (q : Option Name) → wakes_by w w' e q ≡ false
-      by (Some q) = released_quota_none q
-      by None = ap (list_any _) (classes_of_none e.pool)
-
   pub wakes_none : woken w w' ≡ []
-  unfolding woken
-  wakes_none = filter_none _ w.blocked (each _ (λ key. ap (λ b. has_key w'.blocked key && b) (by key (evaluation_at w key)) ∙ none (has_key w'.blocked key))
-      w.blocked)
-    where
-      none : (b : Bool) → (b && false) ≡ false
-      none true = refl
-      none false = refl
-
-      by : (key : Key) → (e : Option Evaluation) → option_map_or (wakes w w') e false ≡ false
-      by key None = refl
-      by key (Some e) = wakes_not e
-
-  numbers_none : number_releases w w' w' ≡ w'
-  unfolding number_releases
-  numbers_none = λ i. record w' {
-    pools = map_rows_idle names one_name _ w'.pools (λ name pool is. ap (λ classes. after_release classes pool) (classes_none name pool is)) i;
-    quotas = map_rows_idle names one_name _ w'.quotas (λ name quota is. ap (λ b. after_quota_release b quota) (quota_none name quota is)) i;
-  }
-
-pub wake_none : (w : World) → wake [] w ≡ w
-unfolding wake
-wake_none w = λ i. record w {
-  tenants = map_rows_idle names one_name _ w.tenants
-      (λ ns t is i. record t { evaluations = map_rows_idle numbers one_number (λ n e. e) t.evaluations (λ n e at. refl) i }) i;
-  blocked = filter_all (λ _. true) w.blocked (each _ (λ key. refl) w.blocked) i;
-}
+  wakes_none = none_woken w w' classes_none quota_none
 
 pub releases_nothing : (w w' : World) → KeepsRoom w w' → settle w w' ≡ stamp w w'
-unfolding settle
-releases_nothing w w' keeps = ap (λ keys. stamp w (number_releases w w' (wake keys w'))) (wakes_none w w' keeps)
-    ∙ ap (λ x. stamp w (number_releases w w' x)) (wake_none w') ∙ ap (stamp w) (numbers_none w w' keeps)
+releases_nothing w w' keeps = stamps_alone w w' (classes_none w w' keeps) (quota_none w w' keeps)
 
 -- ---- rows that are as they were are not stamped
 

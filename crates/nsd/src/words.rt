@@ -10,7 +10,7 @@ ghost use Rattle.nsd.specs.Words.{Asks, Gives, pipe_words, program_words, secret
 use clap::error::ErrorKind;
 use clap::{Arg, ArgMatches, Command, Error};
 use ns_pipe::Asked;
-use ns_types::name::{Name, NameKind};
+use ns_types::name::Secret;
 use std::alloc::{AllocError, Global};
 
 const EXAMPLE: &str = "Example:
@@ -60,7 +60,7 @@ fn secret_in<'a>(matches: &ArgMatches<'a>) -> Option<&'a str>
 }
 
 /// The secret that the words give to `pipe`, or the fault in them. The first word is the program's own name.
-fn secret<'a>(alloc: Global, words: &'a [&'a str]) -> Result<Name<'a>, Error>
+fn secret(alloc: Global, words: &[&str]) -> Result<Secret, Error>
     ensures gives { IfOk result (Gives (texts words.entry.now)) }
     ensures good { (secret : List ℕ) → Asks (texts words.entry.now) secret
         → IfErr result (λ error. kind_of error ≡ ErrorKind.OutOfMemory) }
@@ -68,7 +68,7 @@ fn secret<'a>(alloc: Global, words: &'a [&'a str]) -> Result<Name<'a>, Error>
     let mut command = command(alloc)?;
     let matches = command.try_get_matches_from_mut(words)?;
     let secret = secret_in(&matches).unwrap_or("");
-    match Name::read(NameKind::Secret, secret) {
+    match Secret::read(alloc, secret)? {
         Some(secret) => Ok(secret),
         None => Err(command.error(
             ErrorKind::ValueValidation,
@@ -78,7 +78,7 @@ fn secret<'a>(alloc: Global, words: &'a [&'a str]) -> Result<Name<'a>, Error>
 }
 
 /// What is said of words that give no secret: help where they ask for it, or else what is wrong with them.
-fn told<'a>(alloc: Global, error: &Error) -> Asked<'a>
+fn told(alloc: Global, error: &Error) -> Asked
     ensures told { (secret : List ℕ) → result ≢ Asked.Pipe secret }
     ensures memory { kind_of error.now ≡ ErrorKind.OutOfMemory → result ≡ Asked.NoMemory }
     ensures help { (text : List ℕ) → IsHelp result text
@@ -102,7 +102,7 @@ fn told<'a>(alloc: Global, error: &Error) -> Asked<'a>
 }
 
 /// What the words ask for. The first word is the program's own name.
-pub fn read<'a>(alloc: Global, words: &'a [&'a str]) -> Asked<'a>
+pub fn read(alloc: Global, words: &[&str]) -> Asked
     ensures gives { (secret : List ℕ) → result ≡ Asked.Pipe secret
         → Gives (texts words.entry.now) secret }
     ensures good { (secret : List ℕ) → Asks (texts words.entry.now) secret

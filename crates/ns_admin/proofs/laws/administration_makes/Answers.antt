@@ -1,5 +1,5 @@
-use Rattle.ns_admin.proofs.Concluding.{administration_makes as law}
+use Rattle.ns_admin.proofs.Concluding.{administration_makes}
 use Rattle.ns_admin.proofs.laws.administration_makes.Goals as goal
 
 pub returns : goal.returns
-returns c = law
+returns c = administration_makes

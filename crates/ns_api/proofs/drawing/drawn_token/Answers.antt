@@ -5,6 +5,7 @@ use Rattle.ns_types.specs.declared.step.AdminCommand.TheVariants as AdminCommand
 use Rattle.ns_types.specs.declared.step.NewToken.{NewToken}
 use Rattle.ns_types.specs.declared.step.Step.{Step}
 use Rattle.ns_types.specs.State.Names.{Name}
+use Rattle.ns_api.specs.Asking.{new_token}
 use Rattle.ns_api.specs.Drawing.{DrawsTwo, GivesDrawn, random_id, with_texts}
 use Rattle.ns_api.proofs.drawing.drawn_token.Goals as goal
 
@@ -27,21 +28,21 @@ made draws bearer token old new first second accessor secret a s two = (
 
 pub returns-clause-drawn : goal.returns-clause-drawn
 returns-clause-drawn g c =
-    made g.D.Draws.draws c.args.bearer c.args.token c.args.draws.now c.draw-second.new.self c.draw-first.result c.draw-second.result
-    c.in_ok-accessor.accessor c.in_ok-secret.secret c.in_ok-accessor.ensures c.in_ok-secret.ensures
+    rw c.with_texts.ensures (made g.D.Draws.draws c.args.bearer (new_token c.args.token) c.args.draws.now c.draw-second.new.self c.draw-first.result c.draw-second.result
+    c.in_ok-accessor.accessor c.in_ok-secret.secret c.in_ok-accessor.ensures.text c.in_ok-secret.ensures.text
     (record {
       between = c.draw-first.new.self;
       first_length = search rules;
       second_length = search rules;
       draws_first = c.draw-first.ensures;
       draws_second = c.draw-second.ensures;
-    })
+    }))
 
 pub returns-in_err-accessor-clause-drawn : goal.returns-in_err-accessor-clause-drawn
 returns-in_err-accessor-clause-drawn g c =
     let p = err_from_is_err_and c.from_residual.result c.from_residual.ensures.1 in
     rw p.1
-    (spent g.D.Draws.draws c.args.bearer c.args.token c.args.draws.now c.draw-second.new.self c.draw-first.result c.draw-second.result p.0
+    (spent g.D.Draws.draws c.args.bearer (new_token c.args.token) c.args.draws.now c.draw-second.new.self c.draw-first.result c.draw-second.result p.0
     (record {
       between = c.draw-first.new.self;
       first_length = search rules;
@@ -54,7 +55,7 @@ pub returns-in_err-secret-clause-drawn : goal.returns-in_err-secret-clause-drawn
 returns-in_err-secret-clause-drawn g c =
     let p = err_from_is_err_and c.from_residual-in_err-secret.result c.from_residual-in_err-secret.ensures.1 in
     rw p.1
-    (spent g.D.Draws.draws c.args.bearer c.args.token c.args.draws.now c.draw-second.new.self c.draw-first.result c.draw-second.result p.0
+    (spent g.D.Draws.draws c.args.bearer (new_token c.args.token) c.args.draws.now c.draw-second.new.self c.draw-first.result c.draw-second.result p.0
     (record {
       between = c.draw-first.new.self;
       first_length = search rules;

@@ -4,7 +4,8 @@ use Rattle.std.specs.Option.{option_copied}
 use Rattle.ns_types.specs.declared.step.AskCommand.TheVariants as AskCommand
 use Rattle.ns_types.specs.Settling.Outcome.{is_done}
 use Rattle.ns_world.specs.World.{tenant_of, world_of}
-use Rattle.ns_jobs.proofs.Asked.{deregister_full, deregisters, no_job, nowhere, out_of_memory}
+use Rattle.ns_change.proofs.Prepares.{out_of_memory}
+use Rattle.ns_jobs.proofs.Asked.{deregister_full, deregisters, no_job, nowhere}
 use Rattle.ns_jobs.proofs.Prepared.{absent, there}
 use Rattle.ns_jobs.proofs.deregistration.deregister.Goals as goal
 

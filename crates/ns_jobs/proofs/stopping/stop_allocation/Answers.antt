@@ -4,7 +4,8 @@ use Rattle.std.specs.Option.{option_copied}
 use Rattle.ns_types.specs.declared.step.AskCommand.TheVariants as AskCommand
 use Rattle.ns_types.specs.Settling.Outcome.{is_done}
 use Rattle.ns_world.specs.World.{tenant_of, world_of}
-use Rattle.ns_jobs.proofs.Asked.{no_allocation, not_live, nowhere, out_of_memory, stop_full, stops}
+use Rattle.ns_change.proofs.Prepares.{out_of_memory}
+use Rattle.ns_jobs.proofs.Asked.{no_allocation, not_live, nowhere, stop_full, stops}
 use Rattle.ns_jobs.proofs.Prepared.{absent, there}
 use Rattle.ns_jobs.proofs.stopping.stop_allocation.Goals as goal
 

@@ -7,7 +7,7 @@ use Rattle.ns_types.proofs.Named.{numbers}
 use Rattle.ns_settle.proofs.awake.changes_awake.Goals as goal
 
 pub returns-in-Some : goal.returns-in-Some
-returns-in-Some c = ap not c.same_awake.ensures ∙ sym (ap (λ o. option_map_or (λ y. not (same_evaluation y (pending c.args.row.now))) o true)
+returns-in-Some c = ap not c.same_with_status.ensures ∙ sym (ap (λ o. option_map_or (λ y. not (same_evaluation y (pending c.args.row.now))) o true)
     (get-rows numbers c.args.tenant.now.evaluations c.args.number ∙ sym c.get.ensures ∙ ap option_copied c.in-Some.is))
 
 pub returns-in-None : goal.returns-in-None

@@ -71,3 +71,8 @@ pub returns-in-PutPolicy : goal.returns-in-PutPolicy
 unfolding administer
 returns-in-PutPolicy c = rw c.in-PutPolicy.is
     (changes_lift (with_acl (world_of c.args.self.now)) _ _ c.put_policy.new.self c.put_policy.result c.put_policy.ensures)
+
+pub returns-in-PutQuota : goal.returns-in-PutQuota
+unfolding administer
+returns-in-PutQuota c = rw c.in-PutQuota.is (changes_lift (with_world c.args.self.now.acl) _ _
+    (world_of (record c.args.self.now { tables = c.put_quota.new.tables })) c.put_quota.result c.put_quota.ensures.made)

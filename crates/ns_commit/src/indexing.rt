@@ -1,0 +1,49 @@
+//! The index of live allocations follows what changes of namespaces.
+
+ghost use Rattle.std.specs.Prelude.{OnOk};
+ghost use Rattle.ns_change.specs.Settled.{settled_tenant};
+ghost use Rattle.ns_commit.specs.Indexed.{HasIndexRoom, IsRightFor};
+ghost use Rattle.ns_commit.specs.Owners.{changed_owners, owners};
+ghost use Rattle.ns_live.specs.Index.{KeepsKeys};
+ghost use Rattle.ns_world.specs.World.{tenant_of};
+
+use keyed::NameTable;
+use ns_change::SettledTenant;
+use ns_live::Live;
+use ns_world::TenantRows;
+use std::alloc::AllocError;
+
+/// Makes room in the index for each changed allocation. Want of memory is the only error.
+pub(crate) fn reserve_index(
+    live: &mut Live,
+    changes: &NameTable<SettledTenant>,
+) -> Result<(), AllocError>
+    ensures same { KeepsKeys live.old live.new }
+    ensures room { OnOk result (HasIndexRoom changes.now live.new) }
+{
+    for slot in changes.as_slice() {
+        if let Some(change) = &slot.1 {
+            live.reserve_all(&slot.0, &change.rows.allocations)?;
+        }
+    }
+    Ok(())
+}
+
+/// Where the index is right for the namespaces of the table, it is so for them as changed from now on. It takes no memory.
+pub(crate) fn commit_index(
+    live: &mut Live,
+    table: &NameTable<TenantRows>,
+    changes: &NameTable<SettledTenant>,
+)
+    requires { HasIndexRoom changes.now live.old }
+    ensures { IsRightFor (owners tenant_of table.now) live.old →
+        IsRightFor (changed_owners settled_tenant changes.now (owners tenant_of table.now)) live.new }
+{
+    for slot in changes.as_slice() {
+        if let Some(change) = &slot.1 {
+            if let Some(tenant) = table.get(&slot.0) {
+                live.put_all(&slot.0, &tenant.allocations, &change.rows.allocations);
+            }
+        }
+    }
+}

@@ -1,0 +1,23 @@
+use Rattle.std.specs.Prelude.{Ok, Err}
+use Rattle.std.proofs.Common.{sym, ap, subst, ◌∙◌}
+use Rattle.ns_types.specs.declared.reply.Content.{Content}
+use Rattle.ns_types.specs.Steps.{index_shown, said}
+use Rattle.ns_change.specs.Changed.{view}
+use Rattle.ns_conclude.proofs.Concluding.{makes}
+use Rattle.ns_core.specs.Answering.{PreparesStep}
+use Rattle.ns_core.specs.Viewed.{state_of, world_of}
+use Rattle.ns_core.proofs.parts.Parts.make.Goals as goal
+
+pub returns-in-Err : goal.returns-in-Err
+returns-in-Err c = λ step allowed prepares.
+    let x = c.in_ok-content.field-0 in
+    makes step (state_of c.args.self.now) allowed x.content (view c.args.self.now.tables x.change)
+    (subst (PreparesStep step c.args.self.now) c.in_ok-content.was prepares) {A = Unit {0}} (Err c.in-Err.refusal)
+    (world_of (record c.args.self.now { tables = c.conclude.new.tables })) c.in-Err.ensures
+
+pub returns : goal.returns
+returns c = λ step allowed prepares.
+    let x = c.in_ok-content.field-0 in
+    makes step (state_of c.args.self.now) allowed x.content (view c.args.self.now.tables x.change)
+    (subst (PreparesStep step c.args.self.now) c.in_ok-content.was prepares) {A = Unit {0}} (Ok c.in_default.field-0)
+    (world_of (record c.args.self.now { tables = c.conclude.new.tables })) c.in_default.ensures

@@ -1,0 +1,11 @@
+use Rattle.std.proofs.Common.{refl, sym, subst}
+use Rattle.std.specs.Option.{option_copied}
+use Rattle.ns_types.specs.declared.step.Step.TheVariants as Step
+use Rattle.ns_types.specs.Asking.Good.{IsGoodTelling}
+use Rattle.ns_core.specs.Viewed.{state_of}
+use Rattle.ns_core.proofs.Keeping.{keeps}
+use Rattle.ns_core.proofs.server.Core.node.Goals as goal
+
+pub invariant_of-self : goal.invariant_of-self
+invariant_of-self c = keeps (Step.Node c.args.pool.now (option_copied c.args.secret) c.get.result.now) (state_of c.self.inside.parts) (state_of c.node.new.self)
+    (subst (λ command. IsGoodTelling command) (sym c.get.ensures.same) c.get.ensures.good) refl c.self.invariant c.node.result c.node.ensures

@@ -1,0 +1,30 @@
+-- When an index is right for a world that no row was written into one by one.
+use Rattle.std.specs.Prelude.{◌≡◌, false, Option, Result}
+use Rattle.ns_types.specs.declared.refusal.Refusal.{Refusal}
+use Rattle.ns_types.specs.declared.reply.Content.{Content}
+use Rattle.ns_types.specs.declared.step.AdminCommand.{AdminCommand}
+use Rattle.ns_types.specs.Asking.Policies.{administer}
+use Rattle.ns_types.specs.Settling.Outcome.{Changes}
+use Rattle.ns_types.specs.State.Names.{Name, Key}
+use Rattle.ns_types.specs.State.Rows.{State, World}
+use Rattle.ns_types.specs.State.Sums.{node_load}
+use Rattle.ns_types.specs.Steps.{opening}
+use Rattle.ns_types.specs.Validity.{IsSound}
+use Rattle.ns_live.specs.declared.live.Live.{Live}
+use Rattle.ns_live.specs.Index.{IsRight, holds}
+use Rattle.ns_live.specs.Loads.{IsCounted}
+
+-- nothing is live at first
+abbrev pub EmptyIsRightAtFirst : Type 0
+EmptyIsRightAtFirst = (secret : Name) (live : Live) →
+    ((pool node : Name) (key : Key) → holds live pool node key ≡ false) → IsRight (opening secret).world live
+
+-- administrators move no live allocation
+abbrev pub AdministrationKeepsRight : Type 0
+AdministrationKeepsRight = (secret : Option Name) (command : AdminCommand) (s s' : State)
+    (result : Result Content Refusal) (live : Live) → Changes (administer secret command s) s result s' →
+    IsRight s.world live → IsRight s'.world live
+
+-- the load of each node fits 64 bits, be it there or not
+abbrev pub SoundLoadsFit : Type 0
+SoundLoadsFit = (w : World) → IsSound w → (pool node : Name) → IsCounted (node_load w pool node)

@@ -1,0 +1,11 @@
+//! What a worker looks at: one evaluation's part of the state, taken from the tables as it is then. The live allocations
+//! of a node come from the index of them, so no namespace is walked for that but those that have some there.
+#![tactic(auto)]
+
+mod owning;
+mod placed;
+mod pool;
+mod quota;
+mod taking;
+
+pub use taking::snapshot;

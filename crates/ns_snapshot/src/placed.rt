@@ -1,0 +1,167 @@
+//! The live allocations of a node, in the order in which they were placed.
+
+ghost use Rattle.std.specs.Prelude.{◌≡◌, IfOk, OnOk, fold, map};
+ghost use Rattle.std.specs.FinMap.{contains_key, empty, entries};
+ghost use Rattle.keyed.specs.Table.{row_list, rows};
+ghost use Rattle.ns_types.specs.Working.Snapshot.{live_on, seen_live};
+ghost use Rattle.ns_live.specs.Index.{IsRight};
+ghost use Rattle.ns_snapshot.specs.Seen.{add_namespace, add_number, add_seen, seen_row};
+ghost use Rattle.ns_world.specs.World.{world_of};
+
+use keyed::NumberTable;
+use ns_live::{Live, NodeKeys};
+use ns_types::allocation::Allocation;
+use ns_types::rows::Rows;
+use ns_types::snapshot::LiveAllocation;
+use ns_types::text::Text;
+use ns_world::Tables;
+use std::alloc::{AllocError, Global};
+
+/// Live allocations by their place on the node.
+type ByPlace = NumberTable<LiveAllocation>;
+
+fn has_place(seen: &ByPlace, place: u64) -> bool
+    ensures { result ≡ contains_key (rows seen.now) place }
+{
+    match seen.get(place) {
+        Some(_) => true,
+        None => false,
+    }
+}
+
+fn seen_live(namespace: &Text, number: u64, row: &Allocation) -> Result<LiveAllocation, AllocError>
+    ensures { IfOk result (λ shown. shown ≡ seen_live (namespace.now, (number, row.now))) }
+{
+    Ok(LiveAllocation {
+        namespace: namespace.clone()?,
+        number,
+        priority: row.priority,
+        size: row.size,
+    })
+}
+
+/// Of several that have one place the first counts.
+fn add_seen(
+    seen: &mut ByPlace,
+    namespace: &Text,
+    number: u64,
+    row: &Allocation,
+) -> Result<(), AllocError>
+    ensures { OnOk result (rows seen.new
+        ≡ add_seen (rows seen.old) (seen_row namespace.now number row.now)) }
+{
+    if has_place(seen, row.place) {
+        return Ok(());
+    }
+    let shown = seen_live(namespace, number, row)?;
+    seen.reserve(row.place)?;
+    seen.set(row.place, shown);
+    Ok(())
+}
+
+fn add_number(
+    seen: &mut ByPlace,
+    namespace: &Text,
+    allocations: &NumberTable<Allocation>,
+    slot: &(u64, Option<()>),
+) -> Result<(), AllocError>
+    ensures { OnOk result (rows seen.new
+        ≡ add_number namespace.now allocations.now (rows seen.old) slot.now) }
+{
+    if slot.1.is_none() {
+        return Ok(());
+    }
+    match allocations.get(slot.0) {
+        Some(row) => add_seen(seen, namespace, slot.0, row),
+        None => Ok(()),
+    }
+}
+
+fn add_numbers(
+    seen: &mut ByPlace,
+    namespace: &Text,
+    allocations: &NumberTable<Allocation>,
+    slots: &[(u64, Option<()>)],
+) -> Result<(), AllocError>
+    ensures { OnOk result (rows seen.new
+        ≡ fold (add_number namespace.now allocations.now) (rows seen.old) slots.now) }
+{
+    for slot in slots {
+        add_number(seen, namespace, allocations, slot)?;
+    }
+    Ok(())
+}
+
+fn add_namespace(
+    seen: &mut ByPlace,
+    tables: &Tables,
+    slot: &(Text, Option<NumberTable<()>>),
+) -> Result<(), AllocError>
+    ensures { OnOk result (rows seen.new
+        ≡ add_namespace tables.now.tenants (rows seen.old) slot.now) }
+{
+    let Some(numbers) = &slot.1 else {
+        return Ok(());
+    };
+    match tables.tenants.get(&slot.0) {
+        Some(tenant) => add_numbers(seen, &slot.0, &tenant.allocations, numbers.as_slice()),
+        None => Ok(()),
+    }
+}
+
+fn add_namespaces(
+    seen: &mut ByPlace,
+    tables: &Tables,
+    slots: &[(Text, Option<NumberTable<()>>)],
+) -> Result<(), AllocError>
+    ensures { OnOk result (rows seen.new
+        ≡ fold (add_namespace tables.now.tenants) (rows seen.old) slots.now) }
+{
+    for slot in slots {
+        add_namespace(seen, tables, slot)?;
+    }
+    Ok(())
+}
+
+/// The rows of the slots, in their order.
+fn in_order(
+    alloc: Global,
+    slots: Vec<(u64, Option<LiveAllocation>)>,
+) -> Result<Rows<LiveAllocation>, AllocError>
+    ensures { IfOk result (λ shown. shown ≡ map (λ e. e.1) (row_list slots.items)) }
+{
+    let mut shown = Rows::new(alloc);
+    for (_, slot) in slots {
+        if let Some(row) = slot {
+            shown.push(row)?;
+        }
+    }
+    Ok(shown)
+}
+
+/// The rows at the keys, each at its place.
+fn by_place(tables: &Tables, keys: &NodeKeys) -> Result<ByPlace, AllocError>
+    ensures { IfOk result (λ seen. rows seen
+        ≡ fold (add_namespace tables.now.tenants) empty (entries keys.now.namespaces)) }
+{
+    let mut seen = NumberTable::new(tables.alloc);
+    add_namespaces(&mut seen, tables, keys.as_slice())?;
+    Ok(seen)
+}
+
+/// Those of all namespaces, by an index that is right for the tables.
+pub(crate) fn live_on(
+    tables: &Tables,
+    live: &Live,
+    pool: &Text,
+    node: &Text,
+) -> Result<Rows<LiveAllocation>, AllocError>
+    requires { IsRight (world_of tables.now) live.now }
+    ensures { IfOk result (λ shown. shown ≡ live_on (world_of tables.now) pool.now node.now) }
+{
+    let Some(keys) = live.keys_on(pool, node) else {
+        return Ok(Rows::new(tables.alloc));
+    };
+    let seen = by_place(tables, keys)?;
+    in_order(tables.alloc, seen.into_slots())
+}

@@ -1,0 +1,92 @@
+//! The nodes of a pool, with their live allocations.
+
+ghost use Rattle.std.specs.Prelude.{◌≡◌, ◌++◌, IfOk, OnOk, flat_map};
+ghost use Rattle.ns_types.specs.Working.Snapshot.{live_on, nodes_of};
+ghost use Rattle.ns_live.specs.Index.{IsRight};
+ghost use Rattle.ns_snapshot.specs.Seen.{node_at_slot};
+ghost use Rattle.ns_world.specs.World.{world_of};
+
+use crate::placed::live_on;
+use ns_change::copied_node;
+use ns_live::Live;
+use ns_types::node::Node;
+use ns_types::rows::Rows;
+use ns_types::shared::Shared;
+use ns_types::snapshot::PoolNode;
+use ns_types::text::Text;
+use ns_world::Tables;
+use std::alloc::AllocError;
+
+/// A node with its name, or a vacant slot.
+type NodeSlot = (Text, Option<Node>);
+
+fn pool_node(
+    tables: &Tables,
+    live: &Live,
+    pool: &Text,
+    name: &Text,
+    row: &Node,
+) -> Result<Shared<PoolNode>, AllocError>
+    requires { IsRight (world_of tables.now) live.now }
+    ensures { IfOk result (λ node. node ≡ record {
+      name = name.now;
+      row = row.now;
+      live = live_on (world_of tables.now) pool.now name.now;
+    }) }
+{
+    let node = PoolNode {
+        name: name.clone()?,
+        row: copied_node(row)?,
+        live: live_on(tables, live, pool, name)?,
+    };
+    Shared::new(tables.alloc, node)
+}
+
+fn add_node(
+    nodes: &mut Rows<Shared<PoolNode>>,
+    tables: &Tables,
+    live: &Live,
+    pool: &Text,
+    slot: &NodeSlot,
+) -> Result<(), AllocError>
+    requires { IsRight (world_of tables.now) live.now }
+    ensures { OnOk result (nodes.new
+        ≡ nodes.old ++ node_at_slot (world_of tables.now) pool.now slot.now) }
+{
+    if let Some(row) = &slot.1 {
+        nodes.push(pool_node(tables, live, pool, &slot.0, row)?)?;
+    }
+    Ok(())
+}
+
+fn nodes_in(
+    tables: &Tables,
+    live: &Live,
+    pool: &Text,
+    slots: &[NodeSlot],
+) -> Result<Rows<Shared<PoolNode>>, AllocError>
+    requires { IsRight (world_of tables.now) live.now }
+    ensures { IfOk result (λ nodes. nodes
+        ≡ flat_map (node_at_slot (world_of tables.now) pool.now) slots.now) }
+{
+    let mut nodes = Rows::new(tables.alloc);
+    for slot in slots {
+        add_node(&mut nodes, tables, live, pool, slot)?;
+    }
+    Ok(nodes)
+}
+
+/// By name, by an index that is right for the tables. None: there is no such pool.
+pub(crate) fn nodes_of(
+    tables: &Tables,
+    live: &Live,
+    pool: &Text,
+) -> Result<Rows<Shared<PoolNode>>, AllocError>
+    requires { IsRight (world_of tables.now) live.now }
+    ensures { IfOk result (λ nodes. nodes ≡ nodes_of (world_of tables.now) pool.now) }
+{
+    match tables.pools.get(pool) {
+        Some(rows) => nodes_in(tables, live, pool, rows.nodes.as_slice()),
+        None => Ok(Rows::new(tables.alloc)),
+    }
+}
