@@ -97,6 +97,11 @@ pub(crate) fn list_evaluations(
     ensures { let t = tenant_of tenant.now in IfOk result
         (λ said. said ≡ evaluations_where namespace.now t (lists_evaluation command.now)) }
 {
-    let shown = evaluations_shown(alloc, namespace, command, tenant.evaluations.as_slice())?;
+    let shown = evaluations_shown(
+        alloc,
+        namespace,
+        command,
+        tenant.evaluations.rows().as_slice(),
+    )?;
     Ok(Content::Evaluations(shown))
 }

@@ -22,7 +22,7 @@ pub(crate) fn job<'a>(tenant: &'a TenantRows, id: &Text) -> Option<&'a Job>
 pub(crate) fn evaluation(tenant: &TenantRows, number: u64) -> Option<&Evaluation>
     ensures { option_copied result ≡ get (tenant_of tenant.now).evaluations number }
 {
-    tenant.evaluations.get(number)
+    tenant.evaluations.rows().get(number)
 }
 
 pub(crate) fn allocation(tenant: &TenantRows, number: u64) -> Option<&Allocation>

@@ -12,7 +12,7 @@ use ns_world::TenantRows;
 pub fn changes_awake(tenant: &TenantRows, number: u64, row: &Evaluation) -> bool
     ensures { result ≡ changes_evaluation (tenant_of tenant.now) number (pending row.now) }
 {
-    match tenant.evaluations.get(number) {
+    match tenant.evaluations.rows().get(number) {
         Some(old) => !same_with_status(old, row, Status::Pending),
         None => true,
     }

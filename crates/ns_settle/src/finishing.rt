@@ -40,7 +40,7 @@ fn events_at(
     tell_jobs(&mut events, tenant, index, change.jobs.as_slice())?;
     tell_rows(
         &mut events,
-        &tenant.evaluations,
+        tenant.evaluations.rows(),
         index,
         change.evaluations.as_slice(),
     )?;
@@ -69,7 +69,7 @@ fn stamp_change(tenant: &TenantRows, index: u64, change: TenantChange) -> Tenant
         evaluation_number,
         allocation_number,
         jobs,
-        evaluations: stamp_rows(&tenant.evaluations, index, evaluations),
+        evaluations: stamp_rows(tenant.evaluations.rows(), index, evaluations),
         allocations: stamp_rows(&tenant.allocations, index, allocations),
         workers,
     }

@@ -174,7 +174,7 @@ fn shows_asleep(
 {
     match &slot.1 {
         Some(row) => !is_waking(tables, change, namespace, slot.0)
-            && changes_row(&tenant.evaluations, slot.0, row),
+            && changes_row(tenant.evaluations.rows(), slot.0, row),
         None => false,
     }
 }

@@ -265,6 +265,6 @@ pub fn touches(tenant: &TenantRows, change: &TenantChange) -> bool
     ensures { result ≡ touches (tenant_of tenant.now) change.now }
 {
     any_job(tenant, change.jobs.as_slice())
-        || any_row(&tenant.evaluations, change.evaluations.as_slice())
+        || any_row(tenant.evaluations.rows(), change.evaluations.as_slice())
         || any_row(&tenant.allocations, change.allocations.as_slice())
 }

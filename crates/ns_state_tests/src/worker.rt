@@ -4,7 +4,7 @@ ghost use Rattle.std.specs.Bool.{OnTrue};
 ghost use Rattle.ns_broker.specs.Nacking.{HasNackLeft};
 ghost use Rattle.ns_world.specs.World.{world_of};
 
-use keyed::{NameTable, NumberTable, Series};
+use keyed::{KeyQueue, NameTable, NumberTable, Series};
 use ns_broker::{dequeue, nack, worker_at};
 use ns_change::Prepared;
 use ns_types::evaluation::{Evaluation, Status, Trigger};
@@ -16,7 +16,7 @@ use ns_types::reply::Content;
 use ns_types::rows::Rows;
 use ns_types::text::Text;
 use ns_types::worker::{Phase, Worker};
-use ns_world::{Tables, TenantRows};
+use ns_world::{EvaluationTable, Tables, TenantRows};
 use std::alloc::{AllocError, Global};
 use std::test::Fail;
 
@@ -70,6 +70,15 @@ fn one_row<V: Drop>(alloc: Global, number: u64, row: V) -> Result<NumberTable<V>
     Ok(table)
 }
 
+/// One evaluation.
+fn evaluations(alloc: Global, nacks: u64) -> Result<EvaluationTable, AllocError> {
+    let rows = one_row(alloc, 1, evaluation(alloc, nacks)?)?;
+    let mut table = EvaluationTable::new(alloc);
+    table.reserve_all(&rows)?;
+    table.apply(rows);
+    Ok(table)
+}
+
 /// A namespace with an evaluation, and with its worker, if it has one.
 fn tenant(
     alloc: Global,
@@ -82,7 +91,7 @@ fn tenant(
         evaluation_number: 1,
         allocation_number: 0,
         jobs: NameTable::new(alloc),
-        evaluations: one_row(alloc, 1, evaluation(alloc, nacks)?)?,
+        evaluations: evaluations(alloc, nacks)?,
         allocations: NumberTable::new(alloc),
         workers,
         events: Series::new(alloc),
@@ -104,10 +113,12 @@ fn tenants(
     Ok(tenants)
 }
 
-fn ready(alloc: Global, key: &EvalKey) -> Result<Series<EvalKey>, AllocError> {
-    let mut ready = Series::new(alloc);
-    ready.reserve(1)?;
-    ready.push(key.clone()?);
+fn ready(alloc: Global, key: &EvalKey) -> Result<KeyQueue, AllocError> {
+    let mut keys = Rows::new(alloc);
+    keys.push(key.clone()?)?;
+    let mut ready = KeyQueue::new(alloc);
+    ready.reserve(keys.as_slice())?;
+    ready.append(keys);
     Ok(ready)
 }
 
@@ -125,8 +136,8 @@ fn tables(
         pools: NameTable::new(alloc),
         quotas: NameTable::new(alloc),
         ready,
-        plans: Series::new(alloc),
-        blocked: Series::new(alloc),
+        plans: KeyQueue::new(alloc),
+        blocked: KeyQueue::new(alloc),
     })
 }
 
