@@ -7,7 +7,7 @@ ghost use Rattle.keyed.specs.Table.{at_slot};
 ghost use Rattle.ns_types.specs.Steps.{greatest, is_past_bound, is_pool_past_bound, is_tenant_past_bound};
 ghost use Rattle.ns_world.specs.World.{pool_of, tenant_of, world_of};
 
-use keyed::{NameTable, NumberTable, Series};
+use keyed::{KeyQueue, NameTable, NumberTable, Series};
 use ns_change::{Change, ListChange, PoolChange};
 use ns_conclude::conclude;
 use ns_live::Live;
@@ -20,7 +20,7 @@ use ns_types::refusal::Refusal;
 use ns_types::resources::Resources;
 use ns_types::rows::Rows;
 use ns_types::text::Text;
-use ns_world::{PoolRows, QuotaRows, Tables, TenantRows};
+use ns_world::{EvaluationTable, PoolRows, QuotaRows, Tables, TenantRows};
 use std::alloc::{AllocError, Global};
 use std::test::Fail;
 
@@ -136,7 +136,7 @@ fn one<V: Drop>(alloc: Global, name: &str, row: V) -> Result<NameTable<V>, Alloc
 }
 
 /// Evaluation 3 alone, which is blocked.
-fn evaluations(alloc: Global) -> Result<NumberTable<Evaluation>, AllocError> {
+fn evaluations(alloc: Global) -> Result<EvaluationTable, AllocError> {
     let job = text(alloc, "j")?;
     let pool = text(alloc, "p")?;
     let mut table = NumberTable::new(alloc);
@@ -158,7 +158,10 @@ fn evaluations(alloc: Global) -> Result<NumberTable<Evaluation>, AllocError> {
         modify_index: 1,
     };
     table.set(3, row);
-    Ok(table)
+    let mut evaluations = EvaluationTable::new(alloc);
+    evaluations.reserve_all(&table)?;
+    evaluations.apply(table);
+    Ok(evaluations)
 }
 
 fn namespace(alloc: Global) -> Result<Namespace, AllocError> {
@@ -212,12 +215,13 @@ fn pool(alloc: Global) -> Result<PoolRows, AllocError> {
     })
 }
 
-fn blocked(alloc: Global) -> Result<Series<EvalKey>, AllocError> {
-    let key = EvalKey::new(text(alloc, "n")?, 3);
-    let mut keys = Series::new(alloc);
-    keys.reserve(1)?;
-    keys.push(key);
-    Ok(keys)
+fn blocked(alloc: Global) -> Result<KeyQueue, AllocError> {
+    let mut keys = Rows::new(alloc);
+    keys.push(EvalKey::new(text(alloc, "n")?, 3))?;
+    let mut blocked = KeyQueue::new(alloc);
+    blocked.reserve(keys.as_slice())?;
+    blocked.append(keys);
+    Ok(blocked)
 }
 
 /// A namespace with that index and a blocked evaluation, and a pool whose node is not eligible.
@@ -227,8 +231,8 @@ fn tables(alloc: Global, index: u64) -> Result<Tables, AllocError> {
         tenants: one(alloc, "n", tenant(alloc, index)?)?,
         pools: one(alloc, "p", pool(alloc)?)?,
         quotas: NameTable::new(alloc),
-        ready: Series::new(alloc),
-        plans: Series::new(alloc),
+        ready: KeyQueue::new(alloc),
+        plans: KeyQueue::new(alloc),
         blocked: blocked(alloc)?,
     })
 }

@@ -6,7 +6,7 @@ ghost use Rattle.ns_broker.specs.Nacking.{HasNackLeft};
 ghost use Rattle.ns_world.specs.World.{world_of};
 
 use crate::ends::{end, is_past_now};
-use keyed::{NameTable, NumberTable, Series};
+use keyed::{KeyQueue, NameTable, NumberTable, Series};
 use ns_broker::{dequeue, nack, phase, row_of, served_ready, worker_at};
 use ns_change::Prepared;
 use ns_types::evaluation::{Evaluation, Status, Trigger};
@@ -18,7 +18,7 @@ use ns_types::reply::Content;
 use ns_types::rows::Rows;
 use ns_types::text::Text;
 use ns_types::worker::Phase;
-use ns_world::{Tables, TenantRows};
+use ns_world::{EvaluationTable, Tables, TenantRows};
 use std::alloc::{AllocError, Global};
 use std::test::Fail;
 
@@ -52,7 +52,7 @@ fn namespace(alloc: Global) -> Result<Namespace, AllocError> {
 }
 
 /// Evaluations of one job, from number 1 on.
-fn evaluations(alloc: Global, count: u64) -> Result<NumberTable<Evaluation>, AllocError> {
+fn rows(alloc: Global, count: u64) -> Result<NumberTable<Evaluation>, AllocError> {
     let mut table = NumberTable::new(alloc);
     for number in 0..count {
         let number = number + 1;
@@ -64,6 +64,14 @@ fn evaluations(alloc: Global, count: u64) -> Result<NumberTable<Evaluation>, All
             drop(row);
         }
     }
+    Ok(table)
+}
+
+fn evaluations(alloc: Global, count: u64) -> Result<EvaluationTable, AllocError> {
+    let rows = rows(alloc, count)?;
+    let mut table = EvaluationTable::new(alloc);
+    table.reserve_all(&rows)?;
+    table.apply(rows);
     Ok(table)
 }
 
@@ -98,13 +106,13 @@ fn tenants(
 }
 
 /// All of them, in their order.
-fn ready(alloc: Global, name: &Text, count: u64) -> Result<Series<EvalKey>, AllocError> {
+fn ready(alloc: Global, name: &Text, count: u64) -> Result<KeyQueue, AllocError> {
     let mut keys = Rows::new(alloc);
     for number in 0..count {
         keys.push(EvalKey::new(name.clone()?, number + 1))?;
     }
-    let mut ready = Series::new(alloc);
-    ready.reserve(keys.as_slice().len())?;
+    let mut ready = KeyQueue::new(alloc);
+    ready.reserve(keys.as_slice())?;
     ready.append(keys);
     Ok(ready)
 }
@@ -119,8 +127,8 @@ fn tables(alloc: Global, count: u64, index: u64) -> Result<Tables, AllocError> {
         pools: NameTable::new(alloc),
         quotas: NameTable::new(alloc),
         ready,
-        plans: Series::new(alloc),
-        blocked: Series::new(alloc),
+        plans: KeyQueue::new(alloc),
+        blocked: KeyQueue::new(alloc),
     })
 }
 

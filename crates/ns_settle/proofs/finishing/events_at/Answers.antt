@@ -1,5 +1,5 @@
 use Rattle.std.proofs.Common.{◌∙◌, ◌++◌, ℕ, List, Option, map, filter}
-use Rattle.keyed.specs.Table.{at_slot}
+use Rattle.keyed.specs.Table.{at_slot, rows}
 use Rattle.std.specs.FinMap.{entries}
 use Rattle.ns_types.specs.declared.allocation.Allocation.{Allocation}
 use Rattle.ns_types.specs.declared.evaluation.Evaluation.{Evaluation}
@@ -8,7 +8,7 @@ use Rattle.ns_types.specs.declared.event.Topic.{Topic}
 use Rattle.ns_types.specs.declared.job.Job.{Job}
 use Rattle.ns_types.specs.State.Names.{Name}
 use Rattle.ns_types.specs.Settling.Settle.{changes_allocation, changes_evaluation}
-use Rattle.ns_settle.specs.Stamped.{changes_job_row, row_topic}
+use Rattle.ns_settle.specs.Stamped.{changes_job_row, changes_slot, evaluations_shown, row_topic, told, topic_at}
 use Rattle.ns_world.specs.World.{tenant_of}
 use Rattle.ns_settle.proofs.Finished.{three}
 use Rattle.ns_settle.proofs.finishing.events_at.Goals as goal
@@ -19,12 +19,11 @@ returns c =
     let at : Topic → Event = λ topic. record { index = c.args.index; topic = topic } in
     let jobs = λ (l : List (Name × Option Job)). map (λ (e : Name × Option Job). at (row_topic e.0 e.1))
     (filter (λ (e : Name × Option Job). changes_job_row t e.0 e.1) l) in
-    let evaluations = λ (l : List (ℕ × Option Evaluation)). map (λ (e : ℕ × Option Evaluation). at (Topic.EvaluationUpdated e.0))
-    (filter (at_slot (λ e. changes_evaluation t e.0 e.1)) l) in
     let allocations = λ (l : List (ℕ × Option Allocation)). map (λ (e : ℕ × Option Allocation). at (Topic.AllocationUpdated e.0))
     (filter (at_slot (λ e. changes_allocation t e.0 e.1)) l) in
     c.in_ok-tell_rows-2.ensures ∙ (λ i. (c.in_ok-tell_rows.ensures ∙
-    (λ j. (c.in_ok-tell_jobs.ensures ∙ (λ k. c.new-events.ensures k ++ jobs (c.as_slice.ensures k))) j ++ evaluations (c.as_slice-2.ensures j))) i
+    (λ j. (c.in_ok-tell_jobs.ensures ∙ (λ k. c.new-events.ensures k ++ jobs (c.as_slice.ensures k))) j 
+    ++ told c.args.index (topic_at evaluations_shown) (changes_slot evaluations_shown (rows (c.rows.ensures j))) (c.as_slice-2.ensures j))) i
     ++ allocations (c.as_slice-3.ensures i))
     ∙ three at (λ (e : Name × Option Job). row_topic e.0 e.1) (λ (e : ℕ × Option Evaluation). Topic.EvaluationUpdated e.0)
     (λ (e : ℕ × Option Allocation). Topic.AllocationUpdated e.0)
