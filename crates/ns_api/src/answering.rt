@@ -61,13 +61,6 @@ fn is_read(step: &Step) -> bool
                 | AdminCommand::ListPools
                 | AdminCommand::ReadPolicy(_)
         ),
-        Step::Node(_, _, command) => !matches!(
-            command.get(),
-            NodeCommand::PutNode(_, _)
-                | NodeCommand::DeleteNode(_)
-                | NodeCommand::SetStatus(_, _)
-                | NodeCommand::SetEligible(_, _)
-        ),
         _ => true,
     }
 }

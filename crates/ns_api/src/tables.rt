@@ -90,7 +90,6 @@ fn read(alloc: Global, target: &Target<'_>) -> Result<Wanted, Refusal>
         Endpoint::QuotaUsage => Ok(asks(AskCommand::QuotaUsage(target.name.clone()?))),
         Endpoint::Pools => Ok(administers(AdminCommand::ListPools)),
         Endpoint::Pool => Ok(tells(target.name.clone()?, NodeCommand::ReadPool)),
-        Endpoint::PoolNodes => Ok(tells(target.name.clone()?, NodeCommand::ListNodes)),
         Endpoint::Policy => Ok(administers(AdminCommand::ReadPolicy(target.name.clone()?))),
         _ => Err(Refusal::NotServed),
     }
@@ -114,9 +113,6 @@ fn write(alloc: Global, target: &Target<'_>) -> Result<Wanted, Refusal>
             IdKind::Allocation,
             &target.name,
         )))),
-        Endpoint::Node => put_node(alloc, request, &target.name, &target.node),
-        Endpoint::NodeStatus => put_status(alloc, request, &target.name, &target.node),
-        Endpoint::NodeEligibility => put_eligibility(alloc, request, &target.name, &target.node),
         Endpoint::Policy => put_policy(alloc, request, &target.name),
         Endpoint::NewToken => create_token(alloc, request),
         _ => Err(Refusal::NotServed),
@@ -133,12 +129,6 @@ fn delete(alloc: Global, target: &Target<'_>) -> Result<Wanted, Refusal>
         Endpoint::Namespace => administers(AdminCommand::DeleteNamespace(target.name.clone()?)),
         Endpoint::Quota => administers(AdminCommand::DeleteQuota(target.name.clone()?)),
         Endpoint::Pool => administers(AdminCommand::DeletePool(target.name.clone()?)),
-        Endpoint::Node => {
-            tells(
-                target.name.clone()?,
-                NodeCommand::DeleteNode(target.node.clone()?),
-            )
-        }
         Endpoint::Policy => administers(AdminCommand::DeletePolicy(target.name.clone()?)),
         Endpoint::Token => {
             let accessor = canonical(alloc, target.name.as_str())?;
