@@ -94,7 +94,8 @@ module _ (w w' : World) (ns : Name) (t u : Tenant) (within : is_past_bound w ≡
     unfolding stamp_tenant
     seen shown = past_is ∙ ap (λ b. is_tenant_past_bound (cond b (stamped (t.index + 1) t u) u)) shown
         ∙ (λ i. nat_lt greatest (t.index + 1) || nat_lt greatest (evaluation i) || nat_lt greatest (allocation i))
-        ∙ (λ i. nat_lt greatest (t.index + 1) || right_none (nat_lt greatest t.index) _ (left_none _ _ own) i || right_none (nat_lt greatest t.index || nat_lt greatest t.evaluation_number) (nat_lt greatest t.allocation_number) own i)
+        ∙ (λ i. nat_lt greatest (t.index + 1) || right_none (nat_lt greatest t.index) _ (left_none _ _ own) i || right_none
+        (nat_lt greatest t.index || nat_lt greatest t.evaluation_number) (nat_lt greatest t.allocation_number) own i)
         ∙ or_none _ ∙ or_none _
 
 -- ---- one evaluation of a namespace has another row

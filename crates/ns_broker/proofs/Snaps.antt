@@ -84,7 +84,8 @@ pub snap_fits : SnapPassesNothing
 snap_fits number ns w content x within is = tenant (get w.tenants ns) refl
   where
     turn : (t : Tenant) → get w.tenants ns ≡ Some t → (worker : Worker) → get t.workers number ≡ Some worker →
-        (e : Evaluation) → get t.evaluations worker.evaluation ≡ Some e → (b : Bool) → may_snap worker.tries worker.phase ≡ b → is_past_bound (settle w x) ≡ false
+        (e : Evaluation) → get t.evaluations worker.evaluation ≡ Some e → (b : Bool) → may_snap worker.tries worker.phase ≡ b
+        → is_past_bound (settle w x) ≡ false
     turn t at worker has e there false may = not_both (ap is_done (sym (out_of_turn number ns w t at worker has e there may) ∙ is)) refl
     turn t at worker has e there true may = subst (λ x. is_past_bound (settle w x) ≡ false)
         (ap (world_or w) (sym (snap_is number ns w t at worker has e there true may) ∙ is)) (fits number ns w t at worker has e there within)

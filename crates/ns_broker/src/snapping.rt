@@ -96,7 +96,7 @@ pub fn snap(tables: &Tables, live: &Live, number: u64, namespace: &Text) -> Resu
     let Some(worker) = tenant.workers.get(number) else {
         return Err(Refusal::NotEnabled);
     };
-    let Some(row) = tenant.evaluations.get(worker.evaluation) else {
+    let Some(row) = tenant.evaluations.rows().get(worker.evaluation) else {
         return Err(Refusal::NotEnabled);
     };
     if !may_snap(worker) {

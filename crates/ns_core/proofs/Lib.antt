@@ -5,3 +5,4 @@ pub mod Preparing
 pub mod Reading
 pub mod Making
 pub mod Quotas
+pub mod Indexing

@@ -1,12 +1,9 @@
 //! The server as one value, which contracts see as its state.
 
-ghost use Rattle.std.specs.Prelude.{◌≡◌, IfOk, IsTrue, option_copied};
-ghost use Rattle.ns_types.specs.declared.name.NameKind.TheVariants as NameKind;
-ghost use Rattle.ns_types.specs.declared.step.NodeCommand.TheVariants as NodeCommand;
+ghost use Rattle.std.specs.Prelude.{◌≡◌, IfOk, option_copied};
 ghost use Rattle.ns_types.specs.declared.step.Step.TheVariants as Step;
-ghost use Rattle.ns_types.specs.State.Name.{is_name};
 ghost use Rattle.ns_types.specs.Steps.{Makes, opening};
-ghost use Rattle.ns_steps.specs.Served.{IsServedAsk};
+ghost use Rattle.ns_steps.specs.Served.{IsServedAsk, IsServedNode};
 
 use crate::parts::Parts;
 use ns_types::good::{GoodAdmin, GoodAsk, GoodTelling};
@@ -80,7 +77,7 @@ impl Core {
         secret: Option<&Text>,
         command: &GoodTelling,
     ) -> Result<Reply, Refusal>
-        requires { command.now ≡ NodeCommand.ReadPool }
+        requires { IsServedNode command.now }
         ensures { let step = Step.Node pool.now (option_copied secret.entry) command.now in
             Makes step self.old result self.new }
     {

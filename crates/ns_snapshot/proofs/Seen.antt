@@ -1,5 +1,6 @@
 -- What a snapshot has of the slots of tables is what the model's has of the world that they hold.
-use Rattle.std.specs.Prelude.{◌≡◌, ℕ, Bool, true, false, cond, List, [], ◌∷◌, ◌++◌, Option, Some, None, filter, flat_map, fold, is_some, map, option_map, IfOk, Result}
+use Rattle.std.specs.Prelude.{◌≡◌, ℕ, Bool, true, false, cond, List, [], ◌∷◌, ◌++◌}
+use Rattle.std.specs.Prelude.{Option, Some, None, filter, flat_map, fold, is_some, map, option_map, IfOk, Result}
 use Rattle.std.proofs.Common.{refl, sym, ap, subst, ◌∙◌}
 use Rattle.std.specs.FinMap.{empty, entries, find, from_entries, get, get-empty, get-from_entries, get-insert, insert, keys, same_map, values}
 use Rattle.std.specs.Option.{option_and_then, option_map_or, option_or}
@@ -49,7 +50,8 @@ module _ {K X Y : Type 0} (g : K × Option X → List Y) (p : K × X → Bool) (
       by false = refl
 
 pub own_is : (x : TenantRows) (id : Name) (job : Option Job) → flat_map (own_at id job) (entries x.allocations) ≡ own_allocations (tenant_of x) id job
-own_is x id job = flat_shown (own_at id job) (λ a. is_own id job a.1) (λ a. record { number = a.0; row = a.1 }) (λ n. refl) (λ n a. refl) (entries x.allocations)
+own_is x id job = flat_shown (own_at id job) (λ a. is_own id job a.1) (λ a. record { number = a.0; row = a.1 }) (λ n. refl) (λ n a. refl)
+    (entries x.allocations)
     ∙ ap (λ es. map (λ a. record { number = a.0; row = a.1 }) (filter (λ a. is_own id job a.1) es)) (sym (entries-rows x.allocations))
 
 naming_shown : (quota : Name) (slots : List (Name × Option TenantRows)) → flat_map (naming quota) slots
@@ -156,19 +158,24 @@ module _ (t : Tables) where
   look = allocation_at (world_of t)
 
   looked : (ns : Name) (x : TenantRows) (n : ℕ) → row_at t.tenants ns ≡ Some x → look (ns, n) ≡ row_at x.allocations n
-  looked ns x n is = ap (option_and_then (λ (y : Tenant). get y.allocations n)) (tenant_at t ns ∙ ap (option_map tenant_of) is) ∙ get-rows numbers x.allocations n
+  looked ns x n is = ap (option_and_then (λ (y : Tenant). get y.allocations n)) (tenant_at t ns ∙ ap (option_map tenant_of) is)
+      ∙ get-rows numbers x.allocations n
 
   abbrev keys_from : Name → List (ℕ × Option Unit) → List Key
   keys_from ns slots = map (λ n. (ns, n)) (map (λ (e : ℕ × Unit). e.0) (row_list slots))
 
-  numbers_filled : (ns : Name) (x : TenantRows) → row_at t.tenants ns ≡ Some x → (slots : List (ℕ × Option Unit)) (rest : List Key) (m : ByNumber LiveAllocation) →
-      fold add_seen (fold (add_number ns x.allocations) m slots) (map placed (found_at look rest)) ≡ fold add_seen m (map placed (found_at look (keys_from ns slots ++ rest)))
+  numbers_filled : (ns : Name) (x : TenantRows) → row_at t.tenants ns ≡ Some x
+      → (slots : List (ℕ × Option Unit)) (rest : List Key) (m : ByNumber LiveAllocation) →
+      fold add_seen (fold (add_number ns x.allocations) m slots) (map placed (found_at look rest)) ≡ fold add_seen m (map placed (found_at look
+      (keys_from ns slots ++ rest)))
   numbers_filled ns x is [] rest m = refl
   numbers_filled ns x is ((n, None) ∷ slots) rest m = numbers_filled ns x is slots rest m
   numbers_filled ns x is ((n, Some key) ∷ slots) rest m = numbers_filled ns x is slots rest (add_number ns x.allocations m (n, Some key))
-      ∙ by (row_at x.allocations n) ∙ ap (λ r. fold add_seen m (map placed (with_row (ns, n) r (found_at look (keys_from ns slots ++ rest))))) (sym (looked ns x n is))
+      ∙ by (row_at x.allocations n) ∙ ap (λ r. fold add_seen m (map placed (with_row (ns, n) r (found_at look (keys_from ns slots ++ rest))))) (sym
+      (looked ns x n is))
     where
-      by : (r : Option Allocation) → fold add_seen (option_map_or (λ a. add_seen m (seen_row ns n a)) r m) (map placed (found_at look (keys_from ns slots ++ rest)))
+      by : (r : Option Allocation) → fold add_seen (option_map_or (λ a. add_seen m (seen_row ns n a)) r m) (map placed (found_at look
+          (keys_from ns slots ++ rest)))
           ≡ fold add_seen m (map placed (with_row (ns, n) r (found_at look (keys_from ns slots ++ rest))))
       by None = refl
       by (Some a) = refl
@@ -188,7 +195,8 @@ module _ (t : Tables) where
   namespaces_filled ((ns, Some held) ∷ slots) m = namespaces_filled slots (add_namespace t.tenants m (ns, Some held)) ∙ by (row_at t.tenants ns) refl
     where
       by : (r : Option TenantRows) → row_at t.tenants ns ≡ r →
-          fold add_seen (option_map_or (λ x. fold (add_number ns x.allocations) m (entries held)) r m) (map placed (found_at look (flat_map keys_of (row_list slots))))
+          fold add_seen (option_map_or (λ x. fold (add_number ns x.allocations) m (entries held)) r m) (map placed (found_at look (flat_map keys_of
+          (row_list slots))))
           ≡ fold add_seen m (map placed (found_at look (keys_of (ns, held) ++ flat_map keys_of (row_list slots))))
       by None is = ap (λ l. fold add_seen m (map placed l)) (sym (nowhere ns is (keys (rows held)) (flat_map keys_of (row_list slots))))
       by (Some x) is = numbers_filled ns x is (entries held) (flat_map keys_of (row_list slots)) m

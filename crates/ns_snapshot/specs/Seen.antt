@@ -34,7 +34,8 @@ abbrev pub add_seen : {X : Type 0} → ByNumber X → ℕ × X → ByNumber X
 add_seen seen e = if contains_key seen e.0 then seen else insert seen e.0 e.1
 
 -- the row at a number of the index
-abbrev pub add_number : Name → ByNumber (Option Allocation) → ByNumber LiveAllocation → ℕ × Option Unit → ByNumber LiveAllocation
+abbrev pub add_number : Name → ByNumber (Option Allocation) → ByNumber LiveAllocation → ℕ × Option Unit
+    → ByNumber LiveAllocation
 add_number ns allocations seen (n, None) = seen
 add_number ns allocations seen (n, Some key) =
     option_map_or (λ a. add_seen seen (seen_row ns n a)) (row_at allocations n) seen

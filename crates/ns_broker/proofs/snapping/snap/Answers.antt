@@ -9,6 +9,7 @@ use Rattle.ns_types.specs.declared.worker.Worker.{Worker}
 use Rattle.ns_types.specs.Settling.Making.{change_tenant}
 use Rattle.ns_types.specs.Settling.Outcome.{Done, is_done}
 use Rattle.ns_types.specs.Working.Work.{with_snapshot, with_worker}
+use Rattle.keyed.specs.Table.{row_at}
 use Rattle.ns_types.proofs.Named.{numbers}
 use Rattle.ns_broker.specs.Snapping.{kept_at}
 use Rattle.ns_broker.proofs.Snaps.{gone, idle, keeps, no_memory, nowhere, out_of_turn, snaps}
@@ -38,7 +39,8 @@ returns-in_default-get-2 c =
     let at = tenant_at c.args.tables.now ns ∙ ap (option_map tenant_of) (sym c.get.ensures ∙ ap option_copied c.in-Some.is) in
     let worker = c.in-Some-get.worker.now in
     let has = get-rows numbers c.in-Some.tenant.now.workers number ∙ sym c.get-2.ensures ∙ ap option_copied c.in-Some-get.is in
-    gone number ns w t at worker has (get-rows numbers c.in-Some.tenant.now.evaluations worker.evaluation ∙ sym c.get-3.ensures
+    gone number ns w t at worker has (get-rows numbers c.in-Some.tenant.now.evaluations.slots worker.evaluation ∙ sym (c.get-3.ensures
+    ∙ ap (λ m. row_at m worker.evaluation) c.rows.ensures)
     ∙ ap option_copied c.in_default-get-2.is)
 
 pub returns-then-not-may_snap : goal.returns-then-not-may_snap
@@ -50,7 +52,8 @@ returns-then-not-may_snap c =
     let at = tenant_at c.args.tables.now ns ∙ ap (option_map tenant_of) (sym c.get.ensures ∙ ap option_copied c.in-Some.is) in
     let worker = c.in-Some-get.worker.now in
     let has = get-rows numbers c.in-Some.tenant.now.workers number ∙ sym c.get-2.ensures ∙ ap option_copied c.in-Some-get.is in
-    let there = get-rows numbers c.in-Some.tenant.now.evaluations worker.evaluation ∙ sym c.get-3.ensures ∙ ap option_copied c.in-Some-get-2.is in
+    let there = get-rows numbers c.in-Some.tenant.now.evaluations.slots worker.evaluation ∙ sym (c.get-3.ensures
+    ∙ ap (λ m. row_at m worker.evaluation) c.rows.ensures) ∙ ap option_copied c.in-Some-get-2.is in
     out_of_turn number ns w t at worker has c.in-Some-get-2.row.now there (sym c.may_snap.ensures ∙ c.if-not-may_snap.true)
 
 pub look-requires-clause-fits : goal.look-requires-clause-fits
@@ -69,9 +72,11 @@ returns-in_err-snapshot c =
     let at = tenant_at c.args.tables.now ns ∙ ap (option_map tenant_of) (sym c.get.ensures ∙ ap option_copied c.in-Some.is) in
     let worker = c.in-Some-get.worker.now in
     let has = get-rows numbers c.in-Some.tenant.now.workers number ∙ sym c.get-2.ensures ∙ ap option_copied c.in-Some-get.is in
-    let there = get-rows numbers c.in-Some.tenant.now.evaluations worker.evaluation ∙ sym c.get-3.ensures ∙ ap option_copied c.in-Some-get-2.is in
+    let there = get-rows numbers c.in-Some.tenant.now.evaluations.slots worker.evaluation ∙ sym (c.get-3.ensures
+    ∙ ap (λ m. row_at m worker.evaluation) c.rows.ensures) ∙ ap option_copied c.in-Some-get-2.is in
     let p = err_from_is_err_and c.from_residual.result c.from_residual.ensures.1 in
-    no_memory number ns c.args.tables.now c.from_residual.result (p.1 ∙ ap Err p.2) (ap is_done (snaps number ns w t at worker has c.in-Some-get-2.row.now there (sym c.may_snap.ensures ∙ c.if-not-may_snap.false)))
+    no_memory number ns c.args.tables.now c.from_residual.result (p.1
+    ∙ ap Err p.2) (ap is_done (snaps number ns w t at worker has c.in-Some-get-2.row.now there (sym c.may_snap.ensures ∙ c.if-not-may_snap.false)))
 
 pub returns-in_err-share : goal.returns-in_err-share
 returns-in_err-share c =
@@ -82,9 +87,11 @@ returns-in_err-share c =
     let at = tenant_at c.args.tables.now ns ∙ ap (option_map tenant_of) (sym c.get.ensures ∙ ap option_copied c.in-Some.is) in
     let worker = c.in-Some-get.worker.now in
     let has = get-rows numbers c.in-Some.tenant.now.workers number ∙ sym c.get-2.ensures ∙ ap option_copied c.in-Some-get.is in
-    let there = get-rows numbers c.in-Some.tenant.now.evaluations worker.evaluation ∙ sym c.get-3.ensures ∙ ap option_copied c.in-Some-get-2.is in
+    let there = get-rows numbers c.in-Some.tenant.now.evaluations.slots worker.evaluation ∙ sym (c.get-3.ensures
+    ∙ ap (λ m. row_at m worker.evaluation) c.rows.ensures) ∙ ap option_copied c.in-Some-get-2.is in
     let p = err_from_is_err_and c.from_residual-in_err-share.result c.from_residual-in_err-share.ensures.1 in
-    no_memory number ns c.args.tables.now c.from_residual-in_err-share.result (p.1 ∙ ap Err p.2) (ap is_done (snaps number ns w t at worker has c.in-Some-get-2.row.now there (sym c.may_snap.ensures ∙ c.if-not-may_snap.false)))
+    no_memory number ns c.args.tables.now c.from_residual-in_err-share.result (p.1
+    ∙ ap Err p.2) (ap is_done (snaps number ns w t at worker has c.in-Some-get-2.row.now there (sym c.may_snap.ensures ∙ c.if-not-may_snap.false)))
 
 pub returns-in_err-change : goal.returns-in_err-change
 returns-in_err-change c =
@@ -95,9 +102,11 @@ returns-in_err-change c =
     let at = tenant_at c.args.tables.now ns ∙ ap (option_map tenant_of) (sym c.get.ensures ∙ ap option_copied c.in-Some.is) in
     let worker = c.in-Some-get.worker.now in
     let has = get-rows numbers c.in-Some.tenant.now.workers number ∙ sym c.get-2.ensures ∙ ap option_copied c.in-Some-get.is in
-    let there = get-rows numbers c.in-Some.tenant.now.evaluations worker.evaluation ∙ sym c.get-3.ensures ∙ ap option_copied c.in-Some-get-2.is in
+    let there = get-rows numbers c.in-Some.tenant.now.evaluations.slots worker.evaluation ∙ sym (c.get-3.ensures
+    ∙ ap (λ m. row_at m worker.evaluation) c.rows.ensures) ∙ ap option_copied c.in-Some-get-2.is in
     let p = err_from_is_err_and c.from_residual-in_err-change.result c.from_residual-in_err-change.ensures.1 in
-    no_memory number ns c.args.tables.now c.from_residual-in_err-change.result (p.1 ∙ ap Err p.2) (ap is_done (snaps number ns w t at worker has c.in-Some-get-2.row.now there (sym c.may_snap.ensures ∙ c.if-not-may_snap.false)))
+    no_memory number ns c.args.tables.now c.from_residual-in_err-change.result (p.1
+    ∙ ap Err p.2) (ap is_done (snaps number ns w t at worker has c.in-Some-get-2.row.now there (sym c.may_snap.ensures ∙ c.if-not-may_snap.false)))
 
 pub returns : goal.returns
 returns c =
@@ -108,9 +117,11 @@ returns c =
     let at = tenant_at c.args.tables.now ns ∙ ap (option_map tenant_of) (sym c.get.ensures ∙ ap option_copied c.in-Some.is) in
     let worker = c.in-Some-get.worker.now in
     let has = get-rows numbers c.in-Some.tenant.now.workers number ∙ sym c.get-2.ensures ∙ ap option_copied c.in-Some-get.is in
-    let there = get-rows numbers c.in-Some.tenant.now.evaluations worker.evaluation ∙ sym c.get-3.ensures ∙ ap option_copied c.in-Some-get-2.is in
+    let there = get-rows numbers c.in-Some.tenant.now.evaluations.slots worker.evaluation ∙ sym (c.get-3.ensures
+    ∙ ap (λ m. row_at m worker.evaluation) c.rows.ensures) ∙ ap option_copied c.in-Some-get-2.is in
     let left = c.in_ok-change.ensures ∙ ap (λ (x : Worker). change_tenant ns (with_worker number x) w)
     (c.with_snapshot.ensures ∙ ap (λ (s : Snapshot). with_snapshot s worker) (c.in_ok-share.ensures ∙ c.in_ok-snapshot.ensures)) in (
-      snaps number ns w t at worker has c.in-Some-get-2.row.now there (sym c.may_snap.ensures ∙ c.if-not-may_snap.false) ∙ ap (Done (Content.Snapped worker.evaluation)) (sym left),
+      snaps number ns w t at worker has c.in-Some-get-2.row.now there (sym c.may_snap.ensures ∙ c.if-not-may_snap.false)
+          ∙ ap (Done (Content.Snapped worker.evaluation)) (sym left),
       ap (λ x. kept_at x number ns) left ∙ keeps number ns w t at _ ∙ ap Some (sym c.in_ok-snapshot.ensures),
     )

@@ -18,12 +18,12 @@ use Rattle.ns_core.proofs.parts.Parts.admin.Goals.{in-PutQuota+in_ok-content-in-
 use Rattle.ns_core.proofs.parts.Parts.admin.Goals.{in_default-via-in-PutQuota+else-is_relimited, in_default-via-in_default}
 use Rattle.ns_core.proofs.parts.Parts.admin.Goals as goal
 
-pub returns-then-not-may_administer : goal.returns-then-not-may_administer
-returns-then-not-may_administer c = denied (Step.Admin (option_copied c.args.secret) c.args.command.now) (state_of c.args.self.now)
+pub returns-then-not-may_administer-clause-made : goal.returns-then-not-may_administer-clause-made
+returns-then-not-may_administer-clause-made c = denied (Step.Admin (option_copied c.args.secret) c.args.command.now) (state_of c.args.self.now)
     (sym c.may_administer.ensures ∙ c.if-not-may_administer.true)
 
-pub returns-in_err-content-in-PutQuota : goal.returns-in_err-content-in-PutQuota
-returns-in_err-content-in-PutQuota c =
+pub returns-in_err-content-in-PutQuota-clause-made : goal.returns-in_err-content-in-PutQuota-clause-made
+returns-in_err-content-in-PutQuota-clause-made c =
     let p = err_from_is_err_and c.from_residual.result c.from_residual.ensures.1 in
     let refusal : Refusal = c.in_err-content-in-PutQuota.field-0.0 in
     rw (p.1, p.2) (subst (λ (command : AdminCommand). MakesStep (Step.Admin (option_copied c.args.secret) command) c.args.self.now (Err refusal)
@@ -33,8 +33,8 @@ returns-in_err-content-in-PutQuota c =
     sym c.may_administer.ensures ∙ c.if-not-may_administer.false)
     (sym c.is_relimited.ensures ∙ c.if-is_relimited.true) c.in_err-content-in-PutQuota.ensures.acl refusal c.in_err-content-in-PutQuota.ensures.made))
 
-pub returns-in_err-content-in_default : goal.returns-in_err-content-in_default
-returns-in_err-content-in_default c =
+pub returns-in_err-content-in_default-clause-made : goal.returns-in_err-content-in_default-clause-made
+returns-in_err-content-in_default-clause-made c =
     let s = state_of c.args.self.now in
     let p = err_from_is_err_and c.from_residual-in_err-content-in_default.result c.from_residual-in_err-content-in_default.ensures.1 in
     rw (p.1, p.2) (administration_makes s (state_of c.administer.new.self) (option_copied c.args.secret) c.args.command.now
@@ -44,10 +44,10 @@ returns-in_err-content-in_default c =
           (sym w.is_relimited.ensures ∙ w.if-is_relimited.false)
       | in_default-via-in_default w ↦ limits_stay (world_of c.args.self.now) c.args.command.now w.in_default.not-PutQuota
     ])
-    c.in_err-content-in_default.ensures)
+    c.in_err-content-in_default.ensures.made)
 
-pub returns : goal.returns
-returns c =
+pub returns-clause-made : goal.returns-clause-made
+returns-clause-made c =
     let s = state_of c.args.self.now in
     let step = Step.Admin (option_copied c.args.secret) c.args.command.now in
     elim c.match-command.branch [
@@ -66,7 +66,7 @@ returns c =
                 (sym v.is_relimited.ensures ∙ v.if-is_relimited.false)
             | in_default-via-in_default v ↦ limits_stay (world_of c.args.self.now) c.args.command.now v.in_default.not-PutQuota
           ])
-          w.in_ok-content-in_default.ensures
+          w.in_ok-content-in_default.ensures.made
           ∙ (λ i. said (Ok (record { index = None; content = sym w.content-is i })) (state_of (sym w.self-is i)))
           ∙ ap (λ reply. said (Ok reply) (state_of c.match-command.self)) (sym c.plain.ensures)
     ]

@@ -5,6 +5,6 @@ use Rattle.ns_core.specs.Viewed.{state_of}
 use Rattle.ns_core.proofs.Making.{denied}
 use Rattle.ns_core.proofs.parts.Parts.ask.Goals as goal
 
-pub returns-then-not-may_ask : goal.returns-then-not-may_ask
-returns-then-not-may_ask c = denied (Step.Ask c.args.namespace.now (option_copied c.args.secret) c.args.command.now) (state_of c.args.self.now)
+pub returns-then-not-may_ask-clause-made : goal.returns-then-not-may_ask-clause-made
+returns-then-not-may_ask-clause-made c = denied (Step.Ask c.args.namespace.now (option_copied c.args.secret) c.args.command.now) (state_of c.args.self.now)
     (sym c.may_ask.ensures ∙ c.if-not-may_ask.true)

@@ -6,16 +6,16 @@ use Rattle.ns_core.specs.Answering.{PreparesStep}
 use Rattle.ns_core.specs.Viewed.{state_of, world_of}
 use Rattle.ns_core.proofs.parts.Parts.make.Goals as goal
 
-pub returns-in-Err : goal.returns-in-Err
-returns-in-Err c = λ step allowed prepares.
+pub returns-in-Err-clause-made : goal.returns-in-Err-clause-made
+returns-in-Err-clause-made c = λ step allowed prepares.
     let x = c.in_ok-content.field-0 in
     makes step (state_of c.args.self.now) allowed x.content (view c.args.self.now.tables x.change)
     (subst (PreparesStep step c.args.self.now) c.in_ok-content.was prepares) {A = Unit {0}} (Err c.in-Err.refusal)
-    (world_of (record c.args.self.now { tables = c.conclude.new.tables })) c.in-Err.ensures
+    (world_of (record c.args.self.now { tables = c.conclude.new.tables })) c.in-Err.ensures.world
 
-pub returns : goal.returns
-returns c = λ step allowed prepares.
+pub returns-clause-made : goal.returns-clause-made
+returns-clause-made c = λ step allowed prepares.
     let x = c.in_ok-content.field-0 in
     makes step (state_of c.args.self.now) allowed x.content (view c.args.self.now.tables x.change)
     (subst (PreparesStep step c.args.self.now) c.in_ok-content.was prepares) {A = Unit {0}} (Ok c.in_default.field-0)
-    (world_of (record c.args.self.now { tables = c.conclude.new.tables })) c.in_default.ensures
+    (world_of (record c.args.self.now { tables = c.conclude.new.tables })) c.in_default.ensures.world

@@ -14,12 +14,12 @@ use Rattle.ns_core.proofs.Making.{denied}
 use Rattle.ns_core.proofs.Reading.{pool_reads}
 use Rattle.ns_core.proofs.parts.Parts.node.Goals as goal
 
-pub returns-then-not-may_tell : goal.returns-then-not-may_tell
-returns-then-not-may_tell c = denied (Step.Node c.args.pool.now (option_copied c.args.secret) c.args.command.now) (state_of c.args.self.now)
+pub returns-then-not-may_tell-clause-made : goal.returns-then-not-may_tell-clause-made
+returns-then-not-may_tell-clause-made c = denied (Step.Node c.args.pool.now (option_copied c.args.secret) c.args.command.now) (state_of c.args.self.now)
     (sym c.may_tell.ensures ∙ c.if-not-may_tell.true)
 
-pub returns-in_err-content-in-ReadPool : goal.returns-in_err-content-in-ReadPool
-returns-in_err-content-in-ReadPool c =
+pub returns-in_err-content-in-ReadPool-clause-made : goal.returns-in_err-content-in-ReadPool-clause-made
+returns-in_err-content-in-ReadPool-clause-made c =
     let rights = pool_rights_of c.args.self.now.acl (option_copied c.args.secret) c.args.pool.now in
     let refusal : Refusal = c.in_err-content-in-ReadPool.field-0.0 in
     let p = err_from_is_err_and c.from_residual.result c.from_residual.ensures.1 in
@@ -29,8 +29,8 @@ returns-in_err-content-in-ReadPool c =
     (ap (λ command. pool_right_of command rights) (sym c.requires.reads) ∙ (sym c.may_tell.ensures ∙ c.if-not-may_tell.false))
     (Err refusal) c.in_err-content-in-ReadPool.ensures))
 
-pub returns : goal.returns
-returns c =
+pub returns-clause-made : goal.returns-clause-made
+returns-clause-made c =
     let rights = pool_rights_of c.args.self.now.acl (option_copied c.args.secret) c.args.pool.now in
     ap (λ command. after (Step.Node c.args.pool.now (option_copied c.args.secret) command) (state_of c.args.self.now)) c.requires.reads
     ∙ pool_reads (state_of c.args.self.now) c.args.pool.now (option_copied c.args.secret) NodeCommand.ReadPool c.requires.held refl refl

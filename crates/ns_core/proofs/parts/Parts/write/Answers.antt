@@ -10,13 +10,13 @@ use Rattle.ns_core.proofs.parts.Parts.write.Goals as goal
 pub make-requires : goal.make-requires
 make-requires c = within (state_of c.args.self.now) c.requires.held
 
-pub returns : goal.returns
-returns c = λ secret allowed. c.in_ok-content.ensures (Step.Ask c.args.namespace.now secret c.args.command.now) allowed
+pub returns-clause-made : goal.returns-clause-made
+returns-clause-made c = λ secret allowed. c.in_ok-content.ensures.made (Step.Ask c.args.namespace.now secret c.args.command.now) allowed
     (c.prepare-prepared.ensures secret allowed)
     ∙ ap (λ reply. said (Ok reply) (state_of c.make.new.self)) (sym c.reply.ensures)
 
-pub returns-in_err-content : goal.returns-in_err-content
-returns-in_err-content c = λ secret allowed.
+pub returns-in_err-content-clause-made : goal.returns-in_err-content-clause-made
+returns-in_err-content-clause-made c = λ secret allowed.
     let p = err_from_is_err_and c.from_residual.result c.from_residual.ensures.1 in
-    rw (p.1, p.2) (c.in_err-content.ensures (Step.Ask c.args.namespace.now secret c.args.command.now) allowed
+    rw (p.1, p.2) (c.in_err-content.ensures.made (Step.Ask c.args.namespace.now secret c.args.command.now) allowed
     (c.prepare-prepared.ensures secret allowed))

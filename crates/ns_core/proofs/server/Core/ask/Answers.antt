@@ -7,7 +7,12 @@ use Rattle.ns_core.specs.Viewed.{state_of}
 use Rattle.ns_core.proofs.Keeping.{keeps}
 use Rattle.ns_core.proofs.server.Core.ask.Goals as goal
 
+pub ask-requires-clause-held : goal.ask-requires-clause-held
+ask-requires-clause-held c = c.self.invariant.held
+
 pub invariant_of-self : goal.invariant_of-self
-invariant_of-self c = keeps (Step.Ask c.args.namespace.now (option_copied c.args.secret) c.get.result.now) (state_of c.self.inside.parts)
-    (state_of c.ask.new.self)
-    (subst (λ command. IsTrue (is_good_ask command)) (sym c.get.ensures.same) c.get.ensures.good) refl c.self.invariant c.ask.result c.ask.ensures
+invariant_of-self c = record {
+  held = keeps (Step.Ask c.args.namespace.now (option_copied c.args.secret) c.get.result.now) (state_of c.self.inside.parts) (state_of c.ask.new.self)
+      (subst (λ command. IsTrue (is_good_ask command)) (sym c.get.ensures.same) c.get.ensures.good) refl c.self.invariant.held c.ask.result c.ask.ensures.made;
+  index = c.ask.ensures.index c.self.invariant.index;
+}
