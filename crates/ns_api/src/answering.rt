@@ -19,7 +19,7 @@ use ns_replies::{Room, render};
 use ns_request::Routes;
 use ns_types::refusal::Refusal;
 use ns_types::reply::{Reply, Response};
-use ns_types::step::{AdminCommand, AskCommand, NodeCommand, Step};
+use ns_types::step::{AdminCommand, AskCommand, Step};
 use std::alloc::{AllocError, Global};
 
 /// What takes steps.

@@ -10,7 +10,6 @@ ghost use Rattle.ns_api.specs.Parts.{prefix_in, third_part};
 ghost use Rattle.ns_api.specs.Wanted.{IsServedWanted, Wants};
 
 use crate::documents::{create_token, put_namespace, put_policy, put_pool, put_quota, register};
-use crate::telling::{put_eligibility, put_node, put_status};
 use crate::wanted::{Wanted, administers, asks, asks_in, tells};
 use ns_request::{Endpoint, Method, Target};
 use ns_types::id::{IdKind, id_read};
@@ -63,7 +62,7 @@ fn deregister(alloc: Global, target: &Target<'_>) -> Result<Wanted, Refusal>
     Ok(asks(AskCommand::Deregister(target.name.clone()?, purge)))
 }
 
-#[tactic(auto, unfolding(crate::specs::Asking::asked_of, crate::specs::Asking::ask_of, crate::specs::Asking::admin_of, crate::specs::Parts::bearer_in, crate::specs::Asking::namespace_read, crate::specs::Asking::pool_read, crate::specs::Telling::node_of, crate::specs::Wanted::step_of))]
+#[tactic(auto, unfolding(crate::specs::Asking::asked_of, crate::specs::Asking::ask_of, crate::specs::Asking::admin_of, crate::specs::Parts::bearer_in, crate::specs::Asking::namespace_read, crate::specs::Asking::pool_read, crate::specs::Wanted::step_of))]
 fn read(alloc: Global, target: &Target<'_>) -> Result<Wanted, Refusal>
     ensures wanted { Wants target.now.request result (asked_of target.now.endpoint Method.Get) }
     ensures served { IfOk result IsServedWanted }
@@ -119,7 +118,7 @@ fn write(alloc: Global, target: &Target<'_>) -> Result<Wanted, Refusal>
     }
 }
 
-#[tactic(auto, unfolding(crate::specs::Asking::asked_of, crate::specs::Asking::admin_of, crate::specs::Parts::bearer_in, crate::specs::Telling::node_of, crate::specs::Wanted::step_of))]
+#[tactic(auto, unfolding(crate::specs::Asking::asked_of, crate::specs::Asking::admin_of, crate::specs::Parts::bearer_in, crate::specs::Wanted::step_of))]
 fn delete(alloc: Global, target: &Target<'_>) -> Result<Wanted, Refusal>
     ensures wanted { Wants target.now.request result (asked_of target.now.endpoint Method.Delete) }
     ensures served { IfOk result IsServedWanted }
