@@ -47,7 +47,8 @@ is_worked_on w ns job = option_map_or (λ t. any_row (λ _ worker. is_of_job w n
 
 -- the number of the job's first evaluation that stands so
 abbrev pub first_of_job : World → Name → Name → Status → Option ℕ
-first_of_job w ns job wanted = option_and_then (λ t. first (of_job (stands wanted) job) t.evaluations) (get w.tenants ns)
+first_of_job w ns job wanted = option_and_then (λ t. first (of_job (stands wanted) job) t.evaluations)
+    (get w.tenants ns)
 
 -- those keys go out of the list, whatever it was before the step
 abbrev pub TakesOut : List Key → ListChange → ListChange → Type 0

@@ -130,7 +130,8 @@ module _ {Row A X : Type 0} (seen : Row → A) (change : A → X → A) (Room : 
       (is : es ≡ (k, slot) ∷ rest) (h : Ahead old es all) where
     whole_here : option_map seen (row_at new k) ≡ option_map (perhaps change slot) (option_map seen (row_at old k)) →
         option_map (perhaps change (flat (find name_cmp k rest))) (option_map seen (row_at new k)) ≡ get all k
-    whole_here put = ap (λ r. option_map (perhaps change (flat r)) (option_map seen (row_at new k))) (no_more k slot es rest is h.sorted) ∙ none_changed change (option_map seen (row_at new k))
+    whole_here put = ap (λ r. option_map (perhaps change (flat r)) (option_map seen (row_at new k))) (no_more k slot es rest is h.sorted)
+        ∙ none_changed change (option_map seen (row_at new k))
         ∙ put ∙ ap (λ r. option_map (perhaps change (flat r)) (option_map seen (row_at old k))) (sym (found_here k slot es rest is)) ∙ h.whole k
 
     whole_other : (q : Name) → same_name q k ≡ false → row_at new q ≡ row_at old q →
@@ -153,7 +154,8 @@ module _ {Row A X : Type 0} (seen : Row → A) (change : A → X → A) (Room : 
 
     pub none_done : slot ≡ None → new ≡ old → Ahead new rest all
     none_done none stays = step
-        (ap (λ m. option_map seen (row_at m k)) stays ∙ sym (none_changed change _) ∙ ap (λ s. option_map (perhaps change s) (option_map seen (row_at old k))) (sym
+        (ap (λ m. option_map seen (row_at m k)) stays ∙ sym (none_changed change _)
+        ∙ ap (λ s. option_map (perhaps change s) (option_map seen (row_at old k))) (sym
         none))
         (λ q e. ap (λ m. row_at m q) stays)
 

@@ -190,7 +190,8 @@ not_all_good : (o : Option Name) → IsTrue (option_map_or (is_name NameKind.Poo
 not_all_good None h = refl
 not_all_good (Some s) h = by (bytes_eq s (codes "all")) refl
   where
-    by : (b : Bool) → bytes_eq s (codes "all") ≡ b → Post (if b then Err (BadField Member.NodePool) else Ok (Some s)) (λ p. IsTrue (option_map_or is_pool_name p true))
+    by : (b : Bool) → bytes_eq s (codes "all") ≡ b
+        → Post (if b then Err (BadField Member.NodePool) else Ok (Some s)) (λ p. IsTrue (option_map_or is_pool_name p true))
     by true e = tt
     by false e = rw (h, e) refl
 

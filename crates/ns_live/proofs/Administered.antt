@@ -57,7 +57,8 @@ none_live t none pool node n = by (get t.allocations n) refl
   where
     by : (r : Option Allocation) → get t.allocations n ≡ r → option_map_or (is_live_on pool node) r false ≡ false
     by None at = refl
-    by (Some row) at = ap (λ b. b && (same_name pool row.pool && same_name node row.node)) (none_of_any one_number (λ _ a. is_live a) t.allocations n row none at)
+    by (Some row) at = ap (λ b. b && (same_name pool row.pool && same_name node row.node)) (none_of_any one_number
+        (λ _ a. is_live a) t.allocations n row none at)
 
 -- a new namespace has none
 put_alike : (namespace : Namespace) (old : Option Tenant) (pool node : Name) (n : ℕ) →
@@ -165,8 +166,10 @@ unfolding opening
 empty_right secret live nothing pool node key = nothing pool node key ∙ sym (put_same empty default_name opening_tenant at_first pool node key.0 key.1
     ∙ ap (λ r. lives_in r pool node key.1) (get-empty name_cmp key.0))
   where
-    at_first : (pool node : Name) (n : ℕ) → lives_in (Some opening_tenant) pool node n ≡ lives_in (get (empty {X = Tenant} {R = name_cmp}) default_name) pool node n
-    at_first pool node n = ap (λ r. option_map_or (is_live_on pool node) r false) (get-empty nat_cmp n) ∙ sym (ap (λ r. lives_in r pool node n) (get-empty name_cmp default_name))
+    at_first : (pool node : Name) (n : ℕ)
+        → lives_in (Some opening_tenant) pool node n ≡ lives_in (get (empty {X = Tenant} {R = name_cmp}) default_name) pool node n
+    at_first pool node n = ap (λ r. option_map_or (is_live_on pool node) r false) (get-empty nat_cmp n)
+        ∙ sym (ap (λ r. lives_in r pool node n) (get-empty name_cmp default_name))
 
 -- ---- loads
 

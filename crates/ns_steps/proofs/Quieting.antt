@@ -27,7 +27,8 @@ use Rattle.ns_types.specs.State.Rows.{Acl, PoolRows, State, Tenant, World, alloc
 use Rattle.ns_types.specs.State.Sums.{names_quota}
 use Rattle.ns_types.specs.State.Tables.{map_rows}
 use Rattle.ns_types.specs.Steps.{Answer, act, after, concluded, is_allowed, is_past_bound, reply_of, said}
-use Rattle.ns_types.specs.Working.Work.{at_work, dequeue, dequeue_in, given_back, given_up, is_idle, is_submitted, may_snap, may_submit, most_nacks, nack, nack_for}
+use Rattle.ns_types.specs.Working.Work.{at_work, dequeue, dequeue_in, given_back, given_up, is_idle}
+use Rattle.ns_types.specs.Working.Work.{is_submitted, may_snap, may_submit, most_nacks, nack, nack_for}
 use Rattle.ns_types.specs.Working.Work.{snap, snap_for, submit, submit_for, submitted, with_nack, without_worker, workers_end}
 use Rattle.ns_types.specs.Working.Queue.{is_served}
 use Rattle.ns_types.proofs.Lists.{not_both}

@@ -23,7 +23,8 @@ module _ (t : Tables) where
   evaluation_nowhere ns n is = ap (option_and_then (λ t. get t.evaluations n)) (tenant_at ns ∙ ap (option_map tenant_of) is)
 
   pub evaluation_there : (ns : Name) (n : ℕ) (x : TenantRows) → row_at t.tenants ns ≡ Some x → evaluation_at (world_of t) (ns, n) ≡ row_at x.evaluations.slots n
-  evaluation_there ns n x is = ap (option_and_then (λ t. get t.evaluations n)) (tenant_at ns ∙ ap (option_map tenant_of) is) ∙ get-rows numbers x.evaluations.slots n
+  evaluation_there ns n x is = ap (option_and_then (λ t. get t.evaluations n)) (tenant_at ns ∙ ap (option_map tenant_of) is)
+      ∙ get-rows numbers x.evaluations.slots n
 
   pub pool_at : (name : Name) → get (world_of t).pools name ≡ option_map pool_of (row_at t.pools name)
   unfolding world_of

@@ -20,7 +20,8 @@ pub returns-in-Some-clause-complete : goal.returns-in-Some-clause-complete
 returns-in-Some-clause-complete c n e row of left =
     let here = is_left_in c.args.tables.now c.args.change.now c.args.base.now.items c.args.taken.now c.args.namespace.now c.args.job.now in
     c.is_among_left.ensures ∙ in_slots here c.as_slice-slots.result.now n
-    (ap (λ es. is_some (find nat_cmp n es)) c.as_slice-slots.ensures ∙ ap is_some (sym (get-entries c.in-Some.numbers.now n)) ∙ has_slot_of c.in-Some.numbers.now n
+    (ap (λ es. is_some (find nat_cmp n es)) c.as_slice-slots.ensures ∙ ap is_some (sym (get-entries c.in-Some.numbers.now n))
+    ∙ has_slot_of c.in-Some.numbers.now n
     (subst (λ r. IsTrue (option_map_or (λ m. holds_number m n) r false)) (ap option_copied c.in-Some.is) (c.numbers_of.ensures n e row of))) left
 
 pub returns-in-None-clause-complete : goal.returns-in-None-clause-complete

@@ -22,7 +22,7 @@ returns c =
     let allocations = λ (l : List (ℕ × Option Allocation)). map (λ (e : ℕ × Option Allocation). at (Topic.AllocationUpdated e.0))
     (filter (at_slot (λ e. changes_allocation t e.0 e.1)) l) in
     c.in_ok-tell_rows-2.ensures ∙ (λ i. (c.in_ok-tell_rows.ensures ∙
-    (λ j. (c.in_ok-tell_jobs.ensures ∙ (λ k. c.new-events.ensures k ++ jobs (c.as_slice.ensures k))) j 
+    (λ j. (c.in_ok-tell_jobs.ensures ∙ (λ k. c.new-events.ensures k ++ jobs (c.as_slice.ensures k))) j
     ++ told c.args.index (topic_at evaluations_shown) (changes_slot evaluations_shown (rows (c.rows.ensures j))) (c.as_slice-2.ensures j))) i
     ++ allocations (c.as_slice-3.ensures i))
     ∙ three at (λ (e : Name × Option Job). row_topic e.0 e.1) (λ (e : ℕ × Option Evaluation). Topic.EvaluationUpdated e.0)

@@ -5,7 +5,8 @@ use Rattle.ns_world.proofs.World.{evaluation_nowhere, evaluation_there}
 use Rattle.ns_world.proofs.tables.Tables.evaluation.Goals as goal
 
 pub returns-in-Some : goal.returns-in-Some
-returns-in-Some c = c.get-in-Some.ensures ∙ ap (λ m. row_at m c.args.number) c.rows.ensures ∙ sym (evaluation_there c.args.self.now c.args.namespace.now c.args.number c.in-Some.tenant.now
+returns-in-Some c = c.get-in-Some.ensures ∙ ap (λ m. row_at m c.args.number) c.rows.ensures
+    ∙ sym (evaluation_there c.args.self.now c.args.namespace.now c.args.number c.in-Some.tenant.now
     (sym c.get.ensures ∙ ap option_copied c.in-Some.is))
 
 pub returns-in-None : goal.returns-in-None
