@@ -26,20 +26,10 @@ use Rattle.ns_types.proofs.TableRows.{any_row-put}
 use Rattle.ns_types.proofs.Tables.{any_row-none, none_of_any}
 use Rattle.ns_types.proofs.Tests.{not_Some, or_none}
 use Rattle.ns_broker.proofs.Dequeued.{nothing_there, stays_out, taken_out}
-use Rattle.ns_broker.specs.Bounded.{DequeuePassesNothing, bounded, cannot_fail, is_failed, is_last_index}
+use Rattle.ns_broker.specs.Bounded.{DequeuePassesNothing, cannot_fail, is_failed, is_last_index}
 use Rattle.ns_broker.specs.Nacking.{failed, left, nacked, put_away, put_back}
 use Rattle.ns_broker.specs.Serving.{may_dequeue, take}
 use Rattle.ns_change.specs.Changed.{put_evaluation, without_ready}
-
--- ---- what is done, within the bound or past it
-
-pub stays_done : (w : World) (outcome : Outcome World) (content : Content) (x : World) → outcome ≡ Done content x → is_past_bound (settle w x) ≡ false →
-    bounded w outcome ≡ Done content x
-stays_done w outcome content x is within = ap (bounded w) is ∙ ap (λ b. cond b (Refused Refusal.Full) (Done content x)) within
-
-pub is_refused : (w : World) (outcome : Outcome World) (content : Content) (x : World) → outcome ≡ Done content x → is_past_bound (settle w x) ≡ true →
-    bounded w outcome ≡ Refused Refusal.Full
-is_refused w outcome content x is past = ap (bounded w) is ∙ ap (λ b. cond b (Refused Refusal.Full) (Done content x)) past
 
 -- ---- promoting changes the list of ready evaluations alone
 

@@ -1,22 +1,16 @@
 -- What a counter's bound makes of a step.
-use Rattle.std.specs.Prelude.{◌≡◌, ℕ, ◌+◌, Bool, true, false, not, ◌&&◌, if◌then◌else◌, nat_lt}
+use Rattle.std.specs.Prelude.{◌≡◌, ℕ, ◌+◌, Bool, true, false, not, ◌&&◌, nat_lt}
 use Rattle.std.specs.Option.{option_map_or}
 use Rattle.std.specs.FinMap.{get}
 use Rattle.ns_types.specs.declared.evaluation.Evaluation.{Evaluation}
 use Rattle.ns_types.specs.declared.evaluation.Status.{Status}
-use Rattle.ns_types.specs.declared.refusal.Refusal.TheVariants as Refusal
 use Rattle.ns_types.specs.declared.reply.Content.{Content}
-use Rattle.ns_types.specs.Settling.Outcome.{Outcome, Refused, Done}
+use Rattle.ns_types.specs.Settling.Outcome.{Outcome, Done}
 use Rattle.ns_types.specs.Settling.Settle.{settle}
 use Rattle.ns_types.specs.State.Names.{Key, Name}
 use Rattle.ns_types.specs.State.Rows.{World}
 use Rattle.ns_types.specs.Steps.{greatest, is_past_bound}
 use Rattle.ns_types.specs.Working.Work.{dequeue, snap}
-
--- where a counter would have passed its bound once the step has settled, what would be done is refused
-abbrev pub bounded : World → Outcome World → Outcome World
-bounded w (Done content w') = if is_past_bound (settle w w') then Refused Refusal.Full else Done content w'
-bounded w outcome = outcome
 
 -- the namespace's next index would pass its bound
 abbrev pub is_last_index : World → Name → Bool

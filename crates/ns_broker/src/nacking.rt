@@ -6,10 +6,10 @@ ghost use Rattle.ns_types.specs.declared.reply.Content.TheVariants as Content;
 ghost use Rattle.ns_types.specs.Settling.Outcome.{Done};
 ghost use Rattle.ns_types.specs.Steps.{is_past_bound};
 ghost use Rattle.ns_types.specs.Working.Work.{is_submitted, nack};
-ghost use Rattle.ns_broker.specs.Bounded.{bounded, cannot_fail, is_failed, is_last_index};
+ghost use Rattle.ns_broker.specs.Bounded.{cannot_fail, is_failed, is_last_index};
 ghost use Rattle.ns_broker.specs.Nacking.{HasNackLeft, left, put_away, put_back};
 ghost use Rattle.ns_change.specs.Changed.{Does, DoesIn};
-ghost use Rattle.ns_change.specs.Prepared.{Prepares};
+ghost use Rattle.ns_change.specs.Prepared.{Prepares, bounded};
 ghost use Rattle.ns_world.specs.World.{world_of};
 
 use crate::looking::worker_at;

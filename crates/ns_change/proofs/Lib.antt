@@ -1,8 +1,10 @@
 pub mod Any
+pub mod Bounded
 pub mod Candidates
 pub mod Gone
 pub mod Listed
 pub mod Lost
+pub mod Making
 pub mod Nothing
 pub mod NumberedRows
 pub mod Opening

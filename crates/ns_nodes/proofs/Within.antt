@@ -14,7 +14,7 @@ use Rattle.ns_types.specs.Settling.Outcome.{Outcome, Done, Refused}
 use Rattle.ns_types.specs.Settling.Releases.{same_offer}
 use Rattle.ns_types.specs.Settling.Settle.{settle}
 use Rattle.ns_types.specs.State.Names.{Name}
-use Rattle.ns_types.specs.State.Rows.{World, PoolRows, class_of, is_free, node_at}
+use Rattle.ns_types.specs.State.Rows.{World, PoolRows, class_of, is_free, node_at, offered_class}
 use Rattle.ns_types.specs.State.Tables.{any_row}
 use Rattle.ns_types.specs.Steps.{greatest, is_past_bound, is_pool_past_bound, is_tenant_past_bound}
 use Rattle.ns_types.proofs.Alike.{same_offer_refl}
@@ -22,7 +22,7 @@ use Rattle.ns_types.proofs.Lists.{left_none, not_both, right_none}
 use Rattle.ns_types.proofs.Named.{one_name}
 use Rattle.ns_types.proofs.Tables.{none_of_any}
 use Rattle.ns_change.specs.Changed.{change_pool, without_node}
-use Rattle.ns_nodes.specs.Bounded.{bounded, done_within}
+use Rattle.ns_nodes.specs.Registering.{gives_room}
 use Rattle.ns_settle.specs.Released.{gives_itself}
 use Rattle.ns_settle.specs.Room.{given_room_passes}
 use Rattle.ns_settle.proofs.GivenRoom.{gone_past, put_past}
@@ -30,19 +30,6 @@ use Rattle.ns_world.specs.declared.tables.PoolRows.{PoolRows as StoredPool}
 use Rattle.ns_world.specs.declared.tables.Tables.{Tables}
 use Rattle.ns_world.specs.World.{pool_of, world_of}
 use Rattle.ns_world.proofs.World.{pool_at}
-
--- ---- outcomes
-
-module _ (w : World) (o : Outcome World) where
-  pub still_refused : (refusal : Refusal) → o ≡ Refused refusal → bounded w o ≡ Refused refusal
-  still_refused refusal is = ap (bounded w) is
-
-  module _ (content : Content) (x : World) (is : o ≡ Done content x) where
-    pub refused_full : is_past_bound (settle w x) ≡ true → bounded w o ≡ Refused Refusal.Full
-    refused_full past = ap (bounded w) is ∙ ap (λ b. done_within b content x) past
-
-    pub done_still : is_past_bound (settle w x) ≡ false → bounded w o ≡ Done content x
-    done_still within = ap (bounded w) is ∙ ap (λ b. done_within b content x) within
 
 -- ---- numbers of places
 
@@ -57,6 +44,30 @@ module _ (w : World) (within : is_past_bound w ≡ false) (pool name : Name) whe
       nat_lt greatest (with_offer offer old).places ≡ false
   offer_places p at offer None is = refl
   offer_places p at offer (Some node) is = places_in p at node is
+
+-- ---- a node that registers
+
+module _ (t : Tables) (pool name : Name) (within : is_past_bound (world_of t) ≡ false) (x : StoredPool) (at : row_at t.pools pool ≡ Some x)
+    (offer : Offer) where
+  pub registering_past : (old : Option Node) → get (pool_of x).nodes name ≡ old →
+      is_past_bound (settle (world_of t) (change_pool pool (with_node name (with_offer offer old)) (world_of t))) ≡
+      (gives_room offer old && given_room_passes (world_of t) (pool, offered_class offer))
+  registering_past old is = put_past t pool name x at within (with_offer offer old)
+      (offer_places (world_of t) within pool name (pool_of x) (pool_at t pool ∙ ap (option_map pool_of) at) offer old is)
+      ∙ by old is
+    where
+      twice : (a b : Bool) → (a && (not a || b)) ≡ (a && b)
+      twice true b = refl
+      twice false b = refl
+
+      by : (old : Option Node) → get (pool_of x).nodes name ≡ old →
+          (gives_itself (pool_of x) name (with_offer offer old) && given_room_passes (world_of t) (pool, class_of (with_offer offer old))) ≡
+          (gives_room offer old && given_room_passes (world_of t) (pool, offered_class offer))
+      by None is = ap (λ o. option_map_or (λ (old : Node). not (is_free old) || not (same_offer old.offer offer)) o true
+          && given_room_passes (world_of t) (pool, offered_class offer)) is
+      by (Some node) is = ap (λ o. (is_free node && option_map_or (λ (old : Node). not (is_free old) || not (same_offer old.offer offer)) o true)
+          && given_room_passes (world_of t) (pool, offered_class offer)) is
+          ∙ ap (λ b. b && given_room_passes (world_of t) (pool, offered_class offer)) (twice (is_free node) (not (same_offer node.offer offer)))
 
 -- ---- a node that is there
 
@@ -84,7 +95,7 @@ module _ (t : Tables) (pool name : Name) (within : is_past_bound (world_of t) �
       ∙ (λ i. gives x row i && given_room_passes w (pool, class i)))
     where
       class : class_of new ≡ class_of node
-      class i = record { name = (offer i).class; attributes = (class_of (record node { offer = offer i })).attributes }
+      class i = offered_class (offer i)
 
       or_none : (b : Bool) → (b || false) ≡ b
       or_none true = refl

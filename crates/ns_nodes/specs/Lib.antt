@@ -1,3 +1,3 @@
-pub mod Bounded
 pub mod Idle
 pub mod Listed
+pub mod Registering

@@ -1,39 +1,40 @@
 //! Whether a counter passes its bound once a step on one node has settled. It takes no memory, so that this is judged
 //! before anything that does.
 
-ghost use Rattle.std.specs.Prelude.{◌≡◌, ◌&&◌, Some, false, nat_lt, not};
-ghost use Rattle.keyed.specs.Table.{row_at};
-ghost use Rattle.ns_types.specs.Settling.Making.{with_node};
-ghost use Rattle.ns_types.specs.Settling.Settle.{settle};
-ghost use Rattle.ns_types.specs.State.Rows.{class_of, is_free, is_ready};
-ghost use Rattle.ns_types.specs.Steps.{greatest, is_past_bound};
-ghost use Rattle.ns_change.specs.Changed.{change_pool};
+ghost use Rattle.std.specs.Prelude.{◌≡◌, ◌&&◌, not, option_copied};
+ghost use Rattle.ns_types.specs.State.Rows.{class_of, is_free, is_ready, offered_class};
+ghost use Rattle.ns_nodes.specs.Registering.{gives_room};
 ghost use Rattle.ns_settle.specs.Room.{given_room_passes};
 ghost use Rattle.ns_world.specs.World.{world_of};
 
 use crate::removed::is_ready;
-use ns_alike::is_free;
-use ns_settle::{given_room_passes, gives_itself};
-use ns_types::node::{Node, NodeStatus};
+use ns_alike::{is_free, same_offer};
+use ns_settle::given_room_passes;
+use ns_types::node::{Node, NodeStatus, Offer};
 use ns_types::text::Text;
-use ns_world::{PoolRows, Tables};
+use ns_world::Tables;
 
-/// Whether a counter passes its bound by a step that puts this node into its pool.
-#[tactic(auto, using(ns_settle::proofs::GivenRoom::put_past))]
-pub(crate) fn put_passes(
+/// Whether a node gives room by this registration: a new one does, and one that is free where it offers otherwise.
+fn gives_room(offer: &Offer, old: Option<&Node>) -> bool
+    ensures { result ≡ gives_room offer.now (option_copied old.entry) }
+{
+    match old {
+        Some(old) => is_free(old) && !same_offer(&old.offer, offer),
+        None => true,
+    }
+}
+
+/// Whether a counter passes its bound once the node has registered with such an offer.
+pub(crate) fn registering_passes(
     tables: &Tables,
     pool: &Text,
-    rows: &PoolRows,
-    name: &Text,
-    node: &Node,
+    offer: &Offer,
+    old: Option<&Node>,
 ) -> bool
-    requires bounds { is_past_bound (world_of tables.now) ≡ false }
-    requires pool { row_at tables.now.pools pool.now ≡ Some rows.now }
-    requires places { nat_lt greatest node.now.places ≡ false }
-    ensures { let w = world_of tables.now in
-        result ≡ is_past_bound (settle w (change_pool pool.now (with_node name.now node.now) w)) }
+    ensures { result ≡ (gives_room offer.now (option_copied old.entry)
+        && given_room_passes (world_of tables.now) (pool.now, offered_class offer.now)) }
 {
-    gives_itself(rows, name, node) && given_room_passes(tables, pool, node)
+    gives_room(offer, old) && given_room_passes(tables, pool, offer)
 }
 
 /// Whether a counter passes its bound once the node, which offers the same, has such a status and eligibility.
@@ -47,5 +48,8 @@ pub(crate) fn freed_passes(
     ensures { result ≡ ((is_ready status && eligible && not (is_free node.now))
         && given_room_passes (world_of tables.now) (pool.now, class_of node.now)) }
 {
-    is_ready(status) && eligible && !is_free(node) && given_room_passes(tables, pool, node)
+    is_ready(status)
+        && eligible
+        && !is_free(node)
+        && given_room_passes(tables, pool, &node.offer)
 }

@@ -5,8 +5,7 @@ ghost use Rattle.ns_types.specs.declared.node.NodeStatus.TheVariants as NodeStat
 ghost use Rattle.ns_types.specs.declared.step.NodeCommand.TheVariants as NodeCommand;
 ghost use Rattle.ns_types.specs.Asking.Nodes.{ask_pool};
 ghost use Rattle.ns_types.specs.Steps.{is_past_bound};
-ghost use Rattle.ns_change.specs.Prepared.{Prepares};
-ghost use Rattle.ns_nodes.specs.Bounded.{bounded};
+ghost use Rattle.ns_change.specs.Prepared.{Prepares, bounded};
 ghost use Rattle.ns_world.specs.World.{world_of};
 
 use crate::bounds::freed_passes;

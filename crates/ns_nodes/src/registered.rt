@@ -8,14 +8,13 @@ ghost use Rattle.ns_types.specs.Asking.Nodes.{ask_pool, most_nodes, with_offer};
 ghost use Rattle.ns_types.specs.State.Resources.{is_within};
 ghost use Rattle.ns_types.specs.State.Sums.{node_load};
 ghost use Rattle.ns_types.specs.Steps.{is_past_bound};
-ghost use Rattle.ns_change.specs.Prepared.{Prepares};
-ghost use Rattle.ns_nodes.specs.Bounded.{bounded};
+ghost use Rattle.ns_change.specs.Prepared.{Prepares, bounded};
 ghost use Rattle.ns_world.specs.World.{world_of};
 
-use crate::bounds::put_passes;
+use crate::bounds::registering_passes;
 use crate::prepared::put_alone;
 use keyed::NameTable;
-use ns_change::Prepared;
+use ns_change::{Prepared, copied_offer};
 use ns_types::node::{Node, NodeStatus, Offer};
 use ns_types::refusal::Refusal;
 use ns_types::resources::Resources;
@@ -66,32 +65,28 @@ pub fn register_node(
     tables: &Tables,
     pool: &Text,
     name: &Text,
-    offer: Offer,
+    offer: &Offer,
     load: Resources,
 ) -> Result<Prepared, Refusal>
     requires load { load ≡ node_load (world_of tables.now) pool.now name.now }
     requires bounds { is_past_bound (world_of tables.now) ≡ false }
     ensures { let w = world_of tables.now in
-        let outcome = ask_pool pool.now (NodeCommand.PutNode name.now offer) w in
+        let outcome = ask_pool pool.now (NodeCommand.PutNode name.now offer.now) w in
         Prepares (bounded w outcome) tables.now result }
 {
     let Some(stored) = tables.pools.get(pool) else {
-        drop(offer);
         return Err(Refusal::NotFound);
     };
     if !is_within(load, offer.capacity) {
-        drop(offer);
         return Err(Refusal::InUse);
     }
     let old = stored.nodes.get(name);
     if is_full(&stored.nodes, old) {
-        drop(offer);
         return Err(Refusal::Full);
     }
-    let row = with_offer(offer, old);
-    if put_passes(tables, pool, stored, name, &row) {
-        drop(row);
+    if registering_passes(tables, pool, offer, old) {
         return Err(Refusal::Full);
     }
+    let row = with_offer(copied_offer(offer)?, old);
     put_alone(tables, pool, name, row)
 }

@@ -6,8 +6,7 @@ ghost use Rattle.ns_types.specs.declared.step.NodeCommand.TheVariants as NodeCom
 ghost use Rattle.ns_types.specs.Asking.Nodes.{ask_pool};
 ghost use Rattle.ns_types.specs.State.Rows.{is_ready};
 ghost use Rattle.ns_types.specs.Steps.{is_past_bound};
-ghost use Rattle.ns_change.specs.Prepared.{Prepares};
-ghost use Rattle.ns_nodes.specs.Bounded.{bounded};
+ghost use Rattle.ns_change.specs.Prepared.{Prepares, bounded};
 ghost use Rattle.ns_nodes.specs.Idle.{IsIdle};
 ghost use Rattle.ns_world.specs.World.{world_of};
 

@@ -4,7 +4,7 @@ ghost use Rattle.std.specs.Prelude.{◌≡◌, Bool, true};
 ghost use Rattle.std.specs.List.{list_any};
 ghost use Rattle.ns_types.specs.declared.node.Class.{Class};
 ghost use Rattle.ns_types.specs.State.Names.{Name};
-ghost use Rattle.ns_types.specs.State.Rows.{class_of};
+ghost use Rattle.ns_types.specs.State.Rows.{offered_class};
 ghost use Rattle.ns_change.specs.Changed.{view};
 ghost use Rattle.ns_settle.specs.Released.{quota_left, quotas_ended, quotas_ended_in, released_quotas};
 ghost use Rattle.ns_settle.specs.Released.{released_rooms, room_at, rooms_at, rooms_ended, rooms_ended_in, rooms_of_pool};
@@ -15,7 +15,7 @@ use crate::releasing::ended;
 use ns_alike::is_free;
 use ns_change::{Change, PoolChange, TenantChange, node};
 use ns_types::allocation::Allocation;
-use ns_types::node::Node;
+use ns_types::node::{Node, Offer};
 use ns_types::text::Text;
 use ns_world::{PoolRows, Tables, TenantRows};
 
@@ -38,9 +38,9 @@ pub trait Question {
     /// Of a quota.
     ghost of_quota: { Self → Name → Bool };
 
-    /// The answer for the class of a node in a pool.
-    fn is_room(&self, pool: &Text, node: &Node) -> bool
-        ensures { result ≡ of_room self.now (pool.now, class_of node.now) };
+    /// The answer for the class that a node of such an offer has in a pool.
+    fn is_room(&self, pool: &Text, offer: &Offer) -> bool
+        ensures { result ≡ of_room self.now (pool.now, offered_class offer.now) };
 
     /// The answer for a quota.
     fn is_quota(&self, quota: &Text) -> bool
@@ -56,7 +56,7 @@ impl Question for Anything {
 
     ghost of_quota = { λ _ _. true };
 
-    fn is_room(&self, _pool: &Text, _node: &Node) -> bool {
+    fn is_room(&self, _pool: &Text, _offer: &Offer) -> bool {
         true
     }
 
@@ -73,7 +73,7 @@ fn gives<Q: Question>(question: &Q, pool: &Text, rows: &PoolRows, slot: &NodeSlo
         ≡ list_any (Q.of_room question.now) (rooms_at pool.now (pool_of rows.now) slot.now) }
 {
     match &slot.1 {
-        Some(node) => gives_itself(rows, &slot.0, node) && question.is_room(pool, node),
+        Some(node) => gives_itself(rows, &slot.0, node) && question.is_room(pool, &node.offer),
         None => false,
     }
 }
@@ -110,7 +110,7 @@ fn is_left<Q: Question>(
         (room_at (view tables.now change.now) allocation.now) }
 {
     match node(tables, change, &allocation.pool, &allocation.node) {
-        Some(node) => is_free(node) && question.is_room(&allocation.pool, node),
+        Some(node) => is_free(node) && question.is_room(&allocation.pool, &node.offer),
         None => false,
     }
 }

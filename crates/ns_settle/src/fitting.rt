@@ -5,14 +5,14 @@ ghost use Rattle.std.specs.Cmp.Lexicographic.{pointwise};
 ghost use Rattle.std.specs.Option.{option_map_or};
 ghost use Rattle.std.specs.Ordering.{eq_by_cmp};
 ghost use Rattle.ns_types.specs.State.Names.{attribute_cmp, has_class, same_class, same_name};
-ghost use Rattle.ns_types.specs.State.Rows.{class_of, is_unique};
+ghost use Rattle.ns_types.specs.State.Rows.{is_unique, offered_class};
 ghost use Rattle.ns_types.specs.Settling.Releases.{can_use};
 ghost use Rattle.ns_settle.specs.Released.{at_room};
 
 use crate::asking::Question;
 use ns_alike::{is_unique, same_attribute, same_text};
 use ns_types::evaluation::Evaluation;
-use ns_types::node::{Attribute, Class, Node};
+use ns_types::node::{Attribute, Class, Offer};
 use ns_types::text::Text;
 
 /// Whether the attributes of a node that are not unique are those of a class.
@@ -32,28 +32,25 @@ fn are_shared(attributes: &[Attribute], shared: &[Attribute]) -> bool
     }
 }
 
-/// Whether the node is of the class.
-fn is_of_class(class: &Class, node: &Node) -> bool
-    ensures { result ≡ same_class (class_of node.now) class.now }
+/// Whether a node of such an offer is of the class.
+fn is_of_class(class: &Class, offer: &Offer) -> bool
+    ensures { result ≡ same_class (offered_class offer.now) class.now }
 {
-    same_text(&node.offer.class, &class.name)
-        && are_shared(
-            node.offer.attributes.as_slice(),
-            class.attributes.as_slice(),
-        )
+    same_text(&offer.class, &class.name)
+        && are_shared(offer.attributes.as_slice(), class.attributes.as_slice())
 }
 
-fn has_class_of(classes: &[Class], node: &Node) -> bool
-    ensures { result ≡ has_class classes.now (class_of node.now) }
+fn has_class_of(classes: &[Class], offer: &Offer) -> bool
+    ensures { result ≡ has_class classes.now (offered_class offer.now) }
 {
-    classes.iter().any(|class| is_of_class(class, node))
+    classes.iter().any(|class| is_of_class(class, offer))
 }
 
-/// Whether room on the node may serve the evaluation.
-fn can_use(evaluation: &Evaluation, node: &Node) -> bool
-    ensures { result ≡ can_use evaluation.now (class_of node.now) }
+/// Whether room on a node of such an offer may serve the evaluation.
+fn can_use(evaluation: &Evaluation, offer: &Offer) -> bool
+    ensures { result ≡ can_use evaluation.now (offered_class offer.now) }
 {
-    evaluation.escapes || !has_class_of(evaluation.infeasible.as_slice(), node)
+    evaluation.escapes || !has_class_of(evaluation.infeasible.as_slice(), offer)
 }
 
 /// Room of its pool that may serve it, and the quota that limits it.
@@ -62,8 +59,8 @@ impl Question for Evaluation {
 
     ghost of_quota = { λ e quota. option_map_or (λ own. same_name own quota) e.quota false };
 
-    fn is_room(&self, pool: &Text, node: &Node) -> bool {
-        same_text(&self.pool, pool) && can_use(self, node)
+    fn is_room(&self, pool: &Text, offer: &Offer) -> bool {
+        same_text(&self.pool, pool) && can_use(self, offer)
     }
 
     fn is_quota(&self, quota: &Text) -> bool {

@@ -21,7 +21,7 @@ use ns_alike::{same_number, same_text};
 use ns_change::{Change, PoolChange, TenantChange, evaluation};
 use ns_types::evaluation::Evaluation;
 use ns_types::key::EvalKey;
-use ns_types::node::Node;
+use ns_types::node::{Node, Offer};
 use ns_types::text::Text;
 use ns_world::{Tables, TenantRows};
 
@@ -57,7 +57,7 @@ impl Question for Tables {
 
     ghost of_quota = { λ t quota. quota_passes (world_of t) quota };
 
-    fn is_room(&self, pool: &Text, _node: &Node) -> bool {
+    fn is_room(&self, pool: &Text, _offer: &Offer) -> bool {
         match self.pools.get(pool) {
             Some(rows) => is_at_bound(rows.release),
             None => false,

@@ -3,7 +3,7 @@
 
 ghost use Rattle.std.specs.Prelude.{◌≡◌, ◌&&◌};
 ghost use Rattle.std.specs.List.{list_any};
-ghost use Rattle.ns_types.specs.State.Rows.{class_of, evaluation_at};
+ghost use Rattle.ns_types.specs.State.Rows.{evaluation_at, offered_class};
 ghost use Rattle.ns_settle.specs.Bounds.{shows_awake};
 ghost use Rattle.ns_settle.specs.Room.{given_room_passes, room_waking_passes, room_waking_passes_in, room_wakes};
 ghost use Rattle.ns_world.specs.World.{tenant_of, world_of};
@@ -12,16 +12,16 @@ use crate::asking::Question;
 use crate::awake::changes_awake;
 use crate::full::is_at_bound;
 use ns_types::key::EvalKey;
-use ns_types::node::Node;
+use ns_types::node::Offer;
 use ns_types::text::Text;
 use ns_world::{Tables, TenantRows};
 
 /// Whether such room wakes the evaluation of an entry.
-fn room_wakes(tables: &Tables, pool: &Text, node: &Node, key: &EvalKey) -> bool
-    ensures { result ≡ room_wakes (world_of tables.now) (pool.now, class_of node.now) key.now }
+fn room_wakes(tables: &Tables, pool: &Text, offer: &Offer, key: &EvalKey) -> bool
+    ensures { result ≡ room_wakes (world_of tables.now) (pool.now, offered_class offer.now) key.now }
 {
     match tables.evaluation(key.namespace(), key.number()) {
-        Some(row) => row.quota.is_none() && row.is_room(pool, node),
+        Some(row) => row.quota.is_none() && row.is_room(pool, offer),
         None => false,
     }
 }
@@ -40,55 +40,55 @@ fn shows_awake(tables: &Tables, tenant: &TenantRows, key: &EvalKey) -> bool
 fn room_wakes_shown(
     tables: &Tables,
     pool: &Text,
-    node: &Node,
+    offer: &Offer,
     tenant: &TenantRows,
     key: &EvalKey,
 ) -> bool
     ensures { result
-        ≡ (room_wakes (world_of tables.now) (pool.now, class_of node.now) key.now
+        ≡ (room_wakes (world_of tables.now) (pool.now, offered_class offer.now) key.now
         && shows_awake (tenant_of tenant.now) key.now.1
         (evaluation_at (world_of tables.now) key.now)) }
 {
-    room_wakes(tables, pool, node, key) && shows_awake(tables, tenant, key)
+    room_wakes(tables, pool, offer, key) && shows_awake(tables, tenant, key)
 }
 
 fn room_waking_passes_in(
     tables: &Tables,
     pool: &Text,
-    node: &Node,
+    offer: &Offer,
     tenant: &TenantRows,
     key: &EvalKey,
 ) -> bool
     ensures { result ≡ room_waking_passes_in (world_of tables.now)
-        (pool.now, class_of node.now) key.now (tenant_of tenant.now) }
+        (pool.now, offered_class offer.now) key.now (tenant_of tenant.now) }
 {
-    is_at_bound(tenant.index) && room_wakes_shown(tables, pool, node, tenant, key)
+    is_at_bound(tenant.index) && room_wakes_shown(tables, pool, offer, tenant, key)
 }
 
 /// Whether the evaluation of an entry wakes, and its namespace's index passes by that.
-fn room_waking_passes(tables: &Tables, pool: &Text, node: &Node, key: &EvalKey) -> bool
+fn room_waking_passes(tables: &Tables, pool: &Text, offer: &Offer, key: &EvalKey) -> bool
     ensures { result ≡ room_waking_passes (world_of tables.now)
-        (pool.now, class_of node.now) key.now }
+        (pool.now, offered_class offer.now) key.now }
 {
     match tables.tenants.get(key.namespace()) {
-        Some(tenant) => room_waking_passes_in(tables, pool, node, tenant, key),
+        Some(tenant) => room_waking_passes_in(tables, pool, offer, tenant, key),
         None => false,
     }
 }
 
-fn any_room_waking_passes(tables: &Tables, pool: &Text, node: &Node, keys: &[EvalKey]) -> bool
+fn any_room_waking_passes(tables: &Tables, pool: &Text, offer: &Offer, keys: &[EvalKey]) -> bool
     ensures { result ≡ list_any (room_waking_passes (world_of tables.now)
-        (pool.now, class_of node.now)) keys.now }
+        (pool.now, offered_class offer.now)) keys.now }
 {
     keys.iter()
-        .any(|key| room_waking_passes(tables, pool, node, key))
+        .any(|key| room_waking_passes(tables, pool, offer, key))
 }
 
-/// Whether a counter passes its bound by a step that gives room of the node's class in the pool, and nothing else. Its
+/// Whether a counter passes its bound by a step that gives room on a node of such an offer in the pool, and nothing else. Its
 /// work grows with the number of blocked evaluations.
-pub fn given_room_passes(tables: &Tables, pool: &Text, node: &Node) -> bool
-    ensures { result ≡ given_room_passes (world_of tables.now) (pool.now, class_of node.now) }
+pub fn given_room_passes(tables: &Tables, pool: &Text, offer: &Offer) -> bool
+    ensures { result ≡ given_room_passes (world_of tables.now) (pool.now, offered_class offer.now) }
 {
-    tables.is_room(pool, node)
-        || any_room_waking_passes(tables, pool, node, tables.blocked.as_slice())
+    tables.is_room(pool, offer)
+        || any_room_waking_passes(tables, pool, offer, tables.blocked.as_slice())
 }

@@ -15,6 +15,7 @@ use Rattle.ns_types.specs.declared.job.Job.{Job}
 use Rattle.ns_types.specs.declared.node.Class.{Class}
 use Rattle.ns_types.specs.declared.node.Node.{Node}
 use Rattle.ns_types.specs.declared.node.NodeStatus.{NodeStatus}
+use Rattle.ns_types.specs.declared.node.Offer.{Offer}
 use Rattle.ns_types.specs.declared.records.Namespace.{Namespace}
 use Rattle.ns_types.specs.declared.records.Pool.{Pool}
 use Rattle.ns_types.specs.declared.records.Quota.{Quota}
@@ -119,12 +120,15 @@ is_free node = is_ready node.status && node.eligible
 abbrev pub is_unique : Name → Bool
 is_unique key = begins_with (codes "unique.") key
 
--- the class of a node, with all attributes that are not unique
-abbrev pub class_of : Node → Class
-class_of node = record {
-  name = node.offer.class;
-  attributes = filter (λ a. not (is_unique a.key)) node.offer.attributes;
+-- the class that a node of such an offer has, with all attributes that are not unique
+abbrev pub offered_class : Offer → Class
+offered_class offer = record {
+  name = offer.class;
+  attributes = filter (λ a. not (is_unique a.key)) offer.attributes;
 }
+
+abbrev pub class_of : Node → Class
+class_of node = offered_class node.offer
 
 -- ---- look-ups
 

@@ -2,10 +2,11 @@ use Rattle.std.proofs.Common.{ap, arith, sym, ◌∙◌, ◌+◌}
 use Rattle.std.proofs.lemmas.Bool.{le-leb, lt-leb}
 use Rattle.std.specs.Option.{option_copied}
 use Rattle.ns_types.specs.Working.Work.{most_nacks}
-use Rattle.ns_broker.proofs.Bounding.{away_is_past, back_is_unseen, is_refused, stays_done}
+use Rattle.ns_broker.proofs.Bounding.{away_is_past, back_is_unseen}
+use Rattle.ns_change.proofs.Bounded.{done_still, refused_full}
 use Rattle.ns_broker.proofs.Nacked.{comes_back, is_put_away, none_to_nack, nothing_to_nack, plan_waits}
 use Rattle.ns_broker.proofs.nacking.nack.Goals as goal
-use Rattle.ns_broker.specs.Bounded.{bounded}
+use Rattle.ns_change.specs.Prepared.{bounded}
 use Rattle.ns_change.proofs.Prepares.{prepares_as}
 use Rattle.ns_world.specs.World.{world_of}
 
@@ -30,7 +31,7 @@ returns-then-row-lt-NACKS c =
     let nacks = c.in-Some-evaluation.row.now.nacks in
     let at = sym c.evaluation.ensures ∙ ap option_copied c.in-Some-evaluation.is in
     prepares_as _ _ c.args.tables.now c.give_back.result
-    (stays_done w _ _ _
+    (done_still w _ _ _
     (comes_back c.args.number c.args.namespace.now w c.in-Some.worker.now c.in-Some-evaluation.row.now
     (sym c.worker_at.ensures ∙ ap option_copied c.in-Some.is) at
     (sym c.is_submitted.ensures ∙ c.if-is_submitted.false) (lt-leb most_nacks (nacks + 1) (omega (arith, c.if-row-lt-NACKS.true))))
@@ -42,7 +43,7 @@ returns-then-cannot_fail c =
     let w = world_of c.args.tables.now in
     let nacks = c.in-Some-evaluation.row.now.nacks in
     let at = sym c.evaluation.ensures ∙ ap option_copied c.in-Some-evaluation.is in
-    is_refused w _ _ _
+    refused_full w _ _ _
     (is_put_away c.args.number c.args.namespace.now w c.in-Some.worker.now c.in-Some-evaluation.row.now
     (sym c.worker_at.ensures ∙ ap option_copied c.in-Some.is) at
     (sym c.is_submitted.ensures ∙ c.if-is_submitted.false) (le-leb most_nacks (nacks + 1) (omega (arith, c.if-row-lt-NACKS.false))))
@@ -55,7 +56,7 @@ returns c =
     let nacks = c.in-Some-evaluation.row.now.nacks in
     let at = sym c.evaluation.ensures ∙ ap option_copied c.in-Some-evaluation.is in
     prepares_as _ _ c.args.tables.now c.give_up.result
-    (stays_done w _ _ _
+    (done_still w _ _ _
     (is_put_away c.args.number c.args.namespace.now w c.in-Some.worker.now c.in-Some-evaluation.row.now
     (sym c.worker_at.ensures ∙ ap option_copied c.in-Some.is) at
     (sym c.is_submitted.ensures ∙ c.if-is_submitted.false) (le-leb most_nacks (nacks + 1) (omega (arith, c.if-row-lt-NACKS.false))))

@@ -10,7 +10,8 @@ use Rattle.ns_types.specs.Settling.Outcome.{Done, is_done}
 use Rattle.ns_change.proofs.Prepares.{out_of_memory, prepares_as}
 use Rattle.ns_change.specs.Changed.{change_pool}
 use Rattle.ns_nodes.proofs.Asked.{none_ready, ready_again}
-use Rattle.ns_nodes.proofs.Within.{done_still, freed_past, refused_full, still_refused}
+use Rattle.ns_change.proofs.Bounded.{done_still, refused_full, still_refused}
+use Rattle.ns_nodes.proofs.Within.{freed_past}
 use Rattle.ns_nodes.proofs.eligible.set_ready.Goals as goal
 use Rattle.ns_world.specs.World.{world_of}
 

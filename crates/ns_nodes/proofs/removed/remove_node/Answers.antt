@@ -5,7 +5,8 @@ use Rattle.ns_types.specs.declared.reply.Content.TheVariants as Content
 use Rattle.ns_change.proofs.Prepares.{done_as, prepares_as}
 use Rattle.ns_change.specs.Changed.{change_pool, without_node}
 use Rattle.ns_nodes.proofs.Asked.{none_removed, removed, still_ready}
-use Rattle.ns_nodes.proofs.Within.{done_still, removed_within, still_refused}
+use Rattle.ns_change.proofs.Bounded.{done_still, still_refused}
+use Rattle.ns_nodes.proofs.Within.{removed_within}
 use Rattle.ns_nodes.proofs.removed.remove_node.Goals as goal
 use Rattle.ns_world.specs.World.{world_of}
 

@@ -10,7 +10,8 @@ use Rattle.ns_types.specs.Settling.Outcome.{Done, is_done}
 use Rattle.ns_change.proofs.Prepares.{out_of_memory, prepares_as}
 use Rattle.ns_change.specs.Changed.{change_pool}
 use Rattle.ns_nodes.proofs.Idle.{idle_down, none_down}
-use Rattle.ns_nodes.proofs.Within.{done_still, freed_past, still_refused}
+use Rattle.ns_change.proofs.Bounded.{done_still, still_refused}
+use Rattle.ns_nodes.proofs.Within.{freed_past}
 use Rattle.ns_nodes.proofs.status.set_down.Goals as goal
 use Rattle.ns_world.specs.World.{world_of}
 

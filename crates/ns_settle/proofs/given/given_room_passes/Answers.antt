@@ -2,7 +2,7 @@ use Rattle.std.proofs.Common.{ap, sym, ◌∙◌, ◌||◌}
 use Rattle.std.specs.List.{list_any}
 use Rattle.ns_types.specs.declared.node.Class.{Class}
 use Rattle.ns_types.specs.State.Names.{Name}
-use Rattle.ns_types.specs.State.Rows.{class_of}
+use Rattle.ns_types.specs.State.Rows.{offered_class}
 use Rattle.ns_settle.specs.Room.{room_waking_passes}
 use Rattle.ns_settle.proofs.given.given_room_passes.Goals as goal
 use Rattle.ns_world.specs.World.{world_of}
@@ -11,6 +11,6 @@ use Rattle.ns_world.proofs.World.{blocked_seen}
 pub returns-else-is_room : goal.returns-else-is_room
 returns-else-is_room c =
     let w = world_of c.args.tables.now in
-    let room : Name × Class = (c.args.pool.now, class_of c.args.node.now) in
+    let room : Name × Class = (c.args.pool.now, offered_class c.args.offer.now) in
     c.any_room_waking_passes.ensures ∙ ap (list_any (room_waking_passes w room)) (c.as_slice.ensures ∙ sym (blocked_seen c.args.tables.now))
     ∙ ap (λ b. b || list_any (room_waking_passes w room) w.blocked) (sym (sym c.is_room.ensures ∙ c.if-is_room.false))
