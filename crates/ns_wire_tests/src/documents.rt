@@ -69,20 +69,8 @@ fn namespace_fault(alloc: Global, path_name: Option<&Text>, body: &str) -> Optio
     namespace(alloc, path_name, body).err()
 }
 
-fn quota_fault(alloc: Global, path_name: Option<&Text>, body: &str) -> Option<Refusal> {
-    quota(alloc, path_name, body).err()
-}
-
-fn pool_fault(alloc: Global, path_name: Option<&Text>, body: &str) -> Option<Refusal> {
-    pool(alloc, path_name, body).err()
-}
-
 fn policy_fault(alloc: Global, body: &str) -> Option<Refusal> {
     policy(alloc, body).err()
-}
-
-fn token_fault(alloc: Global, body: &str) -> Option<Refusal> {
-    token(alloc, body).err()
 }
 
 /// Whether those are the names, in this order.
@@ -225,65 +213,6 @@ fn fills_in_what_a_namespace_leaves_out(rt: HostRuntime) {
     assert!(rt; reads_confined(alloc, confined));
 }
 
-#[test]
-fn refuses_faulty_namespaces(rt: HostRuntime) {
-    let alloc = rt.alloc();
-    let cases = [
-        ("{}", Member::Name),
-        ("{\"Name\":\"\"}", Member::Name),
-        ("{\"Name\":\"a_b\",\"Description\":7}", Member::Name),
-        (
-            "{\"Name\":\"a\",\"Description\":7,\"Quota\":7}",
-            Member::Description,
-        ),
-        (
-            "{\"Name\":\"a\",\"Quota\":\"a.b\",\"NodePoolConfiguration\":7}",
-            Member::Quota,
-        ),
-        (
-            "{\"Name\":\"a\",\"NodePoolConfiguration\":7}",
-            Member::NodePoolConfiguration,
-        ),
-    ];
-    for (body, member) in &cases {
-        let refused = Some(Refusal::BadField(*member));
-        assert_eq!(rt; namespace_fault(alloc, None, body), refused, "{body}");
-    }
-    assert_eq!(rt; namespace_fault(alloc, None, "[]"), Some(Refusal::BadJson));
-}
-
-#[test]
-fn refuses_faulty_pool_configurations(rt: HostRuntime) -> Result<(), Fail> {
-    let alloc = rt.alloc();
-    let cases = [
-        ("{\"Default\":\"all\",\"Allowed\":7}", Member::Default),
-        ("{\"Default\":\"a b\"}", Member::Default),
-        ("{\"Allowed\":{},\"Denied\":{}}", Member::Allowed),
-        ("{\"Allowed\":[\"a\",\"\"]}", Member::Allowed),
-        ("{\"Allowed\":[\"a\",\"all\"]}", Member::Allowed),
-        ("{\"Allowed\":[\"a*\"]}", Member::Allowed),
-        ("{\"Allowed\":[\"a\",\"b\",\"a\"]}", Member::Allowed),
-        ("{\"Denied\":[\"a\",\"a\"]}", Member::Denied),
-        ("{\"Allowed\":[],\"Denied\":[\"a\"]}", Member::Denied),
-        ("{\"Denied\":[\"default\"]}", Member::Denied),
-        (
-            "{\"Default\":\"b\",\"Denied\":[\"a\",\"b\"]}",
-            Member::Denied,
-        ),
-    ];
-    let before = "{\"Name\":\"a\",\"NodePoolConfiguration\":";
-    for (pools, member) in &cases {
-        let body = repeated(alloc, before, pools, 1, "}")?;
-        let refused = Some(Refusal::BadField(*member));
-        assert_eq!(rt;
-            namespace_fault(alloc, None, body.as_str()),
-            refused,
-            "{pools}"
-        );
-    }
-    Ok(())
-}
-
 fn namespace_takes(alloc: Global, path_name: &Text, body: &str) -> bool {
     let answer = namespace(alloc, Some(path_name), body);
     let takes = match &answer {
@@ -321,14 +250,6 @@ fn take_the_name(alloc: Global, path_name: &Text, body: &str) -> bool {
         && pool_takes(alloc, path_name, body)
 }
 
-/// Whether each of the three is refused for its name.
-fn refuse_the_name(alloc: Global, path_name: &Text, body: &str) -> bool {
-    let refused = Some(Refusal::BadField(Member::Name));
-    namespace_fault(alloc, Some(path_name), body) == refused
-        && quota_fault(alloc, Some(path_name), body) == refused
-        && pool_fault(alloc, Some(path_name), body) == refused
-}
-
 #[test]
 fn takes_the_name_of_the_path(rt: HostRuntime) -> Result<(), Fail> {
     let alloc = rt.alloc();
@@ -336,10 +257,6 @@ fn takes_the_name_of_the_path(rt: HostRuntime) -> Result<(), Fail> {
     let bodies = ["{}", "{\"Name\":null}", "{\"Name\":\"a\"}"];
     for body in &bodies {
         assert!(rt; take_the_name(alloc, &path, body), "{body}");
-    }
-    let others = ["{\"Name\":\"\"}", "{\"Name\":\"b\"}", "{\"Name\":7}"];
-    for body in &others {
-        assert!(rt; refuse_the_name(alloc, &path, body), "{body}");
     }
     Ok(())
 }
@@ -375,50 +292,6 @@ fn reads_quotas(rt: HostRuntime) -> Result<(), Fail> {
     Ok(())
 }
 
-#[test]
-fn refuses_faulty_quotas(rt: HostRuntime) -> Result<(), Fail> {
-    let alloc = rt.alloc();
-    let cases = [
-        ("{}", Member::Limits),
-        ("[{},{}]", Member::Limits),
-        ("[7]", Member::Limits),
-        ("[{\"Region\":\"\",\"RegionLimit\":7}]", Member::Region),
-        ("[{\"Region\":\"east\"}]", Member::Region),
-        ("[{\"RegionLimit\":[]}]", Member::RegionLimit),
-        (
-            "[{\"RegionLimit\":{\"CPU\":-2,\"MemoryMB\":-2}}]",
-            Member::Cpu,
-        ),
-        (
-            "[{\"RegionLimit\":{\"CPU\":9007199254740993}}]",
-            Member::Cpu,
-        ),
-        ("[{\"RegionLimit\":{\"CPU\":-0}}]", Member::Cpu),
-        ("[{\"RegionLimit\":{\"MemoryMB\":1.0}}]", Member::MemoryMb),
-        (
-            "[{\"RegionLimit\":{\"MemoryMB\":18446744073709551616}}]",
-            Member::MemoryMb,
-        ),
-    ];
-    for (limits, member) in &cases {
-        let body = repeated(alloc, "{\"Name\":\"q\",\"Limits\":", limits, 1, "}")?;
-        let refused = Some(Refusal::BadField(*member));
-        assert_eq!(rt;
-            quota_fault(alloc, None, body.as_str()),
-            refused,
-            "{limits}"
-        );
-    }
-    Ok(())
-}
-
-#[test]
-fn names_the_first_fault_of_a_quota(rt: HostRuntime) {
-    let body = "{\"Name\":\"q\",\"Description\":[],\"Limits\":7}";
-    let refused = Some(Refusal::BadField(Member::Description));
-    assert_eq!(rt; quota_fault(rt.alloc(), None, body), refused);
-}
-
 fn reads_the_east(alloc: Global, body: &str) -> bool {
     let answer = pool(alloc, None, body);
     let reads = match &answer {
@@ -435,20 +308,6 @@ fn reads_the_east(alloc: Global, body: &str) -> bool {
 fn reads_pools(rt: HostRuntime) {
     let body = "{\"Name\":\"east_1\",\"Description\":\"of the east\"}";
     assert!(rt; reads_the_east(rt.alloc(), body));
-}
-
-#[test]
-fn refuses_faulty_pools(rt: HostRuntime) {
-    let alloc = rt.alloc();
-    let cases = [
-        ("{\"Description\":7}", Member::Name),
-        ("{\"Name\":\"all\",\"Description\":7}", Member::Name),
-        ("{\"Name\":\"a\",\"Description\":7}", Member::Description),
-    ];
-    for (body, member) in &cases {
-        let refused = Some(Refusal::BadField(*member));
-        assert_eq!(rt; pool_fault(alloc, None, body), refused, "{body}");
-    }
 }
 
 fn reads_a_policy(alloc: Global, body: &str) -> bool {
@@ -481,22 +340,6 @@ fn reads_policies(rt: HostRuntime) {
         "{\"Name\":7,\"Description\":\"d\",\"Rules\":\"namespace \\\"*\\\" { policy = \\\"read\\\" }\"}";
     assert!(rt; reads_a_policy(rt.alloc(), body));
     assert!(rt; reads_no_rules(rt.alloc(), "{\"Rules\":\"\"}"));
-}
-
-#[test]
-fn refuses_faulty_policies(rt: HostRuntime) {
-    let alloc = rt.alloc();
-    let cases = [
-        ("{\"Description\":7}", Member::Description),
-        ("{}", Member::Rules),
-        ("{\"Rules\":{}}", Member::Rules),
-        ("{\"Rules\":\"namespace\"}", Member::Rules),
-        ("{\"Rules\":\"namespace \\\"a*b\\\" { }\"}", Member::Rules),
-    ];
-    for (body, member) in &cases {
-        let refused = Some(Refusal::BadField(*member));
-        assert_eq!(rt; policy_fault(alloc, body), refused, "{body}");
-    }
 }
 
 fn reads_a_manager(alloc: Global, body: &str) -> bool {
@@ -535,35 +378,6 @@ fn reads_tokens(rt: HostRuntime) {
 }
 
 #[test]
-fn refuses_faulty_tokens(rt: HostRuntime) {
-    let alloc = rt.alloc();
-    let cases = [
-        ("{\"Name\":7,\"Type\":7}", Member::Name),
-        ("{\"Type\":\"\",\"Policies\":7}", Member::Type),
-        ("{\"Type\":\"Client\"}", Member::Type),
-        ("{\"Policies\":{}}", Member::Policies),
-        ("{\"Policies\":[\"a_b\"]}", Member::Policies),
-        ("{\"Policies\":[\"a\",\"b\",\"a\"]}", Member::Policies),
-    ];
-    for (body, member) in &cases {
-        let refused = Some(Refusal::BadField(*member));
-        assert_eq!(rt; token_fault(alloc, body), refused, "{body}");
-    }
-}
-
-#[test]
-fn bounds_texts(rt: HostRuntime) -> Result<(), Fail> {
-    let alloc = rt.alloc();
-    let before = "{\"Name\":\"a\",\"Description\":\"";
-    let most = repeated(alloc, before, "a", 256, "\"}")?;
-    assert_eq!(rt; pool_fault(alloc, None, most.as_str()), None);
-    let more = repeated(alloc, before, "a", 257, "\"}")?;
-    let refused = Some(Refusal::BadField(Member::Description));
-    assert_eq!(rt; pool_fault(alloc, None, more.as_str()), refused);
-    Ok(())
-}
-
-#[test]
 fn bounds_rules(rt: HostRuntime) -> Result<(), Fail> {
     let alloc = rt.alloc();
     let most = repeated(alloc, "{\"Rules\":\"", " ", 65_536, "\"}")?;
@@ -571,17 +385,6 @@ fn bounds_rules(rt: HostRuntime) -> Result<(), Fail> {
     let more = repeated(alloc, "{\"Rules\":\"", " ", 65_537, "\"}")?;
     let refused = Some(Refusal::BadField(Member::Rules));
     assert_eq!(rt; policy_fault(alloc, more.as_str()), refused);
-    Ok(())
-}
-
-#[test]
-fn bounds_policies(rt: HostRuntime) -> Result<(), Fail> {
-    let alloc = rt.alloc();
-    let most = list(alloc, "{\"Policies\":", 64, "}")?;
-    assert_eq!(rt; token_fault(alloc, most.as_str()), None);
-    let more = list(alloc, "{\"Policies\":", 65, "}")?;
-    let refused = Some(Refusal::BadField(Member::Policies));
-    assert_eq!(rt; token_fault(alloc, more.as_str()), refused);
     Ok(())
 }
 
