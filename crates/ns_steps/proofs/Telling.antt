@@ -138,7 +138,12 @@ told_ask ns command w served = tells_found _ (get w.tenants ns) (asked_in ns com
 told_of_pool : (pool : Name) (command : NodeCommand) (w : World) (p : PoolRows) → IsServedNode command →
     Tells (IsTold (served_node command)) (asked_in_pool pool command w p)
 told_of_pool pool NodeCommand.ReadPool w p served = tt
-told_of_pool pool _ w p served = not_both served refl
+told_of_pool pool NodeCommand.ListNodes w p served = tt
+told_of_pool pool (NodeCommand.PutNode name offer) w p served = tells_unless _ _ _ _ (tells_unless _ _ _ _ tt)
+told_of_pool pool (NodeCommand.DeleteNode name) w p served = tells_found _ (get p.nodes name) _ (λ node. tells_unless _ _ _ _ tt)
+told_of_pool pool (NodeCommand.SetStatus name status) w p served = tells_found _ (get p.nodes name) _ (λ node. tt)
+told_of_pool pool (NodeCommand.SetEligible name eligible) w p served = tells_found _ (get p.nodes name) _ (λ node. tt)
+told_of_pool pool (NodeCommand.Report name report) w p served = not_both served refl
 
 told_node : (pool : Name) (command : NodeCommand) (w : World) → IsServedNode command → Tells (IsTold (served_node command)) (ask_pool pool command w)
 unfolding ask_pool
@@ -236,7 +241,9 @@ rests_records secret _ s only = not_both only refl
 rests_of_pool : (pool : Name) (command : NodeCommand) (w : World) (p : PoolRows) → IsServedNode command → only_reads (served_node command) ≡ true →
     Rests w (asked_in_pool pool command w p)
 rests_of_pool pool NodeCommand.ReadPool w p served only = refl
-rests_of_pool pool _ w p served only = not_both served refl
+rests_of_pool pool NodeCommand.ListNodes w p served only = refl
+rests_of_pool pool (NodeCommand.Report name report) w p served only = not_both served refl
+rests_of_pool pool _ w p served only = not_both only refl
 
 rests_node : (pool : Name) (command : NodeCommand) (w : World) → IsServedNode command → only_reads (served_node command) ≡ true →
     Rests w (ask_pool pool command w)

@@ -45,7 +45,12 @@ served_admin (AdminCommand.DeleteToken accessor) = Some Shape.Written
 
 abbrev pub served_node : NodeCommand → Option Shape
 served_node NodeCommand.ReadPool = Some Shape.Pool
-served_node _ = None
+served_node NodeCommand.ListNodes = Some Shape.Nodes
+served_node (NodeCommand.PutNode name offer) = Some Shape.Written
+served_node (NodeCommand.DeleteNode name) = Some Shape.Written
+served_node (NodeCommand.SetStatus name status) = Some Shape.Written
+served_node (NodeCommand.SetEligible name eligible) = Some Shape.Written
+served_node (NodeCommand.Report name report) = None
 
 abbrev pub served : Step → Option Shape
 served (Step.Ask ns secret command) = served_ask command
