@@ -65,6 +65,10 @@ module _ (w : World) (ns : Name) (t : Tenant) (at : get w.tenants ns ≡ Some t)
       ∙ ap (λ m. queue (record w { tenants = m }) (ns, (f t).evaluation_number + 1))
       (insert_twice names one_name w.tenants ns (f t) (with_evaluation e (f t)))
 
+  -- from a world that is the same
+  pub made_over : (seen : World) → seen ≡ w → with_made ns f e seen ≡ make_in ns e w (f t)
+  made_over seen same = ap (with_made ns f e) same ∙ made_is
+
 -- ---- an allocation that is stopped
 
 abbrev stopped_by : ℕ → Tenant → Option Allocation → Tenant

@@ -1,5 +1,5 @@
 -- What is prepared for a job, with an evaluation of it.
-use Rattle.std.specs.Prelude.{◌≡◌, ℕ, ◌+◌, Bool, false, not, Option}
+use Rattle.std.specs.Prelude.{ℕ, ◌+◌, Bool, false, not, Option}
 use Rattle.std.specs.Option.{option_map_or}
 use Rattle.std.specs.FinMap.{get}
 use Rattle.ns_types.specs.declared.allocation.Allocation.{Allocation}
@@ -14,17 +14,10 @@ use Rattle.ns_types.specs.Settling.Making.{change_tenant, evaluation_for, make, 
 use Rattle.ns_types.specs.Settling.Outcome.{Outcome, Done}
 use Rattle.ns_types.specs.State.Names.{Name}
 use Rattle.ns_types.specs.State.Rows.{World, Tenant}
-use Rattle.ns_change.specs.declared.change.Prepared.{Prepared}
-use Rattle.ns_change.specs.Changed.{view}
-use Rattle.ns_world.specs.declared.tables.Tables.{Tables}
 
 -- the namespace changes so, and then the evaluation is made
 abbrev pub with_made : Name → (Tenant → Tenant) → Evaluation → World → World
 with_made ns f e w = make ns (λ _. e) (change_tenant ns f w)
-
--- the outcome is what is answered and changed
-abbrev pub IsDone : Outcome World → Tables → Prepared → Type 0
-IsDone outcome t x = outcome ≡ Done x.content (view t x.change)
 
 -- ---- stopping an allocation
 

@@ -6,12 +6,11 @@ ghost use Rattle.ns_types.specs.declared.step.AskCommand.TheVariants as AskComma
 ghost use Rattle.ns_types.specs.Asking.Asks.{deregister_job, stopped_job};
 ghost use Rattle.ns_change.specs.Prepared.{Prepares};
 ghost use Rattle.ns_jobs.specs.Counted.{IsNext, counted_ask};
-ghost use Rattle.ns_jobs.specs.Made.{IsDone};
 ghost use Rattle.ns_world.specs.World.{tenant_of, world_of};
 
 use crate::looking;
 use crate::making::{Numbers, next_numbers, put_and_make, remove_and_make};
-use ns_change::Prepared;
+use ns_change::{Change, Prepared, prepare};
 use ns_types::evaluation::Trigger;
 use ns_types::job::Job;
 use ns_types::refusal::Refusal;
@@ -40,17 +39,25 @@ fn stopped(
     id: &Text,
     job: &Job,
     numbers: Numbers,
-) -> Result<Prepared, AllocError>
+) -> Result<Prepared, Refusal>
     requires tenant { row_at tables.now.tenants namespace.now ≡ Some tenant.now }
     requires numbers { IsNext (tenant_of tenant.now) numbers }
     ensures { let t = tenant_of tenant.now in
         let done = deregister_job namespace.now id.now false (world_of tables.now) t job.now in
-        IfOk result (IsDone done tables.now) }
+        Prepares done tables.now result }
 {
     let job = stopped_job(numbers.index, job)?;
     let content = Content::Registered(numbers.evaluation, numbers.index, job.modify_index);
-    let change = put_and_make(tables, namespace, id, job, Trigger::JobDeregister)?;
-    Ok(Prepared { content, change })
+    let mut change = Change::new(tables.alloc);
+    let made = put_and_make(
+        tables,
+        &mut change,
+        namespace,
+        id,
+        job,
+        Trigger::JobDeregister,
+    );
+    prepare(content, change, made)
 }
 
 /// What a deregistration answers and changes that removes the job.
@@ -61,16 +68,25 @@ fn removed(
     id: &Text,
     job: &Job,
     numbers: Numbers,
-) -> Result<Prepared, AllocError>
+) -> Result<Prepared, Refusal>
     requires tenant { row_at tables.now.tenants namespace.now ≡ Some tenant.now }
     requires numbers { IsNext (tenant_of tenant.now) numbers }
     ensures { let t = tenant_of tenant.now in
         let done = deregister_job namespace.now id.now true (world_of tables.now) t job.now in
-        IfOk result (IsDone done tables.now) }
+        Prepares done tables.now result }
 {
     let content = Content::Registered(numbers.evaluation, numbers.index, numbers.index);
-    let change = remove_and_make(tables, namespace, id, &job.document, Trigger::JobDeregister)?;
-    Ok(Prepared { content, change })
+    let mut change = Change::new(tables.alloc);
+    let document = &job.document;
+    let made = remove_and_make(
+        tables,
+        &mut change,
+        namespace,
+        id,
+        document,
+        Trigger::JobDeregister,
+    );
+    prepare(content, change, made)
 }
 
 /// What a deregistration answers and changes that nothing refuses.
@@ -82,12 +98,12 @@ fn deregistered(
     job: &Job,
     purge: bool,
     numbers: Numbers,
-) -> Result<Prepared, AllocError>
+) -> Result<Prepared, Refusal>
     requires tenant { row_at tables.now.tenants namespace.now ≡ Some tenant.now }
     requires numbers { IsNext (tenant_of tenant.now) numbers }
     ensures { let t = tenant_of tenant.now in
         let done = deregister_job namespace.now id.now purge (world_of tables.now) t job.now in
-        IfOk result (IsDone done tables.now) }
+        Prepares done tables.now result }
 {
     if purge {
         removed(tables, namespace, tenant, id, job, numbers)
@@ -118,6 +134,5 @@ pub fn deregister(
     let Some(numbers) = next_numbers(tenant) else {
         return Err(Refusal::Full);
     };
-    let prepared = deregistered(tables, namespace, tenant, id, job, purge, numbers)?;
-    Ok(prepared)
+    deregistered(tables, namespace, tenant, id, job, purge, numbers)
 }

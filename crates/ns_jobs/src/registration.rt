@@ -8,14 +8,14 @@ ghost use Rattle.ns_types.specs.Asking.Asks.{document_of, first_refusal, has_no_
 ghost use Rattle.ns_types.specs.Asking.Asks.{registered_job, registered_with};
 ghost use Rattle.ns_change.specs.Prepared.{Prepares};
 ghost use Rattle.ns_jobs.specs.Counted.{HasFewVersions, HasFewVersionsIn, IsNext, counted_ask};
-ghost use Rattle.ns_jobs.specs.Made.{IsDone, job_of, misses};
+ghost use Rattle.ns_jobs.specs.Made.{job_of, misses};
 ghost use Rattle.ns_world.specs.World.{tenant_of, world_of};
 
 use crate::looking::job;
 use crate::making::{Numbers, next_numbers, put_and_make};
 use ns_admin::permits;
 use ns_alike::{same_document, same_number};
-use ns_change::Prepared;
+use ns_change::{Change, Prepared, prepare};
 use ns_types::evaluation::Trigger;
 use ns_types::job::{Document, Job, Registration};
 use ns_types::refusal::{Member, Refusal};
@@ -152,19 +152,27 @@ fn registered(
     tenant: &TenantRows,
     registration: &Registration,
     numbers: Numbers,
-) -> Result<Prepared, AllocError>
+) -> Result<Prepared, Refusal>
     requires tenant { row_at tables.now.tenants namespace.now ≡ Some tenant.now }
     requires numbers { IsNext (tenant_of tenant.now) numbers }
     requires versions { HasFewVersions (tenant_of tenant.now) }
     ensures { let t = tenant_of tenant.now in
         let done = registered_with namespace.now registration.now (world_of tables.now) t in
-        IfOk result (IsDone (done (job_of registration.now t)) tables.now) }
+        Prepares (done (job_of registration.now t)) tables.now result }
 {
     let id = &registration.id;
     let job = job_of(tenant, registration, numbers.index)?;
     let content = Content::Registered(numbers.evaluation, numbers.index, job.modify_index);
-    let change = put_and_make(tables, namespace, id, job, Trigger::JobRegister)?;
-    Ok(Prepared { content, change })
+    let mut change = Change::new(tables.alloc);
+    let made = put_and_make(
+        tables,
+        &mut change,
+        namespace,
+        id,
+        job,
+        Trigger::JobRegister,
+    );
+    prepare(content, change, made)
 }
 
 /// A job is registered, for the first time or again, and an evaluation of it is made. One that says the same of a job
@@ -191,6 +199,5 @@ pub fn register(
     let Some(numbers) = next_numbers(tenant) else {
         return Err(Refusal::Full);
     };
-    let prepared = registered(tables, namespace, tenant, registration, numbers)?;
-    Ok(prepared)
+    registered(tables, namespace, tenant, registration, numbers)
 }

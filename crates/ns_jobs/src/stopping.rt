@@ -1,23 +1,21 @@
 //! An allocation that somebody stops.
 
-ghost use Rattle.std.specs.Prelude.{◌≡◌, ◌+◌, IfOk, Some};
+ghost use Rattle.std.specs.Prelude.{◌≡◌, Some};
 ghost use Rattle.keyed.specs.Table.{row_at};
 ghost use Rattle.ns_types.specs.declared.step.AskCommand.TheVariants as AskCommand;
 ghost use Rattle.ns_change.specs.Prepared.{Prepares};
 ghost use Rattle.ns_jobs.specs.Counted.{IsNext, counted_ask};
-ghost use Rattle.ns_jobs.specs.Made.{IsDone, stopped_with};
+ghost use Rattle.ns_jobs.specs.Made.{stopped_with};
 ghost use Rattle.ns_world.specs.World.{tenant_of, world_of};
 
 use crate::looking::allocation;
-use crate::making::{Numbers, evaluation_for, next_numbers, stop_and_make};
-use ns_change::Prepared;
+use crate::making::{Numbers, next_numbers, stop_and_make};
+use ns_change::{Change, Prepared, prepare};
 use ns_types::allocation::Allocation;
-use ns_types::evaluation::Trigger;
 use ns_types::refusal::Refusal;
 use ns_types::reply::Content;
 use ns_types::text::Text;
 use ns_world::{Tables, TenantRows};
-use std::alloc::AllocError;
 
 /// What the stop of a live allocation answers and changes.
 fn stopped(
@@ -27,17 +25,20 @@ fn stopped(
     number: u64,
     row: &Allocation,
     numbers: Numbers,
-) -> Result<Prepared, AllocError>
+) -> Result<Prepared, Refusal>
     requires tenant { row_at tables.now.tenants namespace.now ≡ Some tenant.now }
     requires numbers { IsNext (tenant_of tenant.now) numbers }
     ensures { let t = tenant_of tenant.now in
         let done = stopped_with namespace.now number (world_of tables.now) t row.now in
-        IfOk result (IsDone done tables.now) }
+        Prepares done tables.now result }
 {
-    let content = Content::Stopped(numbers.evaluation, numbers.index);
-    let evaluation = evaluation_for(tables.alloc, tenant, row, Trigger::AllocStop)?;
-    let change = stop_and_make(tables, namespace, number, evaluation)?;
-    Ok(Prepared { content, change })
+    let mut change = Change::new(tables.alloc);
+    let made = stop_and_make(tables, &mut change, namespace, tenant, number, row);
+    prepare(
+        Content::Stopped(numbers.evaluation, numbers.index),
+        change,
+        made,
+    )
 }
 
 /// A live allocation is stopped, and an evaluation of its job is made.
@@ -60,6 +61,5 @@ pub fn stop_allocation(tables: &Tables, namespace: &Text, number: u64) -> Result
     let Some(numbers) = next_numbers(tenant) else {
         return Err(Refusal::Full);
     };
-    let prepared = stopped(tables, namespace, tenant, number, row, numbers)?;
-    Ok(prepared)
+    stopped(tables, namespace, tenant, number, row, numbers)
 }

@@ -16,7 +16,7 @@ use Rattle.ns_types.specs.Validity.{IsSound}
 use Rattle.ns_types.proofs.Named.{first_of_both, same_name_is, second_of_both}
 use Rattle.ns_types.proofs.Tests.{not_Some}
 use Rattle.ns_live.specs.Loads.{IsCounted, IsWithinNodes}
-use Rattle.ns_live.proofs.Levels.{not_true}
+use Rattle.keyed.proofs.Levels.{not_true}
 use Rattle.ns_live.proofs.Loaded.{nothing_there}
 
 counted_by : (a most : ℕ) → nat_le a most ≡ true → nat_le most 2147483647 ≡ true → a < 2 ^ 64

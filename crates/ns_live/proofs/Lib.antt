@@ -1,7 +1,6 @@
 pub mod Administered
 pub mod Bounded
 pub mod Changing
-pub mod Levels
 pub mod Listing
 pub mod Loaded
 pub mod Puts

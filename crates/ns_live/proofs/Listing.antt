@@ -26,10 +26,10 @@ use Rattle.ns_types.proofs.TableRows.{entries_empty, some_row}
 use Rattle.ns_types.proofs.Tests.{not_Some, same_Some}
 use Rattle.ns_types.proofs.Elements.{any_flat, any_map, any_same, any_under}
 use Rattle.ns_types.proofs.Tables.{any_row-none, chosen, each_row, entries-table_of, filter-retain, get-map_rows, flat_map-retain, tied}
-use Rattle.ns_live.specs.declared.node_keys.NodeKeys.{NodeKeys}
-use Rattle.ns_live.specs.Levels.{holds_key, holds_number}
+use Rattle.keyed.specs.declared.key_set.KeySet.{KeySet}
+use Rattle.keyed.specs.Levels.{holds_key, holds_number}
 use Rattle.ns_live.specs.Listed.{found_at, keys_in}
-use Rattle.ns_live.proofs.Levels.{none_there, says_nothing}
+use Rattle.keyed.proofs.Levels.{none_there, says_nothing}
 use Rattle.ns_live.proofs.Sums.{looked}
 
 -- ---- lists
@@ -92,7 +92,7 @@ flat_alike f g (a ∷ xs) h = λ i. h.0 i ++ flat_alike f g xs h.1 i
 abbrev pub shown : Key × Allocation → Name × (ℕ × Allocation)
 shown found = (found.0.0, (found.0.1, found.1))
 
-module _ (w : World) (pool node : Name) (held : NodeKeys)
+module _ (w : World) (pool node : Name) (held : KeySet)
     (right : (key : Key) → holds_key held key ≡ option_map_or (is_live_on pool node) (allocation_at w key) false) where
   at_row : (ns : Name) (t : Tenant) (n : ℕ) (row : Allocation) → get w.tenants ns ≡ Some t → get t.allocations n ≡ Some row →
       holds_key held (ns, n) ≡ is_live_on pool node row
@@ -100,31 +100,31 @@ module _ (w : World) (pool node : Name) (held : NodeKeys)
       (ap (option_and_then (λ (x : Tenant). get x.allocations n)) at ∙ there)
 
   -- of a namespace, at its numbers
-  pub live_rows : (ns : Name) (t : Tenant) (its : ByNumber (Option Unit)) → get w.tenants ns ≡ Some t → row_at held.namespaces ns ≡ Some its →
+  pub live_rows : (ns : Name) (t : Tenant) (its : ByNumber (Option Unit)) → get w.tenants ns ≡ Some t → row_at held.numbers ns ≡ Some its →
       filter (λ a. is_live_on pool node a.1) (entries t.allocations) ≡ found_at (get t.allocations) (keys (rows its))
   live_rows ns t its at is = filter_at_keys numbers one_number t.allocations (rows its) (λ _ row. is_live_on pool node row)
       (λ n row there. sym (at_row ns t n row at there) ∙ ap (λ r. option_map_or (λ (s : ByNumber (Option Unit)). is_some (row_at s n)) r false) is
       ∙ ap is_some (sym (get-rows numbers its n)))
 
   -- a namespace without keys has none
-  no_rows : (ns : Name) (t : Tenant) → get w.tenants ns ≡ Some t → contains_key (rows held.namespaces) ns ≡ false →
+  no_rows : (ns : Name) (t : Tenant) → get w.tenants ns ≡ Some t → contains_key (rows held.numbers) ns ≡ false →
       filter (λ a. is_live_on pool node a.1) (entries t.allocations) ≡ []
   no_rows ns t at out = filter_none (λ a. is_live_on pool node a.1) (entries t.allocations)
       (each_row numbers one_number (λ _ row. is_live_on pool node row ≡ false) t.allocations
       (λ n row there. sym (at_row ns t n row at there) ∙ ap (λ r. option_map_or (λ (s : ByNumber (Option Unit)). is_some (row_at s n)) r false)
-      (sym (get-rows names held.namespaces ns) ∙ none_there (get (rows held.namespaces) ns) out)))
+      (sym (get-rows names held.numbers ns) ∙ none_there (get (rows held.numbers) ns) out)))
 
   -- its live allocations are the rows at its keys, in the order of the keys: no other row is looked at
   pub allocations_are : allocations_on w pool node ≡ map shown (found_at (allocation_at w) (keys_in held))
-  allocations_are = flat_at_keys names one_name w.tenants (rows held.namespaces)
+  allocations_are = flat_at_keys names one_name w.tenants (rows held.numbers)
       (λ ns t. map (λ a. (ns, a)) (filter (λ a. is_live_on pool node a.1) (entries t.allocations)))
       (λ ns t at out. ap (map (λ a. (ns, a))) (no_rows ns t at out))
       ∙ flat_alike (λ e. option_map_or (λ (t : Tenant). map (λ a. (e.0, a)) (filter (λ a. is_live_on pool node a.1) (entries t.allocations)))
-      (get w.tenants e.0) []) (λ e. map shown (found_at (allocation_at w) (map (λ n. (e.0, n)) (keys (rows e.1))))) (entries (rows held.namespaces))
+      (get w.tenants e.0) []) (λ e. map shown (found_at (allocation_at w) (map (λ n. (e.0, n)) (keys (rows e.1))))) (entries (rows held.numbers))
       (each_row names one_name (λ ns its. option_map_or (λ (t : Tenant). map (λ a. (ns, a)) (filter (λ a. is_live_on pool node a.1) (entries t.allocations)))
-      (get w.tenants ns) [] ≡ map shown (found_at (allocation_at w) (map (λ n. (ns, n)) (keys (rows its))))) (rows held.namespaces)
-      (λ ns its is. by ns its (sym (get-rows names held.namespaces ns) ∙ is) (get w.tenants ns) refl))
-      ∙ sym (found_flat (allocation_at w) shown (λ e. map (λ n. (e.0, n)) (keys (rows e.1))) (entries (rows held.namespaces)))
+      (get w.tenants ns) [] ≡ map shown (found_at (allocation_at w) (map (λ n. (ns, n)) (keys (rows its))))) (rows held.numbers)
+      (λ ns its is. by ns its (sym (get-rows names held.numbers ns) ∙ is) (get w.tenants ns) refl))
+      ∙ sym (found_flat (allocation_at w) shown (λ e. map (λ n. (e.0, n)) (keys (rows e.1))) (entries (rows held.numbers)))
     where
       nowhere : (ns : Name) → get w.tenants ns ≡ None → (ns' : List ℕ) → found_at (allocation_at w) (map (λ n. (ns, n)) ns') ≡ []
       nowhere ns at [] = refl
@@ -144,7 +144,7 @@ module _ (w : World) (pool node : Name) (held : NodeKeys)
           one None later = later
           one (Some row) later = ap (λ l. (ns, (n, row)) ∷ l) later
 
-      by : (ns : Name) (its : ByNumber (Option Unit)) → row_at held.namespaces ns ≡ Some its → (r : Option Tenant) → get w.tenants ns ≡ r
+      by : (ns : Name) (its : ByNumber (Option Unit)) → row_at held.numbers ns ≡ Some its → (r : Option Tenant) → get w.tenants ns ≡ r
           → option_map_or (λ (t : Tenant). map (λ a. (ns, a)) (filter (λ a. is_live_on pool node a.1) (entries t.allocations))) r []
           ≡ map shown (found_at (allocation_at w) (map (λ n. (ns, n)) (keys (rows its))))
       by ns its is None at = sym (ap (map shown) (nowhere ns at (keys (rows its))))
@@ -152,8 +152,8 @@ module _ (w : World) (pool node : Name) (held : NodeKeys)
 
   -- no other namespace is looked at for the jobs that lose one with the node
   pub losses_are : losses pool node w ≡ flat_map (λ e. option_map_or (λ t. map (λ a. (e.0, a)) (losing_jobs pool node t)) (get w.tenants e.0) [])
-      (entries (rows held.namespaces))
-  losses_are = flat_at_keys names one_name w.tenants (rows held.namespaces) (λ ns t. map (λ a. (ns, a)) (losing_jobs pool node t))
+      (entries (rows held.numbers))
+  losses_are = flat_at_keys names one_name w.tenants (rows held.numbers) (λ ns t. map (λ a. (ns, a)) (losing_jobs pool node t))
       (λ ns t at out. ap (λ es. map (λ (a : Allocation). (ns, a)) (values (from_entries {R = name_cmp} (map (λ a. (a.1.job, a.1)) es)))) (no_rows ns t at out)
       ∙ ap (map (λ (a : Allocation). (ns, a))) no_job)
     where
@@ -181,13 +181,13 @@ module _ (w : World) (pool node : Name) (held : NodeKeys)
 
 -- where nothing is live
 module _ (w : World) (pool node : Name) (none : (key : Key) → option_map_or (is_live_on pool node) (allocation_at w key) false ≡ false) where
-  abbrev no_keys : NodeKeys
-  no_keys = record { namespaces = empty }
+  abbrev no_keys : KeySet
+  no_keys = record { numbers = empty }
 
   right : (key : Key) → holds_key no_keys key ≡ option_map_or (is_live_on pool node) (allocation_at w key) false
-  right key = says_nothing (λ (s : NodeKeys). s.namespaces) holds_number no_keys refl key ∙ sym (none key)
+  right key = says_nothing (λ (s : KeySet). s.numbers) holds_number no_keys refl key ∙ sym (none key)
 
-  no_namespace : entries (rows no_keys.namespaces) ≡ []
+  no_namespace : entries (rows no_keys.numbers) ≡ []
   no_namespace = ap entries rows-empty ∙ entries_empty names one_name
 
   pub no_allocations : allocations_on w pool node ≡ []
@@ -237,14 +237,14 @@ has_number-keys {X = X} m n = any_map (same_number n) (λ e. e.0) (entries m) �
     by None = refl
     by (Some x) = refl
 
-pub has_key-keys_in : (held : NodeKeys) (key : Key) → has_key (keys_in held) key ≡ holds_key held key
-has_key-keys_in held key = any_flat (same_key key) (λ namespace. map (λ n. (namespace.0, n)) (keys (rows namespace.1))) (entries (rows held.namespaces))
+pub has_key-keys_in : (held : KeySet) (key : Key) → has_key (keys_in held) key ≡ holds_key held key
+has_key-keys_in held key = any_flat (same_key key) (λ namespace. map (λ n. (namespace.0, n)) (keys (rows namespace.1))) (entries (rows held.numbers))
     ∙ any_same (λ e. list_any (same_key key) (map (λ n. (e.0, n)) (keys (rows e.1)))) (λ e. same_name key.0 e.0 && contains_key (rows e.1) key.1)
     (λ e. any_map (same_key key) (λ n. (e.0, n)) (keys (rows e.1)) ∙ any_under (same_name key.0 e.0) (same_number key.1) (keys (rows e.1))
-    ∙ ap (λ b. same_name key.0 e.0 && b) (has_number-keys (rows e.1) key.1)) (entries (rows held.namespaces))
-    ∙ any_at names one_name key.0 (λ its. contains_key (rows its) key.1) (rows held.namespaces)
-    ∙ ap (λ r. option_map_or (λ its. contains_key (rows its) key.1) r false) (get-rows names held.namespaces key.0)
-    ∙ by (row_at held.namespaces key.0)
+    ∙ ap (λ b. same_name key.0 e.0 && b) (has_number-keys (rows e.1) key.1)) (entries (rows held.numbers))
+    ∙ any_at names one_name key.0 (λ its. contains_key (rows its) key.1) (rows held.numbers)
+    ∙ ap (λ r. option_map_or (λ its. contains_key (rows its) key.1) r false) (get-rows names held.numbers key.0)
+    ∙ by (row_at held.numbers key.0)
   where
     by : (r : Option (ByNumber (Option Unit))) → option_map_or (λ its. contains_key (rows its) key.1) r false
         ≡ option_map_or (λ (its : ByNumber (Option Unit)). is_some (row_at its key.1)) r false
@@ -252,7 +252,7 @@ has_key-keys_in held key = any_flat (same_key key) (λ namespace. map (λ n. (na
     by (Some its) = ap is_some (get-rows numbers its key.1)
 
 -- of the rows of a world the keys name those that are live on the node, and no others
-pub live_set : (w : World) (pool node : Name) (held : NodeKeys) →
+pub live_set : (w : World) (pool node : Name) (held : KeySet) →
     ((key : Key) → holds_key held key ≡ option_map_or (is_live_on pool node) (allocation_at w key) false) →
     (ns : Name) (t : Tenant) (n : ℕ) (row : Allocation) → get w.tenants ns ≡ Some t → get t.allocations n ≡ Some row →
     has_key (keys_in held) (ns, n) ≡ is_live_on pool node row

@@ -16,10 +16,10 @@ use Rattle.ns_world.specs.declared.tables.Tables.{Tables}
 use Rattle.ns_world.specs.declared.tables.TenantRows.{TenantRows}
 use Rattle.ns_world.specs.World.{tenant_of, world_of}
 use Rattle.ns_world.proofs.World.{tenant_at}
-use Rattle.ns_live.specs.declared.node_keys.NodeKeys.{NodeKeys}
-use Rattle.ns_live.specs.Levels.{holds_key}
+use Rattle.keyed.specs.declared.key_set.KeySet.{KeySet}
+use Rattle.keyed.specs.Levels.{holds_key}
 use Rattle.ns_live.specs.Loads.{each_resource, keys_amount, namespace_amount, number_amount, numbers_amount}
-use Rattle.ns_live.proofs.Levels.{none_there}
+use Rattle.keyed.proofs.Levels.{none_there}
 use Rattle.ns_live.proofs.Sums.{sum_alike, sum_at_keys, sum_none}
 
 module _ (w : World) (pool node : Name) (amount : Resources → ℕ) where
@@ -85,17 +85,17 @@ module _ (t : Tables) (pool node : Name) (amount : Resources → ℕ) where
   abbrev on_at : Key → Bool
   on_at key = option_map_or on (allocation_at (world_of t) key) false
 
-  module _ (keys : NodeKeys) (right : (key : Key) → holds_key keys key ≡ on_at key) where
-    none_held : (ns : Name) → row_at keys.namespaces ns ≡ None → (n : ℕ) → on_at (ns, n) ≡ false
+  module _ (keys : KeySet) (right : (key : Key) → holds_key keys key ≡ on_at key) where
+    none_held : (ns : Name) → row_at keys.numbers ns ≡ None → (n : ℕ) → on_at (ns, n) ≡ false
     none_held ns none n = sym (right (ns, n)) ∙ ap (λ r. option_map_or (λ (held : ByNumber (Option Unit)). is_some (row_at held n)) r false) none
 
-    right_in : (ns : Name) (tenant : TenantRows) (held : ByNumber (Option Unit)) → row_at t.tenants ns ≡ Some tenant → row_at keys.namespaces ns ≡ Some held →
+    right_in : (ns : Name) (tenant : TenantRows) (held : ByNumber (Option Unit)) → row_at t.tenants ns ≡ Some tenant → row_at keys.numbers ns ≡ Some held →
         (n : ℕ) → is_some (row_at held n) ≡ option_map_or on (row_at tenant.allocations n) false
     right_in ns tenant held at there n = sym (ap (λ r. option_map_or (λ (held : ByNumber (Option Unit)). is_some (row_at held n)) r false) there)
         ∙ right (ns, n) ∙ ap (λ r. option_map_or on r false)
         (ap (option_and_then (λ (x : Tenant). get x.allocations n)) (tenant_at t ns ∙ ap (option_map tenant_of) at) ∙ get-rows numbers tenant.allocations n)
 
-    at_namespace : (ns : Name) (slot : Option (ByNumber (Option Unit))) → get keys.namespaces ns ≡ Some slot →
+    at_namespace : (ns : Name) (slot : Option (ByNumber (Option Unit))) → get keys.numbers ns ≡ Some slot →
         option_map_or (λ tenant. tenant_sum on amount tenant) (get (world_of t).tenants ns) 0 ≡ namespace_amount t.tenants amount (ns, slot)
     at_namespace ns None is = by (get (world_of t).tenants ns) refl
       where
@@ -111,17 +111,17 @@ module _ (t : Tables) (pool node : Name) (amount : Resources → ℕ) where
 
     pub loaded : node_sum (world_of t) pool node amount ≡ keys_amount t.tenants keys amount
     unfolding node_sum
-    loaded = sum_at_keys names one_name (λ _ tenant. tenant_sum on amount tenant) (world_of t).tenants keys.namespaces
-        (λ ns tenant at out. nothing_in (world_of t) pool node amount ns tenant at (none_held ns (ap flat (none_there (get keys.namespaces ns) out))))
+    loaded = sum_at_keys names one_name (λ _ tenant. tenant_sum on amount tenant) (world_of t).tenants keys.numbers
+        (λ ns tenant at out. nothing_in (world_of t) pool node amount ns tenant at (none_held ns (ap flat (none_there (get keys.numbers ns) out))))
         ∙ sum_alike (λ e. option_map_or (λ tenant. tenant_sum on amount tenant) (get (world_of t).tenants e.0) 0) (namespace_amount t.tenants amount)
-        (entries keys.namespaces)
+        (entries keys.numbers)
         (each_row names one_name (λ ns slot. option_map_or (λ tenant. tenant_sum on amount tenant) (get (world_of t).tenants ns) 0
-        ≡ namespace_amount t.tenants amount (ns, slot)) keys.namespaces at_namespace)
+        ≡ namespace_amount t.tenants amount (ns, slot)) keys.numbers at_namespace)
 
 -- ---- both resources
 
 module _ (t : Tables) (pool node : Name) where
-  pub load_is : (keys : NodeKeys) → ((key : Key) → holds_key keys key ≡ option_map_or (is_live_on pool node) (allocation_at (world_of t) key) false) →
+  pub load_is : (keys : KeySet) → ((key : Key) → holds_key keys key ≡ option_map_or (is_live_on pool node) (allocation_at (world_of t) key) false) →
       node_load (world_of t) pool node ≡ each_resource (keys_amount t.tenants keys)
   load_is keys right = λ i. record {
     cpu = loaded t pool node (λ r. r.cpu) keys right i;

@@ -9,7 +9,8 @@ use Rattle.ns_types.proofs.Named.{first_of_both, same_key_is, same_name_is, seco
 use Rattle.ns_types.proofs.Tests.{or_none}
 use Rattle.ns_live.specs.declared.live.Live.{Live}
 use Rattle.ns_live.specs.Index.{AddsRow, Indexes, has_room, holds, with_row}
-use Rattle.ns_live.specs.Levels.{Adds, Drops, has_pool_room, holds_in_pool, same_at}
+use Rattle.keyed.specs.Levels.{Adds, Drops, same_at}
+use Rattle.ns_live.specs.Levels.{has_pool_room, holds_in_pool}
 
 regrouped : (a b c : Bool) → (a && (b && c)) ≡ (c && (a && b))
 regrouped true true true = refl

@@ -3,12 +3,12 @@ use Rattle.std.specs.Prelude.{List, [], ◌∷◌, Option, flat_map, map}
 use Rattle.std.specs.FinMap.{entries, keys}
 use Rattle.keyed.specs.Table.{rows, with_row}
 use Rattle.ns_types.specs.State.Names.{Key}
-use Rattle.ns_live.specs.declared.node_keys.NodeKeys.{NodeKeys}
+use Rattle.keyed.specs.declared.key_set.KeySet.{KeySet}
 
 -- by namespace, then by number
-abbrev pub keys_in : NodeKeys → List Key
+abbrev pub keys_in : KeySet → List Key
 keys_in held = flat_map (λ namespace. map (λ n. (namespace.0, n)) (keys (rows namespace.1)))
-    (entries (rows held.namespaces))
+    (entries (rows held.numbers))
 
 -- the rows that are found at the keys, in the order of the keys
 abbrev pub found_at : {K X : Type 0} → (K → Option X) → List K → List (K × X)

@@ -12,7 +12,7 @@ use Rattle.ns_types.specs.State.Resources.{is_within}
 use Rattle.ns_types.specs.State.Rows.{World, allocation_at, is_live, node_at}
 use Rattle.ns_types.specs.State.Sums.{node_load}
 use Rattle.ns_world.specs.declared.tables.TenantRows.{TenantRows}
-use Rattle.ns_live.specs.declared.node_keys.NodeKeys.{NodeKeys}
+use Rattle.keyed.specs.declared.key_set.KeySet.{KeySet}
 
 abbrev pub each_resource : ((Resources → ℕ) → ℕ) → Resources
 each_resource sum = record { cpu = sum (λ r. r.cpu); memory = sum (λ r. r.memory) }
@@ -44,5 +44,5 @@ namespace_amount tenants amount (ns, None) = 0
 namespace_amount tenants amount (ns, Some numbers) =
     option_map_or (λ tenant. numbers_amount tenant.allocations numbers amount) (row_at tenants ns) 0
 
-abbrev pub keys_amount : ByName (Option TenantRows) → NodeKeys → (Resources → ℕ) → ℕ
-keys_amount tenants keys amount = sum_by (namespace_amount tenants amount) (entries keys.namespaces)
+abbrev pub keys_amount : ByName (Option TenantRows) → KeySet → (Resources → ℕ) → ℕ
+keys_amount tenants keys amount = sum_by (namespace_amount tenants amount) (entries keys.numbers)

@@ -5,8 +5,6 @@
 pub mod laws;
 mod live;
 mod loads;
-mod node_keys;
 mod pool_keys;
 
 pub use live::Live;
-pub use node_keys::NodeKeys;

@@ -10,14 +10,14 @@ ghost use Rattle.ns_types.specs.State.Rows.{is_live, is_live_on};
 ghost use Rattle.ns_types.specs.State.Sums.{node_load};
 ghost use Rattle.ns_live.specs.Index.{AddsRow, HasRoomFor, HasRoomForAll, Indexes, IsRight, KeepsKeys, KeepsRoom};
 ghost use Rattle.ns_live.specs.Index.{has_room, holds, with_changes, with_row};
-ghost use Rattle.ns_live.specs.Levels.{Adds, Drops, Keeps, holds_in_pool, holds_key, has_pool_room, same_at};
+ghost use Rattle.keyed.specs.Levels.{Adds, Drops, Keeps, holds_key, same_at};
+ghost use Rattle.ns_live.specs.Levels.{holds_in_pool, has_pool_room};
 ghost use Rattle.ns_live.specs.Loads.{IsCounted};
 ghost use Rattle.ns_world.specs.World.{world_of};
 
 use crate::loads::{keys_load, none};
-use crate::node_keys::NodeKeys;
 use crate::pool_keys::PoolKeys;
-use keyed::{NameTable, NumberTable};
+use keyed::{KeySet, NameTable, NumberTable};
 use ns_types::allocation::Allocation;
 use ns_types::resources::Resources;
 use ns_types::text::{Text, same_text};
@@ -131,7 +131,7 @@ impl Live {
     }
 
     /// The keys of the live allocations on this node, where there are some.
-    pub fn keys_on(&self, pool: &Text, node: &Text) -> Option<&NodeKeys>
+    pub fn keys_on(&self, pool: &Text, node: &Text) -> Option<&KeySet>
         ensures { (key : Key) →
             option_map_or (λ keys. holds_key keys key) (option_copied result) false
             ≡ holds self.now pool.now node.now key }

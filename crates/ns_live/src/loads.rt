@@ -5,8 +5,7 @@ ghost use Rattle.ns_types.specs.State.Resources.{none, plus};
 ghost use Rattle.ns_live.specs.Loads.{IsCounted, each_resource, keys_amount};
 ghost use Rattle.ns_live.specs.Loads.{namespace_amount, number_amount, numbers_amount};
 
-use crate::node_keys::NodeKeys;
-use keyed::NumberTable;
+use keyed::{KeySet, NumberTable};
 use ns_types::allocation::Allocation;
 use ns_types::resources::Resources;
 use ns_types::text::Text;
@@ -68,7 +67,7 @@ fn namespace_load(tables: &Tables, slot: &(Text, Option<NumberTable<()>>)) -> Re
 }
 
 /// Of all namespaces.
-pub(crate) fn keys_load(tables: &Tables, keys: &NodeKeys) -> Resources
+pub(crate) fn keys_load(tables: &Tables, keys: &KeySet) -> Resources
     requires { IsCounted (each_resource (keys_amount tables.now.tenants keys.now)) }
     ensures { result ≡ each_resource (keys_amount tables.now.tenants keys.now) }
 {

@@ -4,17 +4,17 @@ ghost use Rattle.std.specs.Prelude.{◌≡◌, IsTrue, OnOk, is_some, option_cop
 ghost use Rattle.std.specs.FinMap.{empty};
 ghost use Rattle.keyed.specs.Table.{row_at};
 ghost use Rattle.ns_types.specs.State.Names.{same_key};
-ghost use Rattle.ns_live.specs.Levels.{Adds, Drops, Keeps, holds_on_node, has_node_room, same_at};
+ghost use Rattle.keyed.specs.Levels.{Adds, Drops, Keeps, same_at};
+ghost use Rattle.ns_live.specs.Levels.{holds_on_node, has_node_room};
 
-use crate::node_keys::NodeKeys;
-use keyed::NameTable;
+use keyed::{KeySet, NameTable};
 use ns_types::text::Text;
 use std::alloc::{AllocError, Global};
 
 /// The keys of the live allocations in a pool, by node.
 #[derive(Drop)]
 pub(crate) struct PoolKeys {
-    nodes: NameTable<NodeKeys>,
+    nodes: NameTable<KeySet>,
 }
 
 impl PoolKeys {
@@ -34,7 +34,7 @@ impl PoolKeys {
         self.nodes.as_slice().is_empty()
     }
 
-    pub(crate) fn keys_on(&self, node: &Text) -> Option<&NodeKeys>
+    pub(crate) fn keys_on(&self, node: &Text) -> Option<&KeySet>
         ensures { option_copied result ≡ row_at self.now.nodes node.now }
     {
         self.nodes.get(node)
@@ -47,7 +47,7 @@ impl PoolKeys {
     {
         self.nodes.reserve(node)?;
         if self.nodes.get(node).is_none() {
-            self.nodes.set(node, NodeKeys::new(alloc));
+            self.nodes.set(node, KeySet::new(alloc));
         }
         Ok(())
     }

@@ -1,5 +1,6 @@
-use Rattle.std.specs.Prelude.{◌≡◌, ℕ, Bool, true, false, if◌then◌else◌}
-use Rattle.std.proofs.Common.{refl, ap, sym, ◌∙◌}
+use Rattle.std.specs.Prelude.{◌≡◌, ℕ, Bool, Err, true, false, if◌then◌else◌}
+use Rattle.std.proofs.Common.{refl, ap, subst, sym, ◌∙◌}
+use Rattle.std.proofs.lemmas.Result.{err_from_is_err_and}
 use Rattle.ns_types.specs.declared.job.Job.{Job}
 use Rattle.ns_types.specs.declared.evaluation.Trigger.TheVariants as Trigger
 use Rattle.ns_types.specs.declared.reply.Content.TheVariants as Content
@@ -7,7 +8,9 @@ use Rattle.ns_types.specs.Asking.Asks.{stopped_job}
 use Rattle.ns_types.specs.Settling.Making.{evaluation_of, make_in, with_job}
 use Rattle.ns_types.specs.Settling.Outcome.{Done}
 use Rattle.ns_world.specs.World.{tenant_of, world_of}
-use Rattle.ns_jobs.proofs.Prepared.{left_here, made_is, there}
+use Rattle.ns_change.specs.Changed.{HasEvaluationLeft}
+use Rattle.ns_change.proofs.Prepares.{done_as, out_of_memory, prepares_as}
+use Rattle.ns_jobs.proofs.Prepared.{left_here, made_over, there}
 use Rattle.ns_jobs.proofs.deregistration.stopped.Goals as goal
 
 -- it keeps its document
@@ -18,9 +21,15 @@ kept index job = by job.stop
     by true = refl
     by false = refl
 
-pub put_and_make-requires : goal.put_and_make-requires
-put_and_make-requires c = left_here (world_of c.args.tables.now) c.args.namespace.now (tenant_of c.args.tenant.now)
-    (there c.args.tables.now c.args.namespace.now c.args.tenant.now c.requires.tenant) c.requires.numbers.fits
+pub put_and_make-made-requires : goal.put_and_make-made-requires
+put_and_make-made-requires c = subst (λ w. HasEvaluationLeft w c.args.namespace.now) (sym (c.new-change.ensures c.args.tables.now))
+    (left_here (world_of c.args.tables.now) c.args.namespace.now (tenant_of c.args.tenant.now)
+    (there c.args.tables.now c.args.namespace.now c.args.tenant.now c.requires.tenant) c.requires.numbers.fits)
+
+pub returns-in_err-job : goal.returns-in_err-job
+returns-in_err-job c =
+    let p = err_from_is_err_and c.from_residual.result c.from_residual.ensures.1 in
+    out_of_memory _ c.args.tables.now c.from_residual.result (p.1 ∙ ap Err p.2) refl
 
 pub returns : goal.returns
 returns c =
@@ -29,11 +38,14 @@ returns c =
     let ns = c.args.namespace.now in
     let id = c.args.id.now in
     let n = c.requires.numbers in
-    (λ i. Done (Content.Registered (sym n.evaluation i) (sym n.index i) (stopped_job (sym n.index i) c.args.job.now).modify_index)
+    let f = with_job id c.in_ok-job.job in
+    let e = evaluation_of id c.in_ok-job.job.document Trigger.JobDeregister in
+    prepares_as _ _ c.args.tables.now c.prepare.result
+    ((λ i. Done (Content.Registered (sym n.evaluation i) (sym n.index i) (stopped_job (sym n.index i) c.args.job.now).modify_index)
     (make_in ns (evaluation_of id (kept (sym n.index i) c.args.job.now i) Trigger.JobDeregister) w
     (with_job id (stopped_job (sym n.index i) c.args.job.now) t)))
     ∙ (λ i. Done (Content.Registered c.args.numbers.evaluation c.args.numbers.index (sym c.in_ok-job.ensures i).modify_index)
-    (make_in ns (evaluation_of id (sym c.in_ok-job.ensures i).document Trigger.JobDeregister) w (with_job id (sym c.in_ok-job.ensures i) t)))
-    ∙ ap (Done (Content.Registered c.args.numbers.evaluation c.args.numbers.index c.in_ok-job.job.modify_index))
-    (sym (c.in_ok-change.ensures ∙ made_is w ns t (there c.args.tables.now ns c.args.tenant.now c.requires.tenant) (with_job id c.in_ok-job.job)
-    (evaluation_of id c.in_ok-job.job.document Trigger.JobDeregister)))
+    (make_in ns (evaluation_of id (sym c.in_ok-job.ensures i).document Trigger.JobDeregister) w (with_job id (sym c.in_ok-job.ensures i) t))))
+    (c.prepare.ensures c.args.tables.now (make_in ns e w (f t)) (done_as _ c.args.tables.now c.put_and_make-made.new.change _ _
+    (made_over w ns t (there c.args.tables.now ns c.args.tenant.now c.requires.tenant) f e _ (c.new-change.ensures c.args.tables.now))
+    c.put_and_make-made.ensures))

@@ -1,19 +1,14 @@
-use Rattle.std.proofs.Common.{refl, ap, sym, subst, ◌∙◌}
-use Rattle.ns_types.specs.Settling.Making.{change_tenant, make, with_job}
-use Rattle.ns_change.specs.Changed.{HasEvaluationLeft}
-use Rattle.ns_world.specs.World.{world_of}
+use Rattle.std.proofs.Common.{refl, sym, subst}
+use Rattle.ns_types.specs.Settling.Making.{make, with_job}
+use Rattle.ns_change.specs.Changed.{HasEvaluationLeft, view}
+use Rattle.ns_change.proofs.Prepares.{done_as}
 use Rattle.ns_jobs.proofs.Prepared.{still_left}
 use Rattle.ns_jobs.proofs.making.put_and_make.Goals as goal
 
 pub make-requires : goal.make-requires
-make-requires c =
-    let f = with_job c.args.id.now c.args.job in
-    subst (λ w. HasEvaluationLeft w c.args.namespace.now)
-    (sym (c.in_ok-put_job.ensures ∙ ap (change_tenant c.args.namespace.now f) (c.new-change.ensures c.args.tables.now)))
-    (still_left (world_of c.args.tables.now) c.args.namespace.now f (λ t. refl) c.requires)
+make-requires c = subst (λ w. HasEvaluationLeft w c.args.namespace.now) (sym c.in_ok-put_job.ensures)
+    (still_left (view c.args.tables.now c.args.change.now) c.args.namespace.now (with_job c.args.id.now c.args.job) (λ t. refl) c.requires)
 
 pub returns : goal.returns
-returns c =
-    let f = with_job c.args.id.now c.args.job in
-    c.in_ok-make.ensures ∙ (λ i. make c.args.namespace.now (λ _. c.in_ok-evaluation.ensures i)
-    ((c.in_ok-put_job.ensures ∙ ap (change_tenant c.args.namespace.now f) (c.new-change.ensures c.args.tables.now)) i))
+returns c = done_as c.make.result c.args.tables.now c.make.new.change _ _
+    (λ i. make c.args.namespace.now (λ _. c.in_ok-evaluation.ensures i) (c.in_ok-put_job.ensures i)) c.make.ensures

@@ -1,10 +1,8 @@
-use Rattle.std.proofs.Common.{ap, sym, ◌∙◌, Err}
-use Rattle.std.proofs.lemmas.Result.{err_from_is_err_and}
+use Rattle.std.proofs.Common.{ap, sym, ◌∙◌}
 use Rattle.std.specs.Option.{option_copied}
 use Rattle.ns_types.specs.declared.step.AskCommand.TheVariants as AskCommand
-use Rattle.ns_types.specs.Settling.Outcome.{is_done}
 use Rattle.ns_world.specs.World.{tenant_of, world_of}
-use Rattle.ns_change.proofs.Prepares.{out_of_memory}
+use Rattle.ns_change.proofs.Prepares.{prepares_as}
 use Rattle.ns_jobs.proofs.Asked.{nowhere, register_full, register_refused, registers}
 use Rattle.ns_jobs.proofs.Prepared.{absent, there}
 use Rattle.ns_jobs.proofs.registration.register.Goals as goal
@@ -27,15 +25,8 @@ pub registered-requires-clause-versions : goal.registered-requires-clause-versio
 registered-requires-clause-versions c = c.requires (tenant_of c.in-Some.tenant.now)
     (there c.args.tables.now c.args.namespace.now c.in-Some.tenant.now (sym c.get.ensures ∙ ap option_copied c.in-Some.is))
 
-pub returns-in_err-prepared : goal.returns-in_err-prepared
-returns-in_err-prepared c =
-    let p = err_from_is_err_and c.from_residual.result c.from_residual.ensures.1 in
-    out_of_memory _ c.args.tables.now c.from_residual.result (p.1 ∙ ap Err p.2)
-    (ap is_done (registers (world_of c.args.tables.now) c.args.namespace.now c.args.registration.now (tenant_of c.in-Some.tenant.now)
-    (there c.args.tables.now c.args.namespace.now c.in-Some.tenant.now (sym c.get.ensures ∙ ap option_copied c.in-Some.is))
-    (sym c.first_refusal.ensures ∙ c.in_default-first_refusal.is) c.in-Some-next_numbers.ensures.fits))
-
 pub returns : goal.returns
-returns c = registers (world_of c.args.tables.now) c.args.namespace.now c.args.registration.now (tenant_of c.in-Some.tenant.now)
+returns c = prepares_as _ _ c.args.tables.now c.registered.result
+    (registers (world_of c.args.tables.now) c.args.namespace.now c.args.registration.now (tenant_of c.in-Some.tenant.now)
     (there c.args.tables.now c.args.namespace.now c.in-Some.tenant.now (sym c.get.ensures ∙ ap option_copied c.in-Some.is))
-    (sym c.first_refusal.ensures ∙ c.in_default-first_refusal.is) c.in-Some-next_numbers.ensures.fits ∙ c.in_ok-prepared.ensures
+    (sym c.first_refusal.ensures ∙ c.in_default-first_refusal.is) c.in-Some-next_numbers.ensures.fits) c.registered.ensures

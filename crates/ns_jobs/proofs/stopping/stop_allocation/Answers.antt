@@ -1,10 +1,8 @@
-use Rattle.std.proofs.Common.{ap, sym, ◌∙◌, Err}
-use Rattle.std.proofs.lemmas.Result.{err_from_is_err_and}
+use Rattle.std.proofs.Common.{ap, sym, ◌∙◌}
 use Rattle.std.specs.Option.{option_copied}
 use Rattle.ns_types.specs.declared.step.AskCommand.TheVariants as AskCommand
-use Rattle.ns_types.specs.Settling.Outcome.{is_done}
 use Rattle.ns_world.specs.World.{tenant_of, world_of}
-use Rattle.ns_change.proofs.Prepares.{out_of_memory}
+use Rattle.ns_change.proofs.Prepares.{prepares_as}
 use Rattle.ns_jobs.proofs.Asked.{no_allocation, not_live, nowhere, stop_full, stops}
 use Rattle.ns_jobs.proofs.Prepared.{absent, there}
 use Rattle.ns_jobs.proofs.stopping.stop_allocation.Goals as goal
@@ -29,17 +27,9 @@ returns-in_default-next_numbers c = stop_full (world_of c.args.tables.now) c.arg
     c.in-Some-allocation.row.now (sym c.allocation.ensures ∙ ap option_copied c.in-Some-allocation.is) (sym c.is_live.ensures ∙ c.if-not-is_live.false)
     c.in_default-next_numbers.ensures
 
-pub returns-in_err-prepared : goal.returns-in_err-prepared
-returns-in_err-prepared c =
-    let p = err_from_is_err_and c.from_residual.result c.from_residual.ensures.1 in
-    out_of_memory _ c.args.tables.now c.from_residual.result (p.1 ∙ ap Err p.2)
-    (ap is_done (stops (world_of c.args.tables.now) c.args.namespace.now c.args.number (tenant_of c.in-Some.tenant.now)
-    (there c.args.tables.now c.args.namespace.now c.in-Some.tenant.now (sym c.get.ensures ∙ ap option_copied c.in-Some.is))
-    c.in-Some-allocation.row.now (sym c.allocation.ensures ∙ ap option_copied c.in-Some-allocation.is) (sym c.is_live.ensures ∙ c.if-not-is_live.false)
-    c.in-Some-next_numbers.ensures.fits))
-
 pub returns : goal.returns
-returns c = stops (world_of c.args.tables.now) c.args.namespace.now c.args.number (tenant_of c.in-Some.tenant.now)
+returns c = prepares_as _ _ c.args.tables.now c.stopped.result
+    (stops (world_of c.args.tables.now) c.args.namespace.now c.args.number (tenant_of c.in-Some.tenant.now)
     (there c.args.tables.now c.args.namespace.now c.in-Some.tenant.now (sym c.get.ensures ∙ ap option_copied c.in-Some.is))
     c.in-Some-allocation.row.now (sym c.allocation.ensures ∙ ap option_copied c.in-Some-allocation.is) (sym c.is_live.ensures ∙ c.if-not-is_live.false)
-    c.in-Some-next_numbers.ensures.fits ∙ c.in_ok-prepared.ensures
+    c.in-Some-next_numbers.ensures.fits) c.stopped.ensures

@@ -1,15 +1,19 @@
-use Rattle.std.proofs.Common.{ap, sym, ◌∙◌}
+use Rattle.std.proofs.Common.{subst, sym}
 use Rattle.ns_types.specs.declared.allocation.DesiredStatus.TheVariants as DesiredStatus
+use Rattle.ns_types.specs.declared.evaluation.Trigger.TheVariants as Trigger
 use Rattle.ns_types.specs.declared.reply.Content.TheVariants as Content
-use Rattle.ns_types.specs.Settling.Making.{make_in, with_desired}
+use Rattle.ns_types.specs.Settling.Making.{evaluation_for, make_in, with_desired}
 use Rattle.ns_types.specs.Settling.Outcome.{Done}
 use Rattle.ns_world.specs.World.{tenant_of, world_of}
-use Rattle.ns_jobs.proofs.Prepared.{left_here, made_is, there}
+use Rattle.ns_change.specs.Changed.{HasEvaluationLeft}
+use Rattle.ns_change.proofs.Prepares.{done_as, prepares_as}
+use Rattle.ns_jobs.proofs.Prepared.{left_here, made_over, there}
 use Rattle.ns_jobs.proofs.stopping.stopped.Goals as goal
 
-pub stop_and_make-requires : goal.stop_and_make-requires
-stop_and_make-requires c = left_here (world_of c.args.tables.now) c.args.namespace.now (tenant_of c.args.tenant.now)
-    (there c.args.tables.now c.args.namespace.now c.args.tenant.now c.requires.tenant) c.requires.numbers.fits
+pub stop_and_make-made-requires : goal.stop_and_make-made-requires
+stop_and_make-made-requires c = subst (λ w. HasEvaluationLeft w c.args.namespace.now) (sym (c.new-change.ensures c.args.tables.now))
+    (left_here (world_of c.args.tables.now) c.args.namespace.now (tenant_of c.args.tenant.now)
+    (there c.args.tables.now c.args.namespace.now c.args.tenant.now c.requires.tenant) c.requires.numbers.fits)
 
 pub returns : goal.returns
 returns c =
@@ -18,6 +22,8 @@ returns c =
     let ns = c.args.namespace.now in
     let n = c.requires.numbers in
     let f = with_desired c.args.number DesiredStatus.Stop in
-    (λ i. Done (Content.Stopped (sym n.evaluation i) (sym n.index i)) (make_in ns (sym c.in_ok-evaluation.ensures i) w (f t)))
-    ∙ ap (Done (Content.Stopped c.args.numbers.evaluation c.args.numbers.index))
-    (sym (c.in_ok-change.ensures ∙ made_is w ns t (there c.args.tables.now ns c.args.tenant.now c.requires.tenant) f c.in_ok-evaluation.evaluation))
+    let e = evaluation_for t c.args.row.now Trigger.AllocStop in
+    prepares_as _ _ c.args.tables.now c.prepare.result (λ i. Done (Content.Stopped (sym n.evaluation i) (sym n.index i)) (make_in ns e w (f t)))
+    (c.prepare.ensures c.args.tables.now (make_in ns e w (f t)) (done_as _ c.args.tables.now c.stop_and_make-made.new.change _ _
+    (made_over w ns t (there c.args.tables.now ns c.args.tenant.now c.requires.tenant) f e _ (c.new-change.ensures c.args.tables.now))
+    c.stop_and_make-made.ensures))

@@ -1,9 +1,10 @@
 use Rattle.std.proofs.Common.{ap, refl, sym, ◌∙◌}
 use Rattle.std.specs.Option.{option_copied_mut}
 use Rattle.ns_types.specs.State.Names.{same_key}
-use Rattle.ns_live.specs.Levels.{holds_on_node, has_node_room, same_at}
+use Rattle.keyed.specs.Levels.{same_at}
+use Rattle.ns_live.specs.Levels.{holds_on_node, has_node_room}
 use Rattle.ns_live.specs.declared.live.Live.{Live}
-use Rattle.ns_live.proofs.Levels.{adds_at}
+use Rattle.keyed.proofs.Levels.{adds_at}
 use Rattle.ns_live.proofs.live.Live.insert.Goals as goal
 
 pub returns-in-Some : goal.returns-in-Some

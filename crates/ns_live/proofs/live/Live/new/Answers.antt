@@ -1,6 +1,6 @@
 use Rattle.ns_live.specs.declared.live.Live.{Live}
 use Rattle.ns_live.specs.Levels.{holds_on_node}
-use Rattle.ns_live.proofs.Levels.{says_nothing}
+use Rattle.keyed.proofs.Levels.{says_nothing}
 use Rattle.ns_live.proofs.live.Live.new.Goals as goal
 
 pub returns : goal.returns

@@ -2,10 +2,11 @@ use Rattle.std.proofs.Common.{ap, sym, ◌∙◌}
 use Rattle.std.specs.Option.{option_copied}
 use Rattle.keyed.proofs.Tables.{slot_made}
 use Rattle.ns_types.proofs.Named.{names}
-use Rattle.ns_live.specs.Levels.{holds_key, holds_on_node, has_node_room}
+use Rattle.keyed.specs.Levels.{holds_key}
+use Rattle.ns_live.specs.Levels.{holds_on_node, has_node_room}
 use Rattle.ns_live.specs.declared.pool_keys.PoolKeys.{PoolKeys}
 use Rattle.ns_live.specs.declared.live.Live.{Live}
-use Rattle.ns_live.proofs.Levels.{begun, none_there, only_slot, row_written, says_nothing}
+use Rattle.keyed.proofs.Levels.{begun, none_there, only_slot, row_written, says_nothing}
 use Rattle.ns_live.proofs.live.Live.open.Goals as goal
 
 pub set-requires : goal.set-requires

@@ -2,10 +2,11 @@ use Rattle.std.proofs.Common.{ap, refl, sym, ◌∙◌}
 use Rattle.std.specs.Option.{option_copied_mut}
 use Rattle.ns_types.specs.State.Names.{same_key}
 use Rattle.ns_types.proofs.Named.{names}
-use Rattle.ns_live.specs.Levels.{holds_key, has_key_room, holds_on_node, has_node_room, same_at}
+use Rattle.keyed.specs.Levels.{holds_key, has_key_room, same_at}
+use Rattle.ns_live.specs.Levels.{holds_on_node, has_node_room}
 use Rattle.ns_live.specs.declared.pool_keys.PoolKeys.{PoolKeys}
 use Rattle.ns_live.specs.declared.live.Live.{Live}
-use Rattle.ns_live.proofs.Levels.{drops_at, drops_all, drops_none, row_here, says_nothing}
+use Rattle.keyed.proofs.Levels.{drops_at, drops_all, drops_none, row_here, says_nothing}
 use Rattle.ns_live.proofs.live.Live.remove.Goals as goal
 
 pub returns-in_default : goal.returns-in_default

@@ -2,7 +2,7 @@ use Rattle.std.proofs.Common.{ap, refl, sym, ◌∙◌}
 use Rattle.std.specs.Option.{option_copied_mut}
 use Rattle.ns_live.specs.Levels.{has_pool_room, holds_in_pool, holds_on_node, has_node_room}
 use Rattle.ns_live.specs.declared.live.Live.{Live}
-use Rattle.ns_live.proofs.Levels.{keeps_at, keeps_then, room_here}
+use Rattle.keyed.proofs.Levels.{keeps_at, keeps_then, room_here}
 use Rattle.ns_live.proofs.live.Live.reserve_at.Goals as goal
 
 pub returns-in_err-reserve-clause-same : goal.returns-in_err-reserve-clause-same

@@ -1,9 +1,9 @@
 use Rattle.std.proofs.Common.{ap, refl, sym, ◌∙◌}
 use Rattle.std.specs.Option.{option_copied_mut}
 use Rattle.ns_types.specs.State.Names.{same_key}
-use Rattle.ns_live.specs.Levels.{holds_key, has_key_room}
+use Rattle.keyed.specs.Levels.{holds_key, has_key_room}
 use Rattle.ns_live.specs.declared.pool_keys.PoolKeys.{PoolKeys}
-use Rattle.ns_live.proofs.Levels.{adds_at}
+use Rattle.keyed.proofs.Levels.{adds_at}
 use Rattle.ns_live.proofs.pool_keys.PoolKeys.insert.Goals as goal
 
 pub returns-in-Some : goal.returns-in-Some

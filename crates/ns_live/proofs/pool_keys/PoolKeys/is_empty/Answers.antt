@@ -1,5 +1,5 @@
 use Rattle.std.proofs.Common.{sym, ◌∙◌}
-use Rattle.ns_live.proofs.Levels.{no_slots}
+use Rattle.keyed.proofs.Levels.{no_slots}
 use Rattle.ns_live.proofs.pool_keys.PoolKeys.is_empty.Goals as goal
 
 pub returns : goal.returns

@@ -3,10 +3,10 @@ use Rattle.std.specs.Option.{option_copied_mut}
 use Rattle.keyed.specs.Table.{has_slot}
 use Rattle.ns_types.specs.State.Names.{same_key}
 use Rattle.ns_types.proofs.Named.{names}
-use Rattle.ns_live.specs.Levels.{holds_number, holds_key, has_key_room}
-use Rattle.ns_live.specs.declared.node_keys.NodeKeys.{NodeKeys}
+use Rattle.keyed.specs.Levels.{holds_number, holds_key, has_key_room}
+use Rattle.keyed.specs.declared.key_set.KeySet.{KeySet}
 use Rattle.ns_live.specs.declared.pool_keys.PoolKeys.{PoolKeys}
-use Rattle.ns_live.proofs.Levels.{drops_at, drops_all, drops_none, row_here, says_nothing}
+use Rattle.keyed.proofs.Levels.{drops_at, drops_all, drops_none, row_here, says_nothing}
 use Rattle.ns_live.proofs.pool_keys.PoolKeys.remove.Goals as goal
 
 pub returns-in_default : goal.returns-in_default
@@ -21,8 +21,8 @@ returns-then-is_empty c =
     c.remove.new.self there refl same_key (c.args.namespace.now, c.args.number) c.remove.ensures in
     let none = c.is_empty.ensures c.if-is_empty.true in
     drops_all (λ (s : PoolKeys). s.nodes) holds_key has_key_room c.args.self.now _ _ c.args.node.now (c.args.namespace.now, c.args.number) same_key left
-    c.remove.new.self (row_here names _ _ _ _ refl) (says_nothing (λ (s : NodeKeys). s.namespaces) holds_number c.remove.new.self none)
-    (says_nothing (λ (s : NodeKeys). s.namespaces) has_slot c.remove.new.self none) c.remove-then-is_empty.ensures
+    c.remove.new.self (row_here names _ _ _ _ refl) (says_nothing (λ (s : KeySet). s.numbers) holds_number c.remove.new.self none)
+    (says_nothing (λ (s : KeySet). s.numbers) has_slot c.remove.new.self none) c.remove-then-is_empty.ensures
 
 pub returns-else-is_empty : goal.returns-else-is_empty
 returns-else-is_empty c = drops_at (λ (s : PoolKeys). s.nodes) holds_key has_key_room c.args.self.now _ c.args.node.now c.in-Some.keys.now

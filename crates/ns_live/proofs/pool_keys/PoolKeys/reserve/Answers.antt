@@ -1,8 +1,9 @@
 use Rattle.std.proofs.Common.{ap, refl, sym, ◌∙◌}
 use Rattle.std.specs.Option.{option_copied_mut}
-use Rattle.ns_live.specs.Levels.{has_node_room, holds_on_node, holds_key, has_key_room}
+use Rattle.keyed.specs.Levels.{holds_key, has_key_room}
+use Rattle.ns_live.specs.Levels.{has_node_room, holds_on_node}
 use Rattle.ns_live.specs.declared.pool_keys.PoolKeys.{PoolKeys}
-use Rattle.ns_live.proofs.Levels.{keeps_at, keeps_then, room_here}
+use Rattle.keyed.proofs.Levels.{keeps_at, keeps_then, room_here}
 use Rattle.ns_live.proofs.pool_keys.PoolKeys.reserve.Goals as goal
 
 pub returns-in_err-reserve-clause-same : goal.returns-in_err-reserve-clause-same
