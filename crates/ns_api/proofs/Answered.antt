@@ -145,7 +145,10 @@ write_fits (Step.Admin secret (AdminCommand.CreateToken new)) content served e t
     subst (λ c. HasRoom (room_of (Step.Admin secret (AdminCommand.CreateToken new))) c) (sym t) refl
 write_fits (Step.Admin secret (AdminCommand.DeleteToken accessor)) content served e t = room_of_written None content t
 write_fits (Step.Admin secret _) content served e t = not_both refl e
-write_fits (Step.Node pool secret NodeCommand.ReadPool) content served e t = not_both refl e
+write_fits (Step.Node pool secret (NodeCommand.PutNode name offer)) content served e t = room_of_written None content t
+write_fits (Step.Node pool secret (NodeCommand.DeleteNode name)) content served e t = room_of_written None content t
+write_fits (Step.Node pool secret (NodeCommand.SetStatus name status)) content served e t = room_of_written None content t
+write_fits (Step.Node pool secret (NodeCommand.SetEligible name eligible)) content served e t = room_of_written None content t
 write_fits (Step.Node pool secret _) content served e t = not_both refl e
 write_fits _ content served e t = not_both refl e
 

@@ -1,5 +1,4 @@
--- What a request will tell of a node: a step, or the refusal that needs no state.
--- No request asks for these steps yet.
+-- What a request tells of a node: a step, or the refusal that needs no state.
 use Rattle.std.specs.Prelude.{List, ℕ, Result, Ok}
 use Rattle.ns_types.specs.declared.refusal.Refusal.{Refusal}
 use Rattle.ns_types.specs.declared.step.NodeCommand.{NodeCommand}
@@ -37,5 +36,6 @@ status_put = node_by (body_in node_status_in) NodeCommand.SetStatus
 abbrev pub eligibility_put : Asked → Result Step Refusal
 eligibility_put = node_by (body_in eligibility_in) NodeCommand.SetEligible
 
+-- no request asks for it yet
 abbrev pub report_put : Asked → Result Step Refusal
 report_put = node_by (body_in report_in) NodeCommand.Report

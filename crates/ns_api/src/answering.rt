@@ -19,7 +19,7 @@ use ns_replies::{Room, render};
 use ns_request::Routes;
 use ns_types::refusal::Refusal;
 use ns_types::reply::{Reply, Response};
-use ns_types::step::{AdminCommand, AskCommand, Step};
+use ns_types::step::{AdminCommand, AskCommand, NodeCommand, Step};
 use std::alloc::{AllocError, Global};
 
 /// What takes steps.
@@ -60,6 +60,13 @@ fn is_read(step: &Step) -> bool
                 | AdminCommand::ReadQuota(_)
                 | AdminCommand::ListPools
                 | AdminCommand::ReadPolicy(_)
+        ),
+        Step::Node(_, _, command) => !matches!(
+            command.get(),
+            NodeCommand::PutNode(_, _)
+                | NodeCommand::DeleteNode(_)
+                | NodeCommand::SetStatus(_, _)
+                | NodeCommand::SetEligible(_, _)
         ),
         _ => true,
     }

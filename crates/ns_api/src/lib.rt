@@ -9,6 +9,7 @@ mod drawing;
 pub mod laws;
 mod serving;
 mod tables;
+mod telling;
 mod wanted;
 
 pub use answering::{Api, Takes};

@@ -10,6 +10,7 @@ ghost use Rattle.ns_api.specs.Parts.{prefix_in, third_part};
 ghost use Rattle.ns_api.specs.Wanted.{IsServedWanted, Wants};
 
 use crate::documents::{create_token, put_namespace, put_policy, put_pool, put_quota, register};
+use crate::telling::{put_eligibility, put_node, put_status};
 use crate::wanted::{Wanted, administers, asks, asks_in, tells};
 use ns_request::{Endpoint, Method, Target};
 use ns_types::id::{IdKind, id_read};
@@ -62,7 +63,7 @@ fn deregister(alloc: Global, target: &Target<'_>) -> Result<Wanted, Refusal>
     Ok(asks(AskCommand::Deregister(target.name.clone()?, purge)))
 }
 
-#[tactic(auto, unfolding(crate::specs::Asking::asked_of, crate::specs::Asking::ask_of, crate::specs::Asking::admin_of, crate::specs::Parts::bearer_in, crate::specs::Asking::namespace_read, crate::specs::Asking::pool_read, crate::specs::Wanted::step_of))]
+#[tactic(auto, unfolding(crate::specs::Asking::asked_of, crate::specs::Asking::ask_of, crate::specs::Asking::admin_of, crate::specs::Parts::bearer_in, crate::specs::Asking::namespace_read, crate::specs::Asking::pool_read, crate::specs::Telling::node_of, crate::specs::Wanted::step_of))]
 fn read(alloc: Global, target: &Target<'_>) -> Result<Wanted, Refusal>
     ensures wanted { Wants target.now.request result (asked_of target.now.endpoint Method.Get) }
     ensures served { IfOk result IsServedWanted }
@@ -89,6 +90,7 @@ fn read(alloc: Global, target: &Target<'_>) -> Result<Wanted, Refusal>
         Endpoint::QuotaUsage => Ok(asks(AskCommand::QuotaUsage(target.name.clone()?))),
         Endpoint::Pools => Ok(administers(AdminCommand::ListPools)),
         Endpoint::Pool => Ok(tells(target.name.clone()?, NodeCommand::ReadPool)),
+        Endpoint::PoolNodes => Ok(tells(target.name.clone()?, NodeCommand::ListNodes)),
         Endpoint::Policy => Ok(administers(AdminCommand::ReadPolicy(target.name.clone()?))),
         _ => Err(Refusal::NotServed),
     }
@@ -112,13 +114,16 @@ fn write(alloc: Global, target: &Target<'_>) -> Result<Wanted, Refusal>
             IdKind::Allocation,
             &target.name,
         )))),
+        Endpoint::Node => put_node(alloc, request, &target.name, &target.node),
+        Endpoint::NodeStatus => put_status(alloc, request, &target.name, &target.node),
+        Endpoint::NodeEligibility => put_eligibility(alloc, request, &target.name, &target.node),
         Endpoint::Policy => put_policy(alloc, request, &target.name),
         Endpoint::NewToken => create_token(alloc, request),
         _ => Err(Refusal::NotServed),
     }
 }
 
-#[tactic(auto, unfolding(crate::specs::Asking::asked_of, crate::specs::Asking::admin_of, crate::specs::Parts::bearer_in, crate::specs::Wanted::step_of))]
+#[tactic(auto, unfolding(crate::specs::Asking::asked_of, crate::specs::Asking::admin_of, crate::specs::Parts::bearer_in, crate::specs::Telling::node_of, crate::specs::Wanted::step_of))]
 fn delete(alloc: Global, target: &Target<'_>) -> Result<Wanted, Refusal>
     ensures wanted { Wants target.now.request result (asked_of target.now.endpoint Method.Delete) }
     ensures served { IfOk result IsServedWanted }
@@ -128,6 +133,12 @@ fn delete(alloc: Global, target: &Target<'_>) -> Result<Wanted, Refusal>
         Endpoint::Namespace => administers(AdminCommand::DeleteNamespace(target.name.clone()?)),
         Endpoint::Quota => administers(AdminCommand::DeleteQuota(target.name.clone()?)),
         Endpoint::Pool => administers(AdminCommand::DeletePool(target.name.clone()?)),
+        Endpoint::Node => {
+            tells(
+                target.name.clone()?,
+                NodeCommand::DeleteNode(target.node.clone()?),
+            )
+        }
         Endpoint::Policy => administers(AdminCommand::DeletePolicy(target.name.clone()?)),
         Endpoint::Token => {
             let accessor = canonical(alloc, target.name.as_str())?;

@@ -7,7 +7,7 @@ use Rattle.ns_api.proofs.tables.delete.Goals as goal
 pub returns-in_default-clause-wanted : goal.returns-in_default-clause-wanted
 returns-in_default-clause-wanted c =
     let h = c.in_default in
-    delete_elsewhere c.args.target.now.endpoint _ h.not-Job h.not-Namespace h.not-Quota h.not-Pool h.not-Policy h.not-Token
+    delete_elsewhere c.args.target.now.endpoint _ h.not-Job h.not-Namespace h.not-Quota h.not-Pool h.not-Node h.not-Policy h.not-Token
 
 pub canonical-requires : goal.canonical-requires
 canonical-requires c =

@@ -4,7 +4,7 @@ use Rattle.ns_types.specs.declared.name.NameKind.TheVariants as NameKind
 use Rattle.ns_http.specs.Head.{asked}
 use Rattle.ns_request.specs.declared.endpoint.Endpoint.TheVariants as Endpoint
 use Rattle.ns_request.specs.Targets.{path_in}
-use Rattle.ns_request.proofs.Rules.{first_is_id, first_is_name}
+use Rattle.ns_request.proofs.Rules.{first_is_id, first_is_name, second_is_name}
 use Rattle.ns_api.proofs.Steps.{write_elsewhere}
 use Rattle.ns_api.proofs.tables.write.Goals as goal
 
@@ -13,7 +13,7 @@ returns-in_default-clause-wanted c =
     let h = c.in_default in
     let endpoint = c.args.target.now.endpoint in
     write_elsewhere endpoint _ h.not-Jobs h.not-NewNamespace h.not-Namespace h.not-NewQuota h.not-Quota h.not-Pools h.not-Pool h.not-AllocationStop
-    h.not-Policy h.not-NewToken
+    h.not-Node h.not-NodeStatus h.not-NodeEligibility h.not-Policy h.not-NewToken
 
 pub put_namespace-requires-in-Namespace : goal.put_namespace-requires-in-Namespace
 put_namespace-requires-in-Namespace c =
@@ -44,3 +44,9 @@ number-requires c =
     let target = c.args.target.now in
     first_is_id IdKind.Allocation 3 target.endpoint Endpoint.AllocationStop [] (path_in (asked target.request).target) target.name c.in-AllocationStop.is
     refl target.parts target.name_is
+
+pub put_node-requires-clause-named : goal.put_node-requires-clause-named
+put_node-requires-clause-named c =
+    let target = c.args.target.now in
+    second_is_name NameKind.Node 6 target.endpoint Endpoint.Node _ [] (path_in (asked target.request).target) target.node c.in-Node.is refl
+    target.parts target.node_is
