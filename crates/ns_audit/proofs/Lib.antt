@@ -1,5 +1,4 @@
 pub mod Alone
-pub mod Outcomes
 pub mod Steady
 pub mod ValidAllocations
 pub mod ValidRecords

@@ -1,5 +1,5 @@
 -- What administrators ask leaves each live allocation where it is.
-use Rattle.std.specs.Prelude.{◌≡◌, ℕ, Bool, true, false, cond, not, ◌&&◌, ◌||◌, T, Option, Some, None, Result, Ok, Err}
+use Rattle.std.specs.Prelude.{◌≡◌, ℕ, Bool, true, false, cond, ◌&&◌, Option, Some, None, Result, Ok, Err}
 use Rattle.std.proofs.Common.{refl, sym, ap, subst, ◌∙◌}
 use Rattle.std.specs.FinMap.{empty, get, get-empty, get-insert, get-remove, insert, remove}
 use Rattle.std.specs.Option.{option_and_then, option_map_or}
@@ -12,14 +12,15 @@ use Rattle.ns_types.specs.declared.step.AdminCommand.{AdminCommand}
 use Rattle.ns_types.specs.Asking.Admins.{delete_namespace, delete_pool, delete_quota, has_live, put_namespace, put_pool_record, put_quota}
 use Rattle.ns_types.specs.Asking.Admins.{read_quota, with_namespace}
 use Rattle.ns_types.specs.Asking.Policies.{administer, with_acl, with_world}
-use Rattle.ns_types.specs.Settling.Outcome.{Changes, Done, NotEnabled, Outcome, Refused, found, lift, unless}
-use Rattle.ns_types.specs.State.Names.{Name, Key, ByName, default_name, name_cmp, same_name}
+use Rattle.ns_types.specs.Settling.Outcome.{Changes, Outcome, lift}
+use Rattle.ns_types.specs.State.Names.{Name, ByName, default_name, name_cmp, same_name}
 use Rattle.ns_types.specs.State.Rows.{Acl, State, Tenant, World, is_live, is_live_on}
 use Rattle.ns_types.specs.Steps.{opening, opening_tenant}
+use Rattle.ns_types.proofs.Leads.{Leads, leads_found, leads_lift, leads_unless, leads_whole}
 use Rattle.ns_types.proofs.Lists.{right_none}
 use Rattle.ns_types.proofs.Named.{names, one_name, one_number}
 use Rattle.ns_types.proofs.Tables.{none_of_any, tied}
-use Rattle.ns_live.specs.Index.{IsRight, holds}
+use Rattle.ns_live.specs.Index.{IsRight}
 use Rattle.ns_live.specs.Laws.{AdministrationKeepsRight, EmptyIsRightAtFirst, SoundLoadsFit}
 use Rattle.ns_live.specs.declared.live.Live.{Live}
 use Rattle.ns_live.proofs.Bounded.{load_counted, sound_within}
@@ -66,25 +67,7 @@ put_alike : (namespace : Namespace) (old : Option Tenant) (pool node : Name) (n 
 put_alike namespace None pool node n = ap (λ r. option_map_or (is_live_on pool node) r false) (get-empty nat_cmp n)
 put_alike namespace (Some t) pool node n = refl
 
--- ---- where the change is made
-
-abbrev Leads : {S : Type 0} → (S → Type 0) → Outcome S → Type 0
-Leads P NotEnabled = Unit {0}
-Leads P (Refused refusal) = Unit {0}
-Leads P (Done content x) = P x
-
-module _ {S : Type 0} (P : S → Type 0) where
-  leads_unless : (b : Bool) (refusal : Refusal) (o : Outcome S) → (b ≡ false → Leads P o) → Leads P (unless b refusal o)
-  unfolding unless
-  leads_unless true refusal o h = tt
-  leads_unless false refusal o h = h refl
-
-  leads_found : {A : Type 0} (x : Option A) (f : A → Outcome S) → ((a : A) → x ≡ Some a → Leads P (f a)) → Leads P (found x f)
-  leads_found {A = A} x f h = by x refl
-    where
-      by : (y : Option A) → x ≡ y → Leads P (found y f)
-      by None is = tt
-      by (Some a) is = h a is
+-- ---- what each command leads to
 
 module _ (w : World) where
   here : SameLive w w
@@ -122,14 +105,10 @@ module _ (s : State) where
   Alike s' = SameLive s.world s'.world
 
   of_world : (o : Outcome World) → Leads (SameLive s.world) o → Leads Alike (lift (with_world s.acl) o)
-  of_world NotEnabled h = tt
-  of_world (Refused refusal) h = tt
-  of_world (Done content w) h = h
+  of_world = leads_lift Alike (with_world s.acl) (SameLive s.world) (λ w h. h)
 
   of_acl : (o : Outcome Acl) → Leads Alike (lift (with_acl s.world) o)
-  of_acl NotEnabled = tt
-  of_acl (Refused refusal) = tt
-  of_acl (Done content a) = here s.world
+  of_acl = leads_whole Alike (with_acl s.world) (λ a. here s.world)
 
   administered : (secret : Option Name) (command : AdminCommand) → Leads Alike (administer secret command s)
   unfolding administer

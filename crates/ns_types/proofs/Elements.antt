@@ -3,6 +3,7 @@ use Rattle.std.specs.Prelude.{◌≡◌, suc, ◌≤◌, Bool, true, false, cond
 use Rattle.std.proofs.Common.{refl, sym, ap, arith, subst, ◌∙◌}
 use Rattle.std.specs.List.{All, list_any, list_all}
 use Rattle.std.specs.declared.cmp.Ordering.{Ordering}
+use Rattle.std.specs.FinMap.{IsAntisymmetric}
 use Rattle.std.specs.FinMap.Entries.{find}
 use Rattle.std.specs.Ordering.{eq_by_cmp}
 use Rattle.std.proofs.lemmas.List.Elements.{All-nil, All-cons}
@@ -10,6 +11,7 @@ use Rattle.std.proofs.lemmas.List.Folds.{list_any-append}
 use Rattle.ns_types.specs.State.Lists.{Each, first_each}
 use Rattle.ns_types.proofs.Lists.{not_both}
 use Rattle.ns_types.proofs.Named.{first_of_both, second_of_both}
+use Rattle.ns_types.proofs.Tables.{tied}
 use Rattle.ns_types.proofs.Tests.{not_Some, same_Some}
 
 module _ {A : Type 0} where
@@ -166,6 +168,16 @@ found_of {X = X} R P (e ∷ es) k x h is = by (found_of R P es k x h.1) (eq_by_c
     by : (find R k es ≡ Some x → P x) → (b : Bool) → cond b (Some e.1) (find R k es) ≡ Some x → P x
     by later true is = subst P (same_Some e.1 x is) h.0
     by later false is = later is
+
+-- of the one that is found holds what holds of each
+pub each_found : {K X : Type 0} {R : K → K → Ordering} → IsAntisymmetric R → (P : K × X → Type 0) (es : List (K × X)) → Each P es →
+    (k : K) (x : X) → find R k es ≡ Some x → P (k, x)
+each_found same P [] all k x is = absurd (not_Some x is)
+each_found {X = X} {R = R} same P (e ∷ es) all k x is = by (each_found same P es all.1 k x) (eq_by_cmp R k e.0) refl is
+  where
+    by : (find R k es ≡ Some x → P (k, x)) → (b : Bool) → eq_by_cmp R k e.0 ≡ b → cond b (Some e.1) (find R k es) ≡ Some x → P (k, x)
+    by later true t is = subst P (λ i. (sym (tied same k e.0 t) i, same_Some e.1 x is i)) all.0
+    by later false t is = later is
 
 -- ---- whether some element passes
 

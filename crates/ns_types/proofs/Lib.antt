@@ -2,6 +2,7 @@ pub mod Alike
 pub mod Classes
 pub mod Elements
 pub mod Ids
+pub mod Leads
 pub mod Lists
 pub mod Named
 pub mod Outcomes

@@ -23,7 +23,7 @@ use Rattle.ns_types.proofs.Tests.{not_Some, same_Some}
 use Rattle.ns_audit.specs.Apart.{IsApart}
 use Rattle.ns_audit.specs.Laws.{KeepsTables}
 use Rattle.ns_audit.proofs.Alone.Chosen.{retain-remove}
-use Rattle.ns_audit.proofs.Outcomes.{Leads, leads_unless, leads_found}
+use Rattle.ns_types.proofs.Leads.{Leads, leads_unless, leads_found}
 use Rattle.ns_audit.proofs.Alone.Recording.{namespace_settled, pool_settled, quota_settled}
 use Rattle.ns_audit.proofs.Alone.Sides.{settled_leaves}
 

@@ -25,7 +25,7 @@ use Rattle.ns_types.specs.declared.plan.Plan.{Plan}
 use Rattle.ns_types.specs.State.Resources.{plus}
 use Rattle.ns_types.proofs.Named.{names, one_name}
 use Rattle.ns_types.proofs.Tables.{tied}
-use Rattle.ns_audit.proofs.Alone.Recording.{queue_keeps}
+use Rattle.ns_types.proofs.Queue.{queue_keeps}
 
 -- a part of a namespace's rows
 abbrev pub of_at : {Y : Type 0} → (Tenant → Y) → World → Name → Option Y

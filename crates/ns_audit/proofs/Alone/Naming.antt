@@ -49,7 +49,7 @@ use Rattle.ns_types.specs.Working.Work.{with_follower, followed, dequeue_in, deq
 use Rattle.ns_types.specs.declared.records.Namespace.{Namespace}
 use Rattle.ns_audit.proofs.Alone.Fixed.{fixed_put, fixed_change, fixed_make_in, fixed_make, fixed_each, fixed_desired, fixed_stops, fixed_decided, fixed_placed}
 use Rattle.ns_audit.proofs.Alone.Fixed.{fixed_commit}
-use Rattle.ns_audit.proofs.Outcomes.{Leads, leads_unless, leads_refused, leads_found, leads_there, leads_if}
+use Rattle.ns_types.proofs.Leads.{Leads, leads_unless, leads_refused, leads_found, leads_there, leads_if}
 use Rattle.ns_audit.proofs.Alone.Recording.{record_kept}
 use Rattle.ns_audit.proofs.Alone.Sides.{change}
 

@@ -1,36 +1,19 @@
 -- What a step does at its end leaves the records of namespaces, pools and quotas.
-use Rattle.std.specs.Prelude.{◌≡◌, Bool, true, false, cond, List, [], ◌∷◌, ◌++◌, Option, Some, None, option_map, fold}
+use Rattle.std.specs.Prelude.{◌≡◌, Bool, true, false, cond, List, [], ◌∷◌, Option, Some, None, option_map}
 use Rattle.std.proofs.Common.{refl, ap, ◌∙◌}
-use Rattle.std.specs.Option.{option_map_or}
 use Rattle.std.specs.FinMap.{get}
-use Rattle.ns_types.specs.declared.evaluation.Evaluation.{Evaluation}
 use Rattle.ns_types.specs.declared.node.Class.{Class}
 use Rattle.ns_types.specs.Isolation.{namespace_at, pool_record, quota_record}
-use Rattle.ns_types.specs.State.Names.{Name, Key, ByName}
-use Rattle.ns_types.specs.Working.Queue.{queue, is_busy}
+use Rattle.ns_types.specs.State.Names.{Name, ByName}
 use Rattle.ns_types.specs.Settling.Releases.{released_classes, releases_quota, woken}
-use Rattle.ns_types.specs.State.Rows.{World, Tenant, PoolRows, QuotaRows, evaluation_at}
+use Rattle.ns_types.specs.State.Rows.{World, Tenant, PoolRows, QuotaRows}
 use Rattle.ns_types.specs.Settling.Settle.{unblocked_in, wake, after_release, after_quota_release, number_releases, is_touched, stamped, stamp_tenant, stamp}
 use Rattle.ns_types.specs.Settling.Settle.{settle}
 use Rattle.ns_types.proofs.Named.{names, one_name}
+use Rattle.ns_types.proofs.Queue.{queues_keep}
 use Rattle.ns_types.proofs.Tables.{get-map_rows}
 use Rattle.ns_types.specs.State.Tables.{map_rows}
 use Rattle.std.specs.Prelude.{◌+◌}
-
--- the queue changes the list of ready ones alone
-module _ {A : Type 0} (f : World → A) (same : (w : World) (keys : List Key) → f (record w { ready = keys }) ≡ f w) where
-  pub queue_keeps : (w : World) (key : Key) → f (queue w key) ≡ f w
-  unfolding queue
-  queue_keeps w key = by (evaluation_at w key)
-    where
-      by : (e : Option Evaluation) → f (option_map_or (λ e. cond (is_busy w key.0 e.job) w (record w { ready = w.ready ++ key ∷ [] })) e w) ≡ f w
-      by None = refl
-      by (Some e) = elim (is_busy w key.0 e.job) as (λ b. f (cond b w (record w { ready = w.ready ++ key ∷ [] })) ≡ f w)
-          [ true ↦ refl | false ↦ same w (w.ready ++ key ∷ []) ]
-
-  pub queues_keep : (keys : List Key) (w : World) → f (fold queue w keys) ≡ f w
-  queues_keep [] w = refl
-  queues_keep (key ∷ keys) w = queues_keep keys (queue w key) ∙ queue_keeps w key
 
 -- rows changed without their record
 pub record_kept : {X Y : Type 0} (f : Name → X → X) (kept : X → Y) → ((k : Name) (x : X) → kept (f k x) ≡ kept x) → (m : ByName X) (q : Name) →

@@ -25,7 +25,7 @@ use Rattle.ns_types.proofs.TableRows.{row_of_insert}
 use Rattle.ns_audit.specs.Orderly.{IsAllowedTo, IsOrderlyTenant, IsReadyIn, IsBlockedIn, IsListed, IsOrderly}
 use Rattle.ns_audit.proofs.Steady.Keeping.{KeepsTenant, put_orderly}
 use Rattle.ns_audit.proofs.Steady.Asks.{KeepsOrder}
-use Rattle.ns_audit.proofs.Outcomes.{Leads, leads_unless, leads_found}
+use Rattle.ns_types.proofs.Leads.{Leads, leads_unless, leads_found}
 use Rattle.ns_audit.proofs.Steady.Resting.{same_orderly}
 
 -- ---- a namespace's record is put anew

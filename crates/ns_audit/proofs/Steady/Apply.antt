@@ -44,7 +44,7 @@ use Rattle.ns_audit.proofs.Steady.Asks.{KeepsOrder, keeps_desired, PermitsAt}
 use Rattle.ns_audit.proofs.Steady.Nodes.{permits_still, makes_orderly}
 use Rattle.ns_audit.proofs.Steady.Work.{keeping_orderly, keeps_worker}
 use Rattle.ns_audit.proofs.Steady.Workers.{find_each}
-use Rattle.ns_audit.proofs.Outcomes.{leads_if}
+use Rattle.ns_types.proofs.Leads.{leads_if}
 use Rattle.ns_audit.proofs.Steady.Resting.{same_orderly}
 
 pub change_orderly : (w : World) (ns : Name) (f : Tenant → Tenant) → IsOrderly w →

@@ -33,7 +33,7 @@ use Rattle.ns_types.proofs.TableRows.{row_of_insert, row_of_remove}
 use Rattle.ns_audit.specs.Orderly.{IsAllowedTo, IsOrderlyTenant, IsOrderly}
 use Rattle.ns_audit.proofs.Alone.Naming.{deregistered_same, desired_same}
 use Rattle.ns_audit.proofs.Steady.Keeping.{KeepsTenant, keeps_same, keeps_rows, make_in_orderly}
-use Rattle.ns_audit.proofs.Outcomes.{Leads, leads_unless, leads_refused, leads_found, leads_if}
+use Rattle.ns_types.proofs.Leads.{Leads, leads_unless, leads_refused, leads_found, leads_if}
 
 -- ---- outcomes
 

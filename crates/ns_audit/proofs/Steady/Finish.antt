@@ -25,7 +25,7 @@ use Rattle.ns_audit.specs.Orderly.{IsAllowedTo, IsKeptBy, IsOrderlyTenant, IsRea
 use Rattle.ns_audit.proofs.Steady.Keeping.{at_inserted, KeepsTenant, keeps_same, keeps_then, keeps_with_evaluation, put_orderly, has_key_filter}
 use Rattle.ns_audit.proofs.Steady.Keeping.{blocked_orderly}
 use Rattle.ns_audit.proofs.Steady.Asks.{KeepsOrder}
-use Rattle.ns_audit.proofs.Outcomes.{leads_if}
+use Rattle.ns_types.proofs.Leads.{leads_if}
 use Rattle.ns_audit.proofs.Alone.Owning.{blocked_is}
 use Rattle.ns_audit.proofs.Steady.Resting.{same_orderly}
 use Rattle.ns_audit.proofs.Steady.Work.{pending_not_blocked, keeping_orderly, keeps_row, keeps_other}

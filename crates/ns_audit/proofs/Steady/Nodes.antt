@@ -29,7 +29,7 @@ use Rattle.ns_audit.specs.Orderly.{IsOrderlyTenant, IsOrderly}
 use Rattle.ns_audit.proofs.Steady.Keeping.{row_of_map, keeps_rows, put_orderly}
 use Rattle.ns_audit.proofs.Alone.Naming.{SameNamed, named_make, named_change, client_same}
 use Rattle.ns_audit.proofs.Steady.Asks.{KeepsOrder, keeps_with_row, PermitsAt, make_orderly}
-use Rattle.ns_audit.proofs.Outcomes.{leads_unless, leads_found, leads_if}
+use Rattle.ns_types.proofs.Leads.{leads_unless, leads_found, leads_if}
 use Rattle.ns_audit.proofs.Alone.Recording.{record_kept}
 use Rattle.ns_audit.proofs.Steady.Resting.{same_orderly, map_orderly}
 

@@ -22,7 +22,7 @@ use Rattle.ns_types.proofs.Tests.{same_Some, is_no}
 use Rattle.std.proofs.lemmas.Bool.{or_right}
 use Rattle.ns_audit.specs.Orderly.{IsAllowedTo, IsPendingIn, IsOrderlyTenant, IsReadyIn, IsBlockedIn, IsListed, IsOrderly}
 use Rattle.ns_audit.proofs.Steady.Keeping.{row_of_map, KeepsTenant, keeps_same, has_key_filter, queue_orderly}
-use Rattle.ns_audit.proofs.Alone.Recording.{queue_keeps}
+use Rattle.ns_types.proofs.Queue.{queue_keeps}
 
 -- ---- worlds with the same namespaces
 

@@ -20,7 +20,7 @@ use Rattle.ns_types.proofs.TableRows.{row_of_insert}
 use Rattle.ns_audit.specs.Orderly.{IsAllowedTo, IsKeptBy, IsPendingIn, IsOrderlyTenant, IsReadyIn, IsBlockedIn, IsOrderly}
 use Rattle.ns_audit.proofs.Steady.Keeping.{at_inserted, elsewhere, KeepsTenant}
 use Rattle.ns_audit.proofs.Steady.Asks.{KeepsOrder}
-use Rattle.ns_audit.proofs.Outcomes.{leads_there}
+use Rattle.ns_types.proofs.Leads.{leads_there}
 
 pub removed_row : {X : Type 0} (m : ByNumber X) (k q : ℕ) (x : X) → get (remove m k) q ≡ Some x → (get m q ≡ Some x) × (q ≢ k)
 removed_row m k q x is = by (eq_by_cmp nat_cmp q k) refl (sym (get-remove numbers_ m k q) ∙ is)

@@ -37,7 +37,7 @@ use Rattle.std.proofs.lemmas.Bool.{or_right}
 use Rattle.ns_audit.specs.Orderly.{IsKeptBy, IsPendingIn, IsOrderlyTenant, IsReadyIn, IsBlockedIn, IsListed, IsOrderly}
 use Rattle.ns_audit.proofs.Steady.Keeping.{at_inserted, KeepsTenant, keeps_then, put_orderly, has_key_filter, ready_orderly, free_of}
 use Rattle.ns_audit.proofs.Steady.Asks.{KeepsOrder}
-use Rattle.ns_audit.proofs.Outcomes.{leads_there, leads_if}
+use Rattle.ns_types.proofs.Leads.{leads_there, leads_if}
 use Rattle.ns_audit.proofs.Alone.Owning.{pending_is}
 use Rattle.ns_audit.proofs.Steady.Resting.{same_orderly}
 use Rattle.ns_audit.proofs.Steady.Work.{removed_row, pending_not_blocked, at_work_orderly, keeping_orderly, keeps_taken, keeps_worker, keeps_without_worker}

@@ -14,7 +14,7 @@ use Rattle.ns_types.specs.Asking.Admins.{looks_to_pool, uses_pool, new_tenant, w
 use Rattle.ns_types.specs.Asking.Admins.{put_quota, delete_quota, read_quota, with_pool, put_pool_record, delete_pool}
 use Rattle.ns_types.specs.Settling.Making.{put_tenant}
 use Rattle.ns_types.specs.State.Names.{Name, name_cmp, same_name}
-use Rattle.ns_types.specs.Settling.Outcome.{Outcome, NotEnabled, Refused, Done, lift}
+use Rattle.ns_types.specs.Settling.Outcome.{Outcome, lift}
 use Rattle.ns_types.specs.State.Rows.{State, World, Acl, Tenant, PoolRows, is_live, node_at}
 use Rattle.ns_types.specs.Access.Sharing.{permits}
 use Rattle.ns_types.specs.State.Tables.{any_row}
@@ -24,7 +24,7 @@ use Rattle.ns_types.proofs.Tables.{none_of_any}
 use Rattle.ns_types.proofs.Tests.{not_Some, same_Some}
 use Rattle.ns_types.proofs.TableRows.{row_of_insert}
 use Rattle.ns_audit.proofs.ValidAllocations.Statement.{IsAllocated}
-use Rattle.ns_audit.proofs.Outcomes.{Leads, leads_unless, leads_found}
+use Rattle.ns_types.proofs.Leads.{Leads, leads_unless, leads_found, leads_lift, leads_whole}
 use Rattle.ns_audit.proofs.ValidAllocations.Sound.{le_same, ComesFrom, IsFrom, allocated_from, nodes_stay, nodes_hold}
 use Rattle.ns_audit.proofs.ValidAllocations.Going.{comes_same, Goes, goes_still, SameIndex, Allocates, allocates_still}
 use Rattle.ns_audit.proofs.ValidAllocations.Nodes.{node_in_put}
@@ -172,19 +172,13 @@ module _ (s : State) (o : IsAllocated s.world) where
   Next x = Allocates s.world x.world
 
   pub of_world : (c : Outcome World) → Leads (Allocates s.world) c → Leads Next (lift (with_world s.acl) c)
-  of_world NotEnabled h = tt
-  of_world (Refused refusal) h = tt
-  of_world (Done content w) h = h
+  of_world = leads_lift Next (with_world s.acl) (Allocates s.world) (λ w h. h)
 
   pub of_continuing : (c : Outcome World) → Leads (Continues s.world) c → Leads Next (lift (with_world s.acl) c)
-  of_continuing NotEnabled h = tt
-  of_continuing (Refused refusal) h = tt
-  of_continuing (Done content w) h = continues_allocates s.world w o h
+  of_continuing = leads_lift Next (with_world s.acl) (Continues s.world) (λ w h. continues_allocates s.world w o h)
 
   of_acl : (c : Outcome Acl) → Leads Next (lift (with_acl s.world) c)
-  of_acl NotEnabled = tt
-  of_acl (Refused refusal) = tt
-  of_acl (Done content acl) = allocates_still s.world o
+  of_acl = leads_whole Next (with_acl s.world) (λ acl. allocates_still s.world o)
 
   pub administer_allocates : (secret : Option Name) (command : AdminCommand) → Leads Next (administer secret command s)
   unfolding administer put_quota delete_quota

@@ -32,7 +32,7 @@ use Rattle.ns_types.proofs.Tests.{not_Some, same_Some}
 use Rattle.ns_types.proofs.Elements.{each_of, each_kept}
 use Rattle.ns_audit.proofs.ValidAllocations.Statement.{IsAllocated}
 use Rattle.ns_audit.proofs.Alone.Naming.{named_change, named_decided, stops_same}
-use Rattle.ns_audit.proofs.Outcomes.{Leads, leads_if, leads_keeping}
+use Rattle.ns_types.proofs.Leads.{Leads, leads_if, leads_keeping}
 use Rattle.ns_audit.proofs.ValidAllocations.Sound.{itself, node_row}
 use Rattle.ns_audit.proofs.ValidAllocations.Going.{Onward, onward_same, onward_then, Lasts, lasts_still, lasts_then, Goes, goes_still, goes_then, goes_quiet}
 use Rattle.ns_audit.proofs.ValidAllocations.Going.{goes_lasts, same_index, Allocates}

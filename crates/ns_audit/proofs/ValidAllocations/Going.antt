@@ -20,7 +20,7 @@ use Rattle.ns_types.proofs.Tests.{same_Some}
 use Rattle.ns_types.proofs.TableRows.{row_of_insert}
 use Rattle.ns_audit.proofs.ValidAllocations.Statement.{IsAllocated}
 use Rattle.ns_audit.proofs.Steady.Keeping.{row_of_map, more}
-use Rattle.ns_audit.proofs.Alone.Recording.{queue_keeps, queues_keep}
+use Rattle.ns_types.proofs.Queue.{queue_keeps, queues_keep}
 use Rattle.ns_audit.proofs.ValidAllocations.Sound.{itself, le_then, le_same, ComesFrom, IsFrom, allocated_from, nodes_stay, nodes_hold}
 
 -- ---- namespaces that go on from namespaces of another world

@@ -29,7 +29,7 @@ use Rattle.ns_types.proofs.Tests.{not_Some, same_Some, is_yes}
 use Rattle.ns_audit.proofs.ValidAllocations.Statement.{IsAllocated}
 use Rattle.ns_audit.proofs.Steady.Keeping.{row_of_map}
 use Rattle.ns_audit.proofs.Steady.Nodes.{held_before}
-use Rattle.ns_audit.proofs.Outcomes.{Leads, leads_of, leads_unless, leads_found, leads_if}
+use Rattle.ns_types.proofs.Leads.{Leads, leads_of, leads_unless, leads_found, leads_if}
 use Rattle.ns_audit.proofs.ValidAllocations.Sound.{itself, le_same, allocation_row, LivesOn, StillThere, NodesStay, NodesHold, allocated_from}
 use Rattle.ns_audit.proofs.ValidAllocations.Going.{onward_same, onward_change, onward_map, onward_then, GoesRow, Goes, goes_still, goes_then, goes_row}
 use Rattle.ns_audit.proofs.ValidAllocations.Going.{goes_from, goes_lasts, same_index, Allocates, allocates_still}

@@ -15,7 +15,7 @@ use Rattle.ns_types.specs.Steps.{Answer, said, act, after, is_allowed, concluded
 use Rattle.ns_types.specs.Validity.{IsValid}
 use Rattle.ns_audit.proofs.ValidAllocations.Statement.{IsAllocated, AllocationsStep, AllocationsOpening}
 use Rattle.ns_audit.proofs.Steady.Opening.{only_row}
-use Rattle.ns_audit.proofs.Outcomes.{Leads}
+use Rattle.ns_types.proofs.Leads.{Leads}
 use Rattle.ns_audit.proofs.ValidAllocations.Sound.{allocation_row, node_row}
 use Rattle.ns_audit.proofs.ValidAllocations.Admins.{of_world, of_continuing, administer_allocates}
 use Rattle.ns_audit.proofs.ValidAllocations.Apply.{sound_allocated, apply_allocates}

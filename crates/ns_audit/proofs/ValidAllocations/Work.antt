@@ -32,8 +32,8 @@ use Rattle.ns_types.specs.declared.worker.Phase.TheVariants as Phase
 use Rattle.ns_types.proofs.Lists.{not_both}
 use Rattle.ns_audit.proofs.ValidAllocations.Statement.{IsAllocated}
 use Rattle.ns_audit.proofs.Steady.Keeping.{more}
-use Rattle.ns_audit.proofs.Outcomes.{Leads, leads_unless, leads_refused, leads_found, leads_there, leads_if, leads_at_work, leads_keeping}
-use Rattle.ns_audit.proofs.Alone.Recording.{queue_keeps}
+use Rattle.ns_types.proofs.Leads.{Leads, leads_unless, leads_refused, leads_found, leads_there, leads_if, leads_at_work, leads_keeping}
+use Rattle.ns_types.proofs.Queue.{queue_keeps}
 use Rattle.ns_audit.proofs.ValidAllocations.Sound.{itself, le_same}
 use Rattle.ns_audit.proofs.ValidAllocations.Going.{Onward, onward_same, onward_put, onward_make_in, Goes, goes_quiet, goes_still, goes_then, goes_evaluation}
 use Rattle.ns_audit.proofs.ValidAllocations.Going.{goes_row, Allocates, allocates_on}

@@ -12,7 +12,7 @@ use Rattle.ns_types.specs.Asking.Policies.{with_world, with_acl, administer}
 use Rattle.ns_types.specs.Asking.Admins.{looks_to_pool, names_pool, new_tenant, with_namespace, put_namespace, delete_namespace, put_quota, delete_quota}
 use Rattle.ns_types.specs.Asking.Admins.{read_quota, put_pool_record, delete_pool}
 use Rattle.ns_types.specs.State.Names.{Name, name_cmp, same_name, same_key, has_key}
-use Rattle.ns_types.specs.Settling.Outcome.{Outcome, NotEnabled, Refused, Done, lift}
+use Rattle.ns_types.specs.Settling.Outcome.{Outcome, lift}
 use Rattle.ns_types.specs.State.Rows.{State, World, Acl, Tenant, is_open}
 use Rattle.ns_types.specs.Validity.{IsSound}
 use Rattle.ns_types.proofs.Lists.{left_none, right_none}
@@ -20,7 +20,7 @@ use Rattle.ns_types.proofs.Named.{names, one_name, one_number}
 use Rattle.ns_types.proofs.Tables.{none_of_any}
 use Rattle.ns_types.proofs.Tests.{not_Some}
 use Rattle.ns_types.proofs.TableRows.{row_of_remove}
-use Rattle.ns_audit.proofs.Outcomes.{Leads, leads_unless, leads_found}
+use Rattle.ns_types.proofs.Leads.{Leads, leads_unless, leads_found, leads_lift, leads_whole}
 use Rattle.ns_audit.proofs.Alone.Owning.{turned_name}
 use Rattle.ns_audit.proofs.ValidEvaluations.Filed.{IsFiledEvaluation, IsFiledJob, IsFiledTenant, IsFiled, put_filed, put_pool_filed}
 use Rattle.ns_audit.proofs.ValidEvaluations.Pairs.{Pairs}
@@ -135,14 +135,11 @@ HoldsAfter w = Leads (λ (x : State). IsFiledAfter w x.world)
 
 module _ (s : State) (sound : IsSound s.world) where
   pub of_world : (c : Outcome World) → Leads (IsFiledAfter s.world) c → HoldsAfter s.world (lift (with_world s.acl) c)
-  of_world NotEnabled h = tt
-  of_world (Refused refusal) h = tt
-  of_world (Done content w) h = h
+  of_world = leads_lift (λ x. IsFiledAfter s.world x.world) (with_world s.acl) (IsFiledAfter s.world) (λ w h. h)
 
   pub of_same_pools : (c : Outcome World) → Leads (IsFiled (pools_in s.world) (index_in s.world)) c → HoldsAfter s.world (lift (with_world s.acl) c)
-  of_same_pools NotEnabled h = tt
-  of_same_pools (Refused refusal) h = tt
-  of_same_pools (Done content w) h = (pools_in s.world, h)
+  of_same_pools = leads_lift (λ x. IsFiledAfter s.world x.world) (with_world s.acl) (IsFiled (pools_in s.world) (index_in s.world))
+      (λ w h. (pools_in s.world, h))
 
   present : IsFiled (pools_in s.world) (index_in s.world) s.world
   present = sound_filed s.world sound
@@ -151,9 +148,7 @@ module _ (s : State) (sound : IsSound s.world) where
   same = (pools_in s.world, present)
 
   of_acl : (c : Outcome Acl) → HoldsAfter s.world (lift (with_acl s.world) c)
-  of_acl NotEnabled = tt
-  of_acl (Refused refusal) = tt
-  of_acl (Done content acl) = same
+  of_acl = leads_whole (λ x. IsFiledAfter s.world x.world) (with_acl s.world) (λ acl. same)
 
   -- other quotas
   quotas_filed : (x : World) → x.tenants ≡ s.world.tenants → x.pools ≡ s.world.pools → x.blocked ≡ s.world.blocked → IsFiledAfter s.world x

@@ -35,7 +35,7 @@ use Rattle.ns_types.proofs.Tests.{not_Some}
 use Rattle.ns_types.proofs.TableRows.{row_of_insert}
 use Rattle.ns_types.proofs.Elements.{each_passes, each_of, each_first, each_flat_map, each_mapped, each_kept}
 use Rattle.ns_audit.proofs.Steady.Apply.{least_is}
-use Rattle.ns_audit.proofs.Outcomes.{Leads, leads_if, leads_keeping}
+use Rattle.ns_types.proofs.Leads.{Leads, leads_if, leads_keeping}
 use Rattle.ns_audit.proofs.ValidEvaluations.Asks.{cause_of, desired_filed}
 use Rattle.ns_audit.proofs.ValidEvaluations.Filed.{IsFiledTenant, IsFiled, IsCause, change_filed, lists_filed, put_pool_filed, makes_filed}
 use Rattle.ns_audit.proofs.ValidEvaluations.Settle.{index_in, pools_in, sound_filed}

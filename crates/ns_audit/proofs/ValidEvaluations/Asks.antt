@@ -28,7 +28,7 @@ use Rattle.ns_types.proofs.Named.{names, one_name, first_of_both, second_of_both
 use Rattle.ns_types.proofs.Registrations.{accepted}
 use Rattle.ns_types.proofs.TableRows.{row_of_insert, row_of_remove}
 use Rattle.ns_types.proofs.Tests.{is_yes}
-use Rattle.ns_audit.proofs.Outcomes.{Leads, leads_unless, leads_refused, leads_found, leads_if}
+use Rattle.ns_types.proofs.Leads.{Leads, leads_unless, leads_refused, leads_found, leads_if}
 use Rattle.ns_audit.proofs.ValidEvaluations.Filed.{IsFiledJob, IsFiledTenant, IsFiled, IsCause, new_filed, filed_for, unblocked_for, make_in_filed}
 use Rattle.ns_audit.proofs.ValidEvaluations.Settle.{index_in, pools_in, sound_filed}
 use Rattle.ns_audit.proofs.ValidRecords.Asks.{default_named}

@@ -23,6 +23,7 @@ use Rattle.ns_types.specs.State.Rows.{World, Tenant, PoolRows, is_open, is_block
 use Rattle.ns_types.specs.Validity.{IsSound}
 use Rattle.ns_types.specs.Working.Work.{without_worker, without_key, end_of, needs_follower, follower_of, blocked_of, without_blocked, cancel_blocked, ended}
 use Rattle.ns_types.specs.Working.Work.{with_follower, followed, may_finish, finished, finish_for, finish}
+use Rattle.ns_types.proofs.Elements.{each_found}
 use Rattle.ns_types.proofs.Lists.{not_both, left_none, right_none, any_part}
 use Rattle.ns_types.proofs.Named.{numbers as numbers_, one_number, same_name_is, same_name_refl, same_number_refl, first_of_both, second_of_both, same_key_is}
 use Rattle.ns_types.proofs.Named.{same_key_refl}
@@ -33,11 +34,11 @@ use Rattle.ns_audit.proofs.Steady.Keeping.{elsewhere, above, more}
 use Rattle.ns_audit.proofs.Steady.Finish.{same_blocked, shut_end}
 use Rattle.ns_audit.proofs.Steady.Work.{pending_not_blocked}
 use Rattle.ns_audit.proofs.Steady.Workers.{at_tenant, find_each}
-use Rattle.ns_audit.proofs.Outcomes.{Leads, leads_if, leads_keeping}
+use Rattle.ns_types.proofs.Leads.{Leads, leads_if, leads_keeping}
 use Rattle.ns_audit.proofs.Alone.Owning.{orderly, blocked_is}
 use Rattle.ns_audit.proofs.ValidEvaluations.Filed.{IsFiledEvaluation, IsFiledRows, grown_rows, relisted_rows, put_rows, replaced_rows, IsFiledTenant, IsFiled}
 use Rattle.ns_audit.proofs.ValidEvaluations.Filed.{IsFiledBeside, beside, put_beside, at_least_zero, zero_below}
-use Rattle.ns_audit.proofs.ValidEvaluations.Pairs.{pairs_still, pairs_append, each_at}
+use Rattle.ns_audit.proofs.ValidEvaluations.Pairs.{pairs_still, pairs_append}
 use Rattle.ns_audit.proofs.ValidEvaluations.Settle.{index_in, pools_in, sound_filed, itself}
 use Rattle.ns_audit.proofs.ValidEvaluations.Work.{held_pending, promote_filed}
 use Rattle.ns_audit.proofs.ValidWorkers.Once.{has_key_still, has_key_last}
@@ -125,7 +126,7 @@ module _ (t : Tenant) (job : Name) where
     where
       by : (x : Option (ℕ × Evaluation)) → find passes (entries t.evaluations) ≡ x → option_map (λ e. e.0) x ≡ None → ⊥
       by None found is = not_both (λ i. (ap (same_name job) same ∙ same_name_refl job) i && blocked i)
-          (each_at (λ e. passes e ≡ false) (entries t.evaluations) m d (none_found passes (entries t.evaluations) found)
+          (each_found one_number (λ e. passes e ≡ false) (entries t.evaluations) (none_found passes (entries t.evaluations) found) m d
           (sym (get-entries t.evaluations m) ∙ at))
       by (Some x) found is = not_Some _ (sym is)
 

@@ -23,7 +23,7 @@ use Rattle.ns_types.proofs.Tables.{each_row}
 use Rattle.ns_types.proofs.Tests.{not_Some, is_yes}
 use Rattle.ns_types.proofs.Elements.{each_of, each_mapped, each_kept, each_flat, found_of}
 use Rattle.ns_audit.proofs.Steady.Nodes.{held_before, run_before}
-use Rattle.ns_audit.proofs.Outcomes.{Leads, leads_unless, leads_found, leads_if}
+use Rattle.ns_types.proofs.Leads.{Leads, leads_unless, leads_found, leads_if}
 use Rattle.ns_audit.proofs.ValidEvaluations.Asks.{cause_of}
 use Rattle.ns_audit.proofs.ValidEvaluations.Filed.{IsFiledTenant, IsFiled, IsCause, change_filed, map_filed, put_pool_filed, make_filed, makes_filed}
 use Rattle.ns_audit.proofs.ValidEvaluations.Settle.{index_in, pools_in, sound_filed}

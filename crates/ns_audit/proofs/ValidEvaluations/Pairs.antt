@@ -10,7 +10,7 @@ use Rattle.ns_types.proofs.Lists.{not_both, filter_all, each}
 use Rattle.ns_types.proofs.Named.{numbers as numbers_, one_number}
 use Rattle.ns_types.proofs.Tables.{tied}
 use Rattle.ns_types.proofs.Tests.{not_Some, same_Some, is_no, first, second}
-use Rattle.ns_types.proofs.Elements.{each_passing, each_append, each_kept, each_of, each_still, filter_shorter, first_shorter}
+use Rattle.ns_types.proofs.Elements.{each_found, each_passing, each_append, each_kept, each_of, each_still, filter_shorter, first_shorter}
 
 -- an earlier element with a later one
 abbrev pub Pairs : {A : Type 0} → (A → A → Type 0) → List A → Type 0
@@ -150,14 +150,6 @@ module _ {X : Type 0} where
             (second (is_lt (nat_cmp x.0 y.0)) _ k),
       )
 
-  pub each_at : (P : ℕ × X → Type 0) (es : List (ℕ × X)) (n : ℕ) (v : X) → Each P es → find nat_cmp n es ≡ Some v → P (n, v)
-  each_at P [] n v h is = absurd (not_Some _ is)
-  each_at P (e ∷ es) n v h is = by (each_at P es n v h.1) (eq_by_cmp nat_cmp n e.0) refl is
-    where
-      by : (find nat_cmp n es ≡ Some v → P (n, v)) → (b : Bool) → eq_by_cmp nat_cmp n e.0 ≡ b → cond b (Some e.1) (find nat_cmp n es) ≡ Some v → P (n, v)
-      by later true t is = subst P (λ i. (sym (tied one_number n e.0 t) i, same_Some e.1 v is i)) h.0
-      by later false t is = later is
-
   -- what holds of each two entries, in either order, holds of the rows at two numbers
   pub pairs_at : (Q : ℕ × X → ℕ × X → Type 0) → ((x y : ℕ × X) → Q x y → Q y x) → (es : List (ℕ × X)) → Pairs Q es → (m n : ℕ) (v w : X) →
       find nat_cmp m es ≡ Some v → find nat_cmp n es ≡ Some w → (m ≡ n) ⊎ Q (m, v) (n, w)
@@ -168,7 +160,7 @@ module _ {X : Type 0} where
           → (c : Bool) → eq_by_cmp nat_cmp m e.0 ≡ c → cond c (Some e.1) (find nat_cmp m es) ≡ Some v → (d : Bool) → eq_by_cmp nat_cmp n e.0 ≡ d →
           cond d (Some e.1) (find nat_cmp n es) ≡ Some w → (m ≡ n) ⊎ Q (m, v) (n, w)
       by later true s a true t b = inl (tied one_number m e.0 s ∙ sym (tied one_number n e.0 t))
-      by later true s a false t b = inr (subst (λ x. Q x (n, w)) (λ i. (sym (tied one_number m e.0 s) i, same_Some e.1 v a i)) (each_at (Q e) es n w h.0 b))
+      by later true s a false t b = inr (subst (λ x. Q x (n, w)) (λ i. (sym (tied one_number m e.0 s) i, same_Some e.1 v a i)) (each_found one_number (Q e) es h.0 n w b))
       by later false s a true t b = inr (turn (n, w) (m, v)
-          (subst (λ x. Q x (m, v)) (λ i. (sym (tied one_number n e.0 t) i, same_Some e.1 w b i)) (each_at (Q e) es m v h.0 a)))
+          (subst (λ x. Q x (m, v)) (λ i. (sym (tied one_number n e.0 t) i, same_Some e.1 w b i)) (each_found one_number (Q e) es h.0 m v a)))
       by later false s a false t b = later a b

@@ -29,7 +29,7 @@ use Rattle.ns_types.proofs.Tables.{none_of_any}
 use Rattle.ns_types.proofs.Tests.{not_Some, is_yes}
 use Rattle.ns_types.proofs.TableRows.{row_of_insert, row_of_remove}
 use Rattle.ns_audit.proofs.ValidRecords.Statement.{IsGoodPool}
-use Rattle.ns_audit.proofs.Outcomes.{Leads, leads_unless, leads_found}
+use Rattle.ns_types.proofs.Leads.{Leads, leads_unless, leads_found}
 use Rattle.ns_audit.proofs.ValidRecords.Sound.{kept_of, Names, IsFoundRecord, IsGoodKept, IsRecorded, IsNearKept, IsNear, near_first}
 use Rattle.ns_audit.proofs.ValidRecords.Tables.{list_all_of, len_removed, len_room, still_there, there_but, values_pass}
 use Rattle.ns_types.proofs.Classes.{by_class, one_class}

@@ -30,7 +30,7 @@ use Rattle.ns_types.proofs.Registrations.{accepted}
 use Rattle.ns_types.proofs.Tests.{same_Some}
 use Rattle.ns_types.proofs.TableRows.{row_of_insert, row_of_remove}
 use Rattle.ns_audit.proofs.Steady.Keeping.{more}
-use Rattle.ns_audit.proofs.Outcomes.{Leads, leads_unless, leads_refused, leads_found, leads_if}
+use Rattle.ns_types.proofs.Leads.{Leads, leads_unless, leads_refused, leads_found, leads_if}
 use Rattle.ns_audit.proofs.ValidRecords.Tables.{len_put, len_removed, len_room}
 use Rattle.ns_audit.proofs.ValidRecords.Sound.{Kept, kept_of, IsGoodJob, IsGoodKept, IsRecorded, IsNearKept, IsNear, near_first}
 use Rattle.ns_audit.proofs.ValidRecords.Frames.{kept_desired, near_make_in}

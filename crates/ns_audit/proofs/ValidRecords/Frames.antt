@@ -13,7 +13,7 @@ use Rattle.ns_types.specs.State.Names.{Name, Key}
 use Rattle.ns_types.specs.Working.Queue.{queue, promote, is_busy, first_waiting}
 use Rattle.ns_types.specs.State.Rows.{World, Tenant}
 use Rattle.ns_audit.proofs.Alone.Fixed.{of_at, fixed_desired}
-use Rattle.ns_audit.proofs.Alone.Recording.{queue_keeps}
+use Rattle.ns_types.proofs.Queue.{queue_keeps}
 use Rattle.ns_audit.proofs.ValidRecords.Sound.{kept_of, IsNearKept, IsNear, near_same, near_put}
 
 -- ---- a namespace

@@ -27,7 +27,7 @@ use Rattle.ns_types.specs.Asking.Good.{IsGoodTelling}
 use Rattle.ns_types.proofs.Named.{names, one_name, first_of_both, second_of_both}
 use Rattle.ns_types.proofs.TableRows.{row_of_insert, row_of_remove}
 use Rattle.ns_audit.proofs.ValidRecords.Statement.{IsGoodNode, IsGoodPool}
-use Rattle.ns_audit.proofs.Outcomes.{Leads, leads_unless, leads_found, leads_if}
+use Rattle.ns_types.proofs.Leads.{Leads, leads_unless, leads_found, leads_if}
 use Rattle.ns_audit.proofs.Alone.Recording.{record_kept}
 use Rattle.ns_audit.proofs.ValidRecords.Sound.{kept_of, IsRecorded, IsNear, near_same, near_pool, near_first}
 use Rattle.ns_audit.proofs.ValidRecords.Tables.{len_put, len_removed, len_room}

@@ -30,7 +30,8 @@ use Rattle.ns_types.proofs.TableRows.{row_of_insert}
 use Rattle.ns_types.proofs.Tests.{is_yes}
 use Rattle.ns_audit.proofs.ValidRecords.Statement.{IsGoodPool}
 use Rattle.ns_audit.proofs.Steady.Keeping.{row_of_map}
-use Rattle.ns_audit.proofs.Alone.Recording.{queues_keep, record_kept}
+use Rattle.ns_types.proofs.Queue.{queues_keep}
+use Rattle.ns_audit.proofs.Alone.Recording.{record_kept}
 use Rattle.ns_audit.proofs.ValidRecords.Sound.{kept_of, Names, IsGoodJob, IsGoodKept, IsRecorded, bound_of, IsNearKept, IsNear, near_same}
 use Rattle.ns_audit.proofs.ValidRecords.Tables.{list_all_of, keys_mapped, len_mapped, values_pass, value_passes}
 use Rattle.ns_types.proofs.Classes.{by_class, one_class}

@@ -19,7 +19,7 @@ use Rattle.ns_types.proofs.Named.{first_of_both, second_of_both}
 use Rattle.ns_types.proofs.Tests.{not_Some, same_Some}
 use Rattle.ns_audit.specs.Orderly.{IsSteady}
 use Rattle.ns_audit.proofs.ValidRecords.Statement.{HasRecords, RecordsStep}
-use Rattle.ns_audit.proofs.Outcomes.{Leads, leads_found}
+use Rattle.ns_types.proofs.Leads.{Leads, leads_found, leads_lift}
 use Rattle.ns_audit.proofs.Alone.Running.{valid_is_steady, steady_step}
 use Rattle.ns_audit.proofs.ValidRecords.Sound.{IsRecorded, IsNear, near_first}
 use Rattle.ns_audit.proofs.ValidRecords.Acl.{policy_read, policy_put, policy_deleted, token_created, token_deleted}
@@ -73,14 +73,10 @@ module _ (s : State) (acl : IsSoundAcl s.acl) (world : IsRecorded s.world) where
   here = record { world = near_first s.world world; acl = acl }
 
   of_world : (o : Outcome World) → Leads (IsNear s.world) o → Leads (IsNearState s) (lift (with_world s.acl) o)
-  of_world NotEnabled h = tt
-  of_world (Refused refusal) h = tt
-  of_world (Done content w) h = record { world = h; acl = acl }
+  of_world = leads_lift (IsNearState s) (with_world s.acl) (IsNear s.world) (λ w h. record { world = h; acl = acl })
 
   of_acl : (o : Outcome Acl) → Leads IsSoundAcl o → Leads (IsNearState s) (lift (with_acl s.world) o)
-  of_acl NotEnabled h = tt
-  of_acl (Refused refusal) h = tt
-  of_acl (Done content a) h = record { world = near_first s.world world; acl = h }
+  of_acl = leads_lift (IsNearState s) (with_acl s.world) IsSoundAcl (λ a h. record { world = near_first s.world world; acl = h })
 
   administer_near : (secret : Option Name) (command : AdminCommand) → is_good_admin command ≡ true → Leads (IsNearState s) (administer secret command s)
   unfolding administer

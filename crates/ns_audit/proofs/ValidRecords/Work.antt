@@ -35,7 +35,7 @@ use Rattle.ns_types.specs.Working.Work.{may_snap, with_snapshot, snap_for, snap,
 use Rattle.ns_types.specs.Working.Work.{follower_of, blocked_of, without_blocked, ended, with_follower, followed, finished, finish_for, finish, is_submitted}
 use Rattle.ns_types.specs.Working.Work.{most_nacks, with_nack, given_back, given_up, nack_for, nack}
 use Rattle.ns_audit.proofs.Alone.Fixed.{fixed_stops}
-use Rattle.ns_audit.proofs.Outcomes.{Leads, leads_there, leads_if}
+use Rattle.ns_types.proofs.Leads.{Leads, leads_there, leads_if}
 use Rattle.ns_audit.proofs.ValidRecords.Sound.{kept_of, IsRecorded, IsNear, near_pool, near_first}
 use Rattle.ns_audit.proofs.ValidRecords.Frames.{kept_desired, kept_status, near_put_same, near_change, near_lists, near_make, near_each, near_promote}
 use Rattle.ns_audit.proofs.ValidRecords.Nodes.{same_node_good}

@@ -25,7 +25,7 @@ use Rattle.ns_types.proofs.Named.{names, one_name, one_number, same_name_is}
 use Rattle.ns_types.proofs.Tables.{none_of_any}
 use Rattle.ns_types.proofs.Tests.{not_Some, same_Some}
 use Rattle.ns_types.proofs.TableRows.{row_of_insert}
-use Rattle.ns_audit.proofs.Outcomes.{Leads, leads_unless, leads_found}
+use Rattle.ns_types.proofs.Leads.{Leads, leads_unless, leads_found}
 use Rattle.ns_audit.proofs.Alone.Owning.{turned_name, orderly}
 use Rattle.ns_audit.proofs.ValidWorkers.Busy.{IsBusyIn, IsQueuedIn, IsQueued}
 use Rattle.ns_audit.proofs.ValidWorkers.Quiet.{Quietly, quiet_same, quiet_put, quiet_pool, grows_none, quiet_stays, stays_held}

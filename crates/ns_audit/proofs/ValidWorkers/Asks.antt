@@ -32,7 +32,7 @@ use Rattle.ns_types.specs.State.Resources.{plus}
 use Rattle.ns_types.specs.State.Rows.{World, Tenant, PoolRows, is_ready, allocation_at, node_at}
 use Rattle.ns_types.specs.State.Sums.{names_quota, quota_use}
 use Rattle.ns_types.specs.State.Tables.{map_rows}
-use Rattle.ns_audit.proofs.Outcomes.{leads_unless, leads_refused, leads_found, leads_if}
+use Rattle.ns_types.proofs.Leads.{leads_unless, leads_refused, leads_found, leads_if}
 use Rattle.ns_audit.proofs.ValidWorkers.Quiet.{Grows, grows_none, grows_then, Quiet, quiet_same, quiet_then, quiet_each, quiet_change, quiet_map, quiet_make_in}
 use Rattle.ns_audit.proofs.ValidWorkers.Quiet.{quiet_make, quiet_pool, Quietly}
 use Rattle.ns_types.proofs.Tests.{same_Some}

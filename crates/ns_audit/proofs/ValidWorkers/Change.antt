@@ -18,7 +18,7 @@ use Rattle.ns_types.proofs.Lists.{not_both}
 use Rattle.ns_types.proofs.Named.{names, one_name, numbers as numbers_, one_number, same_name_is, same_name_refl, same_number_refl, same_key_is}
 use Rattle.ns_types.proofs.Tables.{tied}
 use Rattle.ns_types.proofs.Tests.{same_Some}
-use Rattle.ns_audit.proofs.Outcomes.{leads_there}
+use Rattle.ns_types.proofs.Leads.{leads_there}
 use Rattle.ns_audit.proofs.ValidWorkers.Admins.{IsWell, KeepsStaff}
 use Rattle.ns_audit.proofs.ValidWorkers.Busy.{IsQueued}
 use Rattle.ns_audit.proofs.ValidWorkers.Once.{is_once}

@@ -16,7 +16,7 @@ use Rattle.ns_types.proofs.Tests.{same_Some}
 use Rattle.ns_types.proofs.TableRows.{row_of_insert}
 use Rattle.ns_audit.specs.Orderly.{IsOrderly}
 use Rattle.ns_audit.proofs.Steady.Keeping.{row_of_map, elsewhere, above, more}
-use Rattle.ns_audit.proofs.Outcomes.{Leads}
+use Rattle.ns_types.proofs.Leads.{Leads}
 use Rattle.ns_audit.proofs.ValidWorkers.Busy.{IsBusyIn, IsNumbered, IsQueuedIn, IsQueued, queued_in, queue_queued}
 use Rattle.ns_audit.proofs.ValidWorkers.Staff.{PoolStill, Stays, IsHeldFrom}
 use Rattle.std.proofs.Math.Nat.{le_refl, le_trans}

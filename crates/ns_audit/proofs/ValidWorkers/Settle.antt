@@ -21,7 +21,7 @@ use Rattle.ns_audit.specs.Orderly.{IsOrderly, IsBlockedIn}
 use Rattle.ns_audit.proofs.Steady.Keeping.{row_of_map, has_key_filter}
 use Rattle.ns_audit.proofs.Steady.Work.{pending_not_blocked}
 use Rattle.ns_audit.proofs.Steady.Workers.{at_tenant}
-use Rattle.ns_audit.proofs.Alone.Recording.{queues_keep}
+use Rattle.ns_types.proofs.Queue.{queues_keep}
 use Rattle.ns_audit.proofs.ValidWorkers.Busy.{IsNumbered, IsQueuedIn, IsQueued, IsBusyIn, KeepsJobs, queued_in, queues_queued}
 use Rattle.ns_audit.proofs.ValidWorkers.Once.{is_once}
 use Rattle.ns_audit.proofs.ValidWorkers.Staff.{PoolStill, QuotaStill, looks_same, Stays, IsHeldFrom}

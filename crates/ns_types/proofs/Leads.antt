@@ -7,7 +7,7 @@ use Rattle.ns_types.specs.declared.evaluation.Evaluation.{Evaluation}
 use Rattle.ns_types.specs.declared.refusal.Refusal.{Refusal}
 use Rattle.ns_types.specs.declared.snapshot.Snapshot.{Snapshot}
 use Rattle.ns_types.specs.declared.worker.Worker.{Worker}
-use Rattle.ns_types.specs.Settling.Outcome.{Outcome, NotEnabled, Refused, Done, unless, refused_by, found}
+use Rattle.ns_types.specs.Settling.Outcome.{Outcome, NotEnabled, Refused, Done, unless, refused_by, found, lift}
 use Rattle.ns_types.specs.State.Names.{Name}
 use Rattle.ns_types.specs.State.Rows.{World, Tenant}
 use Rattle.ns_types.specs.Working.Work.{at_work}
@@ -50,6 +50,20 @@ module _ {S : Type 0} (P : S → Type 0) where
   pub leads_if : (b : Bool) (o p : Outcome S) → (b ≡ true → Leads P o) → (b ≡ false → Leads P p) → Leads P (cond b o p)
   leads_if true o p h k = h refl
   leads_if false o p h k = k refl
+
+-- ---- the change of a part, as one of the whole
+
+module _ {A B : Type 0} (Q : B → Type 0) (whole : A → B) where
+  pub leads_lift : (P : A → Type 0) → ((a : A) → P a → Q (whole a)) → (o : Outcome A) → Leads P o → Leads Q (lift whole o)
+  leads_lift P f NotEnabled h = tt
+  leads_lift P f (Refused refusal) h = tt
+  leads_lift P f (Done content a) h = f a h
+
+  -- where nothing has to hold of the part
+  pub leads_whole : ((a : A) → Q (whole a)) → (o : Outcome A) → Leads Q (lift whole o)
+  leads_whole f NotEnabled = tt
+  leads_whole f (Refused refusal) = tt
+  leads_whole f (Done content a) = f a
 
 -- ---- what a busy worker does
 
