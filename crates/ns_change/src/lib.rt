@@ -30,7 +30,7 @@ pub use evicting::{set_client, set_desired};
 pub use jobs::{put_job, remove_job};
 pub use lists::{add_ready, take_ready};
 pub use looking::{allocation, evaluation, node};
-pub use losing::lose;
+pub use losing::{is_live_on, lose};
 pub use numbered::{NumberedRow, put_row, row};
 pub use placing::{add_allocation, count_place, put_node, remove_node};
 pub use preparing::prepare;

@@ -23,7 +23,8 @@ type AllocationSlot = (u64, Option<Allocation>);
 /// A namespace with what it owns, or a vacant slot.
 type TenantSlot = (Text, Option<TenantRows>);
 
-fn is_live_on(pool: &Text, node: &Text, allocation: &Allocation) -> bool
+/// Whether the allocation is live and on that node of the pool.
+pub fn is_live_on(pool: &Text, node: &Text, allocation: &Allocation) -> bool
     ensures { result ≡ is_live_on pool.now node.now allocation.now }
 {
     allocation.is_live() && (same_text(pool, &allocation.pool) && same_text(node, &allocation.node))

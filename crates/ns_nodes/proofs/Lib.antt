@@ -1,4 +1,7 @@
 pub mod Asked
+pub mod Down
 pub mod Idle
 pub mod Listed
+pub mod Losses
+pub mod Renewed
 pub mod Within

@@ -1,3 +1,4 @@
 pub mod Idle
 pub mod Listed
+pub mod Losing
 pub mod Registering

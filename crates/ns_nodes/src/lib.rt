@@ -6,13 +6,15 @@
 mod bounds;
 mod eligible;
 mod listing;
+mod losing;
 mod prepared;
 mod registered;
 mod removed;
+mod renewing;
 mod status;
 
 pub use eligible::{set_eligible, set_ready};
 pub use listing::list_nodes;
 pub use registered::register_node;
 pub use removed::remove_node;
-pub use status::set_status;
+pub use status::set_down;

@@ -1,56 +1,78 @@
-//! A node's status.
+//! A node that goes down, with what that takes along.
 
 ghost use Rattle.std.specs.Prelude.{◌≡◌, false};
-ghost use Rattle.ns_types.specs.declared.node.NodeStatus.TheVariants as NodeStatus;
-ghost use Rattle.ns_types.specs.declared.step.NodeCommand.TheVariants as NodeCommand;
-ghost use Rattle.ns_types.specs.Asking.Nodes.{ask_pool};
-ghost use Rattle.ns_types.specs.State.Rows.{is_ready};
-ghost use Rattle.ns_types.specs.Steps.{is_past_bound};
-ghost use Rattle.ns_change.specs.Prepared.{Prepares, bounded};
-ghost use Rattle.ns_nodes.specs.Idle.{IsIdle};
+ghost use Rattle.ns_types.specs.declared.reply.Content.TheVariants as Content;
+ghost use Rattle.ns_types.specs.Asking.Nodes.{go_down};
+ghost use Rattle.ns_types.specs.Settling.Making.{with_node};
+ghost use Rattle.ns_types.specs.Settling.Outcome.{Done};
+ghost use Rattle.ns_change.specs.Changed.{Does, change_pool, view};
+ghost use Rattle.ns_change.specs.Prepared.{Prepares};
+ghost use Rattle.ns_nodes.specs.Losing.{down, numbers_pass};
 ghost use Rattle.ns_world.specs.World.{world_of};
 
-use crate::eligible::set_ready;
-use crate::prepared::{node_of, put_alone};
-use ns_change::{Prepared, copied_node};
-use ns_types::node::NodeStatus;
+use crate::losing::{losing_keys, numbers_pass};
+use crate::prepared::node_of;
+use crate::renewing::renew_each;
+use ns_change::{Change, Prepared, copied_node, lose, prepare, put_node};
+use ns_types::node::{Node, NodeStatus};
 use ns_types::refusal::Refusal;
+use ns_types::reply::Content;
 use ns_types::text::Text;
 use ns_world::Tables;
+use std::alloc::AllocError;
 
-/// The node is down, which gives no room. `NotFound`: there is no such pool, or no such node in it.
-fn set_down(tables: &Tables, pool: &Text, name: &Text) -> Result<Prepared, Refusal>
-    requires bounds { is_past_bound (world_of tables.now) ≡ false }
-    requires idle { IsIdle (world_of tables.now) pool.now name.now }
-    ensures { let command = NodeCommand.SetStatus name.now NodeStatus.Down in
-        let w = world_of tables.now in
-        Prepares (bounded w (ask_pool pool.now command w)) tables.now result }
+/// The live allocations on the node are lost, and each job that had one gets an evaluation. The premises are that no
+/// namespace was changed before, and that each has the numbers for its evaluations.
+fn go_down(tables: &Tables, change: &mut Change, pool: &Text, name: &Text) -> Result<(), AllocError>
+    requires first { (view tables.now change.old).tenants ≡ (world_of tables.now).tenants }
+    requires numbers { numbers_pass pool.now name.now (world_of tables.now) ≡ false }
+    ensures { Does result tables.now change.old change.new (go_down pool.now name.now) }
+{
+    let keys = losing_keys(tables, pool, name)?;
+    lose(tables, change, pool, name)?;
+    renew_each(tables, change, keys.as_slice())
+}
+
+/// The node is put, and then it goes down.
+fn put_down(
+    tables: &Tables,
+    change: &mut Change,
+    pool: &Text,
+    name: &Text,
+    row: Node,
+) -> Result<(), AllocError>
+    requires first { view tables.now change.old ≡ world_of tables.now }
+    requires numbers { numbers_pass pool.now name.now (world_of tables.now) ≡ false }
+    ensures { Does result tables.now change.old change.new
+        (λ w. go_down pool.now name.now (change_pool pool.now (with_node name.now row) w)) }
+{
+    put_node(tables, change, pool, name, row)?;
+    go_down(tables, change, pool, name)
+}
+
+fn put_down_alone(tables: &Tables, pool: &Text, name: &Text, row: Node) -> Result<Prepared, Refusal>
+    requires { numbers_pass pool.now name.now (world_of tables.now) ≡ false }
+    ensures { let put = change_pool pool.now (with_node name.now row) (world_of tables.now) in
+        Prepares (Done Content.Written (go_down pool.now name.now put)) tables.now result }
+{
+    let mut change = Change::new(tables.alloc);
+    let made = put_down(tables, &mut change, pool, name, row);
+    prepare(Content::Written, change, made)
+}
+
+/// The node is down, the live allocations on it are lost, and each job that had one gets an evaluation, by namespace, then
+/// job id. `NotFound`: there is no such pool, or no such node in it. `Full`: a namespace has too few numbers left for its
+/// evaluations.
+pub fn set_down(tables: &Tables, pool: &Text, name: &Text) -> Result<Prepared, Refusal>
+    ensures { Prepares (down pool.now name.now (world_of tables.now)) tables.now result }
 {
     let Some(row) = node_of(tables, pool, name) else {
         return Err(Refusal::NotFound);
     };
+    if numbers_pass(tables, pool, name) {
+        return Err(Refusal::Full);
+    }
     let mut row = copied_node(row)?;
     row.status = NodeStatus::Down;
-    put_alone(tables, pool, name, row)
-}
-
-/// The node has the status. The premise is that no allocation is live on one that goes down, so that none is lost.
-/// `NotFound`: there is no such pool, or no such node in it. `Full`: a counter would pass its bound, since the node gives
-/// room.
-pub fn set_status(
-    tables: &Tables,
-    pool: &Text,
-    name: &Text,
-    status: NodeStatus,
-) -> Result<Prepared, Refusal>
-    requires bounds { is_past_bound (world_of tables.now) ≡ false }
-    requires idle { is_ready status ≡ false → IsIdle (world_of tables.now) pool.now name.now }
-    ensures { let w = world_of tables.now in
-        let outcome = ask_pool pool.now (NodeCommand.SetStatus name.now status) w in
-        Prepares (bounded w outcome) tables.now result }
-{
-    match status {
-        NodeStatus::Ready => set_ready(tables, pool, name),
-        NodeStatus::Down => set_down(tables, pool, name),
-    }
+    put_down_alone(tables, pool, name, row)
 }

@@ -1,0 +1,230 @@
+-- The jobs that lose an allocation with a node, slot by slot.
+use Rattle.std.specs.Prelude.{◌≡◌, ℕ, ◌+◌, Bool, true, false, cond, ◌&&◌, ◌||◌, not, List, [], ◌∷◌, Option, Some, None, filter, flat_map, fold, is_some}
+use Rattle.std.specs.Prelude.{length, map, nat_lt, option_map, ◌++◌, ◌<◌, ◌≤◌, ◌^◌, T}
+use Rattle.std.proofs.Common.{inl, inr, refl, sym, ap, subst, ◌∙◌, arith}
+use Rattle.std.proofs.lemmas.Bool.Decides.{leb_tells}
+use Rattle.std.proofs.lemmas.List.{length-map}
+use Rattle.std.proofs.lemmas.List.Concat.{flat_map_single}
+use Rattle.std.proofs.lemmas.List.Folds.{flat_map-map}
+use Rattle.std.specs.List.{list_any}
+use Rattle.std.specs.Option.{option_or}
+use Rattle.std.specs.Ordering.{eq_by_cmp}
+use Rattle.std.specs.FinMap.{FinMap, contains_key, empty, entries, find, from_entries, get, get-empty, get-from_entries, get-insert, insert, len, len-empty, len-entries, len-insert}
+use Rattle.std.specs.FinMap.{same_map, values}
+use Rattle.keyed.specs.Table.{has_slot, row_list, rows, with_slot}
+use Rattle.keyed.proofs.Tables.{entries-rows}
+use Rattle.keyed.proofs.Viewing.{any_row-table_of}
+use Rattle.ns_types.specs.declared.allocation.Allocation.{Allocation}
+use Rattle.ns_types.specs.Asking.Nodes.{losing_jobs}
+use Rattle.ns_types.specs.State.Names.{Name, ByName, name_cmp, same_name}
+use Rattle.ns_types.specs.State.Rows.{Tenant, is_live_on}
+use Rattle.ns_types.specs.State.Tables.{table_of}
+use Rattle.ns_types.specs.Steps.{greatest}
+use Rattle.ns_types.proofs.Elements.{map_map}
+use Rattle.ns_types.proofs.Lists.{not_both}
+use Rattle.ns_types.proofs.Named.{names, one_name}
+use Rattle.ns_types.proofs.Tables.{entries-table_of, get-table_of, tied}
+use Rattle.ns_nodes.specs.Losing.{is_last_of_job, is_losing, key_at, losing_keys, losing_keys_at, losing_keys_in, losing_rows, numbers_pass, numbers_pass_at, numbers_pass_in, with_losing}
+use Rattle.ns_world.specs.declared.tables.Tables.{Tables}
+use Rattle.ns_world.specs.declared.tables.TenantRows.{TenantRows}
+use Rattle.ns_world.specs.World.{tenant_of, world_of}
+
+-- ---- tables of entries
+
+find_mapped : {X Y : Type 0} (f : X → Y) (q : Name) (es : List (Name × X)) → find name_cmp q (map (λ e. (e.0, f e.1)) es) ≡ option_map f (find name_cmp q es)
+find_mapped f q [] = refl
+find_mapped f q (e ∷ es) = elim (same_name q e.0) as
+    (λ b. cond b (Some (f e.1)) (find name_cmp q (map (λ e. (e.0, f e.1)) es)) ≡ option_map f (cond b (Some e.1) (find name_cmp q es))) [
+      | true ↦ refl
+      | false ↦ find_mapped f q es
+    ]
+
+from_mapped : {X Y : Type 0} (f : X → Y) (es : List (Name × X)) →
+    from_entries {R = name_cmp} (map (λ e. (e.0, f e.1)) es) ≡ table_of (λ _ x. f x) (from_entries {R = name_cmp} es)
+from_mapped f es = same_map names one_name _ _ (λ q. get-from_entries names (map (λ e. (e.0, f e.1)) es) q ∙ find_mapped f q es
+    ∙ ap (option_map f) (sym (get-from_entries names es q)) ∙ sym (get-table_of names one_name (λ _ x. f x) (from_entries es) q))
+
+values_mapped : {X Y : Type 0} (f : X → Y) (m : ByName X) → values (table_of (λ _ x. f x) m) ≡ map f (values m)
+values_mapped f m = ap (map (λ e. e.1)) (entries-table_of (λ _ x. f x) m) ∙ map_map (λ e. e.1) (λ e. (e.0, f e.1)) (entries m)
+    ∙ sym (map_map f (λ e. e.1) (entries m))
+
+pub past_bound : (n : ℕ) → 2 ^ 64 ≤ n → nat_lt greatest n ≡ true
+past_bound n more = elim (leb_tells (2 ^ 64) n) [ inl past ↦ past.0 | inr less ↦ absurd (omega arith) ]
+
+pub not_past : (n : ℕ) → n < 2 ^ 64 → nat_lt greatest n ≡ false
+not_past n less = elim (leb_tells (2 ^ 64) n) [ inl past ↦ absurd (omega arith) | inr within ↦ within.0 ]
+
+pub within_bound : (n : ℕ) → nat_lt greatest n ≡ false → n < 2 ^ 64
+within_bound n none = elim (leb_tells (2 ^ 64) n) [ inl past ↦ not_both past.0 none | inr less ↦ less.1 ]
+
+or_nothing : {A : Type 0} (o : Option A) → option_or o None ≡ o
+or_nothing None = refl
+or_nothing (Some x) = refl
+
+module _ (pool node : Name) where
+  abbrev lives : ℕ × Allocation → Bool
+  lives a = is_live_on pool node a.1
+
+  -- the live allocations among rows, each under its job
+  abbrev pub jobs_in : List (ℕ × Allocation) → List (Name × (ℕ × Allocation))
+  jobs_in rows = map (λ a. (a.1.job, a)) (filter lives rows)
+
+  -- of each job the first one
+  abbrev pub firsts : List (ℕ × Option Allocation) → ByName (ℕ × Allocation)
+  firsts slots = from_entries {R = name_cmp} (jobs_in (row_list slots))
+
+  -- the model's, with their numbers
+  pub jobs_are : (t : Tenant) → losing_jobs pool node t ≡ map (λ a. a.1) (losing_rows pool node t)
+  jobs_are t = ap (λ es. values (from_entries {R = name_cmp} es)) (sym (map_map (λ e. (e.0, e.1.1)) (λ a. (a.1.job, a)) (filter lives (entries t.allocations))))
+      ∙ ap values (from_mapped (λ a. a.1) (jobs_in (entries t.allocations)))
+      ∙ values_mapped (λ a. a.1) (from_entries {R = name_cmp} (jobs_in (entries t.allocations)))
+
+  -- ---- how many there are
+
+  pub count : List (ℕ × Option Allocation) → ℕ
+  count slots = len (firsts slots)
+
+  found_any : (job : Name) (slots : List (ℕ × Option Allocation)) →
+      is_some (find name_cmp job (jobs_in (row_list slots))) ≡ list_any (is_losing pool node job) slots
+  found_any job [] = refl
+  found_any job ((n, None) ∷ slots) = found_any job slots
+  found_any job ((n, Some a) ∷ slots) = by (is_live_on pool node a) (same_name job a.job) refl (found_any job slots)
+    where
+      by : (b s : Bool) → same_name job a.job ≡ s → is_some (find name_cmp job (jobs_in (row_list slots))) ≡ list_any (is_losing pool node job) slots →
+          is_some (find name_cmp job (map (λ a. (a.1.job, a)) (cond b ((n, a) ∷ filter lives (row_list slots)) (filter lives (row_list slots)))))
+          ≡ ((same_name job a.job && b) || list_any (is_losing pool node job) slots)
+      by true true e later = ap (λ s. is_some (cond s (Some (n, a)) (find name_cmp job (jobs_in (row_list slots))))) e
+          ∙ sym (ap (λ s. (s && true) || list_any (is_losing pool node job) slots) e)
+      by true false e later = ap (λ s. is_some (cond s (Some (n, a)) (find name_cmp job (jobs_in (row_list slots))))) e ∙ later
+          ∙ sym (ap (λ s. (s && true) || list_any (is_losing pool node job) slots) e)
+      by false true e later = later ∙ sym (ap (λ s. (s && false) || list_any (is_losing pool node job) slots) e)
+      by false false e later = later ∙ sym (ap (λ s. (s && false) || list_any (is_losing pool node job) slots) e)
+
+  pub count_step : (slot : ℕ × Option Allocation) (later : List (ℕ × Option Allocation)) →
+      count (slot ∷ later) ≡ cond (is_last_of_job pool node slot later) (count later + 1) (count later)
+  unfolding count
+  count_step (n, None) later = refl
+  count_step (n, Some a) later = by (is_live_on pool node a)
+    where
+      one_more : (c : Bool) (n : ℕ) → cond c n (n + 1) ≡ cond (not c) (n + 1) n
+      one_more true n = refl
+      one_more false n = refl
+
+      by : (b : Bool) → len (from_entries {R = name_cmp} (map (λ a. (a.1.job, a)) (cond b ((n, a) ∷ filter lives (row_list later)) (filter lives (row_list later)))))
+          ≡ cond (b && not (list_any (is_losing pool node a.job) later)) (len (firsts later) + 1) (len (firsts later))
+      by true = len-insert names (firsts later) a.job (n, a)
+          ∙ ap (λ c. cond c (len (firsts later)) (len (firsts later) + 1))
+          (ap is_some (get-from_entries names (jobs_in (row_list later)) a.job) ∙ found_any a.job later)
+          ∙ one_more (list_any (is_losing pool node a.job) later) (len (firsts later))
+      by false = refl
+
+  pub count_is : (x : TenantRows) → length (losing_jobs pool node (tenant_of x)) ≡ count (entries x.allocations)
+  unfolding count
+  count_is x = ap length (jobs_are (tenant_of x)) ∙ length-map (losing_rows pool node (tenant_of x)) (λ a. a.1)
+      ∙ length-map (entries (from_entries {R = name_cmp} (jobs_in (entries (rows x.allocations))))) (λ e. e.1)
+      ∙ sym (len-entries (from_entries {R = name_cmp} (jobs_in (entries (rows x.allocations)))))
+      ∙ ap (λ rows. len (from_entries {R = name_cmp} (jobs_in rows))) (entries-rows x.allocations)
+
+  module _ (x : TenantRows) (number : ℕ) (rest : List (ℕ × Option Allocation))
+      (is : number + count rest ≡ x.evaluation_number + count (entries x.allocations)) where
+    all_of : x.evaluation_number + length (losing_jobs pool node (tenant_of x)) ≡ number + count rest
+    all_of = ap (λ n. x.evaluation_number + n) (count_is x) ∙ sym is
+
+    module _ (slot : ℕ × Option Allocation) (later : List (ℕ × Option Allocation)) (slots : rest ≡ slot ∷ later) where
+      pub next_number : is_last_of_job pool node slot later ≡ true → (number + 1) + count later ≡ x.evaluation_number + count (entries x.allocations)
+      next_number last =
+          let counted : count rest ≡ count later + 1 = ap count slots ∙ count_step slot later ∙ ap (λ b. cond b (count later + 1) (count later)) last in
+          omega arith
+
+      pub same_number : is_last_of_job pool node slot later ≡ false → number + count later ≡ x.evaluation_number + count (entries x.allocations)
+      same_number last =
+          let counted : count rest ≡ count later = ap count slots ∙ count_step slot later ∙ ap (λ b. cond b (count later + 1) (count later)) last in
+          omega arith
+
+      pub no_number : is_last_of_job pool node slot later ≡ true → number ≡ greatest → true ≡ numbers_pass_in pool node (tenant_of x)
+      no_number last end =
+          let counted : count rest ≡ count later + 1 = ap count slots ∙ count_step slot later ∙ ap (λ b. cond b (count later + 1) (count later)) last in
+          sym (past_bound _ (subst (λ n. 2 ^ 64 ≤ n) (sym all_of) (omega arith)))
+
+    pub all_numbers : rest ≡ [] → number < 2 ^ 64 → false ≡ numbers_pass_in pool node (tenant_of x)
+    unfolding count
+    all_numbers none fits =
+        let counted : count rest ≡ 0 = ap count none ∙ len-empty name_cmp (ℕ × Allocation) in
+        sym (not_past _ (subst (λ n. n < 2 ^ 64) (sym all_of) (omega arith)))
+
+  pub somewhere_passes : (t : Tables) → list_any (numbers_pass_at pool node) (entries t.tenants) ≡ numbers_pass pool node (world_of t)
+  unfolding world_of
+  somewhere_passes t = sym (any_row-table_of (λ (_ : Name) (x : TenantRows). tenant_of x) (λ _ x. numbers_pass_in pool node x) t.tenants)
+
+  -- ---- their keys
+
+  get_losing : (slots : List (ℕ × Option Allocation)) (m : ByName (Option ℕ)) (q : Name) → get (fold (with_losing pool node) m slots) q
+      ≡ option_or (get m q) (option_map (λ a. Some a.0) (find name_cmp q (jobs_in (row_list slots))))
+  get_losing [] m q = sym (or_nothing (get m q))
+  get_losing ((n, None) ∷ slots) m q = get_losing slots m q
+  get_losing ((n, Some a) ∷ slots) m q = get_losing slots (with_losing pool node m (n, Some a)) q
+      ∙ by (is_live_on pool node a) (has_slot m a.job) refl (same_name q a.job) refl
+    where
+      others : Option (ℕ × Allocation)
+      others = find name_cmp q (jobs_in (row_list slots))
+
+      asked : Bool → Option (Option ℕ)
+      asked b = option_map (λ a. Some a.0)
+          (find name_cmp q (map (λ a. (a.1.job, a)) (cond b ((n, a) ∷ filter lives (row_list slots)) (filter lives (row_list slots)))))
+
+      held : (o : Option (Option ℕ)) → is_some o ≡ true → (x y : Option (Option ℕ)) → option_or o x ≡ option_or o y
+      held None e x y = absurd (subst T (sym e) tt)
+      held (Some v) e x y = refl
+
+      nothing : (o : Option (Option ℕ)) → is_some o ≡ false → (x : Option (Option ℕ)) → option_or o x ≡ x
+      nothing None e x = refl
+      nothing (Some v) e x = absurd (subst T e tt)
+
+      put : has_slot m a.job ≡ false → (s : Bool) → same_name q a.job ≡ s →
+          get (insert (with_slot m a.job) a.job (Some n)) q ≡ cond s (Some (Some n)) (get m q)
+      put out true e = get-insert names (with_slot m a.job) a.job (Some n) q ∙ ap (λ s. cond s (Some (Some n)) (get (with_slot m a.job) q)) e
+      put out false e = get-insert names (with_slot m a.job) a.job (Some n) q ∙ ap (λ s. cond s (Some (Some n)) (get (with_slot m a.job) q)) e
+          ∙ ap (λ h. get (cond h m (insert m a.job None)) q) out ∙ get-insert names m a.job None q ∙ ap (λ s. cond s (Some None) (get m q)) e
+
+      by : (b h : Bool) → has_slot m a.job ≡ h → (s : Bool) → same_name q a.job ≡ s →
+          option_or (get (cond (b && not (has_slot m a.job)) (insert (with_slot m a.job) a.job (Some n)) m) q) (option_map (λ a. Some a.0) others)
+          ≡ option_or (get m q) (asked b)
+      by false h is s e = refl
+      by true true is true e = ap (λ h. option_or (get (cond (not h) (insert (with_slot m a.job) a.job (Some n)) m) q) (option_map (λ a. Some a.0) others)) is
+          ∙ held (get m q) (ap (λ k. is_some (get m k)) (tied one_name q a.job e) ∙ is) _ _
+      by true true is false e = ap (λ h. option_or (get (cond (not h) (insert (with_slot m a.job) a.job (Some n)) m) q) (option_map (λ a. Some a.0) others)) is
+          ∙ ap (λ s. option_or (get m q) (option_map (λ a. Some a.0) (cond s (Some (n, a)) others))) (sym e)
+      by true false is true e = ap (λ h. option_or (get (cond (not h) (insert (with_slot m a.job) a.job (Some n)) m) q) (option_map (λ a. Some a.0) others)) is
+          ∙ ap (λ o. option_or o (option_map (λ a. Some a.0) others)) (put is true e)
+          ∙ ap (λ s. option_map (λ a. Some a.0) (cond s (Some (n, a)) others)) (sym e)
+          ∙ sym (nothing (get m q) (ap (λ k. is_some (get m k)) (tied one_name q a.job e) ∙ is) (asked true))
+      by true false is false e = ap (λ h. option_or (get (cond (not h) (insert (with_slot m a.job) a.job (Some n)) m) q) (option_map (λ a. Some a.0) others)) is
+          ∙ ap (λ o. option_or o (option_map (λ a. Some a.0) others)) (put is false e)
+          ∙ ap (λ s. option_or (get m q) (option_map (λ a. Some a.0) (cond s (Some (n, a)) others))) (sym e)
+
+  losing_is : (slots : List (ℕ × Option Allocation)) → fold (with_losing pool node) empty slots ≡ table_of (λ _ a. Some a.0) (firsts slots)
+  losing_is slots = same_map names one_name _ _ (λ q. get_losing slots empty q
+      ∙ ap (λ o. option_or o (option_map (λ a. Some a.0) (find name_cmp q (jobs_in (row_list slots))))) (get-empty name_cmp q)
+      ∙ ap (option_map (λ a. Some a.0)) (sym (get-from_entries names (jobs_in (row_list slots)) q))
+      ∙ sym (get-table_of names one_name (λ _ a. Some a.0) (firsts slots) q))
+
+  keys_at : (ns : Name) (x : TenantRows) → losing_keys_at pool node (ns, Some x) ≡ losing_keys_in pool node ns (tenant_of x)
+  keys_at ns x = ap (λ m. flat_map (key_at ns) (entries m)) (losing_is (entries x.allocations))
+      ∙ ap (flat_map (key_at ns)) (entries-table_of (λ _ a. Some a.0) (firsts (entries x.allocations)))
+      ∙ flat_map-map (key_at ns) (λ e. (e.0, Some e.1.0)) (entries (firsts (entries x.allocations)))
+      ∙ flat_map_single (λ (e : Name × (ℕ × Allocation)). (ns, e.1.0)) (entries (firsts (entries x.allocations)))
+      ∙ sym (map_map (λ a. (ns, a.0)) (λ (e : Name × (ℕ × Allocation)). e.1) (entries (firsts (entries x.allocations))))
+      ∙ ap (λ rows. map (λ (a : ℕ × Allocation). (ns, a.0)) (values (from_entries {R = name_cmp} (jobs_in rows)))) (sym (entries-rows x.allocations))
+
+  keys_by_slots : (slots : List (Name × Option TenantRows)) →
+      flat_map (losing_keys_at pool node) slots ≡ flat_map (λ e. losing_keys_in pool node e.0 (tenant_of e.1)) (row_list slots)
+  keys_by_slots [] = refl
+  keys_by_slots ((ns, None) ∷ slots) = keys_by_slots slots
+  keys_by_slots ((ns, Some x) ∷ slots) = λ i. keys_at ns x i ++ keys_by_slots slots i
+
+  pub keys_are : (t : Tables) → flat_map (losing_keys_at pool node) (entries t.tenants) ≡ losing_keys pool node (world_of t)
+  unfolding world_of
+  keys_are t = keys_by_slots (entries t.tenants)
+      ∙ sym (flat_map-map (λ (e : Name × Tenant). losing_keys_in pool node e.0 e.1) (λ (e : Name × TenantRows). (e.0, tenant_of e.1)) (row_list (entries t.tenants)))
+      ∙ ap (flat_map (λ (e : Name × Tenant). losing_keys_in pool node e.0 e.1)) (sym (entries-table_of (λ _ x. tenant_of x) (rows t.tenants)
+      ∙ ap (map (λ (e : Name × TenantRows). (e.0, tenant_of e.1))) (entries-rows t.tenants)))

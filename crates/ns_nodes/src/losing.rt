@@ -1,0 +1,204 @@
+//! The jobs that lose an allocation with a node, and whether their namespaces have numbers for an evaluation of each.
+
+ghost use Rattle.std.specs.Prelude.{◌≡◌, ◌++◌, flat_map, fold, map, IfOk, OnOk, None, Some};
+ghost use Rattle.std.specs.FinMap.{empty};
+ghost use Rattle.std.specs.List.{list_any};
+ghost use Rattle.ns_types.specs.State.Rows.{is_live_on};
+ghost use Rattle.ns_nodes.specs.Losing.{is_last_of_job, is_losing, key_at, losing_keys, losing_keys_at};
+ghost use Rattle.ns_nodes.specs.Losing.{numbers_pass, numbers_pass_at, numbers_pass_in, with_losing};
+ghost use Rattle.ns_world.specs.World.{tenant_of, world_of};
+
+use keyed::NameTable;
+use ns_alike::same_text;
+use ns_change::is_live_on;
+use ns_types::allocation::Allocation;
+use ns_types::key::EvalKey;
+use ns_types::rows::Rows;
+use ns_types::text::Text;
+use ns_world::{Tables, TenantRows};
+use std::alloc::{AllocError, Global};
+
+/// An allocation with its number, or a vacant slot.
+type AllocationSlot = (u64, Option<Allocation>);
+
+/// A namespace with what it owns, or a vacant slot.
+type TenantSlot = (Text, Option<TenantRows>);
+
+/// A job's id with the number of its allocation, or a vacant slot.
+type JobSlot = (Text, Option<u64>);
+
+// ---- numbers
+
+/// Whether it is an allocation of the job that is live on the node.
+fn is_losing(pool: &Text, node: &Text, job: &Text, slot: &AllocationSlot) -> bool
+    ensures { result ≡ is_losing pool.now node.now job.now slot.now }
+{
+    match &slot.1 {
+        Some(allocation) => same_text(job, &allocation.job) && is_live_on(pool, node, allocation),
+        None => false,
+    }
+}
+
+fn any_is_losing(pool: &Text, node: &Text, job: &Text, slots: &[AllocationSlot]) -> bool
+    ensures { result ≡ list_any (is_losing pool.now node.now job.now) slots.now }
+{
+    slots.iter().any(|slot| is_losing(pool, node, job, slot))
+}
+
+/// Whether it is an allocation that is live on the node, and none of the later ones is of its job.
+fn is_last_of_job(pool: &Text, node: &Text, slot: &AllocationSlot, later: &[AllocationSlot]) -> bool
+    ensures { result ≡ is_last_of_job pool.now node.now slot.now later.now }
+{
+    match &slot.1 {
+        Some(allocation) => is_live_on(pool, node, allocation)
+            && !any_is_losing(pool, node, &allocation.job, later),
+        None => false,
+    }
+}
+
+/// Whether the namespace has too few numbers for an evaluation of each of its jobs that lose an allocation.
+fn numbers_pass_in(pool: &Text, node: &Text, tenant: &TenantRows) -> bool
+    ensures { result ≡ numbers_pass_in pool.now node.now (tenant_of tenant.now) }
+{
+    let mut number = tenant.evaluation_number;
+    let mut rest = tenant.allocations.as_slice();
+    while let Some((slot, later)) = rest.split_first() {
+        if is_last_of_job(pool, node, slot, later) {
+            if number == u64::MAX {
+                return true;
+            }
+            number += 1;
+        }
+        rest = later;
+    }
+    false
+}
+
+fn numbers_pass_at(pool: &Text, node: &Text, slot: &TenantSlot) -> bool
+    ensures { result ≡ numbers_pass_at pool.now node.now slot.now }
+{
+    match &slot.1 {
+        Some(tenant) => numbers_pass_in(pool, node, tenant),
+        None => false,
+    }
+}
+
+fn any_numbers_pass(pool: &Text, node: &Text, slots: &[TenantSlot]) -> bool
+    ensures { result ≡ list_any (numbers_pass_at pool.now node.now) slots.now }
+{
+    slots.iter().any(|slot| numbers_pass_at(pool, node, slot))
+}
+
+/// Whether some namespace has too few numbers. It takes no memory.
+pub(crate) fn numbers_pass(tables: &Tables, pool: &Text, node: &Text) -> bool
+    ensures { result ≡ numbers_pass pool.now node.now (world_of tables.now) }
+{
+    any_numbers_pass(pool, node, tables.tenants.as_slice())
+}
+
+// ---- keys
+
+/// Puts the number of an allocation that is live on the node under its job, where there is none before it.
+fn put_losing(
+    losing: &mut NameTable<u64>,
+    pool: &Text,
+    node: &Text,
+    slot: &AllocationSlot,
+) -> Result<(), AllocError>
+    ensures { OnOk result (losing.new ≡ with_losing pool.now node.now losing.old slot.now) }
+{
+    let Some(allocation) = &slot.1 else {
+        return Ok(());
+    };
+    if is_live_on(pool, node, allocation) && !losing.has_slot(&allocation.job) {
+        losing.reserve(&allocation.job)?;
+        losing.set(&allocation.job, slot.0);
+    }
+    Ok(())
+}
+
+/// Of each job the first allocation that is live on the node.
+fn losing_numbers(
+    alloc: Global,
+    pool: &Text,
+    node: &Text,
+    slots: &[AllocationSlot],
+) -> Result<NameTable<u64>, AllocError>
+    ensures { IfOk result
+        (λ losing. losing ≡ fold (with_losing pool.now node.now) empty slots.now) }
+{
+    let mut losing = NameTable::new(alloc);
+    for slot in slots {
+        put_losing(&mut losing, pool, node, slot)?;
+    }
+    Ok(losing)
+}
+
+fn add_key(keys: &mut Rows<EvalKey>, namespace: &Text, slot: &JobSlot) -> Result<(), AllocError>
+    ensures { OnOk result (keys.new ≡ keys.old ++ key_at namespace.now slot.now) }
+{
+    if let Some(number) = &slot.1 {
+        keys.push(EvalKey::new(namespace.clone()?, *number))?;
+    }
+    Ok(())
+}
+
+fn add_keys(keys: &mut Rows<EvalKey>, namespace: &Text, slots: &[JobSlot]) -> Result<(), AllocError>
+    ensures { OnOk result (keys.new ≡ keys.old ++ flat_map (key_at namespace.now) slots.now) }
+{
+    for slot in slots {
+        add_key(keys, namespace, slot)?;
+    }
+    Ok(())
+}
+
+fn add_keys_at(
+    keys: &mut Rows<EvalKey>,
+    alloc: Global,
+    pool: &Text,
+    node: &Text,
+    slot: &TenantSlot,
+) -> Result<(), AllocError>
+    ensures { OnOk result (keys.new ≡ keys.old ++ losing_keys_at pool.now node.now slot.now) }
+{
+    let Some(tenant) = &slot.1 else {
+        return Ok(());
+    };
+    let losing = losing_numbers(alloc, pool, node, tenant.allocations.as_slice())?;
+    add_keys(keys, &slot.0, losing.as_slice())
+}
+
+fn add_all_keys(
+    keys: &mut Rows<EvalKey>,
+    alloc: Global,
+    pool: &Text,
+    node: &Text,
+    slots: &[TenantSlot],
+) -> Result<(), AllocError>
+    ensures { OnOk result (keys.new
+        ≡ keys.old ++ flat_map (losing_keys_at pool.now node.now) slots.now) }
+{
+    for slot in slots {
+        add_keys_at(keys, alloc, pool, node, slot)?;
+    }
+    Ok(())
+}
+
+/// Of each job that has live allocations on the node the one with the least number, by namespace, then job id.
+pub(crate) fn losing_keys(
+    tables: &Tables,
+    pool: &Text,
+    node: &Text,
+) -> Result<Rows<EvalKey>, AllocError>
+    ensures { IfOk result (λ keys. keys ≡ losing_keys pool.now node.now (world_of tables.now)) }
+{
+    let mut keys = Rows::new(tables.alloc);
+    add_all_keys(
+        &mut keys,
+        tables.alloc,
+        pool,
+        node,
+        tables.tenants.as_slice(),
+    )?;
+    Ok(keys)
+}
