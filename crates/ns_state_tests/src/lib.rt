@@ -14,6 +14,8 @@ mod limits;
 #[cfg(test)]
 mod live;
 #[cfg(test)]
+mod nodes;
+#[cfg(test)]
 mod owned;
 #[cfg(test)]
 mod quota;
