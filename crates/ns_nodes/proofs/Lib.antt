@@ -3,5 +3,6 @@ pub mod Down
 pub mod Idle
 pub mod Listed
 pub mod Losses
+pub mod Passing
 pub mod Renewed
 pub mod Within

@@ -77,7 +77,7 @@ abbrev pub WasThere : World → Name × (ℕ × Allocation) → Type 0
 WasThere w e = (t : Tenant) × (get w.tenants e.0 ≡ Some t) × (get t.allocations e.1.0 ≡ Some e.1.1)
 
 module _ (w : World) where
-  abbrev renewal : World → Name × Allocation → World
+  abbrev pub renewal : World → Name × Allocation → World
   renewal x loss = make loss.0 (λ t. evaluation_for t loss.1 Trigger.NodeUpdate) x
 
   made_jobs : (ns : Name) (evaluation : Tenant → Evaluation) (x : World) → SameJobs w x → SameJobs w (make ns evaluation x)
@@ -122,19 +122,19 @@ map_flat f g [] = refl
 map_flat f g (x ∷ xs) = map-append f (g x) (flat_map g xs) ∙ ap (λ l. map f (g x) ++ l) (map_flat f g xs)
 
 module _ (pool node : Name) where
-  abbrev rows_of : Name × Tenant → List (Name × (ℕ × Allocation))
+  abbrev pub rows_of : Name × Tenant → List (Name × (ℕ × Allocation))
   rows_of e = map (λ a. (e.0, a)) (losing_rows pool node e.1)
 
-  abbrev all_rows : World → List (Name × (ℕ × Allocation))
+  abbrev pub all_rows : World → List (Name × (ℕ × Allocation))
   all_rows w = flat_map rows_of (entries w.tenants)
 
-  losses_are : (w : World) → losses pool node w ≡ map (λ e. (e.0, e.1.1)) (all_rows w)
+  pub losses_are : (w : World) → losses pool node w ≡ map (λ e. (e.0, e.1.1)) (all_rows w)
   losses_are w = ap (λ f. flat_map f (entries w.tenants)) (λ i e. (ap (map (λ a. (e.0, a))) (jobs_are pool node e.1)
       ∙ map_map (λ a. (e.0, a)) (λ a. a.1) (losing_rows pool node e.1)
       ∙ sym (map_map (λ (r : Name × (ℕ × Allocation)). (r.0, r.1.1)) (λ a. (e.0, a)) (losing_rows pool node e.1))) i)
       ∙ sym (map_flat (λ (r : Name × (ℕ × Allocation)). (r.0, r.1.1)) rows_of (entries w.tenants))
 
-  keys_of : (w : World) → losing_keys pool node w ≡ map (λ e. (e.0, e.1.0)) (all_rows w)
+  pub keys_of : (w : World) → losing_keys pool node w ≡ map (λ e. (e.0, e.1.0)) (all_rows w)
   keys_of w = ap (λ f. flat_map f (entries w.tenants)) (λ i e.
       sym (map_map (λ (r : Name × (ℕ × Allocation)). (r.0, r.1.0)) (λ a. (e.0, a)) (losing_rows pool node e.1)) i)
       ∙ sym (map_flat (λ (r : Name × (ℕ × Allocation)). (r.0, r.1.0)) rows_of (entries w.tenants))

@@ -21,7 +21,10 @@ use Rattle.ns_types.specs.State.Tables.{any_row}
 use Rattle.ns_types.specs.Steps.{greatest, is_past_bound}
 use Rattle.ns_change.specs.Changed.{HasEvaluationLeft}
 use Rattle.ns_world.specs.declared.tables.TenantRows.{TenantRows}
-use Rattle.ns_world.specs.World.{tenant_of}
+use Rattle.ns_world.specs.World.{tenant_of, world_of}
+use Rattle.ns_change.specs.Prepared.{bounded}
+use Rattle.ns_nodes.specs.Idle.{IsIdle}
+use Rattle.ns_world.specs.declared.tables.Tables.{Tables}
 
 -- ---- what is asked
 
@@ -41,6 +44,11 @@ down pool node w = found (node_at w pool node) (λ _. unless (numbers_pass pool 
 abbrev pub NumbersAreSettled : Type 0
 NumbersAreSettled = (w : World) (pool node : Name) (content : Content) (x : World) → numbers_pass pool node w ≡ true
     → ask_pool pool (NodeCommand.SetStatus node NodeStatus.Down) w ≡ Done content x → is_past_bound (settle w x) ≡ true
+
+-- Where nothing is live on the node, nothing else is refused than what passes the bound of a counter.
+abbrev pub IdleDownIsBounded : Type 0
+IdleDownIsBounded = (t : Tables) (pool node : Name) → is_past_bound (world_of t) ≡ false → IsIdle (world_of t) pool node →
+    down pool node (world_of t) ≡ bounded (world_of t) (ask_pool pool (NodeCommand.SetStatus node NodeStatus.Down) (world_of t))
 
 -- ---- the losing jobs
 

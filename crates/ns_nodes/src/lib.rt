@@ -5,6 +5,7 @@
 
 mod bounds;
 mod eligible;
+pub mod laws;
 mod listing;
 mod losing;
 mod prepared;
