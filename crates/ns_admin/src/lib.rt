@@ -19,5 +19,7 @@ pub use lists::{list_namespaces, list_pools, list_quotas};
 pub use looking::{is_confined_in, permits_in, shares};
 pub use namespaces::{delete_namespace, put_namespace};
 pub use pools::{delete_pool, put_pool};
-pub use quotas::{delete_quota, is_exhausted, is_relimited, put_quota, read_quota, release_quota};
+pub use quotas::{
+    delete_quota, is_exhausted, is_relimited, limits_in, put_quota, read_quota, release_quota,
+};
 pub use sharing::{is_confined, names_quota, overlaps, permits, same_quota};

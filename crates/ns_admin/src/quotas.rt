@@ -36,7 +36,7 @@ fn same_limits(a: Limits, b: Limits) -> bool
 }
 
 /// The limits of a quota: one without an entry limits nothing.
-fn limits_in(quota: &Quota) -> Limits
+pub fn limits_in(quota: &Quota) -> Limits
     ensures { result ≡ limits_in quota.now.limits }
 {
     match quota.limits {

@@ -27,6 +27,7 @@ use Rattle.ns_world.specs.World.{world_of}
 use Rattle.std.proofs.lemmas.List.Folds.{list_any-append}
 use Rattle.keyed.proofs.Applying.{empty_by}
 use Rattle.keyed.proofs.Over.{any_row-both}
+use Rattle.keyed.proofs.Queues.{from_here}
 use Rattle.keyed.proofs.Viewing.{any_row-rows}
 use Rattle.ns_change.proofs.Waking.{unblock_one, wake_is, without_keys}
 use Rattle.ns_types.specs.Settling.Settle.{wake}
@@ -115,23 +116,20 @@ module _ (keys : List Key) where
   filter_kept xs done i x lt is stay all h = append_assoc done (x ∷ []) (filter stays (drop (i + 1) xs)) ∙
       ap (λ b. done ++ cond b (x ∷ filter stays (drop (i + 1) xs)) (filter stays (drop (i + 1) xs))) (sym stay)
       ∙ ap (λ l. done ++ filter stays l) (sym (from_here xs i x lt is)) ∙ h
-    where
-      from_here : (xs : List Key) (i : ℕ) (x : Key) → i < length xs → x ≡ get_or xs i x → drop i xs ≡ x ∷ drop (i + 1) xs
-      from_here xs i x lt is = drop-cons xs i x lt ∙ (λ j. sym is j ∷ drop (sym (add-one i) j) xs)
 
   pub filter_gone : (xs done : List Key) (i : ℕ) (x : Key) → i < length xs → x ≡ get_or xs i x → stays x ≡ false → (all : List Key) → done ++
       filter stays (drop i xs) ≡ all → done ++ filter stays (drop (i + 1) xs) ≡ all
   filter_gone xs done i x lt is gone all h = ap (λ b. done ++ cond b (x ∷ filter stays (drop (i + 1) xs)) (filter stays (drop (i + 1) xs))) (sym gone)
-      ∙ ap (λ l. done ++ filter stays l) (sym (drop-cons xs i x lt ∙ (λ j. sym is j ∷ drop (sym (add-one i) j) xs))) ∙ h
+      ∙ ap (λ l. done ++ filter stays l) (sym (from_here xs i x lt is)) ∙ h
 
 pub fold_more : {S : Type 0} (f : S → Key → S) (xs : List Key) (i : ℕ) (x : Key) (s : S) (all : S) → i < length xs → x ≡ get_or xs i x →
     fold f s (drop i xs) ≡ all → fold f (f s x) (drop (i + 1) xs) ≡ all
-fold_more f xs i x s all lt is h = ap (fold f s) (sym (drop-cons xs i x lt ∙ (λ j. sym is j ∷ drop (sym (add-one i) j) xs))) ∙ h
+fold_more f xs i x s all lt is h = ap (fold f s) (sym (from_here xs i x lt is)) ∙ h
 
 pub taken_more : (xs done : List Key) (i : ℕ) (x : Key) (all : List Key) → i < length xs → x ≡ get_or xs i x → done ++ drop i xs ≡ all → (done ++ x ∷ []) ++
     drop (i + 1) xs ≡ all
 taken_more xs done i x all lt is h = append_assoc done (x ∷ []) (drop (i + 1) xs) ∙
-    ap (λ l. done ++ l) (sym (drop-cons xs i x lt ∙ (λ j. sym is j ∷ drop (sym (add-one i) j) xs))) ∙ h
+    ap (λ l. done ++ l) (sym (from_here xs i x lt is)) ∙ h
 
 filter_twice : {A : Type 0} (p q r : A → Bool) (xs : List A) → ((x : A) → p x ≡ (r x && q x)) → filter p xs ≡ filter q (filter r xs)
 filter_twice p q r [] e = refl
@@ -187,7 +185,3 @@ taken_alone key keys = λ i. filter (λ other. not ((by (same_key other key) ∙
     by : (b : Bool) → (b || false) ≡ b
     by true = refl
     by false = refl
-
-pub on_ok : {T E : Type 0} (r : Result T E) {P Q : Type 0} → (P → Q) → OnOk r P → OnOk r Q
-on_ok (Ok x) f p = f p
-on_ok (Err e) f p = tt

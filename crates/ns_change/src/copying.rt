@@ -2,6 +2,7 @@
 
 ghost use Rattle.std.specs.Prelude.{◌≡◌, IfOk};
 
+use ns_types::allocation::Allocation;
 use ns_types::node::{Node, Offer};
 use std::alloc::AllocError;
 
@@ -25,5 +26,26 @@ pub fn copied_node(row: &Node) -> Result<Node, AllocError>
         status: row.status,
         eligible: row.eligible,
         places: row.places,
+    })
+}
+
+/// A copy of the row.
+pub fn copied_allocation(row: &Allocation) -> Result<Allocation, AllocError>
+    ensures { IfOk result (λ copy. copy ≡ row.now) }
+{
+    Ok(Allocation {
+        job: row.job.clone()?,
+        group: row.group.clone()?,
+        evaluation: row.evaluation,
+        pool: row.pool.clone()?,
+        node: row.node.clone()?,
+        place: row.place,
+        size: row.size,
+        priority: row.priority,
+        job_modify_index: row.job_modify_index,
+        desired: row.desired,
+        client: row.client,
+        create_index: row.create_index,
+        modify_index: row.modify_index,
     })
 }

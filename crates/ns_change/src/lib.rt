@@ -24,7 +24,7 @@ mod renewing;
 mod workers;
 
 pub use change::{Change, ListChange, PoolChange, Prepared, Settled, SettledTenant, TenantChange};
-pub use copying::{copied_node, copied_offer};
+pub use copying::{copied_allocation, copied_node, copied_offer};
 pub use editing::set_status;
 pub use evicting::{set_client, set_desired};
 pub use jobs::{put_job, remove_job};

@@ -12,10 +12,7 @@ use Rattle.ns_commit.specs.Committed.{CanRise}
 use Rattle.ns_commit.specs.Owners.{ChangesRow}
 use Rattle.ns_commit.proofs.Owned.{at_each, by_turn, if_there}
 
--- the rest of a list, from an item on and behind it
-pub from_here : {A : Type 0} (xs : List A) (i : ℕ) (x : A) → i < length xs → x ≡ get_or xs i x → drop i xs ≡ x ∷ drop (i + 1) xs
-from_here xs i x lt is = drop-cons xs i x lt ∙ (λ j. sym is j ∷ drop (sym (add-one i) j) xs)
-
+-- the rest of a list, from an item on
 pub rest_is : {A : Type 0} (xs : List A) (i : ℕ) → take (length xs - i) (drop i xs) ≡ drop i xs
 rest_is xs i = take_all (drop i xs) (length xs - i) (simp length-drop (omega arith))
 

@@ -3,12 +3,14 @@
 ghost use Rattle.std.specs.Prelude.{◌≡◌, IfOk};
 ghost use Rattle.ns_types.specs.declared.step.AskCommand.TheVariants as AskCommand;
 ghost use Rattle.ns_types.specs.Asking.Reads.{allocations_where};
+ghost use Rattle.ns_types.specs.State.Names.{Name};
 ghost use Rattle.ns_jobs.specs.Read.{SaysIn, allocations_shown, lists_allocation};
 ghost use Rattle.ns_world.specs.World.{tenant_of};
 
 use crate::jobs::AllocationSlot;
 use crate::looking::{self, id_begins};
 use ns_alike::same_text;
+use ns_change::copied_allocation;
 use ns_types::allocation::Allocation;
 use ns_types::id::IdKind;
 use ns_types::refusal::Refusal;
@@ -18,27 +20,6 @@ use ns_types::step::AskCommand;
 use ns_types::text::Text;
 use ns_world::TenantRows;
 use std::alloc::{AllocError, Global};
-
-/// A copy of the row.
-pub fn copied_allocation(row: &Allocation) -> Result<Allocation, AllocError>
-    ensures { IfOk result (λ copy. copy ≡ row.now) }
-{
-    Ok(Allocation {
-        job: row.job.clone()?,
-        group: row.group.clone()?,
-        evaluation: row.evaluation,
-        pool: row.pool.clone()?,
-        node: row.node.clone()?,
-        place: row.place,
-        size: row.size,
-        priority: row.priority,
-        job_modify_index: row.job_modify_index,
-        desired: row.desired,
-        client: row.client,
-        create_index: row.create_index,
-        modify_index: row.modify_index,
-    })
-}
 
 fn allocation_shown(
     namespace: &Text,
@@ -55,14 +36,13 @@ fn allocation_shown(
     })
 }
 
-fn lists_allocation(command: &AskCommand, shown: &AllocationShown) -> bool
-    ensures { result ≡ lists_allocation command.now shown.now }
+fn lists_allocation(command: &AskCommand, number: u64, row: &Allocation) -> bool
+    ensures { (namespace : Name) → result ≡ lists_allocation command.now
+        (record { namespace = namespace; number = number; row = row.now }) }
 {
     match command {
-        AskCommand::JobAllocations(job) => same_text(job, &shown.row.job),
-        AskCommand::ListAllocations(prefix) => {
-            id_begins(prefix, IdKind::Allocation, shown.number)
-        }
+        AskCommand::JobAllocations(job) => same_text(job, &row.job),
+        AskCommand::ListAllocations(prefix) => { id_begins(prefix, IdKind::Allocation, number) }
         _ => false,
     }
 }
@@ -81,9 +61,8 @@ fn allocations_shown(
     let mut rest = slots;
     while let Some(((number, row), others)) = rest.split_first() {
         if let Some(row) = row {
-            let shown = allocation_shown(namespace, *number, row)?;
-            if lists_allocation(command, &shown) {
-                listed.push(shown)?;
+            if lists_allocation(command, *number, row) {
+                listed.push(allocation_shown(namespace, *number, row)?)?;
             }
         }
         rest = others;

@@ -3,6 +3,7 @@
 ghost use Rattle.std.specs.Prelude.{◌≡◌, IfOk};
 ghost use Rattle.ns_types.specs.declared.step.AskCommand.TheVariants as AskCommand;
 ghost use Rattle.ns_types.specs.Asking.Reads.{evaluations_where};
+ghost use Rattle.ns_types.specs.State.Names.{Name};
 ghost use Rattle.ns_jobs.specs.Read.{SaysIn, evaluations_shown, lists_evaluation};
 ghost use Rattle.ns_world.specs.World.{tenant_of};
 
@@ -36,14 +37,13 @@ fn evaluation_shown(
     })
 }
 
-fn lists_evaluation(command: &AskCommand, shown: &EvaluationShown) -> bool
-    ensures { result ≡ lists_evaluation command.now shown.now }
+fn lists_evaluation(command: &AskCommand, number: u64, row: &Evaluation) -> bool
+    ensures { (namespace : Name) → result ≡ lists_evaluation command.now
+        (record { namespace = namespace; number = number; row = row.now }) }
 {
     match command {
-        AskCommand::JobEvaluations(job) => same_text(job, &shown.row.job),
-        AskCommand::ListEvaluations(prefix) => {
-            id_begins(prefix, IdKind::Evaluation, shown.number)
-        }
+        AskCommand::JobEvaluations(job) => same_text(job, &row.job),
+        AskCommand::ListEvaluations(prefix) => { id_begins(prefix, IdKind::Evaluation, number) }
         _ => false,
     }
 }
@@ -62,9 +62,8 @@ fn evaluations_shown(
     let mut rest = slots;
     while let Some(((number, row), others)) = rest.split_first() {
         if let Some(row) = row {
-            let shown = evaluation_shown(namespace, *number, row)?;
-            if lists_evaluation(command, &shown) {
-                listed.push(shown)?;
+            if lists_evaluation(command, *number, row) {
+                listed.push(evaluation_shown(namespace, *number, row)?)?;
             }
         }
         rest = others;

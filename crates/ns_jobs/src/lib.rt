@@ -14,8 +14,8 @@ mod registration;
 mod stopping;
 mod usage;
 
-pub use allocations::copied_allocation;
 pub use deregistration::deregister;
+pub use ns_change::copied_allocation;
 pub use reading::read;
 pub use registration::register;
 pub use stopping::stop_allocation;

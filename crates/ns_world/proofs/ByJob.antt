@@ -12,6 +12,7 @@ use Rattle.keyed.specs.Levels.{Adds, Keeps, holds_key, holds_number, has_key_roo
 use Rattle.keyed.specs.Over.{over}
 use Rattle.keyed.specs.Table.{flat, row_at, rows}
 use Rattle.keyed.specs.declared.key_set.KeySet.{KeySet}
+use Rattle.ns_types.proofs.Elements.{each_found}
 use Rattle.ns_types.proofs.Lists.{each_map, not_both}
 use Rattle.ns_types.proofs.Named.{numbers, one_number, same_key_refl}
 use Rattle.ns_types.proofs.Tables.{each_row, tied}
@@ -41,14 +42,6 @@ module _ (says : KeySet → Key → Bool) where
   pub done_all : (set : KeySet) (rest slots : List (ℕ × Option Evaluation)) → rest ≡ [] → Done set rest slots → Each (SaysOf set) slots
   done_all set rest slots none done = done set (λ key t. t) (subst (Each (SaysOf set)) (sym none) tt)
 
-each_found : {X : Type 0} (P : ℕ × X → Type 0) (es : List (ℕ × X)) → Each P es → (k : ℕ) (x : X) → find nat_cmp k es ≡ Some x → P (k, x)
-each_found P [] all k x is = not_both (ap is_some is) refl
-each_found {X = X} P (e ∷ es) all k x is = by (each_found P es all.1 k x) (same_number k e.0) refl is
-  where
-    by : (find nat_cmp k es ≡ Some x → P (k, x)) → (b : Bool) → same_number k e.0 ≡ b → cond b (Some e.1) (find nat_cmp k es) ≡ Some x → P (k, x)
-    by later true t is = subst P (λ i. (sym (tied one_number k e.0 t) i, option_map_or (λ (y : X). y) (is i) e.1)) all.0
-    by later false t is = later is
-
 -- what is said of each slot is said of each row
 pub said_at : (says : KeySet → Key → Bool) (set : KeySet) (changes : ByNumber (Option Evaluation)) (slots : List (ℕ × Option Evaluation)) →
     slots ≡ entries changes → Each (SaysOf says set) slots → (n : ℕ) (e : Evaluation) → row_at changes n ≡ Some e → IsTrue (says set (e.job, n))
@@ -56,7 +49,7 @@ said_at says set changes slots is all n e row = by (get changes n) refl row
   where
     by : (r : Option (Option Evaluation)) → get changes n ≡ r → flat r ≡ Some e → IsTrue (says set (e.job, n))
     by None g row = not_both (ap is_some row) refl
-    by (Some slot) g row = each_found (SaysOf says set) (entries changes) (subst (Each (SaysOf says set)) is all) n slot
+    by (Some slot) g row = each_found one_number (SaysOf says set) (entries changes) (subst (Each (SaysOf says set)) is all) n slot
         (sym (get-entries changes n) ∙ g) e row
 
 -- what is said of each row is said of each slot
@@ -143,7 +136,3 @@ pub numbers_there : (by_job : KeySet) (slots : ByNumber (Option Evaluation)) (jo
     r ≡ row_at by_job.numbers job → HasNumbersOf job slots r
 numbers_there by_job slots job r is same n e row of = subst (λ r. IsTrue (option_map_or (λ m. holds_number m n) r false)) (sym same)
     (subst (λ j. IsTrue (holds_key by_job (j, n))) of (is n e row))
-
-pub on_ok : {T E : Type 0} (r : Result T E) {P Q : Type 0} → (P → Q) → OnOk r P → OnOk r Q
-on_ok (Ok x) f p = f p
-on_ok (Err e) f p = tt

@@ -9,7 +9,7 @@ use Rattle.ns_types.specs.Working.Queue.{queue}
 use Rattle.ns_types.proofs.Named.{numbers}
 use Rattle.ns_change.specs.Opened.{Opened}
 use Rattle.ns_change.specs.Changed.{view}
-use Rattle.ns_change.proofs.Listed.{on_ok}
+use Rattle.std.proofs.lemmas.Result.{on_ok_weaker}
 use Rattle.ns_change.proofs.Opening.{made_open, number_is}
 use Rattle.ns_change.proofs.queueing.make.Goals as goal
 
@@ -21,7 +21,7 @@ pub returns : goal.returns
 returns c =
     let opened = subst (λ x. Opened c.args.tables.now c.args.change.now c.args.namespace.now x c.open.new.change) c.in-Some.is c.in_ok-tenant.ensures in
     let w = view c.args.tables.now c.args.change.now in
-    on_ok c.queue.result (λ e. e
+    on_ok_weaker c.queue.result (λ e. e
     ∙ (λ i. queue
     ((ap (λ m. view c.args.tables.now (record c.open.new.change { tenants = m })) c.set-2.ensures
     ∙ made_open c.args.tables.now c.args.change.now c.open.new.change c.args.namespace.now c.in-Some.tenant opened _ opened.seen c.args.row c.set.new.self

@@ -1,7 +1,7 @@
 use Rattle.std.proofs.Math.ListN.{drop_of_length-le}
 use Rattle.ns_types.proofs.Named.{names, one_name}
 use Rattle.ns_commit.proofs.Cleared.{all_cleared, none_cleared, one_cleared}
-use Rattle.ns_commit.proofs.Raised.{from_here}
+use Rattle.keyed.proofs.Queues.{from_here}
 use Rattle.ns_commit.proofs.clearing.clear_names.Goals as goal
 
 pub loop-slot-init : goal.loop-slot-init

@@ -2,7 +2,7 @@ use Rattle.std.proofs.Common.{ap, subst, sym, ◌∙◌}
 use Rattle.std.proofs.Math.ListN.{drop_of_length-le}
 use Rattle.std.specs.Option.{option_copied}
 use Rattle.ns_commit.proofs.Following.{all_followed, begun, nothing_changes, nothing_there, one_followed, room_now, Following}
-use Rattle.ns_commit.proofs.Raised.{from_here}
+use Rattle.keyed.proofs.Queues.{from_here}
 use Rattle.ns_commit.proofs.indexing.commit_index.Goals as goal
 use Rattle.ns_commit.proofs.indexing.commit_index.Goals.{in-Some+in-Some-get, in-Some+in_default-get, in_default}
 

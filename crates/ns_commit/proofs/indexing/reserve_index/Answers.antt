@@ -1,7 +1,7 @@
 use Rattle.std.proofs.Common.{subst, sym, ◌∙◌}
 use Rattle.std.proofs.Math.ListN.{drop_of_length-le}
 use Rattle.ns_commit.proofs.Following.{all_made, none_made, none_passed, one_made, Reserving}
-use Rattle.ns_commit.proofs.Raised.{from_here}
+use Rattle.keyed.proofs.Queues.{from_here}
 use Rattle.ns_commit.proofs.indexing.reserve_index.Goals as goal
 use Rattle.ns_commit.proofs.indexing.reserve_index.Goals.{in-Some+in_ok-reserve_all, in_default}
 

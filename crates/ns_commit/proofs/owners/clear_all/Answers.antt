@@ -1,6 +1,6 @@
 use Rattle.std.proofs.Common.{sym, subst}
 use Rattle.std.proofs.Math.ListN.{drop_of_length-le}
-use Rattle.ns_commit.proofs.Raised.{from_here}
+use Rattle.keyed.proofs.Queues.{from_here}
 use Rattle.ns_commit.specs.Owners.{Always}
 use Rattle.ns_commit.proofs.Reserved.{Reserved, all_reserved, always_carries, none_reserved, one_reserved, same_owners, slot_passed}
 use Rattle.ns_commit.proofs.owners.clear_all.Goals as goal

@@ -1,6 +1,6 @@
 use Rattle.std.proofs.Common.{sym, subst}
 use Rattle.std.proofs.Math.ListN.{drop_of_length-le}
-use Rattle.ns_commit.proofs.Raised.{from_here}
+use Rattle.keyed.proofs.Queues.{from_here}
 use Rattle.ns_commit.proofs.Reserved.{all_reserved, can_now, Reserved, none_reserved, one_reserved, owners_after, same_owners, slot_passed}
 use Rattle.ns_commit.proofs.owners.reserve_all.Goals as goal
 use Rattle.ns_commit.proofs.owners.reserve_all.Goals.{in-Some+in_ok-reserve_one, in_default}

@@ -4,7 +4,7 @@ use Rattle.keyed.specs.Table.{has_slot}
 use Rattle.keyed.proofs.Tables.{has_slot-row}
 use Rattle.ns_types.proofs.Named.{names, one_name}
 use Rattle.ns_change.proofs.Opening.{emptied_keeps}
-use Rattle.ns_change.proofs.Listed.{on_ok}
+use Rattle.std.proofs.lemmas.Result.{on_ok_weaker}
 use Rattle.ns_commit.proofs.Owned.{no_row, nowhere, row_there, there, there_if}
 use Rattle.ns_commit.proofs.owners.reserve_one.Goals as goal
 
@@ -32,5 +32,5 @@ returns-clause-rows g c = there (λ a b. g.Row.Owner.seen b ≡ g.Row.Owner.seen
     c.in-Some.row _ (sym c.take.ensures.row ∙ c.in-Some.is) c.reserve-reserved.ensures.rows c.set.ensures
 
 pub returns-clause-room : goal.returns-clause-room
-returns-clause-room g c = on_ok c.reserve-reserved.result (row_there (λ a b. g.Row.Owner.seen b ≡ g.Row.Owner.seen a) c.args.name.now c.args.table.now
+returns-clause-room g c = on_ok_weaker c.reserve-reserved.result (row_there (λ a b. g.Row.Owner.seen b ≡ g.Row.Owner.seen a) c.args.name.now c.args.table.now
     c.take.new.self c.take.ensures.slots (g.Row.Owner.HasRoom c.args.change.now) c.set.new.self _ c.set.ensures) c.reserve-reserved.ensures.room

@@ -2,7 +2,8 @@ use Rattle.std.proofs.Common.{refl, sym, ap, subst, ◌∙◌, ◌≡◌, ◌+�
 use Rattle.std.proofs.Math.ListN.{drop_of_length-le}
 use Rattle.ns_commit.specs.Committed.{raised_pool, releases}
 use Rattle.ns_commit.specs.Owners.{ChangesRow}
-use Rattle.ns_commit.proofs.Raised.{all_risen, can_rise, from_here, passed, rest_is, risen}
+use Rattle.keyed.proofs.Queues.{from_here}
+use Rattle.ns_commit.proofs.Raised.{all_risen, can_rise, passed, rest_is, risen}
 use Rattle.ns_commit.proofs.pools.raise_pools.Goals as goal
 use Rattle.ns_commit.proofs.pools.raise_pools.Goals.{then-not-has_pool, else-not-has_pool}
 

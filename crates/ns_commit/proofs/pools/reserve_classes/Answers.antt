@@ -1,7 +1,8 @@
 use Rattle.std.proofs.Common.{sym, ap, subst, ◌∙◌, ◌≡◌, ◌+◌, drop}
 use Rattle.std.proofs.Math.ListN.{drop_of_length-le}
 use Rattle.ns_commit.specs.Committed.{releases}
-use Rattle.ns_commit.proofs.Raised.{from_here, rest_is}
+use Rattle.keyed.proofs.Queues.{from_here}
+use Rattle.ns_commit.proofs.Raised.{rest_is}
 use Rattle.ns_commit.proofs.Reserved.{PlacesMade, all_places, no_places, nodes_after, place_made, place_passed, pools_after, same_pools}
 use Rattle.ns_commit.proofs.pools.reserve_classes.Goals as goal
 use Rattle.ns_commit.proofs.pools.reserve_classes.Goals.{then-not-has_pool+in_ok-reserve_classes_in, else-not-has_pool}

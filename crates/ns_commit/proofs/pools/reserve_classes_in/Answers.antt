@@ -11,7 +11,7 @@ use Rattle.ns_types.specs.State.Names.{Name, class_cmp, same_name}
 use Rattle.ns_change.specs.Settled.{classes_in}
 use Rattle.ns_commit.specs.Committed.{GainsClassRoom}
 use Rattle.ns_world.specs.World.{pool_of}
-use Rattle.ns_change.proofs.Listed.{on_ok}
+use Rattle.std.proofs.lemmas.Result.{on_ok_weaker}
 use Rattle.ns_commit.proofs.Owned.{no_row, nowhere, row_there, there}
 use Rattle.ns_commit.proofs.pools.reserve_classes_in.Goals as goal
 
@@ -39,7 +39,7 @@ returns-clause-rows c = there GainsClassRoom c.args.name.now c.args.table.now c.
     }) c.set.ensures
 
 pub returns-clause-room : goal.returns-clause-room
-returns-clause-room c = on_ok c.reserve-reserved.result (λ room. row_there GainsClassRoom c.args.name.now c.args.table.now c.take.new.self
+returns-clause-room c = on_ok_weaker c.reserve-reserved.result (λ room. row_there GainsClassRoom c.args.name.now c.args.table.now c.take.new.self
     c.take.ensures.slots (λ pool. length (classes_in c.args.name.now c.args.rooms.now) ≤ pool.classes.room) c.set.new.self _ c.set.ensures
     (subst (λ n. n ≤ c.reserve-reserved.new.self.room)
     (c.count_classes.ensures ∙ sym (length-map (filter (λ (room : Name × Class). same_name c.args.name.now room.0) c.args.rooms.now) (λ (room : Name ×

@@ -1,10 +1,10 @@
 use Rattle.std.proofs.Common.{◌∙◌}
-use Rattle.ns_change.proofs.Listed.{on_ok}
+use Rattle.std.proofs.lemmas.Result.{on_ok_weaker}
 use Rattle.ns_commit.proofs.Whole.{nodes_stay, rise_stays}
 use Rattle.ns_commit.proofs.pools.reserve_pools.Goals as goal
 
 pub returns-clause-room : goal.returns-clause-room
-returns-clause-room c = on_ok c.reserve_classes.result (λ classes. record {
+returns-clause-room c = on_ok_weaker c.reserve_classes.result (λ classes. record {
   nodes = nodes_stay c.args.changes.now c.reserve_all.new.table c.reserve_classes.new.table c.reserve_classes.ensures.nodes
       c.in_ok-reserve_all.ensures.room;
   classes = classes;

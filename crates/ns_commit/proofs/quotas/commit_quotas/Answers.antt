@@ -3,7 +3,8 @@ use Rattle.std.proofs.Math.ListN.{drop_of_length-le}
 use Rattle.ns_types.specs.State.Names.{has_name}
 use Rattle.ns_commit.specs.Committed.{raised_quota}
 use Rattle.ns_commit.specs.Owners.{ChangesRow}
-use Rattle.ns_commit.proofs.Raised.{all_risen, can_rise, from_here, passed, rest_is, risen}
+use Rattle.keyed.proofs.Queues.{from_here}
+use Rattle.ns_commit.proofs.Raised.{all_risen, can_rise, passed, rest_is, risen}
 use Rattle.ns_commit.proofs.Whole.{quotas_are}
 use Rattle.ns_commit.proofs.quotas.commit_quotas.Goals as goal
 use Rattle.ns_commit.proofs.quotas.commit_quotas.Goals.{then-not-has_name, else-not-has_name}

@@ -1,6 +1,6 @@
 use Rattle.std.proofs.Common.{refl, sym, subst}
 use Rattle.ns_commit.specs.Committed.{CanRise, HavePoolRoom, releases}
-use Rattle.ns_change.proofs.Listed.{on_ok}
+use Rattle.std.proofs.lemmas.Result.{on_ok_weaker}
 use Rattle.ns_commit.proofs.Whole.{can_tell, pools_rise, quotas_rise, same_world}
 use Rattle.ns_commit.proofs.settled.reserve_parts.Goals as goal
 
@@ -30,7 +30,7 @@ returns-clause-world c = same_world c.args.tables.now _ c.reserve_all.ensures.ro
     c.reserve_list.ensures.items c.reserve_list-2.ensures.items c.reserve_list-3.ensures.items
 
 pub returns-clause-room : goal.returns-clause-room
-returns-clause-room c = on_ok c.reserve_list-3.result (λ blocked. record {
+returns-clause-room c = on_ok_weaker c.reserve_list-3.result (λ blocked. record {
   tenants = c.in_ok-reserve_all.ensures.room;
   pools = subst (λ rooms. HavePoolRoom c.args.settled.now.pools rooms c.reserve_pools.new.table) c.as_slice.ensures c.in_ok-reserve_pools.ensures.room;
   quotas = quotas_rise c.args.settled.now c.args.tables.now c.requires;
