@@ -61,6 +61,12 @@ module _ (w w' : World) (ns : Name) (t u : Tenant) (within : is_past_bound w ≡
   settled_is : settle w w' ≡ record w' { tenants = insert w.tenants ns (stamp_tenant (Some t) u) }
   settled_is = releases_nothing w w' (keeps_elsewhere w w' ns t u pools quotas tenants at rows) ∙ stamp_one w w' ns t u tenants at
 
+  -- it settles as it is where none of its rows is shown otherwise
+  pub settles_unseen : is_touched t u ≡ false → settle w w' ≡ w'
+  unfolding stamp_tenant
+  settles_unseen idle = settled_is
+      ∙ ap (λ m. record w' { tenants = m }) (ap (λ b. insert w.tenants ns (cond b (stamped (t.index + 1) t u) u)) idle ∙ sym tenants)
+
   pub past_is : is_past_bound (settle w w') ≡ is_tenant_past_bound (stamp_tenant (Some t) u)
   unfolding is_past_bound
   past_is = ap is_past_bound settled_is
