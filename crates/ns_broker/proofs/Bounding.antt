@@ -5,10 +5,8 @@ use Rattle.std.specs.Option.{option_and_then, option_eq, option_map_or}
 use Rattle.std.specs.FinMap.{get, insert}
 use Rattle.ns_types.specs.declared.evaluation.Evaluation.{Evaluation}
 use Rattle.ns_types.specs.declared.evaluation.Status.{Status}
-use Rattle.ns_types.specs.declared.refusal.Refusal.TheVariants as Refusal
-use Rattle.ns_types.specs.declared.reply.Content.{Content}
 use Rattle.ns_types.specs.Settling.Making.{change_tenant, put_tenant}
-use Rattle.ns_types.specs.Settling.Outcome.{Outcome, Refused, Done, is_done}
+use Rattle.ns_types.specs.Settling.Outcome.{Outcome, Done, is_done}
 use Rattle.ns_types.specs.Settling.Same.{same_evaluation, same_flag}
 use Rattle.ns_types.specs.Settling.Settle.{changes_allocation, changes_evaluation, changes_job, is_changed, is_touched, settle, stamp_tenant, stamped}
 use Rattle.ns_types.specs.State.Names.{Key, Name, same_name, same_number}

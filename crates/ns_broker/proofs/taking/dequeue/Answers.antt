@@ -1,6 +1,5 @@
 use Rattle.std.proofs.Common.{ap, subst, sym, ◌∙◌}
 use Rattle.std.specs.Option.{option_copied}
-use Rattle.ns_types.specs.Settling.Outcome.{Done}
 use Rattle.ns_types.specs.State.Names.{Key}
 use Rattle.ns_broker.proofs.Dequeued.{kept_out, let_through, nothing_there, stays_out, taken_out}
 use Rattle.ns_broker.proofs.taking.dequeue.Goals as goal
