@@ -5,10 +5,8 @@ use Rattle.std.specs.Option.{option_and_then, option_eq, option_map_or}
 use Rattle.std.specs.FinMap.{get, insert}
 use Rattle.ns_types.specs.declared.evaluation.Evaluation.{Evaluation}
 use Rattle.ns_types.specs.declared.evaluation.Status.{Status}
-use Rattle.ns_types.specs.declared.refusal.Refusal.TheVariants as Refusal
-use Rattle.ns_types.specs.declared.reply.Content.{Content}
 use Rattle.ns_types.specs.Settling.Making.{change_tenant, put_tenant}
-use Rattle.ns_types.specs.Settling.Outcome.{Outcome, Refused, Done, is_done}
+use Rattle.ns_types.specs.Settling.Outcome.{Outcome, Done, is_done}
 use Rattle.ns_types.specs.Settling.Same.{same_evaluation, same_flag}
 use Rattle.ns_types.specs.Settling.Settle.{changes_allocation, changes_evaluation, changes_job, is_changed, is_touched, settle, stamp_tenant, stamped}
 use Rattle.ns_types.specs.State.Names.{Key, Name, same_name, same_number}
@@ -60,6 +58,12 @@ module _ (w w' : World) (ns : Name) (t u : Tenant) (within : is_past_bound w ≡
 
   settled_is : settle w w' ≡ record w' { tenants = insert w.tenants ns (stamp_tenant (Some t) u) }
   settled_is = releases_nothing w w' (keeps_elsewhere w w' ns t u pools quotas tenants at rows) ∙ stamp_one w w' ns t u tenants at
+
+  -- it settles as it is where none of its rows is shown otherwise
+  pub settles_unseen : is_touched t u ≡ false → settle w w' ≡ w'
+  unfolding stamp_tenant
+  settles_unseen idle = settled_is
+      ∙ ap (λ m. record w' { tenants = m }) (ap (λ b. insert w.tenants ns (cond b (stamped (t.index + 1) t u) u)) idle ∙ sym tenants)
 
   pub past_is : is_past_bound (settle w w') ≡ is_tenant_past_bound (stamp_tenant (Some t) u)
   unfolding is_past_bound

@@ -1,5 +1,5 @@
 -- When a worker may take an evaluation, and what it changes.
-use Rattle.std.specs.Prelude.{◌≡◌, ℕ, true, false, cond, not, Option, Some, None, is_some}
+use Rattle.std.specs.Prelude.{◌≡◌, ℕ, Bool, true, false, cond, not, List, Option, Some, None, is_some}
 use Rattle.std.proofs.Common.{refl, ap, sym, ◌∙◌}
 use Rattle.std.specs.Option.{option_and_then, option_map_or}
 use Rattle.std.specs.List.{list_any}
@@ -9,14 +9,15 @@ use Rattle.keyed.proofs.Tables.{get-rows}
 use Rattle.keyed.proofs.Viewing.{any_row-table_of}
 use Rattle.ns_types.specs.declared.evaluation.Evaluation.{Evaluation}
 use Rattle.ns_types.specs.declared.reply.Content.TheVariants as Content
-use Rattle.ns_types.proofs.Named.{numbers}
-use Rattle.ns_types.proofs.Tests.{not_Some}
+use Rattle.ns_types.proofs.Named.{numbers, same_key_is}
+use Rattle.ns_types.proofs.Tests.{not_Some, same_Some}
 use Rattle.ns_types.specs.Settling.Making.{change_tenant, put_tenant}
 use Rattle.ns_types.specs.Settling.Outcome.{NotEnabled, Done}
-use Rattle.ns_types.specs.State.Names.{Key, Name}
+use Rattle.ns_types.specs.State.Names.{Key, Name, same_key}
 use Rattle.ns_types.specs.State.Rows.{World, Tenant, evaluation_at}
+use Rattle.ns_types.specs.Working.Queue.{served}
 use Rattle.ns_types.specs.Working.Work.{dequeue, dequeue_in, is_idle, new_worker, taken, with_worker}
-use Rattle.ns_broker.specs.Serving.{is_busy_for, may_dequeue}
+use Rattle.ns_broker.specs.Serving.{is_busy_for, may_dequeue, served_as}
 use Rattle.ns_change.specs.Changed.{without_ready}
 use Rattle.ns_world.specs.declared.tables.Tables.{Tables}
 use Rattle.ns_world.specs.declared.tables.TenantRows.{TenantRows}
@@ -26,6 +27,32 @@ pub idle_is : (t : Tables) (number : ℕ) → not (list_any (is_busy_for number)
 unfolding world_of
 idle_is t number = ap not (sym (any_row-table_of (λ (_ : Name) (x : TenantRows). tenant_of x) (λ _ tenant. contains_key tenant.workers number) t.tenants
     ∙ (λ i. list_any (at_slot (λ (e : Name × TenantRows). is_some (get-rows numbers e.1.workers number i))) (entries t.tenants))))
+
+-- ---- the key that a test lets through
+
+pub let_through : (b : Bool) (key found : Key) → Some found ≡ cond b (Some key) None → (b ≡ true) × (found ≡ key)
+let_through true key found e = (refl, same_Some found key e)
+let_through false key found e = absurd (not_Some found (sym e))
+
+pub kept_out : (b : Bool) (key : Key) → None ≡ cond b (Some key) None → b ≡ false
+kept_out true key e = absurd (not_Some key e)
+kept_out false key e = refl
+
+module _ (w : World) (keys : List Key) (key : Key) where
+  pub served_none : served w keys ≡ None → None ≡ served_as w keys key
+  served_none is = sym (ap (λ o. cond (option_map_or (same_key key) o false) (Some key) None) is)
+
+  module _ (next : Key) (is : served w keys ≡ Some next) where
+    served_by : (b : Bool) → same_key key next ≡ b → served_as w keys key ≡ cond b (Some key) None
+    served_by b same = ap (λ o. cond (option_map_or (same_key key) o false) (Some key) None) is ∙ ap (λ b. cond b (Some key) None) same
+
+    pub served_it : same_key key next ≡ true → Some next ≡ served_as w keys key
+    served_it same = ap Some (λ i. (sym (same_key_is key next same).0 i, sym (same_key_is key next same).1 i)) ∙ sym (served_by true same)
+
+    pub served_other : same_key key next ≡ false → None ≡ served_as w keys key
+    served_other other = sym (served_by false other)
+
+-- ---- the step
 
 module _ (number : ℕ) (key : Key) (w : World) where
   pub stays_out : may_dequeue number key w ≡ false → dequeue number key w ≡ NotEnabled

@@ -5,7 +5,7 @@ use Rattle.std.specs.Option.{option_and_then, option_map_or}
 use Rattle.std.specs.FinMap.{get}
 use Rattle.ns_types.specs.declared.evaluation.Evaluation.{Evaluation}
 use Rattle.ns_types.specs.declared.refusal.Refusal.{Refusal}
-use Rattle.ns_types.specs.declared.reply.Content.TheVariants as Content
+use Rattle.ns_types.specs.declared.reply.Content.{Content}
 use Rattle.ns_types.specs.declared.snapshot.Snapshot.{Snapshot}
 use Rattle.ns_types.specs.declared.worker.Worker.{Worker}
 use Rattle.ns_types.specs.Settling.Making.{change_tenant, put_tenant}
@@ -20,12 +20,13 @@ use Rattle.ns_types.proofs.Lists.{not_both}
 use Rattle.ns_types.proofs.Named.{names, numbers, one_name, one_number}
 use Rattle.ns_types.proofs.Settling.{untouched}
 use Rattle.ns_types.proofs.TableRows.{get_put}
+use Rattle.ns_types.proofs.Tests.{same_Some}
 use Rattle.ns_broker.specs.Bounded.{SnapPassesNothing}
 use Rattle.ns_broker.specs.declared.snapping.Snapped.{Snapped}
 use Rattle.ns_broker.specs.Snapping.{Snaps, kept_at}
 use Rattle.ns_world.specs.declared.tables.Tables.{Tables}
 use Rattle.ns_world.specs.World.{world_of}
-use Rattle.ns_broker.proofs.Bounding.{unseen, world_or}
+use Rattle.ns_broker.proofs.Bounding.{settles_unseen, unseen, world_or}
 
 module _ (number : ℕ) (ns : Name) (w : World) where
   abbrev by_evaluation : Tenant → Worker → Option Evaluation → Outcome World
@@ -80,28 +81,56 @@ module _ (number : ℕ) (ns : Name) (w : World) where
         (get_put names one_name w.tenants ns (with_worker number worker t))
         ∙ ap (option_and_then (λ (x : Worker). x.kept)) (get_put numbers one_number t.workers number worker)
 
+-- ---- a step that is made
+
+abbrev content_or : Content → Outcome World → Content
+content_or content (Done c x) = c
+content_or content _ = content
+
+module _ (number : ℕ) (ns : Name) (w : World) (content : Content) (x : World) (is : snap number ns w ≡ Done content x) where
+  -- its worker has an evaluation, at which it may look
+  looks : (goal : Type 0) → ((t : Tenant) → get w.tenants ns ≡ Some t → (worker : Worker) → get t.workers number ≡ Some worker → (e : Evaluation)
+      → get t.evaluations worker.evaluation ≡ Some e → Done (Content.Snapped worker.evaluation)
+      (put_tenant ns (with_worker number (with_snapshot (snapshot_of w ns t worker.evaluation e) worker) t) w) ≡ Done content x → goal) → goal
+  looks goal go = tenant (get w.tenants ns) refl
+    where
+      turn : (t : Tenant) → get w.tenants ns ≡ Some t → (worker : Worker) → get t.workers number ≡ Some worker →
+          (e : Evaluation) → get t.evaluations worker.evaluation ≡ Some e → (b : Bool) → may_snap worker.tries worker.phase ≡ b → goal
+      turn t at worker has e there false may = not_both (ap is_done (sym (out_of_turn number ns w t at worker has e there may) ∙ is)) refl
+      turn t at worker has e there true may = go t at worker has e there (sym (snap_is number ns w t at worker has e there true may) ∙ is)
+
+      evaluation : (t : Tenant) → get w.tenants ns ≡ Some t → (worker : Worker) → get t.workers number ≡ Some worker →
+          (o : Option Evaluation) → get t.evaluations worker.evaluation ≡ o → goal
+      evaluation t at worker has None there = not_both (ap is_done (sym (gone number ns w t at worker has there) ∙ is)) refl
+      evaluation t at worker has (Some e) there = turn t at worker has e there (may_snap worker.tries worker.phase) refl
+
+      busy : (t : Tenant) → get w.tenants ns ≡ Some t → (o : Option Worker) → get t.workers number ≡ o → goal
+      busy t at None has = not_both (ap is_done (sym (idle number ns w t at has) ∙ is)) refl
+      busy t at (Some worker) has = evaluation t at worker has (get t.evaluations worker.evaluation) refl
+
+      tenant : (o : Option Tenant) → get w.tenants ns ≡ o → goal
+      tenant None at = not_both (ap is_done (sym (nowhere number ns w at) ∙ is)) refl
+      tenant (Some t) at = busy t at (get t.workers number) refl
+
+  -- no reply shows it, so it settles as it is
+  pub snap_settles : is_past_bound w ≡ false → settle w x ≡ x
+  snap_settles within = looks _ (λ t at worker has e there done. let seen = with_worker number (with_snapshot (snapshot_of w ns t worker.evaluation e) worker) t in
+      subst (λ x. settle w x ≡ x) (ap (world_or w) done) (settles_unseen w (put_tenant ns seen w) ns t seen within at refl refl refl refl (untouched t)))
+
+  -- the number that is answered is that of the snapshot
+  pub snap_answers : (seen : Snapshot) → kept_at x number ns ≡ Some seen → content ≡ Content.Snapped seen.number
+  snap_answers seen kept = looks _ (λ t at worker has e there done.
+      let looked = snapshot_of w ns t worker.evaluation e in
+      let put = get_put names one_name w.tenants ns (with_worker number (with_snapshot looked worker) t) in
+      let row = get_put numbers one_number t.workers number (with_snapshot looked worker) in
+      let keeps_it : kept_at x number ns ≡ Some looked = ap (λ x. kept_at x number ns) (sym (ap (world_or w) done))
+      ∙ ap (λ o. option_and_then (λ (x : Worker). x.kept) (option_and_then (λ (t : Tenant). get t.workers number) o)) put
+      ∙ ap (option_and_then (λ (x : Worker). x.kept)) row in
+      ap (content_or content) (sym done) ∙ ap (λ (s : Snapshot). Content.Snapped s.number) (same_Some looked seen (sym keeps_it ∙ kept)))
+
 pub snap_fits : SnapPassesNothing
-snap_fits number ns w content x within is = tenant (get w.tenants ns) refl
-  where
-    turn : (t : Tenant) → get w.tenants ns ≡ Some t → (worker : Worker) → get t.workers number ≡ Some worker →
-        (e : Evaluation) → get t.evaluations worker.evaluation ≡ Some e → (b : Bool) → may_snap worker.tries worker.phase ≡ b
-        → is_past_bound (settle w x) ≡ false
-    turn t at worker has e there false may = not_both (ap is_done (sym (out_of_turn number ns w t at worker has e there may) ∙ is)) refl
-    turn t at worker has e there true may = subst (λ x. is_past_bound (settle w x) ≡ false)
-        (ap (world_or w) (sym (snap_is number ns w t at worker has e there true may) ∙ is)) (fits number ns w t at worker has e there within)
-
-    evaluation : (t : Tenant) → get w.tenants ns ≡ Some t → (worker : Worker) → get t.workers number ≡ Some worker →
-        (o : Option Evaluation) → get t.evaluations worker.evaluation ≡ o → is_past_bound (settle w x) ≡ false
-    evaluation t at worker has None there = not_both (ap is_done (sym (gone number ns w t at worker has there) ∙ is)) refl
-    evaluation t at worker has (Some e) there = turn t at worker has e there (may_snap worker.tries worker.phase) refl
-
-    busy : (t : Tenant) → get w.tenants ns ≡ Some t → (o : Option Worker) → get t.workers number ≡ o → is_past_bound (settle w x) ≡ false
-    busy t at None has = not_both (ap is_done (sym (idle number ns w t at has) ∙ is)) refl
-    busy t at (Some worker) has = evaluation t at worker has (get t.evaluations worker.evaluation) refl
-
-    tenant : (o : Option Tenant) → get w.tenants ns ≡ o → is_past_bound (settle w x) ≡ false
-    tenant None at = not_both (ap is_done (sym (nowhere number ns w at) ∙ is)) refl
-    tenant (Some t) at = busy t at (get t.workers number) refl
+snap_fits number ns w content x within is = looks number ns w content x is _ (λ t at worker has e there done.
+    subst (λ x. is_past_bound (settle w x) ≡ false) (ap (world_or w) done) (fits number ns w t at worker has e there within))
 
 -- want of memory, where the step would have been made
 pub no_memory : (number : ℕ) (ns : Name) (t : Tables) (r : Result Snapped Refusal) → r ≡ Err Refusal.Memory → is_done (snap number ns (world_of t)) ≡ true →

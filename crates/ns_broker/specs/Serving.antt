@@ -1,5 +1,5 @@
 -- Which evaluation is served, step by step along a list, and when a worker may take one.
-use Rattle.std.specs.Prelude.{ℕ, Bool, ◌&&◌, if◌then◌else◌, Option, Some, None, nat_le, nat_lt, is_some}
+use Rattle.std.specs.Prelude.{ℕ, Bool, ◌&&◌, if◌then◌else◌, List, Option, Some, None, nat_le, nat_lt, is_some}
 use Rattle.keyed.specs.Table.{at_slot, row_at}
 use Rattle.ns_types.specs.declared.evaluation.Evaluation.{Evaluation}
 use Rattle.ns_types.specs.Settling.Making.{change_tenant}
@@ -15,6 +15,10 @@ abbrev pub preferred : (Key → ℕ) → Option Key → Key → Option Key
 preferred priority None later = Some later
 preferred priority (Some first) later = if nat_le (priority later) (priority first) then Some first else Some later
 
+-- the key, where it is the one of the list that is served next
+abbrev pub served_as : World → List Key → Key → Option Key
+served_as w keys key = if is_served w keys key then Some key else None
+
 -- a worker has an evaluation of the namespace of that slot
 abbrev pub is_busy_for : ℕ → Name × Option TenantRows → Bool
 is_busy_for number = at_slot (λ e. is_some (row_at e.1.workers number))
@@ -22,6 +26,10 @@ is_busy_for number = at_slot (λ e. is_some (row_at e.1.workers number))
 -- there is such a worker, it has no evaluation, and that one is served next
 abbrev pub may_dequeue : ℕ → Key → World → Bool
 may_dequeue number key w = nat_lt number workers_end && is_idle w number && is_served w w.ready key
+
+-- its key, where the worker may take it
+abbrev pub key_for : ℕ → Key → World → Option Key
+key_for number key w = if may_dequeue number key w then Some key else None
 
 -- the worker has the evaluation, which is no longer ready
 abbrev pub take : ℕ → Key → Evaluation → World → World

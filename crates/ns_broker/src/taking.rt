@@ -1,14 +1,14 @@
 //! A worker takes an evaluation.
 
-ghost use Rattle.std.specs.Prelude.{◌≡◌, nat_lt};
+ghost use Rattle.std.specs.Prelude.{◌≡◌, nat_lt, option_copied};
 ghost use Rattle.std.specs.List.{list_any};
 ghost use Rattle.ns_types.specs.Working.Work.{dequeue, is_idle, new_worker, tries_for, workers_end};
-ghost use Rattle.ns_broker.specs.Serving.{is_busy_for, may_dequeue, take};
+ghost use Rattle.ns_broker.specs.Serving.{is_busy_for, key_for, take};
 ghost use Rattle.ns_change.specs.Changed.{Does};
 ghost use Rattle.ns_change.specs.Prepared.{Prepares};
 ghost use Rattle.ns_world.specs.World.{world_of};
 
-use crate::serving::is_served;
+use crate::serving::served_as;
 use ns_change::{Change, Prepared, prepare, put_row, take_ready};
 use ns_types::evaluation::Evaluation;
 use ns_types::job::JobKind;
@@ -78,17 +78,23 @@ fn is_worker(number: u64) -> bool
     number < WORKERS
 }
 
-/// Whether there is such a worker, it has no evaluation, and this one is served next.
-fn may_dequeue(tables: &Tables, number: u64, key: &EvalKey) -> bool
-    ensures { result ≡ may_dequeue number key.now (world_of tables.now) }
+/// The evaluation's key, where there is such a worker, it has no evaluation, and this one is served next.
+fn key_for<'a>(
+    tables: &'a Tables,
+    number: u64,
+    namespace: &Text,
+    evaluation: u64,
+) -> Option<&'a EvalKey>
+    ensures { option_copied result ≡
+        key_for number (namespace.now, evaluation) (world_of tables.now) }
 {
     if !is_worker(number) {
-        return false;
+        return None;
     }
     if !is_idle(tables, number) {
-        return false;
+        return None;
     }
-    is_served(tables, tables.ready.as_slice(), key)
+    served_as(tables, tables.ready.as_slice(), namespace, evaluation)
 }
 
 /// The worker has the evaluation, which is no longer ready.
@@ -108,16 +114,22 @@ fn take(
 
 /// The worker takes the evaluation, which is served next and is no longer ready then. `NotEnabled`: there is no such
 /// worker, it has an evaluation, or another one is served next.
-pub fn dequeue(tables: &Tables, number: u64, key: &EvalKey) -> Result<Prepared, Refusal>
-    ensures { Prepares (dequeue number key.now (world_of tables.now)) tables.now result }
+pub fn dequeue(
+    tables: &Tables,
+    number: u64,
+    namespace: &Text,
+    evaluation: u64,
+) -> Result<Prepared, Refusal>
+    ensures { let w = world_of tables.now in
+        Prepares (dequeue number (namespace.now, evaluation) w) tables.now result }
 {
-    if !may_dequeue(tables, number, key) {
+    let Some(key) = key_for(tables, number, namespace, evaluation) else {
         return Err(Refusal::NotEnabled);
-    }
-    let Some(row) = tables.evaluation(key.namespace(), key.number()) else {
+    };
+    let Some(row) = tables.evaluation(namespace, evaluation) else {
         return Err(Refusal::NotEnabled);
     };
     let mut change = Change::new(tables.alloc);
     let made = take(tables, &mut change, number, key, row);
-    prepare(Content::Took(key.number()), change, made)
+    prepare(Content::Took(evaluation), change, made)
 }

@@ -7,3 +7,4 @@ pub mod Making
 pub mod Quotas
 pub mod Indexing
 pub mod Telling
+pub mod Working

@@ -58,7 +58,7 @@ none_used w quiet quota = λ i. record { cpu = by (λ r. r.cpu) i; memory = by (
         (entries w.tenants) ≡ 0
     by amount = of_all quota amount (entries w.tenants) (each_row names one_name (λ _ t. t.allocations ≡ empty) w.tenants quiet.placed)
 
-usage_fits : (w : World) → IsQuiet w → (quota : Name) → UseFits (quota_use w quota)
+pub usage_fits : (w : World) → IsQuiet w → (quota : Name) → UseFits (quota_use w quota)
 usage_fits w quiet quota = record {
   cpu = subst (λ used. used.cpu < 2 ^ 64) (sym (none_used w quiet quota)) (omega arith);
   memory = subst (λ used. used.memory < 2 ^ 64) (sym (none_used w quiet quota)) (omega arith);

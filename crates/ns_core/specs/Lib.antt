@@ -1,3 +1,4 @@
 pub mod Answering
 pub mod Held
 pub mod Viewed
+pub mod Working

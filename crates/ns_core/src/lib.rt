@@ -7,5 +7,6 @@ mod nodes;
 mod parts;
 mod rights;
 mod server;
+mod workers;
 
 pub use server::Core;

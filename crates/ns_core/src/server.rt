@@ -1,16 +1,23 @@
 //! The server as one value, which contracts see as its state.
 
-ghost use Rattle.std.specs.Prelude.{◌≡◌, IfOk, option_copied};
+ghost use Rattle.std.specs.Prelude.{◌≡◌, IfOk, Some, option_copied, option_map};
 ghost use Rattle.ns_types.specs.declared.step.Step.TheVariants as Step;
 ghost use Rattle.ns_types.specs.Steps.{Makes, opening};
+ghost use Rattle.ns_types.specs.Working.Looks.{row_of, served_ready};
+ghost use Rattle.ns_broker.specs.Snapping.{kept_at};
+ghost use Rattle.ns_core.specs.Working.{snapped};
 ghost use Rattle.ns_steps.specs.Served.{IsServedAsk, IsServedNode};
 
 use crate::parts::Parts;
 use ns_types::good::{GoodAdmin, GoodAsk, GoodTelling};
+use ns_types::key::EvalKey;
 use ns_types::name::Secret;
 use ns_types::refusal::Refusal;
 use ns_types::reply::Reply;
+use ns_types::shared::Shared;
+use ns_types::snapshot::Snapshot;
 use ns_types::text::Text;
+use ns_types::worker::Phase;
 use std::alloc::{AllocError, Global};
 use std::marker::Model;
 
@@ -83,5 +90,54 @@ impl Core {
     {
         let parts = &mut self.parts;
         parts.node(pool, secret, command.get())
+    }
+
+    /// Makes the step in which a worker takes the evaluation of that number in the namespace, which is served next. The
+    /// reply says its number.
+    pub fn dequeue(
+        &mut self,
+        worker: u64,
+        namespace: &Text,
+        evaluation: u64,
+    ) -> Result<Reply, Refusal>
+        ensures { let step = Step.Dequeue worker namespace.now evaluation in
+            Makes step self.old result self.new }
+    {
+        let parts = &mut self.parts;
+        parts.dequeue(worker, namespace, evaluation)
+    }
+
+    /// Makes the step in which a worker takes a snapshot of its evaluation: one value, which its row keeps and the caller
+    /// reads.
+    pub fn snap(&mut self, worker: u64, namespace: &Text) -> Result<Shared<Snapshot>, Refusal>
+        ensures made { let step = Step.Snap worker namespace.now in
+            Makes step self.old (snapped result) self.new }
+        ensures kept { let w = self.new.world in
+            IfOk result (λ seen. kept_at w worker namespace.now ≡ Some seen) }
+    {
+        let parts = &mut self.parts;
+        parts.snap(worker, namespace)
+    }
+
+    /// Makes the step in which a worker gives its evaluation of the namespace back. The reply says its status then.
+    pub fn nack(&mut self, worker: u64, namespace: &Text) -> Result<Reply, Refusal>
+        ensures { Makes (Step.Nack worker namespace.now) self.old result self.new }
+    {
+        let parts = &mut self.parts;
+        parts.nack(worker, namespace)
+    }
+
+    /// The evaluation that is served next.
+    pub fn served(&self) -> Option<&EvalKey>
+        ensures { option_copied result ≡ served_ready self.now.world }
+    {
+        ns_broker::served_ready(&self.parts.tables)
+    }
+
+    /// How far the worker is. None: it is idle.
+    pub fn phase(&self, worker: u64) -> Option<Phase>
+        ensures { result ≡ option_map (λ r. r.1.phase) (row_of self.now.world worker) }
+    {
+        ns_broker::phase(&self.parts.tables, worker)
     }
 }

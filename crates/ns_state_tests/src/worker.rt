@@ -166,7 +166,7 @@ fn taken(tables: &mut Tables, number: u64) -> Result<Option<u64>, AllocError> {
         return Ok(None);
     };
     let key = key.clone()?;
-    let answer = dequeue(tables, number, &key);
+    let answer = dequeue(tables, number, key.namespace(), key.number());
     let content = ended(tables, answer);
     let evaluation = match &content {
         Some(Content::Took(evaluation)) => Some(*evaluation),
@@ -218,8 +218,9 @@ fn all_take(tables: &mut Tables) -> Result<bool, AllocError> {
 
 /// Whether neither a busy worker nor a 65th takes the last one.
 fn none_takes(tables: &Tables, key: &EvalKey) -> bool {
-    is_refused(dequeue(tables, 64, key), Refusal::NotEnabled)
-        && is_refused(dequeue(tables, 5, key), Refusal::NotEnabled)
+    let (namespace, last) = (key.namespace(), key.number());
+    is_refused(dequeue(tables, 64, namespace, last), Refusal::NotEnabled)
+        && is_refused(dequeue(tables, 5, namespace, last), Refusal::NotEnabled)
 }
 
 fn sixty_four_work(alloc: Global) -> Result<bool, AllocError> {

@@ -1,0 +1,66 @@
+-- What is prepared for a worker's step, and what a worker that looked is answered.
+use Rattle.std.specs.Prelude.{◌≡◌, ℕ, Some, Result, Ok, Err}
+use Rattle.std.proofs.Common.{refl, ap, ◌∙◌}
+use Rattle.ns_types.specs.declared.refusal.Refusal.{Refusal}
+use Rattle.ns_types.specs.declared.reply.Content.{Content}
+use Rattle.ns_types.specs.declared.reply.Reply.{Reply}
+use Rattle.ns_types.specs.declared.snapshot.Snapshot.{Snapshot}
+use Rattle.ns_types.specs.declared.step.Step.{Step}
+use Rattle.ns_types.specs.State.Names.{Name}
+use Rattle.ns_types.specs.State.Rows.{State}
+use Rattle.ns_types.specs.Steps.{after, said}
+use Rattle.ns_types.specs.Working.Work.{dequeue, nack, snap}
+use Rattle.ns_change.specs.declared.change.Prepared.{Prepared}
+use Rattle.ns_change.specs.Changed.{view}
+use Rattle.ns_change.specs.Prepared.{Prepares, bounded}
+use Rattle.ns_broker.specs.Nacking.{HasNackLeft}
+use Rattle.ns_broker.specs.Snapping.{UseFitsIn, kept_at}
+use Rattle.ns_broker.proofs.Making.{dequeue_does, dequeue_refuses, nack_does, nack_left, nack_refuses, snap_does, snap_refuses}
+use Rattle.ns_broker.proofs.Snaps.{snap_answers, snap_settles}
+use Rattle.ns_core.specs.declared.parts.Parts.{Parts}
+use Rattle.ns_core.specs.Answering.{MakesStep, PreparesStep}
+use Rattle.ns_core.specs.Held.{IsHeld}
+use Rattle.ns_core.specs.Viewed.{state_of, world_of}
+use Rattle.ns_core.proofs.Keeping.{within}
+use Rattle.ns_core.proofs.Making.{made_of}
+use Rattle.ns_core.proofs.Reading.{usage_fits}
+
+module _ (parts : Parts) (held : IsHeld (state_of parts)) (worker : ℕ) (ns : Name) where
+  pub dequeue_prepares : (n : ℕ) (result : Result Prepared Refusal) → Prepares (dequeue worker (ns, n) (world_of parts)) parts.tables result →
+      PreparesStep (Step.Dequeue worker ns n) parts result
+  dequeue_prepares n (Ok x) h = dequeue_does worker ns (state_of parts) parts.tables n x h
+  dequeue_prepares n (Err refusal) h = dequeue_refuses worker ns (state_of parts) parts.tables n (within (state_of parts) held) refusal h
+
+  pub nack_prepares : (result : Result Prepared Refusal) → Prepares (bounded (world_of parts) (nack worker ns (world_of parts))) parts.tables result →
+      PreparesStep (Step.Nack worker ns) parts result
+  nack_prepares (Ok x) h = nack_does worker ns (state_of parts) parts.tables x h
+  nack_prepares (Err refusal) h = nack_refuses worker ns (state_of parts) parts.tables refusal h
+
+  pub has_nack_left : HasNackLeft (world_of parts) worker ns
+  has_nack_left = nack_left (world_of parts) held.valid.world worker ns
+
+  -- ---- a worker that looks
+
+  -- nothing is placed, so nothing is used
+  pub use_fits : UseFitsIn (world_of parts) ns
+  use_fits t is quota names = usage_fits (world_of parts) held.quiet quota
+
+  pub snap_refused : (refusal : Refusal) → Prepares (snap worker ns (world_of parts)) parts.tables (Err refusal) →
+      MakesStep (Step.Snap worker ns) parts (Err refusal) parts
+  snap_refused refusal h = snap_refuses worker ns (state_of parts) parts.tables (within (state_of parts) held) refusal h
+
+  module _ (x : Prepared) (prepares : Prepares (snap worker ns (world_of parts)) parts.tables (Ok x)) where
+    pub snap_prepares : PreparesStep (Step.Snap worker ns) parts (Ok x)
+    snap_prepares = snap_does worker ns (state_of parts) parts.tables x prepares
+
+    module _ (seen : Snapshot) (keeps : kept_at (view parts.tables x.change) worker ns ≡ Some seen) (reply : Reply) (s : State)
+        (made : after (Step.Snap worker ns) (state_of parts) ≡ said (Ok reply) s) where
+      -- the row keeps it once the step has settled
+      pub still_kept : kept_at s.world worker ns ≡ Some seen
+      still_kept = ap (λ w. kept_at w worker ns) ((made_of (Step.Snap worker ns) (state_of parts) s refl x.content _ snap_prepares reply made).1
+          ∙ snap_settles worker ns (world_of parts) x.content (view parts.tables x.change) prepares (within (state_of parts) held)) ∙ keeps
+
+      -- and its number is what the reply says
+      pub says_its_number : reply.content ≡ Content.Snapped seen.number
+      says_its_number = (made_of (Step.Snap worker ns) (state_of parts) s refl x.content _ snap_prepares reply made).0
+          ∙ snap_answers worker ns (world_of parts) x.content (view parts.tables x.change) prepares seen keeps
