@@ -6,3 +6,4 @@ pub mod Reading
 pub mod Making
 pub mod Quotas
 pub mod Indexing
+pub mod Telling

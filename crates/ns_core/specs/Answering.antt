@@ -9,7 +9,7 @@ use Rattle.ns_types.specs.declared.step.NodeCommand.{NodeCommand}
 use Rattle.ns_types.specs.declared.step.Step.{Step}
 use Rattle.ns_types.specs.Access.Rights.{has_any, pool_rights_of, rights_of}
 use Rattle.ns_types.specs.Asking.Asks.{right_of}
-use Rattle.ns_types.specs.Asking.Nodes.{ask_pool}
+use Rattle.ns_types.specs.Asking.Nodes.{ask_pool, pool_right_of}
 use Rattle.ns_types.specs.Asking.Policies.{administer}
 use Rattle.ns_types.specs.Settling.Outcome.{Changes, Done}
 use Rattle.ns_types.specs.State.Names.{Name}
@@ -49,8 +49,17 @@ abbrev pub PreparesAsk : Name → AskCommand → Parts → Result Prepared Refus
 PreparesAsk ns command parts result = (secret : Option Name) → right_of command (rights_of parts.acl secret ns) ≡ true →
     PreparesStep (Step.Ask ns secret command) parts result
 
--- ---- reads of a pool
+-- ---- what is told of a pool, by each secret that may
 
+abbrev pub MakesNode : Name → NodeCommand → Parts → Answer → Parts → Type 0
+MakesNode pool command old result new = (secret : Option Name) → pool_right_of command (pool_rights_of old.acl secret pool) ≡ true →
+    MakesStep (Step.Node pool secret command) old result new
+
+abbrev pub PreparesNode : Name → NodeCommand → Parts → Result Prepared Refusal → Type 0
+PreparesNode pool command parts result = (secret : Option Name) → pool_right_of command (pool_rights_of parts.acl secret pool) ≡ true →
+    PreparesStep (Step.Node pool secret command) parts result
+
+-- a read, before its reply is made
 abbrev pub ReadsPool : Name → NodeCommand → Parts → Result Content Refusal → Type 0
 ReadsPool pool command parts result =
     Changes (ask_pool pool command (world_of parts)) (world_of parts) result (world_of parts)

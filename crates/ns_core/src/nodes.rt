@@ -1,19 +1,24 @@
 //! What is told of a pool and its nodes, as steps over the parts.
 
-ghost use Rattle.std.specs.Prelude.{◌≡◌, IfOk, option_copied};
+ghost use Rattle.std.specs.Prelude.{◌≡◌, IfOk, false, option_copied, true};
 ghost use Rattle.ns_types.specs.declared.reply.Content.TheVariants as Content;
 ghost use Rattle.ns_types.specs.declared.step.NodeCommand.TheVariants as NodeCommand;
 ghost use Rattle.ns_types.specs.declared.step.Step.TheVariants as Step;
 ghost use Rattle.ns_types.specs.Access.Rights.{pool_rights_of};
 ghost use Rattle.ns_types.specs.Asking.Nodes.{pool_right_of};
-ghost use Rattle.ns_core.specs.Answering.{MakesStep, ReadsPool};
+ghost use Rattle.ns_types.specs.State.Sums.{node_load};
+ghost use Rattle.ns_steps.specs.Served.{IsServedNode, only_reads, served_node};
+ghost use Rattle.ns_core.specs.Answering.{MakesNode, MakesStep, PreparesNode, ReadsPool};
 ghost use Rattle.ns_core.specs.Held.{IsHeld, IsIndexed};
-ghost use Rattle.ns_core.specs.Viewed.{state_of};
+ghost use Rattle.ns_core.specs.Viewed.{state_of, world_of};
 
 use crate::parts::{Parts, plain};
+use ns_change::Prepared;
+use ns_nodes::{list_nodes, register_node, remove_node, set_eligible, set_status};
 use ns_types::records::Pool;
 use ns_types::refusal::Refusal;
 use ns_types::reply::{Content, PoolShown, Reply};
+use ns_types::resources::Resources;
 use ns_types::step::NodeCommand;
 use ns_types::text::Text;
 use std::alloc::AllocError;
@@ -50,7 +55,77 @@ impl Parts {
         Ok(content)
     }
 
-    /// Makes the step that is told of a pool, or leaves the state as it is. So far the pool itself is read.
+    /// What a command that only reads comes to.
+    fn read_in_pool(&self, pool: &Text, command: &NodeCommand) -> Result<Content, Refusal>
+        requires held { IsHeld (state_of self.now) }
+        requires index { IsIndexed self.now }
+        requires served { IsServedNode command.now }
+        requires reads { only_reads (served_node command.now) ≡ true }
+        ensures { ReadsPool pool.now command.now self.now result }
+    {
+        match command {
+            NodeCommand::ReadPool => self.read_pool(pool),
+            NodeCommand::ListNodes => list_nodes(&self.tables, &self.live, pool),
+            _ => unreachable!(),
+        }
+    }
+
+    /// Answers a command that only reads, by a secret that may.
+    fn read_telling(&self, pool: &Text, command: &NodeCommand) -> Result<Reply, Refusal>
+        requires held { IsHeld (state_of self.now) }
+        requires index { IsIndexed self.now }
+        requires served { IsServedNode command.now }
+        requires reads { only_reads (served_node command.now) ≡ true }
+        ensures { MakesNode pool.now command.now self.now result self.now }
+    {
+        let content = self.read_in_pool(pool, command)?;
+        Ok(plain(content))
+    }
+
+    /// What the live allocations on the node take together.
+    fn load(&self, pool: &Text, node: &Text) -> Resources
+        requires held { IsHeld (state_of self.now) }
+        requires index { IsIndexed self.now }
+        ensures { result ≡ node_load (world_of self.now) pool.now node.now }
+    {
+        self.live.load(&self.tables, pool, node)
+    }
+
+    /// What a command that writes comes to, with what it changes, by a secret that may.
+    fn prepare_telling(&self, pool: &Text, command: &NodeCommand) -> Result<Prepared, Refusal>
+        requires held { IsHeld (state_of self.now) }
+        requires index { IsIndexed self.now }
+        requires served { IsServedNode command.now }
+        requires writes { only_reads (served_node command.now) ≡ false }
+        ensures { PreparesNode pool.now command.now self.now result }
+    {
+        let tables = &self.tables;
+        match command {
+            NodeCommand::PutNode(name, offer) => {
+                register_node(tables, pool, name, offer, self.load(pool, name))
+            }
+            NodeCommand::DeleteNode(name) => remove_node(tables, pool, name),
+            NodeCommand::SetStatus(name, status) => set_status(tables, pool, name, *status),
+            NodeCommand::SetEligible(name, eligible) => set_eligible(tables, pool, name, *eligible),
+            _ => unreachable!(),
+        }
+    }
+
+    /// Makes the step of a command that writes, by a secret that may.
+    fn write_telling(&mut self, pool: &Text, command: &NodeCommand) -> Result<Reply, Refusal>
+        requires held { IsHeld (state_of self.old) }
+        requires index { IsIndexed self.old }
+        requires served { IsServedNode command.now }
+        requires writes { only_reads (served_node command.now) ≡ false }
+        ensures made { MakesNode pool.now command.now self.old result self.new }
+        ensures index { IsIndexed self.new }
+    {
+        let prepared = self.prepare_telling(pool, command);
+        let content = self.make(prepared)?;
+        Ok(plain(content))
+    }
+
+    /// Makes the step that is told of a pool, or leaves the state as it is.
     pub fn node(
         &mut self,
         pool: &Text,
@@ -58,18 +133,18 @@ impl Parts {
         command: &NodeCommand,
     ) -> Result<Reply, Refusal>
         requires held { IsHeld (state_of self.old) }
-        requires reads { command.now ≡ NodeCommand.ReadPool }
+        requires index { IsIndexed self.old }
+        requires served { IsServedNode command.now }
         ensures made { let step = Step.Node pool.now (option_copied secret.entry) command.now in
             MakesStep step self.old result self.new }
-        ensures index { IsIndexed self.old → IsIndexed self.new }
+        ensures index { IsIndexed self.new }
     {
         if !self.may_tell(pool, secret, command) {
             return Err(Refusal::Denied);
         }
-        let content = match command {
-            NodeCommand::ReadPool => self.read_pool(pool)?,
-            _ => unreachable!(),
-        };
-        Ok(plain(content))
+        match command {
+            NodeCommand::ReadPool | NodeCommand::ListNodes => self.read_telling(pool, command),
+            _ => self.write_telling(pool, command),
+        }
     }
 }

@@ -70,7 +70,7 @@ impl Core {
         parts.admin(secret, command.get())
     }
 
-    /// Makes the step that a secret tells of a pool. So far the pool itself is read.
+    /// Makes the step that a secret tells of a pool: all but reports on allocations.
     pub fn node(
         &mut self,
         pool: &Text,

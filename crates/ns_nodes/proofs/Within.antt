@@ -6,11 +6,8 @@ use Rattle.std.specs.FinMap.{get}
 use Rattle.keyed.specs.Table.{row_at}
 use Rattle.ns_types.specs.declared.node.Node.{Node}
 use Rattle.ns_types.specs.declared.node.Offer.{Offer}
-use Rattle.ns_types.specs.declared.refusal.Refusal.{Refusal}
-use Rattle.ns_types.specs.declared.reply.Content.{Content}
 use Rattle.ns_types.specs.Asking.Nodes.{with_offer}
 use Rattle.ns_types.specs.Settling.Making.{with_node}
-use Rattle.ns_types.specs.Settling.Outcome.{Outcome, Done, Refused}
 use Rattle.ns_types.specs.Settling.Releases.{same_offer}
 use Rattle.ns_types.specs.Settling.Settle.{settle}
 use Rattle.ns_types.specs.State.Names.{Name}

@@ -48,8 +48,5 @@ pub(crate) fn freed_passes(
     ensures { result ≡ ((is_ready status && eligible && not (is_free node.now))
         && given_room_passes (world_of tables.now) (pool.now, class_of node.now)) }
 {
-    is_ready(status)
-        && eligible
-        && !is_free(node)
-        && given_room_passes(tables, pool, &node.offer)
+    is_ready(status) && eligible && !is_free(node) && given_room_passes(tables, pool, &node.offer)
 }

@@ -11,7 +11,7 @@ mod registered;
 mod removed;
 mod status;
 
-pub use eligible::set_eligible;
+pub use eligible::{set_eligible, set_ready};
 pub use listing::list_nodes;
 pub use registered::register_node;
 pub use removed::remove_node;
