@@ -25,8 +25,8 @@ use Rattle.ns_world.specs.declared.tables.Tables.{Tables}
 use Rattle.ns_world.specs.declared.tables.TenantRows.{TenantRows}
 use Rattle.ns_world.specs.World.{pool_of, tenant_of, world_of}
 use Rattle.ns_world.proofs.World.{pool_at, tenant_at}
-use Rattle.ns_live.specs.declared.node_keys.NodeKeys.{NodeKeys}
-use Rattle.ns_live.specs.Levels.{holds_key}
+use Rattle.keyed.specs.Levels.{holds_key}
+use Rattle.keyed.specs.declared.key_set.KeySet.{KeySet}
 use Rattle.ns_live.specs.Listed.{found_at, keys_in}
 use Rattle.ns_live.proofs.Listing.{allocations_are, no_allocations, shown}
 use Rattle.ns_snapshot.specs.Seen.{add_namespace, add_number, add_seen, is_own, naming, node_at_slot, own_at, seen_row}
@@ -203,12 +203,12 @@ module _ (t : Tables) where
           ∙ ap (λ es. fold add_seen m (map placed (found_at look (map (λ n. (ns, n)) (map (λ (e : ℕ × Unit). e.0) es) ++ flat_map keys_of (row_list slots)))))
           (sym (entries-rows held))
 
-  pub live_is : (pool node : Name) (held : NodeKeys) →
+  pub live_is : (pool node : Name) (held : KeySet) →
       ((key : Key) → holds_key held key ≡ option_map_or (is_live_on pool node) (allocation_at (world_of t) key) false) →
-      values (fold (add_namespace t.tenants) empty (entries held.namespaces)) ≡ live_on (world_of t) pool node
+      values (fold (add_namespace t.tenants) empty (entries held.numbers)) ≡ live_on (world_of t) pool node
   unfolding live_on
-  live_is pool node held right = ap values (namespaces_filled (entries held.namespaces) empty
-      ∙ ap (λ es. fold add_seen empty (map placed (found_at look (flat_map keys_of es)))) (sym (entries-rows held.namespaces))
+  live_is pool node held right = ap values (namespaces_filled (entries held.numbers) empty
+      ∙ ap (λ es. fold add_seen empty (map placed (found_at look (flat_map keys_of es)))) (sym (entries-rows held.numbers))
       ∙ filled_is (map placed (found_at look (keys_in held))) ∙ ap (from_entries {R = nat_cmp}) (sym (placed_again (found_at look (keys_in held)))))
       ∙ sym (values_mapped seen_live (map with_place (map shown (found_at look (keys_in held)))))
       ∙ ap (λ xs. map seen_live (values (from_entries {R = nat_cmp} (map with_place xs)))) (sym (allocations_are (world_of t) pool node held right))

@@ -8,8 +8,8 @@ ghost use Rattle.ns_live.specs.Index.{IsRight};
 ghost use Rattle.ns_snapshot.specs.Seen.{add_namespace, add_number, add_seen, seen_row};
 ghost use Rattle.ns_world.specs.World.{world_of};
 
-use keyed::NumberTable;
-use ns_live::{Live, NodeKeys};
+use keyed::{KeySet, NumberTable};
+use ns_live::Live;
 use ns_types::allocation::Allocation;
 use ns_types::rows::Rows;
 use ns_types::snapshot::LiveAllocation;
@@ -140,9 +140,9 @@ fn in_order(
 }
 
 /// The rows at the keys, each at its place.
-fn by_place(tables: &Tables, keys: &NodeKeys) -> Result<ByPlace, AllocError>
+fn by_place(tables: &Tables, keys: &KeySet) -> Result<ByPlace, AllocError>
     ensures { IfOk result (λ seen. rows seen
-        ≡ fold (add_namespace tables.now.tenants) empty (entries keys.now.namespaces)) }
+        ≡ fold (add_namespace tables.now.tenants) empty (entries keys.now.numbers)) }
 {
     let mut seen = NumberTable::new(tables.alloc);
     add_namespaces(&mut seen, tables, keys.as_slice())?;

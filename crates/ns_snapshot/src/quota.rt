@@ -9,10 +9,8 @@ ghost use Rattle.ns_jobs.specs.Read.{UseFits};
 ghost use Rattle.ns_snapshot.specs.Seen.{UseOfFits, naming};
 ghost use Rattle.ns_world.specs.World.{quota_of, tenant_of, world_of};
 
-use ns_admin::names_quota;
+use ns_admin::{limits_in, names_quota};
 use ns_jobs::quota_use;
-use ns_types::records::Quota;
-use ns_types::resources::{Limit, Limits};
 use ns_types::rows::Rows;
 use ns_types::snapshot::QuotaSeen;
 use ns_types::text::Text;
@@ -48,18 +46,6 @@ fn namespaces_naming(tables: &Tables, quota: &Text) -> Result<Rows<Text>, AllocE
     ensures { IfOk result (λ names. names ≡ namespaces_naming (world_of tables.now) quota.now) }
 {
     naming_among(tables.alloc, quota, tables.tenants.as_slice())
-}
-
-fn limits_in(quota: &Quota) -> Limits
-    ensures { result ≡ limits_in quota.now.limits }
-{
-    match quota.limits {
-        Some(limits) => limits,
-        None => Limits {
-            cpu: Limit::Unlimited,
-            memory: Limit::Unlimited,
-        },
-    }
 }
 
 fn seen(tables: &Tables, name: &Text, row: &QuotaRows) -> Result<QuotaSeen, AllocError>

@@ -5,7 +5,7 @@ use Rattle.std.specs.Option.{option_copied, option_map_or}
 use Rattle.keyed.specs.Table.{row_list}
 use Rattle.keyed.proofs.Tables.{entries-rows}
 use Rattle.ns_types.specs.declared.snapshot.LiveAllocation.{LiveAllocation}
-use Rattle.ns_live.specs.Levels.{holds_key}
+use Rattle.keyed.specs.Levels.{holds_key}
 use Rattle.ns_snapshot.proofs.Seen.{live_is, none_live, ok_as}
 use Rattle.ns_snapshot.proofs.placed.live_on.Goals as goal
 
