@@ -14,7 +14,8 @@ ghost use Rattle.ns_core.specs.Viewed.{state_of, world_of};
 
 use crate::parts::{Parts, plain};
 use ns_change::Prepared;
-use ns_nodes::{list_nodes, register_node, remove_node, set_eligible, set_status};
+use ns_nodes::{list_nodes, register_node, remove_node, set_down, set_eligible, set_ready};
+use ns_types::node::NodeStatus;
 use ns_types::records::Pool;
 use ns_types::refusal::Refusal;
 use ns_types::reply::{Content, PoolShown, Reply};
@@ -91,6 +92,17 @@ impl Parts {
         self.live.load(&self.tables, pool, node)
     }
 
+    /// What it comes to that a node is up or goes down, by a secret that may.
+    fn set_status(&self, pool: &Text, name: &Text, status: NodeStatus) -> Result<Prepared, Refusal>
+        requires held { IsHeld (state_of self.now) }
+        ensures { PreparesNode pool.now (NodeCommand.SetStatus name.now status) self.now result }
+    {
+        match status {
+            NodeStatus::Ready => set_ready(&self.tables, pool, name),
+            NodeStatus::Down => set_down(&self.tables, pool, name),
+        }
+    }
+
     /// What a command that writes comes to, with what it changes, by a secret that may.
     fn prepare_telling(&self, pool: &Text, command: &NodeCommand) -> Result<Prepared, Refusal>
         requires held { IsHeld (state_of self.now) }
@@ -105,7 +117,7 @@ impl Parts {
                 register_node(tables, pool, name, offer, self.load(pool, name))
             }
             NodeCommand::DeleteNode(name) => remove_node(tables, pool, name),
-            NodeCommand::SetStatus(name, status) => set_status(tables, pool, name, *status),
+            NodeCommand::SetStatus(name, status) => self.set_status(pool, name, *status),
             NodeCommand::SetEligible(name, eligible) => set_eligible(tables, pool, name, *eligible),
             _ => unreachable!(),
         }

@@ -3,7 +3,7 @@ use Rattle.ns_types.specs.declared.step.NodeCommand.{NodeCommand}
 use Rattle.ns_core.specs.Answering.{PreparesNode}
 use Rattle.ns_core.specs.Viewed.{state_of}
 use Rattle.ns_core.proofs.Keeping.{within}
-use Rattle.ns_core.proofs.Telling.{none_on, prepares}
+use Rattle.ns_core.proofs.Telling.{prepares}
 use Rattle.ns_core.proofs.parts.Parts.prepare_telling.Goals as goal
 
 pub register_node-requires-clause-bounds : goal.register_node-requires-clause-bounds
@@ -11,12 +11,6 @@ register_node-requires-clause-bounds c = within (state_of c.args.self.now) c.req
 
 pub remove_node-requires : goal.remove_node-requires
 remove_node-requires c = within (state_of c.args.self.now) c.requires.held
-
-pub set_status-requires-clause-bounds : goal.set_status-requires-clause-bounds
-set_status-requires-clause-bounds c = within (state_of c.args.self.now) c.requires.held
-
-pub set_status-requires-clause-idle : goal.set_status-requires-clause-idle
-set_status-requires-clause-idle c = λ down. none_on (state_of c.args.self.now).world c.requires.held.quiet c.args.pool.now c.in-SetStatus.name
 
 pub set_eligible-requires : goal.set_eligible-requires
 set_eligible-requires c = within (state_of c.args.self.now) c.requires.held
@@ -31,7 +25,7 @@ returns-in-DeleteNode c = subst (λ (command : NodeCommand). PreparesNode c.args
 
 pub returns-in-SetStatus : goal.returns-in-SetStatus
 returns-in-SetStatus c = subst (λ (command : NodeCommand). PreparesNode c.args.pool.now command c.args.self.now c.set_status.result)
-    (sym c.in-SetStatus.is) (prepares c.args.self.now c.args.pool.now _ c.set_status.result c.set_status.ensures)
+    (sym c.in-SetStatus.is) c.set_status.ensures
 
 pub returns-in-SetEligible : goal.returns-in-SetEligible
 returns-in-SetEligible c = subst (λ (command : NodeCommand). PreparesNode c.args.pool.now command c.args.self.now c.set_eligible.result)
