@@ -23,3 +23,5 @@ mod server;
 mod tables;
 #[cfg(test)]
 mod worker;
+#[cfg(test)]
+mod workers;
