@@ -48,7 +48,8 @@ fn registration(alloc: Global, number: u64) -> Result<GoodAsk, AllocError>
     })))
 }
 
-fn registers(
+/// Whether the job whose id is the number is registered with these numbers: the evaluation's, its index, the job's.
+pub(crate) fn registers(
     core: &mut Core,
     alloc: Global,
     root: &Text,

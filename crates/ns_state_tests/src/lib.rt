@@ -25,3 +25,5 @@ mod server;
 mod tables;
 #[cfg(test)]
 mod worker;
+#[cfg(test)]
+mod workers;
