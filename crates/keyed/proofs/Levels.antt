@@ -10,7 +10,7 @@ use Rattle.std.specs.FinMap.{FinMap, IsAntisymmetric, empty, empty_of_len, entri
 use Rattle.keyed.specs.Table.{emptied, flat, has_slot, row_at, with_slot}
 use Rattle.keyed.proofs.Tables.{has_slot-insert, has_slot-with_slot}
 use Rattle.ns_types.specs.State.Names.{Name, Key, ByName, ByNumber, name_cmp, same_key, same_name, same_number}
-use Rattle.ns_types.proofs.Named.{names, numbers, one_name, one_number, same_key_is, same_name_refl}
+use Rattle.ns_types.proofs.Named.{first_of_both, names, numbers, one_name, one_number, same_key_is, same_name_refl, second_of_both}
 use Rattle.ns_types.proofs.Tables.{tied}
 use Rattle.keyed.specs.Levels.{Adds, Drops, Keeps, Vacates, at_name, has_key_room, holds_key, holds_number, same_at}
 use Rattle.keyed.specs.declared.key_set.KeySet.{KeySet}
@@ -109,6 +109,7 @@ module _ (m new : ByNumber (Option Unit)) (n : ℕ) where
   number_dropped e = subst (Drops holds_number has_slot same_number n m) (sym e) (record {
     held = λ k. ap is_some (row-remove numbers m n k) ∙ by k (same_number k n);
     room = λ k apart h. subst IsTrue (sym (slot-remove numbers m n k apart)) h;
+    gone = λ k t. ap is_some (get-remove numbers m n k ∙ ap (λ b. cond b None (get m k)) t);
   })
     where
       by : (k : ℕ) (b : Bool) → is_some (cond b None (row_at m k)) ≡ (not b && is_some (row_at m k))
@@ -230,7 +231,12 @@ module _ {S I A : Type 0} (table : S → ByName (Option I)) (holds has_room : I 
             room q h false t = subst IsTrue (sym (put_apart table has_room old new k after e q t)) h
 
         pub drops_at : Drops holds has_room same a before after → Drops held_at room_at (same_at same) (k, a) old new
-        drops_at dropped = record { held = λ q. held q (same_name q.0 k) refl; room = λ q apart h. room q apart h (same_name q.0 k) refl }
+        drops_at dropped = record {
+          held = λ q. held q (same_name q.0 k) refl;
+          room = λ q apart h. room q apart h (same_name q.0 k) refl;
+          gone = λ q t. put_here table has_room old new k after e q (first_of_both (same_name q.0 k) (same q.1 a) t)
+              ∙ dropped.gone q.1 (second_of_both (same_name q.0 k) (same q.1 a) t);
+        }
           where
             held : (q : Name × A) (b : Bool) → same_name q.0 k ≡ b → held_at new q ≡ (not (same_name q.0 k && same q.1 a) && held_at old q)
             held q true t = put_here table holds old new k after e q t ∙ dropped.held q.1
@@ -250,6 +256,7 @@ module _ {S I A : Type 0} (table : S → ByName (Option I)) (holds has_room : I 
   drops_all old left new k a same dropped after is nothing no_room e = record {
     held = λ q. held q (same_name q.0 k) refl ∙ dropped.held q;
     room = λ q apart h. room q (dropped.room q apart h) (same_name q.0 k) refl;
+    gone = λ q t. gone_here table has_room left new k e q (first_of_both (same_name q.0 k) (same q.1 a) t);
   }
     where
       held : (q : Name × A) (b : Bool) → same_name q.0 k ≡ b → held_at new q ≡ held_at left q
@@ -262,7 +269,12 @@ module _ {S I A : Type 0} (table : S → ByName (Option I)) (holds has_room : I 
 
   -- where there is no set, nothing goes
   pub drops_none : (s : S) (k : Name) (a : A) (same : A → A → Bool) → row_at (table s) k ≡ None → Drops held_at room_at (same_at same) (k, a) s s
-  drops_none s k a same none = record { held = λ q. held q (same_name q.0 k) refl; room = λ q apart h. h }
+  drops_none s k a same none = record {
+    held = λ q. held q (same_name q.0 k) refl;
+    room = λ q apart h. h;
+    gone = λ q t. at_row table has_room s q None
+        (ap (row_at (table s)) (tied one_name q.0 k (first_of_both (same_name q.0 k) (same q.1 a) t)) ∙ none);
+  }
     where
       held : (q : Name × A) (b : Bool) → same_name q.0 k ≡ b → held_at s q ≡ (not (same_name q.0 k && same q.1 a) && held_at s q)
       held q true t = nothing ∙ sym (by (not (same_name q.0 k && same q.1 a)) ∙ refl)

@@ -1,6 +1,6 @@
 -- Sets of keys in levels: a table by name of smaller sets, and in the end a table by number. A set says of each key
 -- whether it is held, and whether there is room for it.
-use Rattle.std.specs.Prelude.{◌≡◌, ℕ, Bool, false, not, ◌&&◌, ◌||◌, IsTrue, Option, is_some}
+use Rattle.std.specs.Prelude.{◌≡◌, ℕ, Bool, true, false, not, ◌&&◌, ◌||◌, IsTrue, Option, is_some}
 use Rattle.std.specs.Option.{option_map_or}
 use Rattle.keyed.specs.Table.{has_slot, row_at}
 use Rattle.ns_types.specs.State.Names.{Name, Key, ByName, ByNumber, same_name}
@@ -28,10 +28,11 @@ module _ {I A : Type 0} (holds has_room : I → A → Bool) where
     pub held : (key : A) → holds new key ≡ (same key added || holds old key)
     pub room : (key : A) → IsTrue (has_room old key) → IsTrue (has_room new key)
 
-  -- one key less, and no less room for others
+  -- one key less, and no room for it, but no less for others
   pub record Drops (same : A → A → Bool) (dropped : A) (old new : I) : Type 0 where
     pub held : (key : A) → holds new key ≡ (not (same key dropped) && holds old key)
     pub room : (key : A) → same key dropped ≡ false → IsTrue (has_room old key) → IsTrue (has_room new key)
+    pub gone : (key : A) → same key dropped ≡ true → has_room new key ≡ false
 
   -- one key less, and no less room for it either
   pub record Vacates (same : A → A → Bool) (dropped : A) (old new : I) : Type 0 where

@@ -92,7 +92,7 @@ impl KeySet {
         }
     }
 
-    /// Holds the key no longer. It takes no memory.
+    /// Holds the key no longer, and has no room for it. It takes no memory.
     pub fn remove(&mut self, name: &Text, number: u64)
         ensures { Drops holds_key has_key_room same_key (name.now, number) self.old self.new }
     {
@@ -116,7 +116,9 @@ impl KeySet {
 
     /// Takes the room for the key away again, unless it holds the key.
     pub fn clear(&mut self, name: &Text, number: u64)
-        ensures { (key : Key) → holds_key self.new key ≡ holds_key self.old key }
+        ensures held { (key : Key) → holds_key self.new key ≡ holds_key self.old key }
+        ensures room { IsTrue (has_key_room self.new (name.now, number))
+            → IsTrue (holds_key self.new (name.now, number)) }
     {
         if !self.has(name, number) {
             self.remove(name, number);

@@ -2,4 +2,4 @@ use Rattle.std.proofs.Common.{◌∙◌}
 use Rattle.keyed.proofs.key_queue.clear_all.Goals as goal
 
 pub loop-key-preserved : goal.loop-key-preserved
-loop-key-preserved c q = c.clear.ensures q ∙ c.loop-key.invariant q
+loop-key-preserved c q = c.clear.ensures.held q ∙ c.loop-key.invariant q

@@ -7,7 +7,7 @@ use Rattle.ns_world.proofs.evaluations.EvaluationTable.clear_slot.Goals as goal
 
 pub invariant_of-self : goal.invariant_of-self
 invariant_of-self c = still_indexed c.self.inside.by_job c.clear.new.self c.self.inside.slots c.clear_slot.new.self c.self.invariant
-    (λ key t. c.clear.ensures key ∙ t)
+    (λ key t. c.clear.ensures.held key ∙ t)
     (ap rows c.clear_slot.ensures ∙ rows-without_vacant numbers one_number c.self.inside.slots c.args.slot.now.0)
 
 pub invariant_of-self-in_default : goal.invariant_of-self-in_default
