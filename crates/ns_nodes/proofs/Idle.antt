@@ -33,7 +33,7 @@ use Rattle.ns_world.specs.declared.tables.Tables.{Tables}
 use Rattle.ns_world.specs.World.{world_of}
 
 module _ (w : World) (pool name : Name) (idle : IsIdle w pool name) where
-  pub none_loses : (ns : Name) (t : Tenant) → get w.tenants ns ≡ Some t → losing_jobs pool name t ≡ []
+  none_loses : (ns : Name) (t : Tenant) → get w.tenants ns ≡ Some t → losing_jobs pool name t ≡ []
   none_loses ns t at = ap (λ rows. values (from_entries {R = name_cmp} (map (λ (a : ℕ × Allocation). (a.1.job, a.1)) rows)))
       (filter_no_row numbers one_number (λ _ a. is_live_on pool name a) t.allocations (λ n a row. idle ns t n a at row))
       ∙ ap (map (λ (e : Name × Allocation). e.1)) (entries_empty names one_name)

@@ -9,7 +9,8 @@ use Rattle.std.proofs.lemmas.List.Folds.{flat_map-map}
 use Rattle.std.specs.List.{list_any}
 use Rattle.std.specs.Option.{option_or}
 use Rattle.std.specs.Ordering.{eq_by_cmp}
-use Rattle.std.specs.FinMap.{FinMap, contains_key, empty, entries, find, from_entries, get, get-empty, get-from_entries, get-insert, insert, len, len-empty, len-entries, len-insert}
+use Rattle.std.specs.FinMap.{FinMap, contains_key, empty, entries, find, from_entries, get}
+use Rattle.std.specs.FinMap.{get-empty, get-from_entries, get-insert, insert, len, len-empty, len-entries, len-insert}
 use Rattle.std.specs.FinMap.{same_map, values}
 use Rattle.keyed.specs.Table.{has_slot, row_list, rows, with_slot}
 use Rattle.keyed.proofs.Tables.{entries-rows}
@@ -24,7 +25,8 @@ use Rattle.ns_types.proofs.Elements.{map_map}
 use Rattle.ns_types.proofs.Lists.{not_both}
 use Rattle.ns_types.proofs.Named.{names, one_name}
 use Rattle.ns_types.proofs.Tables.{entries-table_of, get-table_of, tied}
-use Rattle.ns_nodes.specs.Losing.{is_last_of_job, is_losing, key_at, losing_keys, losing_keys_at, losing_keys_in, losing_rows, numbers_pass, numbers_pass_at, numbers_pass_in, with_losing}
+use Rattle.ns_nodes.specs.Losing.{is_last_of_job, is_losing, key_at, losing_keys, losing_keys_at}
+use Rattle.ns_nodes.specs.Losing.{losing_keys_in, losing_rows, numbers_pass, numbers_pass_at, numbers_pass_in, with_losing}
 use Rattle.ns_world.specs.declared.tables.Tables.{Tables}
 use Rattle.ns_world.specs.declared.tables.TenantRows.{TenantRows}
 use Rattle.ns_world.specs.World.{tenant_of, world_of}
@@ -110,7 +112,8 @@ module _ (pool node : Name) where
       one_more true n = refl
       one_more false n = refl
 
-      by : (b : Bool) → len (from_entries {R = name_cmp} (map (λ a. (a.1.job, a)) (cond b ((n, a) ∷ filter lives (row_list later)) (filter lives (row_list later)))))
+      by : (b : Bool) → len (from_entries {R = name_cmp} (map (λ a. (a.1.job, a)) (cond b ((n, a) ∷ filter lives (row_list later)) (filter lives
+          (row_list later)))))
           ≡ cond (b && not (list_any (is_losing pool node a.job) later)) (len (firsts later) + 1) (len (firsts later))
       by true = len-insert names (firsts later) a.job (n, a)
           ∙ ap (λ c. cond c (len (firsts later)) (len (firsts later) + 1))
@@ -225,6 +228,7 @@ module _ (pool node : Name) where
   pub keys_are : (t : Tables) → flat_map (losing_keys_at pool node) (entries t.tenants) ≡ losing_keys pool node (world_of t)
   unfolding world_of
   keys_are t = keys_by_slots (entries t.tenants)
-      ∙ sym (flat_map-map (λ (e : Name × Tenant). losing_keys_in pool node e.0 e.1) (λ (e : Name × TenantRows). (e.0, tenant_of e.1)) (row_list (entries t.tenants)))
+      ∙ sym (flat_map-map (λ (e : Name × Tenant). losing_keys_in pool node e.0 e.1) (λ (e : Name × TenantRows). (e.0, tenant_of e.1)) (row_list
+          (entries t.tenants)))
       ∙ ap (flat_map (λ (e : Name × Tenant). losing_keys_in pool node e.0 e.1)) (sym (entries-table_of (λ _ x. tenant_of x) (rows t.tenants)
       ∙ ap (map (λ (e : Name × TenantRows). (e.0, tenant_of e.1))) (entries-rows t.tenants)))

@@ -26,17 +26,9 @@ use Rattle.ns_types.proofs.Queue.{queues_keep}
 use Rattle.ns_types.proofs.Tables.{any_row-none, get-map_rows, none_of_any}
 use Rattle.ns_types.proofs.Tests.{not_Some, same_Some}
 use Rattle.ns_change.specs.Changed.{change_pool}
-use Rattle.ns_types.specs.declared.refusal.Refusal.{Refusal}
-use Rattle.ns_change.specs.Prepared.{bounded}
-use Rattle.ns_change.proofs.Bounded.{done_still, still_refused}
-use Rattle.ns_world.specs.declared.tables.Tables.{Tables}
-use Rattle.ns_world.specs.World.{world_of}
-use Rattle.ns_nodes.specs.Idle.{IsIdle}
-use Rattle.ns_nodes.proofs.Idle.{idle_down, none_down, none_loses}
-use Rattle.ns_nodes.proofs.Within.{freed_past}
-use Rattle.ns_nodes.specs.Losing.{IdleDownIsBounded, NumbersAreSettled, down, losing_keys, numbers_pass, numbers_pass_in}
+use Rattle.ns_nodes.specs.Losing.{NumbersAreSettled, losing_keys, numbers_pass, numbers_pass_in}
 use Rattle.ns_nodes.proofs.Asked.{no_node}
-use Rattle.ns_nodes.proofs.Down.{down_node, enough, goes, not_there, pool_alone}
+use Rattle.ns_nodes.proofs.Down.{down_node, goes, pool_alone}
 use Rattle.ns_nodes.proofs.Renewed.{all_rows, get_made, keys_counted, keys_in, keys_of, losses_are, lost_tenant, made_at, renewal}
 
 -- ---- the number of a namespace's last evaluation
@@ -165,30 +157,3 @@ settled_numbers w pool node content x few asked = by (node_at w pool node) refl
     by None is = not_both (ap is_done asked) (nothing_done w pool node is)
     by (Some row) is = subst (λ x. is_past_bound (settle w x) ≡ true) (ap (world_or w) (sym (goes w pool node row is) ∙ asked))
         (past w pool node (change_pool pool (down_node w pool node row) w) (pool_alone pool (down_node w pool node row) w) few)
-
--- ---- a node without live allocations
-
-module _ (t : Tables) (pool node : Name) (within : is_past_bound (world_of t) ≡ false) (idle : IsIdle (world_of t) pool node) where
-  numbers_enough : numbers_pass pool node (world_of t) ≡ false
-  unfolding is_past_bound
-  numbers_enough = any_row-none names one_name (λ _ x. numbers_pass_in pool node x) (world_of t).tenants (λ ns x at.
-      ap (λ (l : List Allocation). nat_lt greatest (x.evaluation_number + length l)) (none_loses (world_of t) pool node idle ns x at)
-      ∙ ap (nat_lt greatest) (plus_none x.evaluation_number)
-      ∙ right_none (nat_lt greatest x.index) _ (left_none _ (nat_lt greatest x.allocation_number)
-      (none_of_any one_name (λ _ t. is_tenant_past_bound t) (world_of t).tenants ns x (left_none _ _ (left_none _ _ within)) at)))
-    where
-      plus_none : (n : ℕ) → n + 0 ≡ n
-      plus_none n = omega arith
-
-  pub idle_is : down pool node (world_of t) ≡ bounded (world_of t) (ask_pool pool (NodeCommand.SetStatus node NodeStatus.Down) (world_of t))
-  idle_is = by (node_at (world_of t) pool node) refl
-    where
-      by : (o : Option Node) → node_at (world_of t) pool node ≡ o →
-          down pool node (world_of t) ≡ bounded (world_of t) (ask_pool pool (NodeCommand.SetStatus node NodeStatus.Down) (world_of t))
-      by None is = not_there (world_of t) pool node is ∙ sym (still_refused (world_of t) _ Refusal.NotFound (none_down (world_of t) pool node idle is))
-      by (Some row) is = enough (world_of t) pool node row is numbers_enough ∙ sym (goes (world_of t) pool node row is) ∙ idle_down (world_of t) pool node idle row is
-          ∙ sym (done_still (world_of t) _ Content.Written (change_pool pool (with_node node (record row { status = NodeStatus.Down })) (world_of t))
-          (idle_down (world_of t) pool node idle row is) (freed_past t pool node within row is (record row { status = NodeStatus.Down }) refl refl))
-
-pub idle_down_is : IdleDownIsBounded
-idle_down_is t pool node within idle = idle_is t pool node within idle

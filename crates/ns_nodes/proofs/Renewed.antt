@@ -172,7 +172,8 @@ module _ (pool node : Name) where
           ∙ ap (λ m. option_map (λ (t : Tenant). t.jobs) (get m ns)) same
         where
           by : (o : Option Tenant) → option_map (λ (t : Tenant). t.jobs)
-              (option_map (λ (t : Tenant). record t { allocations = map_rows (λ _ a. lost pool node a) t.allocations }) o) ≡ option_map (λ (t : Tenant). t.jobs) o
+              (option_map (λ (t : Tenant). record t { allocations = map_rows (λ _ a. lost pool node a) t.allocations }) o)
+                  ≡ option_map (λ (t : Tenant). t.jobs) o
           by None = refl
           by (Some t) = refl
 
@@ -193,10 +194,12 @@ module _ (w : World) where
       (same_name_refl key.0) (has key.0 t at) in
       omega arith
 
-  made_left : (x : World) (key : Key) (keys : List Key) (evaluation : Tenant → Evaluation) → HasNumbers x (key ∷ keys) → HasNumbers (make key.0 evaluation x) keys
+  made_left : (x : World) (key : Key) (keys : List Key) (evaluation : Tenant → Evaluation) → HasNumbers x (key ∷ keys) →
+      HasNumbers (make key.0 evaluation x) keys
   made_left x key keys evaluation has ns z at = by (get x.tenants ns) refl (sym (get_made key.0 evaluation x ns) ∙ at)
     where
-      one : (t : Tenant) (b : Bool) → t.evaluation_number + length (cond b (key ∷ filter (λ k. same_name ns k.0) keys) (filter (λ k. same_name ns k.0) keys)) < 2 ^ 64
+      one : (t : Tenant) (b : Bool) → t.evaluation_number + length (cond b (key ∷ filter (λ k. same_name ns k.0) keys) (filter
+          (λ k. same_name ns k.0) keys)) < 2 ^ 64
           → (cond b (with_evaluation (evaluation t) t) t).evaluation_number + keys_in ns keys < 2 ^ 64
       one t true h = omega arith
       one t false h = h
@@ -252,7 +255,8 @@ module _ (pool node : Name) (w : World) where
 
       none_own : (e : Name × Tenant) → same_name ns e.0 ≡ false → filter (λ (key : Key). same_name ns key.0) (losing_keys_in pool node e.0 e.1) ≡ []
       none_own e other = filter_none (λ (key : Key). same_name ns key.0) (losing_keys_in pool node e.0 e.1)
-          (each_mapped (λ (key : Key). same_name ns key.0 ≡ false) (λ a. (e.0, a.0)) (losing_rows pool node e.1) (each _ (λ _. other) (losing_rows pool node e.1)))
+          (each_mapped (λ (key : Key). same_name ns key.0 ≡ false) (λ a. (e.0, a.0)) (losing_rows pool node e.1) (each _ (λ _. other)
+              (losing_rows pool node e.1)))
 
   -- where no number passes, each of them can be given
   pub numbers_left : numbers_pass pool node w ≡ false → (x : World) → x.tenants ≡ w.tenants → CanRenew w (lose pool node x) (losing_keys pool node w)
