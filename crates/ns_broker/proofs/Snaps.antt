@@ -114,7 +114,8 @@ module _ (number : ℕ) (ns : Name) (w : World) (content : Content) (x : World) 
 
   -- no reply shows it, so it settles as it is
   pub snap_settles : is_past_bound w ≡ false → settle w x ≡ x
-  snap_settles within = looks _ (λ t at worker has e there done. let seen = with_worker number (with_snapshot (snapshot_of w ns t worker.evaluation e) worker) t in
+  snap_settles within = looks _ (λ t at worker has e there done.
+      let seen = with_worker number (with_snapshot (snapshot_of w ns t worker.evaluation e) worker) t in
       subst (λ x. settle w x ≡ x) (ap (world_or w) done) (settles_unseen w (put_tenant ns seen w) ns t seen within at refl refl refl refl (untouched t)))
 
   -- the number that is answered is that of the snapshot

@@ -15,7 +15,6 @@ mod stopping;
 mod usage;
 
 pub use deregistration::deregister;
-pub use ns_change::copied_allocation;
 pub use reading::read;
 pub use registration::register;
 pub use stopping::stop_allocation;

@@ -7,7 +7,7 @@ ghost use Rattle.ns_snapshot.specs.Seen.{is_own, own_at};
 ghost use Rattle.ns_world.specs.World.{tenant_of};
 
 use ns_alike::{same_number, same_text};
-use ns_jobs::copied_allocation;
+use ns_change::copied_allocation;
 use ns_types::allocation::{Allocation, ClientStatus, DesiredStatus};
 use ns_types::job::{Job, JobKind};
 use ns_types::rows::Rows;

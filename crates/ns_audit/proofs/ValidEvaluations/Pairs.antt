@@ -160,7 +160,8 @@ module _ {X : Type 0} where
           → (c : Bool) → eq_by_cmp nat_cmp m e.0 ≡ c → cond c (Some e.1) (find nat_cmp m es) ≡ Some v → (d : Bool) → eq_by_cmp nat_cmp n e.0 ≡ d →
           cond d (Some e.1) (find nat_cmp n es) ≡ Some w → (m ≡ n) ⊎ Q (m, v) (n, w)
       by later true s a true t b = inl (tied one_number m e.0 s ∙ sym (tied one_number n e.0 t))
-      by later true s a false t b = inr (subst (λ x. Q x (n, w)) (λ i. (sym (tied one_number m e.0 s) i, same_Some e.1 v a i)) (each_found one_number (Q e) es h.0 n w b))
+      by later true s a false t b = inr (subst (λ x. Q x (n, w)) (λ i. (sym (tied one_number m e.0 s) i, same_Some e.1 v a i))
+          (each_found one_number (Q e) es h.0 n w b))
       by later false s a true t b = inr (turn (n, w) (m, v)
           (subst (λ x. Q x (m, v)) (λ i. (sym (tied one_number n e.0 t) i, same_Some e.1 w b i)) (each_found one_number (Q e) es h.0 m v a)))
       by later false s a false t b = later a b

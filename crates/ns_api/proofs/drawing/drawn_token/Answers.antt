@@ -28,7 +28,8 @@ made draws bearer token old new first second accessor secret a s two = (
 
 pub returns-clause-drawn : goal.returns-clause-drawn
 returns-clause-drawn g c =
-    rw c.with_texts.ensures (made g.D.Draws.draws c.args.bearer (new_token c.args.token) c.args.draws.now c.draw-second.new.self c.draw-first.result c.draw-second.result
+    rw c.with_texts.ensures (made g.D.Draws.draws c.args.bearer (new_token c.args.token) c.args.draws.now c.draw-second.new.self
+    c.draw-first.result c.draw-second.result
     c.in_ok-accessor.accessor c.in_ok-secret.secret c.in_ok-accessor.ensures.text c.in_ok-secret.ensures.text
     (record {
       between = c.draw-first.new.self;

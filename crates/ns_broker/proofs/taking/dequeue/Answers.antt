@@ -31,5 +31,6 @@ returns c =
     (c.prepare.ensures c.args.tables.now (take c.args.number key c.in-Some-evaluation.row.now w)
     (done_as _ c.args.tables.now c.take-made.new.change _ _
     (ap (take c.args.number key c.in-Some-evaluation.row.now) (c.new-change.ensures c.args.tables.now))
-    (subst (λ (k : Key). Does c.take-made.result c.args.tables.now c.new-change.result c.take-made.new.change (take c.args.number k c.in-Some-evaluation.row.now))
+    (subst (λ (k : Key). Does c.take-made.result c.args.tables.now c.new-change.result c.take-made.new.change
+    (take c.args.number k c.in-Some-evaluation.row.now))
     through.1 c.take-made.ensures)))

@@ -9,7 +9,8 @@ loop-slot-init c = none_cleared numbers one_number c.args.table.now.slots c.args
 
 pub loop-slot-preserved : goal.loop-slot-preserved
 loop-slot-preserved c = one_cleared numbers one_number c.loop-slot.table.slots c.clear_slot.new.self.slots c.args.table.now.slots c.args.changes.now
-    c.slot-item.result _ _ (from_here c.as_slice-slot-items.result.now c.loop-slot.slot-index c.slot-item.result c.loop-slot-test.true c.slot-item.is) c.clear_slot.ensures
+    c.slot-item.result _ _ (from_here c.as_slice-slot-items.result.now c.loop-slot.slot-index c.slot-item.result c.loop-slot-test.true c.slot-item.is)
+    c.clear_slot.ensures
     c.loop-slot.invariant
 
 pub returns-clause-cleared : goal.returns-clause-cleared
