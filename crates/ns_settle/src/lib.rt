@@ -20,4 +20,3 @@ mod stamping;
 pub use finishing::settle;
 pub use full::is_past_bound;
 pub use given::given_room_passes;
-pub use giving::gives_itself;

@@ -142,8 +142,14 @@ fn registers(
 ) -> Result<bool, AllocError>
     requires { IsTrue (is_name NameKind.Node node.now) }
 {
-    let large = Resources { cpu: 400, memory: 500 };
-    let small = Resources { cpu: 200, memory: 100 };
+    let large = Resources {
+        cpu: 400,
+        memory: 500,
+    };
+    let small = Resources {
+        cpu: 200,
+        memory: 100,
+    };
     let mut right = lists(core, root, pool, None);
     right &= answer(core, Some(root), pool, registration(alloc, node, large)?).is_none();
     right &= lists(core, root, pool, Some((400, 0, NodeStatus::Ready, true)));
@@ -165,8 +171,7 @@ fn marks(core: &mut Core, root: &Text, pool: &Text, node: &Text) -> Result<bool,
 
 /// It goes once it is down, and then it is not there.
 fn removes(core: &mut Core, root: &Text, pool: &Text, node: &Text) -> Result<bool, AllocError> {
-    let mut right =
-        answer(core, Some(root), pool, removal(node)?) == Some(Refusal::InUse);
+    let mut right = answer(core, Some(root), pool, removal(node)?) == Some(Refusal::InUse);
     right &= answer(core, Some(root), pool, status(node, NodeStatus::Down)?).is_none();
     right &= answer(core, Some(root), pool, removal(node)?).is_none();
     right &= lists(core, root, pool, None);
@@ -182,11 +187,10 @@ fn refuses(
     node: &Text,
     other: &Text,
 ) -> Result<bool, AllocError> {
-    let mut right =
-        answer(core, Some(other), pool, eligibility(node, true)?) == Some(Refusal::Denied);
+    let mut right = answer(core, Some(other), pool, eligibility(node, true)?)
+        == Some(Refusal::Denied);
     right &= answer(core, None, pool, removal(node)?) == Some(Refusal::Denied);
-    right &=
-        answer(core, Some(root), other, eligibility(node, true)?) == Some(Refusal::NotFound);
+    right &= answer(core, Some(root), other, eligibility(node, true)?) == Some(Refusal::NotFound);
     right &= answer(core, Some(root), pool, status(other, NodeStatus::Ready)?)
         == Some(Refusal::NotFound);
     Ok(right)
@@ -206,7 +210,10 @@ fn tells(core: &mut Core, alloc: Global, root: &Text) -> Result<bool, AllocError
 
 fn tells_all(alloc: Global) -> Result<bool, AllocError> {
     let root = root(alloc)?;
-    holds(Core::new(alloc, &root), |core| tells(core, alloc, root.get()))
+    holds(
+        Core::new(alloc, &root),
+        |core| tells(core, alloc, root.get()),
+    )
 }
 
 // One growth refused at most: what it stopped is done once more.
