@@ -6,6 +6,8 @@ mod acl;
 #[cfg(test)]
 mod by_key;
 #[cfg(test)]
+mod down;
+#[cfg(test)]
 mod ends;
 #[cfg(test)]
 mod jobs;

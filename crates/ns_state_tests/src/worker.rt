@@ -146,7 +146,7 @@ fn has_nack_left(tables: &Tables, number: u64, namespace: &Text) -> bool
 }
 
 /// What a step answers, once it has ended.
-fn ended(tables: &mut Tables, answer: Result<Prepared, Refusal>) -> Option<Content> {
+pub(crate) fn ended(tables: &mut Tables, answer: Result<Prepared, Refusal>) -> Option<Content> {
     let Ok(prepared) = answer else {
         return None;
     };
