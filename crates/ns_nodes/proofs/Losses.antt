@@ -229,6 +229,6 @@ module _ (pool node : Name) where
   unfolding world_of
   keys_are t = keys_by_slots (entries t.tenants)
       ∙ sym (flat_map-map (λ (e : Name × Tenant). losing_keys_in pool node e.0 e.1) (λ (e : Name × TenantRows). (e.0, tenant_of e.1)) (row_list
-          (entries t.tenants)))
+      (entries t.tenants)))
       ∙ ap (flat_map (λ (e : Name × Tenant). losing_keys_in pool node e.0 e.1)) (sym (entries-table_of (λ _ x. tenant_of x) (rows t.tenants)
       ∙ ap (map (λ (e : Name × TenantRows). (e.0, tenant_of e.1))) (entries-rows t.tenants)))

@@ -173,7 +173,7 @@ module _ (pool node : Name) where
         where
           by : (o : Option Tenant) → option_map (λ (t : Tenant). t.jobs)
               (option_map (λ (t : Tenant). record t { allocations = map_rows (λ _ a. lost pool node a) t.allocations }) o)
-                  ≡ option_map (λ (t : Tenant). t.jobs) o
+              ≡ option_map (λ (t : Tenant). t.jobs) o
           by None = refl
           by (Some t) = refl
 
@@ -256,7 +256,7 @@ module _ (pool node : Name) (w : World) where
       none_own : (e : Name × Tenant) → same_name ns e.0 ≡ false → filter (λ (key : Key). same_name ns key.0) (losing_keys_in pool node e.0 e.1) ≡ []
       none_own e other = filter_none (λ (key : Key). same_name ns key.0) (losing_keys_in pool node e.0 e.1)
           (each_mapped (λ (key : Key). same_name ns key.0 ≡ false) (λ a. (e.0, a.0)) (losing_rows pool node e.1) (each _ (λ _. other)
-              (losing_rows pool node e.1)))
+          (losing_rows pool node e.1)))
 
   -- where no number passes, each of them can be given
   pub numbers_left : numbers_pass pool node w ≡ false → (x : World) → x.tenants ≡ w.tenants → CanRenew w (lose pool node x) (losing_keys pool node w)

@@ -72,6 +72,12 @@ or_none None = refl
 or_none (Some x) = refl
 
 pub joined-all : (values : Values) (left : Pairs) → left ≡ [] → joined values left ≡ values
-joined-all values left is = rw is (rw
-    (or_none values.namespace, or_none values.filter, or_none values.per_page, or_none values.next_token, or_none values.index,
-    or_none values.prefix, or_none values.purge) refl)
+joined-all values left is = rw is (rw (
+  or_none values.namespace,
+  or_none values.filter,
+  or_none values.per_page,
+  or_none values.next_token,
+  or_none values.index,
+  or_none values.prefix,
+  or_none values.purge,
+) refl)
