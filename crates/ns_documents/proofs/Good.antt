@@ -1,6 +1,6 @@
 -- What is read is within the limits.
 use Rattle.std.proofs.Common.{◌≡◌, ℕ, ◌+◌, ◌≤◌, ◌==◌, ℤ, pos, negsuc, List, [], ◌∷◌, ◌++◌, length, Bool, true, false, not, ◌&&◌, ◌||◌, nat_le, Option, Some}
-use Rattle.std.proofs.Common.{None, is_some, Ok, Err, IfOk, codes, if◌then◌else◌, refl, sym, ◌∙◌, subst, true≢false, arith, length-append, option_and_then}
+use Rattle.std.proofs.Common.{None, is_some, IfOk, codes, if◌then◌else◌, refl, sym, ◌∙◌, true≢false, arith, length-append, option_and_then}
 use Rattle.std.specs.Bool.{IsTrue}
 use Rattle.std.specs.List.{list_all, list_any}
 use Rattle.std.specs.Option.{option_map_or, is_none}
@@ -10,15 +10,13 @@ use Rattle.std.proofs.lemmas.Bool.Decides.{nat_tests}
 use Rattle.std.proofs.lemmas.List.Folds.{list_all-append}
 use Rattle.std.proofs.lemmas.Slice.Eq.{bytes_eq-Decides}
 use Rattle.serde_json.specs.Data.{Data, Items, no_items, item, Members, no_members, member}
-use Rattle.serde_json.specs.Events.{items_len}
-use Rattle.serde_json.specs.Find.{as_str, as_array, as_object, as_number, as_i64, as_u64}
+use Rattle.serde_json.specs.Find.{as_str, as_object, as_number, as_i64}
 use Rattle.ns_types.specs.declared.acl.Policy.{Policy}
 use Rattle.ns_types.specs.declared.acl.TokenKind.TheVariants as TokenKind
 use Rattle.ns_types.specs.declared.name.NameKind.{NameKind}
 use Rattle.ns_types.specs.declared.node.Attribute.{Attribute}
 use Rattle.ns_types.specs.declared.node.Offer.{Offer}
 use Rattle.ns_types.specs.declared.refusal.Member.{Member}
-use Rattle.ns_types.specs.declared.refusal.Refusal.{Refusal}
 use Rattle.ns_types.specs.declared.resources.Limit.{Limit}
 use Rattle.ns_types.specs.declared.resources.Limits.{Limits}
 use Rattle.ns_types.specs.State.Limits.{is_between, is_text, is_pool_name, is_pool_list, is_good_namespace, is_limit, is_good_quota, is_good_policy}
@@ -31,7 +29,7 @@ use Rattle.ns_types.specs.State.Resources.{limits_in, unlimited}
 use Rattle.ns_types.proofs.Lists.{left_none, right_none}
 use Rattle.ns_types.proofs.Named.{same_name_is, first_of_both, second_of_both}
 use Rattle.ns_json.specs.Reading.{◌>>=◌, Read, Gives, same, top, present, demanded, or_else, or_refuse, some, an_object, a_text, a_name, has_name, unless}
-use Rattle.ns_json.specs.Reading.{a_list, a_number, each, unless_null}
+use Rattle.ns_json.specs.Reading.{a_list, each, unless_null}
 use Rattle.ns_json.specs.Registration.{name_if_any}
 use Rattle.ns_json.proofs.Distinct.{Distinct, distinct_more, distinct_is}
 use Rattle.ns_json.proofs.Posts.{Post, post_then, post_any, post_map, post_unless, post_else, post_some, read_so, read_if}

@@ -19,7 +19,7 @@ use Rattle.std.proofs.lemmas.Bool.{or_right}
 use Rattle.ns_types.proofs.Lists.{not_both, each_map}
 use Rattle.ns_types.proofs.Named.{first_of_both, second_of_both}
 use Rattle.ns_types.proofs.Elements.{each_both}
-use Rattle.ns_laws.specs.Placement.{HasLessLeft, less_cpu, less_memory, less_name, IsBestNode, ChosenIsBest, NoneChosenOfNone}
+use Rattle.ns_laws.specs.Placement.{HasLessLeft, less_cpu, less_memory, less_name, ChosenIsBest, NoneChosenOfNone}
 use Rattle.ns_laws.specs.Placement as law
 use Rattle.ns_laws.proofs.ChoiceLemmas.{best_is, best_of_none, shortest_is, shortest_none, is_shortest}
 use Rattle.std.specs.Option.{option_map_or, option_and_then}

@@ -10,7 +10,7 @@ use Rattle.ns_types.specs.declared.reply.Content.{Content}
 use Rattle.ns_types.specs.declared.step.NodeCommand.TheVariants as NodeCommand
 use Rattle.ns_types.specs.Asking.Nodes.{ask_pool, go_down}
 use Rattle.ns_types.specs.Settling.Making.{put_pool, with_node}
-use Rattle.ns_types.specs.Settling.Outcome.{Outcome, Done, Refused, found, unless}
+use Rattle.ns_types.specs.Settling.Outcome.{Done, Refused, found, unless}
 use Rattle.ns_types.specs.State.Names.{Name}
 use Rattle.ns_types.specs.State.Rows.{World, PoolRows, node_at}
 use Rattle.ns_types.proofs.Lists.{not_both}

@@ -8,8 +8,7 @@ use Rattle.std.proofs.lemmas.List.Concat.{flat_map_single}
 use Rattle.std.proofs.lemmas.List.Folds.{flat_map-map}
 use Rattle.std.specs.List.{list_any}
 use Rattle.std.specs.Option.{option_or}
-use Rattle.std.specs.Ordering.{eq_by_cmp}
-use Rattle.std.specs.FinMap.{FinMap, contains_key, empty, entries, find, from_entries, get}
+use Rattle.std.specs.FinMap.{empty, entries, find, from_entries, get}
 use Rattle.std.specs.FinMap.{get-empty, get-from_entries, get-insert, insert, len, len-empty, len-entries, len-insert}
 use Rattle.std.specs.FinMap.{same_map, values}
 use Rattle.keyed.specs.Table.{has_slot, row_list, rows, with_slot}

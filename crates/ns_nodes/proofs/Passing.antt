@@ -1,8 +1,8 @@
 -- A node that goes down, where a namespace has too few numbers for its evaluations: the settled step is past its bound.
-use Rattle.std.specs.Prelude.{◌≡◌, ℕ, ◌+◌, Bool, true, false, cond, ◌||◌, List, [], ◌∷◌, Option, Some, None, filter, fold, length, map, nat_lt, option_map}
+use Rattle.std.specs.Prelude.{◌≡◌, ℕ, ◌+◌, Bool, true, false, cond, List, [], ◌∷◌, Option, Some, None, filter, fold, length, nat_lt, option_map}
 use Rattle.std.proofs.Common.{refl, sym, ap, subst, arith, ◌∙◌}
 use Rattle.std.proofs.lemmas.List.{length-map}
-use Rattle.std.specs.FinMap.{entries, get}
+use Rattle.std.specs.FinMap.{get}
 use Rattle.ns_types.specs.declared.allocation.Allocation.{Allocation}
 use Rattle.ns_types.specs.declared.evaluation.Trigger.TheVariants as Trigger
 use Rattle.ns_types.specs.declared.node.Node.{Node}
@@ -16,9 +16,8 @@ use Rattle.ns_types.specs.Settling.Releases.{woken}
 use Rattle.ns_types.specs.Settling.Settle.{is_touched, number_releases, settle, stamp, stamp_tenant, stamped, unblocked_in, wake}
 use Rattle.ns_types.specs.State.Names.{Key, Name, same_name}
 use Rattle.ns_types.specs.State.Rows.{World, PoolRows, Tenant, node_at}
-use Rattle.ns_types.specs.State.Tables.{any_row, map_rows}
-use Rattle.ns_types.specs.Steps.{greatest, is_past_bound, is_pool_past_bound, is_tenant_past_bound}
-use Rattle.ns_types.specs.Working.Queue.{queue}
+use Rattle.ns_types.specs.State.Tables.{map_rows}
+use Rattle.ns_types.specs.Steps.{greatest, is_past_bound, is_tenant_past_bound}
 use Rattle.ns_types.proofs.Elements.{filter_map}
 use Rattle.ns_types.proofs.Lists.{left_none, not_both, right_none}
 use Rattle.ns_types.proofs.Named.{names, one_name}
@@ -26,7 +25,7 @@ use Rattle.ns_types.proofs.Queue.{queues_keep}
 use Rattle.ns_types.proofs.Tables.{any_row-none, get-map_rows, none_of_any}
 use Rattle.ns_types.proofs.Tests.{not_Some, same_Some}
 use Rattle.ns_change.specs.Changed.{change_pool}
-use Rattle.ns_nodes.specs.Losing.{NumbersAreSettled, losing_keys, numbers_pass, numbers_pass_in}
+use Rattle.ns_nodes.specs.Losing.{NumbersAreSettled, numbers_pass, numbers_pass_in}
 use Rattle.ns_nodes.proofs.Asked.{no_node}
 use Rattle.ns_nodes.proofs.Down.{down_node, goes, pool_alone}
 use Rattle.ns_nodes.proofs.Renewed.{all_rows, get_made, keys_counted, keys_in, keys_of, losses_are, lost_tenant, made_at, renewal}

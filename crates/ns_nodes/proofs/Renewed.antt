@@ -1,10 +1,10 @@
 -- Evaluations that are made one after the other, of the jobs that lose an allocation with a node.
 use Rattle.std.specs.Prelude.{◌≡◌, ℕ, ◌+◌, ◌<◌, ◌^◌, Bool, true, false, cond, List, [], ◌∷◌, ◌++◌, Option, Some, None, filter, flat_map, fold}
-use Rattle.std.specs.Prelude.{length, map, nat_lt, option_map}
+use Rattle.std.specs.Prelude.{length, map, option_map}
 use Rattle.std.proofs.Common.{refl, sym, ap, subst, ◌∙◌, arith}
 use Rattle.std.proofs.lemmas.List.{length-map, map-append}
 use Rattle.std.specs.Option.{option_map_or}
-use Rattle.std.specs.FinMap.{entries, from_entries, get, get-entries, get-from_entries, get-insert, values}
+use Rattle.std.specs.FinMap.{entries, from_entries, get, get-from_entries, get-insert}
 use Rattle.ns_types.specs.declared.allocation.Allocation.{Allocation}
 use Rattle.ns_types.specs.declared.evaluation.Evaluation.{Evaluation}
 use Rattle.ns_types.specs.declared.evaluation.Trigger.TheVariants as Trigger
@@ -13,14 +13,13 @@ use Rattle.ns_types.specs.declared.job.JobKind.TheVariants as JobKind
 use Rattle.ns_types.specs.Asking.Nodes.{go_down, losing_jobs, losses, lose, lost}
 use Rattle.ns_types.specs.Settling.Making.{evaluation_for, evaluation_of, make, make_in, new_evaluation, put_tenant, with_evaluation}
 use Rattle.ns_types.specs.State.Lists.{Each}
-use Rattle.ns_types.specs.State.Names.{Name, Key, ByName, name_cmp, same_name}
+use Rattle.ns_types.specs.State.Names.{Name, Key, name_cmp, same_name}
 use Rattle.ns_types.specs.State.Rows.{World, Tenant, is_live_on}
-use Rattle.ns_types.specs.State.Tables.{any_row, map_rows}
-use Rattle.ns_types.specs.Steps.{greatest}
+use Rattle.ns_types.specs.State.Tables.{map_rows}
 use Rattle.ns_types.specs.Working.Queue.{queue}
 use Rattle.ns_types.proofs.Elements.{each_flat, each_mapped, each_still, found_of, map_map}
 use Rattle.ns_types.proofs.Lists.{each, filter_all, filter_flat_map, filter_none}
-use Rattle.ns_types.proofs.Named.{names, numbers, one_name, one_number, same_name_is, same_name_refl}
+use Rattle.ns_types.proofs.Named.{names, numbers, one_name, one_number, same_name_refl}
 use Rattle.ns_types.proofs.Queue.{queue_keeps}
 use Rattle.ns_types.proofs.TableRows.{filter_one_row, turned}
 use Rattle.ns_types.proofs.Tables.{each_row, get-map_rows, none_of_any, tied}

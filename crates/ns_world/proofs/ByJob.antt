@@ -1,11 +1,9 @@
 -- Evaluations by number and the numbers of each job.
-use Rattle.std.specs.Prelude.{◌≡◌, ℕ, true, false, Bool, cond, ◌||◌, IsTrue, List, [], ◌∷◌, Option, Some, None, is_some, unwrap_or}
-use Rattle.std.specs.Prelude.{Result, Ok, Err, OnOk}
+use Rattle.std.specs.Prelude.{◌≡◌, ℕ, true, false, Bool, ◌||◌, IsTrue, List, [], ◌∷◌, Option, Some, None, is_some, unwrap_or}
 use Rattle.std.proofs.Common.{refl, sym, ap, subst, ◌∙◌}
-use Rattle.std.specs.Ordering.{eq_by_cmp, nat_cmp}
+use Rattle.std.specs.Ordering.{nat_cmp}
 use Rattle.std.specs.Option.{option_map_or}
-use Rattle.std.specs.FinMap.{FinMap, contains_key, empty, entries, get, get-empty, get-entries}
-use Rattle.std.specs.FinMap.Entries.{find}
+use Rattle.std.specs.FinMap.{empty, entries, get, get-empty, get-entries}
 use Rattle.keyed.proofs.Over.{get-over}
 use Rattle.keyed.proofs.Tables.{get-rows}
 use Rattle.keyed.specs.Levels.{Adds, Keeps, holds_key, holds_number, has_key_room}
@@ -15,9 +13,9 @@ use Rattle.keyed.specs.declared.key_set.KeySet.{KeySet}
 use Rattle.ns_types.proofs.Elements.{each_found}
 use Rattle.ns_types.proofs.Lists.{each_map, not_both}
 use Rattle.ns_types.proofs.Named.{numbers, one_number, same_key_refl}
-use Rattle.ns_types.proofs.Tables.{each_row, tied}
+use Rattle.ns_types.proofs.Tables.{each_row}
 use Rattle.ns_types.specs.State.Lists.{Each}
-use Rattle.ns_types.specs.State.Names.{ByNumber, Key, Name, same_key, same_number}
+use Rattle.ns_types.specs.State.Names.{ByNumber, Key, Name, same_key}
 use Rattle.ns_types.specs.declared.evaluation.Evaluation.{Evaluation}
 use Rattle.ns_world.specs.Evaluations.{HasJobRoom, HasNumbersOf, IsIndexOf}
 

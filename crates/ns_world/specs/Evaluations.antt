@@ -5,8 +5,7 @@ use Rattle.keyed.specs.Levels.{holds_key, holds_number, has_key_room}
 use Rattle.keyed.specs.Over.{HasRoomFor}
 use Rattle.keyed.specs.Table.{row_at}
 use Rattle.keyed.specs.declared.key_set.KeySet.{KeySet}
-use Rattle.ns_types.specs.State.Lists.{Each}
-use Rattle.ns_types.specs.State.Names.{ByNumber, Key, Name}
+use Rattle.ns_types.specs.State.Names.{ByNumber, Name}
 use Rattle.ns_types.specs.declared.evaluation.Evaluation.{Evaluation}
 
 pub record EvaluationTable : Type 0 where

@@ -1,4 +1,4 @@
-use Rattle.std.specs.Prelude.{IsTrue, T}
+use Rattle.std.specs.Prelude.{IsTrue}
 use Rattle.std.proofs.Common.{subst, sym}
 use Rattle.keyed.proofs.Levels.{drops_nothing, not_true}
 use Rattle.ns_types.proofs.Named.{same_key_refl}
