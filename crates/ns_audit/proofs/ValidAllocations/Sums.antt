@@ -9,6 +9,7 @@ use Rattle.std.specs.Option.{option_map_or}
 use Rattle.std.specs.Ordering.{eq_by_cmp}
 use Rattle.ns_types.specs.State.Lists.{Each}
 use Rattle.ns_types.proofs.Lists.{not_both}
+use Rattle.ns_types.proofs.Sums.{sum_kept}
 use Rattle.ns_types.proofs.Tables.{each_row, tied}
 use Rattle.ns_types.proofs.Tests.{first, second}
 
@@ -67,13 +68,6 @@ module _ {K : Type 0} {R : K → K → Ordering} (o : IsTotalOrder R) (same : Is
     abbrev at : K → List (K × Y) → ℕ
     at k es = option_map_or (g k) (find R k es) 0
 
-    part_le : (p : K → Bool) (es : List (K × Y)) → sum (where_key R p es) ≤ sum es
-    part_le p [] = zero_le 0
-    part_le p (e ∷ es) = elim (p e.0) as (λ b. sum (cond b (e ∷ where_key R p es) (where_key R p es)) ≤ sum (e ∷ es)) [
-      | true ↦ le_sum (λ e. g e.0 e.1) e es _ (sum_le (λ e. g e.0 e.1) e (where_key R p es) _ (both_le _ _ _ _ (omega arith) (part_le p es)))
-      | false ↦ le_sum (λ e. g e.0 e.1) e es _ (later (g e.0 e.1) _ _ (part_le p es))
-    ]
-
     -- with what is counted at a key, what is counted elsewhere is no more than all
     apart : (k : K) (es : List (K × Y)) → at k es + sum (where_key R (elsewhere k) es) ≤ sum es
     apart k [] = zero_le 0
@@ -83,7 +77,7 @@ module _ {K : Type 0} {R : K → K → Ordering} (o : IsTotalOrder R) (same : Is
             → option_map_or (g k) (cond b (Some e.1) (find R k es)) 0 + sum (cond (not c) (e ∷ where_key R (elsewhere k) es) (where_key R (elsewhere k) es))
             ≤ sum (e ∷ es)
         by rest true t true u = le_sum (λ e. g e.0 e.1) e es _
-            (both_le _ _ _ _ (subst (λ q. g k e.1 ≤ g q e.1) (tied same k e.0 t) (omega arith)) (part_le (elsewhere k) es))
+            (both_le _ _ _ _ (subst (λ q. g k e.1 ≤ g q e.1) (tied same k e.0 t) (omega arith)) (sum_kept (λ e. g e.0 e.1) (λ e. elsewhere k e.0) es))
         by rest true t false u = not_both t (other e.0 k u)
         by rest false t true u = not_both u (other k e.0 t)
         by rest false t false u = le_sum (λ e. g e.0 e.1) e es _
