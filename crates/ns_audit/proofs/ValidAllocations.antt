@@ -6,6 +6,7 @@ pub mod Apply
 pub mod Sums
 pub mod Nodes
 pub mod Seen
+pub mod Countable
 pub mod Plan
 pub mod Work
 pub mod Steps

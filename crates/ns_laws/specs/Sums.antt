@@ -1,15 +1,11 @@
 -- Laws of sums: what live allocations take together stays small.
-use Rattle.std.specs.Prelude.{ℕ, ◌<◌, ◌^◌, sum_by}
+use Rattle.std.specs.Prelude.{ℕ, sum_by}
 use Rattle.std.specs.FinMap.{entries}
 use Rattle.ns_types.specs.declared.resources.Resources.{Resources}
 use Rattle.ns_types.specs.State.Names.{Name}
 use Rattle.ns_types.specs.State.Rows.{State, World, is_live}
 use Rattle.ns_types.specs.State.Sums.{tenant_sum, quota_use, node_load}
-use Rattle.ns_types.specs.Validity.{IsValid}
-
--- no resource reaches 2 ^ 55
-abbrev pub IsSmall : Resources → Type 0
-IsSmall r = (r.cpu < 2 ^ 55) × (r.memory < 2 ^ 55)
+use Rattle.ns_types.specs.Validity.{IsSmall, IsValid}
 
 -- over the live allocations of all namespaces
 unfoldable pub live_sum : World → (Resources → ℕ) → ℕ

@@ -4,12 +4,14 @@ pub mod Elements
 pub mod Ids
 pub mod Leads
 pub mod Lists
+pub mod LiveSums
 pub mod Named
 pub mod Outcomes
 pub mod Queue
 pub mod ReadingLemmas
 pub mod Registrations
 pub mod Settling
+pub mod Sums
 pub mod TableRows
 pub mod Tables
 pub mod Tests

@@ -23,6 +23,7 @@ use Rattle.ns_types.specs.Access.Sharing.{permits}
 use Rattle.ns_types.specs.State.Sums.{tenant_sum, node_sum, node_load}
 use Rattle.ns_types.specs.Validity.{IsSoundAllocation, IsLiveAt}
 use Rattle.ns_types.proofs.Named.{names, one_name, numbers as numbers_, one_number, same_name_is, same_name_refl}
+use Rattle.ns_types.proofs.Sums.{sum_part}
 use Rattle.ns_types.proofs.Tests.{not_Some, same_Some}
 use Rattle.ns_types.proofs.TableRows.{row_of_insert}
 use Rattle.ns_audit.proofs.ValidAllocations.Statement.{IsAllocated}
@@ -32,7 +33,7 @@ use Rattle.ns_audit.proofs.ValidAllocations.Sound.{NodesStay, sound_from}
 use Rattle.ns_audit.proofs.ValidAllocations.Going.{comes_same, Onward, onward_same, onward_change, onward_each, Lasts, lasts_still, lasts_then}
 use Rattle.ns_audit.proofs.ValidAllocations.Nodes.{still_at, put_here}
 use Rattle.ns_audit.proofs.ValidAllocations.Plan.{IsPartOf}
-use Rattle.ns_audit.proofs.ValidAllocations.Room.{goes_to, sum_part}
+use Rattle.ns_audit.proofs.ValidAllocations.Room.{goes_to}
 use Rattle.ns_audit.proofs.ValidAllocations.Sums.{zero_le, sum_put}
 
 -- ---- what a new allocation rests on

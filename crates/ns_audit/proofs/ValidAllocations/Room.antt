@@ -2,7 +2,6 @@
 use Rattle.std.specs.Prelude.{◌≡◌, ℕ, ◌+◌, ◌≤◌, Bool, true, false, cond, T, List, [], ◌∷◌, ◌++◌, Option, Some, None, ◌&&◌, ◌||◌, IsTrue, filter, fold}
 use Rattle.std.specs.Prelude.{slice_get, sum_by}
 use Rattle.std.proofs.Common.{◌⊎◌, inl, inr, refl, sym, ap, subst, ◌∙◌, arith}
-use Rattle.std.proofs.lemmas.List.Sums.{sum_by-cons}
 use Rattle.std.specs.Option.{option_map_or}
 use Rattle.ns_types.specs.declared.allocation.DesiredStatus.TheVariants as DesiredStatus
 use Rattle.ns_types.specs.declared.name.NameKind.TheVariants as NameKind
@@ -25,6 +24,7 @@ use Rattle.ns_types.specs.State.Rows.{World, is_ready, is_free, node_at}
 use Rattle.ns_types.specs.State.Sums.{node_load}
 use Rattle.ns_types.proofs.Lists.{not_both}
 use Rattle.ns_types.proofs.Named.{one_number, same_name_is, same_number_refl, first_of_both, second_of_both}
+use Rattle.ns_types.proofs.Sums.{none_more, sum_part}
 use Rattle.ns_types.proofs.Tables.{tied}
 use Rattle.ns_types.proofs.Elements.{each_append}
 use Rattle.ns_types.proofs.Tests.{either_of}
@@ -47,18 +47,11 @@ plus_within a b c d most h k = within_less (plus a c) (plus b d) most (both_le a
 
 -- ---- sums over parts of a list
 
-none_more : (n : ℕ) → n ≡ 0 + n
-none_more n = omega arith
-
 module _ {A : Type 0} (f : A → ℕ) where
-  pub sum_part : (a : A → Bool) (x : A) (xs : List A) → sum_by f (filter a (x ∷ xs)) ≡ cond (a x) (f x) 0 + sum_by f (filter a xs)
-  sum_part a x xs = elim (a x) as (λ u. sum_by f (cond u (x ∷ filter a xs) (filter a xs)) ≡ cond u (f x) 0 + sum_by f (filter a xs))
-      [ true ↦ sum_by-cons f x (filter a xs) | false ↦ none_more _ ]
-
   sum_parts : (a b : A → Bool) (x : A) (xs : List A) → sum_by f (filter a (filter b (x ∷ xs))) ≡ cond (b x && a x) (f x) 0 + sum_by f (filter a (filter b xs))
   sum_parts a b x xs = elim (b x) as (λ v. sum_by f (filter a (cond v (x ∷ filter b xs) (filter b xs))) ≡ cond (v && a x) (f x) 0 + sum_by f
       (filter a (filter b xs))) [
-        | true ↦ sum_part a x (filter b xs)
+        | true ↦ sum_part f a x (filter b xs)
         | false ↦ none_more _
       ]
 
@@ -78,7 +71,7 @@ module _ {A : Type 0} (f : A → ℕ) where
       sum_by f (filter a (filter b xs)) ≤ sum_by f (filter g xs)
   parts_of a b g h [] = omega arith
   parts_of a b g h (x ∷ xs) = subst (λ m. m ≤ sum_by f (filter g (x ∷ xs))) (sym (sum_parts a b x xs))
-      (subst (λ m. cond (b x && a x) (f x) 0 + sum_by f (filter a (filter b xs)) ≤ m) (sym (sum_part g x xs))
+      (subst (λ m. cond (b x && a x) (f x) 0 + sum_by f (filter a (filter b xs)) ≤ m) (sym (sum_part f g x xs))
       (both_le _ _ _ _ (one_le (b x && a x) (g x) (f x) (λ e. h x (first_of_both (b x) _ e) (second_of_both (b x) _ e))) (parts_of a b g h xs)))
 
   pub no_parts : (a : A → Bool) (xs : List A) → sum_by f (filter a (filter (λ _. false) xs)) ≤ 0

@@ -3,14 +3,15 @@ use Rattle.std.specs.Prelude.{◌≡◌, ℕ, ◌+◌, ◌≤◌, Bool, true, fa
 use Rattle.std.proofs.Common.{Ordering, Less, Equal, Greater, is_eq, is_lt, refl, sym, ap, subst, ◌∙◌, arith}
 use Rattle.std.proofs.lemmas.List.Sums.{sum_by-cons}
 use Rattle.std.specs.Cmp.{IsTotalOrder, tied_itself}
-use Rattle.std.specs.FinMap.{FinMap, IsAntisymmetric, entries, entries_sorted, get, get-entries, get-insert, insert}
+use Rattle.std.specs.FinMap.{FinMap, IsAntisymmetric, empty, entries, entries_sorted, from_entries, get, get-empty, get-entries, get-insert, insert}
 use Rattle.std.specs.FinMap.Entries.{find, where_key, below_all, is_sorted, find-where_key}
 use Rattle.std.specs.Option.{option_map_or}
 use Rattle.std.specs.Ordering.{eq_by_cmp}
 use Rattle.ns_types.specs.State.Lists.{Each}
 use Rattle.ns_types.proofs.Lists.{not_both}
+use Rattle.ns_types.proofs.Sums.{sum_kept}
 use Rattle.ns_types.proofs.Tables.{each_row, tied}
-use Rattle.ns_types.proofs.Tests.{first, second}
+use Rattle.ns_types.proofs.Tests.{first, not_Some, second}
 
 -- ---- numbers
 
@@ -31,6 +32,12 @@ through a b c s t h k l = omega arith
 
 put_together : (a b c d e : ℕ) → a ≤ b + c → d + c ≤ e → a + d ≤ e + b
 put_together a b c d e h k = omega arith
+
+put_first : (a b c d e : ℕ) → a + b ≤ c + d → c ≤ e → a ≤ d + e
+put_first a b c d e h k = omega arith
+
+left_part : (a b c : ℕ) → a + b ≤ c → a ≤ c
+left_part a b c h = omega arith
 
 -- ---- a sum over a list, by its first element
 
@@ -67,13 +74,6 @@ module _ {K : Type 0} {R : K → K → Ordering} (o : IsTotalOrder R) (same : Is
     abbrev at : K → List (K × Y) → ℕ
     at k es = option_map_or (g k) (find R k es) 0
 
-    part_le : (p : K → Bool) (es : List (K × Y)) → sum (where_key R p es) ≤ sum es
-    part_le p [] = zero_le 0
-    part_le p (e ∷ es) = elim (p e.0) as (λ b. sum (cond b (e ∷ where_key R p es) (where_key R p es)) ≤ sum (e ∷ es)) [
-      | true ↦ le_sum (λ e. g e.0 e.1) e es _ (sum_le (λ e. g e.0 e.1) e (where_key R p es) _ (both_le _ _ _ _ (omega arith) (part_le p es)))
-      | false ↦ le_sum (λ e. g e.0 e.1) e es _ (later (g e.0 e.1) _ _ (part_le p es))
-    ]
-
     -- with what is counted at a key, what is counted elsewhere is no more than all
     apart : (k : K) (es : List (K × Y)) → at k es + sum (where_key R (elsewhere k) es) ≤ sum es
     apart k [] = zero_le 0
@@ -83,7 +83,7 @@ module _ {K : Type 0} {R : K → K → Ordering} (o : IsTotalOrder R) (same : Is
             → option_map_or (g k) (cond b (Some e.1) (find R k es)) 0 + sum (cond (not c) (e ∷ where_key R (elsewhere k) es) (where_key R (elsewhere k) es))
             ≤ sum (e ∷ es)
         by rest true t true u = le_sum (λ e. g e.0 e.1) e es _
-            (both_le _ _ _ _ (subst (λ q. g k e.1 ≤ g q e.1) (tied same k e.0 t) (omega arith)) (part_le (elsewhere k) es))
+            (both_le _ _ _ _ (subst (λ q. g k e.1 ≤ g q e.1) (tied same k e.0 t) (omega arith)) (sum_kept (λ e. g e.0 e.1) (λ e. elsewhere k e.0) es))
         by rest true t false u = not_both t (other e.0 k u)
         by rest false t true u = not_both u (other k e.0 t)
         by rest false t false u = le_sum (λ e. g e.0 e.1) e es _
@@ -119,6 +119,12 @@ module _ {K : Type 0} {R : K → K → Ordering} (o : IsTotalOrder R) (same : Is
     pub sum_none : (m : FinMap R X) → ((k : K) (x : X) → get m k ≡ Some x → ⊥) → sum_by (λ e. f e.0 e.1) (entries m) ≤ 0
     sum_none m none = list_below f f (entries m) (entries_sorted m) [] (each_row o same (λ k x. f k x ≤ 0) m (λ k x is. absurd (none k x is)))
 
+    -- a row counts no more than all
+    pub sum_at : (m : FinMap R X) (k : K) (x : X) → get m k ≡ Some x → f k x ≤ sum_by (λ e. f e.0 e.1) (entries m)
+    sum_at m k x is = left_part (f k x) (sum f (where_key R (elsewhere k) (entries m))) _
+        (subst (λ y. option_map_or (f k) y 0 + sum f (where_key R (elsewhere k) (entries m)) ≤ sum f (entries m)) (sym (get-entries m k) ∙ is)
+        (apart f k (entries m)))
+
     -- with a row put in, and the one that was there counted again, no more than with that row added
     pub sum_put : (m : FinMap R X) (k : K) (v : X) → sum_by (λ e. f e.0 e.1) (entries (insert m k v)) + option_map_or (f k) (get m k) 0 ≤ sum_by
         (λ e. f e.0 e.1) (entries m) + f k v
@@ -139,3 +145,10 @@ module _ {K : Type 0} {R : K → K → Ordering} (o : IsTotalOrder R) (same : Is
         held : (q : K) (x : X) → find R q ((k, v) ∷ where_key R (elsewhere k) (entries m)) ≡ Some x →
             f q x ≤ at f q ((k, v) ∷ where_key R (elsewhere k) (entries m))
         held q x is = subst (λ y. f q x ≤ option_map_or (f q) y 0) (sym is) (omega arith)
+
+    -- a table made of a list has no more than the list
+    pub sum_made : (es : List (K × X)) → sum_by (λ e. f e.0 e.1) (entries (from_entries {R = R} es)) ≤ sum_by (λ e. f e.0 e.1) es
+    sum_made [] = sum_none empty (λ k x is. not_Some x (sym (get-empty R k) ∙ is))
+    sum_made (e ∷ es) = le_sum (λ e. f e.0 e.1) e es _
+        (put_first _ (option_map_or (f e.0) (get (from_entries {R = R} es) e.0) 0) (sum f (entries (from_entries {R = R} es))) (f e.0 e.1) (sum f es)
+        (sum_put (from_entries {R = R} es) e.0 e.1) (sum_made es))

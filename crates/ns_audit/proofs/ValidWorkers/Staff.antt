@@ -13,7 +13,7 @@ use Rattle.ns_types.specs.declared.worker.Worker.{Worker}
 use Rattle.ns_types.specs.State.Limits.{is_good_document}
 use Rattle.ns_types.specs.State.Names.{Name, Key, has_key, same_key}
 use Rattle.ns_types.specs.State.Rows.{World, Tenant, PoolRows, QuotaRows}
-use Rattle.ns_types.specs.Validity.{IsSound, IsSoundWorker, IsPlanned, keeps, least_tries, is_fit}
+use Rattle.ns_types.specs.Validity.{IsCountable, IsSound, IsSoundWorker, IsPlanned, keeps, least_tries, is_fit}
 use Rattle.ns_types.specs.Working.Work.{workers_end, is_submitted, tries_for}
 use Rattle.ns_audit.proofs.ValidWorkers.Once.{is_once, distinct_once}
 use Rattle.std.proofs.Math.Nat.{le_refl, le_trans}
@@ -26,6 +26,7 @@ pub record IsAbleSnapshot (w : World) (t : Tenant) (worker : Worker) (kept : Sna
   pub exists : IsTrue (contains_key w.pools kept.pool)
   pub job_good : (j : Job) → kept.job ≡ Some j → IsTrue (is_good_document j.document)
   pub nodes_once : (i j : ℕ) (m n : PoolNode) → slice_get kept.nodes i ≡ Some m → slice_get kept.nodes j ≡ Some n → m.name ≡ n.name → i ≡ j
+  pub countable : IsCountable kept
   pub seen : (p : PoolRows) → get w.pools kept.pool ≡ Some p → kept.release ≤ p.release
   pub quota_seen : (q : QuotaSeen) (rows : QuotaRows) → kept.quota ≡ Some q → get w.quotas q.name ≡ Some rows → q.release ≤ rows.release
 
@@ -68,6 +69,7 @@ module _ (w : World) (s : IsSound w) where
           exists = y.allowed.exists;
           job_good = y.job_good;
           nodes_once = y.nodes_once;
+          countable = y.countable;
           seen = y.seen;
           quota_seen = y.quota_seen;
         };
@@ -108,6 +110,7 @@ snapshot_still w x t u worker kept y row looks = record {
   exists = by (get w.pools kept.pool) refl y.exists;
   job_good = y.job_good;
   nodes_once = y.nodes_once;
+  countable = y.countable;
   seen = λ q q_is. by_pool (get w.pools kept.pool) refl y.exists q q_is;
   quota_seen = λ q r has r_is. let o = looks.quota q has r r_is in le_trans (y.quota_seen q o.0 has o.1) o.2;
 }

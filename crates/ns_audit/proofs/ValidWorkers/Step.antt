@@ -62,6 +62,7 @@ module _ (w : World) (o : IsOrderly w) (s : IsStaffed w) (q : IsQueued w) where
         allowed = record { exists = y.exists; permitted = k.allowed.permitted; its_quota = k.allowed.its_quota };
         job_good = y.job_good;
         nodes_once = y.nodes_once;
+        countable = y.countable;
         seen = y.seen;
         quota_seen = y.quota_seen;
       }

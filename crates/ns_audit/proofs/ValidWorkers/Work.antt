@@ -36,6 +36,7 @@ use Rattle.ns_audit.proofs.Steady.Keeping.{at_inserted, elsewhere, has_key_filte
 use Rattle.ns_audit.proofs.Steady.Workers.{at_tenant, in_ready}
 use Rattle.ns_types.proofs.Leads.{leads_there, leads_if}
 use Rattle.ns_audit.proofs.Alone.Owning.{orderly}
+use Rattle.ns_audit.proofs.ValidAllocations.Countable.{seen_countable}
 use Rattle.ns_audit.proofs.ValidAllocations.Seen.{seen_once}
 use Rattle.ns_audit.proofs.ValidWorkers.Admins.{IsWell, KeepsStaff}
 use Rattle.ns_audit.proofs.ValidWorkers.Asks.{commit_quiet}
@@ -341,6 +342,7 @@ module _ (w : World) (s : IsSound w) (ns : Name) (number : ℕ) (t : Tenant) (wo
     exists = exists;
     job_good = λ j found. (its.job e.job j found).good;
     nodes_once = seen_once w seen.pool;
+    countable = seen_countable w s ns t worker.evaluation e is;
     seen = seen_by;
     quota_seen = λ q rows named is. quota_seen_by t.namespace.quota q rows named is;
   })
@@ -356,6 +358,7 @@ module _ (w : World) (s : IsSound w) where
         exists = y.exists;
         job_good = y.job_good;
         nodes_once = y.nodes_once;
+        countable = y.countable;
         seen = y.seen;
         quota_seen = y.quota_seen;
       }
@@ -436,6 +439,7 @@ module _ (w : World) (s : IsSound w) (q : IsQueued w) (ns : Name) (number : ℕ)
           exists = y.exists;
           job_good = y.job_good;
           nodes_once = y.nodes_once;
+          countable = y.countable;
           seen = y.seen;
           quota_seen = y.quota_seen;
         };
