@@ -1,14 +1,16 @@
-//! Whether rows say the same, member by member, as the model asks it: keys, what nodes offer, documents of jobs,
-//! and what replies show of jobs, evaluations and allocations.
+//! Whether rows say the same, member by member, as the model asks it: keys, what nodes offer, what quotas allow, documents
+//! of jobs, and what replies show of jobs, evaluations and allocations.
 #![tactic(auto)]
 
 mod documents;
 mod keys;
+mod limits;
 mod offers;
 mod rows;
 
 pub use documents::same_document;
 pub use keys::{has_key, has_name, same_key, same_number};
+pub use limits::{changes_limits, limits_in};
 pub use ns_types::text::same_text;
 pub use offers::{
     can_use, class_of, is_free, is_unique, same_attribute, same_class, same_offer, same_resources,

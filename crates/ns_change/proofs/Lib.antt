@@ -10,6 +10,7 @@ pub mod NumberedRows
 pub mod Opening
 pub mod Pools
 pub mod Prepares
+pub mod Recorded
 pub mod Seen
 pub mod Twice
 pub mod Waiting

@@ -11,7 +11,7 @@ use Rattle.ns_types.proofs.Named.{names, one_name}
 use Rattle.ns_types.proofs.Tables.{map_rows_idle}
 use Rattle.ns_change.specs.declared.change.Change.{Change}
 use Rattle.ns_change.specs.declared.change.ListChange.{ListChange}
-use Rattle.ns_change.specs.Changed.{changed, changed_list, changed_pool, changed_tenant, perhaps, view}
+use Rattle.ns_change.specs.Changed.{changed, changed_list, changed_pool, changed_quota, changed_tenant, perhaps, view}
 use Rattle.ns_world.specs.declared.tables.Tables.{Tables}
 use Rattle.ns_world.specs.World.{world_of}
 
@@ -19,7 +19,7 @@ abbrev pub no_entries : ListChange
 no_entries = record { taken = []; added = [] }
 
 abbrev pub nothing : Change
-nothing = record { tenants = empty; pools = empty; ready = no_entries; plans = no_entries; blocked = no_entries }
+nothing = record { tenants = empty; pools = empty; quotas = empty; ready = no_entries; plans = no_entries; blocked = no_entries }
 
 module _ {K X C : Type 0} {R : K → K → Ordering} (o : IsTotalOrder R) (same : IsAntisymmetric R) (f : X → C → X) where
   rows_stay : (m : FinMap R X) → map_rows (λ k x. perhaps f (row_at (empty {X = Option C} {R = R}) k) x) m ≡ m
@@ -38,6 +38,7 @@ unfolding changed
 nothing_changed t = λ i. record (world_of t) {
   tenants = rows_stay names one_name changed_tenant (world_of t).tenants i;
   pools = rows_stay names one_name changed_pool (world_of t).pools i;
+  quotas = rows_stay names one_name changed_quota (world_of t).quotas i;
   ready = list_stays (world_of t).ready i;
   plans = list_stays (world_of t).plans i;
   blocked = list_stays (world_of t).blocked i;

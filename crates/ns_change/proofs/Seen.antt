@@ -15,7 +15,7 @@ use Rattle.ns_change.specs.declared.change.TenantChange.{TenantChange}
 use Rattle.ns_world.specs.declared.tables.PoolRows.{PoolRows as StoredPool}
 use Rattle.ns_world.specs.declared.tables.Tables.{Tables}
 use Rattle.ns_world.specs.declared.tables.TenantRows.{TenantRows}
-use Rattle.ns_change.specs.Changed.{changed, changed_pool, changed_tenant, perhaps}
+use Rattle.ns_change.specs.Changed.{changed, changed_pool, changed_quota, changed_tenant, perhaps}
 use Rattle.keyed.specs.Over.{over}
 use Rattle.ns_world.specs.World.{pool_of, tenant_of, world_of}
 use Rattle.ns_world.proofs.World.{pool_at, tenant_at}
@@ -71,3 +71,10 @@ module _ (t : Tables) (c : Change) (name : Name) where
   pub changed_node : (n : Name) (x : StoredPool) (y : PoolChange) → row_at t.pools name ≡ Some x → row_at c.pools name ≡ Some y →
       node_at (view t c) name n ≡ get (over (rows x.nodes) y.nodes) n
   changed_node n x y is some = ap (option_and_then (λ p. get p.nodes n)) (pool_seen ∙ (λ i. seen_as (is i) (some i)))
+
+-- ---- quotas
+
+pub quota_after : (w : World) (c : Change) (name : Name) →
+    get (changed w c).quotas name ≡ option_map (perhaps changed_quota (row_at c.quotas name)) (get w.quotas name)
+unfolding changed
+quota_after w c name = get-map_rows names one_name _ w.quotas name

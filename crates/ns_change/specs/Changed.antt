@@ -8,9 +8,10 @@ use Rattle.keyed.specs.Table.{row_at}
 use Rattle.ns_types.specs.declared.allocation.Allocation.{Allocation}
 use Rattle.ns_types.specs.declared.evaluation.Evaluation.{Evaluation}
 use Rattle.ns_types.specs.declared.node.Node.{Node}
+use Rattle.ns_types.specs.declared.records.Quota.{Quota}
 use Rattle.ns_types.specs.Settling.Making.{change_tenant, put_pool}
 use Rattle.ns_types.specs.State.Names.{Name, Key, has_key}
-use Rattle.ns_types.specs.State.Rows.{World, Tenant, PoolRows, node_at}
+use Rattle.ns_types.specs.State.Rows.{World, Tenant, PoolRows, QuotaRows, node_at}
 use Rattle.ns_types.specs.State.Tables.{map_rows}
 use Rattle.ns_types.specs.Working.Commit.{with_place}
 use Rattle.ns_types.specs.Working.Work.{without_key}
@@ -35,6 +36,9 @@ changed_tenant t x = record t {
 abbrev pub changed_pool : PoolRows → PoolChange → PoolRows
 changed_pool p x = record p { nodes = over p.nodes x.nodes }
 
+abbrev pub changed_quota : QuotaRows → Quota → QuotaRows
+changed_quota q x = record q { quota = x }
+
 -- a row with the change of it, where there is one
 abbrev pub perhaps : {A B : Type 0} → (A → B → A) → Option B → A → A
 perhaps change x a = option_map_or (change a) x a
@@ -46,6 +50,7 @@ unfoldable pub changed : World → Change → World
 changed w c = record w {
   tenants = map_rows (λ ns t. perhaps changed_tenant (row_at c.tenants ns) t) w.tenants;
   pools = map_rows (λ name p. perhaps changed_pool (row_at c.pools name) p) w.pools;
+  quotas = map_rows (λ name q. perhaps changed_quota (row_at c.quotas name) q) w.quotas;
   ready = changed_list w.ready c.ready;
   plans = changed_list w.plans c.plans;
   blocked = changed_list w.blocked c.blocked;
@@ -106,6 +111,11 @@ count_place pool name w = option_map_or (λ row. change_pool pool (with_place na
 
 abbrev pub without_node : Name → PoolRows → PoolRows
 without_node name pool = record pool { nodes = remove pool.nodes name }
+
+-- the record over that of the quota, where it is there
+abbrev pub with_record : Name → Quota → World → World
+with_record name x w =
+    option_map_or (λ q. record w { quotas = insert w.quotas name (changed_quota q x) }) (get w.quotas name) w
 
 -- ---- numbers that can be given
 

@@ -10,7 +10,7 @@ use Rattle.ns_types.specs.State.Tables.{map_rows}
 use Rattle.ns_types.specs.Settling.Settle.{after_release, after_quota_release}
 use Rattle.ns_change.specs.declared.change.Settled.{Settled}
 use Rattle.ns_change.specs.declared.change.SettledTenant.{SettledTenant}
-use Rattle.ns_change.specs.Changed.{changed_list, changed_pool, changed_tenant, perhaps}
+use Rattle.ns_change.specs.Changed.{changed_list, changed_pool, changed_quota, changed_tenant, perhaps}
 
 -- a namespace of which events are told has one index more
 abbrev pub tell : Tenant → List Event → Tenant
@@ -28,7 +28,8 @@ settled_world w s = record {
   tenants = map_rows (λ ns t. perhaps settled_tenant (row_at s.tenants ns) t) w.tenants;
   pools = map_rows (λ name p. after_release (classes_in name s.rooms) (perhaps changed_pool (row_at s.pools name) p))
       w.pools;
-  quotas = map_rows (λ name q. after_quota_release (has_name s.quotas name) q) w.quotas;
+  quotas = map_rows
+      (λ name q. after_quota_release (has_name s.released name) (perhaps changed_quota (row_at s.quotas name) q)) w.quotas;
   ready = changed_list w.ready s.ready;
   plans = changed_list w.plans s.plans;
   blocked = changed_list w.blocked s.blocked;

@@ -12,6 +12,7 @@ use ns_types::event::Event;
 use ns_types::job::Job;
 use ns_types::key::EvalKey;
 use ns_types::node::{Class, Node};
+use ns_types::records::Quota;
 use ns_types::reply::Content;
 use ns_types::rows::Rows;
 use ns_types::text::Text;
@@ -42,11 +43,14 @@ pub struct ListChange {
     pub added: Rows<EvalKey>,
 }
 
-/// All that a step itself changes, before its end. A vacant slot of an owner is of no change.
+/// All that a step itself changes, before its end. A vacant slot of an owner is of no change, and so is the record of a
+/// quota that is not there.
 #[derive(Drop)]
 pub struct Change {
     pub tenants: NameTable<TenantChange>,
     pub pools: NameTable<PoolChange>,
+    /// Records that are put over those of quotas.
+    pub quotas: NameTable<Quota>,
     pub ready: ListChange,
     pub plans: ListChange,
     pub blocked: ListChange,
@@ -71,6 +75,7 @@ impl Change {
         Change {
             tenants: NameTable::new(alloc),
             pools: NameTable::new(alloc),
+            quotas: NameTable::new(alloc),
             ready: ListChange::new(alloc),
             plans: ListChange::new(alloc),
             blocked: ListChange::new(alloc),
@@ -98,11 +103,14 @@ pub struct SettledTenant {
 pub struct Settled {
     pub tenants: NameTable<SettledTenant>,
     pub pools: NameTable<PoolChange>,
+    /// Records that are put over those of quotas.
+    pub quotas: NameTable<Quota>,
     pub ready: ListChange,
     pub plans: ListChange,
     pub blocked: ListChange,
     /// Released classes, each with its pool, in no order and perhaps twice.
     pub rooms: Rows<(Text, Class)>,
-    /// Quotas of namespaces of which a live allocation ended, perhaps twice.
-    pub quotas: Rows<Text>,
+    /// Released quotas, in no order and perhaps twice: those whose limits change, and those of namespaces of which a live
+    /// allocation ended.
+    pub released: Rows<Text>,
 }

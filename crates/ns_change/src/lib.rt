@@ -1,7 +1,7 @@
-//! What a step changes, as one value: by owner the rows that it writes or takes away, the numbers that it gives, and
-//! what leaves each of the three lists and what is put at its end. Its meaning is `changed`, from the world before to
-//! the world that the step itself makes. The tables are read and never written here. So a step that is refused, or
-//! finds no memory, lets its change go, and nothing has happened.
+//! What a step changes, as one value: by owner the rows that it writes or takes away, the numbers that it gives, the
+//! records that it puts over those of quotas, and what leaves each of the three lists and what is put at its end. Its
+//! meaning is `changed`, from the world before to the world that the step itself makes. The tables are read and never
+//! written here. So a step that is refused, or finds no memory, lets its change go, and nothing has happened.
 //!
 //! Each method is one function of the model, over the world as the change leaves it: it looks at the change's own rows
 //! first, then at the tables'. A change has no index, event or release; settling makes a second value that has them.
@@ -20,6 +20,7 @@ mod placing;
 mod preparing;
 mod promoting;
 mod queueing;
+mod records;
 mod renewing;
 mod workers;
 
@@ -36,5 +37,6 @@ pub use placing::{add_allocation, count_place, put_node, remove_node};
 pub use preparing::prepare;
 pub use promoting::{cancel_blocked, promote};
 pub use queueing::{make, queue, wake};
+pub use records::put_quota;
 pub use renewing::evaluation_for;
 pub use workers::remove_worker;

@@ -7,8 +7,9 @@ use Rattle.keyed.specs.Over.{HasRoomFor}
 use Rattle.keyed.specs.Table.{row_at}
 use Rattle.ns_types.specs.declared.event.Event.{Event}
 use Rattle.ns_types.specs.declared.node.Class.{Class}
+use Rattle.ns_types.specs.declared.records.Quota.{Quota}
 use Rattle.ns_types.specs.Settling.Settle.{after_quota_release, after_release}
-use Rattle.ns_types.specs.State.Names.{Name, has_name, name_cmp}
+use Rattle.ns_types.specs.State.Names.{Name, ByName, has_name, name_cmp}
 use Rattle.ns_types.specs.State.Rows
 use Rattle.ns_types.specs.Steps.{greatest, is_past_bound, is_pool_past_bound, is_tenant_past_bound}
 use Rattle.ns_types.proofs.Lists.{left_none, not_both, right_none}
@@ -18,10 +19,11 @@ use Rattle.ns_types.proofs.Tests.{not_Some, same_Some}
 use Rattle.ns_change.specs.declared.change.PoolChange.{PoolChange}
 use Rattle.ns_change.specs.declared.change.Settled.{Settled}
 use Rattle.ns_change.specs.declared.change.SettledTenant.{SettledTenant}
-use Rattle.ns_change.specs.Changed.{changed_list, changed_pool, perhaps}
+use Rattle.ns_change.specs.Changed.{changed_list, changed_pool, changed_quota, perhaps}
 use Rattle.ns_change.specs.Settled.{classes_in, settled_tenant, settled_world}
 use Rattle.ns_commit.specs.Committed.{CanRise, CanTell, Fits, HasNodeRoom, HaveClassRoom, KeepsNodes}
-use Rattle.ns_commit.specs.Committed.{numbered_pools, raised_pool, raised_quota, released_quotas, releases, settled_pools, with_classes}
+use Rattle.ns_commit.specs.Committed.{numbered_pools, raised_pool, raised_quota, released_quotas, releases, settled_pools, settled_quotas}
+use Rattle.ns_commit.specs.Committed.{with_classes}
 use Rattle.ns_commit.specs.Indexed.{IsRightFor}
 use Rattle.ns_commit.specs.Owners.{EachChanged, changed_owners, owners}
 use Rattle.ns_commit.proofs.Owned.{get-changed, get-owners}
@@ -47,6 +49,22 @@ pub quotas_are : (released : List Name) (old new : FinMap name_cmp (Option Quota
 quotas_are released old new risen = same_map names one_name _ _ (λ q. get-owners quota_of new q ∙ ap (option_map quota_of) (risen q)
     ∙ raised_one (has_name released q) (row_at old q) ∙ ap (option_map (after_quota_release (has_name released q))) (sym (get-owners quota_of old q))
     ∙ sym (get-map_rows names one_name (λ name quota. after_quota_release (has_name released name) quota) (owners quota_of old) q))
+
+-- records go over those of quotas, released or not
+pub records_are : (x : FinMap name_cmp (Option Quota)) (released : List Name) (m : ByName Rows.QuotaRows) →
+    changed_owners changed_quota x (released_quotas released m) ≡ settled_quotas x released m
+records_are x released m = same_map names one_name _ _ (λ q. get-changed changed_quota x (released_quotas released m) q
+    ∙ ap (option_map (perhaps changed_quota (row_at x q)))
+    (get-map_rows names one_name (λ name quota. after_quota_release (has_name released name) quota) m q)
+    ∙ by (row_at x q) (has_name released q) (get m q)
+    ∙ sym (get-map_rows names one_name (λ name quota. after_quota_release (has_name released name) (perhaps changed_quota (row_at x name) quota)) m q))
+  where
+    by : (x : Option Quota) (b : Bool) (r : Option Rows.QuotaRows) → option_map (perhaps changed_quota x) (option_map (after_quota_release b) r)
+        ≡ option_map (λ quota. after_quota_release b (perhaps changed_quota x quota)) r
+    by x b None = refl
+    by None b (Some quota) = refl
+    by (Some x) true (Some quota) = refl
+    by (Some x) false (Some quota) = refl
 
 -- ---- pools
 
@@ -138,7 +156,7 @@ same_world old new tenants pools quotas ready plans blocked i = record {
 
 pub settled_is : (s : Settled) (old new : Tables) → owners tenant_of new.tenants ≡ changed_owners settled_tenant s.tenants (owners tenant_of old.tenants) →
     owners pool_of new.pools ≡ settled_pools s.pools s.rooms (owners pool_of old.pools) →
-    owners quota_of new.quotas ≡ released_quotas s.quotas (owners quota_of old.quotas) → new.ready.items ≡ changed_list old.ready.items s.ready →
+    owners quota_of new.quotas ≡ settled_quotas s.quotas s.released (owners quota_of old.quotas) → new.ready.items ≡ changed_list old.ready.items s.ready →
     new.plans.items ≡ changed_list old.plans.items s.plans → new.blocked.items ≡ changed_list old.blocked.items s.blocked →
     world_of new ≡ settled_world (world_of old) s
 unfolding world_of settled_world
@@ -187,8 +205,8 @@ module _ (s : Settled) (t : Tables) (fits : Fits (world_of t) s) where
   unfolding world_of settled_world is_past_bound
   pool_fits name row at = none_of_any one_name (λ _ p. is_pool_past_bound p) _ name row (right_none _ _ (left_none _ _ fits)) at
 
-  quota_fits : (name : Name) (row : Rows.QuotaRows) → get (released_quotas s.quotas (owners quota_of t.quotas)) name ≡ Some row → nat_lt greatest
-      row.release ≡ false
+  quota_fits : (name : Name) (row : Rows.QuotaRows) → get (settled_quotas s.quotas s.released (owners quota_of t.quotas)) name ≡ Some row →
+      nat_lt greatest row.release ≡ false
   unfolding world_of settled_world is_past_bound
   quota_fits name row at = none_of_any one_name (λ _ q. nat_lt greatest q.release) _ name row (right_none _ _ fits) at
 
@@ -214,7 +232,14 @@ module _ (s : Settled) (t : Tables) (fits : Fits (world_of t) s) where
           kept None = refl
           kept (Some x) = refl
 
-  pub quotas_rise : CanRise (λ quota. quota.release) (has_name s.quotas) t.quotas
-  quotas_rise name quota at chosen = within _ (quota_fits name (after_quota_release true (quota_of quota))
-      (get-map_rows names one_name (λ name quota. after_quota_release (has_name s.quotas name) quota) (owners quota_of t.quotas) name
-      ∙ (λ i. option_map (after_quota_release (chosen i)) ((get-owners quota_of t.quotas name ∙ ap (option_map quota_of) at) i))))
+  pub quotas_rise : CanRise (λ quota. quota.release) (has_name s.released) t.quotas
+  quotas_rise name quota at chosen = subst (λ n. n < 2 ^ 64) (kept (row_at s.quotas name))
+      (within _ (quota_fits name (after_quota_release true (perhaps changed_quota (row_at s.quotas name) (quota_of quota)))
+      (get-map_rows names one_name (λ name quota. after_quota_release (has_name s.released name) (perhaps changed_quota (row_at s.quotas name) quota))
+      (owners quota_of t.quotas) name
+      ∙ (λ i. option_map (λ quota. after_quota_release (chosen i) (perhaps changed_quota (row_at s.quotas name) quota))
+      ((get-owners quota_of t.quotas name ∙ ap (option_map quota_of) at) i)))))
+    where
+      kept : (x : Option Quota) → (perhaps changed_quota x (quota_of quota)).release + 1 ≡ quota.release + 1
+      kept None = refl
+      kept (Some x) = refl

@@ -9,6 +9,7 @@ use Rattle.keyed.specs.Over.{HasRoomFor}
 use Rattle.keyed.specs.Queue.{CanAdd}
 use Rattle.keyed.specs.Table.{has_slot, row_at}
 use Rattle.ns_types.specs.declared.node.Class.{Class}
+use Rattle.ns_types.specs.declared.records.Quota.{Quota}
 use Rattle.ns_types.specs.State.Names.{Name, ByName, name_cmp, has_name, same_name}
 use Rattle.ns_types.specs.Settling.Settle.{after_quota_release, after_release}
 use Rattle.ns_types.specs.State.Rows
@@ -18,7 +19,7 @@ use Rattle.ns_change.specs.declared.change.PoolChange.{PoolChange}
 use Rattle.ns_change.specs.declared.change.Settled.{Settled}
 use Rattle.ns_change.specs.declared.change.SettledTenant.{SettledTenant}
 use Rattle.ns_change.specs.declared.change.TenantChange.{TenantChange}
-use Rattle.ns_change.specs.Changed.{changed_pool, perhaps}
+use Rattle.ns_change.specs.Changed.{changed_pool, changed_quota, perhaps}
 use Rattle.ns_change.specs.Settled.{classes_in, settled_world}
 use Rattle.ns_commit.specs.Owners.{EachChanged}
 use Rattle.ns_world.specs.Evaluations.{HasEvaluationRoom}
@@ -133,13 +134,17 @@ raised_quota released quota = if released then record quota { release = quota.re
 abbrev pub released_quotas : List Name → ByName Rows.QuotaRows → ByName Rows.QuotaRows
 released_quotas released m = map_rows (λ name quota. after_quota_release (has_name released name) quota) m
 
+abbrev pub settled_quotas : FinMap name_cmp (Option Quota) → List Name → ByName Rows.QuotaRows → ByName Rows.QuotaRows
+settled_quotas x released m = map_rows
+    (λ name quota. after_quota_release (has_name released name) (perhaps changed_quota (row_at x name) quota)) m
+
 -- ---- all of it
 
 -- room for all rows, and numbers that can rise
 pub record HasRoom (s : Settled) (t : Tables) : Type 0 where
   pub tenants : EachChanged HasTenantRoom s.tenants t.tenants
   pub pools : HavePoolRoom s.pools s.rooms t.pools
-  pub quotas : CanRise (λ quota. quota.release) (has_name s.quotas) t.quotas
+  pub quotas : CanRise (λ quota. quota.release) (has_name s.released) t.quotas
   pub ready : CanAdd s.ready.added t.ready
   pub plans : CanAdd s.plans.added t.plans
   pub blocked : CanAdd s.blocked.added t.blocked

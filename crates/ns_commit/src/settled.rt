@@ -72,20 +72,21 @@ pub fn commit(tables: &mut Tables, live: &mut Live, settled: Settled)
     let Settled {
         tenants,
         pools,
+        quotas,
         ready,
         plans,
         blocked,
         rooms,
-        quotas,
+        released,
     } = settled;
     commit_index(live, &tables.tenants, &tenants);
     commit_all(&mut tables.tenants, tenants);
     commit_pools(&mut tables.pools, pools, rooms);
-    commit_quotas(&mut tables.quotas, quotas.as_slice());
+    commit_quotas(&mut tables.quotas, quotas, released.as_slice());
     commit_list(&mut tables.ready, ready);
     commit_list(&mut tables.plans, plans);
     commit_list(&mut tables.blocked, blocked);
-    drop(quotas);
+    drop(released);
 }
 
 /// Moves all that a settled step changes in, or nothing. Want of memory is the only error; what is left of slots then is

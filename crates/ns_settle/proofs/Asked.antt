@@ -12,7 +12,8 @@ use Rattle.ns_change.specs.declared.change.Change.{Change}
 use Rattle.ns_change.specs.Changed.{changed}
 use Rattle.std.proofs.lemmas.List.Folds.{list_any-append}
 use Rattle.ns_types.proofs.Elements.{any_flat}
-use Rattle.ns_settle.specs.Released.{ended_of, quota_left, quotas_ended_in, released_quotas, released_rooms, rooms_ended_in, rooms_left, rooms_of_pool}
+use Rattle.ns_settle.specs.Released.{ended_of, quota_left, quota_relimited, quotas_ended_in, quotas_left, quotas_relimited, released_quotas, released_rooms}
+use Rattle.ns_settle.specs.Released.{rooms_ended_in, rooms_left, rooms_of_pool}
 use Rattle.ns_settle.proofs.Released.{flat_flat}
 
 module _ (w : World) (c : Change) where
@@ -24,6 +25,10 @@ module _ (w : World) (c : Change) where
       ap (list_any p) (flat_flat (rooms_left (changed w c)) (λ s. ended_of w s.0 s.1) (entries c.tenants))) i)
       ∙ sym (list_any-append p (flat_map (rooms_of_pool w) (entries c.pools)) _)
 
-  pub quotas_asked : (p : Name → Bool) → list_any (λ slot. list_any p (quotas_ended_in w slot)) (entries c.tenants) ≡ list_any p (released_quotas w c)
-  quotas_asked p = sym (any_flat p (quotas_ended_in w) (entries c.tenants)) ∙
-      ap (list_any p) (flat_flat (λ (e : Namespace × Allocation). quota_left e.0) (λ s. ended_of w s.0 s.1) (entries c.tenants))
+  pub quotas_asked : (p : Name → Bool) →
+      (list_any (λ slot. list_any p (quota_relimited w slot)) (entries c.quotas)
+      || list_any (λ slot. list_any p (quotas_ended_in w slot)) (entries c.tenants)) ≡ list_any p (released_quotas w c)
+  quotas_asked p = (λ i. sym (any_flat p (quota_relimited w) (entries c.quotas)) i
+      || (sym (any_flat p (quotas_ended_in w) (entries c.tenants)) ∙
+      ap (list_any p) (flat_flat (λ (e : Namespace × Allocation). quota_left e.0) (λ s. ended_of w s.0 s.1) (entries c.tenants))) i)
+      ∙ sym (list_any-append p (quotas_relimited w c) (quotas_left w c))

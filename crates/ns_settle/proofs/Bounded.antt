@@ -7,9 +7,10 @@ use Rattle.std.specs.Cmp.{eq_by_cmp_equiv}
 use Rattle.std.specs.FinMap.{FinMap, entries, get}
 use Rattle.keyed.specs.Table.{flat, row_at}
 use Rattle.ns_types.specs.declared.node.Class.{Class}
+use Rattle.ns_types.specs.declared.records.Quota.{Quota}
 use Rattle.ns_types.specs.State.Names.{Name, ByName, same_name, has_name}
 use Rattle.ns_types.specs.State.Rows.{World, PoolRows, QuotaRows}
-use Rattle.ns_types.specs.Settling.Settle.{after_quota_release, after_release, number_releases, settle, stamp, wake}
+use Rattle.ns_types.specs.Settling.Settle.{after_quota_release, after_release, number_releases, settle, stamp}
 use Rattle.ns_types.specs.Settling.Releases.{released_classes, releases_quota, woken}
 use Rattle.ns_types.specs.Steps.{greatest, is_pool_past_bound}
 use Rattle.ns_types.specs.State.Tables.{map_rows, any_row}
@@ -21,10 +22,9 @@ use Rattle.ns_change.specs.declared.change.Change.{Change}
 use Rattle.ns_change.specs.declared.change.PoolChange.{PoolChange}
 use Rattle.ns_settle.specs.Bounds.{is_at_bound, is_place_past, places_pass, pools_pass, quotas_pass}
 use Rattle.ns_settle.specs.Released.{released_quotas, released_rooms}
-use Rattle.ns_change.specs.Changed.{changed, changed_pool, perhaps}
+use Rattle.ns_change.specs.Changed.{changed, changed_pool, changed_quota, perhaps}
 use Rattle.ns_change.specs.Settled.{classes_in}
-use Rattle.ns_types.proofs.Queue.{queues_keep}
-use Rattle.ns_settle.proofs.Settling.{map_rows-alike, pools_after, quota_is, wake_pools}
+use Rattle.ns_settle.proofs.Settling.{pools_after, quotas_after, wake_pools, wake_quotas}
 use Rattle.keyed.proofs.Over.{any_both, any_row-before, any_row-over}
 use Rattle.ns_settle.proofs.Rooms.{any_image, any_row-at, any_swap}
 
@@ -76,25 +76,28 @@ any_chosen name p m xs = any_row-alike names one_name _ (λ k x. list_any (λ a.
 module _ (w : World) (c : Change) where
   -- ---- quotas
 
-  quotas_then : (settle w (changed w c)).quotas ≡ map_rows (λ name q. after_quota_release (has_name (released_quotas w c) name) q) w.quotas
-  unfolding settle stamp number_releases wake changed
-  quotas_then = ap (map_rows (λ name q. after_quota_release (releases_quota w (changed w c) name q) q))
-      (queues_keep (λ w. w.quotas) (λ w keys. refl) (woken w (changed w c)) _)
-      ∙ map_rows-alike names one_name _ (λ name q. after_quota_release (has_name (released_quotas w c) name) q) w.quotas
-      (λ name q at. ap (λ b. after_quota_release b q) (quota_is w c name q at))
+  abbrev settled_quota : Name → QuotaRows → QuotaRows
+  settled_quota name q = after_quota_release (has_name (released_quotas w c) name) (perhaps changed_quota (row_at c.quotas name) q)
+
+  quotas_then : (settle w (changed w c)).quotas ≡ map_rows settled_quota w.quotas
+  unfolding settle stamp number_releases
+  quotas_then = ap (map_rows (λ name q. after_quota_release (releases_quota w (changed w c) name q) q)) (wake_quotas (woken w (changed w c)) (changed w c))
+      ∙ quotas_after w c
 
   released_passes : (name : Name) (q : QuotaRows) → nat_lt greatest q.release ≡ false →
-      nat_lt greatest (after_quota_release (has_name (released_quotas w c) name) q).release ≡ (has_name (released_quotas w c) name && is_at_bound q.release)
-  released_passes name q within = by (has_name (released_quotas w c) name)
+      nat_lt greatest (settled_quota name q).release ≡ (has_name (released_quotas w c) name && is_at_bound q.release)
+  released_passes name q within = by (has_name (released_quotas w c) name) (row_at c.quotas name)
     where
-      by : (b : Bool) → nat_lt greatest (after_quota_release b q).release ≡ (b && nat_lt greatest (q.release + 1))
-      by true = refl
-      by false = within
+      by : (b : Bool) (x : Option Quota) → nat_lt greatest (after_quota_release b (perhaps changed_quota x q)).release ≡ (b && nat_lt greatest (q.release + 1))
+      by true None = refl
+      by true (Some x) = refl
+      by false None = within
+      by false (Some x) = within
 
   pub quotas_within : any_row (λ _ q. nat_lt greatest q.release) w.quotas ≡ false →
       any_row (λ _ q. nat_lt greatest q.release) (settle w (changed w c)).quotas ≡ quotas_pass w c
   quotas_within within = ap (any_row (λ _ q. nat_lt greatest q.release)) quotas_then
-      ∙ any_row-mapped (λ _ q. nat_lt greatest q.release) (λ name q. after_quota_release (has_name (released_quotas w c) name) q) w.quotas
+      ∙ any_row-mapped (λ _ q. nat_lt greatest q.release) settled_quota w.quotas
       ∙ any_row-alike names one_name _ (λ name q. has_name (released_quotas w c) name && is_at_bound q.release) w.quotas (λ name q at. released_passes name q
       (none_of_any one_name (λ _ q. nat_lt greatest q.release) w.quotas name q within at))
       ∙ any_chosen (λ name. name) (λ q. is_at_bound q.release) w.quotas (released_quotas w c)

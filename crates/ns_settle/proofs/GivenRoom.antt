@@ -34,8 +34,8 @@ use Rattle.ns_world.specs.declared.tables.Tables.{Tables}
 use Rattle.ns_world.specs.World.{pool_of, world_of}
 use Rattle.ns_world.proofs.World.{pool_at}
 use Rattle.ns_settle.specs.Bounds.{is_at_bound, is_place_past, places_pass, pools_pass, quotas_pass, room_passes, shows_awake, tenants_pass, waking_passes}
-use Rattle.ns_settle.specs.Released.{changed_classes, ended_of, ended_rows, gives_itself, in_pool, is_woken, quota_left, released_quotas, released_rooms}
-use Rattle.ns_settle.specs.Released.{rooms_left, rooms_of_pool}
+use Rattle.ns_settle.specs.Released.{changed_classes, ended_of, ended_rows, gives_itself, in_pool, is_woken, quota_left, quota_relimited, released_quotas}
+use Rattle.ns_settle.specs.Released.{released_rooms, rooms_left, rooms_of_pool}
 use Rattle.ns_settle.specs.Room.{given_room_passes, room_waking_passes}
 use Rattle.ns_settle.proofs.Indexes.{past_bound_is}
 use Rattle.ns_settle.proofs.Woken.{none_wakes}
@@ -80,7 +80,8 @@ module _ (t : Tables) (pool name : Name) (row : Option Node) (f : PoolRows → P
   none_ended = ap (flat_map (λ (e : Name × Option TenantChange). ended_of w e.0 e.1)) (entries_empty names one_name)
 
   quotas_are : released_quotas w alone ≡ []
-  quotas_are = ap (flat_map (λ (e : Namespace × Allocation). quota_left e.0)) none_ended
+  quotas_are = λ i. flat_map (quota_relimited w) (entries_empty names one_name i) ++
+      flat_map (λ (e : Namespace × Allocation). quota_left e.0) (none_ended i)
 
   rooms_by : released_rooms w alone ≡ rooms_of_pool w (pool, Some nodes)
   rooms_by = (λ i. flat_map (rooms_of_pool w) (pool_entries i) ++ flat_map (rooms_left (changed w alone)) (none_ended i))

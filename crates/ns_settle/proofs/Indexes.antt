@@ -33,7 +33,7 @@ use Rattle.ns_settle.specs.Released.{released_quotas, released_rooms}
 use Rattle.ns_settle.specs.Stamped.{changes_job_row}
 use Rattle.keyed.proofs.Over.{any_row-before, any_row-over}
 use Rattle.ns_settle.proofs.Bounded.{any_named, any_row-either, any_row-mapped, any_with, no_slot, pools_within, quotas_within}
-use Rattle.ns_settle.proofs.Rooms.{any_and, any_row-at, any_swap}
+use Rattle.ns_settle.proofs.Rooms.{and_turned, any_and, any_row-at, any_swap}
 use Rattle.ns_types.proofs.Queue.{queues_keep}
 use Rattle.ns_settle.proofs.Settling.{woken_is}
 use Rattle.ns_settle.proofs.Stamped.{allocations_idle, jobs_touched}
@@ -45,12 +45,6 @@ any_filtered f p (x ∷ xs) = elim (p x) as (λ b. list_any f (cond b (x ∷ fil
   | true ↦ ap (λ b. f x || b) (any_filtered f p xs)
   | false ↦ any_filtered f p xs
 ]
-
-and_turned : (a b : Bool) → (a && b) ≡ (b && a)
-and_turned true true = refl
-and_turned true false = refl
-and_turned false true = refl
-and_turned false false = refl
 
 and_moved : (a b c : Bool) → ((a && b) && c) ≡ (a && (b && c))
 and_moved true b c = refl

@@ -6,6 +6,8 @@ use Rattle.std.specs.List.{list_any}
 use Rattle.std.specs.FinMap.{entries, get}
 use Rattle.keyed.specs.Table.{rows, row_at}
 use Rattle.keyed.proofs.Tables.{get-rows}
+use Rattle.ns_types.specs.Asking.Admins.{with_quota}
+use Rattle.ns_types.specs.Settling.Releases.{changes_limits}
 use Rattle.ns_types.specs.State.Names.{Name, Key}
 use Rattle.ns_types.proofs.Named.{names, one_name}
 use Rattle.ns_types.proofs.Tables.{get-table_of}
@@ -15,6 +17,8 @@ use Rattle.ns_change.specs.declared.change.TenantChange.{TenantChange}
 use Rattle.ns_settle.specs.Bounds.{is_at_bound, is_place_past, passes_in, places_pass, quota_passes, room_passes}
 use Rattle.ns_settle.specs.Bounds.{tenant_passes, waking_passes, waking_passes_in}
 use Rattle.ns_types.specs.declared.node.Class.{Class}
+use Rattle.ns_types.specs.declared.records.Quota.{Quota}
+use Rattle.ns_settle.specs.Released.{relimits}
 use Rattle.ns_world.specs.declared.tables.PoolRows.{PoolRows}
 use Rattle.ns_world.specs.declared.tables.QuotaRows.{QuotaRows}
 use Rattle.ns_world.specs.declared.tables.Tables.{Tables}
@@ -30,6 +34,11 @@ module _ (t : Tables) (name : Name) where
   pub quota_bound : (r : Option QuotaRows) → row_at t.quotas name ≡ r →
       quota_passes (world_of t) name ≡ option_map_or (λ q. is_at_bound q.release) (option_map quota_of r) false
   quota_bound r is = ap (λ o. option_map_or (λ q. is_at_bound q.release) o false) (quota_at ∙ ap (option_map quota_of) is)
+
+  pub relimits_by : (r : Option QuotaRows) → row_at t.quotas name ≡ r → (x : Option Quota) (y : Quota) → x ≡ Some y →
+      relimits (world_of t) (name, x) ≡ option_map_or (λ old. changes_limits old (with_quota y (Some old))) (option_map quota_of r) false
+  relimits_by r is x y at = ap (λ x. relimits (world_of t) (name, x)) at ∙
+      ap (λ o. option_map_or (λ old. changes_limits old (with_quota y (Some old))) o false) (quota_at ∙ ap (option_map quota_of) is)
 
   pub pool_bound : (class : Class) (r : Option PoolRows) → row_at t.pools name ≡ r →
       room_passes (world_of t) (name, class) ≡ option_map_or (λ p. is_at_bound p.release) (option_map pool_of r) false

@@ -106,7 +106,7 @@ module _ {K X : Type 0} {R : K → K → Ordering} (o : IsTotalOrder R) (same : 
 
 -- ---- the released classes of one pool
 
-at_row : {A : Type 0} (b : Bool) (passes : A → Bool) (x : A) → list_any passes (if b then x ∷ [] else []) ≡ (b && passes x)
+pub at_row : {A : Type 0} (b : Bool) (passes : A → Bool) (x : A) → list_any passes (if b then x ∷ [] else []) ≡ (b && passes x)
 at_row true passes x = or_none (passes x)
 at_row false passes x = refl
 
@@ -120,11 +120,11 @@ shared true false false p = refl
 shared false a true p = refl
 shared false a false p = refl
 
-turn : (e q s : Bool) → (e && q) ≡ (q && e)
-turn true true s = refl
-turn true false s = refl
-turn false true s = refl
-turn false false s = refl
+pub and_turned : (a b : Bool) → (a && b) ≡ (b && a)
+and_turned true true = refl
+and_turned true false = refl
+and_turned false true = refl
+and_turned false false = refl
 
 turn_in : (q s k : Bool) → (q && (s && k)) ≡ (k && (s && q))
 turn_in true true true = refl
@@ -248,7 +248,7 @@ module _ (w : World) (c : Change) (name : Name) (passes : Class → Bool) where
         (ended_rows w c)
     nodes_left = any_alike (λ (e : Name × Node). ended_on e.0 && passes_free e.1)
         (λ e. list_any (λ d. passes_free e.1 && at_ended (is_on name e.0) d) (ended_rows w c)) (entries pool_then.nodes)
-        (each _ (λ e. turn (ended_on e.0) (passes_free e.1) true ∙ any_and (passes_free e.1) (at_ended (is_on name e.0)) (ended_rows w c))
+        (each _ (λ e. and_turned (ended_on e.0) (passes_free e.1) ∙ any_and (passes_free e.1) (at_ended (is_on name e.0)) (ended_rows w c))
         (entries pool_then.nodes))
         ∙ any_swap (λ (e : Name × Node) d. passes_free e.1 && at_ended (is_on name e.0) d) (entries pool_then.nodes) (ended_rows w c)
         ∙ any_alike _ _ (ended_rows w c) (each _ on_node (ended_rows w c))

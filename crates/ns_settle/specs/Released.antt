@@ -9,8 +9,10 @@ use Rattle.ns_types.specs.declared.evaluation.Evaluation.{Evaluation}
 use Rattle.ns_types.specs.declared.node.Class.{Class}
 use Rattle.ns_types.specs.declared.node.Node.{Node}
 use Rattle.ns_types.specs.declared.records.Namespace.{Namespace}
+use Rattle.ns_types.specs.declared.records.Quota.{Quota}
 use Rattle.keyed.specs.Table.{row_list}
 use Rattle.ns_types.specs.State.Names.{Name, Key, same_name, has_name, has_key}
+use Rattle.ns_types.specs.Asking.Admins.{is_relimited}
 use Rattle.ns_types.specs.Settling.Releases.{same_offer, can_use}
 use Rattle.ns_types.specs.State.Rows.{World, Tenant, PoolRows, is_live, is_free, class_of, node_at, evaluation_at}
 use Rattle.ns_change.specs.declared.change.Change.{Change}
@@ -95,9 +97,9 @@ at_room name passes r = same_name name r.0 && passes r.1
 abbrev pub quota_left : Namespace → List Name
 quota_left namespace = option_map_or (λ quota. quota ∷ []) namespace.quota []
 
--- the quotas of namespaces that lost a live allocation, perhaps twice
-abbrev pub released_quotas : World → Change → List Name
-released_quotas w c = flat_map (λ e. quota_left e.0) (ended_rows w c)
+-- the quotas of namespaces that lost a live allocation
+abbrev pub quotas_left : World → Change → List Name
+quotas_left w c = flat_map (λ e. quota_left e.0) (ended_rows w c)
 
 -- the same, of a slot of an allocation and of a slot of a namespace
 abbrev pub quotas_ended : Tenant → ℕ × Option Allocation → List Name
@@ -105,6 +107,21 @@ quotas_ended t slot = flat_map (λ e. quota_left e.0) (ended_one t slot.0 slot.1
 
 abbrev pub quotas_ended_in : World → Name × Option TenantChange → List Name
 quotas_ended_in w slot = flat_map (λ e. quota_left e.0) (ended_of w slot.0 slot.1)
+
+-- a slot's record changes the limits of its quota
+abbrev pub relimits : World → Name × Option Quota → Bool
+relimits w slot = option_map_or (λ x. is_relimited slot.0 x w) slot.1 false
+
+abbrev pub quota_relimited : World → Name × Option Quota → List Name
+quota_relimited w slot = if relimits w slot then slot.0 ∷ [] else []
+
+-- the quotas whose limits change
+abbrev pub quotas_relimited : World → Change → List Name
+quotas_relimited w c = flat_map (quota_relimited w) (entries c.quotas)
+
+-- the released quotas, in no order and perhaps twice
+abbrev pub released_quotas : World → Change → List Name
+released_quotas w c = quotas_relimited w c ++ quotas_left w c
 
 -- ---- whom that wakes
 

@@ -37,11 +37,12 @@ abbrev pub settled_by : World → Change → Change → Settled
 settled_by w c awake = record {
   tenants = table_of (settled_slot w) awake.tenants;
   pools = awake.pools;
+  quotas = awake.quotas;
   ready = awake.ready;
   plans = awake.plans;
   blocked = awake.blocked;
   rooms = released_rooms w c;
-  quotas = released_quotas w c;
+  released = released_quotas w c;
 }
 
 abbrev pub IsTold : World → Change → Settled → Type 0
@@ -53,11 +54,12 @@ pub record IsSettled (w : World) (c awake : Change) (s : Settled) : Type 0 where
   pub woke : changed w awake ≡ wake (woken_keys w c) (changed w c)
   pub told : IsTold w awake s
   pub pools : s.pools ≡ awake.pools
+  pub quotas : s.quotas ≡ awake.quotas
   pub ready : s.ready ≡ awake.ready
   pub plans : s.plans ≡ awake.plans
   pub blocked : s.blocked ≡ awake.blocked
   pub rooms : s.rooms ≡ released_rooms w c
-  pub quotas : s.quotas ≡ released_quotas w c
+  pub released : s.released ≡ released_quotas w c
 
 -- ---- an index at its bound
 

@@ -6,16 +6,17 @@ ghost use Rattle.ns_types.specs.declared.node.Class.{Class};
 ghost use Rattle.ns_types.specs.State.Names.{Name};
 ghost use Rattle.ns_types.specs.State.Rows.{offered_class};
 ghost use Rattle.ns_change.specs.Changed.{view};
-ghost use Rattle.ns_settle.specs.Released.{quota_left, quotas_ended, quotas_ended_in, released_quotas};
+ghost use Rattle.ns_settle.specs.Released.{quota_left, quota_relimited, quotas_ended, quotas_ended_in, released_quotas};
 ghost use Rattle.ns_settle.specs.Released.{released_rooms, room_at, rooms_at, rooms_ended, rooms_ended_in, rooms_of_pool};
 ghost use Rattle.ns_world.specs.World.{pool_of, tenant_of, world_of};
 
 use crate::giving::gives_itself;
-use crate::releasing::ended;
+use crate::releasing::{ended, relimits};
 use ns_alike::is_free;
 use ns_change::{Change, PoolChange, TenantChange, node};
 use ns_types::allocation::Allocation;
 use ns_types::node::{Node, Offer};
+use ns_types::records::Quota;
 use ns_types::text::Text;
 use ns_world::{PoolRows, Tables, TenantRows};
 
@@ -30,6 +31,9 @@ type AllocationSlot = (u64, Option<Allocation>);
 
 /// A changed namespace with its name.
 type TenantSlot = (Text, Option<TenantChange>);
+
+/// A changed record with its quota's name, or none.
+type QuotaSlot = (Text, Option<Quota>);
 
 /// A question of what is released.
 pub trait Question {
@@ -249,10 +253,28 @@ fn any_tenant_frees<Q: Question>(question: &Q, tables: &Tables, slots: &[TenantS
         .any(|slot| tenant_frees(question, tables, slot))
 }
 
+/// Whether the record changes the limits of such a quota.
+fn is_relimited<Q: Question>(question: &Q, tables: &Tables, slot: &QuotaSlot) -> bool
+    ensures { result
+        ≡ list_any (Q.of_quota question.now) (quota_relimited (world_of tables.now) slot.now) }
+{
+    relimits(tables, slot) && question.is_quota(&slot.0)
+}
+
+fn any_relimited<Q: Question>(question: &Q, tables: &Tables, slots: &[QuotaSlot]) -> bool
+    ensures { result ≡ list_any (λ slot. list_any (Q.of_quota question.now)
+        (quota_relimited (world_of tables.now) slot)) slots.now }
+{
+    slots
+        .iter()
+        .any(|slot| is_relimited(question, tables, slot))
+}
+
 /// Whether the step releases such a quota.
 pub fn releases_quota<Q: Question>(question: &Q, tables: &Tables, change: &Change) -> bool
     ensures { result ≡ list_any (Q.of_quota question.now)
         (released_quotas (world_of tables.now) change.now) }
 {
-    any_tenant_frees(question, tables, change.tenants.as_slice())
+    any_relimited(question, tables, change.quotas.as_slice())
+        || any_tenant_frees(question, tables, change.tenants.as_slice())
 }

@@ -146,12 +146,13 @@ pub fn settle(tables: &Tables, mut change: Change) -> Result<Settled, AllocError
         is_past_bound (settled_world (world_of tables.now) settled) ≡ false) }
 {
     let rooms = released_rooms(tables, &change)?;
-    let quotas = released_quotas(tables, &change)?;
+    let released = released_quotas(tables, &change)?;
     let keys = woken_keys(tables, &change)?;
     wake(tables, &mut change, keys.as_slice())?;
     let Change {
         tenants,
         pools,
+        quotas,
         ready,
         plans,
         blocked,
@@ -160,10 +161,11 @@ pub fn settle(tables: &Tables, mut change: Change) -> Result<Settled, AllocError
     Ok(Settled {
         tenants,
         pools,
+        quotas,
         ready,
         plans,
         blocked,
         rooms,
-        quotas,
+        released,
     })
 }

@@ -3,11 +3,14 @@
 ghost use Rattle.std.specs.Prelude.{◌≡◌, ◌++◌, false, flat_map, IfOk, OnOk, option_copied};
 ghost use Rattle.std.specs.Option.{option_map_or};
 ghost use Rattle.ns_types.specs.State.Rows.{is_live};
-ghost use Rattle.ns_settle.specs.Released.{ended_list, ended_one, quotas_ended, quotas_ended_in, released_quotas};
+ghost use Rattle.ns_settle.specs.Released.{ended_list, ended_one, quota_relimited, quotas_ended, quotas_ended_in};
+ghost use Rattle.ns_settle.specs.Released.{released_quotas, relimits};
 ghost use Rattle.ns_world.specs.World.{tenant_of, world_of};
 
+use ns_alike::changes_limits;
 use ns_change::{Change, TenantChange};
 use ns_types::allocation::Allocation;
+use ns_types::records::Quota;
 use ns_types::rows::Rows;
 use ns_types::text::Text;
 use ns_world::{Tables, TenantRows};
@@ -18,6 +21,11 @@ type AllocationSlot = (u64, Option<Allocation>);
 
 /// A changed namespace with its name.
 type TenantSlot = (Text, Option<TenantChange>);
+
+/// A changed record with its quota's name, or none.
+type QuotaSlot = (Text, Option<Quota>);
+
+// ---- allocations that end
 
 fn lives_on(row: Option<&Allocation>) -> bool
     ensures { result ≡ option_map_or is_live (option_copied row.entry) false }
@@ -88,13 +96,73 @@ fn add_quotas_of(
     Ok(())
 }
 
-/// The quotas of all namespaces that lost a live allocation.
+/// The quotas of the namespaces that lost a live allocation.
+fn add_all_left(
+    quotas: &mut Rows<Text>,
+    tables: &Tables,
+    slots: &[TenantSlot],
+) -> Result<(), AllocError>
+    ensures { OnOk result (quotas.new ≡ quotas.old
+        ++ flat_map (quotas_ended_in (world_of tables.now)) slots.now) }
+{
+    for slot in slots {
+        add_quotas_of(quotas, tables, slot)?;
+    }
+    Ok(())
+}
+
+// ---- limits that change
+
+/// Whether the record changes the limits of its quota. One that is not there has none.
+pub fn relimits(tables: &Tables, slot: &QuotaSlot) -> bool
+    ensures { result ≡ relimits (world_of tables.now) slot.now }
+{
+    let Some(quota) = &slot.1 else {
+        return false;
+    };
+    match tables.quotas.get(&slot.0) {
+        Some(old) => changes_limits(&old.quota, quota),
+        None => false,
+    }
+}
+
+fn add_relimited(
+    quotas: &mut Rows<Text>,
+    tables: &Tables,
+    slot: &QuotaSlot,
+) -> Result<(), AllocError>
+    ensures { OnOk result (quotas.new ≡ quotas.old
+        ++ quota_relimited (world_of tables.now) slot.now) }
+{
+    if relimits(tables, slot) {
+        quotas.push(slot.0.clone()?)?;
+    }
+    Ok(())
+}
+
+/// The quotas whose limits change.
+fn add_all_relimited(
+    quotas: &mut Rows<Text>,
+    tables: &Tables,
+    slots: &[QuotaSlot],
+) -> Result<(), AllocError>
+    ensures { OnOk result (quotas.new ≡ quotas.old
+        ++ flat_map (quota_relimited (world_of tables.now)) slots.now) }
+{
+    for slot in slots {
+        add_relimited(quotas, tables, slot)?;
+    }
+    Ok(())
+}
+
+// ---- both
+
+/// The quotas whose limits change, and those of all namespaces that lost a live allocation.
 pub fn released_quotas(tables: &Tables, change: &Change) -> Result<Rows<Text>, AllocError>
     ensures { IfOk result (λ quotas. quotas ≡ released_quotas (world_of tables.now) change.now) }
 {
     let mut quotas = Rows::new(tables.alloc);
-    for slot in change.tenants.as_slice() {
-        add_quotas_of(&mut quotas, tables, slot)?;
-    }
+    add_all_relimited(&mut quotas, tables, change.quotas.as_slice())?;
+    add_all_left(&mut quotas, tables, change.tenants.as_slice())?;
     Ok(quotas)
 }

@@ -1,5 +1,5 @@
 use Rattle.std.proofs.Common.{◌∙◌, ap}
-use Rattle.ns_commit.specs.Committed.{released_quotas}
+use Rattle.ns_commit.specs.Committed.{settled_quotas}
 use Rattle.ns_commit.specs.Owners.{owners}
 use Rattle.ns_world.specs.World.{quota_of}
 use Rattle.ns_commit.proofs.Whole.{index_is, settled_is}
@@ -7,7 +7,7 @@ use Rattle.ns_commit.proofs.settled.commit.Goals as goal
 
 pub returns-clause-world : goal.returns-clause-world
 returns-clause-world c = settled_is c.args.settled c.args.tables.now _ c.commit_all.ensures c.commit_pools.ensures
-    (c.commit_quotas.ensures ∙ ap (λ names. released_quotas names (owners quota_of c.args.tables.now.quotas)) c.as_slice.ensures)
+    (c.commit_quotas.ensures ∙ ap (λ names. settled_quotas c.args.settled.quotas names (owners quota_of c.args.tables.now.quotas)) c.as_slice.ensures)
     c.commit_list.ensures c.commit_list-2.ensures c.commit_list-3.ensures
 
 pub returns-clause-index : goal.returns-clause-index

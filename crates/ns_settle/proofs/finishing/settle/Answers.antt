@@ -26,20 +26,22 @@ returns c =
     let s : Settled = record {
       tenants = c.in_ok-tenants.tenants;
       pools = c.wake.new.change.pools;
+      quotas = c.wake.new.change.quotas;
       ready = c.wake.new.change.ready;
       plans = c.wake.new.change.plans;
       blocked = c.wake.new.change.blocked;
       rooms = c.in_ok-rooms.rooms;
-      quotas = c.in_ok-quotas.quotas;
+      released = c.in_ok-released.released;
     } in
     let same : s ≡ settled_by w c.args.change c.wake.new.change = λ i. record {
       tenants = c.in_ok-tenants.ensures i;
       pools = c.wake.new.change.pools;
+      quotas = c.wake.new.change.quotas;
       ready = c.wake.new.change.ready;
       plans = c.wake.new.change.plans;
       blocked = c.wake.new.change.blocked;
       rooms = c.in_ok-rooms.ensures i;
-      quotas = c.in_ok-quotas.ensures i;
+      released = c.in_ok-released.ensures i;
     } in
     let done = finished w c.args.change c.wake.new.change s woke same in
     record { settled = done; fits = ap is_past_bound done ∙ c.requires }

@@ -7,7 +7,8 @@ pub returns : goal.returns
 returns c t = (λ i. view t (record {
   tenants = c.new.ensures i;
   pools = c.new-2.ensures i;
-  ready = c.new-3.ensures i;
-  plans = c.new-4.ensures i;
-  blocked = c.new-5.ensures i;
+  quotas = c.new-3.ensures i;
+  ready = c.new-4.ensures i;
+  plans = c.new-5.ensures i;
+  blocked = c.new-6.ensures i;
 })) ∙ nothing_changed t

@@ -4,7 +4,7 @@ use Rattle.keyed.specs.Table.{row_at}
 use Rattle.ns_types.specs.State.Names.{has_name}
 use Rattle.ns_commit.specs.Committed.{raised_quota}
 use Rattle.ns_commit.proofs.Raised.{Left}
-use Rattle.ns_commit.proofs.quotas.commit_quotas.Given as goal
+use Rattle.ns_commit.proofs.quotas.raise_quotas.Given as goal
 
 abbrev pub invariant-loop-i : goal.invariant-loop-i
 invariant-loop-i l = Left (λ name. name) raised_quota (λ quota. quota.release) (λ quota. refl) l.table (drop l.i l.released)

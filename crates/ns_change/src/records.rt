@@ -1,0 +1,19 @@
+//! Records of quotas.
+
+ghost use Rattle.ns_change.specs.Changed.{Does, with_record};
+ghost use Rattle.ns_world.specs.declared.tables.Tables.{Tables};
+
+use crate::change::Change;
+use ns_types::records::Quota;
+use ns_types::text::Text;
+use std::alloc::AllocError;
+
+/// Puts the record over that of the quota, where there is one of that name.
+pub fn put_quota(change: &mut Change, name: &Text, quota: &Quota) -> Result<(), AllocError>
+    ensures { (t : Tables) → Does result t change.old change.new (with_record name.now quota.now) }
+{
+    let row = quota.clone()?;
+    change.quotas.reserve(name)?;
+    change.quotas.set(name, row);
+    Ok(())
+}
