@@ -1,5 +1,5 @@
 -- The index of live allocations follows the changes of namespaces, one after another.
-use Rattle.std.specs.Prelude.{◌≡◌, ℕ, Bool, false, cond, if◌then◌else◌, T, IsTrue, List, [], ◌∷◌, Option, Some, None, option_map}
+use Rattle.std.specs.Prelude.{◌≡◌, ℕ, false, if◌then◌else◌, T, IsTrue, List, [], ◌∷◌, Option, Some, None, option_map}
 use Rattle.std.proofs.Common.{refl, sym, ap, ◌∙◌, subst}
 use Rattle.std.specs.FinMap.{FinMap, entries, entries_sorted, get, get-entries}
 use Rattle.std.specs.FinMap.Entries.{find, is_sorted}
@@ -23,8 +23,10 @@ use Rattle.ns_commit.specs.Owners.{changed_owners, owners}
 use Rattle.ns_commit.proofs.Owned.{at_each, found_here, found_other, get-changed, get-owners, no_more, none_changed, rest_sorted}
 use Rattle.ns_live.specs.declared.live.Live.{Live}
 use Rattle.ns_live.specs.Index.{HasRoomForAll, Indexes, KeepsKeys, KeepsRoom, has_room, with_changes}
+use Rattle.ns_live.specs.Shown.{KeepsShown, ShowsUnmoved}
 use Rattle.ns_live.proofs.Changing.{changes_over}
 use Rattle.ns_live.proofs.Puts.{indexes_same}
+use Rattle.ns_live.proofs.Unmoved.{unmoved_as, unmoved_same, unmoved_then}
 use Rattle.ns_world.specs.declared.tables.TenantRows.{TenantRows}
 use Rattle.ns_world.specs.World.{tenant_of}
 
@@ -53,12 +55,14 @@ module _ (changes : FinMap name_cmp (Option SettledTenant)) where
   -- no key came or went, and there is room for the changes of namespaces that es does not name
   pub record Reserving (before live : Live) (es : Slots) : Type 0 where
     pub same : KeepsKeys before live
+    pub shown : KeepsShown before live
     pub stand : Each (λ e. get changes e.0 ≡ Some e.1) es
     pub room : (q : Name) (x : SettledTenant) → find name_cmp q es ≡ None → row_at changes q ≡ Some x → HasRoomForAll live q x.rows.allocations
 
   pub none_made : (live : Live) (es : Slots) → es ≡ entries changes → Reserving live live es
   none_made live es is = record {
     same = λ pool node key. refl;
+    shown = refl;
     stand = stand_all es is;
     room = λ q x none at. absurd (not_Some x (sym (ap flat (found_in es is q ∙ none)) ∙ at));
   }
@@ -70,10 +74,11 @@ module _ (changes : FinMap name_cmp (Option SettledTenant)) where
     stand : Each (λ e. get changes e.0 ≡ Some e.1) ((k, slot) ∷ rest)
     stand = subst (λ es. Each (λ e. get changes e.0 ≡ Some e.1) es) is h.stand
 
-    pub one_made : (now : Live) (x : SettledTenant) → slot ≡ Some x → KeepsKeys live now → KeepsRoom live now → HasRoomForAll now k x.rows.allocations →
-        Reserving before now rest
-    one_made now x some same room made = record {
+    pub one_made : (now : Live) (x : SettledTenant) → slot ≡ Some x → KeepsKeys live now → KeepsShown live now → KeepsRoom live now →
+        HasRoomForAll now k x.rows.allocations → Reserving before now rest
+    one_made now x some same shown room made = record {
       same = λ pool node key. same pool node key ∙ h.same pool node key;
+      shown = shown ∙ h.shown;
       stand = stand.1;
       room = at_each (λ q. (y : SettledTenant) → find name_cmp q rest ≡ None → row_at changes q ≡ Some y → HasRoomForAll now q y.rows.allocations) k
           (λ y _ at. subst (λ x. HasRoomForAll now k x.rows.allocations) (same_Some x y (sym (ap flat stand.0 ∙ some) ∙ at)) made)
@@ -84,6 +89,7 @@ module _ (changes : FinMap name_cmp (Option SettledTenant)) where
     pub none_passed : (now : Live) → slot ≡ None → now ≡ live → Reserving before now rest
     none_passed now none stays = subst (λ live. Reserving before live rest) (sym stays) (record {
       same = h.same;
+      shown = h.shown;
       stand = stand.1;
       room = at_each (λ q. (y : SettledTenant) → find name_cmp q rest ≡ None → row_at changes q ≡ Some y → HasRoomForAll live q y.rows.allocations) k
           (λ y _ at. absurd (not_Some y (sym (ap flat stand.0 ∙ none) ∙ at)))
@@ -137,6 +143,7 @@ module _ (changes : FinMap name_cmp (Option SettledTenant)) where
 
     pub record Following (before live : Live) (es : Slots) : Type 0 where
       pub index : IsRightFor (owners tenant_of stored) before → Indexes (rows_now es) live
+      pub shown : ShowsUnmoved old (rows_now es) before live
       pub sorted : T (is_sorted name_cmp es)
       pub stand : Each (λ e. get changes e.0 ≡ Some e.1) es
       pub room : (q : Name) (x : SettledTenant) → flat (find name_cmp q es) ≡ Some x → HasRoomForAll live q x.rows.allocations
@@ -144,6 +151,7 @@ module _ (changes : FinMap name_cmp (Option SettledTenant)) where
     pub begun : (live : Live) (es : Slots) → es ≡ entries changes → HasIndexRoom changes live → Following live live es
     begun live es is room = record {
       index = λ right. indexes_same old (rows_now es) live right (λ key. by key (find name_cmp key.0 es) refl);
+      shown = unmoved_same old (rows_now es) live live refl (λ key. by key (find name_cmp key.0 es) refl);
       sorted = subst (λ es. T (is_sorted name_cmp es)) (sym is) (entries_sorted changes);
       stand = stand_all es is;
       room = λ q x at. room q x (ap flat (found_in es is q) ∙ at);
@@ -156,6 +164,9 @@ module _ (changes : FinMap name_cmp (Option SettledTenant)) where
     pub all_followed : (before live : Live) (es : Slots) → es ≡ [] → Following before live es → IsRightFor (owners tenant_of stored) before →
         IsRightFor (changed_owners settled_tenant changes (owners tenant_of stored)) live
     all_followed before live es is h right = subst (λ es. Indexes (rows_now es) live) is (h.index right)
+
+    pub all_unmoved : (before live : Live) (es : Slots) → es ≡ [] → Following before live es → ShowsUnmoved old new before live
+    all_unmoved before live es is h = subst (λ es. ShowsUnmoved old (rows_now es) before live) is h.shown
 
     module _ (k : Name) (slot : Option SettledTenant) (es rest : Slots) (is : es ≡ (k, slot) ∷ rest) (before live : Live) (h : Following before live es) where
       here : find name_cmp k es ≡ Some slot
@@ -181,13 +192,16 @@ module _ (changes : FinMap name_cmp (Option SettledTenant)) where
       -- no row of the namespace changes
       stays : ((n : ℕ) → new (k, n) ≡ old (k, n)) → Following before live rest
       stays alike = record {
-        index = λ right. indexes_same (rows_now es) (rows_now rest) live (h.index right)
-            (at_keys (λ key. rows_now rest key ≡ rows_now es key) k
-            (λ n. ap (λ r. in_time r (k, n)) over_now ∙ alike n ∙ sym (ap (λ r. in_time r (k, n)) here)) others);
+        index = λ right. indexes_same (rows_now es) (rows_now rest) live (h.index right) as_now;
+        shown = unmoved_as old (rows_now es) (rows_now rest) before live as_now h.shown;
         sorted = rest_sorted k slot es rest is h.sorted;
         stand = standing.1;
         room = λ q x at. h.room q x (later q x at).1;
       }
+        where
+          as_now : (key : Key) → rows_now rest key ≡ rows_now es key
+          as_now = at_keys (λ key. rows_now rest key ≡ rows_now es key) k
+              (λ n. ap (λ r. in_time r (k, n)) over_now ∙ alike n ∙ sym (ap (λ r. in_time r (k, n)) here)) others
 
       pub nothing_changes : (now : Live) → slot ≡ None → now ≡ live → Following before now rest
       nothing_changes now none same = subst (λ live. Following before live rest) (sym same)
@@ -199,14 +213,15 @@ module _ (changes : FinMap name_cmp (Option SettledTenant)) where
       pub one_followed : (now : Live) (x : SettledTenant) (row : TenantRows) → slot ≡ Some x → row_at stored k ≡ Some row →
           ((row_of : Key → Option Allocation) → Indexes row_of live → ((n : ℕ) → row_of (k, n) ≡ row_at row.allocations n) →
           Indexes (with_changes k x.rows.allocations row_of) now) →
+          ((row_of : Key → Option Allocation) → ((n : ℕ) → row_of (k, n) ≡ row_at row.allocations n) →
+          ShowsUnmoved row_of (with_changes k x.rows.allocations row_of) live now) →
           ((pool node : Name) (key : Key) → same_name key.0 k ≡ false → IsTrue (has_room live pool node key) → IsTrue (has_room now pool node key)) →
           Following before now rest
-      one_followed now x row some at index room = record {
+      one_followed now x row some at index shown room = record {
         index = λ right. indexes_same (with_changes k x.rows.allocations (rows_now es)) (rows_now rest) now (index (rows_now es) (h.index right) earlier)
-            (at_keys (λ key. rows_now rest key ≡ with_changes k x.rows.allocations (rows_now es) key) k
-            (λ n. ap (λ r. in_time r (k, n)) over_now ∙ changed_at k x row (ap flat standing.0 ∙ some) at n
-            ∙ sym (changes_over k row.allocations x.rows.allocations (rows_now es) earlier n))
-            (λ key e. others key e ∙ sym (ap (λ b. if b then unwrap_or (get x.rows.allocations key.1) (rows_now es key) else rows_now es key) e)));
+            as_changed;
+        shown = unmoved_as old (with_changes k x.rows.allocations (rows_now es)) (rows_now rest) before now as_changed
+            (unmoved_then old (rows_now es) (with_changes k x.rows.allocations (rows_now es)) before live now h.shown (shown (rows_now es) earlier));
         sorted = rest_sorted k slot es rest is h.sorted;
         stand = standing.1;
         room = λ q y found n r there lives.
@@ -215,3 +230,9 @@ module _ (changes : FinMap name_cmp (Option SettledTenant)) where
         where
           earlier : (n : ℕ) → rows_now es (k, n) ≡ row_at row.allocations n
           earlier n = ap (λ r. in_time r (k, n)) here ∙ old_at k row at n
+
+          as_changed : (key : Key) → rows_now rest key ≡ with_changes k x.rows.allocations (rows_now es) key
+          as_changed = at_keys (λ key. rows_now rest key ≡ with_changes k x.rows.allocations (rows_now es) key) k
+              (λ n. ap (λ r. in_time r (k, n)) over_now ∙ changed_at k x row (ap flat standing.0 ∙ some) at n
+              ∙ sym (changes_over k row.allocations x.rows.allocations (rows_now es) earlier n))
+              (λ key e. others key e ∙ sym (ap (λ b. if b then unwrap_or (get x.rows.allocations key.1) (rows_now es key) else rows_now es key) e))

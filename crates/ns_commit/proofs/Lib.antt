@@ -1,6 +1,7 @@
 pub mod Classes
 pub mod Cleared
 pub mod Following
+pub mod Forgetting
 pub mod Numbered
 pub mod Owned
 pub mod Raised

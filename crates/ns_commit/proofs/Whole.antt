@@ -3,8 +3,10 @@ use Rattle.std.specs.Prelude.{◌≡◌, ℕ, ◌+◌, ◌<◌, ◌≤◌, ◌^�
 use Rattle.std.proofs.Common.{refl, sym, ap, ◌∙◌, subst, arith}
 use Rattle.std.proofs.lemmas.Bool.{ltb-false}
 use Rattle.std.specs.FinMap.{FinMap, get, same_map}
+use Rattle.std.specs.Option.{option_and_then, unwrap_or}
 use Rattle.keyed.specs.Over.{HasRoomFor}
 use Rattle.keyed.specs.Table.{row_at}
+use Rattle.keyed.proofs.Over.{get-over}
 use Rattle.ns_types.specs.declared.event.Event.{Event}
 use Rattle.ns_types.specs.declared.node.Class.{Class}
 use Rattle.ns_types.specs.declared.records.Quota.{Quota}
@@ -24,12 +26,14 @@ use Rattle.ns_change.specs.Settled.{classes_in, settled_tenant, settled_world}
 use Rattle.ns_commit.specs.Committed.{CanRise, CanTell, Fits, HasNodeRoom, HaveClassRoom, KeepsNodes}
 use Rattle.ns_commit.specs.Committed.{numbered_pools, raised_pool, raised_quota, released_quotas, releases, settled_pools, settled_quotas}
 use Rattle.ns_commit.specs.Committed.{with_classes}
-use Rattle.ns_commit.specs.Indexed.{IsRightFor}
+use Rattle.ns_commit.specs.Indexed.{ForgetsChanged, IsRightFor, allocation_in}
 use Rattle.ns_commit.specs.Owners.{EachChanged, changed_owners, owners}
 use Rattle.ns_commit.proofs.Owned.{get-changed, get-owners}
 use Rattle.ns_commit.proofs.Reserved.{is_some_class, releases_is}
 use Rattle.ns_live.specs.declared.live.Live.{Live}
 use Rattle.ns_live.specs.Index.{IsRight, KeepsKeys}
+use Rattle.ns_live.specs.Shown.{KeepsShown, ShowsUnmoved, live_row, shown_in}
+use Rattle.ns_live.proofs.Unmoved.{shown_still, still_right}
 use Rattle.ns_world.specs.declared.tables.PoolRows.{PoolRows}
 use Rattle.ns_world.specs.declared.tables.QuotaRows.{QuotaRows}
 use Rattle.ns_world.specs.declared.tables.Tables.{Tables}
@@ -171,16 +175,51 @@ settled_is s old new tenants pools quotas ready plans blocked i = record {
 
 -- ---- the index
 
-pub index_is : (s : Settled) (old new : Tables) (before live : Live) →
-    owners tenant_of new.tenants ≡ changed_owners settled_tenant s.tenants (owners tenant_of old.tenants) →
-    (IsRightFor (owners tenant_of old.tenants) before → IsRightFor (changed_owners settled_tenant s.tenants (owners tenant_of old.tenants)) live) →
-    IsRight (world_of old) before → IsRight (world_of new) live
-unfolding world_of
-index_is s old new before live rows followed right = subst (λ tenants. IsRightFor tenants live) (sym rows) (followed right)
+-- a release leaves the nodes of its pool, and a change those that it does not name
+released_nodes : (classes : List Class) (pool : Rows.PoolRows) → (after_release classes pool).nodes ≡ pool.nodes
+released_nodes [] pool = refl
+released_nodes (class ∷ classes) pool = refl
 
-pub index_stays : (old new : Tables) (before live : Live) → world_of new ≡ world_of old → KeepsKeys before live → IsRight (world_of old) before →
-    IsRight (world_of new) live
-index_stays old new before live same keys right = subst (λ w. IsRight w live) (sym same) (λ pool node key. keys pool node key ∙ right pool node key)
+node_kept : (x : FinMap name_cmp (Option PoolChange)) (rooms : List (Name × Class)) (m : ByName Rows.PoolRows) (pool name : Name) →
+    ((change : PoolChange) → row_at x pool ≡ Some change → get change.nodes name ≡ None) →
+    option_and_then (λ p. get p.nodes name) (get (settled_pools x rooms m) pool) ≡ option_and_then (λ p. get p.nodes name) (get m pool)
+node_kept x rooms m pool name idle = ap (option_and_then (λ p. get p.nodes name)) (get-map_rows names one_name
+    (λ name pool. after_release (classes_in name rooms) (perhaps changed_pool (row_at x name) pool)) m pool) ∙ by (get m pool)
+  where
+    unchanged : (p : Rows.PoolRows) (r : Option PoolChange) → row_at x pool ≡ r → get (perhaps changed_pool r p).nodes name ≡ get p.nodes name
+    unchanged p None is = refl
+    unchanged p (Some change) is = get-over names one_name p.nodes change.nodes name ∙ ap (λ o. unwrap_or o (get p.nodes name)) (idle change is)
+
+    by : (p : Option Rows.PoolRows) → option_and_then (λ p. get p.nodes name)
+        (option_map (λ p. after_release (classes_in pool rooms) (perhaps changed_pool (row_at x pool) p)) p) ≡ option_and_then (λ p. get p.nodes name) p
+    by None = refl
+    by (Some p) = ap (λ nodes. get nodes name) (released_nodes (classes_in pool rooms) (perhaps changed_pool (row_at x pool) p))
+        ∙ unchanged p (row_at x pool) refl
+
+pub index_is : (s : Settled) (old new : Tables) (before mid live : Live) →
+    owners tenant_of new.tenants ≡ changed_owners settled_tenant s.tenants (owners tenant_of old.tenants) →
+    owners pool_of new.pools ≡ settled_pools s.pools s.rooms (owners pool_of old.pools) →
+    (IsRightFor (owners tenant_of old.tenants) before → IsRightFor (changed_owners settled_tenant s.tenants (owners tenant_of old.tenants)) mid) →
+    ShowsUnmoved (allocation_in (owners tenant_of old.tenants)) (allocation_in (changed_owners settled_tenant s.tenants (owners tenant_of old.tenants)))
+    before mid → KeepsKeys mid live → ForgetsChanged s.pools mid live → IsRight (world_of old) before → IsRight (world_of new) live
+unfolding world_of
+index_is s old new before mid live rows pools followed unmoved keys forgets right = record {
+  index = subst (λ tenants. IsRightFor tenants live) (sym rows) (λ pool node key. keys pool node key ∙ followed right.index pool node key);
+  shown = shown_still (world_of old) (world_of new) before live right (λ pool name node is.
+      let g = forgets pool name node is in
+      let h = unmoved pool name node g.0 in (
+        h.0,
+        (
+          (λ key. ap (λ tenants. live_row pool name (allocation_in tenants key)) rows ∙ h.1 key),
+          ap (λ m. option_and_then (λ p. get p.nodes name) (get m pool)) pools ∙ node_kept s.pools s.rooms (owners pool_of old.pools) pool name g.1,
+        ),
+      ));
+}
+
+pub index_stays : (old new : Tables) (before live : Live) → world_of new ≡ world_of old → KeepsKeys before live → KeepsShown before live →
+    IsRight (world_of old) before → IsRight (world_of new) live
+index_stays old new before live same keys shown right = subst (λ w. IsRight w live) (sym same)
+    (still_right (world_of old) before live keys (λ pool name. ap (λ s. shown_in s pool name) shown) right)
 
 -- ---- numbers within their bounds
 

@@ -1,13 +1,15 @@
-//! All that a settled step changes goes into the tables, and into the index of live allocations beside them.
+//! All that a settled step changes goes into the tables, and into the index of live allocations beside them. What was
+//! shown of a node is forgotten where it changes.
 
 ghost use Rattle.std.specs.Prelude.{◌≡◌, OnErr, OnOk};
 ghost use Rattle.ns_change.specs.Settled.{settled_world};
 ghost use Rattle.ns_commit.specs.Committed.{AreCleared, Fits, HasRoom};
 ghost use Rattle.ns_commit.specs.Indexed.{HasIndexRoom};
 ghost use Rattle.ns_live.specs.Index.{IsRight, KeepsKeys};
+ghost use Rattle.ns_live.specs.Shown.{KeepsShown};
 ghost use Rattle.ns_world.specs.World.{world_of};
 
-use crate::indexing::{commit_index, reserve_index};
+use crate::indexing::{commit_index, forget_nodes, reserve_index};
 use crate::lists::{clear_list, commit_list, reserve_list};
 use crate::owners::{clear_all, commit_all, reserve_all};
 use crate::pools::{commit_pools, reserve_pools};
@@ -22,6 +24,7 @@ fn reserve_parts(tables: &mut Tables, live: &mut Live, settled: &Settled) -> Res
     requires { Fits (world_of tables.old) settled.now }
     ensures world { world_of tables.new ≡ world_of tables.old }
     ensures keys { KeepsKeys live.old live.new }
+    ensures shown { KeepsShown live.old live.new }
     ensures room { OnOk result (HasRoom settled.now tables.new) }
     ensures index_room { OnOk result (HasIndexRoom settled.now.tenants live.new) }
 {
@@ -46,11 +49,12 @@ fn clear(tables: &mut Tables, settled: &Settled)
 }
 
 /// Makes room for all that a settled step changes. Want of memory is the only error: then no changed row of a namespace, nor
-/// node, has a vacant slot; room of lists and of the index may be left. The world and the keys of the index stay.
+/// node, has a vacant slot; room of lists and of the index may be left. The world, the keys of the index and what is shown stay.
 pub fn reserve(tables: &mut Tables, live: &mut Live, settled: &Settled) -> Result<(), AllocError>
     requires { Fits (world_of tables.old) settled.now }
     ensures world { world_of tables.new ≡ world_of tables.old }
     ensures keys { KeepsKeys live.old live.new }
+    ensures shown { KeepsShown live.old live.new }
     ensures room { OnOk result (HasRoom settled.now tables.new) }
     ensures index_room { OnOk result (HasIndexRoom settled.now.tenants live.new) }
     ensures cleared { OnErr result (AreCleared settled.now tables.new) }
@@ -80,6 +84,7 @@ pub fn commit(tables: &mut Tables, live: &mut Live, settled: Settled)
         released,
     } = settled;
     commit_index(live, &tables.tenants, &tenants);
+    forget_nodes(live, &pools);
     commit_all(&mut tables.tenants, tenants);
     commit_pools(&mut tables.pools, pools, rooms);
     commit_quotas(&mut tables.quotas, quotas, released.as_slice());

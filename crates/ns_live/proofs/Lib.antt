@@ -1,7 +1,10 @@
 pub mod Administered
 pub mod Bounded
 pub mod Changing
+pub mod Forgetting
 pub mod Listing
 pub mod Loaded
 pub mod Puts
+pub mod Showing
 pub mod Sums
+pub mod Unmoved

@@ -1,25 +1,24 @@
 -- When an index is right for a world that no row was written into one by one.
-use Rattle.std.specs.Prelude.{◌≡◌, false, Option, Result}
+use Rattle.std.specs.Prelude.{Option, Result}
 use Rattle.ns_types.specs.declared.refusal.Refusal.{Refusal}
 use Rattle.ns_types.specs.declared.reply.Content.{Content}
 use Rattle.ns_types.specs.declared.step.AdminCommand.{AdminCommand}
 use Rattle.ns_types.specs.Asking.Policies.{administer}
 use Rattle.ns_types.specs.Settling.Outcome.{Changes}
-use Rattle.ns_types.specs.State.Names.{Name, Key}
+use Rattle.ns_types.specs.State.Names.{Name}
 use Rattle.ns_types.specs.State.Rows.{State, World}
 use Rattle.ns_types.specs.State.Sums.{node_load}
 use Rattle.ns_types.specs.Steps.{opening}
 use Rattle.ns_types.specs.Validity.{IsSound}
 use Rattle.ns_live.specs.declared.live.Live.{Live}
-use Rattle.ns_live.specs.Index.{IsRight, holds}
+use Rattle.ns_live.specs.Index.{IsEmpty, IsRight}
 use Rattle.ns_live.specs.Loads.{IsCounted}
 
--- nothing is live at first
+-- nothing is live or shown at first
 abbrev pub EmptyIsRightAtFirst : Type 0
-EmptyIsRightAtFirst = (secret : Name) (live : Live) →
-    ((pool node : Name) (key : Key) → holds live pool node key ≡ false) → IsRight (opening secret).world live
+EmptyIsRightAtFirst = (secret : Name) (live : Live) → IsEmpty live → IsRight (opening secret).world live
 
--- administrators move no live allocation
+-- administrators move no live allocation and change no node
 abbrev pub AdministrationKeepsRight : Type 0
 AdministrationKeepsRight = (secret : Option Name) (command : AdminCommand) (s s' : State)
     (result : Result Content Refusal) (live : Live) → Changes (administer secret command s) s result s' →

@@ -3,3 +3,4 @@ pub mod Laws
 pub mod Levels
 pub mod Listed
 pub mod Loads
+pub mod Shown

@@ -1,6 +1,6 @@
-//! The live allocations on all nodes.
+//! The live allocations on all nodes, and the nodes as they were last shown.
 
-ghost use Rattle.std.specs.Prelude.{◌≡◌, ℕ, false, IsTrue, OnOk, Option, Some, is_some, option_copied};
+ghost use Rattle.std.specs.Prelude.{◌≡◌, ℕ, false, IsTrue, OnErr, OnOk, Option, Some, is_some, option_copied};
 ghost use Rattle.std.specs.Option.{option_map_or};
 ghost use Rattle.std.specs.FinMap.{empty};
 ghost use Rattle.keyed.specs.Table.{row_at};
@@ -8,27 +8,34 @@ ghost use Rattle.ns_types.specs.declared.allocation.Allocation.{Allocation};
 ghost use Rattle.ns_types.specs.State.Names.{Key, Name, same_key, same_name};
 ghost use Rattle.ns_types.specs.State.Rows.{is_live, is_live_on};
 ghost use Rattle.ns_types.specs.State.Sums.{node_load};
-ghost use Rattle.ns_live.specs.Index.{AddsRow, HasRoomFor, HasRoomForAll, Indexes, IsRight, KeepsKeys, KeepsRoom};
+ghost use Rattle.ns_live.specs.Index.{AddsRow, HasRoomFor, HasRoomForAll, Indexes, IsEmpty, IsRight};
+ghost use Rattle.ns_live.specs.Index.{KeepsKeys, KeepsRoom};
 ghost use Rattle.ns_live.specs.Index.{has_room, holds, with_changes, with_row};
 ghost use Rattle.keyed.specs.Levels.{Adds, Drops, Keeps, holds_key, same_at};
 ghost use Rattle.ns_live.specs.Levels.{holds_in_pool, has_pool_room};
 ghost use Rattle.ns_live.specs.Loads.{IsCounted};
+ghost use Rattle.ns_live.specs.Shown.{ForgetsNodes, KeepsShown, ShowsSame, ShowsThere, ShowsUnmoved, shown_at};
 ghost use Rattle.ns_world.specs.World.{world_of};
 
 use crate::loads::{keys_load, none};
 use crate::pool_keys::PoolKeys;
+use crate::shown::ShownNodes;
 use keyed::{KeySet, NameTable, NumberTable};
 use ns_types::allocation::Allocation;
+use ns_types::node::Node;
 use ns_types::resources::Resources;
+use ns_types::shared::Shared;
+use ns_types::snapshot::PoolNode;
 use ns_types::text::{Text, same_text};
 use ns_world::Tables;
 use std::alloc::{AllocError, Global};
 
-/// The keys of all live allocations, by the pool and the node that they are on.
+/// The keys of all live allocations, by the pool and the node that they are on, and the nodes that are shown.
 #[derive(Drop)]
 pub struct Live {
     alloc: Global,
     pools: NameTable<PoolKeys>,
+    shown: ShownNodes,
 }
 
 fn is_live_on(row: Option<&Allocation>, pool: &Text, node: &Text) -> bool
@@ -42,13 +49,14 @@ fn is_live_on(row: Option<&Allocation>, pool: &Text, node: &Text) -> bool
 }
 
 impl Live {
-    /// No keys. It takes no memory.
+    /// No keys, and no node is shown. It takes no memory.
     pub fn new(alloc: Global) -> Live
-        ensures { (pool : Name) (node : Name) (key : Key) → holds result pool node key ≡ false }
+        ensures { IsEmpty result }
     {
         Live {
             alloc,
             pools: NameTable::new(alloc),
+            shown: ShownNodes::new(alloc),
         }
     }
 
@@ -60,6 +68,7 @@ impl Live {
         row: &Allocation,
     ) -> Result<(), AllocError>
         ensures same { KeepsKeys self.old self.new }
+        ensures shown { KeepsShown self.old self.new }
         ensures room { KeepsRoom self.old self.new }
         ensures ok { OnOk result (HasRoomFor self.new (namespace.now, number) (Some row.now)) }
     {
@@ -70,7 +79,7 @@ impl Live {
     }
 
     /// The row under this key was `before` and is `after` from now on. It takes no memory: for a row that is live there
-    /// has to be room, which other keys keep.
+    /// has to be room, which other keys keep. A node on which one of them is live is not shown any more.
     pub fn put(
         &mut self,
         namespace: &Text,
@@ -82,6 +91,32 @@ impl Live {
         ensures index { (row_of : Key → Option Allocation) → Indexes row_of self.old →
             row_of (namespace.now, number) ≡ option_copied before.entry →
             Indexes (with_row (namespace.now, number) (option_copied after.entry) row_of) self.new }
+        ensures shown { (row_of : Key → Option Allocation) →
+            row_of (namespace.now, number) ≡ option_copied before.entry →
+            ShowsUnmoved row_of
+            (with_row (namespace.now, number) (option_copied after.entry) row_of) self.old self.new }
+        ensures room { (pool : Name) (node : Name) (key : Key) →
+            same_key key (namespace.now, number) ≡ false →
+            IsTrue (has_room self.old pool node key) → IsTrue (has_room self.new pool node key) }
+    {
+        self.put_key(namespace, number, before, after);
+        self.shown.forget_row(before);
+        self.shown.forget_row(after);
+    }
+
+    /// The same of the index alone.
+    fn put_key(
+        &mut self,
+        namespace: &Text,
+        number: u64,
+        before: Option<&Allocation>,
+        after: Option<&Allocation>,
+    )
+        requires { HasRoomFor self.old (namespace.now, number) (option_copied after) }
+        ensures index { (row_of : Key → Option Allocation) → Indexes row_of self.old →
+            row_of (namespace.now, number) ≡ option_copied before.entry →
+            Indexes (with_row (namespace.now, number) (option_copied after.entry) row_of) self.new }
+        ensures shown { KeepsShown self.old self.new }
         ensures room { (pool : Name) (node : Name) (key : Key) →
             same_key key (namespace.now, number) ≡ false →
             IsTrue (has_room self.old pool node key) → IsTrue (has_room self.new pool node key) }
@@ -101,6 +136,7 @@ impl Live {
         changes: &NumberTable<Allocation>,
     ) -> Result<(), AllocError>
         ensures same { KeepsKeys self.old self.new }
+        ensures shown { KeepsShown self.old self.new }
         ensures room { KeepsRoom self.old self.new }
         ensures ok { OnOk result (HasRoomForAll self.new namespace.now changes.now) }
     {
@@ -121,6 +157,9 @@ impl Live {
         ensures index { (row_of : Key → Option Allocation) → Indexes row_of self.old →
             ((n : ℕ) → row_of (namespace.now, n) ≡ row_at table.now n) →
             Indexes (with_changes namespace.now changes.now row_of) self.new }
+        ensures shown { (row_of : Key → Option Allocation) →
+            ((n : ℕ) → row_of (namespace.now, n) ≡ row_at table.now n) →
+            ShowsUnmoved row_of (with_changes namespace.now changes.now row_of) self.old self.new }
         ensures room { (pool : Name) (node : Name) (key : Key) →
             same_name key.0 namespace.now ≡ false →
             IsTrue (has_room self.old pool node key) → IsTrue (has_room self.new pool node key) }
@@ -128,6 +167,38 @@ impl Live {
         for slot in changes.as_slice() {
             self.put(namespace, slot.0, table.get(slot.0), slot.1.as_ref());
         }
+    }
+
+    /// The changed nodes of the pool are not shown any more. It takes no memory.
+    pub fn forget_all(&mut self, pool: &Text, changes: &NameTable<Node>)
+        ensures keys { KeepsKeys self.old self.new }
+        ensures shown { ForgetsNodes pool.now changes.now self.old self.new }
+    {
+        for slot in changes.as_slice() {
+            self.shown.forget(pool, &slot.0);
+        }
+    }
+
+    /// The node as it was last shown, unless it changed since.
+    pub fn shown_at(&self, pool: &Text, name: &Text) -> Option<&Shared<PoolNode>>
+        ensures { option_copied result ≡ shown_at self.now pool.now name.now }
+    {
+        self.shown.get(pool, name)
+    }
+
+    /// Shows the node so from now on. Want of memory is the only error.
+    pub fn show(
+        &mut self,
+        pool: &Text,
+        name: &Text,
+        node: Shared<PoolNode>,
+    ) -> Result<(), AllocError>
+        ensures keys { KeepsKeys self.old self.new }
+        ensures ok { OnOk result (
+            ShowsThere pool.now name.now (Some node) self.old.shown self.new.shown) }
+        ensures err { OnErr result (ShowsSame self.old.shown self.new.shown) }
+    {
+        self.shown.put(self.alloc, pool, name, node)
     }
 
     /// The keys of the live allocations on this node, where there are some.
@@ -159,7 +230,8 @@ impl Live {
     /// Holds the key where the row is live. It takes no memory.
     fn add(&mut self, namespace: &Text, number: u64, row: Option<&Allocation>)
         requires { HasRoomFor self.old (namespace.now, number) (option_copied row) }
-        ensures { AddsRow (namespace.now, number) (option_copied row.entry) self.old self.new }
+        ensures added { AddsRow (namespace.now, number) (option_copied row.entry) self.old self.new }
+        ensures shown { KeepsShown self.old self.new }
     {
         if let Some(row) = row {
             if row.is_live() {
@@ -176,6 +248,7 @@ impl Live {
         row: Option<&Allocation>,
     ) -> Result<(), AllocError>
         ensures same { KeepsKeys self.old self.new }
+        ensures shown { KeepsShown self.old self.new }
         ensures room { KeepsRoom self.old self.new }
         ensures ok { OnOk result (
             HasRoomFor self.new (namespace.now, number) (option_copied row.entry)) }
@@ -189,6 +262,7 @@ impl Live {
     /// Makes a set for the pool, unless it is there.
     fn open(&mut self, pool: &Text) -> Result<(), AllocError>
         ensures same { Keeps holds_in_pool has_pool_room self.old self.new }
+        ensures shown { KeepsShown self.old self.new }
         ensures ok { OnOk result (IsTrue (is_some (row_at self.new.pools pool.now))) }
     {
         self.pools.reserve(pool)?;
@@ -207,6 +281,7 @@ impl Live {
         number: u64,
     ) -> Result<(), AllocError>
         ensures same { Keeps holds_in_pool has_pool_room self.old self.new }
+        ensures shown { KeepsShown self.old self.new }
         ensures ok { OnOk result (
             IsTrue (has_pool_room self.new (pool.now, (node.now, (namespace.now, number))))) }
     {
@@ -221,8 +296,9 @@ impl Live {
     /// Holds the key on the node from now on. It takes no memory.
     fn insert(&mut self, pool: &Text, node: &Text, namespace: &Text, number: u64)
         requires { IsTrue (has_pool_room self.old (pool.now, (node.now, (namespace.now, number)))) }
-        ensures { Adds holds_in_pool has_pool_room (same_at (same_at same_key))
+        ensures added { Adds holds_in_pool has_pool_room (same_at (same_at same_key))
             (pool.now, (node.now, (namespace.now, number))) self.old self.new }
+        ensures shown { KeepsShown self.old self.new }
     {
         if let Some(nodes) = self.pools.get_mut(pool) {
             nodes.insert(node, namespace, number);
@@ -231,8 +307,9 @@ impl Live {
 
     /// Holds the key on the node no longer. It takes no memory. A set without keys and room goes with its last key.
     fn remove(&mut self, pool: &Text, node: &Text, namespace: &Text, number: u64)
-        ensures { Drops holds_in_pool has_pool_room (same_at (same_at same_key))
+        ensures dropped { Drops holds_in_pool has_pool_room (same_at (same_at same_key))
             (pool.now, (node.now, (namespace.now, number))) self.old self.new }
+        ensures shown { KeepsShown self.old self.new }
     {
         let Some(nodes) = self.pools.get_mut(pool) else {
             return;

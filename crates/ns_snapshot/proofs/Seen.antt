@@ -1,11 +1,12 @@
 -- What a snapshot has of the slots of tables is what the model's has of the world that they hold.
 use Rattle.std.specs.Prelude.{◌≡◌, ℕ, Bool, true, false, cond, List, [], ◌∷◌, ◌++◌}
 use Rattle.std.specs.Prelude.{Option, Some, None, filter, flat_map, fold, is_some, map, option_map, IfOk, Result}
-use Rattle.std.proofs.Common.{refl, sym, ap, subst, ◌∙◌}
+use Rattle.std.proofs.Common.{refl, sym, ap, subst, append_assoc, ◌∙◌}
+use Rattle.std.proofs.lemmas.List.{append-nil}
 use Rattle.std.specs.FinMap.{empty, entries, find, from_entries, get, get-empty, get-from_entries, get-insert, insert, keys, same_map, values}
 use Rattle.std.specs.Option.{option_and_then, option_map_or, option_or}
 use Rattle.std.specs.Ordering.{eq_by_cmp, nat_cmp}
-use Rattle.keyed.specs.Table.{row_at, row_list, rows, with_row}
+use Rattle.keyed.specs.Table.{flat, row_at, row_list, rows, with_row}
 use Rattle.keyed.proofs.Tables.{entries-rows, get-rows}
 use Rattle.ns_types.specs.declared.allocation.Allocation.{Allocation}
 use Rattle.ns_types.specs.declared.job.Job.{Job}
@@ -13,13 +14,14 @@ use Rattle.ns_types.specs.declared.node.Node.{Node}
 use Rattle.ns_types.specs.declared.snapshot.LiveAllocation.{LiveAllocation}
 use Rattle.ns_types.specs.declared.snapshot.PoolNode.{PoolNode}
 use Rattle.ns_types.specs.State.Names.{Key, Name, ByNumber}
-use Rattle.ns_types.specs.State.Rows.{World, Tenant, allocation_at, is_live_on}
+use Rattle.ns_types.specs.State.Rows.{World, Tenant, allocation_at, is_live_on, node_at}
 use Rattle.ns_types.specs.State.Sums.{names_quota}
 use Rattle.ns_types.specs.State.Tables.{table_of}
 use Rattle.ns_types.specs.Working.Snapshot.{live_on, namespaces_naming, nodes_of, own_allocations, seen_live}
-use Rattle.ns_types.proofs.Named.{numbers, one_number}
+use Rattle.ns_types.proofs.Named.{names, numbers, one_name, one_number}
 use Rattle.ns_types.proofs.TableRows.{entries_empty}
-use Rattle.ns_types.proofs.Tables.{entries-table_of, get-table_of, tied}
+use Rattle.ns_types.proofs.Tables.{each_row, entries-table_of, get-table_of, tied}
+use Rattle.ns_types.proofs.Tests.{same_Some}
 use Rattle.ns_world.specs.declared.tables.PoolRows.{PoolRows as StoredPool}
 use Rattle.ns_world.specs.declared.tables.Tables.{Tables}
 use Rattle.ns_world.specs.declared.tables.TenantRows.{TenantRows}
@@ -29,7 +31,10 @@ use Rattle.keyed.specs.Levels.{holds_key}
 use Rattle.keyed.specs.declared.key_set.KeySet.{KeySet}
 use Rattle.ns_live.specs.Listed.{found_at, keys_in}
 use Rattle.ns_live.proofs.Listing.{allocations_are, no_allocations, shown}
-use Rattle.ns_snapshot.specs.Seen.{add_namespace, add_number, add_seen, is_own, naming, node_at_slot, own_at, seen_row}
+use Rattle.ns_live.specs.declared.live.Live.{Live}
+use Rattle.ns_live.specs.Index.{IsRight}
+use Rattle.ns_live.specs.Shown.{node_seen}
+use Rattle.ns_snapshot.specs.Seen.{AreNodesOf, IsNodeOf, add_namespace, add_number, add_seen, is_own, naming, node_at_slot, own_at, seen_row}
 
 -- what is answered, in another form
 pub ok_as : {A E : Type 0} (r : Result A E) (x y : A) → x ≡ y → IfOk r (λ a. a ≡ x) → IfOk r (λ a. a ≡ y)
@@ -91,6 +96,47 @@ nodes_are t pool x is = nodes_shown (world_of t) pool (entries x.nodes) ∙ ap (
 
 pub no_pool : (t : Tables) (pool : Name) → row_at t.pools pool ≡ None → nodes_of (world_of t) pool ≡ []
 no_pool t pool is = ap (λ p. option_map_or (λ p. map (shown_node (world_of t) pool) (entries p.nodes)) p []) (pool_at t pool ∙ ap (option_map pool_of) is)
+
+pub are_nodes : (t : Tables) (pool : Name) (x : StoredPool) → row_at t.pools pool ≡ Some x → (slots : List (Name × Option Node)) → slots ≡ entries x.nodes →
+    AreNodesOf (world_of t) pool slots
+are_nodes t pool x at slots is = subst (AreNodesOf (world_of t) pool) (sym is) (each_row names one_name
+    (λ name slot. (row : Node) → slot ≡ Some row → node_at (world_of t) pool name ≡ Some row) x.nodes
+    (λ name slot stands row some. ap (option_and_then (λ p. get p.nodes name)) (pool_at t pool ∙ ap (option_map pool_of) at)
+    ∙ get-rows names x.nodes name ∙ ap flat stands ∙ some))
+
+-- a node that is shown is the one that is there
+pub shown_is : (w : World) (pool name : Name) (row : Node) → node_at w pool name ≡ Some row → (shown : PoolNode) → node_seen w pool name ≡ Some shown →
+    shown ≡ record { name = name; row = row; live = live_on w pool name }
+shown_is w pool name row there shown seen = same_Some _ _ (sym seen
+    ∙ ap (option_map (λ row. record { name = name; row = row; live = live_on w pool name })) there)
+
+pub seen_there : (w : World) (pool name : Name) (row : Node) → node_at w pool name ≡ Some row → (shown : PoolNode) →
+    shown ≡ record { name = name; row = row; live = live_on w pool name } → node_seen w pool name ≡ Some shown
+seen_there w pool name row there shown is = ap (option_map (λ row. record { name = name; row = row; live = live_on w pool name })) there ∙ ap Some (sym is)
+
+-- the loop that lists them
+pub record IsListing (w : World) (pool : Name) (all left : List (Name × Option Node)) (nodes : List PoolNode) (live : Live) : Type 0 where
+  pub listed : nodes ++ flat_map (node_at_slot w pool) left ≡ flat_map (node_at_slot w pool) all
+  pub right : IsRight w live
+  pub there : AreNodesOf w pool left
+
+module _ (w : World) (pool : Name) (all left rest : List (Name × Option Node)) (slot : Name × Option Node) (is : left ≡ slot ∷ rest)
+    (nodes : List PoolNode) (live : Live) (h : IsListing w pool all left nodes live) where
+  pub node_next : IsNodeOf w pool slot
+  node_next = (subst (AreNodesOf w pool) is h.there).0
+
+  pub listed_next : (more : List PoolNode) (now : Live) → more ≡ nodes ++ node_at_slot w pool slot → IsRight w now → IsListing w pool all rest more now
+  listed_next more now put right = record {
+    listed = ap (λ nodes. nodes ++ flat_map (node_at_slot w pool) rest) put
+        ∙ append_assoc nodes (node_at_slot w pool slot) (flat_map (node_at_slot w pool) rest)
+        ∙ ap (λ slots. nodes ++ flat_map (node_at_slot w pool) slots) (sym is) ∙ h.listed;
+    right = right;
+    there = (subst (AreNodesOf w pool) is h.there).1;
+  }
+
+pub all_listed : (w : World) (pool : Name) (all : List (Name × Option Node)) (nodes : List PoolNode) (live : Live) (left : List (Name × Option Node)) →
+    left ≡ [] → IsListing w pool all left nodes live → nodes ≡ flat_map (node_at_slot w pool) all
+all_listed w pool all nodes live left is h = sym (append-nil nodes) ∙ ap (λ slots. nodes ++ flat_map (node_at_slot w pool) slots) (sym is) ∙ h.listed
 
 -- ---- a table that is filled entry by entry, where the first of a key counts
 

@@ -9,8 +9,9 @@ use Rattle.ns_types.specs.declared.node.Node.{Node}
 use Rattle.ns_types.specs.declared.snapshot.LiveAllocation.{LiveAllocation}
 use Rattle.ns_types.specs.declared.snapshot.OwnAllocation.{OwnAllocation}
 use Rattle.ns_types.specs.declared.snapshot.PoolNode.{PoolNode}
+use Rattle.ns_types.specs.State.Lists.{Each}
 use Rattle.ns_types.specs.State.Names.{Name, ByName, ByNumber, same_name}
-use Rattle.ns_types.specs.State.Rows.{World, Tenant, is_live}
+use Rattle.ns_types.specs.State.Rows.{World, Tenant, is_live, node_at}
 use Rattle.ns_types.specs.State.Sums.{names_quota, quota_use}
 use Rattle.ns_types.specs.Working.Snapshot.{is_done_for, live_on, seen_live}
 use Rattle.ns_jobs.specs.Read.{UseFits}
@@ -52,6 +53,13 @@ add_namespace tenants seen (ns, Some numbers) =
 abbrev pub node_at_slot : World → Name → Name × Option Node → List PoolNode
 node_at_slot w pool (name, None) = []
 node_at_slot w pool (name, Some row) = record { name = name; row = row; live = live_on w pool name } ∷ []
+
+-- a node of the slot is in the pool
+abbrev pub IsNodeOf : World → Name → Name × Option Node → Type 0
+IsNodeOf w pool slot = (row : Node) → slot.1 ≡ Some row → node_at w pool slot.0 ≡ Some row
+
+abbrev pub AreNodesOf : World → Name → List (Name × Option Node) → Type 0
+AreNodesOf w pool slots = Each (IsNodeOf w pool) slots
 
 -- ---- the quota
 

@@ -1,9 +1,10 @@
-//! The nodes of a pool, with their live allocations.
+//! The nodes of a pool, with their live allocations. A node that did not change since it was last shown is shared.
 
-ghost use Rattle.std.specs.Prelude.{◌≡◌, ◌++◌, IfOk, OnOk, flat_map};
+ghost use Rattle.std.specs.Prelude.{◌≡◌, ◌++◌, IfOk, OnOk, Some, flat_map};
+ghost use Rattle.ns_types.specs.State.Rows.{node_at};
 ghost use Rattle.ns_types.specs.Working.Snapshot.{live_on, nodes_of};
 ghost use Rattle.ns_live.specs.Index.{IsRight};
-ghost use Rattle.ns_snapshot.specs.Seen.{node_at_slot};
+ghost use Rattle.ns_snapshot.specs.Seen.{AreNodesOf, IsNodeOf, node_at_slot};
 ghost use Rattle.ns_world.specs.World.{world_of};
 
 use crate::placed::live_on;
@@ -20,7 +21,7 @@ use std::alloc::AllocError;
 /// A node with its name, or a vacant slot.
 type NodeSlot = (Text, Option<Node>);
 
-fn pool_node(
+fn made_node(
     tables: &Tables,
     live: &Live,
     pool: &Text,
@@ -42,32 +43,62 @@ fn pool_node(
     Shared::new(tables.alloc, node)
 }
 
+/// The node as it was last shown. One that changed since is made anew, and shown so from now on.
+fn shared_node(
+    tables: &Tables,
+    live: &mut Live,
+    pool: &Text,
+    name: &Text,
+    row: &Node,
+) -> Result<Shared<PoolNode>, AllocError>
+    requires right { IsRight (world_of tables.now) live.old }
+    requires there { node_at (world_of tables.now) pool.now name.now ≡ Some row.now }
+    ensures node { IfOk result (λ node. node ≡ record {
+      name = name.now;
+      row = row.now;
+      live = live_on (world_of tables.now) pool.now name.now;
+    }) }
+    ensures right { IsRight (world_of tables.now) live.new }
+{
+    if let Some(node) = live.shown_at(pool, name) {
+        return node.share();
+    }
+    let node = made_node(tables, live, pool, name, row)?;
+    let kept = node.share()?;
+    live.show(pool, name, kept)?;
+    Ok(node)
+}
+
 fn add_node(
     nodes: &mut Rows<Shared<PoolNode>>,
     tables: &Tables,
-    live: &Live,
+    live: &mut Live,
     pool: &Text,
     slot: &NodeSlot,
 ) -> Result<(), AllocError>
-    requires { IsRight (world_of tables.now) live.now }
-    ensures { OnOk result (nodes.new
+    requires right { IsRight (world_of tables.now) live.old }
+    requires there { IsNodeOf (world_of tables.now) pool.now slot.now }
+    ensures nodes { OnOk result (nodes.new
         ≡ nodes.old ++ node_at_slot (world_of tables.now) pool.now slot.now) }
+    ensures right { IsRight (world_of tables.now) live.new }
 {
     if let Some(row) = &slot.1 {
-        nodes.push(pool_node(tables, live, pool, &slot.0, row)?)?;
+        nodes.push(shared_node(tables, live, pool, &slot.0, row)?)?;
     }
     Ok(())
 }
 
 fn nodes_in(
     tables: &Tables,
-    live: &Live,
+    live: &mut Live,
     pool: &Text,
     slots: &[NodeSlot],
 ) -> Result<Rows<Shared<PoolNode>>, AllocError>
-    requires { IsRight (world_of tables.now) live.now }
-    ensures { IfOk result (λ nodes. nodes
+    requires right { IsRight (world_of tables.now) live.old }
+    requires there { AreNodesOf (world_of tables.now) pool.now slots.now }
+    ensures nodes { IfOk result (λ nodes. nodes
         ≡ flat_map (node_at_slot (world_of tables.now) pool.now) slots.now) }
+    ensures right { IsRight (world_of tables.now) live.new }
 {
     let mut nodes = Rows::new(tables.alloc);
     for slot in slots {
@@ -76,14 +107,16 @@ fn nodes_in(
     Ok(nodes)
 }
 
-/// By name, by an index that is right for the tables. None: there is no such pool.
+/// By name, by an index that is right for the tables and stays so. None: there is no such pool. What is shown of a node
+/// is shared, and the others are shown from now on.
 pub(crate) fn nodes_of(
     tables: &Tables,
-    live: &Live,
+    live: &mut Live,
     pool: &Text,
 ) -> Result<Rows<Shared<PoolNode>>, AllocError>
-    requires { IsRight (world_of tables.now) live.now }
-    ensures { IfOk result (λ nodes. nodes ≡ nodes_of (world_of tables.now) pool.now) }
+    requires { IsRight (world_of tables.now) live.old }
+    ensures nodes { IfOk result (λ nodes. nodes ≡ nodes_of (world_of tables.now) pool.now) }
+    ensures right { IsRight (world_of tables.now) live.new }
 {
     match tables.pools.get(pool) {
         Some(rows) => nodes_in(tables, live, pool, rows.nodes.as_slice()),

@@ -50,22 +50,24 @@ fn copied_job(job: Option<&Job>) -> Result<Option<Job>, AllocError>
 }
 
 /// The snapshot of the namespace's evaluation of that number. Want of memory is the only error. The index is right for
-/// the tables, and what is used of the namespace's quota fits 64 bits, as in each valid world.
+/// the tables, and what is used of the namespace's quota fits 64 bits, as in each valid world; the index stays right.
 ///
-/// It costs what it holds: the pool's nodes with their live allocations, and a walk over the namespace's own
-/// allocations; where the namespace has a quota, a walk over the allocations of the namespaces that name it, too.
+/// It costs a pointer for each node of the pool, a copy of each with its live allocations that changed since it was last
+/// shown, and a walk over the namespace's own allocations; where the namespace has a quota, a walk over the allocations of
+/// the namespaces that name it, too.
 pub fn snapshot(
     tables: &Tables,
-    live: &Live,
+    live: &mut Live,
     namespace: &Text,
     tenant: &TenantRows,
     number: u64,
     evaluation: &Evaluation,
 ) -> Result<Snapshot, AllocError>
-    requires right { IsRight (world_of tables.now) live.now }
+    requires right { IsRight (world_of tables.now) live.old }
     requires fits { UseOfFits (world_of tables.now) (tenant_of tenant.now) }
-    ensures { let w = world_of tables.now in IfOk result (λ seen. seen
+    ensures seen { let w = world_of tables.now in IfOk result (λ seen. seen
         ≡ snapshot_of w namespace.now (tenant_of tenant.now) number evaluation.now) }
+    ensures right { IsRight (world_of tables.now) live.new }
 {
     let job = tenant.jobs.get(&evaluation.job);
     let pool = pool_for(evaluation, job);

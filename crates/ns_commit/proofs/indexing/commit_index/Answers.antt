@@ -1,7 +1,7 @@
 use Rattle.std.proofs.Common.{ap, subst, sym, ◌∙◌}
 use Rattle.std.proofs.Math.ListN.{drop_of_length-le}
 use Rattle.std.specs.Option.{option_copied}
-use Rattle.ns_commit.proofs.Following.{all_followed, begun, nothing_changes, nothing_there, one_followed, room_now, Following}
+use Rattle.ns_commit.proofs.Following.{all_followed, all_unmoved, begun, nothing_changes, nothing_there, one_followed, room_now, Following}
 use Rattle.keyed.proofs.Queues.{from_here}
 use Rattle.ns_commit.proofs.indexing.commit_index.Goals as goal
 use Rattle.ns_commit.proofs.indexing.commit_index.Goals.{in-Some+in-Some-get, in-Some+in_default-get, in_default}
@@ -21,13 +21,17 @@ loop-slot-preserved c =
       | in-Some+in-Some-get w ↦ subst (λ live. Following c.args.changes.now c.args.table.now c.args.live.now live _) (sym w.live-is)
           (one_followed c.args.changes.now c.args.table.now c.slot-item.result.0 c.slot-item.result.1 _ _ is c.args.live.now c.loop-slot.live
           c.loop-slot.invariant w.put_all.new.self w.in-Some.change w.in-Some-get.tenant.now w.in-Some.is
-          (sym w.get.ensures ∙ ap option_copied w.in-Some-get.is) w.put_all.ensures.index w.put_all.ensures.room)
+          (sym w.get.ensures ∙ ap option_copied w.in-Some-get.is) w.put_all.ensures.index w.put_all.ensures.shown w.put_all.ensures.room)
       | in-Some+in_default-get w ↦ nothing_there c.args.changes.now c.args.table.now c.slot-item.result.0 c.slot-item.result.1 _ _ is c.args.live.now
           c.loop-slot.live c.loop-slot.invariant c.match-slot.live (sym w.get.ensures ∙ ap option_copied w.in_default-get.is) w.live-is
       | in_default w ↦ nothing_changes c.args.changes.now c.args.table.now c.slot-item.result.0 c.slot-item.result.1 _ _ is c.args.live.now
           c.loop-slot.live c.loop-slot.invariant c.match-slot.live w.in_default.is w.live-is
     ]
 
-pub returns : goal.returns
-returns c = all_followed c.args.changes.now c.args.table.now c.args.live.now c.loop-slot.live _
+pub returns-clause-shown : goal.returns-clause-shown
+returns-clause-shown c = all_unmoved c.args.changes.now c.args.table.now c.args.live.now c.loop-slot.live _
+    (drop_of_length-le c.as_slice-slot-items.result.now c.loop-slot-test.false) c.loop-slot.invariant
+
+pub returns-clause-index : goal.returns-clause-index
+returns-clause-index c = all_followed c.args.changes.now c.args.table.now c.args.live.now c.loop-slot.live _
     (drop_of_length-le c.as_slice-slot-items.result.now c.loop-slot-test.false) c.loop-slot.invariant

@@ -1,22 +1,12 @@
-use Rattle.std.proofs.Common.{ap, sym, ◌∙◌}
-use Rattle.std.specs.Option.{option_copied}
-use Rattle.ns_live.proofs.Puts.{dropped_right, none_before, room_left, stays_there}
+use Rattle.ns_live.proofs.Unmoved.{put_unmoved}
 use Rattle.ns_live.proofs.live.Live.put.Goals as goal
 
-pub returns-then-not-is_live_on-clause-index : goal.returns-then-not-is_live_on-clause-index
-returns-then-not-is_live_on-clause-index c row_of right was = dropped_right _ _ (option_copied c.args.before) (option_copied c.args.after) _ _ right was
-    c.add.ensures
-    c.in-Some.row.now (ap option_copied c.in-Some.is) _ (sym c.is_live_on.ensures ∙ c.if-not-is_live_on.true) c.remove.ensures
+pub returns-clause-index : goal.returns-clause-index
+returns-clause-index c row_of right was = c.put_key.ensures.index row_of right was
 
-pub returns-then-not-is_live_on-clause-room : goal.returns-then-not-is_live_on-clause-room
-returns-then-not-is_live_on-clause-room c pool node other apart room =
-    room_left c.in-Some.row.now _ _ _ c.remove.ensures pool node other apart (c.add.ensures.room pool node other room)
+pub returns-clause-shown : goal.returns-clause-shown
+returns-clause-shown c row_of was = put_unmoved row_of (c.args.namespace.now, c.args.number) _ _ c.args.self.now c.put_key.new.self c.forget_row.new.self
+    (record c.put_key.new.self { shown = c.forget_row-2.new.self }) was c.put_key.ensures.shown c.forget_row.ensures c.forget_row-2.ensures
 
-pub returns-else-not-is_live_on-clause-index : goal.returns-else-not-is_live_on-clause-index
-returns-else-not-is_live_on-clause-index c row_of right was = stays_there _ _ (option_copied c.args.before) (option_copied c.args.after) _ _ right was
-    c.add.ensures
-    c.in-Some.row.now (ap option_copied c.in-Some.is) (sym c.is_live_on.ensures ∙ c.if-not-is_live_on.false)
-
-pub returns-in_default-clause-index : goal.returns-in_default-clause-index
-returns-in_default-clause-index c row_of right was = none_before _ _ (option_copied c.args.before) (option_copied c.args.after) _ _ right was c.add.ensures
-    (ap option_copied c.in_default.is)
+pub returns-clause-room : goal.returns-clause-room
+returns-clause-room c pool node key apart room = c.put_key.ensures.room pool node key apart room

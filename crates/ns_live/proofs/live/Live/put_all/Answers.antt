@@ -1,10 +1,12 @@
 use Rattle.std.specs.Prelude.{false}
-use Rattle.std.proofs.Common.{ap, subst, sym, ◌∙◌}
+use Rattle.std.proofs.Common.{ap, subst, sym, take, ◌∙◌}
 use Rattle.std.specs.Option.{option_map_or}
 use Rattle.keyed.proofs.Mapped.{take_all}
 use Rattle.ns_types.specs.State.Rows.{is_live_on}
-use Rattle.ns_live.specs.Index.{Indexes, with_row}
+use Rattle.ns_live.specs.Index.{Indexes, with_changes, with_row}
+use Rattle.ns_live.specs.Shown.{ShowsUnmoved}
 use Rattle.ns_live.proofs.Changing.{all_changed, begun, changed_rows, one_changed}
+use Rattle.ns_live.proofs.Unmoved.{unmoved_as}
 use Rattle.ns_live.proofs.live.Live.put_all.Goals as goal
 
 pub loop-slot-init : goal.loop-slot-init
@@ -15,6 +17,8 @@ loop-slot-preserved c = one_changed c.args.namespace.now c.as_slice-slot-items.r
     c.slot-item.is c.args.changes.now c.args.table.now c.args.self.now c.loop-slot.self c.put.new.self c.as_slice-slot-items.ensures
     (λ row_of right was. subst (λ r. Indexes (with_row (c.args.namespace.now, c.slot-item.result.0) r row_of) c.put.new.self) c.as_ref.ensures.value
     (c.put.ensures.index row_of right (was ∙ sym c.get.ensures)))
+    (λ row_of was. subst (λ r. ShowsUnmoved row_of (with_row (c.args.namespace.now, c.slot-item.result.0) r row_of) c.loop-slot.self c.put.new.self)
+    c.as_ref.ensures.value (c.put.ensures.shown row_of (was ∙ sym c.get.ensures)))
     c.put.ensures.room c.loop-slot.invariant
 
 pub returns-clause-index : goal.returns-clause-index
@@ -22,3 +26,11 @@ returns-clause-index c row_of right rows pool node key = c.loop-slot.invariant.i
     ∙ ap (λ r. option_map_or (is_live_on pool node) r false)
     (ap (λ xs. changed_rows c.args.namespace.now xs row_of key) (take_all c.as_slice-slot-items.result.now c.loop-slot.slot-index c.loop-slot-test.false)
     ∙ all_changed c.args.namespace.now c.args.changes.now c.as_slice-slot-items.result.now c.as_slice-slot-items.ensures row_of key)
+
+pub returns-clause-shown : goal.returns-clause-shown
+returns-clause-shown c row_of rows = unmoved_as row_of (changed_rows c.args.namespace.now (take c.loop-slot.slot-index c.as_slice-slot-items.result.now) row_of)
+    (with_changes c.args.namespace.now c.args.changes.now row_of) c.args.self.now c.loop-slot.self
+    (λ key. sym (ap (λ xs. changed_rows c.args.namespace.now xs row_of key)
+    (take_all c.as_slice-slot-items.result.now c.loop-slot.slot-index c.loop-slot-test.false)
+    ∙ all_changed c.args.namespace.now c.args.changes.now c.as_slice-slot-items.result.now c.as_slice-slot-items.ensures row_of key))
+    (c.loop-slot.invariant.shown row_of rows)

@@ -1,4 +1,6 @@
 use Rattle.std.proofs.Common.{ap, refl, sym, ◌∙◌}
+use Rattle.std.specs.Prelude.{Some}
+use Rattle.std.specs.FinMap.{insert}
 use Rattle.std.specs.Option.{option_copied_mut}
 use Rattle.ns_types.specs.State.Names.{same_key}
 use Rattle.ns_types.proofs.Named.{names}
@@ -9,15 +11,16 @@ use Rattle.ns_live.specs.declared.live.Live.{Live}
 use Rattle.keyed.proofs.Levels.{drops_at, drops_all, drops_none, row_here, says_nothing}
 use Rattle.ns_live.proofs.live.Live.remove.Goals as goal
 
-pub returns-in_default : goal.returns-in_default
-returns-in_default c = drops_none (λ (s : Live). s.pools) holds_on_node has_node_room c.args.self.now c.args.pool.now
+pub returns-in_default-clause-dropped : goal.returns-in_default-clause-dropped
+returns-in_default-clause-dropped c = drops_none (λ (s : Live). s.pools) holds_on_node has_node_room c.args.self.now c.args.pool.now
     (c.args.node.now, (c.args.namespace.now, c.args.number)) (same_at same_key)
     (sym c.get_mut.ensures.value ∙ ap option_copied_mut c.in_default.is)
 
-pub returns-then-is_empty : goal.returns-then-is_empty
-returns-then-is_empty c =
+pub returns-then-is_empty-clause-dropped : goal.returns-then-is_empty-clause-dropped
+returns-then-is_empty-clause-dropped c =
     let there = sym c.get_mut.ensures.value ∙ ap option_copied_mut c.in-Some.is in
-    let left = drops_at (λ (s : Live). s.pools) holds_on_node has_node_room c.args.self.now _ c.args.pool.now c.in-Some.nodes.now
+    let left = drops_at (λ (s : Live). s.pools) holds_on_node has_node_room c.args.self.now
+    (record c.args.self.now { pools = insert c.args.self.now.pools c.args.pool.now (Some c.remove.new.self) }) c.args.pool.now c.in-Some.nodes.now
     c.remove.new.self there refl (same_at same_key) (c.args.node.now, (c.args.namespace.now, c.args.number)) c.remove.ensures in
     let none = c.is_empty.ensures c.if-is_empty.true in
     drops_all (λ (s : Live). s.pools) holds_on_node has_node_room c.args.self.now _ _ c.args.pool.now
@@ -25,7 +28,7 @@ returns-then-is_empty c =
     c.remove.new.self (row_here names _ _ _ _ refl) (says_nothing (λ (s : PoolKeys). s.nodes) holds_key c.remove.new.self none)
     (says_nothing (λ (s : PoolKeys). s.nodes) has_key_room c.remove.new.self none) c.remove-then-is_empty.ensures
 
-pub returns-else-is_empty : goal.returns-else-is_empty
-returns-else-is_empty c = drops_at (λ (s : Live). s.pools) holds_on_node has_node_room c.args.self.now _ c.args.pool.now c.in-Some.nodes.now
+pub returns-else-is_empty-clause-dropped : goal.returns-else-is_empty-clause-dropped
+returns-else-is_empty-clause-dropped c = drops_at (λ (s : Live). s.pools) holds_on_node has_node_room c.args.self.now _ c.args.pool.now c.in-Some.nodes.now
     c.remove.new.self (sym c.get_mut.ensures.value ∙ ap option_copied_mut c.in-Some.is) refl (same_at same_key)
     (c.args.node.now, (c.args.namespace.now, c.args.number)) c.remove.ensures

@@ -7,7 +7,7 @@ use Rattle.ns_live.proofs.live.Live.reserve_all.Goals as goal
 
 pub loop-slot-preserved : goal.loop-slot-preserved
 loop-slot-preserved c = reserved_more c.args.namespace.now c.as_slice-slot-items.result.now c.loop-slot.slot-index c.slot-item.result c.loop-slot-test.true
-    c.slot-item.is c.args.self.now c.loop-slot.self c.reserve_row.new.self c.reserve_row.ensures.same c.reserve_row.ensures.room
+    c.slot-item.is c.args.self.now c.loop-slot.self c.reserve_row.new.self c.reserve_row.ensures.same c.reserve_row.ensures.shown c.reserve_row.ensures.room
     (subst (HasRoomFor c.reserve_row.new.self (c.args.namespace.now, c.slot-item.result.0)) c.as_ref.ensures.value c.in_ok-reserve_row.ensures.ok)
     c.loop-slot.invariant
 

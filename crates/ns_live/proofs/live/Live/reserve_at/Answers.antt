@@ -1,4 +1,6 @@
 use Rattle.std.proofs.Common.{ap, refl, sym, ◌∙◌}
+use Rattle.std.specs.Prelude.{Some}
+use Rattle.std.specs.FinMap.{insert}
 use Rattle.std.specs.Option.{option_copied_mut}
 use Rattle.ns_live.specs.Levels.{has_pool_room, holds_in_pool, holds_on_node, has_node_room}
 use Rattle.ns_live.specs.declared.live.Live.{Live}
@@ -17,6 +19,7 @@ returns-in_ok-reserve-clause-same c = keeps_then holds_in_pool has_pool_room _ _
     c.reserve.new.self (sym c.get_mut.ensures.value ∙ ap option_copied_mut c.in-Some.is) refl c.reserve.ensures.same)
 
 pub returns-in_ok-reserve-clause-ok : goal.returns-in_ok-reserve-clause-ok
-returns-in_ok-reserve-clause-ok c = room_here (λ (s : Live). s.pools) holds_on_node has_node_room c.open.new.self _ c.args.pool.now c.in-Some.nodes.now
+returns-in_ok-reserve-clause-ok c = room_here (λ (s : Live). s.pools) holds_on_node has_node_room c.open.new.self
+    (record c.open.new.self { pools = insert c.open.new.self.pools c.args.pool.now (Some c.reserve.new.self) }) c.args.pool.now c.in-Some.nodes.now
     c.reserve.new.self (sym c.get_mut.ensures.value ∙ ap option_copied_mut c.in-Some.is) refl (c.args.node.now, (c.args.namespace.now, c.args.number))
     c.in_ok-reserve.ensures.ok
