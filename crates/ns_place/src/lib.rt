@@ -1,0 +1,14 @@
+//! Which nodes a job may use, and the choice among those with room.
+#![tactic(auto)]
+
+mod amounts;
+mod candidate;
+mod choice;
+mod constraints;
+mod order;
+
+pub use amounts::{is_within, minus, plus};
+pub use candidate::Candidate;
+pub use choice::best_node;
+pub use constraints::feasible;
+pub use order::Order;

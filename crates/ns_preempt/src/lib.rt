@@ -1,0 +1,10 @@
+//! Which allocations give way to a job of higher priority, where no node has room. Nomad's page "Preemption".
+#![tactic(auto)]
+
+mod costs;
+mod levels;
+mod prefix;
+
+pub use costs::best_victims;
+pub use levels::evictable;
+pub use prefix::victims;
