@@ -2,8 +2,8 @@ pub mod Administering
 pub mod Begun
 pub mod Concluding
 pub mod Holdings
+pub mod Limits
 pub mod Listing
-pub mod Relimiting
 pub mod Resting
 pub mod Sharers
 pub mod Shown

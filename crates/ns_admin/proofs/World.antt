@@ -1,8 +1,7 @@
 -- A change of one of the tables, as a change of the world.
-use Rattle.std.specs.Prelude.{◌≡◌, ◌+◌, Option, Some, None, option_map, is_some}
+use Rattle.std.specs.Prelude.{◌≡◌, Option, Some, None, option_map, is_some}
 use Rattle.std.proofs.Common.{sym, ap, ◌∙◌}
 use Rattle.std.specs.FinMap.{FinMap, contains_key, get, insert, remove}
-use Rattle.std.specs.Option.{option_map_or}
 use Rattle.keyed.specs.Table.{row_at, rows, with_slot}
 use Rattle.ns_types.specs.declared.records.Namespace.{Namespace}
 use Rattle.ns_types.specs.declared.records.Pool.{Pool}
@@ -17,7 +16,7 @@ use Rattle.ns_world.specs.declared.tables.Tables.{Tables}
 use Rattle.ns_world.specs.declared.tables.TenantRows.{TenantRows}
 use Rattle.ns_world.specs.World.{pool_of, quota_of, tenant_of, world_of}
 use Rattle.ns_world.proofs.World.{pool_at, tenant_at}
-use Rattle.ns_admin.specs.Viewed.{after_release, with_quota_written, with_release}
+use Rattle.ns_admin.specs.Viewed.{with_quota_written}
 use Rattle.ns_admin.proofs.Written.{found_at, full_at, shown-remove, shown-set, shown-written}
 
 module _ (t : Tables) (name : Name) where
@@ -130,14 +129,3 @@ module _ (t : Tables) (name : Name) where
       world_of (record t { quotas = n }) ≡ record (world_of t) { quotas = remove (world_of t).quotas name }
   unfolding world_of
   quota_removed n e = λ i. record (world_of t) { quotas = shown-remove quota_of t.quotas n name e i }
-
-  -- a quota that is there is released, and one that is not there changes nothing
-  pub released : (n : FinMap name_cmp (Option QuotaRows)) (x : QuotaRows) → row_at t.quotas name ≡ Some x →
-      n ≡ insert t.quotas name (Some (record x { release = x.release + 1 }))
-      → world_of (record t { quotas = n }) ≡ with_release name (world_of t)
-  unfolding world_of
-  released n x at e = (λ i. record (world_of t) { quotas = shown-written quota_of t.quotas n name (record x { release = x.release + 1 }) e i })
-      ∙ sym (ap (λ q. option_map_or (λ q. with_quota_written name (after_release q) (world_of t)) q (world_of t)) (quota_is (Some x) at))
-
-  pub unreleased : row_at t.quotas name ≡ None → world_of t ≡ with_release name (world_of t)
-  unreleased at = sym (ap (λ q. option_map_or (λ q. with_quota_written name (after_release q) (world_of t)) q (world_of t)) (quota_is None at))

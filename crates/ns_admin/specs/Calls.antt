@@ -1,15 +1,14 @@
 -- What calls make of the tables.
-use Rattle.std.specs.Prelude.{◌≡◌, ◌<◌, ◌-◌, ◌^◌, Bool, List, map, filter, IfOk, OnOk, Option, Result, Some}
+use Rattle.std.specs.Prelude.{◌≡◌, Bool, List, map, filter, IfOk, OnOk, Option, Result}
 use Rattle.std.specs.Borrow.{Bor}
 use Rattle.std.specs.Fn.{FnReturnsAt, Shared}
 use Rattle.std.specs.declared.alloc.AllocError.{AllocError}
-use Rattle.keyed.specs.Table.{row_at, row_list}
+use Rattle.keyed.specs.Table.{row_list}
 use Rattle.ns_types.specs.declared.refusal.Refusal.{Refusal}
 use Rattle.ns_types.specs.declared.reply.Content.{Content}
 use Rattle.ns_types.specs.Settling.Outcome.{Changes, Outcome}
 use Rattle.ns_types.specs.State.Names.{Name}
 use Rattle.ns_types.specs.State.Rows.{World}
-use Rattle.ns_world.specs.declared.tables.QuotaRows.{QuotaRows}
 use Rattle.ns_world.specs.declared.tables.Tables.{Tables}
 use Rattle.ns_world.specs.World.{world_of}
 
@@ -22,10 +21,6 @@ ChangesTables change old result new = Changes (change (world_of old)) (world_of 
 -- the tables are changed so, unless memory was refused
 abbrev pub Writes : (World → World) → Tables → Result (Unit {0}) AllocError → Tables → Type 0
 Writes change old result new = OnOk result (world_of new ≡ change (world_of old))
-
--- the quota, if it is there, may have one more release
-abbrev pub MayRelease : Tables → Name → Type 0
-MayRelease tables name = (row : QuotaRows) → row_at tables.quotas name ≡ Some row → row.release < 2 ^ 64 - 1
 
 -- ---- lists of those whose names pass
 

@@ -1,5 +1,5 @@
 -- What administrators' commands change in the world, and what they ask of it.
-use Rattle.std.specs.Prelude.{ℕ, ◌+◌, Bool, true, false, not, ◌&&◌, ◌||◌, nat_lt}
+use Rattle.std.specs.Prelude.{ℕ, Bool, true, false, not, ◌&&◌, ◌||◌}
 use Rattle.std.specs.FinMap.{get, insert}
 use Rattle.std.specs.Option.{option_map_or}
 use Rattle.ns_types.specs.declared.allocation.Allocation.{Allocation}
@@ -21,7 +21,6 @@ use Rattle.ns_types.specs.State.Names.{Name, same_name}
 use Rattle.ns_types.specs.State.Rows.{World, Tenant, QuotaRows, is_live, is_open}
 use Rattle.ns_types.specs.State.Sums.{names_quota}
 use Rattle.ns_types.specs.State.Tables.{any_row}
-use Rattle.ns_types.specs.Steps.{greatest}
 use Rattle.ns_world.specs.declared.tables.PoolRows.{PoolRows}
 use Rattle.ns_world.specs.declared.tables.QuotaRows.{QuotaRows as StoredQuota}
 use Rattle.ns_world.specs.declared.tables.TenantRows.{TenantRows}
@@ -42,13 +41,6 @@ with_quota_written name q w = record w { quotas = insert w.quotas name q }
 abbrev pub with_quota_put : Name → Quota → World → World
 with_quota_put name quota w = with_quota_written name (with_quota quota (get w.quotas name)) w
 
-abbrev pub after_release : QuotaRows → QuotaRows
-after_release q = record q { release = q.release + 1 }
-
--- the quota's release number is one more
-abbrev pub with_release : Name → World → World
-with_release name w = option_map_or (λ q. with_quota_written name (after_release q) w) (get w.quotas name) w
-
 -- ---- what is found by name
 
 abbrev pub permits_in : Name → Name → World → Bool
@@ -60,10 +52,6 @@ is_confined_in name w = option_map_or (λ t. is_confined t.namespace) (get w.ten
 -- what the namespace has forbids the record
 abbrev pub forbids_in : Name → Namespace → World → Bool
 forbids_in name namespace w = option_map_or (forbids_put namespace) (get w.tenants name) false
-
--- one more release of the quota would pass the bound of its number
-abbrev pub is_exhausted : World → Name → Bool
-is_exhausted w name = option_map_or (λ q. nat_lt greatest (q.release + 1)) (get w.quotas name) false
 
 -- the other names the quota of the namespace
 abbrev pub shares_quota : Namespace → Namespace → Bool

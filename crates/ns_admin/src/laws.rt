@@ -1,6 +1,6 @@
 //! Laws of administrators' steps, each the contract of a function that does nothing.
 
-ghost use Rattle.ns_admin.specs.Laws.{AdministrationMakes, AdministrationSettles, AdministrationStaysWithin, QuotaPutSettles};
+ghost use Rattle.ns_admin.specs.Laws.{AdministrationMakes, AdministrationSettles, AdministrationStaysWithin};
 
 /// All but a put of a quota with other limits than it has settles as it is, in every world.
 pub fn administration_settles()
@@ -15,9 +15,4 @@ pub fn administration_stays_within()
 /// All but such a put answers what its change says and leaves what it leaves, where no counter is past its bound.
 pub fn administration_makes()
     ensures { AdministrationMakes }
-{}
-
-/// Such a put releases that quota and nothing else: it wakes the blocked evaluations that the quota limits.
-pub fn quota_put_settles()
-    ensures { QuotaPutSettles }
 {}

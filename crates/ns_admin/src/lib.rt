@@ -12,14 +12,10 @@ mod quotas;
 mod sharing;
 
 pub use beginning::opening;
-pub use laws::{
-    administration_makes, administration_settles, administration_stays_within, quota_put_settles,
-};
+pub use laws::{administration_makes, administration_settles, administration_stays_within};
 pub use lists::{list_namespaces, list_pools, list_quotas};
 pub use looking::{is_confined_in, permits_in, shares};
 pub use namespaces::{delete_namespace, put_namespace};
 pub use pools::{delete_pool, put_pool};
-pub use quotas::{
-    delete_quota, is_exhausted, is_relimited, limits_in, put_quota, read_quota, release_quota,
-};
+pub use quotas::{change_limits, delete_quota, is_relimited, put_quota, read_quota};
 pub use sharing::{is_confined, names_quota, overlaps, permits, same_quota};

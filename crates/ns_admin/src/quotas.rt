@@ -1,52 +1,29 @@
-//! What administrators ask of quotas, and the numbers of their releases.
+//! What administrators ask of quotas.
 
-ghost use Rattle.std.specs.Prelude.{◌≡◌, IfOk, OnErr};
+ghost use Rattle.std.specs.Prelude.{◌≡◌, IfOk, OnErr, false, true};
 ghost use Rattle.std.specs.List.{list_any};
 ghost use Rattle.keyed.specs.Table.{at_slot};
+ghost use Rattle.ns_types.specs.declared.reply.Content.TheVariants as Content;
 ghost use Rattle.ns_types.specs.Asking.Admins.{delete_quota, is_relimited, put_quota, read_quota};
-ghost use Rattle.ns_types.specs.State.Resources.{limits_in, same_limit, same_limits};
-ghost use Rattle.ns_admin.specs.Calls.{ChangesTables, MayRelease, Writes};
-ghost use Rattle.ns_admin.specs.Viewed.{content_of_quota, is_exhausted, tenant_names_quota, with_quota_put, with_release};
+ghost use Rattle.ns_types.specs.Settling.Outcome.{Done};
+ghost use Rattle.ns_types.specs.Steps.{is_past_bound};
+ghost use Rattle.ns_change.specs.Changed.{with_record};
+ghost use Rattle.ns_change.specs.Prepared.{Prepares, bounded};
+ghost use Rattle.ns_admin.specs.Calls.{ChangesTables, Writes};
+ghost use Rattle.ns_admin.specs.Viewed.{content_of_quota, tenant_names_quota, with_quota_put};
 ghost use Rattle.ns_world.specs.World.{world_of};
 
 use crate::looking::{Slot, is_full};
 use crate::sharing::names_quota;
+use ns_alike::changes_limits;
+use ns_change::{Change, Prepared, prepare};
+use ns_settle::given_limits_pass;
 use ns_types::records::Quota;
 use ns_types::refusal::Refusal;
 use ns_types::reply::{Content, QuotaShown};
-use ns_types::resources::{Limit, Limits};
 use ns_types::text::Text;
 use ns_world::{QuotaRows, Tables, TenantRows};
 use std::alloc::AllocError;
-
-fn same_limit(a: Limit, b: Limit) -> bool
-    ensures { result ≡ same_limit a b }
-{
-    match (a, b) {
-        (Limit::Unlimited, Limit::Unlimited) | (Limit::Nothing, Limit::Nothing) => true,
-        (Limit::AtMost(most), Limit::AtMost(other)) => most == other,
-        _ => false,
-    }
-}
-
-fn same_limits(a: Limits, b: Limits) -> bool
-    ensures { result ≡ same_limits a b }
-{
-    same_limit(a.cpu, b.cpu) && same_limit(a.memory, b.memory)
-}
-
-/// The limits of a quota: one without an entry limits nothing.
-pub fn limits_in(quota: &Quota) -> Limits
-    ensures { result ≡ limits_in quota.now.limits }
-{
-    match quota.limits {
-        Some(limits) => limits,
-        None => Limits {
-            cpu: Limit::Unlimited,
-            memory: Limit::Unlimited,
-        },
-    }
-}
 
 fn content_of_quota(name: &Text, quota: &Quota) -> Result<Content, AllocError>
     ensures { IfOk result (λ content. content ≡ content_of_quota name.now quota.now) }
@@ -131,27 +108,31 @@ pub fn is_relimited(tables: &Tables, name: &Text, quota: &Quota) -> bool
     ensures { result ≡ is_relimited name.now quota.now (world_of tables.now) }
 {
     match tables.quotas.get(name) {
-        Some(old) => !same_limits(limits_in(&old.quota), limits_in(quota)),
+        Some(old) => changes_limits(&old.quota, quota),
         None => false,
     }
 }
 
-/// Whether one more release of the quota would pass the bound of its number. It takes no memory.
-pub fn is_exhausted(tables: &Tables, name: &Text) -> bool
-    ensures { result ≡ is_exhausted (world_of tables.now) name.now }
+/// The record is put over that of the quota, where it is there, and nothing else changes.
+fn put_alone(tables: &Tables, name: &Text, quota: &Quota) -> Result<Prepared, Refusal>
+    ensures { let left = with_record name.now quota.now (world_of tables.now) in
+        Prepares (Done Content.Written left) tables.now result }
 {
-    match tables.quotas.get(name) {
-        Some(row) => row.release >= u64::MAX,
-        None => false,
-    }
+    let mut change = Change::new(tables.alloc);
+    let made = ns_change::put_quota(&mut change, name, quota);
+    prepare(Content::Written, change, made)
 }
 
-/// Raises the quota's release number by one, where there is such a quota. It takes no memory.
-pub fn release_quota(tables: &mut Tables, name: &Text)
-    requires { MayRelease tables.old name.now }
-    ensures { world_of tables.new ≡ with_release name.now (world_of tables.old) }
+/// What it comes to that a quota gets other limits. Its release, and whom that wakes, come with the end of the step.
+/// `Full`: a counter would pass its bound by that.
+pub fn change_limits(tables: &Tables, name: &Text, quota: &Quota) -> Result<Prepared, Refusal>
+    requires other { is_relimited name.now quota.now (world_of tables.now) ≡ true }
+    requires bounds { is_past_bound (world_of tables.now) ≡ false }
+    ensures { let w = world_of tables.now in
+        Prepares (bounded w (put_quota name.now quota.now w)) tables.now result }
 {
-    if let Some(row) = tables.quotas.get_mut(name) {
-        row.release += 1;
+    if given_limits_pass(tables, name) {
+        return Err(Refusal::Full);
     }
+    put_alone(tables, name, quota)
 }

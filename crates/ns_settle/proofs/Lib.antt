@@ -3,6 +3,7 @@ pub mod Bounded
 pub mod Classes
 pub mod Ending
 pub mod Finished
+pub mod GivenLimits
 pub mod GivenRoom
 pub mod Indexes
 pub mod Offered

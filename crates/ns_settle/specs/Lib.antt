@@ -1,4 +1,5 @@
 pub mod Bounds
+pub mod Limits
 pub mod Released
 pub mod Room
 pub mod Settles

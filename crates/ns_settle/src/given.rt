@@ -27,7 +27,7 @@ fn room_wakes(tables: &Tables, pool: &Text, offer: &Offer, key: &EvalKey) -> boo
 }
 
 /// Whether the evaluation of an entry, once it has woken, is shown otherwise than before.
-fn shows_awake(tables: &Tables, tenant: &TenantRows, key: &EvalKey) -> bool
+pub(crate) fn shows_awake(tables: &Tables, tenant: &TenantRows, key: &EvalKey) -> bool
     ensures { result ≡ shows_awake (tenant_of tenant.now) key.now.1
         (evaluation_at (world_of tables.now) key.now) }
 {

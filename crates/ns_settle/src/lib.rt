@@ -14,9 +14,11 @@ mod fitting;
 mod full;
 mod given;
 mod giving;
+mod limits;
 mod releasing;
 mod stamping;
 
 pub use finishing::settle;
 pub use full::is_past_bound;
 pub use given::given_room_passes;
+pub use limits::given_limits_pass;
