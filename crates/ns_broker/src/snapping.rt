@@ -67,16 +67,17 @@ fn keep(
 /// The snapshot of the worker's evaluation as it is now.
 fn look(
     tables: &Tables,
-    live: &Live,
+    live: &mut Live,
     namespace: &Text,
     tenant: &TenantRows,
     number: u64,
     evaluation: &Evaluation,
 ) -> Result<Shared<Snapshot>, AllocError>
-    requires right { IsRight (world_of tables.now) live.now }
+    requires right { IsRight (world_of tables.now) live.old }
     requires fits { UseOfFits (world_of tables.now) (tenant_of tenant.now) }
-    ensures { let w = world_of tables.now in IfOk result (λ seen. seen
+    ensures seen { let w = world_of tables.now in IfOk result (λ seen. seen
         ≡ snapshot_of w namespace.now (tenant_of tenant.now) number evaluation.now) }
+    ensures right { IsRight (world_of tables.now) live.new }
 {
     let seen = snapshot(tables, live, namespace, tenant, number, evaluation)?;
     Shared::new(tables.alloc, seen)
@@ -84,11 +85,17 @@ fn look(
 
 /// The worker that has an evaluation of the namespace takes a snapshot, which its row keeps and which is answered: one
 /// value that both share. `NotEnabled`: the worker has none of the namespace, or it is not its turn to look. The index
-/// of live allocations is right, and what is used of the namespace's quota fits 64 bits, as in each valid world.
-pub fn snap(tables: &Tables, live: &Live, number: u64, namespace: &Text) -> Result<Snapped, Refusal>
-    requires right { IsRight (world_of tables.now) live.now }
+/// of live allocations is right and stays so; what is used of the namespace's quota fits 64 bits, as in each valid world.
+pub fn snap(
+    tables: &Tables,
+    live: &mut Live,
+    number: u64,
+    namespace: &Text,
+) -> Result<Snapped, Refusal>
+    requires right { IsRight (world_of tables.now) live.old }
     requires fits { UseFitsIn (world_of tables.now) namespace.now }
-    ensures { Snaps number namespace.now tables.now result }
+    ensures snaps { Snaps number namespace.now tables.now result }
+    ensures right { IsRight (world_of tables.now) live.new }
 {
     let Some(tenant) = tables.tenants.get(namespace) else {
         return Err(Refusal::NotEnabled);

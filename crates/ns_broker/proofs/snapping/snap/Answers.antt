@@ -17,12 +17,12 @@ use Rattle.ns_broker.proofs.snapping.snap.Goals as goal
 use Rattle.ns_world.proofs.World.{tenant_at}
 use Rattle.ns_world.specs.World.{tenant_of, world_of}
 
-pub returns-in_default : goal.returns-in_default
-returns-in_default c = nowhere c.args.number c.args.namespace.now (world_of c.args.tables.now)
+pub returns-in_default-clause-snaps : goal.returns-in_default-clause-snaps
+returns-in_default-clause-snaps c = nowhere c.args.number c.args.namespace.now (world_of c.args.tables.now)
     (tenant_at c.args.tables.now c.args.namespace.now ∙ ap (option_map tenant_of) (sym c.get.ensures ∙ ap option_copied c.in_default.is))
 
-pub returns-in_default-get : goal.returns-in_default-get
-returns-in_default-get c =
+pub returns-in_default-get-clause-snaps : goal.returns-in_default-get-clause-snaps
+returns-in_default-get-clause-snaps c =
     let w = world_of c.args.tables.now in
     let ns = c.args.namespace.now in
     let number = c.args.number in
@@ -30,8 +30,8 @@ returns-in_default-get c =
     let at = tenant_at c.args.tables.now ns ∙ ap (option_map tenant_of) (sym c.get.ensures ∙ ap option_copied c.in-Some.is) in
     idle number ns w t at (get-rows numbers c.in-Some.tenant.now.workers number ∙ sym c.get-2.ensures ∙ ap option_copied c.in_default-get.is)
 
-pub returns-in_default-get-2 : goal.returns-in_default-get-2
-returns-in_default-get-2 c =
+pub returns-in_default-get-2-clause-snaps : goal.returns-in_default-get-2-clause-snaps
+returns-in_default-get-2-clause-snaps c =
     let w = world_of c.args.tables.now in
     let ns = c.args.namespace.now in
     let number = c.args.number in
@@ -43,8 +43,8 @@ returns-in_default-get-2 c =
     ∙ ap (λ m. row_at m worker.evaluation) c.rows.ensures)
     ∙ ap option_copied c.in_default-get-2.is)
 
-pub returns-then-not-may_snap : goal.returns-then-not-may_snap
-returns-then-not-may_snap c =
+pub returns-then-not-may_snap-clause-snaps : goal.returns-then-not-may_snap-clause-snaps
+returns-then-not-may_snap-clause-snaps c =
     let w = world_of c.args.tables.now in
     let ns = c.args.namespace.now in
     let number = c.args.number in
@@ -63,8 +63,8 @@ look-requires-clause-fits c =
     let at = tenant_at c.args.tables.now ns ∙ ap (option_map tenant_of) (sym c.get.ensures ∙ ap option_copied c.in-Some.is) in
     c.requires.fits t at
 
-pub returns-in_err-snapshot : goal.returns-in_err-snapshot
-returns-in_err-snapshot c =
+pub returns-in_err-snapshot-clause-snaps : goal.returns-in_err-snapshot-clause-snaps
+returns-in_err-snapshot-clause-snaps c =
     let w = world_of c.args.tables.now in
     let ns = c.args.namespace.now in
     let number = c.args.number in
@@ -78,8 +78,8 @@ returns-in_err-snapshot c =
     no_memory number ns c.args.tables.now c.from_residual.result (p.1
     ∙ ap Err p.2) (ap is_done (snaps number ns w t at worker has c.in-Some-get-2.row.now there (sym c.may_snap.ensures ∙ c.if-not-may_snap.false)))
 
-pub returns-in_err-share : goal.returns-in_err-share
-returns-in_err-share c =
+pub returns-in_err-share-clause-snaps : goal.returns-in_err-share-clause-snaps
+returns-in_err-share-clause-snaps c =
     let w = world_of c.args.tables.now in
     let ns = c.args.namespace.now in
     let number = c.args.number in
@@ -93,8 +93,8 @@ returns-in_err-share c =
     no_memory number ns c.args.tables.now c.from_residual-in_err-share.result (p.1
     ∙ ap Err p.2) (ap is_done (snaps number ns w t at worker has c.in-Some-get-2.row.now there (sym c.may_snap.ensures ∙ c.if-not-may_snap.false)))
 
-pub returns-in_err-change : goal.returns-in_err-change
-returns-in_err-change c =
+pub returns-in_err-change-clause-snaps : goal.returns-in_err-change-clause-snaps
+returns-in_err-change-clause-snaps c =
     let w = world_of c.args.tables.now in
     let ns = c.args.namespace.now in
     let number = c.args.number in
@@ -108,8 +108,8 @@ returns-in_err-change c =
     no_memory number ns c.args.tables.now c.from_residual-in_err-change.result (p.1
     ∙ ap Err p.2) (ap is_done (snaps number ns w t at worker has c.in-Some-get-2.row.now there (sym c.may_snap.ensures ∙ c.if-not-may_snap.false)))
 
-pub returns : goal.returns
-returns c =
+pub returns-clause-snaps : goal.returns-clause-snaps
+returns-clause-snaps c =
     let w = world_of c.args.tables.now in
     let ns = c.args.namespace.now in
     let number = c.args.number in
@@ -120,8 +120,8 @@ returns c =
     let there = get-rows numbers c.in-Some.tenant.now.evaluations.slots worker.evaluation ∙ sym (c.get-3.ensures
     ∙ ap (λ m. row_at m worker.evaluation) c.rows.ensures) ∙ ap option_copied c.in-Some-get-2.is in
     let left = c.in_ok-change.ensures ∙ ap (λ (x : Worker). change_tenant ns (with_worker number x) w)
-    (c.with_snapshot.ensures ∙ ap (λ (s : Snapshot). with_snapshot s worker) (c.in_ok-share.ensures ∙ c.in_ok-snapshot.ensures)) in (
+    (c.with_snapshot.ensures ∙ ap (λ (s : Snapshot). with_snapshot s worker) (c.in_ok-share.ensures ∙ c.in_ok-snapshot.ensures.seen)) in (
       snaps number ns w t at worker has c.in-Some-get-2.row.now there (sym c.may_snap.ensures ∙ c.if-not-may_snap.false)
           ∙ ap (Done (Content.Snapped worker.evaluation)) (sym left),
-      ap (λ x. kept_at x number ns) left ∙ keeps number ns w t at _ ∙ ap Some (sym c.in_ok-snapshot.ensures),
+      ap (λ x. kept_at x number ns) left ∙ keeps number ns w t at _ ∙ ap Some (sym c.in_ok-snapshot.ensures.seen),
     )
