@@ -1,2 +1,2 @@
 pub mod Cheaper
-pub mod Ranges
+pub mod Levels

@@ -7,7 +7,6 @@ use crate::prefix::victims;
 use ns_place::Candidate;
 use ns_types::resources::Resources;
 use ns_types::snapshot::LiveAllocation;
-use std::cmp::Ordering;
 
 fn highest_priority(allocations: &[&LiveAllocation]) -> u64
     ensures { result ≡ highest_priority (map (λ a. a.now) allocations.now) }
@@ -45,7 +44,7 @@ fn is_cheaper(candidate: &Candidate<'_>, other: &Candidate<'_>, size: Resources)
         .cmp(&highest_priority(others))
         .then(mine.len().cmp(&others.len()))
         .then(candidate.name().cmp(other.name()))
-        == Ordering::Less
+        .is_lt()
 }
 
 /// The place of the node with victims than which no other's are cheaper: least by the highest priority among them, then

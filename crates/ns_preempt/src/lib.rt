@@ -2,9 +2,9 @@
 #![tactic(auto)]
 
 mod costs;
-mod levels;
+mod order;
 mod prefix;
 
 pub use costs::best_victims;
-pub use levels::evictable;
+pub use order::evictable;
 pub use prefix::victims;

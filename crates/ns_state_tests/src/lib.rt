@@ -20,6 +20,8 @@ mod nodes;
 #[cfg(test)]
 mod owned;
 #[cfg(test)]
+mod placing;
+#[cfg(test)]
 mod quota;
 #[cfg(test)]
 mod server;

@@ -1,25 +1,27 @@
 //! Whom a job may evict on a node, the first to go first.
 
-ghost use Rattle.std.specs.Prelude.{◌≡◌, ◌==◌, ◌++◌, IfOk, OnOk, filter, map, reverse};
+ghost use Rattle.std.specs.Prelude.{◌≡◌, ◌-◌, IfOk, filter, map, nat_lt, reverse};
 ghost use Rattle.ns_types.specs.Placing.Preemption.{evictable};
 
 use ns_types::snapshot::LiveAllocation;
 use std::alloc::{AllocError, Global};
 
-fn push_level<'a>(
-    order: &mut Vec<&'a LiveAllocation>,
+/// Those whose priority is lower than the job's by 10 or more, the last placed first.
+fn lower<'a>(
+    alloc: Global,
     live: &'a [LiveAllocation],
-    level: u64,
-) -> Result<(), AllocError>
-    ensures { OnOk result (map (λ a. a.now) order.new.items
-        ≡ map (λ a. a.now) order.old.items ++ filter (λ a. a.priority == level) (reverse live.now)) }
+    priority: u64,
+) -> Result<Vec<&'a LiveAllocation>, AllocError>
+    ensures { IfOk result (λ v. map (λ a. a.now) v.items
+        ≡ filter (λ a. nat_lt a.priority (priority - 9)) (reverse live.now)) }
 {
+    let mut lower = Vec::new(alloc);
     for allocation in live.iter().rev() {
-        if allocation.priority == level {
-            order.push(allocation)?;
+        if allocation.priority < priority.saturating_sub(9) {
+            lower.push(allocation)?;
         }
     }
-    Ok(())
+    Ok(lower)
 }
 
 /// The allocations whose priority is lower than the job's by 10 or more: lowest priority first, then the last placed
@@ -31,9 +33,7 @@ pub fn evictable<'a>(
 ) -> Result<Vec<&'a LiveAllocation>, AllocError>
     ensures { IfOk result (λ v. map (λ a. a.now) v.items ≡ evictable priority live.now) }
 {
-    let mut order = Vec::new(alloc);
-    for level in 0..priority.saturating_sub(9) {
-        push_level(&mut order, live, level)?;
-    }
+    let mut order = lower(alloc, live, priority)?;
+    order.sort_by_key(|a| a.priority)?;
     Ok(order)
 }
