@@ -10,7 +10,7 @@ mod serving;
 mod snapping;
 mod taking;
 
-pub use looking::{first_plan, phase, row_of, served_ready, worker_at};
+pub use looking::{Busy, first_plan, phase, row_of, served_ready, worker_at};
 pub use nacking::nack;
 pub use serving::served;
 pub use snapping::{Snapped, snap};

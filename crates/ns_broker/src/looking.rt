@@ -2,7 +2,7 @@
 
 ghost use Rattle.std.specs.Prelude.{◌≡◌, find, option_copied, option_map};
 ghost use Rattle.ns_types.specs.Working.Looks.{first_plan, row_of, served_ready, worker_at};
-ghost use Rattle.ns_broker.specs.Looking.{row_in};
+ghost use Rattle.ns_broker.specs.Looking.{busy_of, busy_told, row_in};
 ghost use Rattle.ns_broker.specs.Serving.{is_busy_for};
 ghost use Rattle.ns_world.specs.World.{world_of};
 
@@ -12,6 +12,17 @@ use ns_types::key::EvalKey;
 use ns_types::text::Text;
 use ns_types::worker::{Phase, Worker};
 use ns_world::Tables;
+
+/// What a worker is busy with.
+#[derive(Clone, Copy, Debug)]
+pub struct Busy<'a> {
+    pub namespace: &'a Text,
+    /// The number of its evaluation there.
+    pub evaluation: u64,
+    pub phase: Phase,
+    /// How often its plan may still be tried.
+    pub tries: u64,
+}
 
 /// The evaluation that is served next.
 pub fn served_ready(tables: &Tables) -> Option<&EvalKey>
@@ -67,12 +78,18 @@ pub fn row_of(tables: &Tables, number: u64) -> Option<(&Text, &Worker)>
     }
 }
 
-/// How far the worker is. None: it is idle.
-pub fn phase(tables: &Tables, number: u64) -> Option<Phase>
-    ensures { result ≡ option_map (λ r. r.1.phase) (row_of (world_of tables.now) number) }
+/// What the worker is busy with, and how far it is. None: it is idle.
+pub fn phase(tables: &Tables, number: u64) -> Option<Busy<'_>>
+    ensures { option_map busy_told result
+        ≡ option_map busy_of (row_of (world_of tables.now) number) }
 {
     match row_of(tables, number) {
-        Some((_, worker)) => Some(worker.phase),
+        Some((namespace, worker)) => Some(Busy {
+            namespace,
+            evaluation: worker.evaluation,
+            phase: worker.phase,
+            tries: worker.tries,
+        }),
         None => None,
     }
 }

@@ -4,11 +4,13 @@ ghost use Rattle.std.specs.Prelude.{◌≡◌, IfOk, Some, option_copied, option
 ghost use Rattle.ns_types.specs.declared.step.Step.TheVariants as Step;
 ghost use Rattle.ns_types.specs.Steps.{Makes, opening};
 ghost use Rattle.ns_types.specs.Working.Looks.{row_of, served_ready};
+ghost use Rattle.ns_broker.specs.Looking.{busy_of, busy_told};
 ghost use Rattle.ns_broker.specs.Snapping.{kept_at};
 ghost use Rattle.ns_core.specs.Working.{snapped};
 ghost use Rattle.ns_steps.specs.Served.{IsServedAsk, IsServedNode};
 
 use crate::parts::Parts;
+use ns_broker::Busy;
 use ns_types::good::{GoodAdmin, GoodAsk, GoodTelling};
 use ns_types::key::EvalKey;
 use ns_types::name::Secret;
@@ -17,7 +19,6 @@ use ns_types::reply::Reply;
 use ns_types::shared::Shared;
 use ns_types::snapshot::Snapshot;
 use ns_types::text::Text;
-use ns_types::worker::Phase;
 use std::alloc::{AllocError, Global};
 use std::marker::Model;
 
@@ -134,9 +135,10 @@ impl Core {
         ns_broker::served_ready(&self.parts.tables)
     }
 
-    /// How far the worker is. None: it is idle.
-    pub fn phase(&self, worker: u64) -> Option<Phase>
-        ensures { result ≡ option_map (λ r. r.1.phase) (row_of self.now.world worker) }
+    /// What the worker is busy with, and how far it is. None: it is idle.
+    pub fn phase(&self, worker: u64) -> Option<Busy<'_>>
+        ensures { option_map busy_told result
+            ≡ option_map busy_of (row_of self.now.world worker) }
     {
         ns_broker::phase(&self.parts.tables, worker)
     }
