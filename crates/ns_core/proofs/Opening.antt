@@ -1,15 +1,15 @@
 -- The opening parts hold the opening state.
-use Rattle.std.specs.Prelude.{◌≡◌, IsTrue, false}
+use Rattle.std.specs.Prelude.{◌≡◌, IsTrue}
 use Rattle.std.proofs.Common.{sym, subst}
 use Rattle.ns_types.specs.declared.name.NameKind.TheVariants as NameKind
 use Rattle.ns_types.specs.State.Name.{is_name}
-use Rattle.ns_types.specs.State.Names.{Name, Key}
+use Rattle.ns_types.specs.State.Names.{Name}
 use Rattle.ns_types.specs.State.Rows.{Acl}
 use Rattle.ns_types.specs.Steps.{opening, opening_acl, opening_world}
 use Rattle.ns_audit.proofs.Valid.{opening_is_valid}
 use Rattle.ns_steps.proofs.Quiet.{opening_quiet}
 use Rattle.ns_live.specs.declared.live.Live.{Live}
-use Rattle.ns_live.specs.Index.{IsRight, holds}
+use Rattle.ns_live.specs.Index.{IsEmpty, IsRight}
 use Rattle.ns_live.proofs.Administered.{empty_right}
 use Rattle.ns_world.specs.declared.tables.Tables.{Tables}
 use Rattle.ns_world.specs.World.{world_of}
@@ -24,6 +24,6 @@ pub opening_held : (secret : Name) → IsTrue (is_name NameKind.Secret secret) �
 opening_held secret named = record { valid = opening_is_valid secret named; quiet = opening_quiet secret }
 
 pub opening_indexed : (secret : Name) (tables : Tables) (live : Live) → world_of tables ≡ opening_world
-    → ((pool node : Name) (key : Key) → holds live pool node key ≡ false) → IsRight (world_of tables) live
+    → IsEmpty live → IsRight (world_of tables) live
 unfolding opening
 opening_indexed secret tables live w none = subst (λ x. IsRight x live) (sym w) (empty_right secret live none)

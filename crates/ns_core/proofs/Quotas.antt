@@ -82,7 +82,7 @@ module _ (w : World) (name : Name) (quota : Quota) (relimited : is_relimited nam
     none_limited : limited name w ≡ []
     none_limited = ap (filter _) quiet.blocked
 
-    settled : settle w (with_quota_put name quota w) ≡ with_quota_written name (after_release (with_quota quota (get w.quotas name))) w
+    pub settled : settle w (with_quota_put name quota w) ≡ with_quota_written name (after_release (with_quota quota (get w.quotas name))) w
     settled = quota_put_settles w name quota relimited
         ∙ ap (λ keys. with_quota_written name (after_release (with_quota quota (get w.quotas name))) (stamp w (wake keys w))) none_limited
         ∙ ap (λ x. with_quota_written name (after_release (with_quota quota (get w.quotas name))) (stamp w x)) (wake_none w)

@@ -11,7 +11,7 @@ pub record IsHeld (s : State) : Type 0 where
   -- until plans are applied
   pub quiet : IsQuiet s.world
 
--- the index of live allocations is right
+-- the index of live allocations is right, and so is what is shown of nodes
 abbrev pub IsIndexed : Parts → Type 0
 IsIndexed parts = IsRight (world_of parts) parts.live
 

@@ -9,7 +9,7 @@ ghost use Rattle.ns_types.specs.Asking.Policies.{may_administer};
 ghost use Rattle.ns_types.specs.Steps.{is_past_bound};
 ghost use Rattle.ns_steps.specs.Quiet.{IsQuiet};
 ghost use Rattle.ns_core.specs.Answering.{ChangesBy, MakesStep, ReadsBy, Relimits, sees, sees_pool};
-ghost use Rattle.ns_core.specs.Held.{IsHeld};
+ghost use Rattle.ns_core.specs.Held.{IsHeld, IsIndexed};
 ghost use Rattle.ns_core.specs.Viewed.{state_of, world_of};
 
 use crate::parts::{Parts, plain};
@@ -105,7 +105,7 @@ impl Parts {
         requires { IsHeld (state_of self.old) }
         ensures made { let step = Step.Admin (option_copied secret.entry) command.now in
             MakesStep step self.old result self.new }
-        ensures live { self.new.live ≡ self.old.live }
+        ensures index { IsIndexed self.old → IsIndexed self.new }
     {
         if !self.may_administer(secret, command) {
             return Err(Refusal::Denied);

@@ -1,4 +1,5 @@
-//! All that a core holds: the access lists, the tables of the whole world, and the index of live allocations.
+//! All that a core holds: the access lists, the tables of the whole world, and the index of live allocations, with the nodes
+//! that snapshots share.
 
 ghost use Rattle.std.specs.Prelude.{◌≡◌, IfOk, None, false, option_map};
 ghost use Rattle.std.specs.FinMap.{get};

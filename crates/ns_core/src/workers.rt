@@ -53,7 +53,7 @@ impl Parts {
             IfOk result (λ seen. kept_at w worker namespace.now ≡ Some seen) }
         ensures index { IsIndexed self.old → IsIndexed self.new }
     {
-        let Snapped { prepared, snapshot } = snap(&self.tables, &self.live, worker, namespace)?;
+        let Snapped { prepared, snapshot } = snap(&self.tables, &mut self.live, worker, namespace)?;
         let content = self.make(Ok(prepared))?;
         drop(content);
         Ok(snapshot)

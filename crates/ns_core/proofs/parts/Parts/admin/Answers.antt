@@ -10,8 +10,10 @@ use Rattle.ns_types.specs.Steps.{after, said}
 use Rattle.ns_admin.specs.Laws.{relimits}
 use Rattle.ns_admin.proofs.Concluding.{administration_makes}
 use Rattle.ns_core.specs.Answering.{MakesStep}
+use Rattle.ns_core.specs.Held.{IsIndexed}
 use Rattle.ns_core.specs.Viewed.{state_of, world_of}
 use Rattle.ns_core.proofs.Keeping.{within}
+use Rattle.ns_core.proofs.Indexing.{index_stays, limits_indexed}
 use Rattle.ns_core.proofs.Making.{denied}
 use Rattle.ns_core.proofs.Quotas.{limits_stay, relimit_made, relimit_refused}
 use Rattle.ns_core.proofs.parts.Parts.admin.Goals.{in-PutQuota+in_ok-content-in-PutQuota, in_default+in_ok-content-in_default}
@@ -70,3 +72,20 @@ returns-clause-made c =
           ∙ (λ i. said (Ok (record { index = None; content = sym w.content-is i })) (state_of (sym w.self-is i)))
           ∙ ap (λ reply. said (Ok reply) (state_of c.match-command.self)) (sym c.plain.ensures)
     ]
+
+pub returns-in_err-content-in-PutQuota-clause-index : goal.returns-in_err-content-in-PutQuota-clause-index
+returns-in_err-content-in-PutQuota-clause-index c = limits_indexed c.args.self.now c.relimit.new.self c.in-PutQuota.name c.in-PutQuota.quota c.relimit.result
+    c.requires.quiet (sym c.is_relimited.ensures ∙ c.if-is_relimited.true) c.relimit.ensures.made c.relimit.ensures.live
+
+pub returns-in_err-content-in_default-clause-index : goal.returns-in_err-content-in_default-clause-index
+returns-in_err-content-in_default-clause-index c = index_stays (option_copied c.args.secret) c.args.command.now c.args.self.now c.administer.new.self
+    c.administer.result c.administer.ensures.made c.administer.ensures.live
+
+pub returns-clause-index : goal.returns-clause-index
+returns-clause-index c right = elim c.match-command.branch [
+  | in-PutQuota+in_ok-content-in-PutQuota w ↦ subst IsIndexed (sym w.self-is) (limits_indexed c.args.self.now w.relimit.new.self w.in-PutQuota.name
+      w.in-PutQuota.quota w.relimit.result c.requires.quiet (sym w.is_relimited.ensures ∙ w.if-is_relimited.true) w.relimit.ensures.made
+      w.relimit.ensures.live right)
+  | in_default+in_ok-content-in_default w ↦ subst IsIndexed (sym w.self-is) (index_stays (option_copied c.args.secret) c.args.command.now c.args.self.now
+      w.administer.new.self w.administer.result w.administer.ensures.made w.administer.ensures.live right)
+]
