@@ -1,6 +1,6 @@
 -- Down the order: the first that has room is the best, and stays it when it takes a size.
 use Rattle.std.proofs.Common.{◌≡◌, ◌≢◌, ◌<◌, ◌≤◌, ◌-◌, ◌+◌, ℕ, zero, suc, true, false, List, [], ◌∷◌, length, get_or, drop}
-use Rattle.std.proofs.Common.{Option, Some, None, ap, sym, ◌∙◌, subst, arith, inl, inr, ◌⊎◌}
+use Rattle.std.proofs.Common.{Option, Some, None, refl, ap, sym, ◌∙◌, subst, arith, inl, inr, ◌⊎◌}
 use Rattle.std.proofs.Math.ListN.{set}
 use Rattle.std.specs.List.{Contains}
 use Rattle.std.specs.Option.{MatchOption}
@@ -12,8 +12,9 @@ use Rattle.std.proofs.lemmas.List.{get_or_default, get_or-set_same, get_or-set_o
 use Rattle.std.proofs.lemmas.List.Elements.{All-head, All-tail, All-cons, All-nil}
 use Rattle.ns_types.specs.declared.resources.Resources.{Resources}
 use Rattle.ns_types.specs.Placing.Placement.{Candidate, fits, better, best_fit}
-use Rattle.ns_types.specs.Placing.Planning.{placed_on}
+use Rattle.ns_types.specs.Placing.Planning.{placed_on, update}
 use Rattle.ns_types.proofs.Named.{names}
+use Rattle.ns_place.specs.Laws.{ChangedAloneIsOrder, NextKeepsOrder}
 use Rattle.ns_place.specs.Order.{Walk, walk, Precedes, IsOrder, IsNextNode}
 use Rattle.ns_place.proofs.Best.{best_all, irreflexive}
 use Rattle.ns_place.proofs.Better.{better_order}
@@ -67,7 +68,7 @@ module _ (size : Resources) (cs : List Candidate) where
       (λ k lt d. elim (cases_Bool (fits size (get_or cs k d))) [ inl e ↦ absurd (in_none k (o.whole k lt (at_each k lt d e))) | inr e ↦ e ])
 
   -- the only node whose place changed is the only one that can have room
-  pub alone : (k : ℕ) (y : Candidate) → k < length cs → IsOrder (walk size []) cs → IsOrder (walk size (k ∷ [])) (set cs k y)
+  alone : (k : ℕ) (y : Candidate) → k < length cs → IsOrder (walk size []) cs → IsOrder (walk size (k ∷ [])) (set cs k y)
   alone k y inside o = record {
     whole = λ j lt ok.
         elim (cases_eq j k) [
@@ -223,9 +224,21 @@ module _ (size : Resources) (cs : List Candidate) (ms ns : List ℕ) (same : ms 
         subst (λ (q : Option ℕ). MatchOption q (drop i ns ≡ []) (IsNextNode (walk size (drop i ns)) cs)) (sym e) gone,
       )
 
--- the next takes the size, and the order stands
-pub next_taken : (w : Walk) (cs : List Candidate) (k : ℕ) (c : Candidate) → IsOrder w cs → IsNextNode w cs k → c ≡ get_or cs k c
-    → IsOrder w (set cs k (placed_on w.size [] c))
-next_taken w cs k c o n reads =
-    subst (λ (rest : List ℕ). IsOrder (walk w.size rest) (set cs k (placed_on w.size [] c))) (sym n.is)
-    (taken w.size cs k n.others (subst (λ (rest : List ℕ). IsOrder (walk w.size rest) cs) n.is o) c reads)
+update_is : {X : Type 0} (f : X → X) (xs : List X) (i : ℕ) (d : X) → i < length xs → update i f xs ≡ set xs i (f (get_or xs i d))
+update_is f [] i d lt = absurd (omega arith)
+update_is f (x ∷ xs) zero d lt = refl
+update_is f (x ∷ xs) (suc i) d lt = ap (λ ys. x ∷ ys) (update_is f xs i d (omega arith))
+
+pub next_keeps_order : NextKeepsOrder
+next_keeps_order w cs k o n =
+    let c = get_or cs k nobody in
+    let begins : IsOrder (walk w.size (k ∷ n.others)) cs = subst (λ (rest : List ℕ). IsOrder (walk w.size rest) cs) n.is o in
+    let inside = first_inside w.size cs k n.others begins in
+    subst (λ (nodes : List Candidate). IsOrder w nodes) (sym (update_is (placed_on w.size []) cs k nobody inside))
+    (subst (λ (rest : List ℕ). IsOrder (walk w.size rest) (set cs k (placed_on w.size [] c))) (sym n.is)
+    (taken w.size cs k n.others begins c (get_or_default cs k nobody c inside)))
+
+pub changed_alone_is_order : ChangedAloneIsOrder
+changed_alone_is_order size cs k change inside o =
+    subst (λ (nodes : List Candidate). IsOrder (walk size (k ∷ [])) nodes) (sym (update_is change cs k nobody inside))
+    (alone size cs k (change (get_or cs k nobody)) inside o)

@@ -1,2 +1,3 @@
 pub mod Amounts
+pub mod Laws
 pub mod Order

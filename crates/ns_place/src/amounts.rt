@@ -7,6 +7,7 @@ ghost use Rattle.ns_place.specs.Amounts.{IsCounted};
 use ns_types::resources::Resources;
 use ns_types::snapshot::LiveAllocation;
 
+/// Both together.
 pub fn plus(a: Resources, b: Resources) -> Resources
     requires { IsCounted (plus a b) }
     ensures { result ≡ plus a b }
@@ -17,6 +18,7 @@ pub fn plus(a: Resources, b: Resources) -> Resources
     }
 }
 
+/// What is left of `a` without `b`.
 pub fn minus(a: Resources, b: Resources) -> Resources
     requires { IsTrue (is_within b a) }
     ensures { result ≡ minus a b }

@@ -1,4 +1,4 @@
-//! A node as a plan sees it.
+//! A node as a plan sees it. Nomad's pages "How Nomad job placement works" and "Preemption".
 
 ghost use Rattle.std.specs.Prelude.{◌≡◌, ◌≤◌, IsTrue, length, map, take};
 ghost use Rattle.ns_types.specs.Placing.Planning.{placed_on};
@@ -42,6 +42,7 @@ impl<'a> Model for Candidate<'a> {
 }
 
 impl<'a> Candidate<'a> {
+    /// Before the plan has placed anything: what is left, and whom the job may evict, the first to go first.
     pub fn new(
         name: &'a Text,
         feasible: bool,
@@ -63,25 +64,28 @@ impl<'a> Candidate<'a> {
         }
     }
 
+    /// Of two nodes alike the one of the lesser name is taken.
     pub fn name(&self) -> &'a Text
         ensures { result.now ≡ self.now.name }
     {
         self.name
     }
 
+    /// Whether the job may use the node.
     pub fn is_feasible(&self) -> bool
         ensures { result ≡ self.now.feasible }
     {
         self.feasible
     }
 
+    /// What the plan so far leaves.
     pub fn left(&self) -> Resources
         ensures { result ≡ self.now.left }
     {
         self.left
     }
 
-    /// Whom the job may evict, the first to go first.
+    /// Whom the job may evict and the plan has not yet, the first to go first.
     pub fn evictable(&self) -> &[&'a LiveAllocation]
         ensures all { map (λ a. a.now) result.now ≡ self.now.evictable }
         ensures counted { IsCountedFreed self.now.left self.now.evictable }

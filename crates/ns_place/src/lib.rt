@@ -5,6 +5,7 @@ mod amounts;
 mod candidate;
 mod choice;
 mod constraints;
+pub mod laws;
 mod order;
 
 pub use amounts::{is_within, minus, plus};

@@ -116,6 +116,7 @@ impl Model for Order {
 }
 
 impl Order {
+    /// Of all nodes that have room for the size.
     pub fn new(
         alloc: Global,
         candidates: &[Candidate<'_>],
