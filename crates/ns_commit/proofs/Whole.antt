@@ -21,9 +21,8 @@ use Rattle.ns_change.specs.declared.change.Settled.{Settled}
 use Rattle.ns_change.specs.declared.change.SettledTenant.{SettledTenant}
 use Rattle.ns_change.specs.Changed.{changed_list, changed_pool, changed_quota, perhaps}
 use Rattle.ns_change.specs.Settled.{classes_in, settled_tenant, settled_world}
-use Rattle.ns_commit.specs.Committed.{CanRise, CanTell, Fits, HasNodeRoom, HaveClassRoom, KeepsNodes}
-use Rattle.ns_commit.specs.Committed.{numbered_pools, raised_pool, raised_quota, released_quotas, releases, settled_pools, settled_quotas}
-use Rattle.ns_commit.specs.Committed.{with_classes}
+use Rattle.ns_commit.specs.Committed.{CanRise, CanTell, Fits, HasNodeRoom, HaveClassRoom, KeepsNodes, settled_quotas}
+use Rattle.ns_commit.specs.Committed.{numbered_pools, raised_pool, raised_quota, released_quotas, releases, settled_pools, with_classes}
 use Rattle.ns_commit.specs.Indexed.{IsRightFor}
 use Rattle.ns_commit.specs.Owners.{EachChanged, changed_owners, owners}
 use Rattle.ns_commit.proofs.Owned.{get-changed, get-owners}
