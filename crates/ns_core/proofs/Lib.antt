@@ -4,7 +4,6 @@ pub mod Counting
 pub mod Preparing
 pub mod Reading
 pub mod Making
-pub mod Quotas
-pub mod Indexing
+pub mod Administering
 pub mod Telling
 pub mod Working

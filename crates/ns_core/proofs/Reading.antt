@@ -1,12 +1,8 @@
--- What is read while nothing is placed.
-use Rattle.std.specs.Prelude.{◌≡◌, ℕ, ◌+◌, ◌<◌, ◌^◌, Bool, true, false, cond, List, [], ◌∷◌, Option, Result, sum_by}
-use Rattle.std.proofs.Common.{refl, sym, ap, subst, ◌∙◌, arith}
-use Rattle.std.specs.FinMap.{empty, entries}
-use Rattle.std.proofs.lemmas.List.Sums.{sum_by-cons}
-use Rattle.ns_types.specs.declared.allocation.Allocation.{Allocation}
+-- What is read, as a step.
+use Rattle.std.specs.Prelude.{◌≡◌, true, Option, Result}
+use Rattle.std.proofs.Common.{refl, arith}
 use Rattle.ns_types.specs.declared.refusal.Refusal.{Refusal}
 use Rattle.ns_types.specs.declared.reply.Content.{Content}
-use Rattle.ns_types.specs.declared.resources.Resources.{Resources}
 use Rattle.ns_types.specs.declared.step.AskCommand.{AskCommand}
 use Rattle.ns_types.specs.declared.step.NodeCommand.{NodeCommand}
 use Rattle.ns_types.specs.declared.step.Step.TheVariants as Step
@@ -15,58 +11,32 @@ use Rattle.ns_types.specs.Asking.Asks.{ask, right_of}
 use Rattle.ns_types.specs.Asking.Nodes.{ask_pool, pool_right_of}
 use Rattle.ns_types.specs.Asking.Policies.{with_world}
 use Rattle.ns_types.specs.Settling.Outcome.{Changes}
-use Rattle.ns_types.specs.State.Lists.{Each}
 use Rattle.ns_types.specs.State.Names.{Name}
-use Rattle.ns_types.specs.State.Rows.{State, Tenant, World, is_live}
-use Rattle.ns_types.specs.State.Sums.{names_quota, quota_sum, quota_use, tenant_sum}
+use Rattle.ns_types.specs.State.Rows.{State}
+use Rattle.ns_types.specs.State.Sums.{quota_use}
 use Rattle.ns_types.specs.Steps.{Makes, act}
-use Rattle.ns_types.proofs.Named.{names, numbers, one_name, one_number}
-use Rattle.ns_types.proofs.TableRows.{entries_empty}
-use Rattle.ns_types.proofs.Tables.{each_row}
 use Rattle.ns_types.proofs.Lists.{not_both}
+use Rattle.ns_types.proofs.LiveSums.{quota_small}
 use Rattle.ns_steps.specs.Answers.{answer_of}
 use Rattle.ns_steps.specs.Served.{IsServedAsk, IsServedNode, only_reads, served_ask, served_node}
 use Rattle.ns_steps.proofs.Reading.{changes_lift, reads_make}
 use Rattle.ns_jobs.specs.Read
 use Rattle.ns_jobs.specs.Read.{UsageFits, UseFits}
-use Rattle.ns_steps.specs.Quiet.{IsQuiet}
 use Rattle.ns_core.specs.Held.{IsHeld}
 use Rattle.ns_core.proofs.Keeping.{within}
 
--- ---- the use of a quota is none
+-- ---- what is used of a quota
 
-module _ (quota : Name) (amount : Resources → ℕ) where
-  of_tenant : (t : Tenant) → t.allocations ≡ empty → tenant_sum is_live amount t ≡ 0
-  of_tenant t none = ap (λ m. sum_by {X = ℕ × Allocation} (λ e. cond (is_live e.1) (amount e.1.size) 0) (entries m)) none
-      ∙ ap (sum_by {X = ℕ × Allocation} (λ e. cond (is_live e.1) (amount e.1.size) 0)) (entries_empty numbers one_number)
+pub usage_fits : (s : State) → IsHeld s → (quota : Name) → UseFits (quota_use s.world quota)
+usage_fits s held quota =
+    let small = quota_small s.world quota held.valid.world in
+    let cpu = small.0 in
+    let memory = small.1 in
+    record { cpu = omega (arith, cpu); memory = omega (arith, memory) }
 
-  of_all : (es : List (Name × Tenant)) → Each (λ e. e.1.allocations ≡ empty) es
-      → sum_by {X = Name × Tenant} (λ e. cond (names_quota quota e.1.namespace) (tenant_sum is_live amount e.1) 0) es ≡ 0
-  of_all [] h = refl
-  of_all (e ∷ es) h = sum_by-cons (λ e. cond (names_quota quota e.1.namespace) (tenant_sum is_live amount e.1) 0) e es
-      ∙ (λ i. cond (names_quota quota e.1.namespace) (of_tenant e.1 h.0 i) 0 + of_all es h.1 i) ∙ by (names_quota quota e.1.namespace)
-    where
-      by : (b : Bool) → cond b 0 0 + 0 ≡ 0
-      by true = refl
-      by false = refl
-
-none_used : (w : World) → IsQuiet w → (quota : Name) → quota_use w quota ≡ record { cpu = 0; memory = 0 }
-unfolding quota_sum
-none_used w quiet quota = λ i. record { cpu = by (λ r. r.cpu) i; memory = by (λ r. r.memory) i }
-  where
-    by : (amount : Resources → ℕ) → sum_by {X = Name × Tenant} (λ e. cond (names_quota quota e.1.namespace) (tenant_sum is_live amount e.1) 0)
-        (entries w.tenants) ≡ 0
-    by amount = of_all quota amount (entries w.tenants) (each_row names one_name (λ _ t. t.allocations ≡ empty) w.tenants quiet.placed)
-
-pub usage_fits : (w : World) → IsQuiet w → (quota : Name) → UseFits (quota_use w quota)
-usage_fits w quiet quota = record {
-  cpu = subst (λ used. used.cpu < 2 ^ 64) (sym (none_used w quiet quota)) (omega arith);
-  memory = subst (λ used. used.memory < 2 ^ 64) (sym (none_used w quiet quota)) (omega arith);
-}
-
-pub uses_fit : (w : World) → IsQuiet w → (command : AskCommand) → UsageFits command w
-uses_fit w quiet (AskCommand.QuotaUsage quota) = usage_fits w quiet quota
-uses_fit w quiet _ = tt
+pub uses_fit : (s : State) → IsHeld s → (command : AskCommand) → UsageFits command s.world
+uses_fit s held (AskCommand.QuotaUsage quota) = usage_fits s held quota
+uses_fit s held _ = tt
 
 -- ---- a read as a step
 

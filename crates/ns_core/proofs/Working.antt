@@ -41,9 +41,8 @@ module _ (parts : Parts) (held : IsHeld (state_of parts)) (worker : ℕ) (ns : N
 
   -- ---- a worker that looks
 
-  -- nothing is placed, so nothing is used
   pub use_fits : UseFitsIn (world_of parts) ns
-  use_fits t is quota names = usage_fits (world_of parts) held.quiet quota
+  use_fits t is quota names = usage_fits (state_of parts) held quota
 
   pub snap_refused : (refusal : Refusal) → Prepares (snap worker ns (world_of parts)) parts.tables (Err refusal) →
       MakesStep (Step.Snap worker ns) parts (Err refusal) parts

@@ -1,6 +1,5 @@
 -- What the calls on the parts answer and leave.
 use Rattle.std.specs.Prelude.{◌≡◌, Bool, true, Option, Result, Ok, Err}
-use Rattle.ns_types.specs.declared.records.Quota.{Quota}
 use Rattle.ns_types.specs.declared.refusal.Refusal.{Refusal}
 use Rattle.ns_types.specs.declared.reply.Content.{Content}
 use Rattle.ns_types.specs.declared.step.AdminCommand.{AdminCommand}
@@ -10,7 +9,7 @@ use Rattle.ns_types.specs.declared.step.Step.{Step}
 use Rattle.ns_types.specs.Access.Rights.{has_any, pool_rights_of, rights_of}
 use Rattle.ns_types.specs.Asking.Asks.{right_of}
 use Rattle.ns_types.specs.Asking.Nodes.{ask_pool, pool_right_of}
-use Rattle.ns_types.specs.Asking.Policies.{administer}
+use Rattle.ns_types.specs.Asking.Policies.{administer, may_administer}
 use Rattle.ns_types.specs.Settling.Outcome.{Changes, Done}
 use Rattle.ns_types.specs.State.Names.{Name}
 use Rattle.ns_types.specs.State.Rows.{Acl}
@@ -18,8 +17,6 @@ use Rattle.ns_types.specs.Steps.{Answer, Makes, act, is_allowed}
 use Rattle.ns_steps.specs.Answers.{answer_of}
 use Rattle.ns_change.specs.declared.change.Prepared.{Prepared}
 use Rattle.ns_change.specs.Changed.{view}
-use Rattle.ns_admin.specs.Viewed.{with_quota_put}
-use Rattle.ns_conclude.specs.Concludes.{Concludes}
 use Rattle.ns_core.specs.declared.parts.Parts.{Parts}
 use Rattle.ns_core.specs.Viewed.{state_of, world_of}
 
@@ -74,10 +71,10 @@ ChangesBy secret command old result new =
 abbrev pub ReadsBy : Option Name → AdminCommand → Parts → Result Content Refusal → Type 0
 ReadsBy secret command parts result = ChangesBy secret command parts result parts
 
--- the quota is put, and what that releases settles
-abbrev pub Relimits : Name → Quota → Parts → Result Content Refusal → Parts → Type 0
-Relimits name quota old result new =
-    Concludes (world_of old) (with_quota_put name quota (world_of old)) result (world_of new)
+-- the step of each secret that may
+abbrev pub MakesAdmin : AdminCommand → Parts → Answer → Parts → Type 0
+MakesAdmin command old result new = (secret : Option Name) → may_administer old.acl secret command ≡ true →
+    MakesStep (Step.Admin secret command) old result new
 
 -- ---- whose names a secret sees in lists
 

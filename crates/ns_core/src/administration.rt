@@ -1,22 +1,20 @@
 //! What administrators ask, as steps over the parts.
 
-ghost use Rattle.std.specs.Prelude.{◌≡◌, IfOk, false, option_copied, true};
-ghost use Rattle.ns_types.specs.declared.reply.Content.TheVariants as Content;
+ghost use Rattle.std.specs.Prelude.{◌≡◌, false, option_copied, true};
 ghost use Rattle.ns_types.specs.declared.step.AdminCommand.TheVariants as AdminCommand;
 ghost use Rattle.ns_types.specs.declared.step.Step.TheVariants as Step;
 ghost use Rattle.ns_types.specs.Asking.Admins.{is_relimited};
 ghost use Rattle.ns_types.specs.Asking.Policies.{may_administer};
-ghost use Rattle.ns_types.specs.Steps.{is_past_bound};
-ghost use Rattle.ns_steps.specs.Quiet.{IsQuiet};
-ghost use Rattle.ns_core.specs.Answering.{ChangesBy, MakesStep, ReadsBy, Relimits, sees, sees_pool};
+ghost use Rattle.ns_admin.specs.Laws.{relimits};
+ghost use Rattle.ns_core.specs.Answering.{ChangesBy, MakesAdmin, MakesStep, ReadsBy, sees, sees_pool};
 ghost use Rattle.ns_core.specs.Held.{IsHeld, IsIndexed};
 ghost use Rattle.ns_core.specs.Viewed.{state_of, world_of};
 
 use crate::parts::{Parts, plain};
 use crate::rights::has_any;
 use ns_admin::{
-    delete_namespace, delete_pool, delete_quota, is_exhausted, is_relimited, list_quotas,
-    put_namespace, put_pool, put_quota, read_quota, release_quota,
+    change_limits, delete_namespace, delete_pool, delete_quota, is_relimited, list_quotas,
+    put_namespace, put_pool, put_quota, read_quota,
 };
 use ns_types::records::Quota;
 use ns_types::refusal::Refusal;
@@ -82,22 +80,33 @@ impl Parts {
         }
     }
 
-    /// Changes the limits of a quota, which releases it once more. `Full`: that number would pass its bound.
-    fn relimit(&mut self, name: &Text, quota: &Quota) -> Result<Content, Refusal>
-        requires quiet { IsQuiet (world_of self.old) }
-        requires within { is_past_bound (world_of self.old) ≡ false }
-        requires other { is_relimited name.now quota.now (world_of self.old) ≡ true }
-        ensures acl { self.new.acl ≡ self.old.acl }
-        ensures live { self.new.live ≡ self.old.live }
-        ensures made { Relimits name.now quota.now self.old result self.new }
-        ensures content { IfOk result (λ content. content ≡ Content.Written) }
+    /// Makes the step of a command that settles as it is, by a secret that may.
+    fn make_at_once(
+        &mut self,
+        secret: Option<&Text>,
+        command: &AdminCommand,
+    ) -> Result<Reply, Refusal>
+        requires held { IsHeld (state_of self.old) }
+        requires allowed { may_administer self.old.acl (option_copied secret) command.now ≡ true }
+        requires same { relimits command.now (world_of self.old) ≡ false }
+        ensures made { let step = Step.Admin (option_copied secret.entry) command.now in
+            MakesStep step self.old result self.new }
+        ensures index { IsIndexed self.old → IsIndexed self.new }
     {
-        if is_exhausted(&self.tables, name) {
-            return Err(Refusal::Full);
-        }
-        let content = put_quota(&mut self.tables, name, quota)?;
-        release_quota(&mut self.tables, name);
-        Ok(content)
+        let content = self.administer(secret, command)?;
+        Ok(plain(content))
+    }
+
+    /// Makes the step in which a quota gets other limits, by a secret that may.
+    fn relimit(&mut self, name: &Text, quota: &Quota) -> Result<Reply, Refusal>
+        requires held { IsHeld (state_of self.old) }
+        requires other { is_relimited name.now quota.now (world_of self.old) ≡ true }
+        ensures made { let command = AdminCommand.PutQuota name.now quota.now in
+            MakesAdmin command self.old result self.new }
+        ensures index { IsIndexed self.old → IsIndexed self.new }
+    {
+        let prepared = change_limits(&self.tables, name, quota);
+        self.work(prepared)
     }
 
     /// Makes the step that an administrator asks, or leaves the state as it is.
@@ -110,12 +119,11 @@ impl Parts {
         if !self.may_administer(secret, command) {
             return Err(Refusal::Denied);
         }
-        let content = match command {
+        match command {
             AdminCommand::PutQuota(name, quota) if is_relimited(&self.tables, name, quota) => {
-                self.relimit(name, quota)?
+                self.relimit(name, quota)
             }
-            _ => self.administer(secret, command)?,
-        };
-        Ok(plain(content))
+            _ => self.make_at_once(secret, command),
+        }
     }
 }

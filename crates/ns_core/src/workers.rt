@@ -19,7 +19,7 @@ use ns_types::text::Text;
 
 impl Parts {
     /// Makes the step that was prepared, or leaves the state as it is.
-    fn work(&mut self, prepared: Result<Prepared, Refusal>) -> Result<Reply, Refusal>
+    pub fn work(&mut self, prepared: Result<Prepared, Refusal>) -> Result<Reply, Refusal>
         requires { IsHeld (state_of self.old) }
         ensures made { MakesWork prepared self.old result self.new }
         ensures index { IsIndexed self.old → IsIndexed self.new }

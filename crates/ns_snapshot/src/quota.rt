@@ -9,7 +9,8 @@ ghost use Rattle.ns_jobs.specs.Read.{UseFits};
 ghost use Rattle.ns_snapshot.specs.Seen.{UseOfFits, naming};
 ghost use Rattle.ns_world.specs.World.{quota_of, tenant_of, world_of};
 
-use ns_admin::{limits_in, names_quota};
+use ns_admin::names_quota;
+use ns_alike::limits_in;
 use ns_jobs::quota_use;
 use ns_types::rows::Rows;
 use ns_types::snapshot::QuotaSeen;

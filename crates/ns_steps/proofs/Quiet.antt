@@ -1,5 +1,5 @@
 -- What leaves a world quiet: rows put and changed, lists of the ready, and the end of a step.
-use Rattle.std.specs.Prelude.{◌≡◌, ◌+◌, Bool, true, false, if◌then◌else◌, not, ◌++◌, List, [], ◌∷◌, Option, Some, None, fold, filter, option_map}
+use Rattle.std.specs.Prelude.{◌≡◌, ◌+◌, Bool, true, false, if◌then◌else◌, ◌++◌, List, [], ◌∷◌, Option, Some, None, fold, option_map}
 use Rattle.std.proofs.Common.{refl, sym, ap, ◌∙◌, ⊎_elim}
 use Rattle.std.specs.Option.{option_map_or}
 use Rattle.std.specs.FinMap.{empty, get, get-empty, remove}
@@ -7,7 +7,7 @@ use Rattle.ns_types.specs.declared.evaluation.Evaluation.{Evaluation}
 use Rattle.ns_types.specs.Settling.Making.{make, make_in, put_tenant, with_evaluation}
 use Rattle.ns_types.specs.Settling.Releases.{woken}
 use Rattle.ns_types.specs.Settling.Settle.{is_touched, number_releases, settle, stamp, stamp_tenant, stamped, stamped_allocation, unblocked_in, wake}
-use Rattle.ns_types.specs.State.Names.{Name, Key, default_name, has_key, name_cmp}
+use Rattle.ns_types.specs.State.Names.{Name, Key, default_name, name_cmp}
 use Rattle.ns_types.specs.State.Rows.{World, Tenant, evaluation_at}
 use Rattle.ns_types.specs.State.Tables.{map_rows}
 use Rattle.ns_types.specs.Steps.{opening, opening_tenant}
@@ -27,20 +27,17 @@ pub quiet_put : (w : World) (ns : Name) (t : Tenant) → IsQuiet w → HasNone t
 quiet_put w ns t quiet none = record {
   placed = λ other x at. ⊎_elim (λ own. ap (λ t. t.allocations) (sym own.1) ∙ none) (quiet.placed other x)
       (row_of_insert names one_name w.tenants ns t other x at);
-  blocked = quiet.blocked;
 }
 
 pub quiet_remove : (w : World) (ns : Name) → IsQuiet w → IsQuiet (record w { tenants = remove w.tenants ns })
 quiet_remove w ns quiet = record {
   placed = λ other x at. quiet.placed other x (row_of_remove w.tenants ns other x at);
-  blocked = quiet.blocked;
 }
 
 pub quiet_map : (w : World) (f : Name → Tenant → Tenant) → IsQuiet w → ((ns : Name) (t : Tenant) → HasNone t → HasNone (f ns t)) →
     IsQuiet (record w { tenants = map_rows f w.tenants })
 quiet_map w f quiet keeps = record {
   placed = λ ns x at. by ns x (get w.tenants ns) refl (sym (get-map_rows names one_name f w.tenants ns) ∙ at);
-  blocked = quiet.blocked;
 }
   where
     by : (ns : Name) (x : Tenant) (o : Option Tenant) → get w.tenants ns ≡ o → option_map (f ns) o ≡ Some x → HasNone x
@@ -50,7 +47,10 @@ quiet_map w f quiet keeps = record {
 -- ---- the lists
 
 pub quiet_ready : (w : World) (keys : List Key) → IsQuiet w → IsQuiet (record w { ready = keys })
-quiet_ready w keys quiet = record { placed = quiet.placed; blocked = quiet.blocked }
+quiet_ready w keys quiet = record { placed = quiet.placed }
+
+pub quiet_blocked : (w : World) (keys : List Key) → IsQuiet w → IsQuiet (record w { blocked = keys })
+quiet_blocked w keys quiet = record { placed = quiet.placed }
 
 pub quiet_queue : (w : World) (key : Key) → IsQuiet w → IsQuiet (queue w key)
 unfolding queue
@@ -107,7 +107,6 @@ quiet_wake : (keys : List Key) (w : World) → IsQuiet w → IsQuiet (wake keys 
 unfolding wake
 quiet_wake keys w quiet = quiet_fold queue quiet_queue keys _ (record {
   placed = (quiet_map w (unblocked_in keys) quiet (λ ns t none. none)).placed;
-  blocked = ap (filter (λ key. not (has_key keys key))) quiet.blocked;
 })
 
 quiet_stamp : (w x : World) → IsQuiet x → IsQuiet (stamp w x)
@@ -124,7 +123,7 @@ quiet_stamp w x quiet = quiet_map x (λ ns t. stamp_tenant (get w.tenants ns) t)
 
 quiet_numbers : (w w' x : World) → IsQuiet x → IsQuiet (number_releases w w' x)
 unfolding number_releases
-quiet_numbers w w' x quiet = record { placed = quiet.placed; blocked = quiet.blocked }
+quiet_numbers w w' x quiet = record { placed = quiet.placed }
 
 pub quiet_settle : (w w' : World) → IsQuiet w' → IsQuiet (settle w w')
 unfolding settle
@@ -137,5 +136,4 @@ unfolding opening
 opening_quiet secret = record {
   placed = λ ns t at. ⊎_elim (λ own. ap (λ t. t.allocations) (sym own.1)) (λ at. absurd (not_Some t (sym (get-empty name_cmp ns) ∙ at)))
       (row_of_insert names one_name empty default_name opening_tenant ns t at);
-  blocked = refl;
 }

@@ -1,4 +1,4 @@
--- Each step but those that apply a plan or finish leaves a world quiet.
+-- Each step but those that apply a plan leaves a world quiet.
 use Rattle.std.specs.Prelude.{◌≡◌, ◌+◌, ◌&&◌, ℕ, Bool, true, false, cond, if◌then◌else◌, Option, Some, None, Ok, Err, nat_le, nat_lt}
 use Rattle.std.proofs.Common.{refl, sym, ap, subst, ◌∙◌}
 use Rattle.std.specs.Option.{option_and_then, option_map_or}
@@ -6,10 +6,11 @@ use Rattle.std.specs.Ordering.{nat_cmp}
 use Rattle.std.specs.FinMap.{empty, get, get-empty, insert}
 use Rattle.ns_types.specs.declared.allocation.Allocation.{Allocation}
 use Rattle.ns_types.specs.declared.evaluation.Evaluation.{Evaluation}
-use Rattle.ns_types.specs.declared.evaluation.Status.TheVariants as Status
+use Rattle.ns_types.specs.declared.evaluation.Status.{Status}
 use Rattle.ns_types.specs.declared.job.Job.{Job}
 use Rattle.ns_types.specs.declared.records.Namespace.{Namespace}
 use Rattle.ns_types.specs.declared.refusal.Refusal.{Refusal}
+use Rattle.ns_types.specs.declared.snapshot.Snapshot.{Snapshot}
 use Rattle.ns_types.specs.declared.step.AdminCommand.{AdminCommand}
 use Rattle.ns_types.specs.declared.step.AskCommand.{AskCommand}
 use Rattle.ns_types.specs.declared.step.NodeCommand.{NodeCommand}
@@ -27,16 +28,19 @@ use Rattle.ns_types.specs.State.Rows.{Acl, PoolRows, State, Tenant, World, alloc
 use Rattle.ns_types.specs.State.Sums.{names_quota}
 use Rattle.ns_types.specs.State.Tables.{map_rows}
 use Rattle.ns_types.specs.Steps.{Answer, act, after, concluded, is_allowed, is_past_bound, reply_of, said}
-use Rattle.ns_types.specs.Working.Work.{at_work, dequeue, dequeue_in, given_back, given_up, is_idle}
+use Rattle.ns_types.specs.Settling.Releases.{missed}
+use Rattle.ns_types.specs.Working.Work.{at_work, blocked_of, dequeue, dequeue_in, end_of, ended, finish, finish_for, finished}
+use Rattle.ns_types.specs.Working.Work.{followed, follower_of, given_back, given_up, is_idle, may_finish, needs_follower}
 use Rattle.ns_types.specs.Working.Work.{is_submitted, may_snap, may_submit, most_nacks, nack, nack_for}
-use Rattle.ns_types.specs.Working.Work.{snap, snap_for, submit, submit_for, submitted, with_nack, without_worker, workers_end}
+use Rattle.ns_types.specs.Working.Work.{snap, snap_for, submit, submit_for, submitted, with_follower, with_nack, without_blocked}
+use Rattle.ns_types.specs.Working.Work.{without_key, without_worker, workers_end}
 use Rattle.ns_types.specs.Working.Queue.{is_served}
 use Rattle.ns_types.proofs.Lists.{not_both}
 use Rattle.ns_types.proofs.Named.{numbers, one_number}
 use Rattle.ns_types.proofs.Tables.{table_of-empty}
 use Rattle.ns_types.proofs.Tests.{not_Some, same_Some}
 use Rattle.ns_steps.specs.Quiet.{IsQuiet, ends_quiet}
-use Rattle.ns_steps.proofs.Quiet.{HasNone, quiet_fold, quiet_make, quiet_make_in, quiet_map, quiet_promote, quiet_put, quiet_ready, quiet_remove, quiet_settle}
+use Rattle.ns_steps.proofs.Quiet.{HasNone, quiet_blocked, quiet_fold, quiet_make, quiet_make_in, quiet_map, quiet_promote, quiet_put, quiet_ready, quiet_remove, quiet_settle}
 
 -- ---- outcomes
 
@@ -109,7 +113,7 @@ ask_quiet ns command w quiet = leaves_found IsQuiet (get w.tenants ns) (asked_in
 
 module _ (pool : Name) (w : World) (quiet : IsQuiet w) where
   in_pools : (pools : _) → IsQuiet (record w { pools = pools })
-  in_pools pools = record { placed = quiet.placed; blocked = quiet.blocked }
+  in_pools pools = record { placed = quiet.placed }
 
   none_allocated : (key : Key) (a : Allocation) → allocation_at w key ≡ Some a → ⊥
   none_allocated key a = by (get w.tenants key.0) refl
@@ -158,7 +162,7 @@ put_namespace_quiet name namespace w quiet = leaves_unless IsQuiet _ _ _ (leaves
     by None is = refl
     by (Some t) is = quiet.placed name t is
 
--- what changes no namespace and no list
+-- what changes no namespace
 module _ (s : State) (quiet : IsQuiet s.world) where
   world_quiet : (o : Outcome World) → Leaves IsQuiet o → Leaves IsQuietState (lift (with_world s.acl) o)
   world_quiet o h = leaves_lift IsQuietState IsQuiet (with_world s.acl) o (λ w q. q) h
@@ -169,7 +173,7 @@ module _ (s : State) (quiet : IsQuiet s.world) where
   acl_quiet (Done content acl) = quiet
 
   in_quotas : (quotas : _) → IsQuiet (record s.world { quotas = quotas })
-  in_quotas quotas = record { placed = quiet.placed; blocked = quiet.blocked }
+  in_quotas quotas = record { placed = quiet.placed }
 
   admin_quiet : (secret : Option Name) (command : AdminCommand) → Leaves IsQuietState (administer secret command s)
   unfolding administer put_namespace delete_namespace put_quota delete_quota put_pool_record delete_pool
@@ -196,6 +200,31 @@ module _ (s : State) (quiet : IsQuiet s.world) where
 
 -- ---- workers
 
+status_none : (n : ℕ) (status : Status) (t : Tenant) → HasNone t → HasNone (with_status n status t)
+status_none n status t none = by (get t.evaluations n)
+  where
+    by : (o : Option Evaluation) → HasNone (option_map_or (λ e. record t { evaluations = insert t.evaluations n (record e { status = status }) }) o t)
+    by None = none
+    by (Some e) = none
+
+ended_none : (number : ℕ) (worker : Worker) (e : Evaluation) (status : Status) (t : Tenant) → HasNone t → HasNone (ended number worker e status t)
+ended_none number worker e status t none = by (blocked_of left e.job)
+  where
+    left : Tenant
+    left = with_status worker.evaluation status (without_worker number t)
+
+    by : (o : Option ℕ) → HasNone (option_map_or (λ n. with_status n Status.Canceled left) o left)
+    by None = status_none worker.evaluation status (without_worker number t) none
+    by (Some n) = status_none n Status.Canceled left (status_none worker.evaluation status (without_worker number t) none)
+
+follower_none : (n : ℕ) (follower : Evaluation) (t : Tenant) → HasNone t → HasNone (with_follower n follower t)
+follower_none n follower t none = by (get t.evaluations n)
+  where
+    by : (o : Option Evaluation) →
+        HasNone (option_map_or (λ e. record t { evaluations = insert t.evaluations n (record e { follower = Some (t.evaluation_number + 1) }) }) o t)
+    by None = none
+    by (Some e) = none
+
 module _ (w : World) (quiet : IsQuiet w) (number : ℕ) (ns : Name) where
   at_work_quiet : (go : Tenant → Worker → Evaluation → Outcome World)
       → ((t : Tenant) (worker : Worker) (e : Evaluation) → HasNone t → Leaves IsQuiet (go t worker e))
@@ -220,23 +249,45 @@ module _ (w : World) (quiet : IsQuiet w) (number : ℕ) (ns : Name) where
       (λ kept _. leaves_if IsQuiet (may_submit worker kept) _ NotEnabled (by t worker none) tt))
     where
       by : (t : Tenant) (worker : Worker) → HasNone t → IsQuiet (submitted number ns w t worker)
-      by t worker none = record { placed = (quiet_put w ns _ quiet none).placed; blocked = quiet.blocked }
+      by t worker none = record { placed = (quiet_put w ns _ quiet none).placed }
 
   nack_quiet : Leaves IsQuiet (nack number ns w)
   unfolding nack
   nack_quiet = at_work_quiet (nack_for number ns w) (λ t worker e none. leaves_if IsQuiet (is_submitted worker.phase) NotEnabled _ tt
       (leaves_if IsQuiet (nat_le most_nacks (e.nacks + 1)) (given_up number ns w (with_nack worker.evaluation e t) worker e)
       (given_back number ns w (with_nack worker.evaluation e t) worker)
-      (quiet_promote _ ns e.job (quiet_put w ns _ quiet (ends worker.evaluation (without_worker number (with_nack worker.evaluation e t)) none)))
+      (quiet_promote _ ns e.job
+      (quiet_put w ns _ quiet (status_none worker.evaluation Status.Failed (without_worker number (with_nack worker.evaluation e t)) none)))
       (quiet_ready _ _ (quiet_put w ns _ quiet none))))
+
+  unblocked : (t : Tenant) (job : Name) → IsQuiet (without_blocked ns job t w)
+  unblocked t job = by (blocked_of t job)
     where
-      ends : (n : ℕ) (t : Tenant) → HasNone t → HasNone (with_status n Status.Failed t)
-      ends n t none = by (get t.evaluations n)
-        where
-          by : (o : Option Evaluation) →
-              HasNone (option_map_or (λ e. record t { evaluations = insert t.evaluations n (record e { status = Status.Failed }) }) o t)
-          by None = none
-          by (Some e) = none
+      by : (o : Option ℕ) → IsQuiet (option_map_or (λ n. record w { blocked = without_key (ns, n) w.blocked }) o w)
+      by None = quiet
+      by (Some n) = quiet_blocked w _ quiet
+
+  -- with or without a release that it missed
+  follows : (worker : Worker) (follower : Evaluation) (t : Tenant) (x : World) → IsQuiet x → HasNone t → (b : Bool) →
+      IsQuiet (followed ns worker follower t b x)
+  follows worker follower t x still none true =
+      quiet_put x ns _ still (follower_none worker.evaluation (record follower { status = Status.Pending }) t none)
+  follows worker follower t x still none false =
+      quiet_blocked _ _ (quiet_put x ns _ still (follower_none worker.evaluation follower t none))
+
+  finish_quiet : Leaves IsQuiet (finish number ns w)
+  unfolding finish
+  finish_quiet = at_work_quiet _ (λ t worker e none. leaves_there IsQuiet worker.kept (finish_for number ns w t worker e)
+      (λ kept _. leaves_if IsQuiet (may_finish worker kept) _ NotEnabled (by t worker e kept none) tt))
+    where
+      by : (t : Tenant) (worker : Worker) (e : Evaluation) (kept : Snapshot) → HasNone t → Leaves IsQuiet (finished number ns w t worker e kept)
+      by t worker e kept none =
+          let left = ended_none number worker e (end_of worker) t none in
+          let still = unblocked t e.job in
+          leaves_if IsQuiet (needs_follower worker kept) _ _
+          (quiet_promote _ ns e.job (follows worker (follower_of e worker kept) (ended number worker e (end_of worker) t)
+          (without_blocked ns e.job t w) still left (missed w kept (follower_of e worker kept))))
+          (quiet_promote _ ns e.job (quiet_put (without_blocked ns e.job t w) ns _ still left))
 
 -- ---- all steps
 
@@ -249,7 +300,7 @@ acts_quiet (Step.Dequeue worker ns n) s quiet calm = world_quiet s quiet _ (dequ
 acts_quiet (Step.Snap worker ns) s quiet calm = world_quiet s quiet _ (snap_quiet s.world quiet worker ns)
 acts_quiet (Step.Submit worker ns) s quiet calm = world_quiet s quiet _ (submit_quiet s.world quiet worker ns)
 acts_quiet (Step.Apply worker ns) s quiet calm = not_both refl calm
-acts_quiet (Step.Finish worker ns) s quiet calm = not_both refl calm
+acts_quiet (Step.Finish worker ns) s quiet calm = world_quiet s quiet _ (finish_quiet s.world quiet worker ns)
 acts_quiet (Step.Nack worker ns) s quiet calm = world_quiet s quiet _ (nack_quiet s.world quiet worker ns)
 
 concluded_quiet : (step : Step) (s s' : State) (answer : Answer) (o : Outcome State) → IsQuiet s.world → Leaves IsQuietState o →

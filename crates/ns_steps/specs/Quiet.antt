@@ -1,5 +1,5 @@
--- Worlds in which nothing is placed and nothing is blocked, and the steps that leave them so.
-use Rattle.std.specs.Prelude.{◌≡◌, Bool, true, false, [], Some}
+-- Worlds in which nothing is placed, and the steps that leave them so.
+use Rattle.std.specs.Prelude.{◌≡◌, Bool, true, false, Some}
 use Rattle.std.specs.FinMap.{empty, get}
 use Rattle.ns_types.specs.declared.step.Step.{Step}
 use Rattle.ns_types.specs.State.Names.{Name}
@@ -9,12 +9,10 @@ use Rattle.ns_types.specs.Steps.{Answer, after, opening, said}
 pub record IsQuiet (w : World) : Type 0 where
   -- no namespace has an allocation
   pub placed : (ns : Name) (t : Tenant) → get w.tenants ns ≡ Some t → t.allocations ≡ empty
-  pub blocked : w.blocked ≡ []
 
--- a plan that is applied places, and a worker that finishes blocks what it could not place
+-- a plan that is applied places
 abbrev pub ends_quiet : Step → Bool
 ends_quiet (Step.Apply worker ns) = true
-ends_quiet (Step.Finish worker ns) = true
 ends_quiet _ = false
 
 -- every other step leads from a quiet world to a quiet one, whatever it is answered

@@ -24,7 +24,7 @@ pub fn reading_makes()
     ensures { ReadingMakes }
 {}
 
-/// Only a step that applies a plan or finishes may place or block: every other one leaves a quiet world quiet.
+/// Only a step that applies a plan may place: every other one leaves a quiet world quiet.
 pub fn stays_quiet()
     ensures { StaysQuiet }
 {}

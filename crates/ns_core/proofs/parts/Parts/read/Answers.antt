@@ -2,12 +2,12 @@ use Rattle.std.specs.Prelude.{Ok, Err}
 use Rattle.std.proofs.Common.{sym, ap, ◌∙◌}
 use Rattle.std.proofs.lemmas.Result.{err_from_is_err_and}
 use Rattle.ns_types.specs.Steps.{said}
-use Rattle.ns_core.specs.Viewed.{state_of, world_of}
+use Rattle.ns_core.specs.Viewed.{state_of}
 use Rattle.ns_core.proofs.Reading.{ask_reads, uses_fit}
 use Rattle.ns_core.proofs.parts.Parts.read.Goals as goal
 
 pub read-requires-clause-fits : goal.read-requires-clause-fits
-read-requires-clause-fits c = uses_fit (world_of c.args.self.now) c.requires.held.quiet c.args.command.now
+read-requires-clause-fits c = uses_fit (state_of c.args.self.now) c.requires.held c.args.command.now
 
 pub returns : goal.returns
 returns c = λ secret allowed. ask_reads (state_of c.args.self.now) c.args.namespace.now secret c.args.command.now c.requires.held c.requires.served
