@@ -67,11 +67,7 @@ fn tenant_load(pool: &Text, node: &Text, slot: &(Text, Option<TenantRows>)) -> O
 }
 
 /// Of all namespaces.
-fn tenants_load(
-    pool: &Text,
-    node: &Text,
-    slots: &[(Text, Option<TenantRows>)],
-) -> Option<Resources>
+fn tenants_load(pool: &Text, node: &Text, slots: &[(Text, Option<TenantRows>)]) -> Option<Resources>
     ensures { let amounts = tenant_amount pool.now node.now in
         IfSome result (λ load. load ≡ each_resource (λ amount. sum_by (amounts amount) slots.now)) }
 {
