@@ -19,3 +19,5 @@ mod policy;
 mod repeated;
 #[cfg(test)]
 mod replies;
+#[cfg(test)]
+mod workers;
