@@ -1,1 +1,2 @@
+mod Loaded
 mod Stored

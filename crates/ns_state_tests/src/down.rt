@@ -152,7 +152,7 @@ fn pools(alloc: Global) -> Result<NameTable<PoolRows>, AllocError> {
     Ok(table)
 }
 
-fn tables(alloc: Global) -> Result<Tables, AllocError> {
+pub(crate) fn tables(alloc: Global) -> Result<Tables, AllocError> {
     Ok(Tables {
         alloc,
         tenants: tenants(alloc)?,
