@@ -10,11 +10,15 @@ mod down;
 #[cfg(test)]
 mod ends;
 #[cfg(test)]
+mod full_pool;
+#[cfg(test)]
 mod jobs;
 #[cfg(test)]
 mod limits;
 #[cfg(test)]
 mod live;
+#[cfg(test)]
+mod loads;
 #[cfg(test)]
 mod nodes;
 #[cfg(test)]

@@ -24,7 +24,11 @@ type Node = (u64, u64, NodeStatus, bool);
 
 // ---- commands
 
-fn registration(alloc: Global, node: &Text, capacity: Resources) -> Result<GoodTelling, AllocError>
+pub(crate) fn registration(
+    alloc: Global,
+    node: &Text,
+    capacity: Resources,
+) -> Result<GoodTelling, AllocError>
     requires name { IsTrue (is_name NameKind.Node node.now) }
     requires capacity { IsTrue (is_amount capacity) }
     ensures { IfOk result IsServedNode }
@@ -57,7 +61,7 @@ fn removal(node: &Text) -> Result<GoodTelling, AllocError>
 
 // ---- answers with ample memory: a call that was refused for memory is made again
 
-fn told(
+pub(crate) fn told(
     core: &mut Core,
     secret: Option<&Text>,
     pool: &Text,
@@ -82,7 +86,7 @@ fn refusal(answer: &Result<Reply, Refusal>) -> Option<Refusal> {
     }
 }
 
-fn answer(
+pub(crate) fn answer(
     core: &mut Core,
     secret: Option<&Text>,
     pool: &Text,

@@ -196,7 +196,7 @@ fn given_back(tables: &mut Tables, number: u64, namespace: &Text) -> Option<Stat
     status
 }
 
-fn is_refused(answer: Result<Prepared, Refusal>, refusal: Refusal) -> bool {
+pub(crate) fn is_refused(answer: Result<Prepared, Refusal>, refusal: Refusal) -> bool {
     match answer {
         Ok(prepared) => {
             drop(prepared);
@@ -206,12 +206,23 @@ fn is_refused(answer: Result<Prepared, Refusal>, refusal: Refusal) -> bool {
     }
 }
 
+/// Whether the worker just took that evaluation, of a service job, which has five tries.
+fn has_taken(tables: &Tables, number: u64, evaluation: u64) -> bool {
+    match phase(tables, number) {
+        Some(busy) => busy.namespace.as_str() == "default"
+            && busy.evaluation == evaluation
+            && matches!(busy.phase, Phase::Took)
+            && busy.tries == 5,
+        None => false,
+    }
+}
+
 /// Whether each of the 64 takes the next one.
 fn all_take(tables: &mut Tables) -> Result<bool, AllocError> {
     let mut do_take = true;
     for number in 0..64 {
         let took = taken(tables, number)?;
-        do_take &= took == Some(number + 1) && matches!(phase(tables, number), Some(Phase::Took));
+        do_take &= took == Some(number + 1) && has_taken(tables, number, number + 1);
     }
     Ok(do_take)
 }

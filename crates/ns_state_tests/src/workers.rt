@@ -89,11 +89,23 @@ fn is_served(core: &Core, number: u64) -> bool {
     }
 }
 
+/// Whether the worker has that evaluation of a batch job, which has two tries, and is so far.
+fn is_at(core: &Core, worker: u64, evaluation: u64, phase: Phase) -> bool {
+    match core.phase(worker) {
+        Some(busy) => busy.namespace.as_str() == "default"
+            && busy.evaluation == evaluation
+            && busy.phase == phase
+            && busy.tries == 2,
+        None => false,
+    }
+}
+
 /// Whether a worker that has the evaluation looks once.
 fn looks_once(core: &mut Core, namespace: &Text) -> bool {
+    let took = is_at(core, 3, 1, Phase::Took);
     let looks = seen(look(core, 3, namespace), is_first);
-    let is_snapped = matches!(core.phase(3), Some(Phase::Snapped));
-    looks & is_snapped & seen(look(core, 3, namespace), is_out_of_turn)
+    let is_snapped = is_at(core, 3, 1, Phase::Snapped);
+    took & looks & is_snapped & seen(look(core, 3, namespace), is_out_of_turn)
 }
 
 fn works_once(core: &mut Core, alloc: Global, root: &Text) -> Result<bool, AllocError> {
@@ -134,7 +146,7 @@ fn none_takes(core: &mut Core, namespace: &Text) -> bool {
     take(core, 64, namespace, 65) == Err(Refusal::NotEnabled)
         && take(core, 63, namespace, 65) == Err(Refusal::NotEnabled)
         && is_served(core, 65)
-        && matches!(core.phase(63), Some(Phase::Took))
+        && is_at(core, 63, 64, Phase::Took)
         && core.phase(64).is_none()
 }
 

@@ -5,7 +5,7 @@ use Rattle.std.specs.Option.{option_map_or}
 use Rattle.ns_live.specs.Loads.{each_resource}
 use Rattle.ns_world.specs.declared.tables.TenantRows.{TenantRows}
 use Rattle.ns_state_tests.proofs.loads.tenant_load.Goals as goal
-use Rattle.ns_state_tests.specs.Loads.{allocation_amount, tenant_amount}
+use Rattle.ns_state_tests.specs.Loads.{allocation_amount}
 
 pub returns-in-Some : goal.returns-in-Some
 returns-in-Some c =
