@@ -233,7 +233,7 @@ fn blocked(alloc: Global) -> Result<KeyQueue, AllocError> {
     Ok(blocked)
 }
 
-fn quota(alloc: Global, most: u64) -> Result<Quota, AllocError> {
+pub(crate) fn quota(alloc: Global, most: u64) -> Result<Quota, AllocError> {
     Ok(Quota {
         description: text(alloc, "")?,
         limits: Some(Limits {
@@ -251,7 +251,7 @@ fn quota_rows(alloc: Global) -> Result<QuotaRows, AllocError> {
 }
 
 /// A namespace with that index and a blocked evaluation, a pool whose node is not eligible, and a quota of 1 MHz.
-fn tables(alloc: Global, index: u64, is_limited: bool) -> Result<Tables, AllocError> {
+pub(crate) fn tables(alloc: Global, index: u64, is_limited: bool) -> Result<Tables, AllocError> {
     Ok(Tables {
         alloc,
         tenants: one(alloc, "n", tenant(alloc, index, is_limited)?)?,
@@ -295,7 +295,7 @@ fn relimited(alloc: Global, most: u64) -> Result<Change, AllocError> {
 // ---- what the steps leave
 
 /// Whether the evaluation has woken at that index, with its event.
-fn is_awake(tables: &Tables, namespace: &Text, index: u64) -> bool {
+pub(crate) fn is_awake(tables: &Tables, namespace: &Text, index: u64) -> bool {
     let is_pending = match tables.evaluation(namespace, 3) {
         Some(row) => matches!(row.status, Status::Pending) && row.modify_index == index,
         None => false,
@@ -315,7 +315,7 @@ fn is_released(tables: &Tables, pool: &Text) -> bool {
 }
 
 /// Whether the quota has that limit, and so many releases.
-fn is_limited(tables: &Tables, quota: &Text, most: u64, release: u64) -> bool {
+pub(crate) fn is_limited(tables: &Tables, quota: &Text, most: u64, release: u64) -> bool {
     let Some(rows) = tables.quotas.get(quota) else {
         return false;
     };
@@ -326,7 +326,7 @@ fn is_limited(tables: &Tables, quota: &Text, most: u64, release: u64) -> bool {
     rows.quota.limits == Some(limits) && rows.release == release
 }
 
-fn is_listed(tables: &Tables, ready: usize, blocked: usize) -> bool {
+pub(crate) fn is_listed(tables: &Tables, ready: usize, blocked: usize) -> bool {
     tables.ready.as_slice().len() == ready && tables.blocked.as_slice().len() == blocked
 }
 

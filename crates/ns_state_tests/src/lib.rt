@@ -22,6 +22,8 @@ mod owned;
 #[cfg(test)]
 mod quota;
 #[cfg(test)]
+mod relimits;
+#[cfg(test)]
 mod server;
 #[cfg(test)]
 mod tables;
