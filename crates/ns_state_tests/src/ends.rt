@@ -1,5 +1,5 @@
-// That a step ends where there is memory: where nothing settles, where an evaluation wakes, and where its index can not
-// rise. What the tables hold is within the bound of each counter by its type; `is_past_now` reads it, for `conclude`.
+// That a step ends where there is memory: where nothing settles, where an evaluation wakes, by room or by a quota's other
+// limits, and where its index can not rise. What the tables hold is within the bound of each counter by its type; `is_past_now` reads it, for `conclude`.
 
 ghost use Rattle.std.specs.Prelude.{◌≡◌, nat_lt};
 ghost use Rattle.std.specs.List.{list_any};
@@ -8,16 +8,16 @@ ghost use Rattle.ns_types.specs.Steps.{greatest, is_past_bound, is_pool_past_bou
 ghost use Rattle.ns_world.specs.World.{pool_of, tenant_of, world_of};
 
 use keyed::{KeyQueue, NameTable, NumberTable, Series};
-use ns_change::{Change, ListChange, PoolChange};
+use ns_change::{Change, ListChange, PoolChange, put_quota};
 use ns_conclude::conclude;
 use ns_live::Live;
 use ns_types::evaluation::{Evaluation, Status, Trigger};
 use ns_types::job::JobKind;
 use ns_types::key::EvalKey;
 use ns_types::node::{Node, NodeStatus, Offer};
-use ns_types::records::{Namespace, Pool};
+use ns_types::records::{Namespace, Pool, Quota};
 use ns_types::refusal::Refusal;
-use ns_types::resources::Resources;
+use ns_types::resources::{Limit, Limits, Resources};
 use ns_types::rows::Rows;
 use ns_types::text::Text;
 use ns_world::{EvaluationTable, PoolRows, QuotaRows, Tables, TenantRows};
@@ -135,10 +135,19 @@ fn one<V: Drop>(alloc: Global, name: &str, row: V) -> Result<NameTable<V>, Alloc
     Ok(table)
 }
 
-/// Evaluation 3 alone, which is blocked.
-fn evaluations(alloc: Global) -> Result<EvaluationTable, AllocError> {
+/// The quota "q", or none.
+fn limiting(alloc: Global, is_limited: bool) -> Result<Option<Text>, AllocError> {
+    if !is_limited {
+        return Ok(None);
+    }
+    Ok(Some(text(alloc, "q")?))
+}
+
+/// Evaluation 3 alone, which is blocked, by a quota or for want of room.
+fn evaluations(alloc: Global, is_limited: bool) -> Result<EvaluationTable, AllocError> {
     let job = text(alloc, "j")?;
     let pool = text(alloc, "p")?;
+    let quota = limiting(alloc, is_limited)?;
     let mut table = NumberTable::new(alloc);
     table.reserve(3)?;
     let row = Evaluation {
@@ -150,7 +159,7 @@ fn evaluations(alloc: Global) -> Result<EvaluationTable, AllocError> {
         status: Status::Blocked,
         previous: None,
         follower: None,
-        quota: None,
+        quota,
         escapes: false,
         infeasible: Rows::new(alloc),
         nacks: 0,
@@ -174,8 +183,8 @@ fn namespace(alloc: Global) -> Result<Namespace, AllocError> {
     })
 }
 
-fn tenant(alloc: Global, index: u64) -> Result<TenantRows, AllocError> {
-    let evaluations = evaluations(alloc)?;
+fn tenant(alloc: Global, index: u64, is_limited: bool) -> Result<TenantRows, AllocError> {
+    let evaluations = evaluations(alloc, is_limited)?;
     Ok(TenantRows {
         namespace: namespace(alloc)?,
         index,
@@ -224,13 +233,30 @@ fn blocked(alloc: Global) -> Result<KeyQueue, AllocError> {
     Ok(blocked)
 }
 
-/// A namespace with that index and a blocked evaluation, and a pool whose node is not eligible.
-fn tables(alloc: Global, index: u64) -> Result<Tables, AllocError> {
+pub(crate) fn quota(alloc: Global, most: u64) -> Result<Quota, AllocError> {
+    Ok(Quota {
+        description: text(alloc, "")?,
+        limits: Some(Limits {
+            cpu: Limit::AtMost(most),
+            memory: Limit::Unlimited,
+        }),
+    })
+}
+
+fn quota_rows(alloc: Global) -> Result<QuotaRows, AllocError> {
+    Ok(QuotaRows {
+        quota: quota(alloc, 1)?,
+        release: 0,
+    })
+}
+
+/// A namespace with that index and a blocked evaluation, a pool whose node is not eligible, and a quota of 1 MHz.
+pub(crate) fn tables(alloc: Global, index: u64, is_limited: bool) -> Result<Tables, AllocError> {
     Ok(Tables {
         alloc,
-        tenants: one(alloc, "n", tenant(alloc, index)?)?,
+        tenants: one(alloc, "n", tenant(alloc, index, is_limited)?)?,
         pools: one(alloc, "p", pool(alloc)?)?,
-        quotas: NameTable::new(alloc),
+        quotas: one(alloc, "q", quota_rows(alloc)?)?,
         ready: KeyQueue::new(alloc),
         plans: KeyQueue::new(alloc),
         blocked: blocked(alloc)?,
@@ -250,16 +276,26 @@ fn eligible(alloc: Global) -> Result<Change, AllocError> {
     Ok(Change {
         tenants: NameTable::new(alloc),
         pools: one(alloc, "p", PoolChange { nodes })?,
+        quotas: NameTable::new(alloc),
         ready: same_list(alloc),
         plans: same_list(alloc),
         blocked: same_list(alloc),
     })
 }
 
+/// The quota's record, with that limit.
+fn relimited(alloc: Global, most: u64) -> Result<Change, AllocError> {
+    let name = text(alloc, "q")?;
+    let quota = quota(alloc, most)?;
+    let mut change = Change::new(alloc);
+    put_quota(&mut change, &name, &quota)?;
+    Ok(change)
+}
+
 // ---- what the steps leave
 
-/// Whether the evaluation has woken at that index, with its event, and the pool has a release.
-fn is_awake(tables: &Tables, namespace: &Text, pool: &Text, index: u64) -> bool {
+/// Whether the evaluation has woken at that index, with its event.
+pub(crate) fn is_awake(tables: &Tables, namespace: &Text, index: u64) -> bool {
     let is_pending = match tables.evaluation(namespace, 3) {
         Some(row) => matches!(row.status, Status::Pending) && row.modify_index == index,
         None => false,
@@ -268,14 +304,29 @@ fn is_awake(tables: &Tables, namespace: &Text, pool: &Text, index: u64) -> bool 
         Some(rows) => rows.index == index && rows.events.as_slice().len() == 1,
         None => false,
     };
-    let is_released = match tables.pools.get(pool) {
-        Some(rows) => rows.release == 1 && rows.classes.as_slice().len() == 1,
-        None => false,
-    };
-    is_pending & is_told & is_released
+    is_pending & is_told
 }
 
-fn is_listed(tables: &Tables, ready: usize, blocked: usize) -> bool {
+fn is_released(tables: &Tables, pool: &Text) -> bool {
+    match tables.pools.get(pool) {
+        Some(rows) => rows.release == 1 && rows.classes.as_slice().len() == 1,
+        None => false,
+    }
+}
+
+/// Whether the quota has that limit, and so many releases.
+pub(crate) fn is_limited(tables: &Tables, quota: &Text, most: u64, release: u64) -> bool {
+    let Some(rows) = tables.quotas.get(quota) else {
+        return false;
+    };
+    let limits = Limits {
+        cpu: Limit::AtMost(most),
+        memory: Limit::Unlimited,
+    };
+    rows.quota.limits == Some(limits) && rows.release == release
+}
+
+pub(crate) fn is_listed(tables: &Tables, ready: usize, blocked: usize) -> bool {
     tables.ready.as_slice().len() == ready && tables.blocked.as_slice().len() == blocked
 }
 
@@ -283,7 +334,22 @@ fn wakes(tables: &mut Tables, alloc: Global) -> Result<bool, AllocError> {
     let namespace = text(alloc, "n")?;
     let pool = text(alloc, "p")?;
     let ended = end(tables, eligible(alloc)?);
-    Ok(ended.is_ok() && is_awake(tables, &namespace, &pool, 8) && is_listed(tables, 1, 0))
+    let wakes = is_awake(tables, &namespace, 8) && is_listed(tables, 1, 0);
+    Ok(ended.is_ok() && wakes && is_released(tables, &pool))
+}
+
+fn wakes_by_limits(tables: &mut Tables, alloc: Global) -> Result<bool, AllocError> {
+    let namespace = text(alloc, "n")?;
+    let quota = text(alloc, "q")?;
+    let ended = end(tables, relimited(alloc, 2)?);
+    let wakes = is_awake(tables, &namespace, 8) && is_listed(tables, 1, 0);
+    Ok(ended.is_ok() && wakes && is_limited(tables, &quota, 2, 1))
+}
+
+fn stays_by_limits(tables: &mut Tables, alloc: Global) -> Result<bool, AllocError> {
+    let quota = text(alloc, "q")?;
+    let ended = end(tables, relimited(alloc, 1)?);
+    Ok(ended.is_ok() && is_listed(tables, 0, 1) && is_limited(tables, &quota, 1, 0))
 }
 
 fn is_full(tables: &mut Tables, alloc: Global) -> Result<bool, AllocError> {
@@ -310,20 +376,49 @@ fn holds<F: FnOnce(&mut Tables) -> Result<bool, AllocError>>(
 #[test]
 fn ends_where_nothing_settles(rt: HostRuntime) -> Result<(), Fail> {
     let alloc = rt.alloc();
-    assert!(rt; holds(tables(alloc, 7), |tables| stays(tables, alloc))?);
+    assert!(rt; holds(tables(alloc, 7, false), |tables| stays(tables, alloc))?);
     Ok(())
 }
 
 #[test]
 fn a_node_wakes_an_evaluation(rt: HostRuntime) -> Result<(), Fail> {
     let alloc = rt.alloc();
-    assert!(rt; holds(tables(alloc, 7), |tables| wakes(tables, alloc))?);
+    assert!(rt; holds(tables(alloc, 7, false), |tables| wakes(tables, alloc))?);
+    Ok(())
+}
+
+#[test]
+fn other_limits_wake_an_evaluation(rt: HostRuntime) -> Result<(), Fail> {
+    let alloc = rt.alloc();
+    assert!(rt;
+        holds(
+            tables(alloc, 7, true),
+            |tables| wakes_by_limits(tables, alloc)
+        )?
+    );
+    Ok(())
+}
+
+#[test]
+fn the_same_limits_wake_none(rt: HostRuntime) -> Result<(), Fail> {
+    let alloc = rt.alloc();
+    assert!(rt;
+        holds(
+            tables(alloc, 7, true),
+            |tables| stays_by_limits(tables, alloc)
+        )?
+    );
     Ok(())
 }
 
 #[test]
 fn an_index_at_its_bound_is_full(rt: HostRuntime) -> Result<(), Fail> {
     let alloc = rt.alloc();
-    assert!(rt; holds(tables(alloc, u64::MAX), |tables| is_full(tables, alloc))?);
+    assert!(rt;
+        holds(
+            tables(alloc, u64::MAX, false),
+            |tables| is_full(tables, alloc)
+        )?
+    );
     Ok(())
 }

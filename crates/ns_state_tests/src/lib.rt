@@ -28,6 +28,8 @@ mod placing;
 #[cfg(test)]
 mod quota;
 #[cfg(test)]
+mod relimits;
+#[cfg(test)]
 mod server;
 #[cfg(test)]
 mod tables;

@@ -8,7 +8,7 @@ use crate::owned::{holds, seen};
 use keyed::NameTable;
 use ns_admin::{
     is_confined_in, is_relimited, list_namespaces, list_pools, list_quotas, opening, overlaps,
-    permits_in, release_quota, same_quota, shares,
+    permits_in, same_quota, shares,
 };
 use ns_types::job::{Document, Job, JobKind};
 use ns_types::records::{Namespace, Pool, Quota};
@@ -321,28 +321,6 @@ fn tells_limits_apart(tables: &mut Tables) -> Result<bool, AllocError> {
 #[test]
 fn compares_limits(rt: HostRuntime) -> Result<(), Fail> {
     assert!(rt; holds(opening(rt.alloc()), tells_limits_apart)?);
-    Ok(())
-}
-
-/// The quota's release number after one release more, unless it is the last one.
-fn released(tables: &mut Tables, name: &Text) -> Option<u64> {
-    let quota = tables.quotas.get(name)?;
-    if quota.release < u64::MAX {
-        release_quota(tables, name);
-    }
-    let quota = tables.quotas.get(name)?;
-    Some(quota.release)
-}
-
-fn counts_releases(tables: &mut Tables) -> Result<bool, AllocError> {
-    lay_out(tables)?;
-    let name = Text::from_str(tables.alloc, "qa")?;
-    Ok((released(tables, &name) == Some(1)) & (released(tables, &name) == Some(2)))
-}
-
-#[test]
-fn numbers_releases(rt: HostRuntime) -> Result<(), Fail> {
-    assert!(rt; holds(opening(rt.alloc()), counts_releases)?);
     Ok(())
 }
 
