@@ -32,6 +32,8 @@ mod relimits;
 #[cfg(test)]
 mod server;
 #[cfg(test)]
+mod sharing;
+#[cfg(test)]
 mod tables;
 #[cfg(test)]
 mod worker;

@@ -41,7 +41,7 @@ pub(crate) fn registration(
     Ok(GoodTelling::new(NodeCommand::PutNode(node.clone()?, offer)))
 }
 
-fn eligibility(node: &Text, eligible: bool) -> Result<GoodTelling, AllocError>
+pub(crate) fn eligibility(node: &Text, eligible: bool) -> Result<GoodTelling, AllocError>
     ensures { IfOk result IsServedNode }
 {
     Ok(GoodTelling::new(NodeCommand::SetEligible(node.clone()?, eligible)))

@@ -27,7 +27,7 @@ fn taken(answer: &Result<Reply, Refusal>) -> Result<Option<u64>, Refusal> {
     }
 }
 
-fn take(
+pub(crate) fn take(
     core: &mut Core,
     worker: u64,
     namespace: &Text,
@@ -52,7 +52,11 @@ fn give_back(core: &mut Core, worker: u64, namespace: &Text) -> Option<Status> {
 }
 
 /// The snapshot that is answered is the one that the worker's row keeps.
-fn look(core: &mut Core, worker: u64, namespace: &Text) -> Result<Shared<Snapshot>, Refusal>
+pub(crate) fn look(
+    core: &mut Core,
+    worker: u64,
+    namespace: &Text,
+) -> Result<Shared<Snapshot>, Refusal>
     ensures { let w = core.new.world in
         IfOk result (λ seen. kept_at w worker namespace.now ≡ Some seen) }
 {

@@ -37,6 +37,11 @@ impl<T: Drop> Shared<T> {
         Ok(Shared { value })
     }
 
+    /// How many own the value at this moment. No clause can say it: others come and go.
+    pub fn owners(&self) -> usize {
+        Arc::strong_count(&self.value)
+    }
+
     pub fn get(&self) -> &T
         ensures { result.now ≡ self.now }
     {
