@@ -17,7 +17,8 @@ loop-slot-preserved c =
     elim c.match-slot.branch [
       | in-Some+in_ok-reserve_all w ↦ subst (λ live. Reserving c.args.changes.now c.args.live.now live _) (sym w.live-is)
           (one_made c.args.changes.now c.slot-item.result.0 c.slot-item.result.1 _ _ is c.args.live.now c.loop-slot.live c.loop-slot.invariant
-          w.reserve_all.new.self w.in-Some.change w.in-Some.is w.reserve_all.ensures.same w.reserve_all.ensures.shown w.reserve_all.ensures.room w.in_ok-reserve_all.ensures.ok)
+          w.reserve_all.new.self w.in-Some.change w.in-Some.is w.reserve_all.ensures.same w.reserve_all.ensures.shown
+          w.reserve_all.ensures.room w.in_ok-reserve_all.ensures.ok)
       | in_default w ↦ none_passed c.args.changes.now c.slot-item.result.0 c.slot-item.result.1 _ _ is c.args.live.now c.loop-slot.live
           c.loop-slot.invariant c.match-slot.live w.in_default.is w.live-is
     ]

@@ -8,6 +8,7 @@ use Rattle.keyed.proofs.Levels.{adds_at}
 use Rattle.ns_live.proofs.live.Live.insert.Goals as goal
 
 pub returns-in-Some-clause-added : goal.returns-in-Some-clause-added
-returns-in-Some-clause-added c = adds_at (λ (s : Live). s.pools) holds_on_node has_node_room c.args.self.now _ c.args.pool.now c.in-Some.nodes.now c.insert.new.self
+returns-in-Some-clause-added c = adds_at (λ (s : Live). s.pools) holds_on_node has_node_room c.args.self.now _ c.args.pool.now
+    c.in-Some.nodes.now c.insert.new.self
     (sym c.get_mut.ensures.value ∙ ap option_copied_mut c.in-Some.is) refl (same_at same_key) (c.args.node.now, (c.args.namespace.now, c.args.number))
     c.insert.ensures

@@ -18,5 +18,6 @@ returns-else-not-is_live_on-clause-index c row_of right was = stays_there _ _ (o
     c.in-Some.row.now (ap option_copied c.in-Some.is) (sym c.is_live_on.ensures ∙ c.if-not-is_live_on.false)
 
 pub returns-in_default-clause-index : goal.returns-in_default-clause-index
-returns-in_default-clause-index c row_of right was = none_before _ _ (option_copied c.args.before) (option_copied c.args.after) _ _ right was c.add.ensures.added
+returns-in_default-clause-index c row_of right was = none_before _ _ (option_copied c.args.before) (option_copied c.args.after) _ _ right
+    was c.add.ensures.added
     (ap option_copied c.in_default.is)
