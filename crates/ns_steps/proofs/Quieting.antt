@@ -40,7 +40,8 @@ use Rattle.ns_types.proofs.Named.{numbers, one_number}
 use Rattle.ns_types.proofs.Tables.{table_of-empty}
 use Rattle.ns_types.proofs.Tests.{not_Some, same_Some}
 use Rattle.ns_steps.specs.Quiet.{IsQuiet, ends_quiet}
-use Rattle.ns_steps.proofs.Quiet.{HasNone, quiet_blocked, quiet_fold, quiet_make, quiet_make_in, quiet_map, quiet_promote, quiet_put, quiet_ready, quiet_remove, quiet_settle}
+use Rattle.ns_steps.proofs.Quiet.{HasNone, quiet_blocked, quiet_fold, quiet_make, quiet_make_in}
+use Rattle.ns_steps.proofs.Quiet.{quiet_map, quiet_promote, quiet_put, quiet_ready, quiet_remove, quiet_settle}
 
 -- ---- outcomes
 
