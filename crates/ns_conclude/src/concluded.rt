@@ -8,10 +8,11 @@ ghost use Rattle.ns_conclude.specs.Concludes.{Concludes};
 ghost use Rattle.ns_live.specs.Index.{IsRight, KeepsKeys};
 ghost use Rattle.ns_world.specs.World.{world_of};
 
+use ns_bounds::is_past_bound;
 use ns_change::Change;
 use ns_commit::apply;
 use ns_live::Live;
-use ns_settle::{is_past_bound, settle};
+use ns_settle::settle;
 use ns_types::refusal::Refusal;
 use ns_world::Tables;
 use std::alloc::AllocError;

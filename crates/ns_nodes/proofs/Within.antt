@@ -20,9 +20,9 @@ use Rattle.ns_types.proofs.Named.{one_name}
 use Rattle.ns_types.proofs.Tables.{none_of_any}
 use Rattle.ns_change.specs.Changed.{change_pool, without_node}
 use Rattle.ns_nodes.specs.Registering.{gives_room}
-use Rattle.ns_settle.specs.Released.{gives_itself}
-use Rattle.ns_settle.specs.Room.{given_room_passes}
-use Rattle.ns_settle.proofs.GivenRoom.{gone_past, put_past}
+use Rattle.ns_release.specs.Released.{gives_itself}
+use Rattle.ns_bounds.specs.Given.{given_room_passes}
+use Rattle.ns_bounds.proofs.GivenRoom.{gone_past, put_past}
 use Rattle.ns_world.specs.declared.tables.PoolRows.{PoolRows as StoredPool}
 use Rattle.ns_world.specs.declared.tables.Tables.{Tables}
 use Rattle.ns_world.specs.World.{pool_of, world_of}

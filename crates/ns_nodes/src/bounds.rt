@@ -4,12 +4,12 @@
 ghost use Rattle.std.specs.Prelude.{◌≡◌, ◌&&◌, not, option_copied};
 ghost use Rattle.ns_types.specs.State.Rows.{class_of, is_free, is_ready, offered_class};
 ghost use Rattle.ns_nodes.specs.Registering.{gives_room};
-ghost use Rattle.ns_settle.specs.Room.{given_room_passes};
+ghost use Rattle.ns_bounds.specs.Given.{given_room_passes};
 ghost use Rattle.ns_world.specs.World.{world_of};
 
 use crate::removed::is_ready;
 use ns_alike::{is_free, same_offer};
-use ns_settle::given_room_passes;
+use ns_bounds::given_room_passes;
 use ns_types::node::{Node, NodeStatus, Offer};
 use ns_types::text::Text;
 use ns_world::Tables;

@@ -25,7 +25,7 @@ use Rattle.ns_world.specs.declared.tables.TenantRows.{TenantRows}
 use Rattle.ns_change.specs.Settled.{settled_world, tell}
 use Rattle.ns_settle.specs.Settles.{any_last, is_last, settled_by, settled_slot, shown_if, unshown}
 use Rattle.ns_change.specs.Changed.{changed, changed_tenant, perhaps}
-use Rattle.ns_settle.specs.Released.{woken_keys}
+use Rattle.ns_release.specs.Released.{woken_keys}
 use Rattle.ns_settle.specs.Stamped.{changed_events, stamped_rows, stamped_tenant, touches}
 use Rattle.ns_world.specs.World.{tenant_of, world_of}
 use Rattle.ns_settle.proofs.Settling.{settled_is, settles, tenants_then}

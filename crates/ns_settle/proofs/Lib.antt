@@ -1,15 +1,3 @@
-pub mod Asked
-pub mod Bounded
-pub mod Classes
-pub mod Ending
 pub mod Finished
-pub mod GivenLimits
-pub mod GivenRoom
-pub mod Indexes
-pub mod Offered
-pub mod Passing
-pub mod Released
-pub mod Rooms
 pub mod Settling
 pub mod Stamped
-pub mod Woken

@@ -15,7 +15,7 @@ use Rattle.ns_change.specs.declared.change.SettledTenant.{SettledTenant}
 use Rattle.ns_change.specs.declared.change.TenantChange.{TenantChange}
 use Rattle.ns_change.specs.Changed.{changed, perhaps}
 use Rattle.ns_change.specs.Settled.{settled_tenant}
-use Rattle.ns_settle.specs.Released.{released_quotas, released_rooms, woken_keys}
+use Rattle.ns_release.specs.Released.{released_quotas, released_rooms, woken_keys}
 use Rattle.ns_settle.specs.Stamped.{changed_events, stamped_rows, stamped_tenant, touches}
 
 -- the changed rows have their index, and their events are told

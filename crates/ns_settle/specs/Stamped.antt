@@ -3,56 +3,24 @@ use Rattle.std.specs.Prelude.{ℕ, ◌+◌, Bool, true, ◌||◌, if◌then◌el
 use Rattle.std.specs.Option.{option_map_or}
 use Rattle.std.specs.List.{list_any}
 use Rattle.std.specs.Ordering.{nat_cmp}
-use Rattle.std.specs.FinMap.{FinMap, get, entries, contains_key}
+use Rattle.std.specs.FinMap.{FinMap, get, entries}
 use Rattle.keyed.specs.Table.{at_slot}
-use Rattle.ns_types.specs.declared.allocation.Allocation.{Allocation}
-use Rattle.ns_types.specs.declared.evaluation.Evaluation.{Evaluation}
 use Rattle.ns_types.specs.declared.event.Event.{Event}
 use Rattle.ns_types.specs.declared.event.Topic.{Topic}
 use Rattle.ns_types.specs.declared.job.Job.{Job}
 use Rattle.ns_types.specs.State.Names.{Name}
 use Rattle.ns_types.specs.State.Rows.{Tenant}
-use Rattle.ns_types.specs.Settling.Same.{same_allocation, same_evaluation, same_job}
-use Rattle.ns_types.specs.Settling.Settle.{is_changed, changes_evaluation, changes_allocation, created_at}
+use Rattle.ns_types.specs.Settling.Settle.{changes_evaluation, changes_allocation, created_at}
 use Rattle.ns_types.specs.Settling.Settle.{stamped_allocation, stamped_evaluation}
 use Rattle.ns_types.specs.State.Tables.{map_rows}
 use Rattle.ns_change.specs.declared.change.TenantChange.{TenantChange}
 use Rattle.ns_change.specs.Changed.{changed_tenant}
 use Rattle.ns_change.specs.Settled.{tell}
+use Rattle.ns_release.specs.Shown.{Kind, changes_job_row, changes_row}
 
 -- ---- rows by number: evaluations and allocations
 
--- how replies show a kind of row: which two alike, when it was made, with which indexes, and in what event
-pub record Kind (X : Type 0) : Type 0 where
-  pub same : X → X → Bool
-  pub made : X → ℕ
-  pub marked : ℕ → ℕ → X → X
-  pub topic : ℕ → Topic
-
-abbrev pub evaluations_shown : Kind Evaluation
-evaluations_shown = record {
-  same = same_evaluation;
-  made = λ e. e.create_index;
-  marked = λ made index e. record e { create_index = made; modify_index = index };
-  topic = Topic.EvaluationUpdated;
-}
-
-abbrev pub allocations_shown : Kind Allocation
-allocations_shown = record {
-  same = same_allocation;
-  made = λ a. a.create_index;
-  marked = λ made index a. record a { create_index = made; modify_index = index };
-  topic = Topic.AllocationUpdated;
-}
-
 module _ {X : Type 0} (kind : Kind X) where
-  -- a row is new, or shown otherwise than before
-  abbrev pub changes_row : FinMap nat_cmp X → ℕ → X → Bool
-  changes_row before n row = is_changed kind.same (get before n) row
-
-  abbrev pub changes_slot : FinMap nat_cmp X → ℕ × Option X → Bool
-  changes_slot before slot = at_slot (λ e. changes_row before e.0 e.1) slot
-
   abbrev pub topic_at : ℕ × Option X → Topic
   topic_at slot = kind.topic slot.0
 
@@ -63,7 +31,7 @@ module _ {X : Type 0} (kind : Kind X) where
   -- a changed row gets the index
   abbrev pub stamped_row : ℕ → FinMap nat_cmp X → ℕ → X → X
   stamped_row index before n row =
-      if changes_row before n row then kind.marked (made_at index before n) index row else row
+      if changes_row kind before n row then kind.marked (made_at index before n) index row else row
 
   abbrev pub stamped_slot : ℕ → FinMap nat_cmp X → ℕ → Option X → Option X
   stamped_slot index before n row = option_map (stamped_row index before n) row
@@ -71,15 +39,6 @@ module _ {X : Type 0} (kind : Kind X) where
 -- an event of each slot that changes
 abbrev pub told : {A : Type 0} → ℕ → (A → Topic) → (A → Bool) → List A → List Event
 told index topic changes slots = map (λ slot. record { index = index; topic = topic slot }) (filter changes slots)
-
--- ---- jobs
-
--- a job's row is new, shown otherwise or gone
-abbrev pub changes_job_row : Tenant → Name → Option Job → Bool
-changes_job_row t id row = option_map_or (is_changed same_job (get t.jobs id)) row (contains_key t.jobs id)
-
-abbrev pub changes_job_slot : Tenant → Name × Option Job → Bool
-changes_job_slot t slot = changes_job_row t slot.0 slot.1
 
 -- ---- a namespace
 

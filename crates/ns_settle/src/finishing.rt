@@ -12,10 +12,10 @@ ghost use Rattle.ns_settle.specs.Settles.{is_last, settled_slot};
 ghost use Rattle.ns_settle.specs.Stamped.{events_at, stamp_change};
 ghost use Rattle.ns_world.specs.World.{tenant_of, world_of};
 
-use crate::blocked::woken_keys;
-use crate::giving::released_rooms;
-use crate::releasing::released_quotas;
+use crate::quotas::released_quotas;
+use crate::rooms::released_rooms;
 use crate::stamping::{stamp_rows, tell_jobs, tell_rows, touches};
+use crate::waking::woken_keys;
 use keyed::NameTable;
 use ns_change::{Change, Settled, SettledTenant, TenantChange, wake};
 use ns_types::event::Event;

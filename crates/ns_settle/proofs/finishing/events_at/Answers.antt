@@ -8,7 +8,8 @@ use Rattle.ns_types.specs.declared.event.Topic.{Topic}
 use Rattle.ns_types.specs.declared.job.Job.{Job}
 use Rattle.ns_types.specs.State.Names.{Name}
 use Rattle.ns_types.specs.Settling.Settle.{changes_allocation, changes_evaluation}
-use Rattle.ns_settle.specs.Stamped.{changes_job_row, changes_slot, evaluations_shown, row_topic, told, topic_at}
+use Rattle.ns_release.specs.Shown.{changes_job_row, changes_slot, evaluations_shown}
+use Rattle.ns_settle.specs.Stamped.{row_topic, told, topic_at}
 use Rattle.ns_world.specs.World.{tenant_of}
 use Rattle.ns_settle.proofs.Finished.{three}
 use Rattle.ns_settle.proofs.finishing.events_at.Goals as goal

@@ -3,7 +3,7 @@ use Rattle.ns_types.specs.Settling.Settle.{wake}
 use Rattle.ns_types.specs.Steps.{is_past_bound}
 use Rattle.ns_change.specs.declared.change.Settled.{Settled}
 use Rattle.ns_change.specs.Changed.{view}
-use Rattle.ns_settle.specs.Released.{woken_keys}
+use Rattle.ns_release.specs.Released.{woken_keys}
 use Rattle.ns_settle.specs.Settles.{settled_by}
 use Rattle.ns_world.specs.World.{world_of}
 use Rattle.ns_settle.proofs.Finished.{finished, none_last}

@@ -1,5 +1,6 @@
 use Rattle.std.proofs.Common.{◌≡◌, ◌++◌, drop}
-use Rattle.ns_settle.specs.Stamped.{changes_job_slot, job_topic, told}
+use Rattle.ns_release.specs.Shown.{changes_job_slot}
+use Rattle.ns_settle.specs.Stamped.{job_topic, told}
 use Rattle.ns_world.specs.World.{tenant_of}
 use Rattle.ns_settle.proofs.stamping.tell_jobs.Given as goal
 

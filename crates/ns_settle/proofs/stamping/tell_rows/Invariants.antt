@@ -1,6 +1,7 @@
 use Rattle.std.proofs.Common.{◌≡◌, ◌++◌, drop}
 use Rattle.keyed.specs.Table.{rows}
-use Rattle.ns_settle.specs.Stamped.{changes_slot, told, topic_at}
+use Rattle.ns_release.specs.Shown.{changes_slot}
+use Rattle.ns_settle.specs.Stamped.{told, topic_at}
 use Rattle.ns_settle.proofs.stamping.tell_rows.Given as goal
 
 abbrev pub invariant-loop-slot : goal.invariant-loop-slot

@@ -1,0 +1,6 @@
+pub mod Alone
+pub mod Bounded
+pub mod GivenLimits
+pub mod GivenRoom
+pub mod Indexes
+pub mod Passing

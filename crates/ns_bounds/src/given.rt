@@ -1,0 +1,155 @@
+//! Whether room on one node, or other limits of a quota, pass the bound of a counter, where a step gives them and does
+//! nothing else. It takes no memory, and needs no change: so a command is refused before it takes any.
+
+ghost use Rattle.std.specs.Prelude.{◌≡◌, ◌&&◌, ◌∷◌, [], List};
+ghost use Rattle.std.specs.List.{list_any};
+ghost use Rattle.ns_types.specs.declared.node.Class.{Class};
+ghost use Rattle.ns_types.specs.State.Names.{Name};
+ghost use Rattle.ns_types.specs.State.Rows.{evaluation_at, offered_class};
+ghost use Rattle.ns_release.specs.Released.{releases_wake, releases_wake_at};
+ghost use Rattle.ns_bounds.specs.Bounds.{shows_awake};
+ghost use Rattle.ns_bounds.specs.Given.{given_limits_pass, given_room_passes, given_waking_passes};
+ghost use Rattle.ns_bounds.specs.Given.{given_waking_passes_in};
+ghost use Rattle.ns_world.specs.World.{tenant_of, world_of};
+
+use crate::awake::changes_awake;
+use crate::full::{Counters, is_at_bound};
+use ns_alike::same_text;
+use ns_release::Question;
+use ns_types::evaluation::Evaluation;
+use ns_types::key::EvalKey;
+use ns_types::node::Offer;
+use ns_types::text::Text;
+use ns_world::{Tables, TenantRows};
+
+/// What a step gives, and nothing else.
+trait Given {
+    /// The room.
+    ghost rooms: { Self → List (Name × Class) };
+    /// The quotas.
+    ghost quotas: { Self → List Name };
+
+    /// Whether that wakes the evaluation.
+    fn wakes(&self, tables: &Tables, evaluation: &Evaluation) -> bool
+        ensures { result ≡ releases_wake (world_of tables.now) (rooms self.now) (quotas self.now)
+            evaluation.now };
+}
+
+/// Room on a node of such an offer in the pool.
+#[derive(Drop)]
+struct Room<'a> {
+    pool: &'a Text,
+    offer: &'a Offer,
+}
+
+impl Given for Room<'_> {
+    ghost rooms = { λ r. (r.pool.now, offered_class r.offer.now) ∷ [] };
+
+    ghost quotas = { λ _. [] };
+
+    fn wakes(&self, _tables: &Tables, evaluation: &Evaluation) -> bool {
+        evaluation.quota.is_none() && evaluation.is_room(self.pool, self.offer)
+    }
+}
+
+/// Other limits of the quota.
+#[derive(Drop)]
+struct Limits<'a> {
+    quota: &'a Text,
+}
+
+impl Given for Limits<'_> {
+    ghost rooms = { λ _. [] };
+
+    ghost quotas = { λ l. l.quota.now ∷ [] };
+
+    fn wakes(&self, tables: &Tables, evaluation: &Evaluation) -> bool {
+        match &evaluation.quota {
+            Some(limiting) => tables.has_quota(limiting) && same_text(limiting, self.quota),
+            None => false,
+        }
+    }
+}
+
+// ---- whom that wakes
+
+/// Whether what is given wakes the evaluation of an entry.
+fn given_wakes<G: Given>(given: &G, tables: &Tables, key: &EvalKey) -> bool
+    ensures { result ≡ releases_wake_at (world_of tables.now) (G.rooms given.now) (G.quotas given.now)
+        key.now }
+{
+    match tables.evaluation(key.namespace(), key.number()) {
+        Some(row) => given.wakes(tables, row),
+        None => false,
+    }
+}
+
+/// Whether the evaluation of an entry, once it has woken, is shown otherwise than before.
+fn shows_awake(tables: &Tables, tenant: &TenantRows, key: &EvalKey) -> bool
+    ensures { result ≡ shows_awake (tenant_of tenant.now) key.now.1
+        (evaluation_at (world_of tables.now) key.now) }
+{
+    match tables.evaluation(key.namespace(), key.number()) {
+        Some(row) => changes_awake(tenant, key.number(), row),
+        None => false,
+    }
+}
+
+fn wakes_shown<G: Given>(given: &G, tables: &Tables, tenant: &TenantRows, key: &EvalKey) -> bool
+    ensures { result ≡ (releases_wake_at (world_of tables.now) (G.rooms given.now) (G.quotas given.now)
+        key.now
+        && shows_awake (tenant_of tenant.now) key.now.1
+        (evaluation_at (world_of tables.now) key.now)) }
+{
+    given_wakes(given, tables, key) && shows_awake(tables, tenant, key)
+}
+
+fn waking_passes_in<G: Given>(
+    given: &G,
+    tables: &Tables,
+    tenant: &TenantRows,
+    key: &EvalKey,
+) -> bool
+    ensures { result ≡ given_waking_passes_in (world_of tables.now) (G.rooms given.now)
+        (G.quotas given.now) key.now (tenant_of tenant.now) }
+{
+    is_at_bound(tenant.index) && wakes_shown(given, tables, tenant, key)
+}
+
+/// Whether the evaluation of an entry wakes, and its namespace's index passes by that.
+fn waking_passes<G: Given>(given: &G, tables: &Tables, key: &EvalKey) -> bool
+    ensures { result ≡ given_waking_passes (world_of tables.now) (G.rooms given.now)
+        (G.quotas given.now) key.now }
+{
+    match tables.tenants.get(key.namespace()) {
+        Some(tenant) => waking_passes_in(given, tables, tenant, key),
+        None => false,
+    }
+}
+
+fn any_waking_passes<G: Given>(given: &G, tables: &Tables, keys: &[EvalKey]) -> bool
+    ensures { result ≡ list_any (given_waking_passes (world_of tables.now) (G.rooms given.now)
+        (G.quotas given.now)) keys.now }
+{
+    keys.iter().any(|key| waking_passes(given, tables, key))
+}
+
+// ---- one thing that is given
+
+/// Whether a counter passes its bound by a step that gives room on a node of such an offer in the pool, and nothing else. Its
+/// work grows with the number of blocked evaluations.
+pub fn given_room_passes(tables: &Tables, pool: &Text, offer: &Offer) -> bool
+    ensures { result ≡ given_room_passes (world_of tables.now) (pool.now, offered_class offer.now) }
+{
+    Counters { tables }.is_room(pool, offer)
+        || any_waking_passes(&Room { pool, offer }, tables, tables.blocked.as_slice())
+}
+
+/// Whether a counter passes its bound by a step that gives the quota other limits, and does nothing else. Its work grows
+/// with the number of blocked evaluations.
+pub fn given_limits_pass(tables: &Tables, quota: &Text) -> bool
+    ensures { result ≡ given_limits_pass (world_of tables.now) quota.now }
+{
+    Counters { tables }.is_quota(quota)
+        || any_waking_passes(&Limits { quota }, tables, tables.blocked.as_slice())
+}

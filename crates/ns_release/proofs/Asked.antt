@@ -1,0 +1,34 @@
+-- What is asked of a step's releases, slot by slot.
+use Rattle.std.specs.Prelude.{◌≡◌, Bool, ◌||◌, flat_map}
+use Rattle.std.proofs.Common.{sym, ap, ◌∙◌}
+use Rattle.std.specs.List.{list_any}
+use Rattle.std.specs.FinMap.{entries}
+use Rattle.ns_types.specs.declared.allocation.Allocation.{Allocation}
+use Rattle.ns_types.specs.declared.node.Class.{Class}
+use Rattle.ns_types.specs.declared.records.Namespace.{Namespace}
+use Rattle.ns_types.specs.State.Names.{Name}
+use Rattle.ns_types.specs.State.Rows.{World}
+use Rattle.ns_change.specs.declared.change.Change.{Change}
+use Rattle.ns_change.specs.Changed.{changed}
+use Rattle.std.proofs.lemmas.List.Folds.{list_any-append}
+use Rattle.ns_types.proofs.Elements.{any_flat}
+use Rattle.ns_release.specs.Released.{ended_of, quota_left, quota_relimited, quotas_ended_in, quotas_left, quotas_relimited, released_quotas, released_rooms}
+use Rattle.ns_release.specs.Released.{rooms_ended_in, rooms_left, rooms_of_pool}
+use Rattle.ns_release.proofs.Released.{flat_flat}
+
+module _ (w : World) (c : Change) where
+  pub rooms_asked : (p : Name × Class → Bool) →
+      (list_any (λ slot. list_any p (rooms_of_pool w slot)) (entries c.pools)
+      || list_any (λ slot. list_any p (rooms_ended_in w (changed w c) slot)) (entries c.tenants)) ≡ list_any p (released_rooms w c)
+  rooms_asked p = (λ i. sym (any_flat p (rooms_of_pool w) (entries c.pools)) i
+      || (sym (any_flat p (rooms_ended_in w (changed w c)) (entries c.tenants)) ∙
+      ap (list_any p) (flat_flat (rooms_left (changed w c)) (λ s. ended_of w s.0 s.1) (entries c.tenants))) i)
+      ∙ sym (list_any-append p (flat_map (rooms_of_pool w) (entries c.pools)) _)
+
+  pub quotas_asked : (p : Name → Bool) →
+      (list_any (λ slot. list_any p (quota_relimited w slot)) (entries c.quotas)
+      || list_any (λ slot. list_any p (quotas_ended_in w slot)) (entries c.tenants)) ≡ list_any p (released_quotas w c)
+  quotas_asked p = (λ i. sym (any_flat p (quota_relimited w) (entries c.quotas)) i
+      || (sym (any_flat p (quotas_ended_in w) (entries c.tenants)) ∙
+      ap (list_any p) (flat_flat (λ (e : Namespace × Allocation). quota_left e.0) (λ s. ended_of w s.0 s.1) (entries c.tenants))) i)
+      ∙ sym (list_any-append p (quotas_relimited w c) (quotas_left w c))

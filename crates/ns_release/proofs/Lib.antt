@@ -1,0 +1,9 @@
+pub mod Asked
+pub mod Classes
+pub mod Ending
+pub mod Model
+pub mod Offered
+pub mod Released
+pub mod Rooms
+pub mod Touched
+pub mod Woken

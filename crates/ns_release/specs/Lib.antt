@@ -1,0 +1,2 @@
+pub mod Released
+pub mod Shown

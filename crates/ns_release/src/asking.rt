@@ -1,0 +1,279 @@
+//! What a step releases, asked without memory.
+
+ghost use Rattle.std.specs.Prelude.{◌≡◌, Bool, true};
+ghost use Rattle.std.specs.List.{list_any};
+ghost use Rattle.ns_types.specs.declared.node.Class.{Class};
+ghost use Rattle.ns_types.specs.State.Names.{Name};
+ghost use Rattle.ns_types.specs.State.Rows.{offered_class};
+ghost use Rattle.ns_change.specs.Changed.{view};
+ghost use Rattle.ns_release.specs.Released.{quota_left, quota_relimited, quotas_ended, quotas_ended_in, released_quotas};
+ghost use Rattle.ns_release.specs.Released.{released_rooms, room_at, rooms_at, rooms_ended, rooms_ended_in, rooms_of_pool};
+ghost use Rattle.ns_world.specs.World.{pool_of, tenant_of, world_of};
+
+use crate::releasing::{ended, gives_itself, relimits};
+use ns_alike::is_free;
+use ns_change::{Change, PoolChange, TenantChange, node};
+use ns_types::allocation::Allocation;
+use ns_types::node::{Node, Offer};
+use ns_types::records::Quota;
+use ns_types::text::Text;
+use ns_world::{PoolRows, Tables, TenantRows};
+
+/// A changed node with its name, or one that is gone.
+type NodeSlot = (Text, Option<Node>);
+
+/// A changed pool with its name.
+type PoolSlot = (Text, Option<PoolChange>);
+
+/// A changed allocation with its number, or one that is gone.
+type AllocationSlot = (u64, Option<Allocation>);
+
+/// A changed namespace with its name.
+type TenantSlot = (Text, Option<TenantChange>);
+
+/// A changed record with its quota's name, or none.
+type QuotaSlot = (Text, Option<Quota>);
+
+/// A question of what is released.
+pub trait Question {
+    /// Of the room that a class of a pool gives.
+    ghost of_room: { Self → Name × Class → Bool };
+    /// Of a quota.
+    ghost of_quota: { Self → Name → Bool };
+
+    /// The answer for the class that a node of such an offer has in a pool.
+    fn is_room(&self, pool: &Text, offer: &Offer) -> bool
+        ensures { result ≡ of_room self.now (pool.now, offered_class offer.now) };
+
+    /// The answer for a quota.
+    fn is_quota(&self, quota: &Text) -> bool
+        ensures { result ≡ of_quota self.now quota.now };
+}
+
+/// Whether there is a release at all.
+#[derive(Drop)]
+pub struct Anything;
+
+impl Question for Anything {
+    ghost of_room = { λ _ _. true };
+
+    ghost of_quota = { λ _ _. true };
+
+    fn is_room(&self, _pool: &Text, _offer: &Offer) -> bool {
+        true
+    }
+
+    fn is_quota(&self, _quota: &Text) -> bool {
+        true
+    }
+}
+
+// ---- room
+
+/// Whether a changed node gives such room.
+fn gives<Q: Question>(question: &Q, pool: &Text, rows: &PoolRows, slot: &NodeSlot) -> bool
+    ensures { result
+        ≡ list_any (Q.of_room question.now) (rooms_at pool.now (pool_of rows.now) slot.now) }
+{
+    match &slot.1 {
+        Some(node) => gives_itself(rows, &slot.0, node) && question.is_room(pool, &node.offer),
+        None => false,
+    }
+}
+
+fn any_gives<Q: Question>(question: &Q, pool: &Text, rows: &PoolRows, slots: &[NodeSlot]) -> bool
+    ensures { result ≡ list_any (λ slot. list_any (Q.of_room question.now)
+        (rooms_at pool.now (pool_of rows.now) slot)) slots.now }
+{
+    slots.iter().any(|slot| gives(question, pool, rows, slot))
+}
+
+/// Whether a changed node of the pool gives such room.
+fn pool_gives<Q: Question>(question: &Q, tables: &Tables, slot: &PoolSlot) -> bool
+    ensures { result
+        ≡ list_any (Q.of_room question.now) (rooms_of_pool (world_of tables.now) slot.now) }
+{
+    let Some(change) = &slot.1 else {
+        return false;
+    };
+    match tables.pools.get(&slot.0) {
+        Some(rows) => any_gives(question, &slot.0, rows, change.nodes.as_slice()),
+        None => false,
+    }
+}
+
+/// Whether the node from which an allocation went gives such room.
+fn is_left<Q: Question>(
+    question: &Q,
+    tables: &Tables,
+    change: &Change,
+    allocation: &Allocation,
+) -> bool
+    ensures { result ≡ list_any (Q.of_room question.now)
+        (room_at (view tables.now change.now) allocation.now) }
+{
+    match node(tables, change, &allocation.pool, &allocation.node) {
+        Some(node) => is_free(node) && question.is_room(&allocation.pool, &node.offer),
+        None => false,
+    }
+}
+
+fn leaves<Q: Question>(
+    question: &Q,
+    tables: &Tables,
+    change: &Change,
+    tenant: &TenantRows,
+    slot: &AllocationSlot,
+) -> bool
+    ensures { result ≡ list_any (Q.of_room question.now)
+        (rooms_ended (view tables.now change.now) (tenant_of tenant.now) slot.now) }
+{
+    match ended(tenant, slot) {
+        Some(allocation) => is_left(question, tables, change, allocation),
+        None => false,
+    }
+}
+
+fn any_leaves<Q: Question>(
+    question: &Q,
+    tables: &Tables,
+    change: &Change,
+    tenant: &TenantRows,
+    slots: &[AllocationSlot],
+) -> bool
+    ensures { result ≡ list_any (λ slot. list_any (Q.of_room question.now)
+        (rooms_ended (view tables.now change.now) (tenant_of tenant.now) slot)) slots.now }
+{
+    slots
+        .iter()
+        .any(|slot| leaves(question, tables, change, tenant, slot))
+}
+
+/// Whether an allocation of the namespace that ended leaves such room.
+fn tenant_leaves<Q: Question>(
+    question: &Q,
+    tables: &Tables,
+    change: &Change,
+    slot: &TenantSlot,
+) -> bool
+    ensures { result ≡ list_any (Q.of_room question.now)
+        (rooms_ended_in (world_of tables.now) (view tables.now change.now) slot.now) }
+{
+    let Some(changed) = &slot.1 else {
+        return false;
+    };
+    match tables.tenants.get(&slot.0) {
+        Some(tenant) => any_leaves(
+            question,
+            tables,
+            change,
+            tenant,
+            changed.allocations.as_slice(),
+        ),
+        None => false,
+    }
+}
+
+fn any_pool_gives<Q: Question>(question: &Q, tables: &Tables, slots: &[PoolSlot]) -> bool
+    ensures { result ≡ list_any (λ slot. list_any (Q.of_room question.now)
+        (rooms_of_pool (world_of tables.now) slot)) slots.now }
+{
+    slots.iter().any(|slot| pool_gives(question, tables, slot))
+}
+
+fn any_tenant_leaves<Q: Question>(
+    question: &Q,
+    tables: &Tables,
+    change: &Change,
+    slots: &[TenantSlot],
+) -> bool
+    ensures { result ≡ list_any (λ slot. list_any (Q.of_room question.now)
+        (rooms_ended_in (world_of tables.now) (view tables.now change.now) slot)) slots.now }
+{
+    slots
+        .iter()
+        .any(|slot| tenant_leaves(question, tables, change, slot))
+}
+
+/// Whether the step gives such room.
+pub fn releases_room<Q: Question>(question: &Q, tables: &Tables, change: &Change) -> bool
+    ensures { result ≡ list_any (Q.of_room question.now)
+        (released_rooms (world_of tables.now) change.now) }
+{
+    any_pool_gives(question, tables, change.pools.as_slice())
+        || any_tenant_leaves(question, tables, change, change.tenants.as_slice())
+}
+
+// ---- quotas
+
+fn is_own<Q: Question>(question: &Q, tenant: &TenantRows) -> bool
+    ensures { result ≡ list_any (Q.of_quota question.now) (quota_left tenant.now.namespace) }
+{
+    match &tenant.namespace.quota {
+        Some(quota) => question.is_quota(quota),
+        None => false,
+    }
+}
+
+/// Whether the allocation ended, in a namespace of such a quota.
+fn frees<Q: Question>(question: &Q, tenant: &TenantRows, slot: &AllocationSlot) -> bool
+    ensures { result
+        ≡ list_any (Q.of_quota question.now) (quotas_ended (tenant_of tenant.now) slot.now) }
+{
+    ended(tenant, slot).is_some() && is_own(question, tenant)
+}
+
+fn any_frees<Q: Question>(question: &Q, tenant: &TenantRows, slots: &[AllocationSlot]) -> bool
+    ensures { result ≡ list_any (λ slot. list_any (Q.of_quota question.now)
+        (quotas_ended (tenant_of tenant.now) slot)) slots.now }
+{
+    slots.iter().any(|slot| frees(question, tenant, slot))
+}
+
+fn tenant_frees<Q: Question>(question: &Q, tables: &Tables, slot: &TenantSlot) -> bool
+    ensures { result
+        ≡ list_any (Q.of_quota question.now) (quotas_ended_in (world_of tables.now) slot.now) }
+{
+    let Some(change) = &slot.1 else {
+        return false;
+    };
+    match tables.tenants.get(&slot.0) {
+        Some(tenant) => any_frees(question, tenant, change.allocations.as_slice()),
+        None => false,
+    }
+}
+
+fn any_tenant_frees<Q: Question>(question: &Q, tables: &Tables, slots: &[TenantSlot]) -> bool
+    ensures { result ≡ list_any (λ slot. list_any (Q.of_quota question.now)
+        (quotas_ended_in (world_of tables.now) slot)) slots.now }
+{
+    slots
+        .iter()
+        .any(|slot| tenant_frees(question, tables, slot))
+}
+
+/// Whether the record changes the limits of such a quota.
+fn is_relimited<Q: Question>(question: &Q, tables: &Tables, slot: &QuotaSlot) -> bool
+    ensures { result
+        ≡ list_any (Q.of_quota question.now) (quota_relimited (world_of tables.now) slot.now) }
+{
+    relimits(tables, slot) && question.is_quota(&slot.0)
+}
+
+fn any_relimited<Q: Question>(question: &Q, tables: &Tables, slots: &[QuotaSlot]) -> bool
+    ensures { result ≡ list_any (λ slot. list_any (Q.of_quota question.now)
+        (quota_relimited (world_of tables.now) slot)) slots.now }
+{
+    slots
+        .iter()
+        .any(|slot| is_relimited(question, tables, slot))
+}
+
+/// Whether the step releases such a quota.
+pub fn releases_quota<Q: Question>(question: &Q, tables: &Tables, change: &Change) -> bool
+    ensures { result ≡ list_any (Q.of_quota question.now)
+        (released_quotas (world_of tables.now) change.now) }
+{
+    any_relimited(question, tables, change.quotas.as_slice())
+        || any_tenant_frees(question, tables, change.tenants.as_slice())
+}

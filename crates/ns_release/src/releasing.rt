@@ -1,0 +1,77 @@
+//! Which changed row releases something.
+
+ghost use Rattle.std.specs.Prelude.{◌≡◌, false, option_copied};
+ghost use Rattle.std.specs.Option.{option_map_or};
+ghost use Rattle.ns_types.specs.State.Rows.{is_live};
+ghost use Rattle.ns_release.specs.Released.{differs, ended_list, ended_one, gives_itself, relimits};
+ghost use Rattle.ns_world.specs.World.{pool_of, tenant_of, world_of};
+
+use ns_alike::{changes_limits, is_free, same_offer};
+use ns_types::allocation::Allocation;
+use ns_types::node::Node;
+use ns_types::records::Quota;
+use ns_types::text::Text;
+use ns_world::{PoolRows, Tables, TenantRows};
+
+/// A changed allocation with its number, or one that is gone.
+type AllocationSlot = (u64, Option<Allocation>);
+
+/// A changed record with its quota's name, or none.
+type QuotaSlot = (Text, Option<Quota>);
+
+// ---- nodes that give room
+
+/// Whether the node was not free before, or offered otherwise.
+fn differs(rows: &PoolRows, name: &Text, node: &Node) -> bool
+    ensures { result ≡ differs (pool_of rows.now) name.now node.now }
+{
+    match rows.nodes.get(name) {
+        Some(old) => !is_free(old) || !same_offer(&old.offer, &node.offer),
+        None => true,
+    }
+}
+
+/// Whether the node is free, and was not before, or offered otherwise.
+pub fn gives_itself(rows: &PoolRows, name: &Text, node: &Node) -> bool
+    ensures { result ≡ gives_itself (pool_of rows.now) name.now node.now }
+{
+    is_free(node) && differs(rows, name, node)
+}
+
+// ---- allocations that end
+
+fn lives_on(row: Option<&Allocation>) -> bool
+    ensures { result ≡ option_map_or is_live (option_copied row.entry) false }
+{
+    match row {
+        Some(row) => row.is_live(),
+        None => false,
+    }
+}
+
+/// The allocation as it was, if it was live and is not live any more.
+pub fn ended<'a>(tenant: &'a TenantRows, slot: &AllocationSlot) -> Option<&'a Allocation>
+    ensures { ended_one (tenant_of tenant.now) slot.now.0 slot.now.1
+        ≡ ended_list (tenant_of tenant.now) (option_copied result) }
+{
+    let Some(old) = tenant.allocations.get(slot.0) else {
+        return None;
+    };
+    let ends = old.is_live() & !lives_on(slot.1.as_ref());
+    if ends { Some(old) } else { None }
+}
+
+// ---- limits that change
+
+/// Whether the record changes the limits of its quota. One that is not there has none.
+pub fn relimits(tables: &Tables, slot: &QuotaSlot) -> bool
+    ensures { result ≡ relimits (world_of tables.now) slot.now }
+{
+    let Some(quota) = &slot.1 else {
+        return false;
+    };
+    match tables.quotas.get(&slot.0) {
+        Some(old) => changes_limits(&old.quota, quota),
+        None => false,
+    }
+}
