@@ -1,31 +1,40 @@
 -- What is asked comes to, test by test.
-use Rattle.std.specs.Prelude.{◌≡◌, ℕ, Bool, true, false, not, Option, Some, None, Err, is_none}
+use Rattle.std.specs.Prelude.{◌≡◌, ℕ, ◌+◌, ◌||◌, Bool, true, false, not, Option, Some, None, Err, is_none}
 use Rattle.std.proofs.Common.{refl, ap, sym, subst, ◌∙◌}
 use Rattle.std.specs.Option.{option_map_or}
 use Rattle.std.specs.FinMap.{contains_key, get}
 use Rattle.ns_types.specs.declared.allocation.Allocation.{Allocation}
+use Rattle.ns_types.specs.declared.allocation.DesiredStatus.TheVariants as DesiredStatus
+use Rattle.ns_types.specs.declared.evaluation.Trigger.TheVariants as Trigger
 use Rattle.ns_types.specs.declared.job.Job.{Job}
 use Rattle.ns_types.specs.declared.job.Registration.{Registration}
 use Rattle.ns_types.specs.declared.refusal.Member.TheVariants as Member
 use Rattle.ns_types.specs.declared.refusal.Refusal.{Refusal}
+use Rattle.ns_types.specs.declared.reply.Content.{Content}
 use Rattle.ns_types.specs.declared.step.AskCommand.{AskCommand}
 use Rattle.ns_types.specs.Access.Sharing.{permits}
 use Rattle.ns_types.specs.Asking.Asks.{ask, asked_in, deregister_job, first_refusal, has_no_room, is_outdated, pool_of, registered_with}
+use Rattle.ns_types.specs.Settling.Making.{evaluation_for, make_in, with_desired}
 use Rattle.ns_types.specs.Settling.Outcome.{Outcome, NotEnabled, Refused, Done, found, is_done, refused_by, unless}
+use Rattle.ns_types.specs.Settling.Settle.{settle}
 use Rattle.ns_types.specs.State.Names.{Name}
 use Rattle.ns_types.specs.State.Rows.{World, Tenant, is_live}
+use Rattle.ns_types.specs.Steps.{is_past_bound}
 use Rattle.ns_types.proofs.Lists.{not_both}
 use Rattle.ns_types.proofs.Outcomes.{unless_not, unless_so}
 use Rattle.ns_types.proofs.Registrations.{by_tests}
 use Rattle.ns_types.proofs.Tests.{same_Some}
-use Rattle.ns_change.specs.Prepared.{Prepares}
+use Rattle.ns_change.specs.Prepared.{Prepares, bounded}
+use Rattle.ns_change.proofs.Bounded.{done_still, refused_full, still_refused}
 use Rattle.ns_world.specs.declared.tables.Tables.{Tables}
 use Rattle.ns_jobs.specs.Counted.{counted, counted_ask, passes_bound, passes_in}
+use Rattle.ns_jobs.specs.Ending.{ending_passes}
 use Rattle.ns_jobs.specs.Made.{job_of, stopped_with}
+use Rattle.ns_jobs.proofs.Releasing.{stop_past}
 
-still_refused : (passes : Bool) (o : Outcome World) (r : Refusal) → o ≡ Refused r → counted passes o ≡ Refused r
-still_refused true o r is = ap (counted true) is
-still_refused false o r is = is
+counted_refused : (passes : Bool) (o : Outcome World) (r : Refusal) → o ≡ Refused r → counted passes o ≡ Refused r
+counted_refused true o r is = ap (counted true) is
+counted_refused false o r is = is
 
 then_full : (o : Outcome World) → is_done o ≡ true → counted true o ≡ Refused Refusal.Full
 then_full NotEnabled done = not_both done refl
@@ -38,7 +47,7 @@ module _ (w : World) (ns : Name) (command : AskCommand) where
   ask_nowhere is = ap (λ o. found o (asked_in ns command w)) is
 
   pub nowhere : get w.tenants ns ≡ None → counted_ask ns command w ≡ Refused Refusal.NotFound
-  nowhere is = still_refused (passes_in w ns) _ _ (ask_nowhere is)
+  nowhere is = counted_refused (passes_in w ns) _ _ (ask_nowhere is)
 
   module _ (t : Tenant) (at : get w.tenants ns ≡ Some t) where
     pub asks : ask ns command w ≡ asked_in ns command w t
@@ -49,7 +58,7 @@ module _ (w : World) (ns : Name) (command : AskCommand) where
     passes = ap (λ o. option_map_or passes_bound o false) at
 
     pub refuses : (r : Refusal) → asked_in ns command w t ≡ Refused r → counted_ask ns command w ≡ Refused r
-    refuses r is = still_refused (passes_in w ns) _ r (asks ∙ is)
+    refuses r is = counted_refused (passes_in w ns) _ r (asks ∙ is)
 
     pub full : is_done (asked_in ns command w t) ≡ true → passes_bound t ≡ true → counted_ask ns command w ≡ Refused Refusal.Full
     full done over = (λ i. counted ((passes ∙ over) i) (asks i)) ∙ then_full (asked_in ns command w t) done
@@ -111,22 +120,39 @@ module _ (w : World) (ns id : Name) (purge : Bool) (t : Tenant) (at : get w.tena
 -- ---- stopping an allocation
 
 module _ (w : World) (ns : Name) (n : ℕ) (t : Tenant) (at : get w.tenants ns ≡ Some t) where
+  abbrev command : AskCommand
+  command = AskCommand.StopAllocation n
+
   abbrev stops_at : Option Allocation → Outcome World
   stops_at a = found a (λ a. unless (not (is_live a)) Refusal.Conflict (stopped_with ns n w t a))
 
-  pub no_allocation : get t.allocations n ≡ None → counted_ask ns (AskCommand.StopAllocation n) w ≡ Refused Refusal.NotFound
-  no_allocation none = refuses w ns (AskCommand.StopAllocation n) t at Refusal.NotFound (ap stops_at none)
+  pub no_allocation : get t.allocations n ≡ None → bounded w (ask ns command w) ≡ Refused Refusal.NotFound
+  no_allocation none = still_refused w _ Refusal.NotFound (asks w ns command t at ∙ ap stops_at none)
 
   module _ (a : Allocation) (there : get t.allocations n ≡ Some a) where
-    pub not_live : is_live a ≡ false → counted_ask ns (AskCommand.StopAllocation n) w ≡ Refused Refusal.Conflict
-    not_live ended = refuses w ns (AskCommand.StopAllocation n) t at Refusal.Conflict (ap stops_at there ∙ unless_so (not (is_live a)) _ _ (ap not ended))
+    pub not_live : is_live a ≡ false → bounded w (ask ns command w) ≡ Refused Refusal.Conflict
+    not_live ended = still_refused w _ Refusal.Conflict
+        (asks w ns command t at ∙ ap stops_at there ∙ unless_so (not (is_live a)) _ _ (ap not ended))
 
-    module _ (live : is_live a ≡ true) where
-      stop_is : asked_in ns (AskCommand.StopAllocation n) w t ≡ stopped_with ns n w t a
-      stop_is = ap stops_at there ∙ unless_not (not (is_live a)) _ _ (ap not live)
+    module _ (live : is_live a ≡ true) (within : is_past_bound w ≡ false) where
+      abbrev content : Content
+      content = Content.Stopped (t.evaluation_number + 1) (t.index + 1)
 
-      pub stop_full : passes_bound t ≡ true → counted_ask ns (AskCommand.StopAllocation n) w ≡ Refused Refusal.Full
-      stop_full = full w ns (AskCommand.StopAllocation n) t at (ap is_done stop_is)
+      abbrev left : World
+      left = make_in ns (evaluation_for t a Trigger.AllocStop) w (with_desired n DesiredStatus.Stop t)
 
-      pub stops : passes_bound t ≡ false → counted_ask ns (AskCommand.StopAllocation n) w ≡ stopped_with ns n w t a
-      stops fits = stands w ns (AskCommand.StopAllocation n) t at fits ∙ stop_is
+      stop_is : ask ns command w ≡ Done content left
+      stop_is = asks w ns command t at ∙ ap stops_at there ∙ unless_not (not (is_live a)) _ _ (ap not live)
+
+      past_is : is_past_bound (settle w left) ≡ (passes_bound t || ending_passes w t a)
+      past_is = stop_past w ns t at n a there live (evaluation_for t a Trigger.AllocStop) within
+
+      pub too_few : passes_bound t ≡ true → bounded w (ask ns command w) ≡ Refused Refusal.Full
+      too_few past = refused_full w _ content left stop_is (past_is ∙ ap (λ b. b || ending_passes w t a) past)
+
+      module _ (fits : passes_bound t ≡ false) where
+        pub stop_full : ending_passes w t a ≡ true → bounded w (ask ns command w) ≡ Refused Refusal.Full
+        stop_full past = refused_full w _ content left stop_is (past_is ∙ (λ i. fits i || past i))
+
+        pub stops : ending_passes w t a ≡ false → bounded w (ask ns command w) ≡ stopped_with ns n w t a
+        stops passes = done_still w _ content left stop_is (past_is ∙ (λ i. fits i || passes i))

@@ -1,3 +1,4 @@
 pub mod Counted
+pub mod Ending
 pub mod Made
 pub mod Read

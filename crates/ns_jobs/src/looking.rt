@@ -1,17 +1,19 @@
-//! Rows of a namespace by id and number, and ids by their beginnings.
+//! Rows of a namespace by id and number, nodes by name, and ids by their beginnings.
 
 ghost use Rattle.std.specs.Prelude.{◌≡◌, option_copied};
 ghost use Rattle.std.specs.FinMap.{get};
 ghost use Rattle.ns_types.specs.State.Id.{id_text};
 ghost use Rattle.ns_types.specs.State.Names.{begins_with};
-ghost use Rattle.ns_world.specs.World.{tenant_of};
+ghost use Rattle.ns_types.specs.State.Rows.{node_at};
+ghost use Rattle.ns_world.specs.World.{tenant_of, world_of};
 
 use ns_types::allocation::Allocation;
 use ns_types::evaluation::Evaluation;
 use ns_types::id::{IdKind, id_str};
 use ns_types::job::Job;
+use ns_types::node::Node;
 use ns_types::text::Text;
-use ns_world::TenantRows;
+use ns_world::{Tables, TenantRows};
 
 pub(crate) fn job<'a>(tenant: &'a TenantRows, id: &Text) -> Option<&'a Job>
     ensures { option_copied result ≡ get (tenant_of tenant.now).jobs id.now }
@@ -29,6 +31,16 @@ pub(crate) fn allocation(tenant: &TenantRows, number: u64) -> Option<&Allocation
     ensures { option_copied result ≡ get (tenant_of tenant.now).allocations number }
 {
     tenant.allocations.get(number)
+}
+
+/// The node of the pool.
+pub(crate) fn node<'a>(tables: &'a Tables, pool: &Text, name: &Text) -> Option<&'a Node>
+    ensures { option_copied result ≡ node_at (world_of tables.now) pool.now name.now }
+{
+    match tables.pools.get(pool) {
+        Some(rows) => rows.nodes.get(name),
+        None => None,
+    }
 }
 
 /// Whether the id of a job begins so.

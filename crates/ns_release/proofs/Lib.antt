@@ -5,5 +5,6 @@ pub mod Model
 pub mod Offered
 pub mod Released
 pub mod Rooms
+pub mod Together
 pub mod Touched
 pub mod Woken

@@ -1,0 +1,350 @@
+-- A stop of a live allocation, which makes an evaluation: the counters of its namespace, and what the stop releases, are all that can pass a bound.
+use Rattle.std.specs.Prelude.{◌≡◌, ℕ, ◌+◌, Bool, true, false, cond, not, ◌&&◌, ◌||◌, if◌then◌else◌, List, [], ◌∷◌, ◌++◌, Option, Some, None, flat_map}
+use Rattle.std.specs.Prelude.{nat_lt, option_map}
+use Rattle.std.proofs.Common.{refl, sym, ap, ◌∙◌, append-nil, Ordering}
+use Rattle.std.specs.Cmp.{IsTotalOrder}
+use Rattle.std.specs.List.{list_any}
+use Rattle.std.specs.Option.{option_and_then, option_map_or}
+use Rattle.std.specs.Ordering.{eq_by_cmp}
+use Rattle.std.specs.FinMap.{FinMap, IsAntisymmetric, empty, entries, entries-insert, get, get-empty, get-insert, insert, same_map}
+use Rattle.std.specs.FinMap.Entries.{put}
+use Rattle.keyed.specs.Table.{at_slot, flat, row_at}
+use Rattle.keyed.specs.Over.{over}
+use Rattle.keyed.proofs.Over.{any_both, over-empty, over-put}
+use Rattle.ns_types.specs.declared.allocation.Allocation.{Allocation}
+use Rattle.ns_types.specs.declared.allocation.DesiredStatus.{DesiredStatus}
+use Rattle.ns_types.specs.declared.evaluation.Evaluation.{Evaluation}
+use Rattle.ns_types.specs.declared.node.Class.{Class}
+use Rattle.ns_types.specs.declared.node.Node.{Node}
+use Rattle.ns_types.specs.declared.records.Namespace.{Namespace}
+use Rattle.ns_types.specs.Settling.Making.{make_in, put_tenant, with_desired}
+use Rattle.ns_types.specs.Settling.Same.{same_allocation}
+use Rattle.ns_types.specs.Settling.Settle.{changes_allocation, is_changed, settle}
+use Rattle.ns_types.specs.State.Names.{Key, Name, has_key, name_cmp, same_name}
+use Rattle.ns_types.specs.State.Rows.{World, Tenant, class_of, evaluation_at, is_free, is_live, is_run, node_at}
+use Rattle.ns_types.specs.State.Tables.{map_rows}
+use Rattle.ns_types.specs.Steps.{greatest, is_past_bound, is_tenant_past_bound}
+use Rattle.ns_types.specs.Wire.Words.{desired_text}
+use Rattle.ns_types.specs.Working.Queue.{is_busy, queue}
+use Rattle.ns_types.proofs.Lists.{any_alike, each, filter_all, left_none, not_both, right_none}
+use Rattle.ns_types.proofs.Named.{first_of_both, names, numbers, one_name, one_number}
+use Rattle.ns_types.proofs.TableRows.{entries_empty, get_other}
+use Rattle.ns_types.proofs.Tables.{get-map_rows, map_rows_idle, none_of_any, tied}
+use Rattle.ns_change.specs.declared.change.Change.{Change}
+use Rattle.ns_change.specs.declared.change.TenantChange.{TenantChange}
+use Rattle.ns_change.specs.Changed.{changed, changed_list, changed_pool, changed_quota, changed_tenant, perhaps}
+use Rattle.ns_change.proofs.Nothing.{no_entries, nothing}
+use Rattle.ns_change.proofs.Opening.{row_set}
+use Rattle.ns_release.specs.Released.{does_wake}
+use Rattle.ns_bounds.specs.Bounds.{is_at_bound, passes_in, places_pass, quota_passes, room_passes, shows_awake}
+use Rattle.ns_bounds.specs.Bounds.{tenant_passes, touches_asleep, waking_passes}
+use Rattle.ns_bounds.specs.Given.{given_limits_pass}
+use Rattle.ns_release.specs.Released.{ended_in, ended_of, ended_one, ended_rows, in_pool, is_woken, quota_left, quota_relimited, released_quotas, released_rooms}
+use Rattle.ns_release.specs.Released.{releases_wake_at, room_left, rooms_left, rooms_of_pool}
+use Rattle.ns_bounds.specs.Given.{given_room_passes}
+use Rattle.ns_bounds.proofs.Indexes.{past_bound_is}
+use Rattle.ns_release.proofs.Together.{wakes_by_each, wakes_by_quotas}
+use Rattle.ns_jobs.specs.Counted.{passes_bound}
+use Rattle.ns_jobs.specs.Ending.{ending_passes}
+
+module _ {K X : Type 0} {R : K → K → Ordering} (o : IsTotalOrder R) (same : IsAntisymmetric R) where
+  one_entry : (k : K) (x : X) → entries (insert (empty {X = X} {R = R}) k x) ≡ (k, x) ∷ []
+  one_entry k x = entries-insert o empty k x ∙ ap (put R k x) (entries_empty o same)
+
+  over-one : (m : FinMap R X) (k : K) (x : X) → over m (insert empty k (Some x)) ≡ insert m k x
+  over-one m k x = over-put o same m empty k x ∙ ap (λ m. insert m k x) (over-empty o same m)
+
+  unchanged_rows : {C : Type 0} (f : X → C → X) (m : FinMap R X) → map_rows (λ k x. perhaps f (row_at (empty {X = Option C} {R = R}) k) x) m ≡ m
+  unchanged_rows f m = map_rows_idle o same _ m (λ k x at. ap (λ r. perhaps f (flat r) x) (get-empty R k))
+
+unchanged_list : (keys : List Key) → changed_list keys no_entries ≡ keys
+unchanged_list keys = append-nil _ ∙ filter_all (λ key. not (has_key [] key)) keys (each _ (λ _. refl) keys)
+
+-- ---- whom releases wake past the index of its namespace
+
+abbrev waking_by : World → List (Name × Class) → List Name → Key → Bool
+waking_by w rooms quotas key = option_map_or
+    (λ t. is_at_bound t.index && (releases_wake_at w rooms quotas key && shows_awake t key.1 (evaluation_at w key))) (get w.tenants key.0) false
+
+module _ (w : World) where
+  waking_each : (rooms : List (Name × Class)) (quotas : List Name) (key : Key) →
+      waking_by w rooms quotas key ≡ (waking_by w rooms [] key || waking_by w [] quotas key)
+  waking_each rooms quotas key =
+      ap (λ b. option_map_or (λ t. is_at_bound t.index && (b && shows_awake t key.1 (evaluation_at w key))) (get w.tenants key.0) false)
+      (wakes_by_each w rooms quotas key) ∙ by (get w.tenants key.0)
+    where
+      split : (i r q s : Bool) → (i && ((r || q) && s)) ≡ ((i && (r && s)) || (i && (q && s)))
+      split true true true true = refl
+      split true true true false = refl
+      split true true false true = refl
+      split true true false false = refl
+      split true false q s = refl
+      split false r q s = refl
+
+      by : (o : Option Tenant) → option_map_or (λ t. is_at_bound t.index
+          && ((releases_wake_at w rooms [] key || releases_wake_at w [] quotas key) && shows_awake t key.1 (evaluation_at w key))) o false
+          ≡ (option_map_or (λ t. is_at_bound t.index && (releases_wake_at w rooms [] key && shows_awake t key.1 (evaluation_at w key))) o false
+          || option_map_or (λ t. is_at_bound t.index && (releases_wake_at w [] quotas key && shows_awake t key.1 (evaluation_at w key))) o false)
+      by None = refl
+      by (Some t) = split (is_at_bound t.index) (releases_wake_at w rooms [] key) (releases_wake_at w [] quotas key) (shows_awake t key.1 (evaluation_at w key))
+
+  none_waking : list_any (waking_by w [] []) w.blocked ≡ false
+  none_waking = any_alike (waking_by w [] []) (λ _. false) w.blocked (each _ (λ key. ap (λ b. option_map_or
+      (λ t. is_at_bound t.index && (b && shows_awake t key.1 (evaluation_at w key))) (get w.tenants key.0) false) (wakes_by_quotas w [] key) ∙
+      by key (get w.tenants key.0)) w.blocked) ∙ none w.blocked
+    where
+      none : (keys : List Key) → list_any (λ _. false) keys ≡ false
+      none [] = refl
+      none (key ∷ keys) = none keys
+
+      still : (i : Bool) → (i && false) ≡ false
+      still true = refl
+      still false = refl
+
+      by : (key : Key) (o : Option Tenant) → option_map_or (λ t. is_at_bound t.index && (false && shows_awake t key.1 (evaluation_at w key))) o false ≡ false
+      by key None = refl
+      by key (Some t) = still (is_at_bound t.index)
+
+  turned : (a b : Bool) → (a || (b || false)) ≡ (b || a)
+  turned true true = refl
+  turned true false = refl
+  turned false true = refl
+  turned false false = refl
+
+  rooms_pass : (pool : Name) (o : Option Node) →
+      (list_any (waking_by w (in_pool pool (room_left o)) []) w.blocked || list_any (room_passes w) (in_pool pool (room_left o)))
+      ≡ option_map_or (λ node. is_free node && given_room_passes w (pool, class_of node)) o false
+  rooms_pass pool None = ap (λ b. b || false) none_waking
+  rooms_pass pool (Some node) = by (is_free node)
+    where
+      by : (b : Bool) → (list_any (waking_by w (in_pool pool (if b then class_of node ∷ [] else [])) []) w.blocked
+          || list_any (room_passes w) (in_pool pool (if b then class_of node ∷ [] else []))) ≡ (b && given_room_passes w (pool, class_of node))
+      by true = turned (list_any (waking_by w ((pool, class_of node) ∷ []) []) w.blocked) (room_passes w (pool, class_of node))
+      by false = ap (λ b. b || false) none_waking
+
+  limits_pass : (n : Namespace) → (list_any (waking_by w [] (quota_left n)) w.blocked || list_any (quota_passes w) (quota_left n))
+      ≡ option_map_or (given_limits_pass w) n.quota false
+  limits_pass n = by n.quota
+    where
+      by : (o : Option Name) → (list_any (waking_by w [] (option_map_or (λ quota. quota ∷ []) o [])) w.blocked
+          || list_any (quota_passes w) (option_map_or (λ quota. quota ∷ []) o [])) ≡ option_map_or (given_limits_pass w) o false
+      by None = ap (λ b. b || false) none_waking
+      by (Some quota) = turned (list_any (waking_by w [] (quota ∷ [])) w.blocked) (quota_passes w quota)
+
+-- ---- the new evaluation's entry among those that are ready
+
+abbrev added : World → Key → List Key
+added w key = option_map_or (λ e. if is_busy w key.0 e.job then [] else key ∷ []) (evaluation_at w key) []
+
+queue_adds : (w : World) (key : Key) → queue w key ≡ record w { ready = w.ready ++ added w key }
+unfolding queue
+queue_adds w key = by (evaluation_at w key)
+  where
+    same : w ≡ record w { ready = w.ready ++ [] }
+    same = λ i. record w { ready = sym (append-nil w.ready) i }
+
+    at : (b : Bool) → (if b then w else record w { ready = w.ready ++ key ∷ [] }) ≡ record w { ready = w.ready ++ (if b then [] else key ∷ []) }
+    at true = same
+    at false = refl
+
+    by : (o : Option Evaluation) → option_map_or (λ e. if is_busy w key.0 e.job then w else record w { ready = w.ready ++ key ∷ [] }) o w
+        ≡ record w { ready = w.ready ++ option_map_or (λ e. if is_busy w key.0 e.job then [] else key ∷ []) o [] }
+    by None = same
+    by (Some e) = at (is_busy w key.0 e.job)
+
+-- ---- a stop
+
+abbrev stopped : Allocation → Allocation
+stopped a = record a { desired = DesiredStatus.Stop }
+
+-- it is shown otherwise than before
+differs : (a : Allocation) → is_live a ≡ true → same_allocation a (stopped a) ≡ false
+unfolding same_allocation
+differs a live = by _ _ a.desired (first_of_both (is_run a.desired) _ live)
+  where
+    none : (p q : Bool) → ((p && false) && q) ≡ false
+    none true q = refl
+    none false q = refl
+
+    by : (p q : Bool) (d : DesiredStatus) → is_run d ≡ true → ((p && same_name (desired_text d) (desired_text DesiredStatus.Stop)) && q) ≡ false
+    by p q DesiredStatus.Run runs = none p q
+    by p q DesiredStatus.Stop runs = not_both runs refl
+    by p q DesiredStatus.Evict runs = not_both runs refl
+
+module _ (w : World) (ns : Name) (t : Tenant) (at : get w.tenants ns ≡ Some t) (n : ℕ) (a : Allocation) (there : get t.allocations n ≡ Some a)
+    (live : is_live a ≡ true) (e : Evaluation) where
+  abbrev next : ℕ
+  next = t.evaluation_number + 1
+
+  abbrev rows : TenantChange
+  rows = record {
+    evaluation_number = next;
+    allocation_number = t.allocation_number;
+    jobs = empty;
+    evaluations = insert empty next (Some e);
+    allocations = insert empty n (Some (stopped a));
+    workers = empty;
+  }
+
+  abbrev after : Tenant
+  after = record t { evaluation_number = next; evaluations = insert t.evaluations next e; allocations = insert t.allocations n (stopped a) }
+
+  abbrev put_after : World
+  put_after = put_tenant ns after w
+
+  abbrev alone : Change
+  alone = record nothing { tenants = insert empty ns (Some rows); ready = record { taken = []; added = added put_after (ns, next) } }
+
+  abbrev left : World
+  left = make_in ns e w (with_desired n DesiredStatus.Stop t)
+
+  -- ---- the change is the stop
+
+  after_is : changed_tenant t rows ≡ after
+  after_is = λ i. record after {
+    jobs = over-empty names one_name t.jobs i;
+    evaluations = over-one numbers one_number t.evaluations next e i;
+    allocations = over-one numbers one_number t.allocations n (stopped a) i;
+    workers = over-empty numbers one_number t.workers i;
+  }
+
+  tenants_are : map_rows (λ q x. perhaps changed_tenant (row_at alone.tenants q) x) w.tenants ≡ insert w.tenants ns after
+  tenants_are = same_map names one_name _ _ (λ q. get-map_rows names one_name _ w.tenants q ∙ by q (eq_by_cmp name_cmp q ns) refl
+      ∙ sym (get-insert names w.tenants ns after q))
+    where
+      idle : (o : Option Tenant) → option_map (λ x. x) o ≡ o
+      idle None = refl
+      idle (Some x) = refl
+
+      row : (q : Name) (b : Bool) → eq_by_cmp name_cmp q ns ≡ b → row_at alone.tenants q ≡ cond b (Some rows) None
+      row q b is = row_set names one_name empty ns rows q ∙ (λ i. cond (is i) (Some rows) (flat (get-empty name_cmp q i)))
+
+      by : (q : Name) (b : Bool) → eq_by_cmp name_cmp q ns ≡ b → option_map (λ x. perhaps changed_tenant (row_at alone.tenants q) x) (get w.tenants q)
+          ≡ cond b (Some after) (get w.tenants q)
+      by q true is = (λ i. option_map (λ x. perhaps changed_tenant (row q true is i) x) ((ap (get w.tenants) (tied one_name q ns is) ∙ at) i)) ∙ ap Some after_is
+      by q false is = ap (λ r. option_map (λ x. perhaps changed_tenant r x) (get w.tenants q)) (row q false is) ∙ idle (get w.tenants q)
+
+  ready_is : changed_list w.ready alone.ready ≡ w.ready ++ added put_after (ns, next)
+  ready_is = ap (λ keys. keys ++ added put_after (ns, next)) (filter_all (λ key. not (has_key [] key)) w.ready (each _ (λ _. refl) w.ready))
+
+  alone_is : changed w alone ≡ record put_after { ready = w.ready ++ added put_after (ns, next) }
+  unfolding changed
+  alone_is = λ i. record w {
+    tenants = tenants_are i;
+    pools = unchanged_rows names one_name changed_pool w.pools i;
+    quotas = unchanged_rows names one_name changed_quota w.quotas i;
+    ready = ready_is i;
+    plans = unchanged_list w.plans i;
+    blocked = unchanged_list w.blocked i;
+  }
+
+  left_is : changed w alone ≡ left
+  left_is = alone_is ∙ sym (ap (λ o. make_in ns e w (option_map_or
+      (λ a. record t { allocations = insert t.allocations n (record a { desired = DesiredStatus.Stop }) }) o t)) there ∙ queue_adds put_after (ns, next))
+
+  -- ---- what it releases
+
+  ended : ended_rows w alone ≡ (t.namespace, a) ∷ []
+  ended = ap (flat_map (λ (e : Name × Option TenantChange). ended_of w e.0 e.1)) (one_entry names one_name ns (Some rows)) ∙ append-nil _
+      ∙ ap (λ o. option_map_or (λ t. ended_in t rows) o []) at
+      ∙ ap (flat_map (λ (e : ℕ × Option Allocation). ended_one t e.0 e.1)) (one_entry numbers one_number n (Some (stopped a))) ∙ append-nil _
+      ∙ ap (λ o. option_map_or (λ x. if is_live x && not (option_map_or is_live (Some (stopped a)) false) then (t.namespace, x) ∷ [] else []) o []) there
+      ∙ ap (λ b. if b && true then (t.namespace, a) ∷ [] else []) live
+
+  abbrev rooms : List (Name × Class)
+  rooms = in_pool a.pool (room_left (node_at w a.pool a.node))
+
+  rooms_are : released_rooms w alone ≡ rooms
+  rooms_are = (λ i. flat_map (rooms_of_pool w) (entries_empty names one_name i) ++ flat_map (rooms_left (changed w alone)) (ended i))
+      ∙ append-nil _ ∙ ap (λ x. in_pool a.pool (room_left (node_at x a.pool a.node))) alone_is
+
+  quotas_are : released_quotas w alone ≡ quota_left t.namespace
+  quotas_are = (λ i. flat_map (quota_relimited w) (entries_empty names one_name i) ++ flat_map (λ (e : Namespace × Allocation). quota_left e.0) (ended i))
+      ∙ append-nil _
+
+  -- ---- the counters
+
+  module _ (within : is_past_bound w ≡ false) where
+    given : nat_lt greatest t.allocation_number ≡ false
+    unfolding is_past_bound
+    given = right_none (nat_lt greatest t.index || nat_lt greatest t.evaluation_number) _
+        (none_of_any one_name (λ _ t. is_tenant_past_bound t) w.tenants ns t (left_none _ _ (left_none _ _ within)) at)
+
+    touched : touches_asleep w alone ns t rows ≡ true
+    touched = last _ _ (ap (list_any (at_slot (λ (e : ℕ × Allocation). changes_allocation t e.0 e.1))) (one_entry numbers one_number n (Some (stopped a)))
+        ∙ ap (λ b. b || false) (ap (λ o. is_changed same_allocation o (stopped a)) there ∙ ap not (differs a live)))
+      where
+        last : (p q : Bool) → q ≡ true → (p || q) ≡ true
+        last true q is = refl
+        last false q is = is
+
+    own : list_any (tenant_passes w alone) (entries alone.tenants) ≡ passes_bound t
+    own = ap (list_any (tenant_passes w alone)) (one_entry names one_name ns (Some rows))
+        ∙ ap (λ o. option_map_or (passes_in w alone ns rows) o false || false) at
+        ∙ by (nat_lt greatest (t.evaluation_number + 1)) (is_at_bound t.index) (nat_lt greatest t.allocation_number) (touches_asleep w alone ns t rows)
+        given touched
+      where
+        by : (e i g s : Bool) → g ≡ false → s ≡ true → (((e || g) || (i && s)) || false) ≡ (i || e)
+        by e i true s fails holds = not_both refl fails
+        by e i false false fails holds = not_both holds refl
+        by true true false true fails holds = refl
+        by true false false true fails holds = refl
+        by false true false true fails holds = refl
+        by false false false true fails holds = refl
+
+    no_place : list_any (places_pass w) (entries alone.pools) ≡ false
+    no_place = ap (list_any (places_pass w)) (entries_empty names one_name)
+
+    parts : is_past_bound (settle w left) ≡
+        ((passes_bound t || list_any (waking_passes w alone) w.blocked) || (list_any (room_passes w) rooms || false)
+        || list_any (quota_passes w) (quota_left t.namespace))
+    parts = ap (λ x. is_past_bound (settle w x)) (sym left_is) ∙ past_bound_is w alone within
+        ∙ (λ i. (own i || list_any (waking_passes w alone) w.blocked) || (list_any (room_passes w) (rooms_are i) || no_place i)
+        || list_any (quota_passes w) (quotas_are i))
+
+    module _ (fits : passes_bound t ≡ false) where
+      -- its own namespace's index does not pass, and no evaluation of another one is changed
+      waking_is : (key : Key) → waking_passes w alone key ≡ waking_by w rooms (quota_left t.namespace) key
+      waking_is key = by (eq_by_cmp name_cmp key.0 ns) refl
+        where
+          mine : (s : Tenant → Bool) → key.0 ≡ ns → option_map_or (λ x. is_at_bound x.index && s x) (get w.tenants key.0) false ≡ false
+          mine s is = ap (λ o. option_map_or (λ x. is_at_bound x.index && s x) o false) (ap (get w.tenants) is ∙ at)
+              ∙ ap (λ b. b && s t) (left_none (is_at_bound t.index) _ fits)
+
+          stays : eq_by_cmp name_cmp key.0 ns ≡ false → evaluation_at (changed w alone) key ≡ evaluation_at w key
+          stays other = ap (λ x. evaluation_at x key) alone_is
+              ∙ ap (option_and_then (λ (t : Tenant). get t.evaluations key.1)) (get_other names one_name w.tenants ns after key.0 other)
+
+          by : (b : Bool) → eq_by_cmp name_cmp key.0 ns ≡ b → waking_passes w alone key ≡ waking_by w rooms (quota_left t.namespace) key
+          by true is = mine (λ x. does_wake w alone key && shows_awake x key.1 (evaluation_at (changed w alone) key)) (tied one_name key.0 ns is)
+              ∙ sym (mine (λ x. releases_wake_at w rooms (quota_left t.namespace) key && shows_awake x key.1 (evaluation_at w key)) (tied one_name key.0 ns is))
+          by false other = λ i. option_map_or (λ x. is_at_bound x.index && (is_woken w alone.blocked (rooms_are i) (quotas_are i) key
+              && shows_awake x key.1 (stays other i))) (get w.tenants key.0) false
+
+      wakings_are : list_any (waking_passes w alone) w.blocked
+          ≡ (list_any (waking_by w rooms []) w.blocked || list_any (waking_by w [] (quota_left t.namespace)) w.blocked)
+      wakings_are = any_alike _ (λ key. waking_by w rooms [] key || waking_by w [] (quota_left t.namespace) key) w.blocked
+          (each _ (λ key. waking_is key ∙ waking_each w rooms (quota_left t.namespace) key) w.blocked)
+          ∙ any_both (waking_by w rooms []) (waking_by w [] (quota_left t.namespace)) w.blocked
+
+      others_pass : is_past_bound (settle w left) ≡ ending_passes w t a
+      others_pass = parts
+          ∙ (λ i. (fits i || wakings_are i) || (list_any (room_passes w) rooms || false) || list_any (quota_passes w) (quota_left t.namespace))
+          ∙ grouped (list_any (waking_by w rooms []) w.blocked) (list_any (waking_by w [] (quota_left t.namespace)) w.blocked)
+          (list_any (room_passes w) rooms) (list_any (quota_passes w) (quota_left t.namespace))
+          ∙ (λ i. rooms_pass w a.pool (node_at w a.pool a.node) i || limits_pass w t.namespace i)
+        where
+          grouped : (r q s l : Bool) → (((r || q) || (s || false)) || l) ≡ ((r || s) || (q || l))
+          grouped true q s l = refl
+          grouped false true true l = refl
+          grouped false true false l = refl
+          grouped false false true l = refl
+          grouped false false false l = refl
+
+    pub stop_past : is_past_bound (settle w (make_in ns e w (with_desired n DesiredStatus.Stop t))) ≡ (passes_bound t || ending_passes w t a)
+    stop_past = by (passes_bound t) refl
+      where
+        by : (b : Bool) → passes_bound t ≡ b → is_past_bound (settle w left) ≡ (b || ending_passes w t a)
+        by true past = parts ∙ ap (λ b. (b || list_any (waking_passes w alone) w.blocked) || (list_any (room_passes w) rooms || false)
+            || list_any (quota_passes w) (quota_left t.namespace)) past
+        by false fits = others_pass fits
