@@ -9,7 +9,7 @@ ghost use Rattle.ns_world.specs.World.{pool_of, tenant_of, world_of};
 use crate::looking::DEFAULT;
 use crate::namespaces::new_tenant;
 use crate::pools::new_pool;
-use keyed::{KeyQueue, NameTable, Series};
+use keyed::{KeyQueue, NameTable};
 use ns_types::records::{Namespace, Pool};
 use ns_types::rows::Rows;
 use ns_types::text::Text;

@@ -2,7 +2,6 @@
 
 ghost use Rattle.std.specs.Prelude.{◌≡◌, not, filter, IfOk};
 ghost use Rattle.std.specs.Cmp.Lexicographic.{pointwise};
-ghost use Rattle.std.specs.List.{list_any};
 ghost use Rattle.std.specs.Ordering.{eq_by_cmp};
 ghost use Rattle.ns_types.specs.State.Names.{attribute_cmp, has_class, same_class};
 ghost use Rattle.ns_types.specs.Settling.Releases.{can_use, same_offer};

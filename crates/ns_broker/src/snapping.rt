@@ -2,7 +2,7 @@
 
 ghost use Rattle.std.specs.Prelude.{◌≡◌, IfOk};
 ghost use Rattle.ns_types.specs.Working.Snapshot.{snapshot_of};
-ghost use Rattle.ns_types.specs.Working.Work.{may_snap, with_snapshot, with_worker};
+ghost use Rattle.ns_types.specs.Working.Work.{may_snap, with_snapshot};
 ghost use Rattle.ns_broker.specs.Snapping.{Keeps, Snaps, UseFitsIn};
 ghost use Rattle.ns_live.specs.Index.{IsRight};
 ghost use Rattle.ns_snapshot.specs.Seen.{UseOfFits};

@@ -1,7 +1,7 @@
 -- The lists over a change, who is busy, and waking.
 use Rattle.std.specs.Prelude.{◌≡◌, ℕ, ◌+◌, ◌<◌, ◌≤◌, Bool, true, false, cond, not, List, [], ◌∷◌, ◌++◌, ◌&&◌, ◌||◌}
-use Rattle.std.specs.Prelude.{Option, Some, None, Result, Ok, Err, OnOk, filter, fold, length}
-use Rattle.std.proofs.Common.{refl, sym, ap, ◌∙◌, arith, length-drop, append_assoc, get_or, drop, drop-cons, add-one}
+use Rattle.std.specs.Prelude.{Option, Some, None, filter, fold, length}
+use Rattle.std.proofs.Common.{refl, sym, ap, ◌∙◌, arith, length-drop, append_assoc, get_or, drop}
 use Rattle.std.specs.Option.{option_map_or}
 use Rattle.std.specs.List.{list_any}
 use Rattle.std.specs.Cmp.{eq_by_cmp_equiv}

@@ -11,18 +11,11 @@ use Rattle.ns_types.specs.Settling.Settle.{settle}
 use Rattle.ns_types.specs.State.Rows.{State, World}
 use Rattle.ns_types.specs.Steps.{Makes, act, after, concluded, is_allowed, is_made, is_past_bound, reply_of, said}
 use Rattle.ns_types.proofs.Lists.{not_both}
+use Rattle.ns_types.proofs.Outcomes.{is_enabled, refusal_of}
 use Rattle.ns_change.specs.declared.change.Prepared.{Prepared}
 use Rattle.ns_change.specs.Changed.{view}
 use Rattle.ns_change.specs.Prepared.{Prepares, bounded}
 use Rattle.ns_world.specs.declared.tables.Tables.{Tables}
-
-abbrev refusal_of : Refusal → Outcome World → Refusal
-refusal_of other (Refused refusal) = refusal
-refusal_of other _ = other
-
-abbrev is_enabled : Outcome World → Bool
-is_enabled NotEnabled = false
-is_enabled _ = true
 
 module _ (step : Step) (s : State) (outcome : Outcome World) (acts : act step s ≡ lift (with_world s.acl) outcome)
     (allowed : is_allowed step s.acl ≡ true) where

@@ -1,6 +1,6 @@
 //! Nodes, and what is placed on them.
 
-ghost use Rattle.std.specs.Prelude.{◌≡◌, IfOk};
+ghost use Rattle.std.specs.Prelude.{IfOk};
 ghost use Rattle.ns_types.specs.Working.Commit.{with_allocation};
 ghost use Rattle.ns_types.specs.Settling.Making.{with_node};
 ghost use Rattle.ns_change.specs.Changed.{Does, DoesIn, DoesInPool, HasAllocationLeft, HasPlaceLeft, count_place, view, without_node};

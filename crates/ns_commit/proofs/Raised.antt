@@ -1,6 +1,6 @@
 -- Release numbers that rise one by one, each once.
 use Rattle.std.specs.Prelude.{◌≡◌, ℕ, ◌+◌, ◌<◌, ◌^◌, Bool, true, false, ◌||◌, List, [], ◌∷◌, Option, Some, None, option_map, IfSome}
-use Rattle.std.proofs.Common.{refl, sym, ap, ◌∙◌, arith, ◌-◌, length, length-drop, get_or, drop, drop-cons, take, add-one}
+use Rattle.std.proofs.Common.{refl, sym, ap, ◌∙◌, arith, ◌-◌, length, length-drop, drop, take}
 use Rattle.keyed.proofs.Mapped.{take_all}
 use Rattle.std.specs.List.{list_any}
 use Rattle.std.specs.FinMap.{FinMap}

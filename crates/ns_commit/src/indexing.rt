@@ -40,7 +40,8 @@ pub(crate) fn commit_index(
 )
     requires { HasIndexRoom changes.now live.old }
     ensures index { IsRightFor (owners tenant_of table.now) live.old →
-        IsRightFor (changed_owners settled_tenant changes.now (owners tenant_of table.now)) live.new }
+        IsRightFor (changed_owners settled_tenant changes.now (owners tenant_of table.now))
+        live.new }
     ensures shown { let before = owners tenant_of table.now in
         let after = changed_owners settled_tenant changes.now before in
         ShowsUnmoved (allocation_in before) (allocation_in after) live.old live.new }

@@ -45,7 +45,8 @@ pub(crate) trait Owner<OwnerChange: Drop>: Drop {
         ensures { seen self.new ≡ changed (seen self.old) change };
 
     /// Slots and room decide nothing of it.
-    ghost carries: { (x : OwnerChange) (a b : Self) → seen b ≡ seen a → CanChange x a → CanChange x b };
+    ghost carries: { (x : OwnerChange) (a b : Self) → seen b ≡ seen a →
+        CanChange x a → CanChange x b };
 }
 
 /// Makes room for what changes of the owner, if it is there.

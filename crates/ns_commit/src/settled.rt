@@ -71,7 +71,8 @@ pub fn commit(tables: &mut Tables, live: &mut Live, settled: Settled)
     requires room { HasRoom settled tables.old }
     requires index_room { HasIndexRoom settled.tenants live.old }
     ensures world { world_of tables.new ≡ settled_world (world_of tables.old) settled }
-    ensures index { IsRight (world_of tables.old) live.old → IsRight (world_of tables.new) live.new }
+    ensures index { IsRight (world_of tables.old) live.old →
+        IsRight (world_of tables.new) live.new }
 {
     let Settled {
         tenants,
@@ -99,7 +100,8 @@ pub fn commit(tables: &mut Tables, live: &mut Live, settled: Settled)
 pub fn apply(tables: &mut Tables, live: &mut Live, settled: Settled) -> Result<(), AllocError>
     requires { Fits (world_of tables.old) settled }
     ensures ok { OnOk result (world_of tables.new ≡ settled_world (world_of tables.old) settled) }
-    ensures index { IsRight (world_of tables.old) live.old → IsRight (world_of tables.new) live.new }
+    ensures index { IsRight (world_of tables.old) live.old →
+        IsRight (world_of tables.new) live.new }
     ensures err { OnErr result (world_of tables.new ≡ world_of tables.old) }
     ensures keys { OnErr result (KeepsKeys live.old live.new) }
     ensures cleared { OnErr result (AreCleared settled tables.new) }

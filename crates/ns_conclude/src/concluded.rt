@@ -22,7 +22,8 @@ fn make(tables: &mut Tables, live: &mut Live, change: Change) -> Result<(), Allo
     requires { is_past_bound (settle (world_of tables.old) (view tables.old change)) ≡ false }
     ensures ok { OnOk result (world_of tables.new
         ≡ settle (world_of tables.old) (view tables.old change)) }
-    ensures index { IsRight (world_of tables.old) live.old → IsRight (world_of tables.new) live.new }
+    ensures index { IsRight (world_of tables.old) live.old →
+        IsRight (world_of tables.new) live.new }
     ensures err { OnErr result (world_of tables.new ≡ world_of tables.old) }
     ensures keys { OnErr result (KeepsKeys live.old live.new) }
 {
@@ -37,7 +38,8 @@ pub fn conclude(tables: &mut Tables, live: &mut Live, change: Change) -> Result<
     requires { is_past_bound (world_of tables.old) ≡ false }
     ensures world { Concludes (world_of tables.old) (view tables.old change) result
         (world_of tables.new) }
-    ensures index { IsRight (world_of tables.old) live.old → IsRight (world_of tables.new) live.new }
+    ensures index { IsRight (world_of tables.old) live.old →
+        IsRight (world_of tables.new) live.new }
     ensures keys { OnErr result (KeepsKeys live.old live.new) }
 {
     if is_past_bound(tables, &change) {

@@ -1,5 +1,5 @@
 -- What is read is within the limits.
-use Rattle.std.proofs.Common.{◌≡◌, ℕ, ◌+◌, ◌≤◌, ◌==◌, ℤ, pos, negsuc, List, [], ◌∷◌, ◌++◌, length, Bool, true, false, not, ◌&&◌, ◌||◌, nat_le, Option, Some}
+use Rattle.std.proofs.Common.{◌≡◌, ℕ, ◌≤◌, ◌==◌, ℤ, pos, negsuc, List, [], ◌∷◌, ◌++◌, length, Bool, true, false, not, ◌&&◌, ◌||◌, nat_le, Option, Some}
 use Rattle.std.proofs.Common.{None, is_some, IfOk, codes, if◌then◌else◌, refl, sym, ◌∙◌, true≢false, arith, length-append, option_and_then}
 use Rattle.std.specs.Bool.{IsTrue}
 use Rattle.std.specs.List.{list_all, list_any}

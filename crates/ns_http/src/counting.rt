@@ -1,5 +1,5 @@
 //! Readers and writers that count their faults.
-ghost use Rattle.std.specs.Prelude.{◌≡◌, ◌<◌, nat_lt, length};
+ghost use Rattle.std.specs.Prelude.{◌≡◌, nat_lt, length};
 ghost use Rattle.std.specs.Io.{ReadsAtMost, WritesAtMost};
 ghost use Rattle.ns_http.specs.Counts.{HasGrown, no_counts, is_interruption, after_call, after_read, after_write};
 

@@ -106,7 +106,8 @@ impl<A: Allocator> Connection<A> {
         ensures ok { IfOk result (λ step. MakesStep H.answers W.contents
             handler.old handler.new writer.old writer.new self.old self.new step) }
         ensures err { OnErr result
-            (CutsStepShort H.answers W.contents handler.old handler.new writer.old writer.new self.old) }
+            (CutsStepShort H.answers W.contents handler.old handler.new
+            writer.old writer.new self.old) }
         ensures failed { OnErr result (IsWriteFault writer.old.counts writer.new.counts) }
         ensures grows { HasGrown writer.old.counts writer.new.counts }
         ensures open { OnOk result (IsOpen writer.old.counts → IsOpen writer.new.counts) }
@@ -149,7 +150,8 @@ impl<A: Allocator> Connection<A> {
         ensures ok { IfOk result (λ wanted. AnswersAll H.answers W.contents
             handler.old handler.new writer.old writer.new self.old self.new wanted) }
         ensures err { OnErr result
-            (CutsAnswersShort H.answers W.contents handler.old handler.new writer.old writer.new self.old) }
+            (CutsAnswersShort H.answers W.contents handler.old handler.new
+            writer.old writer.new self.old) }
         ensures failed { OnErr result (IsWriteFault writer.old.counts writer.new.counts) }
         ensures grows { HasGrown writer.old.counts writer.new.counts }
         ensures open { OnOk result (IsOpen writer.old.counts → IsOpen writer.new.counts) }

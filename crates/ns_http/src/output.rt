@@ -128,7 +128,8 @@ impl<A: Allocator> Output<A> {
     pub(crate) fn flush<W: Write>(&mut self, writer: &mut Counted<W>) -> Result<(), WriteFault>
         ensures empty { OnOk result (waiting self.new ≡ []) }
         ensures ok { OnOk result (WritesAll W.contents writer.old writer.new (waiting self.old)) }
-        ensures err { OnErr result (WritesPart W.contents writer.old writer.new (waiting self.old)) }
+        ensures err { OnErr result
+            (WritesPart W.contents writer.old writer.new (waiting self.old)) }
         ensures failed { OnErr result (IsWriteFault writer.old.counts writer.new.counts) }
         ensures grows { HasGrown writer.old.counts writer.new.counts }
         ensures open { OnOk result (IsOpen writer.old.counts → IsOpen writer.new.counts) }
@@ -147,7 +148,8 @@ impl<A: Allocator> Output<A> {
     ) -> Result<(), WriteFault>
         ensures room { OnOk result (vec_len self.new.bytes + 512 ≤ OUTPUT_LEN) }
         ensures ok { OnOk result (Sends W.contents writer.old writer.new self.old self.new []) }
-        ensures err { OnErr result (WritesPart W.contents writer.old writer.new (waiting self.old)) }
+        ensures err { OnErr result
+            (WritesPart W.contents writer.old writer.new (waiting self.old)) }
         ensures failed { OnErr result (IsWriteFault writer.old.counts writer.new.counts) }
         ensures grows { HasGrown writer.old.counts writer.new.counts }
         ensures open { OnOk result (IsOpen writer.old.counts → IsOpen writer.new.counts) }
@@ -170,7 +172,8 @@ impl<A: Allocator> Output<A> {
         ensures ok { OnOk result
             (Sends W.contents writer.old writer.new self.old self.new (wire_of reply.now close)) }
         ensures err { OnErr result
-            (WritesPart W.contents writer.old writer.new (waiting self.old ++ wire_of reply.now close)) }
+            (WritesPart W.contents writer.old writer.new
+            (waiting self.old ++ wire_of reply.now close)) }
         ensures failed { OnErr result (IsWriteFault writer.old.counts writer.new.counts) }
         ensures grows { HasGrown writer.old.counts writer.new.counts }
         ensures open { OnOk result (IsOpen writer.old.counts → IsOpen writer.new.counts) }

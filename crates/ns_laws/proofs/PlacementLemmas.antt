@@ -3,11 +3,9 @@ use Rattle.std.specs.Prelude.{◌≡◌, ℕ, ◌-◌, ◌<◌, ◌≤◌, Bool,
 use Rattle.std.specs.Prelude.{IsFalse, ◌||◌, ◌==◌, ◌⊎◌, nat_le, max, fold, sum_by, ◌&&◌, ◌+◌, ◌∷◌}
 use Rattle.std.specs.declared.cmp.Ordering.{Ordering}
 use Rattle.std.proofs.Common.{refl, sym, ap, ◌∙◌, arith, Less, Equal, is_lt, subst, inl, inr}
-use Rattle.std.specs.Cmp.{IsStrictWeakOrder, nat_cmp_is}
+use Rattle.std.specs.Cmp.{nat_cmp_is}
 use Rattle.std.specs.Ordering.{nat_cmp, ordering_then}
 use Rattle.std.proofs.lemmas.Bool.{leb-true, le-leb, eq-eqb, cases_lt}
-use Rattle.std.proofs.lemmas.Cmp.{then_total, on_total, nat_cmp_total, nat_list_cmp_total}
-use Rattle.std.proofs.lemmas.List.MinMax.{ranks_by}
 use Rattle.std.proofs.lemmas.Option.{none-some, same_Some}
 use Rattle.ns_types.specs.declared.resources.Resources.{Resources}
 use Rattle.ns_types.specs.declared.snapshot.LiveAllocation.{LiveAllocation}
@@ -16,6 +14,7 @@ use Rattle.ns_types.specs.State.Names.{name_cmp}
 use Rattle.ns_types.specs.Placing.Placement.{Candidate, fits, better, best_fit}
 use Rattle.ns_types.specs.Placing.Preemption.{makes_room, victims, highest_priority, cheaper, best_victims}
 use Rattle.std.proofs.lemmas.Bool.{or_right}
+use Rattle.ns_types.proofs.Choosing.{better_order, cheaper_order}
 use Rattle.ns_types.proofs.Lists.{not_both, each_map}
 use Rattle.ns_types.proofs.Named.{first_of_both, second_of_both}
 use Rattle.ns_types.proofs.Elements.{each_both}
@@ -29,20 +28,6 @@ use Rattle.std.specs.List.{list_any}
 use Rattle.ns_types.specs.State.Resources.{is_within}
 
 -- ---- orders
-
-pub better_order : (size : Resources) → IsStrictWeakOrder (better size)
-better_order size =
-    ranks_by
-    (then_total (on_total (λ (c : Candidate). c.left.cpu - size.cpu) nat_cmp_total)
-    (then_total (on_total (λ (c : Candidate). c.left.memory - size.memory) nat_cmp_total) (on_total (λ (c : Candidate). c.name) nat_list_cmp_total)))
-    (λ (c : Candidate). c)
-
-pub cheaper_order : (size : Resources) → IsStrictWeakOrder (cheaper size)
-cheaper_order size =
-    ranks_by
-    (then_total (on_total (λ (c : Candidate). highest_priority (unwrap_or (victims size c) [])) nat_cmp_total)
-    (then_total (on_total (λ (c : Candidate). length (unwrap_or (victims size c) [])) nat_cmp_total) (on_total (λ (c : Candidate). c.name) nat_list_cmp_total)))
-    (λ (c : Candidate). c)
 
 less_is : (a b : ℕ) → a < b → nat_cmp a b ≡ Less
 less_is a b h = sym (nat_cmp_is a b Less h)

@@ -9,13 +9,13 @@ use Rattle.ns_types.specs.declared.node.Node.{Node}
 use Rattle.ns_types.specs.declared.resources.Resources.{Resources}
 use Rattle.ns_types.specs.State.Limits.{is_amount}
 use Rattle.ns_types.specs.State.Names.{Name, Key, same_name}
-use Rattle.ns_types.specs.State.Resources.{is_within}
+use Rattle.ns_types.specs.State.Resources.{IsCounted, is_within}
 use Rattle.ns_types.specs.State.Rows.{World, Tenant, PoolRows, allocation_at, is_live, is_live_on, node_at}
 use Rattle.ns_types.specs.State.Sums.{node_load}
 use Rattle.ns_types.specs.Validity.{IsSound}
 use Rattle.ns_types.proofs.Named.{first_of_both, same_name_is, second_of_both}
 use Rattle.ns_types.proofs.Tests.{not_Some}
-use Rattle.ns_live.specs.Loads.{IsCounted, IsWithinNodes}
+use Rattle.ns_live.specs.Loads.{IsWithinNodes}
 use Rattle.keyed.proofs.Levels.{not_true}
 use Rattle.ns_live.proofs.Loaded.{nothing_there}
 

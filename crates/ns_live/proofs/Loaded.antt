@@ -11,6 +11,7 @@ use Rattle.ns_types.specs.State.Names.{Name, Key, ByNumber}
 use Rattle.ns_types.specs.State.Rows.{World, Tenant, allocation_at, is_live_on}
 use Rattle.ns_types.specs.State.Sums.{node_load, node_sum, tenant_sum}
 use Rattle.ns_types.proofs.Named.{names, numbers, one_name, one_number}
+use Rattle.ns_types.proofs.Sums.{sum_none, sum_same}
 use Rattle.ns_types.proofs.Tables.{each_row}
 use Rattle.ns_world.specs.declared.tables.Tables.{Tables}
 use Rattle.ns_world.specs.declared.tables.TenantRows.{TenantRows}
@@ -20,7 +21,7 @@ use Rattle.keyed.specs.declared.key_set.KeySet.{KeySet}
 use Rattle.keyed.specs.Levels.{holds_key}
 use Rattle.ns_live.specs.Loads.{each_resource, keys_amount, namespace_amount, number_amount, numbers_amount}
 use Rattle.keyed.proofs.Levels.{none_there}
-use Rattle.ns_live.proofs.Sums.{sum_alike, sum_at_keys, sum_none}
+use Rattle.ns_live.proofs.Sums.{sum_at_keys}
 
 module _ (w : World) (pool node : Name) (amount : Resources → ℕ) where
   abbrev live : Allocation → Bool
@@ -73,7 +74,7 @@ module _ (w : World) (pool node : Name) (amount : Resources → ℕ) where
 
     rows_counted : sum_by (λ e. counted e.0 e.1) (entries (rows rows_of)) ≡ numbers_amount rows_of held amount
     rows_counted = sum_at_keys numbers one_number counted (rows rows_of) held idle
-        ∙ sum_alike (λ e. option_map_or (counted e.0) (get (rows rows_of) e.0) 0) (number_amount rows_of amount) (entries held)
+        ∙ sum_same (λ e. option_map_or (counted e.0) (get (rows rows_of) e.0) 0) (number_amount rows_of amount) (entries held)
         (each_row numbers one_number (λ n slot. option_map_or (counted n) (get (rows rows_of) n) 0 ≡ number_amount rows_of amount (n, slot)) held at_number)
 
 -- ---- all namespaces
@@ -113,7 +114,7 @@ module _ (t : Tables) (pool node : Name) (amount : Resources → ℕ) where
     unfolding node_sum
     loaded = sum_at_keys names one_name (λ _ tenant. tenant_sum on amount tenant) (world_of t).tenants keys.numbers
         (λ ns tenant at out. nothing_in (world_of t) pool node amount ns tenant at (none_held ns (ap flat (none_there (get keys.numbers ns) out))))
-        ∙ sum_alike (λ e. option_map_or (λ tenant. tenant_sum on amount tenant) (get (world_of t).tenants e.0) 0) (namespace_amount t.tenants amount)
+        ∙ sum_same (λ e. option_map_or (λ tenant. tenant_sum on amount tenant) (get (world_of t).tenants e.0) 0) (namespace_amount t.tenants amount)
         (entries keys.numbers)
         (each_row names one_name (λ ns slot. option_map_or (λ tenant. tenant_sum on amount tenant) (get (world_of t).tenants ns) 0
         ≡ namespace_amount t.tenants amount (ns, slot)) keys.numbers at_namespace)

@@ -1,6 +1,6 @@
 -- Sums over a table's rows, told of the keys of another.
 use Rattle.std.specs.Prelude.{◌≡◌, ℕ, ◌+◌, false, cond, List, [], ◌∷◌, map, Option, Some, None, is_some, option_map, sum_by}
-use Rattle.std.proofs.Common.{refl, sym, ap, arith, zero-add, ◌∙◌}
+use Rattle.std.proofs.Common.{refl, sym, ap, zero-add, ◌∙◌}
 use Rattle.std.proofs.lemmas.List.Sums.{sum_by-cons}
 use Rattle.std.specs.declared.cmp.Ordering.{Ordering}
 use Rattle.std.specs.Cmp.{IsTotalOrder}
@@ -8,28 +8,8 @@ use Rattle.std.specs.FinMap.{FinMap, IsAntisymmetric, contains_key, entries, get
 use Rattle.std.specs.Option.{option_map_or}
 use Rattle.keyed.specs.Table.{flat, row_list, rows}
 use Rattle.keyed.proofs.Tables.{entries-rows, get-rows}
-use Rattle.ns_types.specs.State.Lists.{Each}
 use Rattle.ns_types.specs.State.Tables.{table_of}
 use Rattle.ns_types.proofs.Tables.{entries-table_of, get-retain, get-table_of, sum-retain}
-
-module _ {A : Type 0} where
-  -- elements that count alike
-  pub sum_alike : (f g : A → ℕ) (xs : List A) → Each (λ x. f x ≡ g x) xs → sum_by f xs ≡ sum_by g xs
-  sum_alike f g [] h = refl
-  sum_alike f g (x ∷ xs) h =
-      let left = sum_by-cons f x xs in
-      let right = sum_by-cons g x xs in
-      let here = h.0 in
-      let rest = sum_alike f g xs h.1 in
-      omega (arith, left, right, here, rest)
-
-  pub sum_none : (f : A → ℕ) (xs : List A) → Each (λ x. f x ≡ 0) xs → sum_by f xs ≡ 0
-  sum_none f [] h = refl
-  sum_none f (x ∷ xs) h =
-      let whole = sum_by-cons f x xs in
-      let here = h.0 in
-      let rest = sum_none f xs h.1 in
-      omega (arith, whole, here, rest)
 
 module _ {K X C : Type 0} (f : K → X → ℕ) (look : K → Option X) where
   sum_looked : (es : List (K × C)) →

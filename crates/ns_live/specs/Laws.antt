@@ -6,13 +6,13 @@ use Rattle.ns_types.specs.declared.step.AdminCommand.{AdminCommand}
 use Rattle.ns_types.specs.Asking.Policies.{administer}
 use Rattle.ns_types.specs.Settling.Outcome.{Changes}
 use Rattle.ns_types.specs.State.Names.{Name}
+use Rattle.ns_types.specs.State.Resources.{IsCounted}
 use Rattle.ns_types.specs.State.Rows.{State, World}
 use Rattle.ns_types.specs.State.Sums.{node_load}
 use Rattle.ns_types.specs.Steps.{opening}
 use Rattle.ns_types.specs.Validity.{IsSound}
 use Rattle.ns_live.specs.declared.live.Live.{Live}
 use Rattle.ns_live.specs.Index.{IsEmpty, IsRight}
-use Rattle.ns_live.specs.Loads.{IsCounted}
 
 -- nothing is live or shown at first
 abbrev pub EmptyIsRightAtFirst : Type 0

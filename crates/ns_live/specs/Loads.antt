@@ -1,5 +1,5 @@
 -- What the rows at an index' keys take together. Each sum is told of one resource at a time.
-use Rattle.std.specs.Prelude.{◌≡◌, ℕ, ◌<◌, ◌^◌, true, IsTrue, Option, Some, None, is_some, sum_by}
+use Rattle.std.specs.Prelude.{◌≡◌, ℕ, true, IsTrue, Option, Some, None, is_some, sum_by}
 use Rattle.std.specs.Option.{option_map_or}
 use Rattle.std.specs.FinMap.{entries}
 use Rattle.keyed.specs.Table.{row_at}
@@ -16,10 +16,6 @@ use Rattle.keyed.specs.declared.key_set.KeySet.{KeySet}
 
 abbrev pub each_resource : ((Resources → ℕ) → ℕ) → Resources
 each_resource sum = record { cpu = sum (λ r. r.cpu); memory = sum (λ r. r.memory) }
-
--- the amounts fit 64 bits
-abbrev pub IsCounted : Resources → Type 0
-IsCounted r = (r.cpu < 2 ^ 64) × (r.memory < 2 ^ 64)
 
 -- what of a valid world keeps each node's load from passing 64 bits: live allocations are on nodes that are there, and
 -- these have room for them and offer no more than they may

@@ -2,10 +2,10 @@
 
 ghost use Rattle.std.specs.Prelude.{◌≡◌, ℕ, false, IsTrue, OnErr, OnOk, Option, Some, is_some, option_copied};
 ghost use Rattle.std.specs.Option.{option_map_or};
-ghost use Rattle.std.specs.FinMap.{empty};
 ghost use Rattle.keyed.specs.Table.{row_at};
 ghost use Rattle.ns_types.specs.declared.allocation.Allocation.{Allocation};
 ghost use Rattle.ns_types.specs.State.Names.{Key, Name, same_key, same_name};
+ghost use Rattle.ns_types.specs.State.Resources.{IsCounted};
 ghost use Rattle.ns_types.specs.State.Rows.{is_live, is_live_on};
 ghost use Rattle.ns_types.specs.State.Sums.{node_load};
 ghost use Rattle.ns_live.specs.Index.{AddsRow, HasRoomFor, HasRoomForAll, Indexes, IsEmpty, IsRight};
@@ -13,17 +13,16 @@ ghost use Rattle.ns_live.specs.Index.{KeepsKeys, KeepsRoom};
 ghost use Rattle.ns_live.specs.Index.{has_room, holds, with_changes, with_row};
 ghost use Rattle.keyed.specs.Levels.{Adds, Drops, Keeps, holds_key, same_at};
 ghost use Rattle.ns_live.specs.Levels.{holds_in_pool, has_pool_room};
-ghost use Rattle.ns_live.specs.Loads.{IsCounted};
 ghost use Rattle.ns_live.specs.Shown.{ForgetsNodes, KeepsShown, ShowsSame, ShowsThere, ShowsUnmoved, shown_at};
 ghost use Rattle.ns_world.specs.World.{world_of};
 
-use crate::loads::{keys_load, none};
+use crate::loads::keys_load;
 use crate::pool_keys::PoolKeys;
 use crate::shown::ShownNodes;
 use keyed::{KeySet, NameTable, NumberTable};
 use ns_types::allocation::Allocation;
 use ns_types::node::Node;
-use ns_types::resources::Resources;
+use ns_types::resources::{Resources, none};
 use ns_types::shared::Shared;
 use ns_types::snapshot::PoolNode;
 use ns_types::text::{Text, same_text};
@@ -94,7 +93,8 @@ impl Live {
         ensures shown { (row_of : Key → Option Allocation) →
             row_of (namespace.now, number) ≡ option_copied before.entry →
             ShowsUnmoved row_of
-            (with_row (namespace.now, number) (option_copied after.entry) row_of) self.old self.new }
+            (with_row (namespace.now, number) (option_copied after.entry) row_of)
+            self.old self.new }
         ensures room { (pool : Name) (node : Name) (key : Key) →
             same_key key (namespace.now, number) ≡ false →
             IsTrue (has_room self.old pool node key) → IsTrue (has_room self.new pool node key) }
@@ -230,7 +230,8 @@ impl Live {
     /// Holds the key where the row is live. It takes no memory.
     fn add(&mut self, namespace: &Text, number: u64, row: Option<&Allocation>)
         requires { HasRoomFor self.old (namespace.now, number) (option_copied row) }
-        ensures added { AddsRow (namespace.now, number) (option_copied row.entry) self.old self.new }
+        ensures added { AddsRow (namespace.now, number) (option_copied row.entry)
+            self.old self.new }
         ensures shown { KeepsShown self.old self.new }
     {
         if let Some(row) = row {

@@ -1,31 +1,15 @@
 //! What the rows at an index' keys take together.
 
 ghost use Rattle.std.specs.Prelude.{◌≡◌};
-ghost use Rattle.ns_types.specs.State.Resources.{none, plus};
-ghost use Rattle.ns_live.specs.Loads.{IsCounted, each_resource, keys_amount};
+ghost use Rattle.ns_types.specs.State.Resources.{IsCounted};
+ghost use Rattle.ns_live.specs.Loads.{each_resource, keys_amount};
 ghost use Rattle.ns_live.specs.Loads.{namespace_amount, number_amount, numbers_amount};
 
 use keyed::{KeySet, NumberTable};
 use ns_types::allocation::Allocation;
-use ns_types::resources::Resources;
+use ns_types::resources::{Resources, none, plus};
 use ns_types::text::Text;
 use ns_world::Tables;
-
-pub(crate) fn none() -> Resources
-    ensures { result ≡ none }
-{
-    Resources { cpu: 0, memory: 0 }
-}
-
-fn plus(a: Resources, b: Resources) -> Resources
-    requires { IsCounted (plus a b) }
-    ensures { result ≡ plus a b }
-{
-    Resources {
-        cpu: a.cpu + b.cpu,
-        memory: a.memory + b.memory,
-    }
-}
 
 fn number_load(allocations: &NumberTable<Allocation>, slot: &(u64, Option<()>)) -> Resources
     ensures { result ≡ each_resource (λ amount. number_amount allocations.now amount slot.now) }

@@ -3,9 +3,9 @@ use Rattle.std.specs.Prelude.{List, [], ◌∷◌, Option, Some, None}
 use Rattle.ns_types.specs.declared.node.Node.{Node}
 use Rattle.ns_types.specs.declared.reply.NodeShown.{NodeShown}
 use Rattle.ns_types.specs.State.Names.{Name}
+use Rattle.ns_types.specs.State.Resources.{IsCounted}
 use Rattle.ns_types.specs.State.Rows.{World}
 use Rattle.ns_types.specs.State.Sums.{node_load}
-use Rattle.ns_live.specs.Loads.{IsCounted}
 
 -- a node with what the live allocations on it take
 abbrev pub node_shown : World → Name → Name × Node → NodeShown

@@ -5,7 +5,6 @@ ghost use Rattle.std.specs.FinMap.{len};
 ghost use Rattle.keyed.specs.Table.{rows};
 ghost use Rattle.ns_types.specs.declared.step.NodeCommand.TheVariants as NodeCommand;
 ghost use Rattle.ns_types.specs.Asking.Nodes.{ask_pool, most_nodes, with_offer};
-ghost use Rattle.ns_types.specs.State.Resources.{is_within};
 ghost use Rattle.ns_types.specs.State.Sums.{node_load};
 ghost use Rattle.ns_types.specs.Steps.{is_past_bound};
 ghost use Rattle.ns_change.specs.Prepared.{Prepares, bounded};
@@ -17,18 +16,12 @@ use keyed::NameTable;
 use ns_change::{Prepared, copied_offer};
 use ns_types::node::{Node, NodeStatus, Offer};
 use ns_types::refusal::Refusal;
-use ns_types::resources::Resources;
+use ns_types::resources::{Resources, is_within};
 use ns_types::text::Text;
 use ns_world::Tables;
 
 /// No pool has more nodes.
 const MOST_NODES: usize = 1000;
-
-fn is_within(load: Resources, capacity: Resources) -> bool
-    ensures { result ≡ is_within load capacity }
-{
-    load.cpu <= capacity.cpu && load.memory <= capacity.memory
-}
 
 /// A new node is ready and eligible. One that is there offers something else from now on.
 fn with_offer(offer: Offer, old: Option<&Node>) -> Node

@@ -1,5 +1,4 @@
 pub mod Best
-pub mod Better
 pub mod Prefix
 pub mod Ranks
 pub mod Sums

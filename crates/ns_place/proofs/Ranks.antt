@@ -19,10 +19,10 @@ use Rattle.ns_types.specs.declared.resources.Resources.{Resources}
 use Rattle.ns_types.specs.Placing.Placement.{Candidate, fits, better, compare_left}
 use Rattle.ns_types.specs.State.Names.{name_cmp}
 use Rattle.ns_types.specs.State.Resources.{minus}
+use Rattle.ns_types.proofs.Choosing.{left_total}
 use Rattle.ns_types.proofs.Named.{names}
 use Rattle.ns_place.specs.declared.order.Rank.{Rank}
 use Rattle.ns_place.specs.Order.{walk, Precedes, IsOrder, compare_ranks, nodes, IsRankOf, AreRanks}
-use Rattle.ns_place.proofs.Better.{left_total}
 
 ranks_total : IsTotalOrder compare_ranks
 ranks_total =

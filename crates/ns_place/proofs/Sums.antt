@@ -2,8 +2,7 @@
 use Rattle.std.proofs.Common.{ℕ, ◌+◌, ◌<◌, ◌≤◌, ◌≡◌, List, length, take, drop, get_or, sum_by, arith, ap}
 use Rattle.std.proofs.lemmas.List.Sums.{sum_by_more, sum_by_more_le, sum_by-take-drop}
 use Rattle.ns_types.specs.declared.resources.Resources.{Resources}
-use Rattle.ns_types.specs.State.Resources.{plus, minus, total}
-use Rattle.ns_place.specs.Amounts.{IsCounted}
+use Rattle.ns_types.specs.State.Resources.{IsCounted, minus, plus, total}
 
 same_amounts : (a b : Resources) → a.cpu ≡ b.cpu → a.memory ≡ b.memory → a ≡ b
 same_amounts a b e f = rw (e, f)

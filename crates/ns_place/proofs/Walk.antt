@@ -13,11 +13,11 @@ use Rattle.std.proofs.lemmas.List.Elements.{All-head, All-tail, All-cons, All-ni
 use Rattle.ns_types.specs.declared.resources.Resources.{Resources}
 use Rattle.ns_types.specs.Placing.Placement.{Candidate, fits, better, best_fit}
 use Rattle.ns_types.specs.Placing.Planning.{placed_on, update}
+use Rattle.ns_types.proofs.Choosing.{better_order}
 use Rattle.ns_types.proofs.Named.{names}
 use Rattle.ns_place.specs.Laws.{ChangedAloneIsOrder, NextKeepsOrder}
 use Rattle.ns_place.specs.Order.{Walk, walk, Precedes, IsOrder, IsNextNode}
 use Rattle.ns_place.proofs.Best.{best_all, irreflexive}
-use Rattle.ns_place.proofs.Better.{better_order}
 
 itself : (size : Resources) (c : Candidate) → better size c c ≡ false
 itself size c = irreflexive (better size) (better_order size) c

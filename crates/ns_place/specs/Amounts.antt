@@ -1,13 +1,9 @@
 -- Amounts that the program can count with.
-use Rattle.std.specs.Prelude.{◌<◌, ◌^◌, List}
+use Rattle.std.specs.Prelude.{List}
 use Rattle.ns_types.specs.declared.resources.Resources.{Resources}
 use Rattle.ns_types.specs.declared.snapshot.LiveAllocation.{LiveAllocation}
-use Rattle.ns_types.specs.State.Resources.{plus, total}
+use Rattle.ns_types.specs.State.Resources.{IsCounted, plus, total}
 
--- the amounts fit 64 bits
-abbrev pub IsCounted : Resources → Type 0
-IsCounted r = (r.cpu < 2 ^ 64) × (r.memory < 2 ^ 64)
-
--- so does what is left together with all that evictions can free
+-- what is left together with all that evictions can free
 abbrev pub IsCountedFreed : Resources → List LiveAllocation → Type 0
 IsCountedFreed left evictable = IsCounted (plus left (total (λ a. a.size) evictable))

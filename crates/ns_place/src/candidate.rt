@@ -5,8 +5,8 @@ ghost use Rattle.ns_types.specs.Placing.Planning.{placed_on};
 ghost use Rattle.ns_types.specs.Placing.Preemption.{makes_room};
 ghost use Rattle.ns_place.specs.Amounts.{IsCountedFreed};
 
-use crate::amounts::{minus, plus, total};
-use ns_types::resources::Resources;
+use crate::amounts::total;
+use ns_types::resources::{Resources, minus, plus};
 use ns_types::snapshot::LiveAllocation;
 use ns_types::text::Text;
 use std::marker::Model;

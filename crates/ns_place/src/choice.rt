@@ -3,9 +3,8 @@
 ghost use Rattle.std.specs.Prelude.{◌≡◌, IsTrue};
 ghost use Rattle.ns_types.specs.Placing.Placement.{best_fit, better, fits};
 
-use crate::amounts::{is_within, minus};
 use crate::candidate::Candidate;
-use ns_types::resources::Resources;
+use ns_types::resources::{Resources, is_within, minus};
 
 /// Whether the job may use the node, and the size has room there.
 pub(crate) fn fits(candidate: &Candidate<'_>, size: Resources) -> bool

@@ -8,7 +8,6 @@ mod constraints;
 pub mod laws;
 mod order;
 
-pub use amounts::{is_within, minus, plus};
 pub use candidate::Candidate;
 pub use choice::best_node;
 pub use constraints::feasible;

@@ -7,10 +7,9 @@ ghost use Rattle.std.specs.List.{HoldsAt};
 ghost use Rattle.ns_types.specs.Placing.Placement.{best_fit, fits};
 ghost use Rattle.ns_place.specs.Order.{AreRanks, IsNextNode, IsOrder, compare_ranks, nodes, walk};
 
-use crate::amounts::minus;
 use crate::candidate::Candidate;
 use crate::choice::fits;
-use ns_types::resources::Resources;
+use ns_types::resources::{Resources, minus};
 use ns_types::text::Text;
 use std::alloc::{AllocError, Global};
 use std::cmp::Ordering;

@@ -1,6 +1,6 @@
 //! The JSON form of rules.
 
-ghost use Rattle.std.specs.Prelude.{◌≡◌, [], option_map};
+ghost use Rattle.std.specs.Prelude.{◌≡◌, option_map};
 ghost use Rattle.serde_json.specs.View.{view, items_view, members_view};
 ghost use Rattle.ns_policy.specs.Rules.{Gives, same};
 ghost use Rattle.serde_json.specs.Find.{as_array};

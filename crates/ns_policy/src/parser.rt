@@ -1,6 +1,6 @@
 //! Reading rules: one token after the other.
 
-ghost use Rattle.std.specs.Prelude.{◌≡◌, Ok, []};
+ghost use Rattle.std.specs.Prelude.{◌≡◌, Ok};
 ghost use Rattle.ns_policy.specs.Tokens.{seen};
 ghost use Rattle.ns_policy.specs.Rules.{Gives, same};
 ghost use Rattle.ns_policy.specs.Grammar.{role_of, start, at, blocks, read_on, next, finish, step, with_rule, step_item, step_name, step_label, step_value, step_before, step_after, close_list, set_policy, begin_capabilities, add_capability, enter, leave, named, is_flag};

@@ -1,7 +1,6 @@
 //! What the words of a rule give, and on which names.
 
 ghost use Rattle.std.specs.Prelude.{◌≡◌};
-ghost use Rattle.ns_types.specs.Access.Rights.{no_grants};
 ghost use Rattle.ns_policy.specs.Rules.{Gives, same, name_kind, namespace_policy, pool_policy, with_policy, namespace_capability, pool_capability, with_capability, pattern_of};
 
 use crate::fault::RuleFault;

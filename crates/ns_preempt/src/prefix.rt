@@ -4,8 +4,8 @@ ghost use Rattle.std.specs.Prelude.{◌≡◌, MatchOption, None};
 ghost use Rattle.ns_types.specs.Placing.Preemption.{victims};
 ghost use Rattle.ns_preempt.specs.Fewest.{IsFewest};
 
-use ns_place::{Candidate, is_within, plus};
-use ns_types::resources::Resources;
+use ns_place::Candidate;
+use ns_types::resources::{Resources, is_within, plus};
 
 /// How many of those whom the job may evict on the node have to go, the first ones, so that the size has room. None
 /// where the job may not use the node, or where all of them are too few. It takes no memory.

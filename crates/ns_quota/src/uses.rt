@@ -5,7 +5,7 @@ ghost use Rattle.ns_types.specs.State.Resources.{is_within, limit_allows, limits
 ghost use Rattle.ns_quota.specs.Totals.{Charges, Releases, total_of};
 
 use keyed::NameTable;
-use ns_types::resources::{Limit, Limits, Resources};
+use ns_types::resources::{Limit, Limits, Resources, minus, none, plus};
 use ns_types::text::Text;
 use std::alloc::{AllocError, Global};
 use std::marker::Model;
@@ -64,7 +64,7 @@ impl Uses {
     {
         match self.totals.get(quota) {
             Some(total) => *total,
-            None => Resources { cpu: 0, memory: 0 },
+            None => none(),
         }
     }
 
@@ -77,10 +77,7 @@ impl Uses {
     {
         let used = self.use_of(quota);
         self.totals.reserve(quota)?;
-        let total = Resources {
-            cpu: used.cpu + amount.cpu,
-            memory: used.memory + amount.memory,
-        };
+        let total = plus(used, amount);
         self.totals.set(quota, total);
         Ok(())
     }
@@ -93,10 +90,7 @@ impl Uses {
         ensures nothing_kept { total_of self.new quota.now ≡ none → get self.new quota.now ≡ None }
     {
         let used = self.use_of(quota);
-        let left = Resources {
-            cpu: used.cpu - amount.cpu,
-            memory: used.memory - amount.memory,
-        };
+        let left = minus(used, amount);
         if left.cpu == 0 && left.memory == 0 {
             self.totals.remove(quota);
         } else if let Some(total) = self.totals.get_mut(quota) {

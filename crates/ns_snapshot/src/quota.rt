@@ -1,13 +1,13 @@
 //! The namespace's quota, as a snapshot has it.
 
-ghost use Rattle.std.specs.Prelude.{◌≡◌, ◌++◌, IfOk, OnOk, flat_map, option_copied, option_map};
+ghost use Rattle.std.specs.Prelude.{◌≡◌, ◌++◌, IfOk, OnOk, flat_map};
 ghost use Rattle.std.specs.Option.{option_and_then};
 ghost use Rattle.ns_types.specs.State.Resources.{limits_in};
 ghost use Rattle.ns_types.specs.State.Sums.{quota_use};
 ghost use Rattle.ns_types.specs.Working.Snapshot.{namespaces_naming, quota_seen};
 ghost use Rattle.ns_jobs.specs.Read.{UseFits};
 ghost use Rattle.ns_snapshot.specs.Seen.{UseOfFits, naming};
-ghost use Rattle.ns_world.specs.World.{quota_of, tenant_of, world_of};
+ghost use Rattle.ns_world.specs.World.{tenant_of, world_of};
 
 use ns_admin::names_quota;
 use ns_alike::limits_in;

@@ -1,5 +1,7 @@
 pub mod Alike
+pub mod Choosing
 pub mod Classes
+pub mod Decided
 pub mod Elements
 pub mod Ids
 pub mod Leads

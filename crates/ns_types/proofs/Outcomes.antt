@@ -5,7 +5,16 @@ use Rattle.std.specs.Option.{option_map_or}
 use Rattle.std.specs.Result.{IsErrAnd}
 use Rattle.ns_types.specs.declared.refusal.Refusal.{Refusal}
 use Rattle.ns_types.specs.declared.reply.Content.{Content}
-use Rattle.ns_types.specs.Settling.Outcome.{Changes, Outcome, Refused, found, is_done, unless}
+use Rattle.ns_types.specs.Settling.Outcome.{Changes, NotEnabled, Outcome, Refused, found, is_done, unless}
+
+-- what a refused outcome is refused with
+abbrev pub refusal_of : {S : Type 0} → Refusal → Outcome S → Refusal
+refusal_of other (Refused refusal) = refusal
+refusal_of other _ = other
+
+abbrev pub is_enabled : {S : Type 0} → Outcome S → Bool
+is_enabled NotEnabled = false
+is_enabled _ = true
 
 module _ {S : Type 0} where
   -- want of memory, where the change would have been made

@@ -24,6 +24,14 @@ sum_same f g (x ∷ xs) h =
     let here = h.0 in
     omega (arith, first, second, rest, here)
 
+pub sum_none : {X : Type 0} (f : X → ℕ) (xs : List X) → Each (λ x. f x ≡ 0) xs → sum_by f xs ≡ 0
+sum_none f [] h = refl
+sum_none f (x ∷ xs) h =
+    let whole = sum_by-cons f x xs in
+    let here = h.0 in
+    let rest = sum_none f xs h.1 in
+    omega (arith, whole, here, rest)
+
 pub sum_flat : {A C : Type 0} (f : A → ℕ) (g : C → List A) (cs : List C) → sum_by f (flat_map g cs) ≡ sum_by (λ c. sum_by f (g c)) cs
 sum_flat f g [] = refl
 sum_flat f g (c ∷ cs) =

@@ -2,7 +2,7 @@
 
 ghost use Rattle.std.specs.Prelude.{◌≡◌, IsTrue, OnOk, option_copied};
 ghost use Rattle.std.specs.FinMap.{empty};
-ghost use Rattle.keyed.specs.Levels.{has_key_room, holds_key};
+ghost use Rattle.keyed.specs.Levels.{holds_key};
 ghost use Rattle.keyed.specs.Over.{over};
 ghost use Rattle.keyed.specs.Table.{rows, without_vacant};
 ghost use Rattle.ns_types.specs.State.Lists.{Each};

@@ -39,6 +39,7 @@ use Rattle.ns_audit.proofs.Alone.Evicting.{Standing, stopped_stands, evicted_sta
 use Rattle.ns_audit.proofs.Alone.Going.{Goes, goes_where}
 use Rattle.ns_audit.proofs.Alone.Summing.{quota_use_alone, node_load_alone}
 use Rattle.ns_audit.proofs.Alone.Working.{served_among, at_work_keeping}
+use Rattle.ns_types.proofs.Decided.{decide_world}
 use Rattle.ns_types.proofs.Elements.{each_first}
 
 goes_each : {A : Type 0} (part : Part) (b : Bool) (f : World → A → World) (P : A → Type 0) → ((x : A) → P x → GoesAlone part b (λ w. f w x)) → (xs : List A) →
@@ -94,20 +95,7 @@ Decides part w false c c' = alone_in part c.world ≡ alone_in part w
 
 module _ (part : Part) (kept : Snapshot) (placements : List Placement) where
   decided_stands : (c : Commit) (k : ℕ) → Standing part c.world → Standing part (decide kept placements c k).world
-  unfolding decide
-  decided_stands c k s = elim (accepts_at kept (evict_all c.world (victims_of c.world kept (part_of k placements))) (node_name kept k) (part_of k placements)
-      c.placed) as
-      (λ b. Standing part (cond b (record {
-        world = evict_all c.world (victims_of c.world kept (part_of k placements));
-        placed =
-            plus c.placed (size_of (part_of k placements));
-        committed = c.committed ++ k ∷ [];
-        dropped = c.dropped;
-      })
-      (record c { dropped = c.dropped ++ k ∷ [] })).world) [
-        | true ↦ evicted_stands part (victims_of c.world kept (part_of k placements)) c.world s
-        | false ↦ s
-      ]
+  decided_stands c k s = decide_world (Standing part) kept placements c k (evicted_stands part (victims_of c.world kept (part_of k placements)) c.world s) s
 
   -- the state without the victims of a node's part
   evicted_goes : (b : Bool) → part.pools kept.pool ≡ b → (w : World) → Standing part w → (ps : List Placement) →
@@ -151,20 +139,8 @@ module _ (part : Part) (kept : Snapshot) (placements : List Placement) where
 
   decide_other : part.pools kept.pool ≡ false → (c : Commit) (k : ℕ) → Standing part c.world →
       alone_in part (decide kept placements c k).world ≡ alone_in part c.world
-  unfolding decide
-  decide_other other c k s = elim (accepts_at kept (evict_all c.world (victims_of c.world kept (part_of k placements))) (node_name kept k)
-      (part_of k placements) c.placed) as
-      (λ b. alone_in part (cond b (record {
-        world = evict_all c.world (victims_of c.world kept (part_of k placements));
-        placed =
-            plus c.placed (size_of (part_of k placements));
-        committed = c.committed ++ k ∷ [];
-        dropped = c.dropped;
-      })
-      (record c { dropped = c.dropped ++ k ∷ [] })).world ≡ alone_in part c.world) [
-        | true ↦ evicted_goes false other c.world s (part_of k placements)
-        | false ↦ refl
-      ]
+  decide_other other c k s = decide_world (λ w. alone_in part w ≡ alone_in part c.world) kept placements c k
+      (evicted_goes false other c.world s (part_of k placements)) refl
 
   all_own : part.pools kept.pool ≡ true → part.spaces kept.namespace ≡ true → (ks : List ℕ) (c : Commit) → Standing part c.world →
       fold (decide kept placements) (alone_commit part c) ks ≡ alone_commit part (fold (decide kept placements) c ks)

@@ -14,8 +14,9 @@ use Rattle.ns_types.specs.Isolation.{Part, alone_in}
 use Rattle.ns_types.specs.State.Lists.{Each}
 use Rattle.ns_types.specs.Settling.Making.{put_tenant, change_tenant, with_desired}
 use Rattle.ns_types.specs.State.Names.{Name, same_name, same_number}
-use Rattle.ns_types.specs.State.Rows.{World, Tenant, is_live, is_run, is_held, is_live_on, allocation_at}
-use Rattle.ns_types.proofs.Lists.{not_both}
+use Rattle.ns_types.specs.State.Rows.{World, Tenant, is_live, is_run, is_held, is_live_on}
+use Rattle.ns_types.proofs.Decided.{victims_are}
+use Rattle.ns_types.proofs.Lists.{each_map, not_both}
 use Rattle.ns_types.proofs.Named.{names, one_name, numbers, one_number, same_name_is, first_of_both, second_of_both}
 use Rattle.ns_types.proofs.Tables.{get-retain}
 use Rattle.ns_types.proofs.TableRows.{row_of_insert}
@@ -138,13 +139,7 @@ evict_goes part b (v ∷ vs) h w = evict_goes part b vs h.1 (evict w v) ∙
 -- ---- the rows of victims
 
 pub rows_side : (P : Name → Type 0) (w : World) (vs : List Eviction) → Each (λ e. P e.namespace) vs → Each (λ v. P v.0) (filter_map (victim_at w) vs)
-rows_side P w [] h = tt
-rows_side P w (e ∷ vs) h = elim (allocation_at w (e.namespace, e.number)) as
-    (λ (o : Option Allocation). Each (λ (v : Victim). P v.0)
-    (cons_option {X = Victim} (option_map (λ a. (e.namespace, (e.number, a))) o) (filter_map (victim_at w) vs))) [
-      | Some a ↦ (h.0, rows_side P w vs h.1)
-      | None ↦ rows_side P w vs h.1
-    ]
+rows_side P w vs h = victims_are (λ v. P v.0) w vs (each_map (λ e side a at. side) vs h)
 
 pub rows_alone : (part : Part) (w : World) (vs : List Eviction) → Each (λ e. part.spaces e.namespace ≡ true) vs →
     filter_map (victim_at (alone_in part w)) vs ≡ filter_map (victim_at w) vs

@@ -1,5 +1,5 @@
 -- What steps do to evaluations and allocations leaves the rest of each namespace.
-use Rattle.std.specs.Prelude.{◌≡◌, ℕ, ◌+◌, Bool, true, false, cond, List, [], ◌∷◌, ◌++◌, Option, Some, None, fold, option_map}
+use Rattle.std.specs.Prelude.{◌≡◌, ℕ, ◌+◌, Bool, true, false, cond, List, [], ◌∷◌, Option, Some, None, fold, option_map}
 use Rattle.std.proofs.Common.{refl, sym, ap, ◌∙◌}
 use Rattle.std.specs.FinMap.{get, get-insert, insert}
 use Rattle.std.specs.Option.{option_map_or}
@@ -12,7 +12,7 @@ use Rattle.ns_types.specs.declared.node.Node.{Node}
 use Rattle.ns_types.specs.declared.plan.Eviction.{Eviction}
 use Rattle.ns_types.specs.declared.plan.Placement.{Placement}
 use Rattle.ns_types.specs.declared.snapshot.Snapshot.{Snapshot}
-use Rattle.ns_types.specs.Working.Commit.{stop_all, victims_of, evict, evict_all, accepts_at, node_name, size_of, part_of, Commit, decide, begun, nodes_in}
+use Rattle.ns_types.specs.Working.Commit.{stop_all, evict, evict_all, node_name, Commit, decide, begun, nodes_in}
 use Rattle.ns_types.specs.Working.Commit.{place_one, place_with, place_all, make_up, Victim, least_of_job, same_victim_job, evicted_rows, committed_placements}
 use Rattle.ns_types.specs.Working.Commit.{live_stops, with_place, with_allocation, new_allocation, done, done_with, commit, refused_whole, still_stands}
 use Rattle.ns_types.specs.Settling.Making.{put_tenant, change_tenant, put_pool, with_desired, evaluation_for, with_evaluation, make_in, make}
@@ -22,7 +22,7 @@ use Rattle.std.specs.Ordering.{eq_by_cmp}
 use Rattle.ns_types.specs.State.Rows.{node_at}
 use Rattle.ns_types.specs.State.Rows.{World, Tenant, PoolRows}
 use Rattle.ns_types.specs.declared.plan.Plan.{Plan}
-use Rattle.ns_types.specs.State.Resources.{plus}
+use Rattle.ns_types.proofs.Decided.{decided_world}
 use Rattle.ns_types.proofs.Named.{names, one_name}
 use Rattle.ns_types.proofs.Tables.{tied}
 use Rattle.ns_types.proofs.Queue.{queue_keeps}
@@ -83,24 +83,8 @@ module _ {Y : Type 0} (of : Tenant → Y)
   fixed_evicted vs w = fixed_each evict (λ x v. fixed_change v.namespace (with_desired v.number DesiredStatus.Evict)
       (fixed_desired v.number DesiredStatus.Evict) x) vs w
 
-  decided_one : (kept : Snapshot) (ps : List Placement) (c : Commit) (n : ℕ) → SameIn of c.world (decide kept ps c n).world
-  unfolding decide
-  decided_one kept ps c n k = elim (accepts_at kept (evict_all c.world (victims_of c.world kept (part_of n ps))) (node_name kept n) (part_of n ps) c.placed) as
-      (λ b. of_at of (cond b (record {
-        world = evict_all c.world (victims_of c.world kept (part_of n ps));
-        placed =
-            plus c.placed (size_of (part_of n ps));
-        committed = c.committed ++ n ∷ [];
-        dropped = c.dropped;
-      }) (record c { dropped = c.dropped ++ n ∷ [] })).world
-      k ≡ of_at of c.world k) [
-        | true ↦ fixed_evicted (victims_of c.world kept (part_of n ps)) c.world k
-        | false ↦ refl
-      ]
-
   pub fixed_decided : (kept : Snapshot) (ps : List Placement) (ks : List ℕ) (c : Commit) → SameIn of c.world (fold (decide kept ps) c ks).world
-  fixed_decided kept ps [] c k = refl
-  fixed_decided kept ps (n ∷ ks) c k = fixed_decided kept ps ks (decide kept ps c n) k ∙ decided_one kept ps c n k
+  fixed_decided kept ps ks c = decided_world (SameIn of c.world) (λ vs w same k. fixed_evicted vs w k ∙ same k) kept ps ks c (λ k. refl)
 
   pub fixed_placed : (kept : Snapshot) (p : Placement) (w : World) → SameIn of w (place_one kept w p)
   unfolding place_one

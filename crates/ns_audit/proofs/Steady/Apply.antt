@@ -1,9 +1,8 @@
 -- Apply keeps a world orderly.
-use Rattle.std.specs.Prelude.{◌≡◌, ℕ, ◌+◌, Bool, true, false, cond, List, [], ◌∷◌, ◌++◌, map, Option, Some, None, ◌&&◌, filter, filter_map, find, fold}
+use Rattle.std.specs.Prelude.{◌≡◌, ℕ, ◌+◌, Bool, true, false, cond, List, [], ◌∷◌, map, Option, Some, None, ◌&&◌, filter, find, fold}
 use Rattle.std.specs.Prelude.{option_map}
 use Rattle.std.proofs.Common.{◌⊎◌, inl, inr, refl, sym, ap, subst, ◌∙◌}
 use Rattle.std.specs.FinMap.{get, entries, from_entries, get-from_entries, insert}
-use Rattle.std.specs.List.{cons_option}
 use Rattle.std.specs.Option.{option_map_or, option_and_then}
 use Rattle.std.specs.Ordering.{nat_cmp}
 use Rattle.ns_types.specs.declared.allocation.Allocation.{Allocation}
@@ -17,9 +16,9 @@ use Rattle.ns_types.specs.declared.plan.Placement.{Placement}
 use Rattle.ns_types.specs.declared.plan.Plan.{Plan}
 use Rattle.ns_types.specs.declared.snapshot.Snapshot.{Snapshot}
 use Rattle.ns_types.specs.declared.worker.Worker.{Worker}
-use Rattle.ns_types.specs.Working.Commit.{still_stands, live_stops, stop_all, node_name, nodes_in, part_of, size_of, counts, victims_in, victims_of, evict}
-use Rattle.ns_types.specs.Working.Commit.{evict_all, Commit, begun, accepts_at, decide, new_allocation, with_allocation, with_place, place_with, place_one}
-use Rattle.ns_types.specs.Working.Commit.{committed_placements, place_all, Victim, victim_at, evicted_rows, same_victim_job, least_of_job, make_up, Applied}
+use Rattle.ns_types.specs.Working.Commit.{still_stands, live_stops, stop_all, node_name, nodes_in, counts, evict}
+use Rattle.ns_types.specs.Working.Commit.{evict_all, Commit, begun, decide, new_allocation, with_allocation, with_place, place_with, place_one}
+use Rattle.ns_types.specs.Working.Commit.{committed_placements, place_all, Victim, evicted_rows, same_victim_job, least_of_job, make_up, Applied}
 use Rattle.ns_types.specs.Working.Commit.{refused_whole, done_with, done, commit, applied_worker, applied, apply_for, apply}
 use Rattle.ns_types.specs.State.Lists.{Each, first_each}
 use Rattle.ns_types.specs.Settling.Making.{put_tenant, put_pool, change_tenant, with_desired, least}
@@ -27,15 +26,15 @@ use Rattle.ns_types.specs.State.Names.{Name, ByNumber, same_name, same_number, h
 use Rattle.ns_types.specs.Settling.Outcome.{NotEnabled}
 use Rattle.ns_types.specs.Placing.Plan.{plan}
 use Rattle.ns_types.specs.Working.Queue.{is_served}
-use Rattle.ns_types.specs.State.Resources.{plus}
-use Rattle.ns_types.specs.State.Rows.{World, Tenant, PoolRows, is_live, is_live_on, allocation_at, node_at}
+use Rattle.ns_types.specs.State.Rows.{World, Tenant, PoolRows, is_live, is_live_on, node_at}
 use Rattle.ns_types.specs.Access.Sharing.{permits}
 use Rattle.ns_types.specs.Working.Work.{with_worker, without_key, is_submitted}
+use Rattle.ns_types.proofs.Decided.{HoldsOfItsRow, decided_world, evicted_are}
 use Rattle.ns_types.proofs.Named.{numbers as numbers_, one_number, same_name_is, first_of_both, second_of_both}
 use Rattle.ns_types.proofs.Tables.{each_row}
 use Rattle.ns_types.proofs.Tests.{not_Some, same_Some}
 use Rattle.ns_types.proofs.TableRows.{row_of_insert}
-use Rattle.ns_types.proofs.Elements.{each_passes, each_of, each_first, each_flat_map, each_mapped, each_kept, found_of}
+use Rattle.ns_types.proofs.Elements.{each_of, each_first, each_mapped, each_kept, found_of}
 use Rattle.ns_audit.specs.Orderly.{IsOrderlyTenant, IsOrderly}
 use Rattle.ns_audit.proofs.Steady.Keeping.{KeepsTenant, keeps_same, keeps_then, keeps_rows, put_orderly}
 use Rattle.ns_audit.proofs.Alone.Fixed.{SameIn, fixed_commit}
@@ -76,23 +75,8 @@ evicted_orderly (v ∷ vs) w s = evicted_orderly vs (evict w v)
     (change_orderly w v.namespace (with_desired v.number DesiredStatus.Evict) s
     (λ t is. keeps_desired v.namespace _ _ t (s.tenant v.namespace t is) v.number DesiredStatus.Evict refl))
 
-decide_orderly : (kept : Snapshot) (ps : List Placement) (c : Commit) (k : ℕ) → IsOrderly c.world → IsOrderly (decide kept ps c k).world
-unfolding decide
-decide_orderly kept ps c k s = elim (accepts_at kept (evict_all c.world (victims_of c.world kept (part_of k ps))) (node_name kept k) (part_of k ps) c.placed) as
-    (λ b. IsOrderly (cond b (record {
-      world = evict_all c.world (victims_of c.world kept (part_of k ps));
-      placed =
-          plus c.placed (size_of (part_of k ps));
-      committed = c.committed ++ k ∷ [];
-      dropped = c.dropped;
-    }) (record c { dropped = c.dropped ++ k ∷ [] })).world) [
-      | true ↦ evicted_orderly (victims_of c.world kept (part_of k ps)) c.world s
-      | false ↦ s
-    ]
-
 decided_orderly : (kept : Snapshot) (ps : List Placement) (ks : List ℕ) (c : Commit) → IsOrderly c.world → IsOrderly (fold (decide kept ps) c ks).world
-decided_orderly kept ps [] c s = s
-decided_orderly kept ps (k ∷ ks) c s = decided_orderly kept ps ks (decide kept ps c k) (decide_orderly kept ps c k s)
+decided_orderly = decided_world IsOrderly evicted_orderly
 
 -- ---- placements
 
@@ -138,10 +122,10 @@ all_placed_orderly kept (p ∷ ps) w s allowed = all_placed_orderly kept ps (pla
 
 module _ (x : World) (s : IsOrderly x) (kept : Snapshot) where
   -- an eviction that counts is of an allocation on the pool, in a namespace that permits it
-  abbrev Stands : Eviction → Type 0
-  Stands e = (a : Allocation) → allocation_at x (e.namespace, e.number) ≡ Some a → (a.pool ≡ kept.pool) × PermitsAt x e.namespace kept.pool
+  abbrev Fits : Victim → Type 0
+  Fits v = (v.1.1.pool ≡ kept.pool) × PermitsAt x v.0 kept.pool
 
-  stands : (node : Name) (e : Eviction) → counts x kept.pool node e ≡ true → Stands e
+  stands : (node : Name) (e : Eviction) → counts x kept.pool node e ≡ true → HoldsOfItsRow Fits x e
   unfolding counts
   stands node e c a at = by (get x.tenants e.namespace) refl at
     where
@@ -161,22 +145,8 @@ module _ (x : World) (s : IsOrderly x) (kept : Snapshot) where
             (ap (permits t.namespace) (sym its) ∙ (s.tenant e.namespace t is).allocation e.number a at (first_of_both (is_live a) _ on)),
       )
 
-  abbrev Fits : Victim → Type 0
-  Fits v = (v.1.1.pool ≡ kept.pool) × PermitsAt x v.0 kept.pool
-
-  rows_fit : (vs : List Eviction) → Each Stands vs → Each Fits (filter_map (victim_at x) vs)
-  rows_fit [] h = tt
-  rows_fit (e ∷ vs) h = by (rows_fit vs h.1) (allocation_at x (e.namespace, e.number)) refl
-    where
-      by : Each Fits (filter_map (victim_at x) vs) → (o : Option Allocation) → allocation_at x (e.namespace, e.number) ≡ o →
-          Each Fits (cons_option {X = Victim} (option_map (λ a. (e.namespace, (e.number, a))) o) (filter_map (victim_at x) vs))
-      by rest None at = rest
-      by rest (Some a) at = (h.0 a at, rest)
-
   victims_fit : (ps : List Placement) → Each Fits (evicted_rows x kept ps)
-  victims_fit ps = rows_fit (victims_of x kept ps) (each_flat_map Stands (victims_in x kept)
-      (λ p. each_of (λ e. counts x kept.pool (node_name kept p.node) e ≡ true) Stands (λ e c. stands (node_name kept p.node) e c)
-      (filter (counts x kept.pool (node_name kept p.node)) p.evictions) (each_passes (counts x kept.pool (node_name kept p.node)) p.evictions)) ps)
+  victims_fit = evicted_are Fits x kept stands
 
 pub least_is : (P : Allocation → Type 0) (xs : List (ℕ × Allocation)) → Each (λ e. P e.1) xs → (a : Allocation) → least xs ≡ Some a → P a
 least_is P xs h a is = by (find (λ e. true) (entries (from_entries {R = nat_cmp} xs))) refl is

@@ -1,8 +1,7 @@
 -- Apply keeps what is said of evaluations.
-use Rattle.std.specs.Prelude.{◌≡◌, ℕ, Bool, true, false, cond, List, [], ◌∷◌, ◌++◌, map, Option, Some, None, ◌&&◌, filter, filter_map, fold, option_map}
+use Rattle.std.specs.Prelude.{◌≡◌, ℕ, Bool, true, false, cond, List, [], ◌∷◌, map, Option, Some, None, ◌&&◌, filter, fold}
 use Rattle.std.proofs.Common.{◌⊎◌, inl, inr, refl, sym, ap, subst, ◌∙◌}
 use Rattle.std.specs.FinMap.{get, insert}
-use Rattle.std.specs.List.{cons_option}
 use Rattle.std.specs.Option.{option_map_or, option_and_then}
 use Rattle.ns_types.specs.declared.allocation.Allocation.{Allocation}
 use Rattle.ns_types.specs.declared.allocation.DesiredStatus.TheVariants as DesiredStatus
@@ -15,9 +14,9 @@ use Rattle.ns_types.specs.declared.plan.Placement.{Placement}
 use Rattle.ns_types.specs.declared.plan.Plan.{Plan}
 use Rattle.ns_types.specs.declared.snapshot.Snapshot.{Snapshot}
 use Rattle.ns_types.specs.declared.worker.Worker.{Worker}
-use Rattle.ns_types.specs.Working.Commit.{still_stands, live_stops, stop_all, node_name, nodes_in, part_of, size_of, counts, victims_in, victims_of, evict}
-use Rattle.ns_types.specs.Working.Commit.{evict_all, Commit, begun, accepts_at, decide, new_allocation, with_allocation, with_place, place_with, place_one}
-use Rattle.ns_types.specs.Working.Commit.{committed_placements, place_all, Victim, victim_at, evicted_rows, same_victim_job, least_of_job, make_up, Applied}
+use Rattle.ns_types.specs.Working.Commit.{still_stands, live_stops, stop_all, node_name, nodes_in, counts, evict}
+use Rattle.ns_types.specs.Working.Commit.{evict_all, Commit, begun, decide, new_allocation, with_allocation, with_place, place_with, place_one}
+use Rattle.ns_types.specs.Working.Commit.{committed_placements, place_all, Victim, evicted_rows, same_victim_job, least_of_job, make_up, Applied}
 use Rattle.ns_types.specs.Working.Commit.{refused_whole, done_with, done, commit, applied_worker, applied, apply_for, apply}
 use Rattle.ns_types.specs.State.Lists.{Each, first_each}
 use Rattle.ns_types.specs.Settling.Making.{put_pool, change_tenant, with_desired, least}
@@ -25,15 +24,15 @@ use Rattle.ns_types.specs.State.Names.{Name, has_key, same_number}
 use Rattle.ns_types.specs.Settling.Outcome.{NotEnabled}
 use Rattle.ns_types.specs.Placing.Plan.{plan}
 use Rattle.ns_types.specs.Working.Queue.{is_served}
-use Rattle.ns_types.specs.State.Resources.{plus}
-use Rattle.ns_types.specs.State.Rows.{World, Tenant, PoolRows, is_live, is_live_on, allocation_at, node_at}
+use Rattle.ns_types.specs.State.Rows.{World, Tenant, PoolRows, is_live, is_live_on, node_at}
 use Rattle.ns_types.specs.Validity.{IsSound}
 use Rattle.ns_types.specs.Working.Work.{with_worker, without_key, is_submitted}
+use Rattle.ns_types.proofs.Decided.{HoldsOfItsRow, decided_world, evicted_are}
 use Rattle.ns_types.proofs.Lists.{not_both}
 use Rattle.ns_types.proofs.Named.{names, one_name, numbers as numbers_, one_number, first_of_both}
 use Rattle.ns_types.proofs.Tests.{not_Some}
 use Rattle.ns_types.proofs.TableRows.{row_of_insert}
-use Rattle.ns_types.proofs.Elements.{each_passes, each_of, each_first, each_flat_map, each_mapped, each_kept}
+use Rattle.ns_types.proofs.Elements.{each_of, each_first, each_mapped, each_kept}
 use Rattle.ns_audit.proofs.Steady.Apply.{least_is}
 use Rattle.ns_types.proofs.Leads.{Leads, leads_if, leads_keeping}
 use Rattle.ns_audit.proofs.ValidEvaluations.Asks.{cause_of, desired_filed}
@@ -58,24 +57,9 @@ module _ (pools : Name → Bool) (index : Name → ℕ) where
   evicted_filed (v ∷ vs) w s = evicted_filed vs (evict w v) (change_filed pools index v.namespace (with_desired v.number DesiredStatus.Evict) w s
       (λ t f. desired_filed pools (index v.namespace) (λ n. has_key w.blocked (v.namespace, n)) t f v.number DesiredStatus.Evict))
 
-  decide_filed : (kept : Snapshot) (ps : List Placement) (c : Commit) (k : ℕ) → IsFiled pools index c.world → IsFiled pools index (decide kept ps c k).world
-  unfolding decide
-  decide_filed kept ps c k s = elim (accepts_at kept (evict_all c.world (victims_of c.world kept (part_of k ps))) (node_name kept k) (part_of k ps) c.placed) as
-      (λ b. IsFiled pools index (cond b (record {
-        world = evict_all c.world (victims_of c.world kept (part_of k ps));
-        placed =
-            plus c.placed (size_of (part_of k ps));
-        committed = c.committed ++ k ∷ [];
-        dropped = c.dropped;
-      }) (record c { dropped = c.dropped ++ k ∷ [] })).world) [
-        | true ↦ evicted_filed (victims_of c.world kept (part_of k ps)) c.world s
-        | false ↦ s
-      ]
-
   decided_filed : (kept : Snapshot) (ps : List Placement) (ks : List ℕ) (c : Commit) → IsFiled pools index c.world →
       IsFiled pools index (fold (decide kept ps) c ks).world
-  decided_filed kept ps [] c s = s
-  decided_filed kept ps (k ∷ ks) c s = decided_filed kept ps ks (decide kept ps c k) (decide_filed kept ps c k s)
+  decided_filed = decided_world (IsFiled pools index) evicted_filed
 
   -- ---- placements
 
@@ -144,10 +128,10 @@ module _ (pools : Name → Bool) (index : Name → ℕ) where
 
   module _ (x : World) (causes : Causes x) (kept : Snapshot) where
     -- an eviction that counts is of a live allocation
-    abbrev Stands : Eviction → Type 0
-    Stands e = (a : Allocation) → allocation_at x (e.namespace, e.number) ≡ Some a → IsCause pools a
+    abbrev Fits : Victim → Type 0
+    Fits v = IsCause pools v.1.1
 
-    stands : (node : Name) (e : Eviction) → counts x kept.pool node e ≡ true → Stands e
+    stands : (node : Name) (e : Eviction) → counts x kept.pool node e ≡ true → HoldsOfItsRow Fits x e
     unfolding counts
     stands node e c a at = by (get x.tenants e.namespace) refl at
       where
@@ -159,22 +143,8 @@ module _ (pools : Name → Bool) (index : Name → ℕ) where
         by None is at = absurd (not_Some _ at)
         by (Some t) is at = causes e.namespace t is e.number a at (first_of_both (is_live a) _ on)
 
-    abbrev Fits : Victim → Type 0
-    Fits v = IsCause pools v.1.1
-
-    rows_fit : (vs : List Eviction) → Each Stands vs → Each Fits (filter_map (victim_at x) vs)
-    rows_fit [] h = tt
-    rows_fit (e ∷ vs) h = by (rows_fit vs h.1) (allocation_at x (e.namespace, e.number)) refl
-      where
-        by : Each Fits (filter_map (victim_at x) vs) → (o : Option Allocation) → allocation_at x (e.namespace, e.number) ≡ o →
-            Each Fits (cons_option {X = Victim} (option_map (λ a. (e.namespace, (e.number, a))) o) (filter_map (victim_at x) vs))
-        by rest None at = rest
-        by rest (Some a) at = (h.0 a at, rest)
-
     victims_fit : (ps : List Placement) → Each Fits (evicted_rows x kept ps)
-    victims_fit ps = rows_fit (victims_of x kept ps) (each_flat_map Stands (victims_in x kept)
-        (λ p. each_of (λ e. counts x kept.pool (node_name kept p.node) e ≡ true) Stands (λ e c. stands (node_name kept p.node) e c)
-        (filter (counts x kept.pool (node_name kept p.node)) p.evictions) (each_passes (counts x kept.pool (node_name kept p.node)) p.evictions)) ps)
+    victims_fit = evicted_are Fits x kept stands
 
   module _ (victims : List Victim) (fit : Each (λ (v : Victim). IsCause pools v.1.1) victims) where
     least_fits : (v : Victim) → IsCause pools v.1.1 → IsCause pools (least_of_job victims v)

@@ -16,8 +16,8 @@ use Rattle.ns_types.specs.declared.reply.Content.TheVariants as Content
 use Rattle.ns_types.specs.declared.snapshot.Snapshot.{Snapshot}
 use Rattle.ns_types.specs.declared.worker.Phase.TheVariants as Phase
 use Rattle.ns_types.specs.declared.worker.Worker.{Worker}
-use Rattle.ns_types.specs.Working.Commit.{still_stands, live_stops, stop_all, node_name, nodes_in, part_of, size_of, victims_of, evict, evict_all, Commit}
-use Rattle.ns_types.specs.Working.Commit.{begun, accepts_at, decide, new_allocation, with_allocation, with_place, place_with, place_one, committed_placements}
+use Rattle.ns_types.specs.Working.Commit.{still_stands, live_stops, stop_all, node_name, nodes_in, evict, evict_all, Commit}
+use Rattle.ns_types.specs.Working.Commit.{begun, decide, new_allocation, with_allocation, with_place, place_with, place_one, committed_placements}
 use Rattle.ns_types.specs.Working.Commit.{place_all, Victim, evicted_rows, same_victim_job, least_of_job, make_up, Applied, refused_whole, done_with, done}
 use Rattle.ns_types.specs.Working.Commit.{commit, applied_worker, applied, apply_for, apply}
 use Rattle.ns_types.specs.State.Lists.{first_each}
@@ -27,7 +27,6 @@ use Rattle.ns_types.specs.Settling.Outcome.{Outcome, NotEnabled, Done}
 use Rattle.ns_types.specs.Placing.Plan.{plan}
 use Rattle.ns_types.specs.Working.Queue.{promote, is_served}
 use Rattle.ns_types.specs.Settling.Releases.{missed}
-use Rattle.ns_types.specs.State.Resources.{plus}
 use Rattle.ns_types.specs.State.Rows.{World, Tenant, PoolRows, node_at}
 use Rattle.ns_types.specs.Working.Snapshot.{snapshot_of}
 use Rattle.ns_types.specs.Working.Work.{with_worker, without_worker, without_key, at_work, workers_end, is_idle, new_worker, taken, dequeue_in, dequeue}
@@ -35,6 +34,7 @@ use Rattle.ns_types.specs.Working.Work.{may_snap, with_snapshot, snap_for, snap,
 use Rattle.ns_types.specs.Working.Work.{follower_of, blocked_of, without_blocked, ended, with_follower, followed, finished, finish_for, finish, is_submitted}
 use Rattle.ns_types.specs.Working.Work.{most_nacks, with_nack, given_back, given_up, nack_for, nack}
 use Rattle.ns_audit.proofs.Alone.Fixed.{fixed_stops}
+use Rattle.ns_types.proofs.Decided.{decided_world}
 use Rattle.ns_types.proofs.Leads.{Leads, leads_there, leads_if}
 use Rattle.ns_audit.proofs.ValidRecords.Sound.{kept_of, IsRecorded, IsNear, near_pool, near_first}
 use Rattle.ns_audit.proofs.ValidRecords.Frames.{kept_desired, kept_status, near_put_same, near_change, near_lists, near_make, near_each, near_promote}
@@ -162,23 +162,8 @@ module _ (w : World) where
   evicted_near = near_each w evict (λ y v h. near_change w y h v.namespace (with_desired v.number DesiredStatus.Evict)
       (kept_desired v.number DesiredStatus.Evict))
 
-  decide_near : (kept : Snapshot) (ps : List Placement) (c : Commit) (k : ℕ) → IsNear w c.world → IsNear w (decide kept ps c k).world
-  unfolding decide
-  decide_near kept ps c k h = elim (accepts_at kept (evict_all c.world (victims_of c.world kept (part_of k ps))) (node_name kept k) (part_of k ps) c.placed) as
-      (λ b. IsNear w (cond b (record {
-        world = evict_all c.world (victims_of c.world kept (part_of k ps));
-        placed =
-            plus c.placed (size_of (part_of k ps));
-        committed = c.committed ++ k ∷ [];
-        dropped = c.dropped;
-      }) (record c { dropped = c.dropped ++ k ∷ [] })).world) [
-        | true ↦ evicted_near (victims_of c.world kept (part_of k ps)) c.world h
-        | false ↦ h
-      ]
-
   decided_near : (kept : Snapshot) (ps : List Placement) (ks : List ℕ) (c : Commit) → IsNear w c.world → IsNear w (fold (decide kept ps) c ks).world
-  decided_near kept ps [] c h = h
-  decided_near kept ps (k ∷ ks) c h = decided_near kept ps ks (decide kept ps c k) (decide_near kept ps c k h)
+  decided_near = decided_world (IsNear w) evicted_near
 
   -- a placement counts on its node, which is there
   placed_near : (kept : Snapshot) (p : Placement) (y : World) → IsNear w y → IsNear w (place_one kept y p)

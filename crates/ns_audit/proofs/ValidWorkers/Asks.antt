@@ -1,5 +1,5 @@
 -- What is asked of a namespace and of a pool, and what a plan does, leaves workers and their evaluations alone.
-use Rattle.std.specs.Prelude.{◌≡◌, ℕ, ◌≤◌, Bool, true, false, cond, not, List, [], ◌∷◌, ◌++◌, Option, Some, None, fold}
+use Rattle.std.specs.Prelude.{◌≡◌, ℕ, ◌≤◌, Bool, true, false, cond, not, List, [], ◌∷◌, Option, Some, None, fold}
 use Rattle.std.proofs.Common.{refl, sym, ap, ◌∙◌, arith}
 use Rattle.std.specs.FinMap.{get, insert}
 use Rattle.std.specs.Option.{option_map_or}
@@ -19,8 +19,8 @@ use Rattle.ns_types.specs.declared.step.AskCommand.{AskCommand}
 use Rattle.ns_types.specs.declared.step.NodeCommand.{NodeCommand}
 use Rattle.ns_types.specs.declared.step.Report.{Report}
 use Rattle.ns_types.specs.Asking.Asks.{deregistered, asked_in, ask, first_refusal}
-use Rattle.ns_types.specs.Working.Commit.{still_stands, live_stops, stop_all, node_name, nodes_in, part_of, size_of, victims_of, evict, evict_all, Commit}
-use Rattle.ns_types.specs.Working.Commit.{begun, accepts_at, decide, new_allocation, with_allocation, with_place, place_with, place_one, committed_placements}
+use Rattle.ns_types.specs.Working.Commit.{still_stands, live_stops, stop_all, node_name, nodes_in, evict, evict_all, Commit}
+use Rattle.ns_types.specs.Working.Commit.{begun, decide, new_allocation, with_allocation, with_place, place_with, place_one, committed_placements}
 use Rattle.ns_types.specs.Working.Commit.{place_all, Victim, evicted_rows, same_victim_job, least_of_job, make_up, refused_whole, done, commit}
 use Rattle.ns_types.specs.State.Lists.{first_each}
 use Rattle.ns_types.specs.Settling.Making.{change_tenant, put_pool, with_node, with_desired, with_client, evaluation_for, make}
@@ -28,10 +28,10 @@ use Rattle.ns_types.specs.State.Names.{Name}
 use Rattle.ns_types.specs.Asking.Nodes.{losses, lost, lose, go_down, may_become, same_client, calls_for_one, reported, is_on, report_of, asked_in_pool}
 use Rattle.ns_types.specs.Asking.Nodes.{ask_pool}
 use Rattle.ns_types.specs.Settling.Outcome.{Refused, Done, unless}
-use Rattle.ns_types.specs.State.Resources.{plus}
 use Rattle.ns_types.specs.State.Rows.{World, Tenant, PoolRows, is_ready, allocation_at, node_at}
 use Rattle.ns_types.specs.State.Sums.{names_quota, quota_use}
 use Rattle.ns_types.specs.State.Tables.{map_rows}
+use Rattle.ns_types.proofs.Decided.{decided_world}
 use Rattle.ns_types.proofs.Leads.{leads_unless, leads_refused, leads_found, leads_if}
 use Rattle.ns_audit.proofs.ValidWorkers.Quiet.{Grows, grows_none, grows_then, Quiet, quiet_same, quiet_then, quiet_each, quiet_change, quiet_map, quiet_make_in}
 use Rattle.ns_audit.proofs.ValidWorkers.Quiet.{quiet_make, quiet_pool, Quietly}
@@ -148,23 +148,8 @@ evicted_quiet : (vs : List Eviction) (w : World) → Quiet w (evict_all w vs)
 evicted_quiet vs w = quiet_each evict (λ x v. quiet_change v.namespace (with_desired v.number DesiredStatus.Evict) (grows_desired v.number DesiredStatus.Evict)
     x) vs w
 
-decided_one : (kept : Snapshot) (ps : List Placement) (c : Commit) (n : ℕ) → Quiet c.world (decide kept ps c n).world
-unfolding decide
-decided_one kept ps c n = by (accepts_at kept (evict_all c.world (victims_of c.world kept (part_of n ps))) (node_name kept n) (part_of n ps) c.placed)
-  where
-    by : (b : Bool) → Quiet c.world (cond b (record {
-      world = evict_all c.world (victims_of c.world kept (part_of n ps));
-      placed =
-          plus c.placed (size_of (part_of n ps));
-      committed = c.committed ++ n ∷ [];
-      dropped = c.dropped;
-    }) (record c { dropped = c.dropped ++ n ∷ [] })).world
-    by true = evicted_quiet (victims_of c.world kept (part_of n ps)) c.world
-    by false = quiet_same c.world
-
 decided_quiet : (kept : Snapshot) (ps : List Placement) (ks : List ℕ) (c : Commit) → Quiet c.world (fold (decide kept ps) c ks).world
-decided_quiet kept ps [] c = quiet_same c.world
-decided_quiet kept ps (n ∷ ks) c = quiet_then c.world (decide kept ps c n).world _ (decided_one kept ps c n) (decided_quiet kept ps ks (decide kept ps c n))
+decided_quiet kept ps ks c = decided_world (Quiet c.world) (λ vs w q. quiet_then c.world w _ q (evicted_quiet vs w)) kept ps ks c (quiet_same c.world)
 
 -- the node's pool has as many releases as before
 counted_quiet : (pool name : Name) (node : Node) (x : World) → Quiet x (option_map_or (λ p. put_pool pool (with_place name node p) x) (get x.pools pool) x)

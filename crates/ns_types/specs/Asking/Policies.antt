@@ -6,6 +6,7 @@ use Rattle.ns_types.specs.declared.acl.Policy.{Policy}
 use Rattle.ns_types.specs.declared.acl.Token.{Token}
 use Rattle.ns_types.specs.declared.refusal.Refusal.TheVariants as Refusal
 use Rattle.ns_types.specs.declared.reply.Content.TheVariants as Content
+use Rattle.ns_types.specs.declared.reply.TokenShown.{TokenShown}
 use Rattle.ns_types.specs.declared.step.AdminCommand.{AdminCommand}
 use Rattle.ns_types.specs.declared.step.NewToken.{NewToken}
 use Rattle.ns_types.specs.Asking.Admins.{is_full, most_rows, put_namespace, delete_namespace, list_namespaces}
@@ -44,19 +45,22 @@ has_accessor acl accessor = any_row (λ _ token. same_name accessor token.access
 abbrev pub token_of : NewToken → Token
 token_of new = record { accessor = new.accessor; name = new.name; kind = new.kind; policies = new.policies }
 
+-- all of a new token, with its secret
+abbrev pub made_token : NewToken → TokenShown
+made_token new = record {
+  accessor = new.accessor;
+  secret = new.secret;
+  name = new.name;
+  kind = new.kind;
+  policies = new.policies;
+}
+
 -- a drawn text that is taken is a conflict
 abbrev pub create_token : NewToken → Acl → Outcome Acl
 create_token new acl =
     unless (contains_key acl.tokens new.secret || has_accessor acl new.accessor) Refusal.Conflict (
     unless (nat_le most_rows (len acl.tokens)) Refusal.Full (
-    Done (Content.Token (record {
-      accessor = new.accessor;
-      secret = new.secret;
-      name = new.name;
-      kind = new.kind;
-      policies = new.policies;
-    }))
-    (record acl { tokens = insert acl.tokens new.secret (token_of new) })))
+    Done (Content.Token (made_token new)) (record acl { tokens = insert acl.tokens new.secret (token_of new) })))
 
 abbrev pub secret_of : Acl → Name → Option Name
 secret_of acl accessor = option_map (λ e. e.0) (find (λ e. same_name accessor e.1.accessor) (entries acl.tokens))

@@ -1,6 +1,6 @@
 -- Sums of resources, when an amount is within another, and what the limits of a quota allow.
 -- Nomad's page on resource quotas.
-use Rattle.std.specs.Prelude.{ℕ, ◌+◌, ◌-◌, Bool, true, false, ◌&&◌, nat_le, List, sum_by, Option}
+use Rattle.std.specs.Prelude.{ℕ, ◌+◌, ◌-◌, ◌<◌, ◌^◌, Bool, true, false, ◌&&◌, nat_le, List, sum_by, Option}
 use Rattle.std.specs.Option.{unwrap_or}
 use Rattle.ns_types.specs.declared.resources.Resources.{Resources}
 use Rattle.ns_types.specs.declared.resources.Limit.{Limit}
@@ -27,6 +27,10 @@ same_resources a b = same_number a.cpu b.cpu && same_number a.memory b.memory
 -- what the elements of a list take together
 abbrev pub total : {X : Type 0} → (X → Resources) → List X → Resources
 total size xs = record { cpu = sum_by (λ x. (size x).cpu) xs; memory = sum_by (λ x. (size x).memory) xs }
+
+-- the amounts fit 64 bits: the program can count with them
+abbrev pub IsCounted : Resources → Type 0
+IsCounted r = (r.cpu < 2 ^ 64) × (r.memory < 2 ^ 64)
 
 -- ---- limits
 

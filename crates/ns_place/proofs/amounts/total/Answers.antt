@@ -2,8 +2,7 @@ use Rattle.std.proofs.Common.{◌≡◌, ◌<◌, ℕ, Bor, length, map, get_or,
 use Rattle.std.proofs.lemmas.List.{get_or-map, length-map, take-map}
 use Rattle.ns_types.specs.declared.snapshot.LiveAllocation.{LiveAllocation}
 use Rattle.ns_types.specs.declared.resources.Resources.{Resources}
-use Rattle.ns_types.specs.State.Resources.{plus, total}
-use Rattle.ns_place.specs.Amounts.{IsCounted}
+use Rattle.ns_types.specs.State.Resources.{IsCounted, plus, total}
 use Rattle.ns_place.proofs.Sums.{total_next_below}
 use Rattle.ns_place.proofs.amounts.total.Goals as goal
 

@@ -1,8 +1,8 @@
 -- The scan keeps the best so far: one answer for each way through an iteration.
 use Rattle.std.proofs.Common.{◌≡◌, ℕ, ◌<◌, length, arith, subst, sym, ◌∙◌}
 use Rattle.ns_types.specs.Placing.Placement.{fits, better}
+use Rattle.ns_types.proofs.Choosing.{better_order}
 use Rattle.ns_place.proofs.Best.{BestSoFar, scan_skips, scan_begins, scan_takes, scan_keeps, best_all}
-use Rattle.ns_place.proofs.Better.{better_order}
 use Rattle.ns_place.proofs.choice.best_node.Goals as goal
 use Rattle.ns_place.proofs.choice.best_node.Goals.{then-fits+in-Some, then-fits+in_default-2, then-fits+in_default, else-fits}
 

@@ -2,8 +2,8 @@
 use Rattle.std.proofs.Common.{◌≡◌, ◌<◌, ℕ, is_some, length, arith, subst, sym, ◌∙◌}
 use Rattle.ns_types.specs.Placing.Placement.{Candidate}
 use Rattle.ns_types.specs.Placing.Preemption.{victims, cheaper}
+use Rattle.ns_types.proofs.Choosing.{cheaper_order}
 use Rattle.ns_place.proofs.Best.{BestSoFar, scan_skips, scan_begins, scan_takes, scan_keeps, best_all}
-use Rattle.ns_preempt.proofs.Cheaper.{cheaper_order}
 use Rattle.ns_preempt.proofs.costs.best_victims.Goals as goal
 use Rattle.ns_preempt.proofs.costs.best_victims.Goals.{then-has_victims+in-Some, then-has_victims+in_default-2}
 use Rattle.ns_preempt.proofs.costs.best_victims.Goals.{then-has_victims+in_default, else-has_victims}

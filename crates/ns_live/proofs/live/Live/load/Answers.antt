@@ -1,5 +1,5 @@
 use Rattle.std.proofs.Common.{subst, sym, ◌∙◌}
-use Rattle.ns_live.specs.Loads.{IsCounted}
+use Rattle.ns_types.specs.State.Resources.{IsCounted}
 use Rattle.ns_live.proofs.Loaded.{load_is, load_none}
 use Rattle.ns_live.proofs.live.Live.load.Goals as goal
 

@@ -14,4 +14,5 @@ set-requires c = slot_made names _ _ _ c.in_ok-reserve.ensures.ok
 pub returns-clause-ok : goal.returns-clause-ok
 returns-clause-ok c = set_new c.self.inside.totals c.args.self.now c.self.view_is c.args.quota.now c.reserve.new.self c.set.new.self
     (plus (total_of c.args.self.now c.args.quota.now) c.args.amount) c.in_ok-reserve.ensures.ok
-    (c.set.ensures ∙ ap (λ used. insert c.reserve.new.self c.args.quota.now (Some (plus used c.args.amount))) c.use_of-used.ensures)
+    (c.set.ensures ∙ ap (λ total. insert c.reserve.new.self c.args.quota.now (Some total))
+    (c.plus-total.ensures ∙ ap (λ used. plus used c.args.amount) c.use_of-used.ensures))

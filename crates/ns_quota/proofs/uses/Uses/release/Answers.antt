@@ -9,11 +9,12 @@ use Rattle.ns_quota.proofs.uses.Uses.release.Goals as goal
 
 pub returns-then-left-eq0-2-clause-total : goal.returns-then-left-eq0-2-clause-total
 returns-then-left-eq0-2-clause-total c = dropped c.self.inside.totals c.args.self.now c.self.view_is c.args.quota.now c.remove.new.self _ c.remove.ensures
-    (sym (ap (λ used. minus used c.args.amount) c.use_of-used.ensures) ∙ (λ i. record { cpu = c.if-left-eq0.true i; memory = c.if-left-eq0-2.true i }))
+    (sym (c.minus-left.ensures ∙ ap (λ used. minus used c.args.amount) c.use_of-used.ensures) ∙ (λ i. record { cpu = c.if-left-eq0.true i; memory = c.if-left-eq0-2.true i }))
 
 pub returns-in-Some-clause-total : goal.returns-in-Some-clause-total
 returns-in-Some-clause-total c = set_over c.self.inside.totals c.args.self.now c.self.view_is c.args.quota.now _ _
-    (ap (λ used. insert c.self.inside.totals c.args.quota.now (Some (minus used c.args.amount))) c.use_of-used.ensures)
+    (ap (λ left. insert c.self.inside.totals c.args.quota.now (Some left))
+    (c.minus-left.ensures ∙ ap (λ used. minus used c.args.amount) c.use_of-used.ensures))
 
 pub returns-in_default-clause-total : goal.returns-in_default-clause-total
 returns-in_default-clause-total c = unchanged c.self.inside.totals c.args.self.now c.self.view_is c.args.quota.now c.args.amount

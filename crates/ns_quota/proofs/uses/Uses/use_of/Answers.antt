@@ -7,4 +7,4 @@ pub returns-in-Some : goal.returns-in-Some
 returns-in-Some c = sym (total_at _ _ c.self.view_is c.args.quota.now _ (sym c.get.ensures ∙ ap option_copied c.in-Some.is))
 
 pub returns-in-None : goal.returns-in-None
-returns-in-None c = sym (total_at _ _ c.self.view_is c.args.quota.now _ (sym c.get.ensures ∙ ap option_copied c.in-None.is))
+returns-in-None c = c.none.ensures ∙ sym (total_at _ _ c.self.view_is c.args.quota.now _ (sym c.get.ensures ∙ ap option_copied c.in-None.is))
