@@ -1,0 +1,3 @@
+pub mod Reader
+pub mod Capped
+pub mod Looks

@@ -1,0 +1,4 @@
+pub mod Amounts
+pub mod Looks
+pub mod Reader
+pub mod Laws
