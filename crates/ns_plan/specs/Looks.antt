@@ -27,8 +27,12 @@ pub record AreCounted (w : World) : Type 0 where
   pub used : (quota : Name) → IsCounted (quota_use w quota)
 
 -- the allocation, where it is live
+abbrev pub if_live : Option Allocation → Option Allocation
+if_live None = None
+if_live (Some a) = if is_live a then Some a else None
+
 abbrev pub live_at : World → Key → Option Allocation
-live_at w key = option_and_then (λ a. if is_live a then Some a else None) (allocation_at w key)
+live_at w key = if_live (allocation_at w key)
 
 -- the parts of the plan that are done in this state, where the snapshot's namespace is there
 abbrev pub IsChecked : Snapshot → Plan → World → Checked → Type 0
