@@ -3,11 +3,14 @@ pub mod Choosing
 pub mod Classes
 pub mod Decided
 pub mod Elements
+pub mod Gone
 pub mod Ids
 pub mod Leads
+pub mod Less
 pub mod Lists
 pub mod LiveSums
 pub mod Named
+pub mod Once
 pub mod Outcomes
 pub mod Queue
 pub mod ReadingLemmas
@@ -16,4 +19,5 @@ pub mod Settling
 pub mod Sums
 pub mod TableRows
 pub mod Tables
+pub mod Taken
 pub mod Tests

@@ -18,7 +18,7 @@ use Rattle.ns_types.specs.declared.worker.Worker.{Worker}
 use Rattle.ns_types.specs.Working.Commit.{still_stands, live_stops, stop_all, node_name, nodes_in, part_of, size_of, victims_of, evict_all, quota_allows}
 use Rattle.ns_types.specs.Working.Commit.{Commit, begun, accepts_at, decide, new_allocation, with_allocation, with_place, counted, place_with, place_one}
 use Rattle.ns_types.specs.Working.Commit.{committed_placements, place_all, Victim, victim_at, evicted_rows, same_victim_job, least_of_job, make_up, Applied}
-use Rattle.ns_types.specs.Working.Commit.{refused_whole, done_with, done, commit, applied_worker, applied, apply_for, apply}
+use Rattle.ns_types.specs.Working.Commit.{refused_whole, victim_keys, parts_done, done_with, done, commit, applied_worker, applied, apply_for, apply}
 use Rattle.ns_types.specs.Placing.Constraint.{is_feasible}
 use Rattle.ns_types.specs.Isolation.{Part, alone_in}
 use Rattle.ns_types.specs.State.Lists.{Each, first_each}
@@ -235,6 +235,9 @@ module _ (part : Part) (w : World) (s : Standing part w) (kept : Snapshot) (p : 
       finishing c =
           let placed = committed_placements c p.placing.placements in
           λ i. record (done_with kept t stops p.placing.placements (stopped w) c) {
+            checked = record (parts_done kept stops p.placing.placements (stopped w) c) {
+              victims = victim_keys (sym (victims_alone part (stopped w) stopped_standing.stands kept mine placed) i);
+            };
             world = (ap (λ rows. make_up rows (place_all kept (alone_in part c.world) placed)) (rows_alike part (stopped w) stopped_standing kept mine placed)
                 ∙ sym (its_own part true (λ x. make_up (evicted_rows (stopped w) kept placed) (place_all kept x placed)) c.world
                 (goes_after_it part true kept mine own (stopped w) stopped_standing placed) refl)) i;

@@ -23,7 +23,7 @@ use Rattle.ns_types.specs.Placing.Constraint.{is_feasible}
 use Rattle.ns_types.specs.State.Lists.{is_empty, first_each, sorted_names}
 use Rattle.ns_types.specs.Settling.Making.{change_tenant, put_pool, with_node, with_desired, evaluation_for, make}
 use Rattle.ns_types.specs.Settling.Making.{least}
-use Rattle.ns_types.specs.State.Names.{Name, same_name, same_number, has_number}
+use Rattle.ns_types.specs.State.Names.{Name, Key, same_key, same_name, same_number, has_number}
 use Rattle.ns_types.specs.Settling.Outcome.{Outcome, NotEnabled, Done}
 use Rattle.ns_types.specs.Placing.Plan.{plan, constraints_of}
 use Rattle.ns_types.specs.Working.Queue.{is_served}
@@ -215,8 +215,21 @@ make_up victims w =
 
 -- ---- Apply
 
--- what an Apply does: the state, the numbers of the placements, the dropped nodes, what it did and what not
+-- which parts of a plan are done in the present state
+pub record Checked : Type 0 where
+  -- it no longer stands: nothing of it is done
+  pub is_refused : Bool
+  -- of the allocations that are live still, in the order of the plan
+  pub stops : List ℕ
+  -- places of the nodes that do their part, and of those that do not, each in the order of first placement
+  pub committed : List ℕ
+  pub dropped : List ℕ
+  -- the allocations that committed nodes evict, each once, in the order of the plan
+  pub victims : List Key
+
+-- what an Apply does: which parts, the state, the numbers of the placements, the dropped nodes, what it did and what not
 pub record Applied : Type 0 where
+  pub checked : Checked
   pub world : World
   pub made : List ℕ
   pub dropped : List Name
@@ -227,11 +240,21 @@ abbrev pub names_in : Snapshot → List ℕ → List Name
 names_in kept nodes = sorted_names (map (node_name kept) nodes)
 
 -- a plan that no longer stands commits nothing and drops all
+abbrev pub no_part : Plan → Checked
+no_part p = record {
+  is_refused = true;
+  stops = [];
+  committed = [];
+  dropped = nodes_in p.placing.placements;
+  victims = [];
+}
+
 abbrev pub refused_whole : Snapshot → Plan → World → Applied
 refused_whole kept p w = record {
+  checked = no_part p;
   world = w;
   made = [];
-  dropped = names_in kept (nodes_in p.placing.placements);
+  dropped = names_in kept (no_part p).dropped;
   has_dropped = true;
   has_committed = false;
 }
@@ -241,10 +264,27 @@ abbrev pub numbers_after : {X : Type 0} → ℕ → List X → List ℕ
 numbers_after n [] = []
 numbers_after n (x ∷ xs) = (n + 1) ∷ numbers_after (n + 1) xs
 
+abbrev pub victim_key : Eviction → Key
+victim_key e = (e.namespace, e.number)
+
+-- each once
+abbrev pub victim_keys : List Eviction → List Key
+victim_keys victims = first_each same_key (map victim_key victims)
+
+abbrev pub parts_done : Snapshot → List ℕ → List Placement → World → Commit → Checked
+parts_done kept stops placements stopped c = record {
+  is_refused = false;
+  stops = stops;
+  committed = c.committed;
+  dropped = c.dropped;
+  victims = victim_keys (victims_of stopped kept (committed_placements c placements));
+}
+
 abbrev pub done_with : Snapshot → Tenant → List ℕ → List Placement → World → Commit → Applied
 done_with kept t stops placements stopped c =
     let placed = committed_placements c placements in
     record {
+      checked = parts_done kept stops placements stopped c;
       world = make_up (evicted_rows stopped kept placed) (place_all kept c.world placed);
       made = numbers_after t.allocation_number placed;
       dropped = names_in kept c.dropped;

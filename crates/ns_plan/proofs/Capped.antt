@@ -1,0 +1,12 @@
+-- Sums as they are counted.
+use Rattle.std.specs.Prelude.{◌≡◌, ℕ, ◌+◌, ◌-◌, ◌^◌, ◌<◌, min}
+use Rattle.std.proofs.Common.{arith}
+use Rattle.ns_types.specs.declared.resources.Resources.{Resources}
+use Rattle.ns_types.specs.State.Resources.{plus}
+use Rattle.ns_plan.specs.Amounts.{added, amount_of, capped}
+
+capped_added : (a b : ℕ) → capped (capped a + capped b) ≡ capped (a + b)
+capped_added a b = omega arith
+
+pub amount_added : (a b : Resources) → added (amount_of a) (amount_of b) ≡ amount_of (plus a b)
+amount_added a b = λ i. record { cpu = capped_added a.cpu b.cpu i; memory = capped_added a.memory b.memory i }

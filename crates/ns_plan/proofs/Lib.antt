@@ -1,0 +1,4 @@
+pub mod Reader
+pub mod Capped
+pub mod Looks
+pub mod Afterwards

@@ -1,0 +1,24 @@
+-- What is decided node by node needs no state but the one after the stops.
+use Rattle.std.specs.Prelude.{◌≡◌, ℕ, List, fold}
+use Rattle.ns_types.specs.declared.plan.Placement.{Placement}
+use Rattle.ns_types.specs.declared.snapshot.Snapshot.{Snapshot}
+use Rattle.ns_types.specs.State.Rows.{World}
+use Rattle.ns_types.specs.Validity.{IsSound}
+use Rattle.ns_types.specs.Working.Commit.{Commit, begun, decide}
+use Rattle.ns_plan.specs.Looks.{AreCounted}
+use Rattle.ns_plan.specs.Reader.{Read, read_all}
+
+-- the same is placed, committed and dropped
+pub record DecidesAs (c : Commit) (r : Read) : Type 0 where
+  pub placed : c.placed ≡ r.placed
+  pub committed : c.committed ≡ r.committed
+  pub dropped : c.dropped ≡ r.dropped
+
+-- who writes nothing before all nodes are decided decides as who takes each node's victims out at once
+abbrev pub ReadingDecides : Type 0
+ReadingDecides = (kept : Snapshot) (placements : List Placement) (w : World) (nodes : List ℕ) →
+    DecidesAs (fold (decide kept placements) (begun w) nodes) (read_all kept placements w nodes)
+
+-- a valid world's sums can be counted
+abbrev pub SoundIsCounted : Type 0
+SoundIsCounted = (w : World) → IsSound w → AreCounted w

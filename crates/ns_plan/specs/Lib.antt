@@ -1,0 +1,5 @@
+pub mod After
+pub mod Amounts
+pub mod Looks
+pub mod Reader
+pub mod Laws

@@ -1,0 +1,40 @@
+-- What a plan is checked against: look-ups of the present state whose sums can be counted.
+use Rattle.std.specs.Prelude.{◌≡◌, Option, Some, None, if◌then◌else◌}
+use Rattle.std.specs.FinMap.{get}
+use Rattle.std.specs.Option.{option_and_then, option_map_or}
+use Rattle.ns_place.specs.Amounts.{IsCounted}
+use Rattle.ns_types.specs.declared.allocation.Allocation.{Allocation}
+use Rattle.ns_types.specs.declared.job.Job.{Job}
+use Rattle.ns_types.specs.declared.plan.Plan.{Plan}
+use Rattle.ns_types.specs.declared.resources.Limits.{Limits}
+use Rattle.ns_types.specs.declared.snapshot.Snapshot.{Snapshot}
+use Rattle.ns_types.specs.State.Names.{Key, Name}
+use Rattle.ns_types.specs.State.Resources.{limits_in, unlimited}
+use Rattle.ns_types.specs.State.Rows.{Tenant, World, allocation_at, is_live}
+use Rattle.ns_types.specs.State.Sums.{node_load, quota_use}
+use Rattle.ns_types.specs.Working.Commit.{Checked, commit}
+
+abbrev pub job_at : World → Name → Name → Option Job
+job_at w ns id = option_and_then (λ t. get t.jobs id) (get w.tenants ns)
+
+-- a quota that is not there limits nothing
+abbrev pub limits_of : World → Name → Limits
+limits_of w quota = option_map_or (λ rows. limits_in rows.quota.limits) (get w.quotas quota) unlimited
+
+-- the load of each node and the use of each quota fit 64 bits, be they there or not
+pub record AreCounted (w : World) : Type 0 where
+  pub load : (pool node : Name) → IsCounted (node_load w pool node)
+  pub used : (quota : Name) → IsCounted (quota_use w quota)
+
+-- the allocation, where it is live
+abbrev pub if_live : Option Allocation → Option Allocation
+if_live None = None
+if_live (Some a) = if is_live a then Some a else None
+
+abbrev pub live_at : World → Key → Option Allocation
+live_at w key = if_live (allocation_at w key)
+
+-- the parts of the plan that are done in this state, where the snapshot's namespace is there
+abbrev pub IsChecked : Snapshot → Plan → World → Checked → Type 0
+IsChecked kept p w checked = (t : Tenant) → get w.tenants kept.namespace ≡ Some t →
+    checked ≡ (commit kept p w t).checked

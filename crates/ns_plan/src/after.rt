@@ -1,0 +1,196 @@
+//! The state after a plan's stops, read from the present one: nothing is written. The stops are of one namespace.
+
+ghost use Rattle.std.specs.Prelude.{◌≡◌, ◌<◌, ℕ, length, map, option_copied, slice_index_or, take};
+ghost use Rattle.ns_types.specs.State.Names.{has_key, has_number};
+ghost use Rattle.ns_types.specs.State.Rows.{is_live_on};
+ghost use Rattle.ns_types.specs.State.Sums.{node_load, quota_use};
+ghost use Rattle.ns_types.specs.Working.Commit.{counts, stop_all};
+ghost use Rattle.ns_plan.specs.After.{keys_of, names, part_of_quota, part_on, stop_keys};
+ghost use Rattle.ns_plan.specs.Looks.{AreCounted, if_live, live_at};
+ghost use Rattle.ns_plan.specs.Reader.{load_left, use_left};
+
+use crate::amounts::less;
+use crate::view::View;
+use ns_types::allocation::Allocation;
+use ns_types::plan::Eviction;
+use ns_types::resources::Resources;
+use ns_types::text::{Text, same_text};
+
+const NONE: Resources = Resources { cpu: 0, memory: 0 };
+
+/// Whether the number is among them.
+#[tactic(auto, using(ns_types::proofs::Named::number_ties))]
+pub(crate) fn has_number(numbers: &[u64], number: u64) -> bool
+    ensures { result ≡ has_number numbers.now number }
+{
+    numbers.iter().any(|n| number == *n)
+}
+
+#[tactic(auto, using(crate::proofs::Afterwards::stopped_has))]
+fn is_stopped(namespace: &Text, stops: &[u64], owner: &Text, number: u64) -> bool
+    ensures { result ≡ has_key (stop_keys namespace.now stops.now) (owner.now, number) }
+{
+    same_text(owner, namespace) && has_number(stops, number)
+}
+
+fn if_live<'a>(row: Option<&'a Allocation>) -> Option<&'a Allocation>
+    ensures { option_copied result ≡ if_live (option_copied row.entry) }
+{
+    match row {
+        Some(row) if row.is_live() => Some(row),
+        _ => None,
+    }
+}
+
+/// The allocation, where it is live after the stops.
+pub(crate) fn live<'a, V: View>(
+    view: &'a V,
+    namespace: &Text,
+    stops: &[u64],
+    owner: &Text,
+    number: u64,
+) -> Option<&'a Allocation>
+    ensures { option_copied result ≡
+        live_at (stop_all namespace.now stops.now (V.world view.now)) (owner.now, number) }
+{
+    if is_stopped(namespace, stops, owner, number) {
+        None
+    } else {
+        if_live(view.allocation(owner, number))
+    }
+}
+
+fn is_live_on(row: &Allocation, pool: &Text, node: &Text) -> bool
+    ensures { result ≡ is_live_on pool.now node.now row.now }
+{
+    row.is_live() && same_text(pool, &row.pool) && same_text(node, &row.node)
+}
+
+/// Whether the eviction counts on the node after the stops.
+#[tactic(auto, using(crate::proofs::Afterwards::counts_live))]
+pub(crate) fn counts<V: View>(
+    view: &V,
+    namespace: &Text,
+    stops: &[u64],
+    pool: &Text,
+    node: &Text,
+    eviction: &Eviction,
+) -> bool
+    ensures { result ≡ counts (stop_all namespace.now stops.now (V.world view.now))
+        pool.now node.now eviction.now }
+{
+    match live(view, namespace, stops, &eviction.namespace, eviction.number) {
+        Some(row) => is_live_on(row, pool, node) && row.priority == eviction.priority,
+        None => false,
+    }
+}
+
+fn part_on(row: Option<&Allocation>, pool: &Text, node: &Text) -> Resources
+    ensures { result ≡ part_on pool.now node.now (option_copied row.entry) }
+{
+    match row {
+        Some(row) if is_live_on(row, pool, node) => row.size,
+        _ => NONE,
+    }
+}
+
+fn part_of_quota(named: bool, row: Option<&Allocation>) -> Resources
+    ensures { result ≡ part_of_quota named (option_copied row.entry) }
+{
+    match row {
+        Some(row) if named && row.is_live() => row.size,
+        _ => NONE,
+    }
+}
+
+fn names<V: View>(view: &V, quota: &Text, namespace: &Text) -> bool
+    ensures { result ≡ names (V.world view.now) quota.now namespace.now }
+{
+    match view.quota(namespace) {
+        Some(name) => same_text(quota, name),
+        None => false,
+    }
+}
+
+/// Whether the number at the place stands earlier too.
+fn stands_earlier(numbers: &[u64], place: usize) -> bool
+    requires { place < length numbers.now }
+    ensures { (d : ℕ) → result ≡ has_number (take place numbers.now) (slice_index_or numbers.now place d) }
+{
+    has_number(&numbers[..place], numbers[place])
+}
+
+fn load<V: View>(
+    view: &V,
+    namespace: &Text,
+    stops: &[u64],
+    pool: &Text,
+    node: &Text,
+) -> Resources
+    requires { AreCounted (V.world view.now) }
+    ensures { result ≡ node_load (stop_all namespace.now stops.now (V.world view.now))
+        pool.now node.now }
+{
+    let mut left = view.load(pool, node);
+    for i in 0..stops.len() {
+        if !stands_earlier(stops, i) {
+            left = less(left, part_on(view.allocation(namespace, stops[i]), pool, node));
+        }
+    }
+    left
+}
+
+/// What is left of the node's load without the stops and those allocations.
+pub(crate) fn load_left<V: View>(
+    view: &V,
+    namespace: &Text,
+    stops: &[u64],
+    held: &[&Eviction],
+    pool: &Text,
+    node: &Text,
+) -> Resources
+    requires { AreCounted (V.world view.now) }
+    ensures { result ≡ load_left (stop_all namespace.now stops.now (V.world view.now))
+        pool.now node.now (keys_of (map (λ e. e.now) held.now)) }
+{
+    let mut left = load(view, namespace, stops, pool, node);
+    for victim in held {
+        let row = live(view, namespace, stops, &victim.namespace, victim.number);
+        left = less(left, part_on(row, pool, node));
+    }
+    left
+}
+
+fn used<V: View>(view: &V, namespace: &Text, stops: &[u64], quota: &Text) -> Resources
+    requires { AreCounted (V.world view.now) }
+    ensures { result ≡ quota_use (stop_all namespace.now stops.now (V.world view.now)) quota.now }
+{
+    let named = names(view, quota, namespace);
+    let mut left = view.used(quota);
+    for i in 0..stops.len() {
+        if !stands_earlier(stops, i) {
+            left = less(left, part_of_quota(named, view.allocation(namespace, stops[i])));
+        }
+    }
+    left
+}
+
+/// What is left of the quota's use without the stops and those allocations.
+pub(crate) fn use_left<V: View>(
+    view: &V,
+    namespace: &Text,
+    stops: &[u64],
+    held: &[&Eviction],
+    quota: &Text,
+) -> Resources
+    requires { AreCounted (V.world view.now) }
+    ensures { result ≡ use_left (stop_all namespace.now stops.now (V.world view.now))
+        quota.now (keys_of (map (λ e. e.now) held.now)) }
+{
+    let mut left = used(view, namespace, stops, quota);
+    for victim in held {
+        let row = live(view, namespace, stops, &victim.namespace, victim.number);
+        left = less(left, part_of_quota(names(view, quota, &victim.namespace), row));
+    }
+    left
+}

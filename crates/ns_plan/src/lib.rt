@@ -1,0 +1,9 @@
+//! Which parts of a plan are done in the present state. Nomad's page "Scheduling in Nomad", of the plan queue.
+#![tactic(auto)]
+
+mod after;
+mod amounts;
+pub mod laws;
+mod view;
+
+pub use view::View;
