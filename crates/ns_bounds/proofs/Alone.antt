@@ -42,7 +42,8 @@ one_entry {X = X} name x = ap entries (by (has_slot (empty {X = Option X} {R = n
 
 -- where nothing is given, none wakes
 pub none_given_wakes : (w : World) → list_any (given_waking_passes w [] []) w.blocked ≡ false
-none_given_wakes w = any_alike (given_waking_passes w [] []) (λ _. false) w.blocked (each _ (λ key. by key (get w.tenants key.0)) w.blocked) ∙ any_none w.blocked
+none_given_wakes w = any_alike (given_waking_passes w [] []) (λ _. false) w.blocked (each _ (λ key. by key (get w.tenants key.0)) w.blocked) ∙
+    any_none w.blocked
   where
     by : (key : Key) (t : Option Tenant) → option_map_or (given_waking_passes_in w [] [] key) t false ≡ false
     by key None = refl

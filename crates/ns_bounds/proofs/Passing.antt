@@ -53,7 +53,8 @@ module _ (t : Tables) (name : Name) where
 -- where nothing is released, none wakes
 module _ (w : World) (c : Change) where
   pub none_wakes : released_rooms w c ≡ [] → released_quotas w c ≡ [] → list_any (waking_passes w c) w.blocked ≡ false
-  none_wakes no_rooms no_quotas = any_alike (waking_passes w c) (λ _. false) w.blocked (each _ (λ key. by key (get w.tenants key.0)) w.blocked) ∙ any_none w.blocked
+  none_wakes no_rooms no_quotas = any_alike (waking_passes w c) (λ _. false) w.blocked (each _ (λ key. by key (get w.tenants key.0)) w.blocked) ∙
+      any_none w.blocked
     where
       sleeps : (key : Key) → does_wake w c key ≡ false
       sleeps key = (λ i. is_woken w c.blocked (no_rooms i) (no_quotas i) key) ∙ ap (λ b. stays c.blocked key && b) (wakes_nothing w key) ∙

@@ -10,11 +10,14 @@ use Rattle.ns_types.specs.State.Rows.{World, Tenant, evaluation_at}
 use Rattle.ns_bounds.specs.Bounds.{is_at_bound, quota_passes, room_passes, shows_awake}
 use Rattle.ns_release.specs.Released.{releases_wake_at}
 
-abbrev pub given_waking_passes_in : World → List (Name × Class) → List Name → Key → Tenant → Bool
-given_waking_passes_in w rooms quotas key t =
-    is_at_bound t.index && (releases_wake_at w rooms quotas key && shows_awake t key.1 (evaluation_at w key))
+-- such releases wake the evaluation of the entry, and it is then shown otherwise than before
+abbrev pub wakes_shown : World → List (Name × Class) → List Name → Key → Tenant → Bool
+wakes_shown w rooms quotas key t = releases_wake_at w rooms quotas key && shows_awake t key.1 (evaluation_at w key)
 
--- such releases wake the evaluation of the entry, and its namespace's index passes by that
+abbrev pub given_waking_passes_in : World → List (Name × Class) → List Name → Key → Tenant → Bool
+given_waking_passes_in w rooms quotas key t = is_at_bound t.index && wakes_shown w rooms quotas key t
+
+-- and its namespace's index passes by that
 abbrev pub given_waking_passes : World → List (Name × Class) → List Name → Key → Bool
 given_waking_passes w rooms quotas key =
     option_map_or (given_waking_passes_in w rooms quotas key) (get w.tenants key.0) false

@@ -1,7 +1,7 @@
 //! Whether room on one node, or other limits of a quota, pass the bound of a counter, where a step gives them and does
 //! nothing else. It takes no memory, and needs no change: so a command is refused before it takes any.
 
-ghost use Rattle.std.specs.Prelude.{◌≡◌, ◌&&◌, ◌∷◌, [], List};
+ghost use Rattle.std.specs.Prelude.{◌≡◌, ◌∷◌, [], List};
 ghost use Rattle.std.specs.List.{list_any};
 ghost use Rattle.ns_types.specs.declared.node.Class.{Class};
 ghost use Rattle.ns_types.specs.State.Names.{Name};
@@ -9,7 +9,7 @@ ghost use Rattle.ns_types.specs.State.Rows.{evaluation_at, offered_class};
 ghost use Rattle.ns_release.specs.Released.{releases_wake, releases_wake_at};
 ghost use Rattle.ns_bounds.specs.Bounds.{shows_awake};
 ghost use Rattle.ns_bounds.specs.Given.{given_limits_pass, given_room_passes, given_waking_passes};
-ghost use Rattle.ns_bounds.specs.Given.{given_waking_passes_in};
+ghost use Rattle.ns_bounds.specs.Given.{given_waking_passes_in, wakes_shown};
 ghost use Rattle.ns_world.specs.World.{tenant_of, world_of};
 
 use crate::awake::changes_awake;
@@ -75,8 +75,8 @@ impl Given for Limits<'_> {
 
 /// Whether what is given wakes the evaluation of an entry.
 fn given_wakes<G: Given>(given: &G, tables: &Tables, key: &EvalKey) -> bool
-    ensures { result ≡ releases_wake_at (world_of tables.now) (G.rooms given.now) (G.quotas given.now)
-        key.now }
+    ensures { result ≡ releases_wake_at (world_of tables.now) (G.rooms given.now)
+        (G.quotas given.now) key.now }
 {
     match tables.evaluation(key.namespace(), key.number()) {
         Some(row) => given.wakes(tables, row),
@@ -96,10 +96,8 @@ fn shows_awake(tables: &Tables, tenant: &TenantRows, key: &EvalKey) -> bool
 }
 
 fn wakes_shown<G: Given>(given: &G, tables: &Tables, tenant: &TenantRows, key: &EvalKey) -> bool
-    ensures { result ≡ (releases_wake_at (world_of tables.now) (G.rooms given.now) (G.quotas given.now)
-        key.now
-        && shows_awake (tenant_of tenant.now) key.now.1
-        (evaluation_at (world_of tables.now) key.now)) }
+    ensures { result ≡ wakes_shown (world_of tables.now) (G.rooms given.now) (G.quotas given.now)
+        key.now (tenant_of tenant.now) }
 {
     given_wakes(given, tables, key) && shows_awake(tables, tenant, key)
 }
@@ -136,8 +134,8 @@ fn any_waking_passes<G: Given>(given: &G, tables: &Tables, keys: &[EvalKey]) -> 
 
 // ---- one thing that is given
 
-/// Whether a counter passes its bound by a step that gives room on a node of such an offer in the pool, and nothing else. Its
-/// work grows with the number of blocked evaluations.
+/// Whether a counter passes its bound by a step that gives room on a node of such an offer in the pool, and nothing else.
+/// Its work grows with the number of blocked evaluations.
 pub fn given_room_passes(tables: &Tables, pool: &Text, offer: &Offer) -> bool
     ensures { result ≡ given_room_passes (world_of tables.now) (pool.now, offered_class offer.now) }
 {

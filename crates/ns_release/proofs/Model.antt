@@ -12,7 +12,8 @@ use Rattle.ns_types.specs.declared.records.Namespace.{Namespace}
 use Rattle.ns_types.specs.declared.records.Quota.{Quota}
 use Rattle.ns_types.specs.Asking.Admins.{with_quota}
 use Rattle.ns_types.specs.State.Names.{Name, Key, same_name, has_name, has_key}
-use Rattle.ns_types.specs.Settling.Releases.{can_use, changes_limits, counts_in, ends, is_released_quota, released_classes, releases_quota, wakes, wakes_by, woken}
+use Rattle.ns_types.specs.Settling.Releases.{can_use, changes_limits, counts_in, ends, is_released_quota, released_classes, releases_quota}
+use Rattle.ns_types.specs.Settling.Releases.{wakes, wakes_by, woken}
 use Rattle.ns_types.specs.State.Resources.{limits_in}
 use Rattle.ns_types.specs.State.Rows.{World, PoolRows, QuotaRows, evaluation_at}
 use Rattle.ns_types.specs.Settling.Settle.{after_release, after_quota_release, wake}

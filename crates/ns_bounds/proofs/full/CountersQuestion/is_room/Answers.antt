@@ -5,8 +5,9 @@ use Rattle.ns_bounds.proofs.Passing.{pool_bound}
 use Rattle.ns_bounds.proofs.full.CountersQuestion.is_room.Goals as goal
 
 pub returns-in-Some : goal.returns-in-Some
-returns-in-Some c = c.is_at_bound.ensures ∙ sym (pool_bound c.args.self.now.tables.now c.args.pool.now (offered_class c.args._offer.now) (Some c.in-Some.rows.now)
-    (sym c.get.ensures ∙ ap option_copied c.in-Some.is))
+returns-in-Some c = c.is_at_bound.ensures ∙ sym (pool_bound c.args.self.now.tables.now c.args.pool.now (offered_class c.args._offer.now)
+    (Some c.in-Some.rows.now) (sym c.get.ensures ∙ ap option_copied c.in-Some.is))
 
 pub returns-in-None : goal.returns-in-None
-returns-in-None c = sym (pool_bound c.args.self.now.tables.now c.args.pool.now (offered_class c.args._offer.now) None (sym c.get.ensures ∙ ap option_copied c.in-None.is))
+returns-in-None c = sym (pool_bound c.args.self.now.tables.now c.args.pool.now (offered_class c.args._offer.now) None
+    (sym c.get.ensures ∙ ap option_copied c.in-None.is))
