@@ -3,7 +3,11 @@
 
 mod after;
 mod amounts;
+mod deciding;
 pub mod laws;
+mod stops;
+mod taking;
+mod victims;
 mod view;
 
 pub use view::View;
