@@ -1,5 +1,5 @@
 -- The state after the stops, row by row and sum by sum.
-use Rattle.std.specs.Prelude.{◌≡◌, ℕ, ◌+◌, ◌-◌, ◌++◌, Bool, true, false, cond, List, [], ◌∷◌, Option, Some, None, ◌&&◌, ◌||◌, map, option_map, sum_by}
+use Rattle.std.specs.Prelude.{◌≡◌, ℕ, ◌+◌, ◌++◌, Bool, true, false, cond, List, [], ◌∷◌, Option, Some, None, ◌&&◌, map, option_map, sum_by}
 use Rattle.std.proofs.Common.{◌<◌, Bor, get_or, length, take, add-one, refl, sym, ap, ◌∙◌, arith}
 use Rattle.std.proofs.Math.Seq.{take-suc}
 use Rattle.std.proofs.lemmas.List.{map-append}
@@ -16,7 +16,7 @@ use Rattle.ns_types.specs.State.Sums.{names_quota, node_load, quota_use}
 use Rattle.ns_types.specs.Working.Commit.{counts, quota_named, stop_all, victim_key}
 use Rattle.ns_types.proofs.Elements.{any_map, any_under}
 use Rattle.ns_types.proofs.Gone.{rows_gone, stopped_are, stopped_row}
-use Rattle.ns_types.proofs.Less.{nodes_stay, quotas_stay, allocation_then, gone_alike, load_less, named_stays, node_parts, quota_parts, use_less}
+use Rattle.ns_types.proofs.Less.{nodes_stay, quotas_stay, allocation_then, gone_alike, load_less, named_stays, use_less}
 use Rattle.ns_types.proofs.Named.{same_name_refl}
 use Rattle.ns_types.proofs.Once.{once, once_apart, once_has, once_push}
 use Rattle.ns_types.proofs.Taken.{node_part, quota_part, row_size, size_at}

@@ -4,3 +4,4 @@ pub mod Looks
 pub mod Afterwards
 pub mod Holding
 pub mod Steps
+pub mod Parts

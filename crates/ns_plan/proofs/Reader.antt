@@ -1,12 +1,11 @@
 -- What is decided node by node needs no state but the one after the stops, and the keys of the victims so far.
-use Rattle.std.specs.Prelude.{◌≡◌, ℕ, ◌+◌, ◌-◌, Bool, true, false, cond, not, List, [], ◌∷◌, ◌++◌, ◌&&◌, ◌||◌, filter, flat_map, fold, map}
+use Rattle.std.specs.Prelude.{◌≡◌, ℕ, Bool, true, false, cond, not, List, [], ◌∷◌, ◌++◌, ◌&&◌, ◌||◌, filter, fold, map}
 use Rattle.std.proofs.Common.{refl, sym, ap, ◌∙◌}
 use Rattle.std.proofs.lemmas.List.Folds.{list_any-append}
 use Rattle.std.specs.FinMap.{get}
 use Rattle.std.specs.List.{list_any}
 use Rattle.std.specs.Option.{option_map_or}
 use Rattle.ns_types.specs.declared.allocation.Allocation.{Allocation}
-use Rattle.ns_types.specs.declared.plan.Eviction.{Eviction}
 use Rattle.ns_types.specs.declared.plan.Placement.{Placement}
 use Rattle.ns_types.specs.declared.resources.Resources.{Resources}
 use Rattle.ns_types.specs.declared.snapshot.Snapshot.{Snapshot}
@@ -20,7 +19,7 @@ use Rattle.ns_types.proofs.Elements.{any_flat, any_map, any_same}
 use Rattle.ns_types.proofs.Gone.{evicted_are, evicted_row, row_gone, rows_gone}
 use Rattle.ns_types.proofs.Less.{counts_left, gone_alike, load_less, named_stays, nodes_stay, quotas_stay, use_less}
 use Rattle.ns_types.proofs.Lists.{not_both}
-use Rattle.ns_types.proofs.Once.{AllApart, key_is, once, once_apart, once_has}
+use Rattle.ns_types.proofs.Once.{AllApart, key_is, once_apart, once_has}
 use Rattle.ns_plan.specs.Laws.{DecidesAs}
 use Rattle.ns_plan.specs.Reader.{Read, nothing_read, read_all, read_one, takes, with_victims}
 

@@ -40,7 +40,15 @@ pub(crate) fn decide_all<V: View>(
     let mut dropped = Vec::new(alloc);
     for node in nodes {
         let before = held.as_slice().len();
-        hold(alloc, view, snapshot, stops, placements, &[*node], &mut held)?;
+        hold(
+            alloc,
+            view,
+            snapshot,
+            stops,
+            placements,
+            &[*node],
+            &mut held,
+        )?;
         let size = size_of_part(placements, *node);
         if takes_at(alloc, view, snapshot, stops, &held, *node, size, placed) {
             placed = add(placed, size);

@@ -3,6 +3,7 @@
 
 mod after;
 mod amounts;
+mod checking;
 mod deciding;
 pub mod laws;
 mod stops;
@@ -10,4 +11,5 @@ mod taking;
 mod victims;
 mod view;
 
+pub use checking::{Outcome, check};
 pub use view::View;

@@ -88,9 +88,25 @@ fn hold_at<'a, V: View>(
     match snapshot.nodes.as_slice().get(placement.node as usize) {
         Some(node) => {
             let name = &node.get().name;
-            hold_on(view, namespace, stops, &snapshot.pool, name, evictions, held)
+            hold_on(
+                view,
+                namespace,
+                stops,
+                &snapshot.pool,
+                name,
+                evictions,
+                held,
+            )
         }
-        None => hold_on(view, namespace, stops, &snapshot.pool, &nameless, evictions, held),
+        None => hold_on(
+            view,
+            namespace,
+            stops,
+            &snapshot.pool,
+            &nameless,
+            evictions,
+            held,
+        ),
     }
 }
 

@@ -1,5 +1,5 @@
 use Rattle.std.proofs.Common.{◌≡◌, ◌∙◌, ◌++◌, ◌∷◌, [], ap, get_or, length, map, subst, sym, take}
-use Rattle.ns_types.specs.Working.Commit.{node_name, part_of, size_of, stop_all, victim_key, victims_of}
+use Rattle.ns_types.specs.Working.Commit.{node_name, part_of, size_of, stop_all, victims_of}
 use Rattle.ns_types.proofs.Once.{once}
 use Rattle.ns_plan.specs.After.{keys_of}
 use Rattle.ns_plan.specs.Amounts.{added}
@@ -24,7 +24,7 @@ loop-node-preserved g c =
     c.in_ok-hold.ensures r.keys (s.held_is ∙ s.apart) ∙ ap (λ l. once (r.keys ++ keys_of (victims_of x kept l))) (part_is k ps) in
     let size = c.size_of_part-size.ensures in
     let decided = c.takes_at.ensures (size_of part) r.placed size s.placed_is
-        ∙ ap (λ l. takes kept x l (node_name kept k) (size_of part) r.placed) (ap (λ l. keys_of (map (λ e. e.now) l)) c.deref.ensures.value ∙ grown) in
+    ∙ ap (λ l. takes kept x l (node_name kept k) (size_of part) r.placed) (ap (λ l. keys_of (map (λ e. e.now) l)) c.deref.ensures.value ∙ grown) in
     subst (λ d. IsSoFar c.if-takes_at.held.items c.if-takes_at.placed c.if-takes_at.committed.items c.if-takes_at.dropped.items d)
     (sym (read_next kept ps x nodes at c.loop-node-test.true))
     (elim c.if-takes_at.branch [
