@@ -193,7 +193,8 @@ module _ (w : World) (ns : Name) (stops : List ℕ) where
       (ap (λ x. quota_named x owner) once_stopped ∙ named_stays stopped_row (λ a. refl) w (once (stop_keys ns stops)) owner)
 
 -- the quota that a namespace names, and what it allows, stay
-pub allows_after : (w : World) (ns : Name) (stops : List ℕ) (owner : Name) (keys : List Key) (amount : Resources) → allows (stop_all ns stops w) owner keys amount ≡
+pub allows_after : (w : World) (ns : Name) (stops : List ℕ) (owner : Name) (keys : List Key) (amount : Resources) →
+    allows (stop_all ns stops w) owner keys amount ≡
     option_map_or (λ q. limits_allow (limits_of w q) (plus (use_left (stop_all ns stops w) q keys) amount)) (quota_named w owner) true
 allows_after w ns stops owner keys amount = λ i. option_map_or (λ q. limits_allow (option_map_or (λ rows. limits_in rows.quota.limits)
     (get ((ap (λ x. x.quotas) (once_stopped w ns stops) ∙ quotas_stay stopped_row (λ a. refl) w (once (stop_keys ns stops))) i) q) unlimited)
@@ -209,7 +210,8 @@ node_after w ns stops pool name = ap (λ x. node_at x pool name) (once_stopped w
 
 module _ (ns : Name) (stops : List ℕ) (i : ℕ) (inside : i < length stops) where
   stops_next : stop_keys ns (take (i + 1) stops) ≡ stop_keys ns (take i stops) ++ (ns, get_or stops i 0) ∷ []
-  stops_next = ap (stop_keys ns) (ap (λ n. take n stops) (add-one i) ∙ take-suc stops i 0 inside) ∙ map-append (λ n. (ns, n)) (take i stops) (get_or stops i 0 ∷ [])
+  stops_next = ap (stop_keys ns) (ap (λ n. take n stops) (add-one i) ∙ take-suc stops i 0 inside)
+      ∙ map-append (λ n. (ns, n)) (take i stops) (get_or stops i 0 ∷ [])
 
   found : (b : Bool) → has_number (take i stops) (get_or stops i 0) ≡ b → has_key (stop_keys ns (take i stops)) (ns, get_or stops i 0) ≡ b
   found b e = stopped_has ns (take i stops) ns (get_or stops i 0) ∙ ap (λ c. c && has_number (take i stops) (get_or stops i 0)) (same_name_refl ns) ∙ e
@@ -235,6 +237,7 @@ evictions_in held = map (λ e. e.now) held
 
 pub held_next : (held : List (Bor Eviction)) (i : ℕ) (r : Bor Eviction) → i < length held → r ≡ get_or held i r →
     keys_of (evictions_in (take (i + 1) held)) ≡ keys_of (evictions_in (take i held)) ++ victim_key r.now ∷ []
-held_next held i r inside is = ap (λ l. keys_of (evictions_in l)) (ap (λ n. take n held) (add-one i) ∙ take-suc held i r inside ∙ ap (λ x. take i held ++ x ∷ []) (sym is))
+held_next held i r inside is =
+    ap (λ l. keys_of (evictions_in l)) (ap (λ n. take n held) (add-one i) ∙ take-suc held i r inside ∙ ap (λ x. take i held ++ x ∷ []) (sym is))
     ∙ ap keys_of (map-append (λ (e : Bor Eviction). e.now) (take i held) (r ∷ []))
     ∙ map-append victim_key (evictions_in (take i held)) (r.now ∷ [])

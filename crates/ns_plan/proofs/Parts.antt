@@ -1,5 +1,6 @@
 -- From the parts as they are found to the parts that the model does.
-use Rattle.std.specs.Prelude.{◌≡◌, ℕ, ◌++◌, Bool, true, false, cond, not, List, [], ◌∷◌, Some, ◌||◌, ◌+◌, ◌<◌, T, IfOk, Result, Ok, Err, filter, length, map, take}
+use Rattle.std.specs.Prelude.{◌≡◌, ℕ, ◌++◌, Bool, true, false, cond, not, List, [], ◌∷◌, Some, ◌||◌, ◌+◌, ◌<◌, T, IfOk, Result, Ok, Err, filter, length, map}
+use Rattle.std.specs.Prelude.{take}
 use Rattle.std.proofs.Common.{get_or, refl, sym, ap, subst, ◌∙◌}
 use Rattle.std.proofs.lemmas.List.{append-nil, map-append}
 use Rattle.std.specs.FinMap.{get}
@@ -49,7 +50,8 @@ module _ {A : Type 0} (same : A → A → Bool) (turned : (a b : A) → same a b
         by : list_any (same k) (first_each same xs) ≡ list_any (same k) xs → (b : Bool) → same k x ≡ b →
             (b || list_any (same k) (filter (λ y. not (same x y)) (first_each same xs))) ≡ (b || list_any (same k) xs)
         by later true t = refl
-        by later false t = sym (any_chosen (λ y. not (same x y)) (same k) (first_each same xs) (each _ (λ y. other y (same x y) refl) (first_each same xs))) ∙ later
+        by later false t = sym (any_chosen (λ y. not (same x y)) (same k) (first_each same xs) (each _ (λ y. other y (same x y) refl) (first_each same xs)))
+            ∙ later
           where
             other : (y : A) (b : Bool) → same x y ≡ b → not b ≡ false → same k y ≡ false
             other y true e _ = ap (same k) (sym (is x y e)) ∙ t

@@ -63,7 +63,8 @@ module _ (kept : Snapshot) (w : World) (keys : List Key) where
       ∙ sym (any_map (same_key k) victim_key (victims_of w kept part)
       ∙ any_flat (λ e. same_key k (victim_key e)) (victims_in w kept) part)
     where
-      each : (p : Placement) → list_any (λ e. same_key k (victim_key e)) (victims_in gone kept p) ≡ list_any (λ e. same_key k (victim_key e)) (victims_in w kept p)
+      each : (p : Placement) →
+          list_any (λ e. same_key k (victim_key e)) (victims_in gone kept p) ≡ list_any (λ e. same_key k (victim_key e)) (victims_in w kept p)
       each p = (λ i. list_any (λ e. same_key k (victim_key e))
           (filter (λ e. counts_left evicted_row (λ a. refl) (λ a. refl) w keys kept.pool (node_name kept p.node) e i) p.evictions))
           ∙ any_left (λ e. same_key k (victim_key e)) (λ e. has_key keys (victim_key e)) (counts w kept.pool (node_name kept p.node))
@@ -75,7 +76,8 @@ module _ (kept : Snapshot) (w : World) (keys : List Key) where
     where
       by : (b : Bool) → has_key keys k ≡ b → (has_key keys k || has_key (map victim_key (victims_of gone kept part)) k)
           ≡ (has_key keys k || has_key (map victim_key (victims_of w kept part)) k)
-      by true e = ap (λ b. b || has_key (map victim_key (victims_of gone kept part)) k) e ∙ ap (λ b. b || has_key (map victim_key (victims_of w kept part)) k) (sym e)
+      by true e = ap (λ b. b || has_key (map victim_key (victims_of gone kept part)) k) e
+          ∙ ap (λ b. b || has_key (map victim_key (victims_of w kept part)) k) (sym e)
       by false e = ap (λ b. has_key keys k || b) (same_found part k e)
 
   -- a node's victims go

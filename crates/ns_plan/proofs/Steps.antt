@@ -25,7 +25,8 @@ use Rattle.ns_plan.specs.Reader.{Read, nothing_read, read_all, read_one, takes, 
 
 once_idle : (keys : List Key) → AllApart keys → once keys ≡ keys
 once_idle [] h = refl
-once_idle (x ∷ keys) h = ap (λ l. x ∷ filter (λ y. not (same_key x y)) l) (once_idle keys h.1) ∙ ap (λ l. x ∷ l) (filter_all (λ y. not (same_key x y)) keys (apart keys h.0))
+once_idle (x ∷ keys) h = ap (λ l. x ∷ filter (λ y. not (same_key x y)) l) (once_idle keys h.1)
+    ∙ ap (λ l. x ∷ l) (filter_all (λ y. not (same_key x y)) keys (apart keys h.0))
   where
     apart : (ys : List Key) → Each (λ k. same_key k x ≡ false) ys → Each (λ y. not (same_key x y) ≡ true) ys
     apart [] h = tt

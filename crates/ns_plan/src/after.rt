@@ -115,7 +115,8 @@ fn names<V: View>(view: &V, quota: &Text, namespace: &Text) -> bool
 /// Whether the number at the place stands earlier too.
 fn stands_earlier(numbers: &[u64], place: usize) -> bool
     requires { place < length numbers.now }
-    ensures { (d : ℕ) → result ≡ has_number (take place numbers.now) (slice_index_or numbers.now place d) }
+    ensures { (d : ℕ) → result ≡
+        has_number (take place numbers.now) (slice_index_or numbers.now place d) }
 {
     has_number(&numbers[..place], numbers[place])
 }

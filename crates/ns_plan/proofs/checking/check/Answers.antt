@@ -24,7 +24,14 @@ returns g c = λ t is.
     let w = g.V.View.world c.args.view.now in
     let stands : still_stands kept.job (job_at w kept.namespace kept.evaluation.job) ≡ false =
     (λ i. still_stands (sym c.as_ref.ensures.value i) (sym c.job-job.ensures i)) ∙ sym c.still_stands.ensures ∙ c.if-still_stands.false in
-    let parts : Checked = record { is_refused = true; stops = c.new.result.items; committed = c.new-else-still_stands.result.items; dropped = c.in_ok-nodes.nodes.items; victims = keys_of (map (λ e. e.now) c.new-else-still_stands-2.result.items) } in
+    let parts : Checked = record {
+      is_refused = true;
+      stops = c.new.result.items;
+      committed = c.new-else-still_stands.result.items;
+      dropped =
+          c.in_ok-nodes.nodes.items;
+      victims = keys_of (map (λ e. e.now) c.new-else-still_stands-2.result.items);
+    } in
     (λ i. record parts {
       stops = c.new.ensures.items i;
       committed = c.new-else-still_stands.ensures.items i;
