@@ -1,5 +1,5 @@
 -- The state after the stops, row by row and sum by sum.
-use Rattle.std.specs.Prelude.{◌≡◌, ℕ, ◌+◌, ◌-◌, ◌++◌, Bool, true, false, cond, List, [], ◌∷◌, Option, Some, None, ◌&&◌, ◌||◌, map, option_map, sum_by}
+use Rattle.std.specs.Prelude.{◌≡◌, ℕ, ◌+◌, ◌++◌, Bool, true, false, cond, List, [], ◌∷◌, Option, Some, None, ◌&&◌, map, option_map, sum_by}
 use Rattle.std.proofs.Common.{◌<◌, Bor, get_or, length, take, add-one, refl, sym, ap, ◌∙◌, arith}
 use Rattle.std.proofs.Math.Seq.{take-suc}
 use Rattle.std.proofs.lemmas.List.{map-append}
@@ -10,19 +10,19 @@ use Rattle.ns_types.specs.declared.allocation.Allocation.{Allocation}
 use Rattle.ns_types.specs.declared.plan.Eviction.{Eviction}
 use Rattle.ns_types.specs.declared.resources.Resources.{Resources}
 use Rattle.ns_types.specs.State.Names.{Key, Name, has_key, has_number, same_key, same_name, same_number}
-use Rattle.ns_types.specs.State.Resources.{minus, none}
-use Rattle.ns_types.specs.State.Rows.{Tenant, World, allocation_at, is_live, is_live_on}
+use Rattle.ns_types.specs.State.Resources.{limits_allow, limits_in, minus, none, plus, unlimited}
+use Rattle.ns_types.specs.State.Rows.{Tenant, World, allocation_at, is_live, is_live_on, node_at}
 use Rattle.ns_types.specs.State.Sums.{names_quota, node_load, quota_use}
 use Rattle.ns_types.specs.Working.Commit.{counts, quota_named, stop_all, victim_key}
 use Rattle.ns_types.proofs.Elements.{any_map, any_under}
 use Rattle.ns_types.proofs.Gone.{rows_gone, stopped_are, stopped_row}
-use Rattle.ns_types.proofs.Less.{allocation_then, gone_alike, load_less, named_stays, node_parts, quota_parts, use_less}
+use Rattle.ns_types.proofs.Less.{nodes_stay, quotas_stay, allocation_then, gone_alike, load_less, named_stays, use_less}
 use Rattle.ns_types.proofs.Named.{same_name_refl}
 use Rattle.ns_types.proofs.Once.{once, once_apart, once_has, once_push}
 use Rattle.ns_types.proofs.Taken.{node_part, quota_part, row_size, size_at}
 use Rattle.ns_plan.specs.After.{keys_of, names, part_of_quota, part_on, stop_keys}
-use Rattle.ns_plan.specs.Looks.{if_live, live_at}
-use Rattle.ns_plan.specs.Reader.{load_left, use_left}
+use Rattle.ns_plan.specs.Looks.{if_live, limits_of, live_at}
+use Rattle.ns_plan.specs.Reader.{allows, load_left, use_left}
 
 -- ---- rows
 
@@ -192,11 +192,26 @@ module _ (w : World) (ns : Name) (stops : List ℕ) where
   names_stopped quota owner = ap (λ q. option_map_or (same_name quota) q false)
       (ap (λ x. quota_named x owner) once_stopped ∙ named_stays stopped_row (λ a. refl) w (once (stop_keys ns stops)) owner)
 
+-- the quota that a namespace names, and what it allows, stay
+pub allows_after : (w : World) (ns : Name) (stops : List ℕ) (owner : Name) (keys : List Key) (amount : Resources) →
+    allows (stop_all ns stops w) owner keys amount ≡
+    option_map_or (λ q. limits_allow (limits_of w q) (plus (use_left (stop_all ns stops w) q keys) amount)) (quota_named w owner) true
+allows_after w ns stops owner keys amount = λ i. option_map_or (λ q. limits_allow (option_map_or (λ rows. limits_in rows.quota.limits)
+    (get ((ap (λ x. x.quotas) (once_stopped w ns stops) ∙ quotas_stay stopped_row (λ a. refl) w (once (stop_keys ns stops))) i) q) unlimited)
+    (plus (use_left (stop_all ns stops w) q keys) amount))
+    ((ap (λ x. quota_named x owner) (once_stopped w ns stops) ∙ named_stays stopped_row (λ a. refl) w (once (stop_keys ns stops)) owner) i) true
+
+-- a node stays
+pub node_after : (w : World) (ns : Name) (stops : List ℕ) (pool name : Name) → node_at (stop_all ns stops w) pool name ≡ node_at w pool name
+node_after w ns stops pool name = ap (λ x. node_at x pool name) (once_stopped w ns stops) ∙
+    nodes_stay stopped_row (λ a. refl) w (once (stop_keys ns stops)) pool name
+
 -- ---- one element more
 
 module _ (ns : Name) (stops : List ℕ) (i : ℕ) (inside : i < length stops) where
   stops_next : stop_keys ns (take (i + 1) stops) ≡ stop_keys ns (take i stops) ++ (ns, get_or stops i 0) ∷ []
-  stops_next = ap (stop_keys ns) (ap (λ n. take n stops) (add-one i) ∙ take-suc stops i 0 inside) ∙ map-append (λ n. (ns, n)) (take i stops) (get_or stops i 0 ∷ [])
+  stops_next = ap (stop_keys ns) (ap (λ n. take n stops) (add-one i) ∙ take-suc stops i 0 inside)
+      ∙ map-append (λ n. (ns, n)) (take i stops) (get_or stops i 0 ∷ [])
 
   found : (b : Bool) → has_number (take i stops) (get_or stops i 0) ≡ b → has_key (stop_keys ns (take i stops)) (ns, get_or stops i 0) ≡ b
   found b e = stopped_has ns (take i stops) ns (get_or stops i 0) ∙ ap (λ c. c && has_number (take i stops) (get_or stops i 0)) (same_name_refl ns) ∙ e
@@ -222,6 +237,7 @@ evictions_in held = map (λ e. e.now) held
 
 pub held_next : (held : List (Bor Eviction)) (i : ℕ) (r : Bor Eviction) → i < length held → r ≡ get_or held i r →
     keys_of (evictions_in (take (i + 1) held)) ≡ keys_of (evictions_in (take i held)) ++ victim_key r.now ∷ []
-held_next held i r inside is = ap (λ l. keys_of (evictions_in l)) (ap (λ n. take n held) (add-one i) ∙ take-suc held i r inside ∙ ap (λ x. take i held ++ x ∷ []) (sym is))
+held_next held i r inside is =
+    ap (λ l. keys_of (evictions_in l)) (ap (λ n. take n held) (add-one i) ∙ take-suc held i r inside ∙ ap (λ x. take i held ++ x ∷ []) (sym is))
     ∙ ap keys_of (map-append (λ (e : Bor Eviction). e.now) (take i held) (r ∷ []))
     ∙ map-append victim_key (evictions_in (take i held)) (r.now ∷ [])

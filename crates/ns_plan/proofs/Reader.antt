@@ -1,12 +1,11 @@
 -- What is decided node by node needs no state but the one after the stops, and the keys of the victims so far.
-use Rattle.std.specs.Prelude.{◌≡◌, ℕ, ◌+◌, ◌-◌, Bool, true, false, cond, not, List, [], ◌∷◌, ◌++◌, ◌&&◌, ◌||◌, filter, flat_map, fold, map}
+use Rattle.std.specs.Prelude.{◌≡◌, ℕ, Bool, true, false, cond, not, List, [], ◌∷◌, ◌++◌, ◌&&◌, ◌||◌, filter, fold, map}
 use Rattle.std.proofs.Common.{refl, sym, ap, ◌∙◌}
 use Rattle.std.proofs.lemmas.List.Folds.{list_any-append}
 use Rattle.std.specs.FinMap.{get}
 use Rattle.std.specs.List.{list_any}
 use Rattle.std.specs.Option.{option_map_or}
 use Rattle.ns_types.specs.declared.allocation.Allocation.{Allocation}
-use Rattle.ns_types.specs.declared.plan.Eviction.{Eviction}
 use Rattle.ns_types.specs.declared.plan.Placement.{Placement}
 use Rattle.ns_types.specs.declared.resources.Resources.{Resources}
 use Rattle.ns_types.specs.declared.snapshot.Snapshot.{Snapshot}
@@ -20,7 +19,7 @@ use Rattle.ns_types.proofs.Elements.{any_flat, any_map, any_same}
 use Rattle.ns_types.proofs.Gone.{evicted_are, evicted_row, row_gone, rows_gone}
 use Rattle.ns_types.proofs.Less.{counts_left, gone_alike, load_less, named_stays, nodes_stay, quotas_stay, use_less}
 use Rattle.ns_types.proofs.Lists.{not_both}
-use Rattle.ns_types.proofs.Once.{AllApart, key_is, once, once_apart, once_has}
+use Rattle.ns_types.proofs.Once.{AllApart, key_is, once_apart, once_has}
 use Rattle.ns_plan.specs.Laws.{DecidesAs}
 use Rattle.ns_plan.specs.Reader.{Read, nothing_read, read_all, read_one, takes, with_victims}
 
@@ -64,7 +63,8 @@ module _ (kept : Snapshot) (w : World) (keys : List Key) where
       ∙ sym (any_map (same_key k) victim_key (victims_of w kept part)
       ∙ any_flat (λ e. same_key k (victim_key e)) (victims_in w kept) part)
     where
-      each : (p : Placement) → list_any (λ e. same_key k (victim_key e)) (victims_in gone kept p) ≡ list_any (λ e. same_key k (victim_key e)) (victims_in w kept p)
+      each : (p : Placement) →
+          list_any (λ e. same_key k (victim_key e)) (victims_in gone kept p) ≡ list_any (λ e. same_key k (victim_key e)) (victims_in w kept p)
       each p = (λ i. list_any (λ e. same_key k (victim_key e))
           (filter (λ e. counts_left evicted_row (λ a. refl) (λ a. refl) w keys kept.pool (node_name kept p.node) e i) p.evictions))
           ∙ any_left (λ e. same_key k (victim_key e)) (λ e. has_key keys (victim_key e)) (counts w kept.pool (node_name kept p.node))
@@ -76,7 +76,8 @@ module _ (kept : Snapshot) (w : World) (keys : List Key) where
     where
       by : (b : Bool) → has_key keys k ≡ b → (has_key keys k || has_key (map victim_key (victims_of gone kept part)) k)
           ≡ (has_key keys k || has_key (map victim_key (victims_of w kept part)) k)
-      by true e = ap (λ b. b || has_key (map victim_key (victims_of gone kept part)) k) e ∙ ap (λ b. b || has_key (map victim_key (victims_of w kept part)) k) (sym e)
+      by true e = ap (λ b. b || has_key (map victim_key (victims_of gone kept part)) k) e
+          ∙ ap (λ b. b || has_key (map victim_key (victims_of w kept part)) k) (sym e)
       by false e = ap (λ b. has_key keys k || b) (same_found part k e)
 
   -- a node's victims go

@@ -1,5 +1,5 @@
 -- The state after a plan's stops, as it is read from the present one.
-use Rattle.std.specs.Prelude.{◌≡◌, ◌&&◌, ℕ, Bool, false, List, Option, Some, None, if◌then◌else◌, map}
+use Rattle.std.specs.Prelude.{◌&&◌, ℕ, Bool, false, List, Option, Some, None, if◌then◌else◌, map}
 use Rattle.std.specs.Option.{option_map_or}
 use Rattle.ns_types.specs.declared.allocation.Allocation.{Allocation}
 use Rattle.ns_types.specs.declared.plan.Eviction.{Eviction}

@@ -73,3 +73,8 @@ read_one kept placements w r k =
 
 abbrev pub read_all : Snapshot → List Placement → World → List ℕ → Read
 read_all kept placements w nodes = fold (read_one kept placements w) nothing_read nodes
+
+-- the nodes that do their part, and those that do not
+pub record IsDecided (committed dropped : List ℕ) (r : Read) : Type 0 where
+  pub committed_is : committed ≡ r.committed
+  pub dropped_is : dropped ≡ r.dropped

@@ -115,18 +115,13 @@ fn names<V: View>(view: &V, quota: &Text, namespace: &Text) -> bool
 /// Whether the number at the place stands earlier too.
 fn stands_earlier(numbers: &[u64], place: usize) -> bool
     requires { place < length numbers.now }
-    ensures { (d : ℕ) → result ≡ has_number (take place numbers.now) (slice_index_or numbers.now place d) }
+    ensures { (d : ℕ) → result ≡
+        has_number (take place numbers.now) (slice_index_or numbers.now place d) }
 {
     has_number(&numbers[..place], numbers[place])
 }
 
-fn load<V: View>(
-    view: &V,
-    namespace: &Text,
-    stops: &[u64],
-    pool: &Text,
-    node: &Text,
-) -> Resources
+fn load<V: View>(view: &V, namespace: &Text, stops: &[u64], pool: &Text, node: &Text) -> Resources
     requires { AreCounted (V.world view.now) }
     ensures { result ≡ node_load (stop_all namespace.now stops.now (V.world view.now))
         pool.now node.now }
@@ -134,7 +129,10 @@ fn load<V: View>(
     let mut left = view.load(pool, node);
     for i in 0..stops.len() {
         if !stands_earlier(stops, i) {
-            left = less(left, part_on(view.allocation(namespace, stops[i]), pool, node));
+            left = less(
+                left,
+                part_on(view.allocation(namespace, stops[i]), pool, node),
+            );
         }
     }
     left
@@ -169,7 +167,10 @@ fn used<V: View>(view: &V, namespace: &Text, stops: &[u64], quota: &Text) -> Res
     let mut left = view.used(quota);
     for i in 0..stops.len() {
         if !stands_earlier(stops, i) {
-            left = less(left, part_of_quota(named, view.allocation(namespace, stops[i])));
+            left = less(
+                left,
+                part_of_quota(named, view.allocation(namespace, stops[i])),
+            );
         }
     }
     left
@@ -190,7 +191,10 @@ pub(crate) fn use_left<V: View>(
     let mut left = used(view, namespace, stops, quota);
     for victim in held {
         let row = live(view, namespace, stops, &victim.namespace, victim.number);
-        left = less(left, part_of_quota(names(view, quota, &victim.namespace), row));
+        left = less(
+            left,
+            part_of_quota(names(view, quota, &victim.namespace), row),
+        );
     }
     left
 }

@@ -3,7 +3,13 @@
 
 mod after;
 mod amounts;
+mod checking;
+mod deciding;
 pub mod laws;
+mod stops;
+mod taking;
+mod victims;
 mod view;
 
+pub use checking::{Outcome, check};
 pub use view::View;

@@ -12,14 +12,16 @@ pub loop-i-preserved : goal.loop-i-preserved
 loop-i-preserved g c =
     let w = g.V.View.world c.args.view.now in
     let quota = c.args.quota.now in
-    let step = use_step c.args.namespace.now c.args.stops.now c.loop-i.i c.loop-i-test.true w in
-    (elim c.if-not-stands_earlier.branch [
-      | then-not-stands_earlier v ↦ v.left-is ∙ v.less-left.ensures
-          ∙ (λ i. minus (c.loop-i.invariant.0 i) ((v.part_of_quota.ensures ∙ (λ j. part_of_quota (c.names-named.ensures j) (v.allocation.ensures j))) i))
-          ∙ sym (step false (sym (c.stands_earlier.ensures 0) ∙ v.if-not-stands_earlier.true) quota)
-      | else-not-stands_earlier v ↦ v.left-is ∙ c.loop-i.invariant.0
-          ∙ sym (step true (sym (c.stands_earlier.ensures 0) ∙ v.if-not-stands_earlier.false) quota)
-    ], c.names-named.ensures)
+    let step = use_step c.args.namespace.now c.args.stops.now c.loop-i.i c.loop-i-test.true w in (
+      elim c.if-not-stands_earlier.branch [
+        | then-not-stands_earlier v ↦ v.left-is ∙ v.less-left.ensures
+            ∙ (λ i. minus (c.loop-i.invariant.0 i) ((v.part_of_quota.ensures ∙ (λ j. part_of_quota (c.names-named.ensures j) (v.allocation.ensures j))) i))
+            ∙ sym (step false (sym (c.stands_earlier.ensures 0) ∙ v.if-not-stands_earlier.true) quota)
+        | else-not-stands_earlier v ↦ v.left-is ∙ c.loop-i.invariant.0
+            ∙ sym (step true (sym (c.stands_earlier.ensures 0) ∙ v.if-not-stands_earlier.false) quota)
+      ],
+      c.names-named.ensures,
+    )
 
 pub returns : goal.returns
 returns g c =

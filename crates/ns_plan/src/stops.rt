@@ -1,0 +1,72 @@
+//! Whether a plan still stands, and which of its stops count.
+
+ghost use Rattle.std.specs.Prelude.{◌≡◌, IfOk, false, filter, option_copied};
+ghost use Rattle.std.specs.Option.{option_map_or};
+ghost use Rattle.ns_types.specs.State.Lists.{first_each};
+ghost use Rattle.ns_types.specs.State.Names.{same_number};
+ghost use Rattle.ns_types.specs.State.Rows.{allocation_at, is_live};
+ghost use Rattle.ns_types.specs.Working.Commit.{has_ended, same_version, still_stands};
+
+use crate::view::View;
+use ns_types::allocation::Allocation;
+use ns_types::job::Job;
+use ns_types::text::Text;
+use std::alloc::{AllocError, Global};
+
+fn has_ended(job: Option<&Job>) -> bool
+    ensures { result ≡ has_ended (option_copied job.entry) }
+{
+    match job {
+        Some(job) => job.stop,
+        None => true,
+    }
+}
+
+#[tactic(auto, using(ns_types::proofs::Named::number_ties))]
+fn same_version(a: Option<&Job>, b: Option<&Job>) -> bool
+    ensures { result ≡ same_version (option_copied a.entry) (option_copied b.entry) }
+{
+    match (a, b) {
+        (Some(a), Some(b)) => a.modify_index == b.modify_index,
+        _ => false,
+    }
+}
+
+/// Whether a plan for the one job stands now that the other is there.
+pub(crate) fn still_stands(planned: Option<&Job>, present: Option<&Job>) -> bool
+    ensures { result ≡ still_stands (option_copied planned.entry) (option_copied present.entry) }
+{
+    if has_ended(planned) {
+        has_ended(present)
+    } else {
+        !has_ended(present) && same_version(planned, present)
+    }
+}
+
+fn is_live(row: Option<&Allocation>) -> bool
+    ensures { result ≡ option_map_or is_live (option_copied row.entry) false }
+{
+    match row {
+        Some(row) => row.is_live(),
+        None => false,
+    }
+}
+
+/// The stops of allocations that are live, in their order.
+pub(crate) fn live_stops<V: View>(
+    alloc: Global,
+    view: &V,
+    namespace: &Text,
+    stops: &[u64],
+) -> Result<Vec<u64>, AllocError>
+    ensures { IfOk result (λ v. v.items ≡ filter (λ n. option_map_or is_live
+        (allocation_at (V.world view.now) (namespace.now, n)) false) stops.now) }
+{
+    let mut live = Vec::new(alloc);
+    for number in stops {
+        if is_live(view.allocation(namespace, *number)) {
+            live.push(*number)?;
+        }
+    }
+    Ok(live)
+}
