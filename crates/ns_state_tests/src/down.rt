@@ -71,7 +71,7 @@ fn in_a(alloc: Global) -> Result<NumberTable<Allocation>, AllocError> {
 }
 
 /// One on `x` with the greatest priority.
-fn in_b(alloc: Global) -> Result<NumberTable<Allocation>, AllocError> {
+pub(crate) fn in_b(alloc: Global) -> Result<NumberTable<Allocation>, AllocError> {
     let mut rows = NumberTable::new(alloc);
     place(&mut rows, 1, allocation(alloc, "k", "x", 70)?)?;
     Ok(rows)
@@ -85,10 +85,15 @@ fn in_c(alloc: Global) -> Result<NumberTable<Allocation>, AllocError> {
     Ok(rows)
 }
 
-fn tenant(alloc: Global, rows: NumberTable<Allocation>) -> Result<TenantRows, AllocError> {
+/// A namespace with these allocations, which that quota limits.
+pub(crate) fn tenant(
+    alloc: Global,
+    rows: NumberTable<Allocation>,
+    quota: Option<Text>,
+) -> Result<TenantRows, AllocError> {
     let namespace = Namespace {
         description: text(alloc, "")?,
-        quota: None,
+        quota,
         default_pool: text(alloc, "p")?,
         allowed: None,
         denied: Rows::new(alloc),
@@ -106,8 +111,12 @@ fn tenant(alloc: Global, rows: NumberTable<Allocation>) -> Result<TenantRows, Al
     })
 }
 
-/// One row more, under that name.
-fn put<V: Drop>(table: &mut NameTable<V>, name: &Text, row: V) -> Result<(), AllocError> {
+/// One row more, under that name, or another one in place of that.
+pub(crate) fn put<V: Drop>(
+    table: &mut NameTable<V>,
+    name: &Text,
+    row: V,
+) -> Result<(), AllocError> {
     table.reserve(name)?;
     if table.has_slot(name) {
         table.set(name, row);
@@ -119,9 +128,21 @@ fn put<V: Drop>(table: &mut NameTable<V>, name: &Text, row: V) -> Result<(), All
 
 fn tenants(alloc: Global) -> Result<NameTable<TenantRows>, AllocError> {
     let mut table = NameTable::new(alloc);
-    put(&mut table, &text(alloc, "c")?, tenant(alloc, in_c(alloc)?)?)?;
-    put(&mut table, &text(alloc, "a")?, tenant(alloc, in_a(alloc)?)?)?;
-    put(&mut table, &text(alloc, "b")?, tenant(alloc, in_b(alloc)?)?)?;
+    put(
+        &mut table,
+        &text(alloc, "c")?,
+        tenant(alloc, in_c(alloc)?, None)?,
+    )?;
+    put(
+        &mut table,
+        &text(alloc, "a")?,
+        tenant(alloc, in_a(alloc)?, None)?,
+    )?;
+    put(
+        &mut table,
+        &text(alloc, "b")?,
+        tenant(alloc, in_b(alloc)?, None)?,
+    )?;
     Ok(table)
 }
 

@@ -122,7 +122,7 @@ pub(crate) fn end(tables: &mut Tables, change: Change) -> Result<(), Refusal> {
 
 // ---- tables and changes
 
-fn text(alloc: Global, word: &str) -> Result<Text, AllocError> {
+pub(crate) fn text(alloc: Global, word: &str) -> Result<Text, AllocError> {
     Text::from_str(alloc, word)
 }
 
@@ -136,7 +136,7 @@ fn one<V: Drop>(alloc: Global, name: &str, row: V) -> Result<NameTable<V>, Alloc
 }
 
 /// The quota "q", or none.
-fn limiting(alloc: Global, is_limited: bool) -> Result<Option<Text>, AllocError> {
+pub(crate) fn limiting(alloc: Global, is_limited: bool) -> Result<Option<Text>, AllocError> {
     if !is_limited {
         return Ok(None);
     }
@@ -213,14 +213,15 @@ fn nodes(alloc: Global, eligible: bool) -> Result<NameTable<Node>, AllocError> {
     one(alloc, "x", node)
 }
 
-fn pool(alloc: Global) -> Result<PoolRows, AllocError> {
+/// The pool with that node.
+pub(crate) fn pool(alloc: Global, eligible: bool) -> Result<PoolRows, AllocError> {
     Ok(PoolRows {
         pool: Pool {
             description: text(alloc, "")?,
         },
         release: 0,
         classes: Series::new(alloc),
-        nodes: nodes(alloc, false)?,
+        nodes: nodes(alloc, eligible)?,
     })
 }
 
@@ -243,10 +244,11 @@ pub(crate) fn quota(alloc: Global, most: u64) -> Result<Quota, AllocError> {
     })
 }
 
-fn quota_rows(alloc: Global) -> Result<QuotaRows, AllocError> {
+/// A quota of 1 MHz, with so many releases.
+pub(crate) fn quota_rows(alloc: Global, release: u64) -> Result<QuotaRows, AllocError> {
     Ok(QuotaRows {
         quota: quota(alloc, 1)?,
-        release: 0,
+        release,
     })
 }
 
@@ -255,8 +257,8 @@ pub(crate) fn tables(alloc: Global, index: u64, is_limited: bool) -> Result<Tabl
     Ok(Tables {
         alloc,
         tenants: one(alloc, "n", tenant(alloc, index, is_limited)?)?,
-        pools: one(alloc, "p", pool(alloc)?)?,
-        quotas: one(alloc, "q", quota_rows(alloc)?)?,
+        pools: one(alloc, "p", pool(alloc, false)?)?,
+        quotas: one(alloc, "q", quota_rows(alloc, 0)?)?,
         ready: KeyQueue::new(alloc),
         plans: KeyQueue::new(alloc),
         blocked: blocked(alloc)?,

@@ -34,6 +34,8 @@ mod server;
 #[cfg(test)]
 mod sharing;
 #[cfg(test)]
+mod stops;
+#[cfg(test)]
 mod tables;
 #[cfg(test)]
 mod worker;
