@@ -12,4 +12,5 @@ pub mod Released
 pub mod Rooms
 pub mod Settling
 pub mod Stamped
+pub mod Together
 pub mod Woken

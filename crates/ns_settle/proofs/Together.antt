@@ -1,0 +1,60 @@
+-- Whom several releases wake: those whom each of them wakes.
+use Rattle.std.specs.Prelude.{◌≡◌, Bool, true, false, ◌&&◌, ◌||◌, List, [], ◌∷◌, Option, Some, None}
+use Rattle.std.proofs.Common.{refl, sym, ap, ◌∙◌}
+use Rattle.std.specs.Option.{option_map_or}
+use Rattle.std.specs.List.{list_any}
+use Rattle.std.specs.FinMap.{contains_key}
+use Rattle.ns_types.specs.declared.evaluation.Evaluation.{Evaluation}
+use Rattle.ns_types.specs.declared.node.Class.{Class}
+use Rattle.ns_types.specs.Settling.Releases.{can_use}
+use Rattle.ns_types.specs.State.Names.{Name, Key, has_name, same_name}
+use Rattle.ns_types.specs.State.Rows.{World, evaluation_at}
+use Rattle.ns_types.proofs.Tests.{or_none}
+use Rattle.ns_settle.specs.Released.{at_room, releases_wake_at, woken_by}
+
+and_none : (b : Bool) → (b && false) ≡ false
+and_none true = refl
+and_none false = refl
+
+-- by rooms or by quotas
+pub wakes_by_each : (w : World) (rooms : List (Name × Class)) (quotas : List Name) (key : Key) →
+    releases_wake_at w rooms quotas key ≡ (releases_wake_at w rooms [] key || releases_wake_at w [] quotas key)
+wakes_by_each w rooms quotas key = by (evaluation_at w key)
+  where
+    of : (e : Evaluation) (q : Option Name) → woken_by w rooms quotas e q ≡ (woken_by w rooms [] e q || woken_by w [] quotas e q)
+    of e (Some q) = ap (λ b. b || (contains_key w.quotas q && has_name quotas q)) (sym (and_none (contains_key w.quotas q)))
+    of e None = sym (or_none (list_any (at_room e.pool (can_use e)) rooms))
+
+    by : (o : Option Evaluation) → option_map_or (λ e. woken_by w rooms quotas e e.quota) o false
+        ≡ (option_map_or (λ e. woken_by w rooms [] e e.quota) o false || option_map_or (λ e. woken_by w [] quotas e e.quota) o false)
+    by None = refl
+    by (Some e) = of e e.quota
+
+-- by one quota after the other
+pub wakes_by_quotas : (w : World) (quotas : List Name) (key : Key) →
+    releases_wake_at w [] quotas key ≡ list_any (λ q. releases_wake_at w [] (q ∷ []) key) quotas
+wakes_by_quotas w [] key = by (evaluation_at w key)
+  where
+    of : (e : Evaluation) (q : Option Name) → woken_by w [] [] e q ≡ false
+    of e (Some q) = and_none (contains_key w.quotas q)
+    of e None = refl
+
+    by : (o : Option Evaluation) → option_map_or (λ e. woken_by w [] [] e e.quota) o false ≡ false
+    by None = refl
+    by (Some e) = of e e.quota
+wakes_by_quotas w (quota ∷ quotas) key = by (evaluation_at w key)
+    ∙ ap (λ b. releases_wake_at w [] (quota ∷ []) key || b) (wakes_by_quotas w quotas key)
+  where
+    split : (c s h : Bool) → (c && (s || h)) ≡ ((c && (s || false)) || (c && h))
+    split false s h = refl
+    split true true h = refl
+    split true false h = refl
+
+    of : (e : Evaluation) (q : Option Name) → woken_by w [] (quota ∷ quotas) e q ≡ (woken_by w [] (quota ∷ []) e q || woken_by w [] quotas e q)
+    of e (Some q) = split (contains_key w.quotas q) (same_name q quota) (has_name quotas q)
+    of e None = refl
+
+    by : (o : Option Evaluation) → option_map_or (λ e. woken_by w [] (quota ∷ quotas) e e.quota) o false
+        ≡ (option_map_or (λ e. woken_by w [] (quota ∷ []) e e.quota) o false || option_map_or (λ e. woken_by w [] quotas e e.quota) o false)
+    by None = refl
+    by (Some e) = of e e.quota
