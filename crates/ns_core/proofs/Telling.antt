@@ -1,8 +1,6 @@
 -- What is prepared for a command on a node is prepared for its step, and what such commands want to know of the core.
-use Rattle.std.specs.Prelude.{◌≡◌, Option, is_some, Result, Ok, Err}
-use Rattle.std.proofs.Common.{refl, sym, ap, ◌∙◌}
-use Rattle.std.specs.FinMap.{get, get-empty}
-use Rattle.std.specs.Ordering.{nat_cmp}
+use Rattle.std.specs.Prelude.{◌≡◌, Option, Result, Ok, Err}
+use Rattle.std.proofs.Common.{refl}
 use Rattle.ns_types.specs.declared.refusal.Refusal.{Refusal}
 use Rattle.ns_types.specs.declared.step.NodeCommand.{NodeCommand}
 use Rattle.ns_types.specs.declared.step.Step.TheVariants as Step
@@ -10,16 +8,13 @@ use Rattle.ns_types.specs.Asking.Nodes.{ask_pool}
 use Rattle.ns_types.specs.Asking.Policies.{with_world}
 use Rattle.ns_types.specs.Settling.Outcome.{lift}
 use Rattle.ns_types.specs.State.Names.{Name}
-use Rattle.ns_types.specs.State.Rows.{State, World}
+use Rattle.ns_types.specs.State.Rows.{State}
 use Rattle.ns_types.specs.Steps.{act}
-use Rattle.ns_types.proofs.Lists.{not_both}
 use Rattle.ns_change.specs.declared.change.Prepared.{Prepared}
 use Rattle.ns_change.specs.Prepared.{Prepares, bounded}
 use Rattle.ns_change.proofs.Making.{does, refuses}
 use Rattle.ns_live.proofs.Administered.{loads_fit}
-use Rattle.ns_nodes.specs.Idle.{IsIdle}
 use Rattle.ns_nodes.specs.Listed.{LoadsFit}
-use Rattle.ns_steps.specs.Quiet.{IsQuiet}
 use Rattle.ns_core.specs.declared.parts.Parts.{Parts}
 use Rattle.ns_core.specs.Answering.{PreparesNode}
 use Rattle.ns_core.specs.Held.{IsHeld}
@@ -41,9 +36,3 @@ prepares parts pool command (Err refusal) h secret allowed = refuses (Step.Node 
 
 pub loads_of : (s : State) → IsHeld s → (pool : Name) → LoadsFit s.world pool
 loads_of s held pool name = loads_fit s.world held.valid.world pool name
-
--- ---- nothing is placed
-
-pub none_on : (w : World) → IsQuiet w → (pool name : Name) → IsIdle w pool name
-none_on w quiet pool name ns t n a at is =
-    not_both refl (ap is_some (sym is ∙ ap (λ m. get m n) (quiet.placed ns t at) ∙ get-empty nat_cmp n))

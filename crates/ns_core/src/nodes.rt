@@ -95,11 +95,12 @@ impl Parts {
     /// What it comes to that a node is up or goes down, by a secret that may.
     fn set_status(&self, pool: &Text, name: &Text, status: NodeStatus) -> Result<Prepared, Refusal>
         requires held { IsHeld (state_of self.now) }
+        requires index { IsIndexed self.now }
         ensures { PreparesNode pool.now (NodeCommand.SetStatus name.now status) self.now result }
     {
         match status {
             NodeStatus::Ready => set_ready(&self.tables, pool, name),
-            NodeStatus::Down => set_down(&self.tables, pool, name),
+            NodeStatus::Down => set_down(&self.tables, &self.live, pool, name),
         }
     }
 

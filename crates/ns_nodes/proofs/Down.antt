@@ -1,6 +1,6 @@
 -- What it comes to that a node goes down.
-use Rattle.std.specs.Prelude.{◌≡◌, true, false, Option, Some, None, is_some}
-use Rattle.std.proofs.Common.{refl, ap, ◌∙◌}
+use Rattle.std.specs.Prelude.{◌≡◌, Option, Some, None, is_some}
+use Rattle.std.proofs.Common.{refl, ap}
 use Rattle.std.specs.Option.{option_and_then, option_map_or}
 use Rattle.std.specs.FinMap.{get}
 use Rattle.ns_types.specs.declared.node.Node.{Node}
@@ -10,12 +10,12 @@ use Rattle.ns_types.specs.declared.reply.Content.{Content}
 use Rattle.ns_types.specs.declared.step.NodeCommand.TheVariants as NodeCommand
 use Rattle.ns_types.specs.Asking.Nodes.{ask_pool, go_down}
 use Rattle.ns_types.specs.Settling.Making.{put_pool, with_node}
-use Rattle.ns_types.specs.Settling.Outcome.{Done, Refused, found, unless}
+use Rattle.ns_types.specs.Settling.Outcome.{Outcome, Done, Refused, found}
 use Rattle.ns_types.specs.State.Names.{Name}
 use Rattle.ns_types.specs.State.Rows.{World, PoolRows, node_at}
 use Rattle.ns_types.proofs.Lists.{not_both}
 use Rattle.ns_change.specs.Changed.{change_pool}
-use Rattle.ns_nodes.specs.Losing.{down, numbers_pass}
+use Rattle.ns_nodes.proofs.Asked.{no_node}
 
 -- a change of a pool leaves the namespaces
 pub pool_alone : (pool : Name) (f : PoolRows → PoolRows) (w : World) → (change_pool pool f w).tenants ≡ w.tenants
@@ -40,15 +40,9 @@ module _ (w : World) (pool name : Name) where
       by None is = not_both (ap is_some is) refl
       by (Some p) is = ap (λ o. found o (λ node. Done Content.Written (go_down pool name (put_pool pool (down_node node p) w)))) is
 
-  pub not_there : node_at w pool name ≡ None → down pool name w ≡ Refused Refusal.NotFound
-  not_there is = ap (λ o. found o (λ _. unless (numbers_pass pool name w) Refusal.Full (ask_pool pool (NodeCommand.SetStatus name NodeStatus.Down) w))) is
+  abbrev downs : PoolRows → Node → Outcome World
+  downs p node = Done Content.Written (go_down pool name (put_pool pool (down_node node p) w))
 
-  pub too_few : (node : Node) → node_at w pool name ≡ Some node → numbers_pass pool name w ≡ true → down pool name w ≡ Refused Refusal.Full
-  unfolding unless
-  too_few node is past = (λ i. found (is i) (λ _. unless (past i) Refusal.Full (ask_pool pool (NodeCommand.SetStatus name NodeStatus.Down) w)))
-
-  pub enough : (node : Node) → node_at w pool name ≡ Some node → numbers_pass pool name w ≡ false →
-      down pool name w ≡ Done Content.Written (go_down pool name (change_pool pool (down_node node) w))
-  unfolding unless
-  enough node is within = (λ i. found (is i) (λ _. unless (within i) Refusal.Full (ask_pool pool (NodeCommand.SetStatus name NodeStatus.Down) w)))
-      ∙ goes node is
+  pub not_there : node_at w pool name ≡ None → ask_pool pool (NodeCommand.SetStatus name NodeStatus.Down) w ≡ Refused Refusal.NotFound
+  unfolding ask_pool
+  not_there is = no_node w pool name downs is

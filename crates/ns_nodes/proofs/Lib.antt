@@ -1,8 +1,9 @@
+pub mod AsChange
 pub mod Asked
 pub mod Down
-pub mod Idle
+pub mod Judged
 pub mod Listed
+pub mod LossPast
 pub mod Losses
-pub mod Passing
 pub mod Renewed
 pub mod Within

@@ -13,7 +13,6 @@ use Rattle.std.specs.FinMap.{get-empty, get-from_entries, get-insert, insert, le
 use Rattle.std.specs.FinMap.{same_map, values}
 use Rattle.keyed.specs.Table.{has_slot, row_list, rows, with_slot}
 use Rattle.keyed.proofs.Tables.{entries-rows}
-use Rattle.keyed.proofs.Viewing.{any_row-table_of}
 use Rattle.ns_types.specs.declared.allocation.Allocation.{Allocation}
 use Rattle.ns_types.specs.Asking.Nodes.{losing_jobs}
 use Rattle.ns_types.specs.State.Names.{Name, ByName, name_cmp, same_name}
@@ -24,8 +23,8 @@ use Rattle.ns_types.proofs.Elements.{map_map}
 use Rattle.ns_types.proofs.Lists.{not_both}
 use Rattle.ns_types.proofs.Named.{names, one_name}
 use Rattle.ns_types.proofs.Tables.{entries-table_of, get-table_of, tied}
-use Rattle.ns_nodes.specs.Losing.{is_last_of_job, is_losing, key_at, losing_keys, losing_keys_at}
-use Rattle.ns_nodes.specs.Losing.{losing_keys_in, losing_rows, numbers_pass, numbers_pass_at, numbers_pass_in, with_losing}
+use Rattle.ns_nodes.specs.Losing.{is_last_of_job, is_losing, key_at, looked, losing_jobs_at, losing_keys, losing_keys_at}
+use Rattle.ns_nodes.specs.Losing.{losing_keys_in, losing_rows, numbers_pass_at, with_losing}
 use Rattle.ns_world.specs.declared.tables.Tables.{Tables}
 use Rattle.ns_world.specs.declared.tables.TenantRows.{TenantRows}
 use Rattle.ns_world.specs.World.{tenant_of, world_of}
@@ -74,11 +73,15 @@ module _ (pool node : Name) where
   abbrev pub firsts : List (ℕ × Option Allocation) → ByName (ℕ × Allocation)
   firsts slots = from_entries {R = name_cmp} (jobs_in (row_list slots))
 
-  -- the model's, with their numbers
+  -- with their numbers
+  jobs_among : (rows : List (ℕ × Allocation)) → values (from_entries {R = name_cmp} (map (λ a. (a.1.job, a.1)) (filter lives rows)))
+      ≡ map (λ a. a.1) (values (from_entries {R = name_cmp} (jobs_in rows)))
+  jobs_among rows = ap (λ es. values (from_entries {R = name_cmp} es)) (sym (map_map (λ e. (e.0, e.1.1)) (λ a. (a.1.job, a)) (filter lives rows)))
+      ∙ ap values (from_mapped (λ a. a.1) (jobs_in rows)) ∙ values_mapped (λ a. a.1) (from_entries {R = name_cmp} (jobs_in rows))
+
+  -- the model's
   pub jobs_are : (t : Tenant) → losing_jobs pool node t ≡ map (λ a. a.1) (losing_rows pool node t)
-  jobs_are t = ap (λ es. values (from_entries {R = name_cmp} es)) (sym (map_map (λ e. (e.0, e.1.1)) (λ a. (a.1.job, a)) (filter lives (entries t.allocations))))
-      ∙ ap values (from_mapped (λ a. a.1) (jobs_in (entries t.allocations)))
-      ∙ values_mapped (λ a. a.1) (from_entries {R = name_cmp} (jobs_in (entries t.allocations)))
+  jobs_are t = jobs_among (entries t.allocations)
 
   -- ---- how many there are
 
@@ -120,43 +123,42 @@ module _ (pool node : Name) where
           ∙ one_more (list_any (is_losing pool node a.job) later) (len (firsts later))
       by false = refl
 
-  pub count_is : (x : TenantRows) → length (losing_jobs pool node (tenant_of x)) ≡ count (entries x.allocations)
+  pub count_is : (t : Tenant) (slots : List (ℕ × Option Unit)) → length (losing_jobs_at pool node t slots) ≡ count (map (looked t) slots)
   unfolding count
-  count_is x = ap length (jobs_are (tenant_of x)) ∙ length-map (losing_rows pool node (tenant_of x)) (λ a. a.1)
-      ∙ length-map (entries (from_entries {R = name_cmp} (jobs_in (entries (rows x.allocations))))) (λ e. e.1)
-      ∙ sym (len-entries (from_entries {R = name_cmp} (jobs_in (entries (rows x.allocations)))))
-      ∙ ap (λ rows. len (from_entries {R = name_cmp} (jobs_in rows))) (entries-rows x.allocations)
+  count_is t slots = ap length (jobs_among (row_list (map (looked t) slots)))
+      ∙ length-map (values (firsts (map (looked t) slots))) (λ a. a.1)
+      ∙ length-map (entries (firsts (map (looked t) slots))) (λ e. e.1)
+      ∙ sym (len-entries (firsts (map (looked t) slots)))
 
-  module _ (x : TenantRows) (number : ℕ) (rest : List (ℕ × Option Allocation))
-      (is : number + count rest ≡ x.evaluation_number + count (entries x.allocations)) where
-    all_of : x.evaluation_number + length (losing_jobs pool node (tenant_of x)) ≡ number + count rest
-    all_of = ap (λ n. x.evaluation_number + n) (count_is x) ∙ sym is
+  module _ (t : Tenant) (all : List (ℕ × Option Unit)) (number : ℕ) (rest : List (ℕ × Option Unit))
+      (is : number + count (map (looked t) rest) ≡ t.evaluation_number + count (map (looked t) all)) where
+    all_of : t.evaluation_number + length (losing_jobs_at pool node t all) ≡ number + count (map (looked t) rest)
+    all_of = ap (λ n. t.evaluation_number + n) (count_is t all) ∙ sym is
 
-    module _ (slot : ℕ × Option Allocation) (later : List (ℕ × Option Allocation)) (slots : rest ≡ slot ∷ later) where
-      pub next_number : is_last_of_job pool node slot later ≡ true → (number + 1) + count later ≡ x.evaluation_number + count (entries x.allocations)
-      next_number last =
-          let counted : count rest ≡ count later + 1 = ap count slots ∙ count_step slot later ∙ ap (λ b. cond b (count later + 1) (count later)) last in
-          omega arith
+    module _ (slot : ℕ × Option Unit) (later : List (ℕ × Option Unit)) (slots : rest ≡ slot ∷ later) where
+      abbrev is_last : Bool
+      is_last = is_last_of_job pool node (looked t slot) (map (looked t) later)
 
-      pub same_number : is_last_of_job pool node slot later ≡ false → number + count later ≡ x.evaluation_number + count (entries x.allocations)
-      same_number last =
-          let counted : count rest ≡ count later = ap count slots ∙ count_step slot later ∙ ap (λ b. cond b (count later + 1) (count later)) last in
-          omega arith
+      counted : (b : Bool) → is_last ≡ b → count (map (looked t) rest) ≡ cond b (count (map (looked t) later) + 1) (count (map (looked t) later))
+      counted b last = ap (λ rest. count (map (looked t) rest)) slots ∙ count_step (looked t slot) (map (looked t) later)
+          ∙ ap (λ b. cond b (count (map (looked t) later) + 1) (count (map (looked t) later))) last
 
-      pub no_number : is_last_of_job pool node slot later ≡ true → number ≡ greatest → true ≡ numbers_pass_in pool node (tenant_of x)
+      pub next_number : is_last ≡ true → (number + 1) + count (map (looked t) later) ≡ t.evaluation_number + count (map (looked t) all)
+      next_number last = let more : count (map (looked t) rest) ≡ count (map (looked t) later) + 1 = counted true last in omega arith
+
+      pub same_number : is_last ≡ false → number + count (map (looked t) later) ≡ t.evaluation_number + count (map (looked t) all)
+      same_number last = let same : count (map (looked t) rest) ≡ count (map (looked t) later) = counted false last in omega arith
+
+      pub no_number : is_last ≡ true → number ≡ greatest → true ≡ numbers_pass_at pool node t all
       no_number last end =
-          let counted : count rest ≡ count later + 1 = ap count slots ∙ count_step slot later ∙ ap (λ b. cond b (count later + 1) (count later)) last in
+          let more : count (map (looked t) rest) ≡ count (map (looked t) later) + 1 = counted true last in
           sym (past_bound _ (subst (λ n. 2 ^ 64 ≤ n) (sym all_of) (omega arith)))
 
-    pub all_numbers : rest ≡ [] → number < 2 ^ 64 → false ≡ numbers_pass_in pool node (tenant_of x)
+    pub all_numbers : rest ≡ [] → number < 2 ^ 64 → false ≡ numbers_pass_at pool node t all
     unfolding count
     all_numbers none fits =
-        let counted : count rest ≡ 0 = ap count none ∙ len-empty name_cmp (ℕ × Allocation) in
+        let counted : count (map (looked t) rest) ≡ 0 = ap (λ rest. count (map (looked t) rest)) none ∙ len-empty name_cmp (ℕ × Allocation) in
         sym (not_past _ (subst (λ n. n < 2 ^ 64) (sym all_of) (omega arith)))
-
-  pub somewhere_passes : (t : Tables) → list_any (numbers_pass_at pool node) (entries t.tenants) ≡ numbers_pass pool node (world_of t)
-  unfolding world_of
-  somewhere_passes t = sym (any_row-table_of (λ (_ : Name) (x : TenantRows). tenant_of x) (λ _ x. numbers_pass_in pool node x) t.tenants)
 
   -- ---- their keys
 

@@ -31,7 +31,7 @@ use Rattle.ns_world.proofs.World.{pool_at}
 -- ---- numbers of places
 
 module _ (w : World) (within : is_past_bound w ≡ false) (pool name : Name) where
-  places_in : (p : PoolRows) → get w.pools pool ≡ Some p → (node : Node) → get p.nodes name ≡ Some node → nat_lt greatest node.places ≡ false
+  pub places_in : (p : PoolRows) → get w.pools pool ≡ Some p → (node : Node) → get p.nodes name ≡ Some node → nat_lt greatest node.places ≡ false
   unfolding is_past_bound
   places_in p at node is = none_of_any one_name (λ _ node. nat_lt greatest node.places) p.nodes name node
       (right_none (nat_lt greatest p.release) _ (none_of_any one_name (λ _ p. is_pool_past_bound p) w.pools pool p

@@ -1,4 +1,3 @@
-pub mod Idle
 pub mod Listed
 pub mod Losing
 pub mod Registering

@@ -1,30 +1,22 @@
--- The jobs that lose an allocation with a node: each gets an evaluation, if its namespace has the numbers for them.
-use Rattle.std.specs.Prelude.{◌≡◌, ℕ, ◌+◌, Bool, true, false, ◌&&◌, not, List, [], ◌∷◌, Option, Some, None, filter}
+-- What goes with a node: each job that loses an allocation gets an evaluation, if no counter passes its bound by all that.
+use Rattle.std.specs.Prelude.{ℕ, ◌+◌, Bool, false, ◌&&◌, ◌||◌, not, List, [], ◌∷◌, Option, Some, None, filter}
 use Rattle.std.specs.Prelude.{flat_map, fold, length, map, nat_lt, if◌then◌else◌}
 use Rattle.std.specs.List.{list_any}
 use Rattle.std.specs.Option.{option_map_or}
 use Rattle.std.specs.FinMap.{empty, entries, from_entries, get, insert, values}
-use Rattle.keyed.specs.Table.{at_slot, has_slot, with_slot}
+use Rattle.keyed.specs.Table.{has_slot, row_list, with_slot}
 use Rattle.ns_types.specs.declared.allocation.Allocation.{Allocation}
 use Rattle.ns_types.specs.declared.evaluation.Trigger.TheVariants as Trigger
-use Rattle.ns_types.specs.declared.node.NodeStatus.TheVariants as NodeStatus
-use Rattle.ns_types.specs.declared.refusal.Refusal.TheVariants as Refusal
-use Rattle.ns_types.specs.declared.reply.Content.{Content}
-use Rattle.ns_types.specs.declared.step.NodeCommand.TheVariants as NodeCommand
-use Rattle.ns_types.specs.Asking.Nodes.{ask_pool, losing_jobs}
+use Rattle.ns_types.specs.Asking.Nodes.{losing_jobs}
 use Rattle.ns_types.specs.Settling.Making.{evaluation_for, make}
-use Rattle.ns_types.specs.Settling.Outcome.{Outcome, Done, found, unless}
-use Rattle.ns_types.specs.Settling.Settle.{settle}
-use Rattle.ns_types.specs.State.Names.{Name, Key, ByName, name_cmp, same_name}
-use Rattle.ns_types.specs.State.Rows.{World, Tenant, is_live_on, node_at}
+use Rattle.ns_types.specs.State.Names.{Name, Key, ByName, ByNumber, name_cmp, same_name}
+use Rattle.ns_types.specs.State.Rows.{World, Tenant, is_live_on}
 use Rattle.ns_types.specs.State.Tables.{any_row}
-use Rattle.ns_types.specs.Steps.{greatest, is_past_bound}
+use Rattle.ns_types.specs.Steps.{greatest}
 use Rattle.ns_change.specs.Changed.{HasEvaluationLeft}
+use Rattle.ns_bounds.specs.Bounds.{is_at_bound}
+use Rattle.ns_bounds.specs.Given.{given_limits_pass}
 use Rattle.ns_world.specs.declared.tables.TenantRows.{TenantRows}
-use Rattle.ns_world.specs.World.{tenant_of, world_of}
-use Rattle.ns_change.specs.Prepared.{bounded}
-use Rattle.ns_nodes.specs.Idle.{IsIdle}
-use Rattle.ns_world.specs.declared.tables.Tables.{Tables}
 
 -- ---- what is asked
 
@@ -35,20 +27,20 @@ numbers_pass_in pool node t = nat_lt greatest (t.evaluation_number + length (los
 abbrev pub numbers_pass : Name → Name → World → Bool
 numbers_pass pool node w = any_row (λ _ t. numbers_pass_in pool node t) w.tenants
 
--- the node goes down, and what would be done is refused where a namespace has too few numbers
-abbrev pub down : Name → Name → World → Outcome World
-down pool node w = found (node_at w pool node) (λ _. unless (numbers_pass pool node w) Refusal.Full
-    (ask_pool pool (NodeCommand.SetStatus node NodeStatus.Down) w))
+-- some allocation of the namespace is live on the node
+abbrev pub loses : Name → Name → Tenant → Bool
+loses pool node t = any_row (λ _ a. is_live_on pool node a) t.allocations
 
--- Where too few numbers are left, the step would be past its bound once it has settled.
-abbrev pub NumbersAreSettled : Type 0
-NumbersAreSettled = (w : World) (pool node : Name) (content : Content) (x : World) → numbers_pass pool node w ≡ true
-    → ask_pool pool (NodeCommand.SetStatus node NodeStatus.Down) w ≡ Done content x → is_past_bound (settle w x) ≡ true
+-- the release of the namespace's quota, where it has one, passes the bound of a counter
+abbrev pub release_passes : World → Tenant → Bool
+release_passes w t = option_map_or (given_limits_pass w) t.namespace.quota false
 
--- Where nothing is live on the node, nothing else is refused than what passes the bound of a counter.
-abbrev pub IdleDownIsBounded : Type 0
-IdleDownIsBounded = (t : Tables) (pool node : Name) → is_past_bound (world_of t) ≡ false → IsIdle (world_of t) pool node →
-    down pool node (world_of t) ≡ bounded (world_of t) (ask_pool pool (NodeCommand.SetStatus node NodeStatus.Down) (world_of t))
+-- what the namespace loses passes the bound of a counter: its index, the number of an evaluation, or by its quota's release
+abbrev pub loss_passes_in : World → Name → Name → Tenant → Bool
+loss_passes_in w pool node t = is_at_bound t.index || numbers_pass_in pool node t || release_passes w t
+
+abbrev pub loss_passes : World → Name → Name → Bool
+loss_passes w pool node = any_row (λ _ t. loses pool node t && loss_passes_in w pool node t) w.tenants
 
 -- ---- the losing jobs
 
@@ -99,10 +91,36 @@ key_at ns (job, None) = []
 key_at ns (job, Some n) = (ns, n) ∷ []
 
 -- the same of a namespace's slot
-abbrev pub numbers_pass_at : Name → Name → Name × Option TenantRows → Bool
-numbers_pass_at pool node slot = at_slot (λ (e : Name × TenantRows). numbers_pass_in pool node (tenant_of e.1)) slot
-
 abbrev pub losing_keys_at : Name → Name → Name × Option TenantRows → List Key
 losing_keys_at pool node (ns, None) = []
 losing_keys_at pool node (ns, Some t) =
     flat_map (key_at ns) (entries (fold (with_losing pool node) empty (entries t.allocations)))
+
+-- ---- by the index of live allocations
+
+-- the row at a number
+abbrev pub looked : Tenant → ℕ × Option Unit → ℕ × Option Allocation
+looked t slot = (slot.0, get t.allocations slot.0)
+
+-- it is live on the node
+abbrev pub is_live_at : Name → Name → Tenant → ℕ × Option Unit → Bool
+is_live_at pool node t slot = option_map_or (is_live_on pool node) (get t.allocations slot.0) false
+
+-- the losing jobs among the rows at such numbers
+abbrev pub losing_jobs_at : Name → Name → Tenant → List (ℕ × Option Unit) → List Allocation
+losing_jobs_at pool node t slots = values (from_entries {R = name_cmp}
+    (map (λ a. (a.1.job, a.1)) (filter (λ a. is_live_on pool node a.1) (row_list (map (looked t) slots)))))
+
+abbrev pub numbers_pass_at : Name → Name → Tenant → List (ℕ × Option Unit) → Bool
+numbers_pass_at pool node t slots = nat_lt greatest (t.evaluation_number + length (losing_jobs_at pool node t slots))
+
+-- what the namespace loses passes the bound of a counter
+abbrev pub tenant_passes_at : World → Name → Name → Tenant → List (ℕ × Option Unit) → Bool
+tenant_passes_at w pool node t slots = list_any (is_live_at pool node t) slots
+    && (is_at_bound t.index || numbers_pass_at pool node t slots || release_passes w t)
+
+-- of a namespace with the numbers of its live allocations on the node
+abbrev pub loss_passes_at : World → Name → Name → Name × Option (ByNumber (Option Unit)) → Bool
+loss_passes_at w pool node (ns, None) = false
+loss_passes_at w pool node (ns, Some numbers) =
+    option_map_or (λ t. tenant_passes_at w pool node t (entries numbers)) (get w.tenants ns) false

@@ -1,18 +1,32 @@
 //! Whether a counter passes its bound once a step on one node has settled. It takes no memory, so that this is judged
 //! before anything that does.
 
-ghost use Rattle.std.specs.Prelude.{◌≡◌, ◌&&◌, not, option_copied};
+ghost use Rattle.std.specs.Prelude.{◌≡◌, ◌&&◌, ◌||◌, not, option_copied};
+ghost use Rattle.std.specs.List.{list_any};
 ghost use Rattle.ns_types.specs.State.Rows.{class_of, is_free, is_ready, offered_class};
+ghost use Rattle.ns_live.specs.Index.{IsRight};
+ghost use Rattle.ns_nodes.specs.Losing.{is_live_at, loss_passes, loss_passes_at, numbers_pass_at};
+ghost use Rattle.ns_nodes.specs.Losing.{release_passes, tenant_passes_at};
 ghost use Rattle.ns_nodes.specs.Registering.{gives_room};
+ghost use Rattle.ns_bounds.specs.Bounds.{is_at_bound};
 ghost use Rattle.ns_bounds.specs.Given.{given_room_passes};
-ghost use Rattle.ns_world.specs.World.{world_of};
+ghost use Rattle.ns_world.specs.World.{tenant_of, world_of};
 
+use crate::losing::{NumberSlot, numbers_pass_at};
 use crate::removed::is_ready;
+use keyed::NumberTable;
 use ns_alike::{is_free, same_offer};
-use ns_bounds::given_room_passes;
+use ns_change::is_live_on;
+use ns_live::Live;
+use ns_bounds::{given_limits_pass, given_room_passes};
 use ns_types::node::{Node, NodeStatus, Offer};
 use ns_types::text::Text;
-use ns_world::Tables;
+use ns_world::{Tables, TenantRows};
+
+/// A namespace with the numbers of its allocations that are live on the node, or a vacant slot.
+type NumbersSlot = (Text, Option<NumberTable<()>>);
+
+// ---- room that is given
 
 /// Whether a node gives room by this registration: a new one does, and one that is free where it offers otherwise.
 fn gives_room(offer: &Offer, old: Option<&Node>) -> bool
@@ -49,4 +63,105 @@ pub(crate) fn freed_passes(
         && given_room_passes (world_of tables.now) (pool.now, class_of node.now)) }
 {
     is_ready(status) && eligible && !is_free(node) && given_room_passes(tables, pool, &node.offer)
+}
+
+// ---- allocations that are lost
+
+/// Whether a count can not rise any more.
+fn is_at_bound(count: u64) -> bool
+    ensures { result ≡ is_at_bound count }
+{
+    count == u64::MAX
+}
+
+fn is_live_at(pool: &Text, node: &Text, tenant: &TenantRows, slot: &NumberSlot) -> bool
+    ensures { result ≡ is_live_at pool.now node.now (tenant_of tenant.now) slot.now }
+{
+    match tenant.allocations.get(slot.0) {
+        Some(row) => is_live_on(pool, node, row),
+        None => false,
+    }
+}
+
+/// Whether the namespace has an allocation that is live on the node, by the numbers that the index has of it.
+fn any_is_live(pool: &Text, node: &Text, tenant: &TenantRows, slots: &[NumberSlot]) -> bool
+    ensures { result ≡ list_any (is_live_at pool.now node.now (tenant_of tenant.now)) slots.now }
+{
+    slots
+        .iter()
+        .any(|slot| is_live_at(pool, node, tenant, slot))
+}
+
+/// Whether the release of the namespace's quota passes the bound of a counter: its own, or the index of a namespace in which
+/// an evaluation wakes.
+fn release_passes(tables: &Tables, tenant: &TenantRows) -> bool
+    ensures { result ≡ release_passes (world_of tables.now) (tenant_of tenant.now) }
+{
+    match &tenant.namespace.quota {
+        Some(quota) => given_limits_pass(tables, quota),
+        None => false,
+    }
+}
+
+fn own_passes(
+    tables: &Tables,
+    pool: &Text,
+    node: &Text,
+    tenant: &TenantRows,
+    slots: &[NumberSlot],
+) -> bool
+    ensures { let t = tenant_of tenant.now in
+        result ≡ (is_at_bound t.index || numbers_pass_at pool.now node.now t slots.now
+        || release_passes (world_of tables.now) t) }
+{
+    is_at_bound(tenant.index)
+        || numbers_pass_at(pool, node, tenant, slots)
+        || release_passes(tables, tenant)
+}
+
+fn tenant_passes(
+    tables: &Tables,
+    pool: &Text,
+    node: &Text,
+    tenant: &TenantRows,
+    slots: &[NumberSlot],
+) -> bool
+    ensures { result ≡ tenant_passes_at (world_of tables.now) pool.now node.now
+        (tenant_of tenant.now) slots.now }
+{
+    any_is_live(pool, node, tenant, slots) && own_passes(tables, pool, node, tenant, slots)
+}
+
+fn loss_passes_at(tables: &Tables, pool: &Text, node: &Text, slot: &NumbersSlot) -> bool
+    ensures { result ≡ loss_passes_at (world_of tables.now) pool.now node.now slot.now }
+{
+    let Some(numbers) = &slot.1 else {
+        return false;
+    };
+    match tables.tenants.get(&slot.0) {
+        Some(tenant) => tenant_passes(tables, pool, node, tenant, numbers.as_slice()),
+        None => false,
+    }
+}
+
+fn any_loss_passes(tables: &Tables, pool: &Text, node: &Text, slots: &[NumbersSlot]) -> bool
+    ensures { result
+        ≡ list_any (loss_passes_at (world_of tables.now) pool.now node.now) slots.now }
+{
+    slots
+        .iter()
+        .any(|slot| loss_passes_at(tables, pool, node, slot))
+}
+
+/// Whether a counter passes its bound once the node has gone down: the index of a namespace that loses an allocation, the
+/// number of an evaluation in it, or one by the release of its quota. Its work grows with the number of the node's live
+/// allocations, and with that of the blocked evaluations.
+pub(crate) fn loss_passes(tables: &Tables, live: &Live, pool: &Text, node: &Text) -> bool
+    requires right { IsRight (world_of tables.now) live.now }
+    ensures { result ≡ loss_passes (world_of tables.now) pool.now node.now }
+{
+    match live.keys_on(pool, node) {
+        Some(keys) => any_loss_passes(tables, pool, node, keys.as_slice()),
+        None => false,
+    }
 }

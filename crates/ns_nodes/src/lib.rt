@@ -5,7 +5,6 @@
 
 mod bounds;
 mod eligible;
-pub mod laws;
 mod listing;
 mod losing;
 mod prepared;

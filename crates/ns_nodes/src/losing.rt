@@ -1,11 +1,12 @@
 //! The jobs that lose an allocation with a node, and whether their namespaces have numbers for an evaluation of each.
 
-ghost use Rattle.std.specs.Prelude.{◌≡◌, ◌++◌, flat_map, fold, map, IfOk, OnOk, None, Some};
+ghost use Rattle.std.specs.Prelude.{◌≡◌, ◌&&◌, ◌++◌, not, flat_map, fold, map, IfOk, OnOk, None, Some};
 ghost use Rattle.std.specs.FinMap.{empty};
 ghost use Rattle.std.specs.List.{list_any};
+ghost use Rattle.ns_types.specs.State.Names.{same_name};
 ghost use Rattle.ns_types.specs.State.Rows.{is_live_on};
 ghost use Rattle.ns_nodes.specs.Losing.{is_last_of_job, is_losing, key_at, losing_keys, losing_keys_at};
-ghost use Rattle.ns_nodes.specs.Losing.{numbers_pass, numbers_pass_at, numbers_pass_in, with_losing};
+ghost use Rattle.ns_nodes.specs.Losing.{looked, numbers_pass_at, with_losing};
 ghost use Rattle.ns_world.specs.World.{tenant_of, world_of};
 
 use keyed::NameTable;
@@ -18,6 +19,9 @@ use ns_types::text::Text;
 use ns_world::{Tables, TenantRows};
 use std::alloc::{AllocError, Global};
 
+/// The number of an allocation that is live on the node, or a vacant slot.
+pub(crate) type NumberSlot = (u64, Option<()>);
+
 /// An allocation with its number, or a vacant slot.
 type AllocationSlot = (u64, Option<Allocation>);
 
@@ -29,41 +33,86 @@ type JobSlot = (Text, Option<u64>);
 
 // ---- numbers
 
-/// Whether it is an allocation of the job that is live on the node.
-fn is_losing(pool: &Text, node: &Text, job: &Text, slot: &AllocationSlot) -> bool
-    ensures { result ≡ is_losing pool.now node.now job.now slot.now }
+/// Whether it is of the job, and live on the node.
+fn is_of_job(pool: &Text, node: &Text, job: &Text, row: &Allocation) -> bool
+    ensures { result ≡ (same_name job.now row.now.job && is_live_on pool.now node.now row.now) }
 {
-    match &slot.1 {
-        Some(allocation) => same_text(job, &allocation.job) && is_live_on(pool, node, allocation),
+    same_text(job, &row.job) && is_live_on(pool, node, row)
+}
+
+/// Whether the row at the number is of the job, and live on the node.
+fn is_losing(pool: &Text, node: &Text, job: &Text, tenant: &TenantRows, slot: &NumberSlot) -> bool
+    ensures { result
+        ≡ is_losing pool.now node.now job.now (looked (tenant_of tenant.now) slot.now) }
+{
+    match tenant.allocations.get(slot.0) {
+        Some(row) => is_of_job(pool, node, job, row),
         None => false,
     }
 }
 
-fn any_is_losing(pool: &Text, node: &Text, job: &Text, slots: &[AllocationSlot]) -> bool
-    ensures { result ≡ list_any (is_losing pool.now node.now job.now) slots.now }
+fn any_is_losing(
+    pool: &Text,
+    node: &Text,
+    job: &Text,
+    tenant: &TenantRows,
+    slots: &[NumberSlot],
+) -> bool
+    ensures { let t = tenant_of tenant.now in
+        result ≡ list_any (λ slot. is_losing pool.now node.now job.now (looked t slot)) slots.now }
 {
-    slots.iter().any(|slot| is_losing(pool, node, job, slot))
+    slots
+        .iter()
+        .any(|slot| is_losing(pool, node, job, tenant, slot))
 }
 
-/// Whether it is an allocation that is live on the node, and none of the later ones is of its job.
-fn is_last_of_job(pool: &Text, node: &Text, slot: &AllocationSlot, later: &[AllocationSlot]) -> bool
-    ensures { result ≡ is_last_of_job pool.now node.now slot.now later.now }
+/// Whether it is live on the node, and none of the later ones is of its job.
+fn is_last(
+    pool: &Text,
+    node: &Text,
+    tenant: &TenantRows,
+    row: &Allocation,
+    later: &[NumberSlot],
+) -> bool
+    ensures { let t = tenant_of tenant.now in
+        let is_of = is_losing pool.now node.now row.now.job in
+        result ≡ (is_live_on pool.now node.now row.now
+        && not (list_any (λ slot. is_of (looked t slot)) later.now)) }
 {
-    match &slot.1 {
-        Some(allocation) => is_live_on(pool, node, allocation)
-            && !any_is_losing(pool, node, &allocation.job, later),
+    is_live_on(pool, node, row) && !any_is_losing(pool, node, &row.job, tenant, later)
+}
+
+/// The same of the row at the number.
+fn is_last_of_job(
+    pool: &Text,
+    node: &Text,
+    tenant: &TenantRows,
+    slot: &NumberSlot,
+    later: &[NumberSlot],
+) -> bool
+    ensures { let t = tenant_of tenant.now in
+        result ≡ is_last_of_job pool.now node.now (looked t slot.now) (map (looked t) later.now) }
+{
+    match tenant.allocations.get(slot.0) {
+        Some(row) => is_last(pool, node, tenant, row, later),
         None => false,
     }
 }
 
-/// Whether the namespace has too few numbers for an evaluation of each of its jobs that lose an allocation.
-fn numbers_pass_in(pool: &Text, node: &Text, tenant: &TenantRows) -> bool
-    ensures { result ≡ numbers_pass_in pool.now node.now (tenant_of tenant.now) }
+/// Whether the namespace has too few numbers for an evaluation of each of the jobs that lose an allocation, by the numbers of
+/// those that are live on the node. It takes no memory.
+pub(crate) fn numbers_pass_at(
+    pool: &Text,
+    node: &Text,
+    tenant: &TenantRows,
+    slots: &[NumberSlot],
+) -> bool
+    ensures { result ≡ numbers_pass_at pool.now node.now (tenant_of tenant.now) slots.now }
 {
     let mut number = tenant.evaluation_number;
-    let mut rest = tenant.allocations.as_slice();
+    let mut rest = slots;
     while let Some((slot, later)) = rest.split_first() {
-        if is_last_of_job(pool, node, slot, later) {
+        if is_last_of_job(pool, node, tenant, slot, later) {
             if number == u64::MAX {
                 return true;
             }
@@ -72,28 +121,6 @@ fn numbers_pass_in(pool: &Text, node: &Text, tenant: &TenantRows) -> bool
         rest = later;
     }
     false
-}
-
-fn numbers_pass_at(pool: &Text, node: &Text, slot: &TenantSlot) -> bool
-    ensures { result ≡ numbers_pass_at pool.now node.now slot.now }
-{
-    match &slot.1 {
-        Some(tenant) => numbers_pass_in(pool, node, tenant),
-        None => false,
-    }
-}
-
-fn any_numbers_pass(pool: &Text, node: &Text, slots: &[TenantSlot]) -> bool
-    ensures { result ≡ list_any (numbers_pass_at pool.now node.now) slots.now }
-{
-    slots.iter().any(|slot| numbers_pass_at(pool, node, slot))
-}
-
-/// Whether some namespace has too few numbers. It takes no memory.
-pub(crate) fn numbers_pass(tables: &Tables, pool: &Text, node: &Text) -> bool
-    ensures { result ≡ numbers_pass pool.now node.now (world_of tables.now) }
-{
-    any_numbers_pass(pool, node, tables.tenants.as_slice())
 }
 
 // ---- keys

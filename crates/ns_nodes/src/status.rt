@@ -2,18 +2,24 @@
 
 ghost use Rattle.std.specs.Prelude.{◌≡◌, false};
 ghost use Rattle.ns_types.specs.declared.reply.Content.TheVariants as Content;
-ghost use Rattle.ns_types.specs.Asking.Nodes.{go_down};
+ghost use Rattle.ns_types.specs.declared.node.NodeStatus.TheVariants as NodeStatus;
+ghost use Rattle.ns_types.specs.declared.step.NodeCommand.TheVariants as NodeCommand;
+ghost use Rattle.ns_types.specs.Asking.Nodes.{ask_pool, go_down};
 ghost use Rattle.ns_types.specs.Settling.Making.{with_node};
 ghost use Rattle.ns_types.specs.Settling.Outcome.{Done};
+ghost use Rattle.ns_types.specs.Steps.{is_past_bound};
 ghost use Rattle.ns_change.specs.Changed.{Does, change_pool, view};
-ghost use Rattle.ns_change.specs.Prepared.{Prepares};
-ghost use Rattle.ns_nodes.specs.Losing.{down, numbers_pass};
+ghost use Rattle.ns_change.specs.Prepared.{Prepares, bounded};
+ghost use Rattle.ns_live.specs.Index.{IsRight};
+ghost use Rattle.ns_nodes.specs.Losing.{numbers_pass};
 ghost use Rattle.ns_world.specs.World.{world_of};
 
-use crate::losing::{losing_keys, numbers_pass};
+use crate::bounds::loss_passes;
+use crate::losing::losing_keys;
 use crate::prepared::node_of;
 use crate::renewing::renew_each;
 use ns_change::{Change, Prepared, copied_node, lose, prepare, put_node};
+use ns_live::Live;
 use ns_types::node::{Node, NodeStatus};
 use ns_types::refusal::Refusal;
 use ns_types::reply::Content;
@@ -61,15 +67,20 @@ fn put_down_alone(tables: &Tables, pool: &Text, name: &Text, row: Node) -> Resul
 }
 
 /// The node is down, the live allocations on it are lost, and each job that had one gets an evaluation, by namespace, then
-/// job id. `NotFound`: there is no such pool, or no such node in it. `Full`: a namespace has too few numbers left for its
-/// evaluations.
-pub fn set_down(tables: &Tables, pool: &Text, name: &Text) -> Result<Prepared, Refusal>
-    ensures { Prepares (down pool.now name.now (world_of tables.now)) tables.now result }
+/// job id. `NotFound`: there is no such pool, or no such node in it. `Full`: a counter would pass its bound: the index of a
+/// namespace that loses an allocation, the number of its last evaluation, or a counter that rises since its quota is
+/// released.
+pub fn set_down(tables: &Tables, live: &Live, pool: &Text, name: &Text) -> Result<Prepared, Refusal>
+    requires bounds { is_past_bound (world_of tables.now) ≡ false }
+    requires right { IsRight (world_of tables.now) live.now }
+    ensures { let command = NodeCommand.SetStatus name.now NodeStatus.Down in
+        let w = world_of tables.now in
+        Prepares (bounded w (ask_pool pool.now command w)) tables.now result }
 {
     let Some(row) = node_of(tables, pool, name) else {
         return Err(Refusal::NotFound);
     };
-    if numbers_pass(tables, pool, name) {
+    if loss_passes(tables, live, pool, name) {
         return Err(Refusal::Full);
     }
     let mut row = copied_node(row)?;

@@ -1,12 +1,10 @@
 use Rattle.std.proofs.Common.{sym, subst}
 use Rattle.ns_types.specs.declared.node.NodeStatus.{NodeStatus}
 use Rattle.ns_types.specs.declared.step.NodeCommand.TheVariants as NodeCommand
-use Rattle.ns_change.proofs.Prepares.{prepares_as}
-use Rattle.ns_nodes.proofs.Idle.{idle_bounded}
 use Rattle.ns_core.specs.Answering.{PreparesNode}
 use Rattle.ns_core.specs.Viewed.{state_of}
 use Rattle.ns_core.proofs.Keeping.{within}
-use Rattle.ns_core.proofs.Telling.{none_on, prepares}
+use Rattle.ns_core.proofs.Telling.{prepares}
 use Rattle.ns_core.proofs.parts.Parts.set_status.Goals as goal
 
 pub set_ready-requires : goal.set_ready-requires
@@ -17,11 +15,10 @@ returns-in-Ready c = subst
     (λ (status : NodeStatus). PreparesNode c.args.pool.now (NodeCommand.SetStatus c.args.name.now status) c.args.self.now c.set_ready.result)
     (sym c.in-Ready.is) (prepares c.args.self.now c.args.pool.now _ c.set_ready.result c.set_ready.ensures)
 
+pub set_down-requires-clause-bounds : goal.set_down-requires-clause-bounds
+set_down-requires-clause-bounds c = within (state_of c.args.self.now) c.requires.held
+
 pub returns-in-Down : goal.returns-in-Down
-returns-in-Down c =
-    let s = state_of c.args.self.now in
-    let t = c.args.self.now.tables in
-    subst (λ (status : NodeStatus). PreparesNode c.args.pool.now (NodeCommand.SetStatus c.args.name.now status) c.args.self.now c.set_down.result)
-    (sym c.in-Down.is) (prepares c.args.self.now c.args.pool.now _ c.set_down.result
-    (prepares_as _ _ t c.set_down.result (sym (idle_bounded t c.args.pool.now c.args.name.now (within s c.requires.held)
-    (none_on s.world c.requires.held.quiet c.args.pool.now c.args.name.now))) c.set_down.ensures))
+returns-in-Down c = subst
+    (λ (status : NodeStatus). PreparesNode c.args.pool.now (NodeCommand.SetStatus c.args.name.now status) c.args.self.now c.set_down.result)
+    (sym c.in-Down.is) (prepares c.args.self.now c.args.pool.now _ c.set_down.result c.set_down.ensures)
