@@ -1,4 +1,4 @@
--- Tokens by secret, what is found of them by accessor, and what is shown of policies and tokens.
+-- Tokens by secret, what is found of them by accessor, and what is shown of policies.
 use Rattle.std.specs.Prelude.{◌||◌, Bool, [], List, Option, find, option_map}
 use Rattle.std.specs.FinMap.{contains_key, insert}
 use Rattle.keyed.specs.Table.{at_slot}
@@ -6,7 +6,6 @@ use Rattle.ns_types.specs.declared.acl.Policy.{Policy}
 use Rattle.ns_types.specs.declared.acl.Token.{Token}
 use Rattle.ns_types.specs.declared.acl.TokenKind.TheVariants as TokenKind
 use Rattle.ns_types.specs.declared.reply.Content.{Content}
-use Rattle.ns_types.specs.declared.reply.TokenShown.{TokenShown}
 use Rattle.ns_types.specs.declared.step.NewToken.{NewToken}
 use Rattle.ns_types.specs.Asking.Policies.{bootstrap_accessor, has_accessor, token_of}
 use Rattle.ns_types.specs.State.Names.{ByName, Name, same_name}
@@ -36,14 +35,3 @@ secret_in accessor slots = option_map (λ e. e.0) (find (is_of accessor) slots)
 
 abbrev pub policy_content : Name → Policy → Content
 policy_content name policy = Content.Policy (record { name = name; row = policy })
-
--- all of a new token, with its secret
-abbrev pub token_shown : NewToken → TokenShown
-token_shown new = record {
-  accessor = new.accessor;
-  secret = new.secret;
-  name = new.name;
-  kind = new.kind;
-  policies =
-      new.policies;
-}

@@ -1,8 +1,8 @@
 //! What is answered of policies and tokens, and the token that is stored.
 
 ghost use Rattle.std.specs.Prelude.{◌≡◌, IfOk};
-ghost use Rattle.ns_types.specs.Asking.Policies.{token_of};
-ghost use Rattle.ns_acl.specs.Tokens.{policy_content, token_shown};
+ghost use Rattle.ns_types.specs.Asking.Policies.{made_token, token_of};
+ghost use Rattle.ns_acl.specs.Tokens.{policy_content};
 
 use ns_types::acl::{Policy, Token};
 use ns_types::reply::{Content, PolicyShown, TokenShown};
@@ -20,8 +20,8 @@ pub(crate) fn policy_content(name: &Text, policy: &Policy) -> Result<Content, Al
 }
 
 /// What is answered of a new token: all of it, with its secret.
-pub(crate) fn token_shown(new: &NewToken) -> Result<TokenShown, AllocError>
-    ensures { IfOk result (λ shown. shown ≡ token_shown new.now) }
+pub(crate) fn made_token(new: &NewToken) -> Result<TokenShown, AllocError>
+    ensures { IfOk result (λ shown. shown ≡ made_token new.now) }
 {
     Ok(TokenShown {
         accessor: new.accessor.clone()?,

@@ -3,11 +3,11 @@
 ghost use Rattle.std.specs.Prelude.{◌≡◌, IfOk, OnOk, OnErr, option_copied};
 ghost use Rattle.std.specs.List.{list_any};
 ghost use Rattle.keyed.specs.Table.{rows};
-ghost use Rattle.ns_types.specs.Asking.Policies.{bootstrap_accessor};
+ghost use Rattle.ns_types.specs.Asking.Policies.{bootstrap_accessor, made_token};
 ghost use Rattle.ns_types.specs.State.Names.{same_name};
-ghost use Rattle.ns_acl.specs.Tokens.{bootstrap_token, is_of, secret_in, token_shown, with_token};
+ghost use Rattle.ns_acl.specs.Tokens.{bootstrap_token, is_of, secret_in, with_token};
 
-use crate::shown::{new_row, token_shown};
+use crate::shown::{made_token, new_row};
 use crate::tables::put;
 use keyed::NameTable;
 use ns_types::acl::{Token, TokenKind};
@@ -74,10 +74,10 @@ pub(crate) fn add_token(
     new: &NewToken,
 ) -> Result<TokenShown, AllocError>
     ensures ok { OnOk result (rows tokens.new ≡ with_token new.now (rows tokens.old)) }
-    ensures shown { IfOk result (λ shown. shown ≡ token_shown new.now) }
+    ensures shown { IfOk result (λ shown. shown ≡ made_token new.now) }
     ensures err { OnErr result (rows tokens.new ≡ rows tokens.old) }
 {
-    let shown = token_shown(new)?;
+    let shown = made_token(new)?;
     let token = new_row(new)?;
     put(tokens, &new.secret, token)?;
     Ok(shown)

@@ -3,9 +3,9 @@ use Rattle.std.specs.Prelude.{Option, Some, None}
 use Rattle.ns_types.specs.declared.reply.Content.TheVariants as Content
 use Rattle.ns_types.specs.declared.step.AdminCommand.TheVariants as AdminCommand
 use Rattle.ns_types.specs.declared.step.Step.{Step}
+use Rattle.ns_types.specs.Asking.Policies.{made_token}
 use Rattle.ns_types.specs.State.Names.{Name}
 use Rattle.ns_json.specs.Replies.{body_of}
-use Rattle.ns_replies.specs.Made.{made_token}
 
 -- the body that answers a new token is known before its step
 abbrev pub room_of : Step → Option Name

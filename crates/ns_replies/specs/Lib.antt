@@ -1,3 +1,2 @@
-pub mod Made
 pub mod Rendered
 pub mod Tokens

@@ -1,9 +1,9 @@
 //! Policies and tokens as they are replied.
 
 ghost use Rattle.std.specs.Prelude.{OnOk};
+ghost use Rattle.ns_types.specs.Asking.Policies.{made_token};
 ghost use Rattle.ns_json.specs.Part.{Follows, tokens_of};
 ghost use Rattle.ns_json.specs.Rendering.{policy_json, token_json};
-ghost use Rattle.ns_replies.specs.Made.{made_token};
 
 use crate::shown::Shown;
 use crate::words::token_kind_text;

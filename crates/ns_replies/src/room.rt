@@ -4,10 +4,10 @@ ghost use Rattle.std.specs.Prelude.{◌≡◌, ◌≤◌, IfOk, Ok, Some, None, 
 ghost use Rattle.json.specs.Print.{print};
 ghost use Rattle.json.specs.Tree;
 ghost use Rattle.ns_types.specs.declared.reply.Content.TheVariants as Content;
+ghost use Rattle.ns_types.specs.Asking.Policies.{made_token};
 ghost use Rattle.ns_types.specs.Wire.Responses.{rendered_of};
 ghost use Rattle.ns_json.specs.Part.{token_of};
 ghost use Rattle.ns_json.specs.Replies.{body_of, rendered};
-ghost use Rattle.ns_replies.specs.Made.{made_token};
 ghost use Rattle.ns_replies.specs.Rendered.{HasRoom, IsShort};
 
 use crate::shown::{text_of, written_text};

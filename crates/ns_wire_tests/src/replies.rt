@@ -1,7 +1,7 @@
 // Each reply is made again where memory ran out.
 ghost use Rattle.std.specs.Prelude.{◌≡◌, IfOk};
 ghost use Rattle.ns_types.specs.declared.reply.Content.TheVariants as Content;
-ghost use Rattle.ns_replies.specs.Made.{made_token};
+ghost use Rattle.ns_types.specs.Asking.Policies.{made_token};
 ghost use Rattle.ns_replies.specs.Rendered.{IsRendered, HasRoom};
 
 use ns_replies::{Room, render};
