@@ -64,8 +64,8 @@ module _ (g : Allocation → Allocation) (idle : (a : Allocation) → g (g a) �
       → map_rows (gone_row g keys ns) (option_map_or (λ e. insert m key.1 (g e)) r m) ≡ map_rows (gone_row g (key ∷ keys) ns) m
   own_rows m ns own r is =
       same_map numbers one_number _ _
-          (λ q. get-map_rows numbers one_number (gone_row g keys ns) _ q ∙ by r is q (same_number q key.1) refl
-              ∙ sym (get-map_rows numbers one_number (gone_row g (key ∷ keys) ns) m q))
+      (λ q. get-map_rows numbers one_number (gone_row g keys ns) _ q ∙ by r is q (same_number q key.1) refl
+      ∙ sym (get-map_rows numbers one_number (gone_row g (key ∷ keys) ns) m q))
     where
       here : (q : ℕ) (b : Bool) → same_number q key.1 ≡ b → (e : Allocation) → gone_row g (key ∷ keys) ns q e ≡ cond (b || has_key keys (ns, q)) (g e) e
       here q b t e = λ i. cond ((own i && t i) || has_key keys (ns, q)) (g e) e
@@ -77,7 +77,7 @@ module _ (g : Allocation → Allocation) (idle : (a : Allocation) → g (g a) �
       by None is q false t = λ i. option_map (λ e. sym (here q false t e) i) (get m q)
       by (Some e) is q true t = ap (option_map (gone_row g keys ns q)) (get-insert numbers m key.1 (g e) q ∙ ap (λ b. cond b (Some (g e)) (get m q)) t)
           ∙ ap Some (twice (has_key keys (ns, q)) e) ∙ ap Some (sym (here q true t e))
-              ∙ ap (option_map (gone_row g (key ∷ keys) ns q)) (sym (ap (get m) (tied one_number q key.1 t) ∙ is))
+          ∙ ap (option_map (gone_row g (key ∷ keys) ns q)) (sym (ap (get m) (tied one_number q key.1 t) ∙ is))
       by (Some e) is q false t = ap (option_map (gone_row g keys ns q)) (get-insert numbers m key.1 (g e) q ∙ ap (λ b. cond b (Some (g e)) (get m q)) t)
           ∙ (λ i. option_map (λ e. sym (here q false t e) i) (get m q))
 
@@ -92,7 +92,7 @@ module _ (g : Allocation → Allocation) (idle : (a : Allocation) → g (g a) �
   tenants_then : (w : World) → map_rows (gone_in g keys) (row_gone g w key).tenants ≡ map_rows (gone_in g (key ∷ keys)) w.tenants
   tenants_then w = same_map names one_name _ _
       (λ ns. get-map_rows names one_name (gone_in g keys) _ ns ∙ by (get w.tenants key.0) refl ns (same_name ns key.0) refl
-          ∙ sym (get-map_rows names one_name (gone_in g (key ∷ keys)) w.tenants ns))
+      ∙ sym (get-map_rows names one_name (gone_in g (key ∷ keys)) w.tenants ns))
     where
       other : (ns : Name) → same_name ns key.0 ≡ false → (r : Option Tenant) → option_map (gone_in g keys ns) r ≡ option_map (gone_in g (key ∷ keys) ns) r
       other ns t None = refl
@@ -100,17 +100,17 @@ module _ (g : Allocation → Allocation) (idle : (a : Allocation) → g (g a) �
 
       by : (r : Option Tenant) → get w.tenants key.0 ≡ r → (ns : Name) (b : Bool) → same_name ns key.0 ≡ b
           → option_map (gone_in g keys ns) (get (option_map_or (λ t. put_tenant key.0 (with_row key.1 g t) w) r w).tenants ns)
-              ≡ option_map (gone_in g (key ∷ keys) ns) (get w.tenants ns)
+          ≡ option_map (gone_in g (key ∷ keys) ns) (get w.tenants ns)
       by None is ns true t = ap (option_map (gone_in g keys ns)) (ap (get w.tenants) (tied one_name ns key.0 t) ∙ is)
           ∙ ap (option_map (gone_in g (key ∷ keys) ns)) (sym (ap (get w.tenants) (tied one_name ns key.0 t) ∙ is))
       by None is ns false t = other ns t (get w.tenants ns)
       by (Some x) is ns true t =
           ap (option_map (gone_in g keys ns))
-              (get-insert names w.tenants key.0 (with_row key.1 g x) ns ∙ ap (λ b. cond b (Some (with_row key.1 g x)) (get w.tenants ns)) t)
+          (get-insert names w.tenants key.0 (with_row key.1 g x) ns ∙ ap (λ b. cond b (Some (with_row key.1 g x)) (get w.tenants ns)) t)
           ∙ ap Some (own_tenant ns x t) ∙ ap (option_map (gone_in g (key ∷ keys) ns)) (sym (ap (get w.tenants) (tied one_name ns key.0 t) ∙ is))
       by (Some x) is ns false t =
           ap (option_map (gone_in g keys ns))
-              (get-insert names w.tenants key.0 (with_row key.1 g x) ns ∙ ap (λ b. cond b (Some (with_row key.1 g x)) (get w.tenants ns)) t)
+          (get-insert names w.tenants key.0 (with_row key.1 g x) ns ∙ ap (λ b. cond b (Some (with_row key.1 g x)) (get w.tenants ns)) t)
           ∙ other ns t (get w.tenants ns)
 
   -- a change of a row leaves all but its namespace
@@ -123,9 +123,11 @@ module _ (g : Allocation → Allocation) (idle : (a : Allocation) → g (g a) �
 
 pub gone_all : (g : Allocation → Allocation) (idle : (a : Allocation) → g (g a) ≡ g a) (keys : List Key) (w : World) →
     rows_gone g w keys ≡ record w { tenants = map_rows (gone_in g keys) w.tenants }
-gone_all g idle [] w = λ i. record w { tenants =
-    sym (map_rows_idle names one_name (gone_in g []) w.tenants
-        (λ ns t _ i. record t { allocations = map_rows_idle numbers one_number (λ _ a. a) t.allocations (λ _ _ _. refl) i })) i }
+gone_all g idle [] w = λ i. record w {
+  tenants =
+      sym (map_rows_idle names one_name (gone_in g []) w.tenants
+      (λ ns t _ i. record t { allocations = map_rows_idle numbers one_number (λ _ a. a) t.allocations (λ _ _ _. refl) i })) i;
+}
 gone_all g idle (key ∷ keys) w = gone_all g idle keys (row_gone g w key) ∙ others_then g idle key keys w _
     ∙ (λ i. record w { tenants = tenants_then g idle key keys w i })
 
@@ -177,16 +179,16 @@ module _ (g : Allocation → Allocation) (w : World) (key k : Key) (other : same
     where
       by : (o : Option Tenant) → get w.tenants key.0 ≡ o → (b : Bool) → same_name k.0 key.0 ≡ b
           → option_map_or (f k.0) (get (option_map_or (λ t. put_tenant key.0 (with_row key.1 g t) w) o w).tenants k.0) 0
-              ≡ option_map_or (f k.0) (get w.tenants k.0) 0
+          ≡ option_map_or (f k.0) (get w.tenants k.0) 0
       by None is b own = refl
       by (Some t) is true own =
           ap (λ r. option_map_or (f k.0) r 0)
-              (get-insert names w.tenants key.0 (with_row key.1 g t) k.0 ∙ ap (λ b. cond b (Some (with_row key.1 g t)) (get w.tenants k.0)) own)
+          (get-insert names w.tenants key.0 (with_row key.1 g t) k.0 ∙ ap (λ b. cond b (Some (with_row key.1 g t)) (get w.tenants k.0)) own)
           ∙ alike (with_row key.1 g t) t (kept_record t) (kept_row t own)
-              ∙ ap (λ r. option_map_or (f k.0) r 0) (sym (ap (get w.tenants) (tied one_name k.0 key.0 own) ∙ is))
+          ∙ ap (λ r. option_map_or (f k.0) r 0) (sym (ap (get w.tenants) (tied one_name k.0 key.0 own) ∙ is))
       by (Some t) is false own =
           ap (λ r. option_map_or (f k.0) r 0)
-              (get-insert names w.tenants key.0 (with_row key.1 g t) k.0 ∙ ap (λ b. cond b (Some (with_row key.1 g t)) (get w.tenants k.0)) own)
+          (get-insert names w.tenants key.0 (with_row key.1 g t) k.0 ∙ ap (λ b. cond b (Some (with_row key.1 g t)) (get w.tenants k.0)) own)
 
 -- parts that are not of the row that goes
 abbrev pub KeepsApart : (World → Key → ℕ) → (Allocation → Allocation) → Type 0
@@ -195,7 +197,7 @@ KeepsApart part g = (w : World) (key k : Key) → same_key k key ≡ false → p
 pub node_apart : (pool node : Name) (amount : Resources → ℕ) (g : Allocation → Allocation) → KeepsApart (λ w. node_part w pool node amount) g
 node_apart pool node amount g w key k other =
     part_kept g w key k other (λ _ t. size_at (is_live_on pool node) amount t k.1)
-        (λ t u _ rows. ap (λ r. option_map_or (row_size (is_live_on pool node) amount) r 0) rows)
+    (λ t u _ rows. ap (λ r. option_map_or (row_size (is_live_on pool node) amount) r 0) rows)
 
 pub quota_apart : (quota : Name) (amount : Resources → ℕ) (g : Allocation → Allocation) → KeepsApart (λ w. quota_part w quota amount) g
 quota_apart quota amount g w key k other = part_kept g w key k other (λ _ t. cond (names_quota quota t.namespace) (size_at is_live amount t k.1) 0)

@@ -38,7 +38,7 @@ module _ (g : Allocation → Allocation) (idle : (a : Allocation) → g (g a) �
   pub gone_alike : (keys ks : List Key) → ((k : Key) → has_key keys k ≡ has_key ks k) → rows_gone g w keys ≡ rows_gone g w ks
   gone_alike keys ks same = gone_all g idle keys w
       ∙ (λ i. record w { tenants = map_rows (λ ns t. record t { allocations = map_rows (λ n a. cond (same (ns, n) i) (g a) a) t.allocations }) w.tenants })
-          ∙ sym (gone_all g idle ks w)
+      ∙ sym (gone_all g idle ks w)
 
   module _ (keys : List Key) where
     pub nodes_stay : (pool name : Name) → node_at (rows_gone g w keys) pool name ≡ node_at w pool name
@@ -61,7 +61,7 @@ module _ (g : Allocation → Allocation) (idle : (a : Allocation) → g (g a) �
       where
         by : (o : Option Tenant) →
             option_and_then (λ t. get t.allocations k.1) (option_map (gone_in g keys k.0) o)
-                ≡ option_map (gone_row g keys k.0 k.1) (option_and_then (λ t. get t.allocations k.1) o)
+            ≡ option_map (gone_row g keys k.0 k.1) (option_and_then (λ t. get t.allocations k.1) o)
         by None = refl
         by (Some t) = get-map_rows numbers one_number (gone_row g keys k.0) t.allocations k.1
 
@@ -77,8 +77,8 @@ module _ (g : Allocation → Allocation) (ended : (a : Allocation) → is_live (
       by : (amount : Resources → ℕ) → node_sum (rows_gone g w keys) pool node amount ≡ node_sum w pool node amount - sum_by (node_part w pool node amount) keys
       by amount = less_is _ _ _
           (ap (λ n. node_sum (rows_gone g w keys) pool node amount + n)
-              (sym (parts_apart (λ w. node_part w pool node amount) g (node_apart pool node amount g) keys apart w))
-                  ∙ node_gone amount g ended pool node keys w)
+          (sym (parts_apart (λ w. node_part w pool node amount) g (node_apart pool node amount g) keys apart w))
+          ∙ node_gone amount g ended pool node keys w)
 
   pub use_less : (quota : Name) → quota_use (rows_gone g w keys) quota ≡ minus (quota_use w quota) (quota_parts w quota keys)
   use_less quota = λ i. record { cpu = by (λ r. r.cpu) i; memory = by (λ r. r.memory) i }
@@ -86,7 +86,7 @@ module _ (g : Allocation → Allocation) (ended : (a : Allocation) → is_live (
       by : (amount : Resources → ℕ) → quota_sum (rows_gone g w keys) quota amount ≡ quota_sum w quota amount - sum_by (quota_part w quota amount) keys
       by amount = less_is _ _ _
           (ap (λ n. quota_sum (rows_gone g w keys) quota amount + n)
-              (sym (parts_apart (λ w. quota_part w quota amount) g (quota_apart quota amount g) keys apart w)) ∙ quota_gone amount g ended quota keys w)
+          (sym (parts_apart (λ w. quota_part w quota amount) g (quota_apart quota amount g) keys apart w)) ∙ quota_gone amount g ended quota keys w)
 
 -- ---- which evictions count then
 

@@ -38,8 +38,11 @@ module _ (p : Key → Bool) where
   apart_left : (xs : List Key) → AllApart xs → AllApart (filter p xs)
   apart_left [] h = tt
   apart_left (x ∷ xs) h =
-      elim (p x) as (λ b. AllApart (cond b (x ∷ filter p xs) (filter p xs))) [ true ↦
-          (each_still (λ k. same_key k x ≡ false) p xs h.0, apart_left xs h.1) | false ↦ apart_left xs h.1 ]
+      elim (p x) as (λ b. AllApart (cond b (x ∷ filter p xs) (filter p xs))) [
+        | true ↦
+            (each_still (λ k. same_key k x ≡ false) p xs h.0, apart_left xs h.1)
+        | false ↦ apart_left xs h.1
+      ]
 
 pub once_apart : (keys : List Key) → AllApart (once keys)
 once_apart [] = tt

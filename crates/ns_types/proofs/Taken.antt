@@ -42,8 +42,8 @@ module _ {K X : Type 0} {R : K → K → Ordering} (o : IsTotalOrder R) (same : 
   none_later k [] h = refl
   none_later k (e ∷ es) h =
       ap (λ b. cond (not b) (e ∷ where_key R (elsewhere k) es) (where_key R (elsewhere k) es))
-          ((eq_by_cmp_equiv o).symm e.0 k ∙ below_unlike (R k e.0) (first (is_lt (R k e.0)) (below_all R k es) h))
-              ∙ ap (λ l. e ∷ l) (none_later k es (second (is_lt (R k e.0)) (below_all R k es) h))
+      ((eq_by_cmp_equiv o).symm e.0 k ∙ below_unlike (R k e.0) (first (is_lt (R k e.0)) (below_all R k es) h))
+      ∙ ap (λ l. e ∷ l) (none_later k es (second (is_lt (R k e.0)) (below_all R k es) h))
 
   split : (k : K) (es : List (K × X)) → T (is_sorted R es) → sum es ≡ option_map_or (f k) (find R k es) 0 + sum (where_key R (elsewhere k) es)
   split k [] h = refl
@@ -54,19 +54,19 @@ module _ {K X : Type 0} {R : K → K → Ordering} (o : IsTotalOrder R) (same : 
 
       by : sum es ≡ option_map_or (f k) (find R k es) 0 + sum (where_key R (elsewhere k) es) → (b : Bool) → eq_by_cmp R k e.0 ≡ b →
           sum (e ∷ es) ≡ option_map_or (f k) (cond b (Some e.1) (find R k es)) 0 + sum
-              (cond (not (eq_by_cmp R e.0 k)) (e ∷ where_key R (elsewhere k) es) (where_key R (elsewhere k) es))
+          (cond (not (eq_by_cmp R e.0 k)) (e ∷ where_key R (elsewhere k) es) (where_key R (elsewhere k) es))
       by later true t =
           let whole = sum_by-cons (λ e. f e.0 e.1) e es in
           let is : e.0 ≡ k = sym (tied same k e.0 t) in
           let rest : sum (cond (not (eq_by_cmp R e.0 k)) (e ∷ where_key R (elsewhere k) es) (where_key R (elsewhere k) es)) ≡ sum es =
           ap (λ b. sum (cond (not b) (e ∷ where_key R (elsewhere k) es) (where_key R (elsewhere k) es))) ((eq_by_cmp_equiv o).symm e.0 k ∙ t)
-              ∙ ap sum (none_later k es (subst (λ q. T (below_all R q es)) is here.0)) in
+          ∙ ap sum (none_later k es (subst (λ q. T (below_all R q es)) is here.0)) in
           let own : f e.0 e.1 ≡ f k e.1 = ap (λ q. f q e.1) is in
           omega (arith, whole, rest, own)
       by later false t =
           let whole = sum_by-cons (λ e. f e.0 e.1) e es in
           let kept : sum (cond (not (eq_by_cmp R e.0 k)) (e ∷ where_key R (elsewhere k) es) (where_key R (elsewhere k) es))
-              ≡ sum (e ∷ where_key R (elsewhere k) es) =
+          ≡ sum (e ∷ where_key R (elsewhere k) es) =
           ap (λ b. sum (cond (not b) (e ∷ where_key R (elsewhere k) es) (where_key R (elsewhere k) es))) ((eq_by_cmp_equiv o).symm e.0 k ∙ t) in
           let parts = sum_by-cons (λ e. f e.0 e.1) e (where_key R (elsewhere k) es) in
           omega (arith, whole, kept, parts, later)
@@ -75,8 +75,8 @@ module _ {K X : Type 0} {R : K → K → Ordering} (o : IsTotalOrder R) (same : 
   sum_split m k = split k (entries m) (entries_sorted m)
       ∙ (λ i. option_map_or (f k) (sym (get-entries m k) i) 0 + sum (sym (entries-retain o same m (elsewhere k)) i))
       ∙ ap (λ n. at_row m k + sum_rows n)
-          (same_map o same (retain_keys m (elsewhere k)) (remove m k)
-              (λ q. get-retain o same m (elsewhere k) q ∙ turned_cond (eq_by_cmp R q k) (get m q) ∙ sym (get-remove o m k q)))
+      (same_map o same (retain_keys m (elsewhere k)) (remove m k)
+      (λ q. get-retain o same m (elsewhere k) q ∙ turned_cond (eq_by_cmp R q k) (get m q) ∙ sym (get-remove o m k q)))
     where
       turned_cond : (b : Bool) (r : Option X) → cond (not b) r None ≡ cond b None r
       turned_cond true r = refl
@@ -88,11 +88,11 @@ module _ {K X : Type 0} {R : K → K → Ordering} (o : IsTotalOrder R) (same : 
       let before = sum_split m k in
       let after = sum_split (insert m k v) k in
       let rest : sum_rows (remove (insert m k v) k) ≡ sum_rows (remove m k) =
-          ap sum_rows (same_map o same _ _
-              (λ q. get-remove o (insert m k v) k q ∙ ap (cond (eq_by_cmp R q k) None) (get-insert o m k v q) ∙ twice (eq_by_cmp R q k) (get m q)
-                  ∙ sym (get-remove o m k q))) in
+      ap sum_rows (same_map o same _ _
+      (λ q. get-remove o (insert m k v) k q ∙ ap (cond (eq_by_cmp R q k) None) (get-insert o m k v q) ∙ twice (eq_by_cmp R q k) (get m q)
+      ∙ sym (get-remove o m k q))) in
       let own : at_row (insert m k v) k ≡ f k v =
-          ap (λ r. option_map_or (f k) r 0) (get-insert o m k v k ∙ ap (λ b. cond b (Some v) (get m k)) (ap is_eq (tied_itself o k))) in
+      ap (λ r. option_map_or (f k) r 0) (get-insert o m k v k ∙ ap (λ b. cond b (Some v) (get m k)) (ap is_eq (tied_itself o k))) in
       omega (arith, before, after, rest, own)
     where
       twice : (b : Bool) (r : Option X) → cond b None (cond b (Some v) r) ≡ cond b None r
@@ -125,7 +125,7 @@ quota_part w quota amount key = option_map_or (λ t. cond (names_quota quota t.n
 module _ (counts : Allocation → Bool) (amount : Resources → ℕ) where
   pub tenant_put : (t : Tenant) (n : ℕ) (a : Allocation) →
       tenant_sum counts amount (record t { allocations = insert t.allocations n a }) + size_at counts amount t n
-          ≡ tenant_sum counts amount t + row_size counts amount a
+      ≡ tenant_sum counts amount t + row_size counts amount a
   tenant_put t n a = sum_set numbers one_number (λ _ a. row_size counts amount a) t.allocations n a
 
   -- a row that counts no longer
@@ -135,7 +135,7 @@ module _ (counts : Allocation → Bool) (amount : Resources → ℕ) where
     where
       by : (r : Option Allocation) → get t.allocations n ≡ r →
           tenant_sum counts amount (option_map_or (λ a. record t { allocations = insert t.allocations n (g a) }) r t) + size_at counts amount t n
-              ≡ tenant_sum counts amount t
+          ≡ tenant_sum counts amount t
       by None is = let none : size_at counts amount t n ≡ 0 = ap (λ r. option_map_or (row_size counts amount) r 0) is in omega (arith, none)
       by (Some a) is =
           let put = tenant_put t n (g a) in
@@ -172,7 +172,7 @@ module _ (amount : Resources → ℕ) (n : ℕ) (g : Allocation → Allocation) 
   quota_less quota = world_less (λ _ t. cond (names_quota quota t.namespace) (tenant_sum is_live amount t) 0) w ns (with_row n g)
       (λ t. cond (names_quota quota t.namespace) (size_at is_live amount t n) 0)
       (λ t. subst (λ m. cond (names_quota quota m) (tenant_sum is_live amount (with_row n g t)) 0 + cond (names_quota quota t.namespace)
-          (size_at is_live amount t n) 0 ≡ cond (names_quota quota t.namespace) (tenant_sum is_live amount t) 0)
+      (size_at is_live amount t n) 0 ≡ cond (names_quota quota t.namespace) (tenant_sum is_live amount t) 0)
       (sym (same_record t (get t.allocations n))) (named t (names_quota quota t.namespace)))
     where
       same_record : (t : Tenant) (r : Option Allocation) →
