@@ -1,28 +1,14 @@
--- What calls make of the tables.
-use Rattle.std.specs.Prelude.{◌≡◌, Bool, List, map, filter, IfOk, OnOk, Option, Result}
+-- What lists of those whose names pass hold.
+use Rattle.std.specs.Prelude.{◌≡◌, Bool, List, map, filter, IfOk, Option, Result}
 use Rattle.std.specs.Borrow.{Bor}
 use Rattle.std.specs.Fn.{FnReturnsAt, Shared}
 use Rattle.std.specs.declared.alloc.AllocError.{AllocError}
 use Rattle.keyed.specs.Table.{row_list}
-use Rattle.ns_types.specs.declared.refusal.Refusal.{Refusal}
 use Rattle.ns_types.specs.declared.reply.Content.{Content}
-use Rattle.ns_types.specs.Settling.Outcome.{Changes, Outcome}
 use Rattle.ns_types.specs.State.Names.{Name}
 use Rattle.ns_types.specs.State.Rows.{World}
 use Rattle.ns_world.specs.declared.tables.Tables.{Tables}
 use Rattle.ns_world.specs.World.{world_of}
-
--- ---- one call
-
--- what a call that makes this change answers, and the tables that it leaves
-abbrev pub ChangesTables : (World → Outcome World) → Tables → Result Content Refusal → Tables → Type 0
-ChangesTables change old result new = Changes (change (world_of old)) (world_of old) result (world_of new)
-
--- the tables are changed so, unless memory was refused
-abbrev pub Writes : (World → World) → Tables → Result (Unit {0}) AllocError → Tables → Type 0
-Writes change old result new = OnOk result (world_of new ≡ change (world_of old))
-
--- ---- lists of those whose names pass
 
 -- the closure answers whether a name passes
 abbrev pub Tests : {F : Type 0} → Shared F (Bor Name × Unit {0}) Bool → F → (Name → Bool) → Type 0

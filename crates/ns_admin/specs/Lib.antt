@@ -1,4 +1,5 @@
 pub mod Asked
 pub mod Calls
 pub mod Laws
+pub mod Recorded
 pub mod Viewed

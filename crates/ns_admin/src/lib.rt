@@ -9,7 +9,9 @@ mod looking;
 mod namespaces;
 mod pools;
 mod quotas;
+mod record;
 mod sharing;
+mod writing;
 
 pub use beginning::opening;
 pub use laws::{administration_makes, administration_settles, administration_stays_within};
@@ -18,4 +20,6 @@ pub use looking::{is_confined_in, permits_in, shares};
 pub use namespaces::{delete_namespace, put_namespace};
 pub use pools::{delete_pool, put_pool};
 pub use quotas::{change_limits, delete_quota, is_relimited, put_quota, read_quota};
+pub use record::RecordChange;
 pub use sharing::{is_confined, names_quota, overlaps, permits, same_quota};
+pub use writing::write;

@@ -1,22 +1,22 @@
 //! What administrators ask of namespaces.
 
-ghost use Rattle.std.specs.Prelude.{◌≡◌, OnErr};
+ghost use Rattle.std.specs.Prelude.{◌≡◌};
 ghost use Rattle.std.specs.List.{list_all};
 ghost use Rattle.std.specs.FinMap.{contains_key};
 ghost use Rattle.ns_types.specs.Asking.Admins.{delete_namespace, lacks_allowed, lacks_quota, new_tenant, put_namespace};
-ghost use Rattle.ns_admin.specs.Calls.{ChangesTables, Writes};
-ghost use Rattle.ns_admin.specs.Viewed.{forbids_in, with_namespace_put};
+ghost use Rattle.ns_admin.specs.Recorded.{PreparesRecord};
+ghost use Rattle.ns_admin.specs.Viewed.{forbids_in};
 ghost use Rattle.ns_world.specs.World.{tenant_of, world_of};
 
 use crate::held::{forbids_put, has_work};
 use crate::looking::{has_pool, is_default, is_full};
+use crate::record::RecordChange;
 use keyed::{NameTable, NumberTable, Series};
 use ns_types::records::Namespace;
 use ns_types::refusal::{Member, Refusal};
-use ns_types::reply::Content;
 use ns_types::text::Text;
 use ns_world::{EvaluationTable, Tables, TenantRows};
-use std::alloc::{AllocError, Global};
+use std::alloc::Global;
 
 /// Whether the namespace names a quota that is not there.
 fn lacks_quota(tables: &Tables, namespace: &Namespace) -> bool
@@ -71,39 +71,15 @@ pub(crate) fn new_tenant(alloc: Global, namespace: Namespace) -> TenantRows
     }
 }
 
-/// Writes the record, over what the namespace of that name has, or over nothing.
-fn write_namespace(
-    tables: &mut Tables,
-    name: &Text,
-    namespace: &Namespace,
-) -> Result<(), AllocError>
-    ensures done { Writes (with_namespace_put name.now namespace.now) tables.old result tables.new }
-    ensures refused { OnErr result (tables.new ≡ tables.old) }
-{
-    let namespace = namespace.clone()?;
-    if let Some(tenant) = tables.tenants.get_mut(name) {
-        tenant.namespace = namespace;
-        return Ok(());
-    }
-    tables.tenants.reserve(name)?;
-    tables
-        .tenants
-        .set(name, new_tenant(tables.alloc, namespace));
-    Ok(())
-}
-
-/// Makes the namespace, or writes its record in place of the old one.
+/// A namespace is to be made, or its record to be written in place of the old one.
 /// The first refusal is `BadField` for a quota, a default pool or an allowed pool that is not there, then `InUse`
-/// where what the namespace has forbids the new record, then `Full`. Want of memory comes last. A refusal
-/// changes nothing.
+/// where what the namespace has forbids the new record, then `Full`. Want of memory comes last.
 pub fn put_namespace(
-    tables: &mut Tables,
+    tables: &Tables,
     name: &Text,
     namespace: &Namespace,
-) -> Result<Content, Refusal>
-    ensures made { let put = put_namespace name.now namespace.now in
-        ChangesTables put tables.old result tables.new }
-    ensures refused { OnErr result (tables.new ≡ tables.old) }
+) -> Result<RecordChange, Refusal>
+    ensures { PreparesRecord (put_namespace name.now namespace.now) tables.now result }
 {
     if lacks_quota(tables, namespace) {
         return Err(Refusal::BadField(Member::Quota));
@@ -120,15 +96,13 @@ pub fn put_namespace(
     if is_full(&tables.tenants, name) {
         return Err(Refusal::Full);
     }
-    write_namespace(tables, name, namespace)?;
-    Ok(Content::Written)
+    Ok(RecordChange::Namespace(name.clone()?, namespace.clone()?))
 }
 
-/// Deletes the namespace with all that it owns. One that is not there is `NotFound`, and `default` and one that has a
-/// job, an open evaluation or a live allocation are `InUse`.
-pub fn delete_namespace(tables: &mut Tables, name: &Text) -> Result<Content, Refusal>
-    ensures made { ChangesTables (delete_namespace name.now) tables.old result tables.new }
-    ensures refused { OnErr result (tables.new ≡ tables.old) }
+/// The namespace is to go with all that it owns. One that is not there is `NotFound`, and `default` and one that has a
+/// job, an open evaluation or a live allocation are `InUse`. Want of memory comes last.
+pub fn delete_namespace(tables: &Tables, name: &Text) -> Result<RecordChange, Refusal>
+    ensures { PreparesRecord (delete_namespace name.now) tables.now result }
 {
     let Some(tenant) = tables.tenants.get(name) else {
         return Err(Refusal::NotFound);
@@ -139,6 +113,5 @@ pub fn delete_namespace(tables: &mut Tables, name: &Text) -> Result<Content, Ref
     if has_work(tenant) {
         return Err(Refusal::InUse);
     }
-    tables.tenants.remove(name);
-    Ok(Content::Written)
+    Ok(RecordChange::NoNamespace(name.clone()?))
 }

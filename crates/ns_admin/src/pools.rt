@@ -1,24 +1,24 @@
 //! What administrators ask of pools.
 
-ghost use Rattle.std.specs.Prelude.{◌≡◌, ◌||◌, true, None, OnErr};
+ghost use Rattle.std.specs.Prelude.{◌≡◌, ◌||◌, true, None};
 ghost use Rattle.std.specs.List.{list_any};
 ghost use Rattle.keyed.specs.Table.{at_slot};
 ghost use Rattle.ns_types.specs.Asking.Admins.{delete_pool, is_pool_in_use, put_pool_record, with_pool};
 ghost use Rattle.ns_types.specs.State.Tables.{any_row};
-ghost use Rattle.ns_admin.specs.Calls.{ChangesTables, Writes};
-ghost use Rattle.ns_admin.specs.Viewed.{tenant_uses_pool, with_pool_put};
+ghost use Rattle.ns_admin.specs.Recorded.{PreparesRecord};
+ghost use Rattle.ns_admin.specs.Viewed.{tenant_uses_pool};
 ghost use Rattle.ns_world.specs.World.{pool_of, world_of};
 
 use crate::held::{Asked, has_rows, looks_to_pool};
 use crate::looking::{Slot, is_default, is_full};
+use crate::record::RecordChange;
 use crate::sharing::names_pool;
 use keyed::{NameTable, Series};
 use ns_types::records::Pool;
 use ns_types::refusal::Refusal;
-use ns_types::reply::Content;
 use ns_types::text::Text;
 use ns_world::{PoolRows, Tables, TenantRows};
-use std::alloc::{AllocError, Global};
+use std::alloc::Global;
 
 fn uses_pool(slot: &Slot<TenantRows>, pool: &Text) -> bool
     ensures { result ≡ at_slot (tenant_uses_pool pool.now) slot.now }
@@ -64,39 +64,21 @@ pub(crate) fn new_pool(alloc: Global, pool: Pool) -> PoolRows
     }
 }
 
-/// Writes the record, over what the pool of that name has, or over nothing.
-fn write_pool(tables: &mut Tables, name: &Text, pool: &Pool) -> Result<(), AllocError>
-    ensures done { Writes (with_pool_put name.now pool.now) tables.old result tables.new }
-    ensures refused { OnErr result (tables.new ≡ tables.old) }
-{
-    let pool = pool.clone()?;
-    if let Some(row) = tables.pools.get_mut(name) {
-        row.pool = pool;
-        return Ok(());
-    }
-    tables.pools.reserve(name)?;
-    tables.pools.set(name, new_pool(tables.alloc, pool));
-    Ok(())
-}
-
-/// Makes the pool, or writes its record in place of the old one: its nodes and the numbers of its releases stay.
-/// `Full` is the only refusal beside want of memory.
-pub fn put_pool(tables: &mut Tables, name: &Text, pool: &Pool) -> Result<Content, Refusal>
-    ensures made { ChangesTables (put_pool_record name.now pool.now) tables.old result tables.new }
-    ensures refused { OnErr result (tables.new ≡ tables.old) }
+/// A pool is to be made, or its record to be written in place of the old one: its nodes and the numbers of its releases
+/// stay. `Full` is the only refusal beside want of memory, which comes last.
+pub fn put_pool(tables: &Tables, name: &Text, pool: &Pool) -> Result<RecordChange, Refusal>
+    ensures { PreparesRecord (put_pool_record name.now pool.now) tables.now result }
 {
     if is_full(&tables.pools, name) {
         return Err(Refusal::Full);
     }
-    write_pool(tables, name, pool)?;
-    Ok(Content::Written)
+    Ok(RecordChange::Pool(name.clone()?, pool.clone()?))
 }
 
-/// Deletes the pool. One that is not there is `NotFound`, and `default`, one that has a node and one that is named are
-/// `InUse`.
-pub fn delete_pool(tables: &mut Tables, name: &Text) -> Result<Content, Refusal>
-    ensures made { ChangesTables (delete_pool name.now) tables.old result tables.new }
-    ensures refused { OnErr result (tables.new ≡ tables.old) }
+/// The pool is to go. One that is not there is `NotFound`, and `default`, one that has a node and one that is named are
+/// `InUse`. Want of memory comes last.
+pub fn delete_pool(tables: &Tables, name: &Text) -> Result<RecordChange, Refusal>
+    ensures { PreparesRecord (delete_pool name.now) tables.now result }
 {
     let Some(pool) = tables.pools.get(name) else {
         return Err(Refusal::NotFound);
@@ -107,6 +89,5 @@ pub fn delete_pool(tables: &mut Tables, name: &Text) -> Result<Content, Refusal>
     if is_occupied(tables, name, pool) {
         return Err(Refusal::InUse);
     }
-    tables.pools.remove(name);
-    Ok(Content::Written)
+    Ok(RecordChange::NoPool(name.clone()?))
 }

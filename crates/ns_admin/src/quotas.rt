@@ -1,19 +1,20 @@
 //! What administrators ask of quotas.
 
-ghost use Rattle.std.specs.Prelude.{◌≡◌, IfOk, OnErr, false, true};
+ghost use Rattle.std.specs.Prelude.{◌≡◌, IfOk, false, true};
 ghost use Rattle.std.specs.List.{list_any};
 ghost use Rattle.keyed.specs.Table.{at_slot};
 ghost use Rattle.ns_types.specs.declared.reply.Content.TheVariants as Content;
 ghost use Rattle.ns_types.specs.Asking.Admins.{delete_quota, is_relimited, put_quota, read_quota};
-ghost use Rattle.ns_types.specs.Settling.Outcome.{Done};
+ghost use Rattle.ns_types.specs.Settling.Outcome.{Changes, Done};
 ghost use Rattle.ns_types.specs.Steps.{is_past_bound};
 ghost use Rattle.ns_change.specs.Changed.{with_record};
 ghost use Rattle.ns_change.specs.Prepared.{Prepares, bounded};
-ghost use Rattle.ns_admin.specs.Calls.{ChangesTables, Writes};
-ghost use Rattle.ns_admin.specs.Viewed.{content_of_quota, tenant_names_quota, with_quota_put};
+ghost use Rattle.ns_admin.specs.Recorded.{PreparesRecord};
+ghost use Rattle.ns_admin.specs.Viewed.{content_of_quota, tenant_names_quota};
 ghost use Rattle.ns_world.specs.World.{world_of};
 
 use crate::looking::{Slot, is_full};
+use crate::record::RecordChange;
 use crate::sharing::names_quota;
 use ns_alike::changes_limits;
 use ns_bounds::given_limits_pass;
@@ -22,7 +23,7 @@ use ns_types::records::Quota;
 use ns_types::refusal::Refusal;
 use ns_types::reply::{Content, QuotaShown};
 use ns_types::text::Text;
-use ns_world::{QuotaRows, Tables, TenantRows};
+use ns_world::{Tables, TenantRows};
 use std::alloc::AllocError;
 
 fn content_of_quota(name: &Text, quota: &Quota) -> Result<Content, AllocError>
@@ -49,38 +50,21 @@ fn any_names_quota(slots: &[Slot<TenantRows>], quota: &Text) -> bool
     slots.iter().any(|slot| names_quota_slot(slot, quota))
 }
 
-/// Writes the record, over that of the quota of that name, or over nothing.
-fn write_quota(tables: &mut Tables, name: &Text, quota: &Quota) -> Result<(), AllocError>
-    ensures done { Writes (with_quota_put name.now quota.now) tables.old result tables.new }
-    ensures refused { OnErr result (tables.new ≡ tables.old) }
-{
-    let quota = quota.clone()?;
-    if let Some(row) = tables.quotas.get_mut(name) {
-        row.quota = quota;
-        return Ok(());
-    }
-    tables.quotas.reserve(name)?;
-    tables.quotas.set(name, QuotaRows { quota, release: 0 });
-    Ok(())
-}
-
-/// Makes the quota, or writes its record in place of the old one. Its release number stays.
-/// `Full` is the only refusal beside want of memory.
-pub fn put_quota(tables: &mut Tables, name: &Text, quota: &Quota) -> Result<Content, Refusal>
-    ensures made { ChangesTables (put_quota name.now quota.now) tables.old result tables.new }
-    ensures refused { OnErr result (tables.new ≡ tables.old) }
+/// A quota is to be made, or its record to be written in place of the old one. Its release number stays.
+/// `Full` is the only refusal beside want of memory, which comes last.
+pub fn put_quota(tables: &Tables, name: &Text, quota: &Quota) -> Result<RecordChange, Refusal>
+    ensures { PreparesRecord (put_quota name.now quota.now) tables.now result }
 {
     if is_full(&tables.quotas, name) {
         return Err(Refusal::Full);
     }
-    write_quota(tables, name, quota)?;
-    Ok(Content::Written)
+    Ok(RecordChange::Quota(name.clone()?, quota.clone()?))
 }
 
-/// Deletes the quota. One that is not there is `NotFound`, and one that a namespace names is `InUse`.
-pub fn delete_quota(tables: &mut Tables, name: &Text) -> Result<Content, Refusal>
-    ensures made { ChangesTables (delete_quota name.now) tables.old result tables.new }
-    ensures refused { OnErr result (tables.new ≡ tables.old) }
+/// The quota is to go. One that is not there is `NotFound`, and one that a namespace names is `InUse`. Want of memory
+/// comes last.
+pub fn delete_quota(tables: &Tables, name: &Text) -> Result<RecordChange, Refusal>
+    ensures { PreparesRecord (delete_quota name.now) tables.now result }
 {
     if !tables.has_quota(name) {
         return Err(Refusal::NotFound);
@@ -88,13 +72,12 @@ pub fn delete_quota(tables: &mut Tables, name: &Text) -> Result<Content, Refusal
     if any_names_quota(tables.tenants.as_slice(), name) {
         return Err(Refusal::InUse);
     }
-    tables.quotas.remove(name);
-    Ok(Content::Written)
+    Ok(RecordChange::NoQuota(name.clone()?))
 }
 
 /// The quota's record. One that is not there is `NotFound`.
 pub fn read_quota(tables: &Tables, name: &Text) -> Result<Content, Refusal>
-    ensures { ChangesTables (read_quota name.now) tables.now result tables.now }
+    ensures { let w = world_of tables.now in Changes (read_quota name.now w) w result w }
 {
     let Some(row) = tables.quotas.get(name) else {
         return Err(Refusal::NotFound);

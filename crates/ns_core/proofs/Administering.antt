@@ -8,18 +8,22 @@ use Rattle.ns_types.specs.declared.step.AdminCommand.{AdminCommand}
 use Rattle.ns_types.specs.declared.step.Step.TheVariants as Step
 use Rattle.ns_types.specs.Asking.Admins.{put_quota}
 use Rattle.ns_types.specs.Asking.Policies.{administer, may_administer, with_world}
-use Rattle.ns_types.specs.Settling.Outcome.{lift}
+use Rattle.ns_types.specs.Settling.Outcome.{Changes, Outcome, lift}
 use Rattle.ns_types.specs.State.Names.{Name}
 use Rattle.ns_types.specs.State.Rows.{World}
 use Rattle.ns_types.specs.Steps.{act}
+use Rattle.ns_admin.specs.declared.record.RecordChange.{RecordChange}
 use Rattle.ns_admin.specs.Laws.{relimits}
+use Rattle.ns_admin.specs.Recorded.{PreparesRecord}
 use Rattle.ns_change.specs.declared.change.Prepared.{Prepared}
 use Rattle.ns_change.specs.Prepared.{Prepares, bounded}
 use Rattle.ns_change.proofs.Making.{does, refuses}
 use Rattle.ns_live.specs.Index.{IsRight}
 use Rattle.ns_live.proofs.Administered.{administration_right}
+use Rattle.ns_steps.proofs.Reading.{changes_lift}
+use Rattle.ns_world.specs.declared.tables.Tables.{Tables}
 use Rattle.ns_core.specs.declared.parts.Parts.{Parts}
-use Rattle.ns_core.specs.Answering.{ChangesBy, PreparesStep}
+use Rattle.ns_core.specs.Answering.{ChangesBy, PreparesStep, WritesPrepared}
 use Rattle.ns_core.specs.Held.{IsIndexed}
 use Rattle.ns_core.specs.Viewed.{state_of, world_of}
 
@@ -35,6 +39,14 @@ pub index_stays : (secret : Option Name) (command : AdminCommand) (old new : Par
     → ChangesBy secret command old result new → new.live ≡ old.live → IsIndexed old → IsIndexed new
 index_stays secret command old new result changes live right = subst (IsRight (world_of new)) (sym live)
     (administration_right secret command (state_of old) (state_of new) result old.live changes right)
+
+-- ---- a command on a record
+
+pub writes : (parts : Parts) (tables : Tables) (command : World → Outcome World) (prepared : Result RecordChange Refusal) (result : Result Content Refusal)
+    → WritesPrepared prepared parts.tables result tables → PreparesRecord command parts.tables prepared
+    → Changes (lift (with_world parts.acl) (command (world_of parts))) (state_of parts) result (state_of (record parts { tables = tables }))
+writes parts tables command prepared result written so = changes_lift (with_world parts.acl) (command (world_of parts)) (world_of parts)
+    (world_of (record parts { tables = tables })) result (written command so)
 
 -- ---- other limits
 

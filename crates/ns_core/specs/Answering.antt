@@ -10,15 +10,19 @@ use Rattle.ns_types.specs.Access.Rights.{has_any, pool_rights_of, rights_of}
 use Rattle.ns_types.specs.Asking.Asks.{right_of}
 use Rattle.ns_types.specs.Asking.Nodes.{ask_pool, pool_right_of}
 use Rattle.ns_types.specs.Asking.Policies.{administer, may_administer}
-use Rattle.ns_types.specs.Settling.Outcome.{Changes, Done}
+use Rattle.ns_types.specs.Settling.Outcome.{Changes, Outcome, Done}
 use Rattle.ns_types.specs.State.Names.{Name}
-use Rattle.ns_types.specs.State.Rows.{Acl}
+use Rattle.ns_types.specs.State.Rows.{Acl, World}
 use Rattle.ns_types.specs.Steps.{Answer, Makes, act, is_allowed}
 use Rattle.ns_steps.specs.Answers.{answer_of}
+use Rattle.ns_admin.specs.declared.record.RecordChange.{RecordChange}
+use Rattle.ns_admin.specs.Recorded.{PreparesRecord}
 use Rattle.ns_change.specs.declared.change.Prepared.{Prepared}
 use Rattle.ns_change.specs.Changed.{view}
 use Rattle.ns_core.specs.declared.parts.Parts.{Parts}
 use Rattle.ns_core.specs.Viewed.{state_of, world_of}
+use Rattle.ns_world.specs.declared.tables.Tables.{Tables}
+use Rattle.ns_world.specs.World
 
 abbrev pub MakesStep : Step → Parts → Answer → Parts → Type 0
 MakesStep step old result new = Makes step (state_of old) result (state_of new)
@@ -62,6 +66,11 @@ ReadsPool pool command parts result =
     Changes (ask_pool pool command (world_of parts)) (world_of parts) result (world_of parts)
 
 -- ---- administrators
+
+-- whichever command on a record it was prepared for
+abbrev pub WritesPrepared : Result RecordChange Refusal → Tables → Result Content Refusal → Tables → Type 0
+WritesPrepared prepared old result new = (command : World → Outcome World) → PreparesRecord command old prepared
+    → Changes (command (World.world_of old)) (World.world_of old) result (World.world_of new)
 
 -- what a change says
 abbrev pub ChangesBy : Option Name → AdminCommand → Parts → Result Content Refusal → Parts → Type 0

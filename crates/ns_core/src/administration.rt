@@ -6,21 +6,31 @@ ghost use Rattle.ns_types.specs.declared.step.Step.TheVariants as Step;
 ghost use Rattle.ns_types.specs.Asking.Admins.{is_relimited};
 ghost use Rattle.ns_types.specs.Asking.Policies.{may_administer};
 ghost use Rattle.ns_admin.specs.Laws.{relimits};
-ghost use Rattle.ns_core.specs.Answering.{ChangesBy, MakesAdmin, MakesStep, ReadsBy, sees, sees_pool};
+ghost use Rattle.ns_core.specs.Answering.{ChangesBy, MakesAdmin, MakesStep, ReadsBy, WritesPrepared, sees, sees_pool};
 ghost use Rattle.ns_core.specs.Held.{IsHeld, IsIndexed};
 ghost use Rattle.ns_core.specs.Viewed.{state_of, world_of};
 
 use crate::parts::{Parts, plain};
 use crate::rights::has_any;
 use ns_admin::{
-    change_limits, delete_namespace, delete_pool, delete_quota, is_relimited, list_quotas,
-    put_namespace, put_pool, put_quota, read_quota,
+    RecordChange, change_limits, delete_namespace, delete_pool, delete_quota, is_relimited,
+    list_quotas, put_namespace, put_pool, put_quota, read_quota, write,
 };
 use ns_types::records::Quota;
 use ns_types::refusal::Refusal;
 use ns_types::reply::{Content, Reply};
 use ns_types::step::AdminCommand;
 use ns_types::text::Text;
+use ns_world::Tables;
+
+/// Writes what was prepared for a command on a record, or leaves the tables as they are.
+fn record(tables: &mut Tables, prepared: Result<RecordChange, Refusal>) -> Result<Content, Refusal>
+    ensures { WritesPrepared prepared tables.old result tables.new }
+{
+    let change = prepared?;
+    write(tables, change)?;
+    Ok(Content::Written)
+}
 
 impl Parts {
     fn may_administer(&self, secret: Option<&Text>, command: &AdminCommand) -> bool
@@ -63,15 +73,33 @@ impl Parts {
     {
         match command {
             AdminCommand::ListNamespaces => self.list_namespaces(secret),
-            AdminCommand::PutNamespace(name, row) => put_namespace(&mut self.tables, name, row),
-            AdminCommand::DeleteNamespace(name) => delete_namespace(&mut self.tables, name),
+            AdminCommand::PutNamespace(name, row) => {
+                let prepared = put_namespace(&self.tables, name, row);
+                record(&mut self.tables, prepared)
+            }
+            AdminCommand::DeleteNamespace(name) => {
+                let prepared = delete_namespace(&self.tables, name);
+                record(&mut self.tables, prepared)
+            }
             AdminCommand::ListQuotas => Ok(list_quotas(&self.tables)?),
             AdminCommand::ReadQuota(name) => read_quota(&self.tables, name),
-            AdminCommand::PutQuota(name, quota) => put_quota(&mut self.tables, name, quota),
-            AdminCommand::DeleteQuota(name) => delete_quota(&mut self.tables, name),
+            AdminCommand::PutQuota(name, quota) => {
+                let prepared = put_quota(&self.tables, name, quota);
+                record(&mut self.tables, prepared)
+            }
+            AdminCommand::DeleteQuota(name) => {
+                let prepared = delete_quota(&self.tables, name);
+                record(&mut self.tables, prepared)
+            }
             AdminCommand::ListPools => self.list_pools(secret),
-            AdminCommand::PutPool(name, pool) => put_pool(&mut self.tables, name, pool),
-            AdminCommand::DeletePool(name) => delete_pool(&mut self.tables, name),
+            AdminCommand::PutPool(name, pool) => {
+                let prepared = put_pool(&self.tables, name, pool);
+                record(&mut self.tables, prepared)
+            }
+            AdminCommand::DeletePool(name) => {
+                let prepared = delete_pool(&self.tables, name);
+                record(&mut self.tables, prepared)
+            }
             AdminCommand::ReadPolicy(name) => self.acl.read_policy(name),
             AdminCommand::PutPolicy(name, policy) => self.acl.put_policy(name, policy),
             AdminCommand::DeletePolicy(name) => self.acl.delete_policy(name),

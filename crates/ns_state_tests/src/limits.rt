@@ -1,7 +1,7 @@
 // Tables with ample memory, filled to their limits: one row more is refused as too many, and not for want of memory.
 
 use crate::owned::{holds, seen};
-use crate::tables::refusal;
+use crate::tables::{refusal, written};
 use ns_acl::Acl;
 use ns_admin::{opening as opening_tables, put_namespace, put_pool, put_quota};
 use ns_types::acl::{Policy, TokenKind};
@@ -58,11 +58,10 @@ fn has_ten_thousand_namespaces(tables: &mut Tables) -> Result<bool, AllocError> 
         allowed: None,
         denied: Rows::new(alloc),
     };
-    let refused = fill(
-        tables,
-        alloc,
-        |tables, name| put_namespace(tables, name, &namespace),
-    );
+    let refused = fill(tables, alloc, |tables, name| {
+        let prepared = put_namespace(tables, name, &namespace);
+        written(tables, prepared)
+    });
     drop(namespace);
     Ok(refused? == Some((19_999, Refusal::Full)))
 }
@@ -79,10 +78,11 @@ fn has_ten_thousand_pools(tables: &mut Tables) -> Result<bool, AllocError> {
     let pool = Pool {
         description: described(alloc)?,
     };
-    Ok(
-        fill(tables, alloc, |tables, name| put_pool(tables, name, &pool))?
-            == Some((19_999, Refusal::Full)),
-    )
+    let refused = fill(tables, alloc, |tables, name| {
+        let prepared = put_pool(tables, name, &pool);
+        written(tables, prepared)
+    });
+    Ok(refused? == Some((19_999, Refusal::Full)))
 }
 
 #[test]
@@ -97,13 +97,11 @@ fn has_ten_thousand_quotas(tables: &mut Tables) -> Result<bool, AllocError> {
         description: described(alloc)?,
         limits: None,
     };
-    Ok(
-        fill(
-            tables,
-            alloc,
-            |tables, name| put_quota(tables, name, &quota),
-        )? == Some((20_000, Refusal::Full)),
-    )
+    let refused = fill(tables, alloc, |tables, name| {
+        let prepared = put_quota(tables, name, &quota);
+        written(tables, prepared)
+    });
+    Ok(refused? == Some((20_000, Refusal::Full)))
 }
 
 #[test]

@@ -3,7 +3,7 @@
 
 use crate::ends::{is_awake, is_limited, is_listed, is_past_now, quota, tables};
 use crate::owned::{holds, seen};
-use crate::tables::refusal;
+use crate::tables::{refusal, written};
 use crate::worker::ended;
 use ns_admin::{change_limits, is_relimited, put_quota};
 use ns_change::Prepared;
@@ -42,7 +42,8 @@ fn stays(tables: &mut Tables, alloc: Global) -> Result<bool, AllocError> {
     let name = Text::from_str(alloc, "q")?;
     let quota = quota(alloc, 1)?;
     let is_relimited = is_relimited(tables, &name, &quota);
-    let refused = seen(put_quota(tables, &name, &quota), refusal);
+    let prepared = put_quota(tables, &name, &quota);
+    let refused = seen(written(tables, prepared), refusal);
     drop(quota);
     let stays = refused.is_none() && is_listed(tables, 0, 1);
     Ok(stays && !is_relimited && is_limited(tables, &name, 1, 0))

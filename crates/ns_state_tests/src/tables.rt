@@ -7,8 +7,8 @@ ghost use Rattle.ns_world.specs.World.{world_of};
 use crate::owned::{holds, seen};
 use keyed::NameTable;
 use ns_admin::{
-    is_confined_in, is_relimited, list_namespaces, list_pools, list_quotas, opening, overlaps,
-    permits_in, same_quota, shares,
+    RecordChange, is_confined_in, is_relimited, list_namespaces, list_pools, list_quotas, opening,
+    overlaps, permits_in, same_quota, shares, write,
 };
 use ns_types::job::{Document, Job, JobKind};
 use ns_types::records::{Namespace, Pool, Quota};
@@ -28,11 +28,22 @@ pub(crate) fn refusal(answer: &Result<Content, Refusal>) -> Option<Refusal> {
     }
 }
 
+/// Writes what was prepared.
+pub(crate) fn written(
+    tables: &mut Tables,
+    prepared: Result<RecordChange, Refusal>,
+) -> Result<Content, Refusal> {
+    let change = prepared?;
+    write(tables, change)?;
+    Ok(Content::Written)
+}
+
 fn put_pool(tables: &mut Tables, name: &str) -> Result<Option<Refusal>, AllocError> {
     let name = Text::from_str(tables.alloc, name)?;
     let description = Text::from_str(tables.alloc, "")?;
     let pool = Pool { description };
-    Ok(seen(ns_admin::put_pool(tables, &name, &pool), refusal))
+    let prepared = ns_admin::put_pool(tables, &name, &pool);
+    Ok(seen(written(tables, prepared), refusal))
 }
 
 fn quota(alloc: Global, cpu: Limit) -> Result<Quota, AllocError> {
@@ -49,7 +60,8 @@ fn quota(alloc: Global, cpu: Limit) -> Result<Quota, AllocError> {
 fn put_quota(tables: &mut Tables, name: &str) -> Result<Option<Refusal>, AllocError> {
     let name = Text::from_str(tables.alloc, name)?;
     let quota = quota(tables.alloc, Limit::AtMost(1000))?;
-    let refusal = seen(ns_admin::put_quota(tables, &name, &quota), refusal);
+    let prepared = ns_admin::put_quota(tables, &name, &quota);
+    let refusal = seen(written(tables, prepared), refusal);
     drop(quota);
     Ok(refusal)
 }
@@ -78,7 +90,8 @@ fn confined(
 
 /// Puts the namespace and lets its record go.
 fn put_once(tables: &mut Tables, name: &Text, namespace: Namespace) -> Option<Refusal> {
-    let refusal = seen(ns_admin::put_namespace(tables, name, &namespace), refusal);
+    let prepared = ns_admin::put_namespace(tables, name, &namespace);
+    let refusal = seen(written(tables, prepared), refusal);
     drop(namespace);
     refusal
 }
@@ -98,17 +111,20 @@ fn put(
 
 fn delete_namespace(tables: &mut Tables, name: &str) -> Result<Option<Refusal>, AllocError> {
     let name = Text::from_str(tables.alloc, name)?;
-    Ok(seen(ns_admin::delete_namespace(tables, &name), refusal))
+    let prepared = ns_admin::delete_namespace(tables, &name);
+    Ok(seen(written(tables, prepared), refusal))
 }
 
 fn delete_pool(tables: &mut Tables, name: &str) -> Result<Option<Refusal>, AllocError> {
     let name = Text::from_str(tables.alloc, name)?;
-    Ok(seen(ns_admin::delete_pool(tables, &name), refusal))
+    let prepared = ns_admin::delete_pool(tables, &name);
+    Ok(seen(written(tables, prepared), refusal))
 }
 
 fn delete_quota(tables: &mut Tables, name: &str) -> Result<Option<Refusal>, AllocError> {
     let name = Text::from_str(tables.alloc, name)?;
-    Ok(seen(ns_admin::delete_quota(tables, &name), refusal))
+    let prepared = ns_admin::delete_quota(tables, &name);
+    Ok(seen(written(tables, prepared), refusal))
 }
 
 fn read_quota(tables: &Tables, name: &str) -> Result<Option<Refusal>, AllocError> {

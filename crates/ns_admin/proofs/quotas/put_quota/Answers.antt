@@ -1,23 +1,34 @@
-use Rattle.std.proofs.Common.{refl, sym, ap, ◌∙◌}
+use Rattle.std.proofs.Common.{sym, ap, ◌∙◌}
 use Rattle.ns_types.specs.declared.reply.Content.TheVariants as Content
 use Rattle.ns_types.specs.Asking.Admins.{put_quota}
 use Rattle.ns_types.specs.Settling.Outcome.{Done, is_done}
+use Rattle.ns_types.proofs.Outcomes.{unless_not, unless_so}
 use Rattle.ns_world.specs.World.{world_of}
-use Rattle.ns_types.proofs.Outcomes.{memory_last, unless_not, unless_so}
+use Rattle.ns_admin.specs.declared.record.RecordChange.TheVariants as RecordChange
+use Rattle.ns_admin.specs.Recorded.{recorded}
+use Rattle.ns_admin.proofs.Recording.{out_of_memory}
 use Rattle.ns_admin.proofs.World.{quotas_full}
 use Rattle.ns_admin.proofs.quotas.put_quota.Goals as goal
 
-pub returns-then-is_full-clause-made : goal.returns-then-is_full-clause-made
+pub returns-then-is_full : goal.returns-then-is_full
 unfolding put_quota
-returns-then-is_full-clause-made c = (unless_so _ _ _ (quotas_full c.args.tables.now c.args.name.now ∙ sym c.is_full.ensures ∙ c.if-is_full.true), refl)
+returns-then-is_full c = unless_so _ _ _ (quotas_full c.args.tables.now c.args.name.now ∙ sym c.is_full.ensures ∙ c.if-is_full.true)
 
-pub returns-clause-made : goal.returns-clause-made
+pub returns : goal.returns
 unfolding put_quota
-returns-clause-made c = unless_not _ _ _ (quotas_full c.args.tables.now c.args.name.now ∙ sym c.is_full.ensures ∙ c.if-is_full.false)
-    ∙ ap (Done Content.Written) (sym (c.in_ok-write_quota.ensures.done))
+returns c =
+    let w = world_of c.args.tables.now in
+    unless_not _ _ _ (quotas_full c.args.tables.now c.args.name.now ∙ sym c.is_full.ensures ∙ c.if-is_full.false)
+    ∙ (λ i. Done Content.Written (recorded
+    (RecordChange.Quota (sym c.in_ok-clone.ensures.cases i) (sym c.in_ok-clone-2.ensures.cases i)) w))
 
-pub returns-in_err-write_quota-clause-made : goal.returns-in_err-write_quota-clause-made
+pub returns-in_err-clone : goal.returns-in_err-clone
 unfolding put_quota
-returns-in_err-write_quota-clause-made c = memory_last _ _ _ c.from_residual.result c.from_residual.ensures.1
+returns-in_err-clone c = out_of_memory (put_quota c.args.name.now c.args.quota.now) c.args.tables.now c.from_residual.result c.from_residual.ensures.1
     (ap is_done (unless_not _ _ _ (quotas_full c.args.tables.now c.args.name.now ∙ sym c.is_full.ensures ∙ c.if-is_full.false)))
-    (ap world_of c.in_err-write_quota.ensures.refused)
+
+pub returns-in_err-clone-2 : goal.returns-in_err-clone-2
+unfolding put_quota
+returns-in_err-clone-2 c = out_of_memory (put_quota c.args.name.now c.args.quota.now) c.args.tables.now c.from_residual-in_err-clone-2.result
+    c.from_residual-in_err-clone-2.ensures.1
+    (ap is_done (unless_not _ _ _ (quotas_full c.args.tables.now c.args.name.now ∙ sym c.is_full.ensures ∙ c.if-is_full.false)))

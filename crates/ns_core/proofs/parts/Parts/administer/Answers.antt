@@ -1,16 +1,18 @@
 use Rattle.std.proofs.Common.{refl, sym, ap}
+use Rattle.ns_types.specs.Asking.Admins.{delete_namespace, delete_pool, delete_quota, put_namespace, put_pool_record, put_quota}
 use Rattle.ns_types.specs.Asking.Policies.{administer, with_acl, with_world}
 use Rattle.ns_types.specs.Settling.Outcome.{Done}
 use Rattle.ns_types.proofs.Outcomes.{memory_last}
 use Rattle.ns_core.specs.Viewed.{state_of, world_of}
 use Rattle.ns_steps.proofs.Reading.{changes_lift}
+use Rattle.ns_core.proofs.Administering.{writes}
 use Rattle.ns_core.proofs.parts.Parts.administer.Goals as goal
 
 pub returns-in-DeleteNamespace-clause-made : goal.returns-in-DeleteNamespace-clause-made
 unfolding administer
 returns-in-DeleteNamespace-clause-made c = rw c.in-DeleteNamespace.is
-    (changes_lift (with_world c.args.self.now.acl) _ _ (world_of (record c.args.self.now { tables = c.delete_namespace.new.tables })) c.delete_namespace.result
-    c.delete_namespace.ensures.made)
+    (writes c.args.self.now c.record-in-DeleteNamespace.new.tables (delete_namespace c.in-DeleteNamespace.name)
+    c.delete_namespace-prepared.result c.record-in-DeleteNamespace.result c.record-in-DeleteNamespace.ensures c.delete_namespace-prepared.ensures)
 
 pub returns-in_ok-list_quotas-in-ListQuotas-clause-made : goal.returns-in_ok-list_quotas-in-ListQuotas-clause-made
 unfolding administer
@@ -25,13 +27,14 @@ returns-in-ReadQuota-clause-made c = rw c.in-ReadQuota.is (changes_lift (with_wo
 pub returns-in-DeleteQuota-clause-made : goal.returns-in-DeleteQuota-clause-made
 unfolding administer
 returns-in-DeleteQuota-clause-made c = rw c.in-DeleteQuota.is
-    (changes_lift (with_world c.args.self.now.acl) _ _ (world_of (record c.args.self.now { tables = c.delete_quota.new.tables })) c.delete_quota.result
-    c.delete_quota.ensures.made)
+    (writes c.args.self.now c.record-in-DeleteQuota.new.tables (delete_quota c.in-DeleteQuota.name)
+    c.delete_quota-prepared.result c.record-in-DeleteQuota.result c.record-in-DeleteQuota.ensures c.delete_quota-prepared.ensures)
 
 pub returns-in-DeletePool-clause-made : goal.returns-in-DeletePool-clause-made
 unfolding administer
-returns-in-DeletePool-clause-made c = rw c.in-DeletePool.is (changes_lift (with_world c.args.self.now.acl) _ _
-    (world_of (record c.args.self.now { tables = c.delete_pool.new.tables })) c.delete_pool.result c.delete_pool.ensures.made)
+returns-in-DeletePool-clause-made c = rw c.in-DeletePool.is
+    (writes c.args.self.now c.record-in-DeletePool.new.tables (delete_pool c.in-DeletePool.name)
+    c.delete_pool-prepared.result c.record-in-DeletePool.result c.record-in-DeletePool.ensures c.delete_pool-prepared.ensures)
 
 pub returns-in-ReadPolicy-clause-made : goal.returns-in-ReadPolicy-clause-made
 unfolding administer
@@ -59,13 +62,15 @@ returns-in_err-list_quotas-in-ListQuotas-clause-made c = rw c.in-ListQuotas.is (
 
 pub returns-in-PutNamespace-clause-made : goal.returns-in-PutNamespace-clause-made
 unfolding administer
-returns-in-PutNamespace-clause-made c = rw c.in-PutNamespace.is (changes_lift (with_world c.args.self.now.acl) _ _
-    (world_of (record c.args.self.now { tables = c.put_namespace.new.tables })) c.put_namespace.result c.put_namespace.ensures.made)
+returns-in-PutNamespace-clause-made c = rw c.in-PutNamespace.is
+    (writes c.args.self.now c.record.new.tables (put_namespace c.in-PutNamespace.name c.in-PutNamespace.row)
+    c.put_namespace-prepared.result c.record.result c.record.ensures c.put_namespace-prepared.ensures)
 
 pub returns-in-PutPool-clause-made : goal.returns-in-PutPool-clause-made
 unfolding administer
-returns-in-PutPool-clause-made c = rw c.in-PutPool.is (changes_lift (with_world c.args.self.now.acl) _ _
-    (world_of (record c.args.self.now { tables = c.put_pool.new.tables })) c.put_pool.result c.put_pool.ensures.made)
+returns-in-PutPool-clause-made c = rw c.in-PutPool.is
+    (writes c.args.self.now c.record-in-PutPool.new.tables (put_pool_record c.in-PutPool.name c.in-PutPool.pool)
+    c.put_pool-prepared.result c.record-in-PutPool.result c.record-in-PutPool.ensures c.put_pool-prepared.ensures)
 
 pub returns-in-PutPolicy-clause-made : goal.returns-in-PutPolicy-clause-made
 unfolding administer
@@ -74,5 +79,6 @@ returns-in-PutPolicy-clause-made c = rw c.in-PutPolicy.is
 
 pub returns-in-PutQuota-clause-made : goal.returns-in-PutQuota-clause-made
 unfolding administer
-returns-in-PutQuota-clause-made c = rw c.in-PutQuota.is (changes_lift (with_world c.args.self.now.acl) _ _
-    (world_of (record c.args.self.now { tables = c.put_quota.new.tables })) c.put_quota.result c.put_quota.ensures.made)
+returns-in-PutQuota-clause-made c = rw c.in-PutQuota.is
+    (writes c.args.self.now c.record-in-PutQuota.new.tables (put_quota c.in-PutQuota.name c.in-PutQuota.quota)
+    c.put_quota-prepared.result c.record-in-PutQuota.result c.record-in-PutQuota.ensures c.put_quota-prepared.ensures)
