@@ -5,7 +5,7 @@ use Rattle.ns_types.specs.State.Sums.{node_load, quota_use}
 use Rattle.ns_types.specs.Validity.{IsSound, IsSmall}
 use Rattle.ns_types.specs.declared.resources.Resources.{Resources}
 use Rattle.ns_types.proofs.LiveSums.{load_small, quota_small}
-use Rattle.ns_place.specs.Amounts.{IsCounted}
+use Rattle.ns_types.specs.State.Resources.{IsCounted}
 use Rattle.ns_plan.specs.Looks.{AreCounted}
 
 small_counted : (r : Resources) → IsSmall r → IsCounted r
