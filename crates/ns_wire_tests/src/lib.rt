@@ -19,5 +19,3 @@ mod policy;
 mod repeated;
 #[cfg(test)]
 mod replies;
-#[cfg(test)]
-mod workers;
