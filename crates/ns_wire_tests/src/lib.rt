@@ -2,8 +2,6 @@
 #![tactic(auto)]
 
 #[cfg(test)]
-mod api;
-#[cfg(test)]
 mod documents;
 #[cfg(test)]
 mod http;
@@ -19,3 +17,5 @@ mod policy;
 mod repeated;
 #[cfg(test)]
 mod replies;
+#[cfg(test)]
+mod secrets;
