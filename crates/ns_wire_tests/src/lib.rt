@@ -2,8 +2,6 @@
 #![tactic(auto)]
 
 #[cfg(test)]
-mod documents;
-#[cfg(test)]
 mod http;
 #[cfg(test)]
 mod json;
