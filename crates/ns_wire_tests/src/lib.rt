@@ -8,12 +8,12 @@ mod json;
 #[cfg(test)]
 mod longest;
 #[cfg(test)]
-mod nodes;
-#[cfg(test)]
 mod policy;
 #[cfg(test)]
 mod repeated;
 #[cfg(test)]
 mod replies;
+#[cfg(test)]
+mod reports;
 #[cfg(test)]
 mod secrets;
