@@ -2,17 +2,11 @@
 #![tactic(auto)]
 
 #[cfg(test)]
-mod api;
-#[cfg(test)]
-mod documents;
-#[cfg(test)]
 mod http;
 #[cfg(test)]
 mod json;
 #[cfg(test)]
 mod longest;
-#[cfg(test)]
-mod nodes;
 #[cfg(test)]
 mod policy;
 #[cfg(test)]
@@ -20,4 +14,6 @@ mod repeated;
 #[cfg(test)]
 mod replies;
 #[cfg(test)]
-mod workers;
+mod reports;
+#[cfg(test)]
+mod secrets;

@@ -1,23 +1,17 @@
-// Each reply is made again where memory ran out.
+// Replies that no request brings about yet. Each is made again where memory ran out.
 ghost use Rattle.std.specs.Prelude.{◌≡◌, IfOk};
-ghost use Rattle.ns_types.specs.declared.reply.Content.TheVariants as Content;
-ghost use Rattle.ns_types.specs.Asking.Policies.{made_token};
 ghost use Rattle.ns_replies.specs.Rendered.{IsRendered, HasRoom};
 
 use ns_replies::{Room, render};
-use ns_types::acl::{Policy, TokenKind};
 use ns_types::allocation::{Allocation, ClientStatus, DesiredStatus};
 use ns_types::evaluation::{Evaluation, Status, Trigger};
 use ns_types::job::{Document, Job, JobKind};
-use ns_types::node::{Attribute, Node, NodeStatus, Offer};
-use ns_types::records::{Namespace, Pool, Quota};
+use ns_types::node::{Node, NodeStatus, Offer};
 use ns_types::reply::{
-    AllocationShown, Content, EvaluationShown, JobShown, JobStatus, NamespaceShown, NodeShown,
-    PolicyShown, PoolShown, QuotaShown, Reply, Response, TokenShown,
+    AllocationShown, Content, EvaluationShown, JobShown, JobStatus, NodeShown, Reply, Response,
 };
-use ns_types::resources::{Limit, Limits, Resources};
+use ns_types::resources::Resources;
 use ns_types::rows::Rows;
-use ns_types::step::NewToken;
 use ns_types::text::Text;
 use std::alloc::{AllocError, Global};
 use std::test::Fail;
@@ -30,14 +24,6 @@ fn text(alloc: Global, text: &str) -> Result<Text, AllocError> {
 fn only<T: Drop>(alloc: Global, row: T) -> Result<Rows<T>, AllocError> {
     let mut rows = Rows::new(alloc);
     rows.push(row)?;
-    Ok(rows)
-}
-
-/// A list of two rows.
-fn both<T: Drop>(alloc: Global, first: T, second: T) -> Result<Rows<T>, AllocError> {
-    let mut rows = Rows::new(alloc);
-    rows.push(first)?;
-    rows.push(second)?;
     Ok(rows)
 }
 
@@ -63,52 +49,26 @@ fn response(alloc: Global, content: Content) -> Result<Response, AllocError>
 /// What the tests show.
 #[derive(Clone, Copy)]
 enum Sample {
-    NoJobs,
     TwoJobs,
     OneEvaluation,
-    Evaluations,
     OneAllocation,
     Allocations,
-    FreeNamespace,
-    Namespaces,
-    SmallQuota,
-    Quotas,
     Usage,
-    OnePool,
-    Pools,
     Nodes,
-    Policy,
-    Token,
     Written,
-    WrittenInRoom,
     StoppedInRoom,
-    RegisteredInRoom,
-    LongestInRoom,
 }
 
 fn made(alloc: Global, sample: Sample) -> Result<Response, AllocError> {
     match sample {
-        Sample::NoJobs => no_jobs(alloc),
         Sample::TwoJobs => two_jobs(alloc),
         Sample::OneEvaluation => one_evaluation(alloc),
-        Sample::Evaluations => evaluations(alloc),
         Sample::OneAllocation => one_allocation(alloc),
         Sample::Allocations => allocations(alloc),
-        Sample::FreeNamespace => free_namespace(alloc),
-        Sample::Namespaces => namespaces(alloc),
-        Sample::SmallQuota => small_quota(alloc),
-        Sample::Quotas => quotas(alloc),
         Sample::Usage => usage(alloc),
-        Sample::OnePool => one_pool(alloc),
-        Sample::Pools => pools(alloc),
         Sample::Nodes => nodes(alloc),
-        Sample::Policy => policy(alloc),
-        Sample::Token => token(alloc),
         Sample::Written => written(alloc),
-        Sample::WrittenInRoom => written_in_room(alloc),
         Sample::StoppedInRoom => stopped_in_room(alloc),
-        Sample::RegisteredInRoom => registered_in_room(alloc),
-        Sample::LongestInRoom => longest_in_room(alloc),
     }
 }
 
@@ -159,10 +119,6 @@ fn job(alloc: Global, id: &str, kind: JobKind, status: JobStatus) -> Result<JobS
     })
 }
 
-fn no_jobs(alloc: Global) -> Result<Response, AllocError> {
-    response(alloc, Content::Jobs(Rows::new(alloc)))
-}
-
 fn two_jobs(alloc: Global) -> Result<Response, AllocError> {
     let mut rows = Rows::new(alloc);
     rows.push(job(alloc, "web", JobKind::Service, JobStatus::Running)?)?;
@@ -173,8 +129,6 @@ fn two_jobs(alloc: Global) -> Result<Response, AllocError> {
 #[test]
 fn shows_lists_of_jobs(rt: HostRuntime) -> Result<(), Fail> {
     let alloc = rt.alloc();
-    let none = shown(alloc, Sample::NoJobs)?;
-    assert_eq!(rt; body(&none), "[]");
     let two = shown(alloc, Sample::TwoJobs)?;
     let first =
         "[{\"ID\":\"web\",\"JobModifyIndex\":3,\"Namespace\":\"qa\",\"Priority\":50,\"Status\":\"running\",\"Type\":\"service\"}";
@@ -216,11 +170,6 @@ fn one_evaluation(alloc: Global) -> Result<Response, AllocError> {
     response(alloc, Content::Evaluation(evaluation(alloc)?))
 }
 
-fn evaluations(alloc: Global) -> Result<Response, AllocError> {
-    let rows = only(alloc, evaluation(alloc)?)?;
-    response(alloc, Content::Evaluations(rows))
-}
-
 #[test]
 fn shows_evaluations(rt: HostRuntime) -> Result<(), Fail> {
     let alloc = rt.alloc();
@@ -230,8 +179,6 @@ fn shows_evaluations(rt: HostRuntime) -> Result<(), Fail> {
     let rest =
         ",\"Namespace\":\"qa\",\"NodePool\":\"gpu\",\"PreviousEval\":\"\",\"Priority\":50,\"QuotaLimitReached\":\"small\",\"Status\":\"complete\",\"TriggeredBy\":\"job-register\",\"Type\":\"service\"}";
     assert_eq!(rt; body(&one).strip_prefix(first), Some(rest));
-    let list = shown(alloc, Sample::Evaluations)?;
-    assert_eq!(rt; in_brackets(&list), Some(body(&one)));
     Ok(())
 }
 
@@ -289,83 +236,6 @@ fn shows_allocations(rt: HostRuntime) -> Result<(), Fail> {
     Ok(())
 }
 
-fn namespace(
-    alloc: Global,
-    name: &str,
-    quota: Option<Text>,
-    allowed: Option<Rows<Text>>,
-    denied: Rows<Text>,
-) -> Result<NamespaceShown, AllocError> {
-    let row = Namespace {
-        description: text(alloc, "Tests")?,
-        quota,
-        default_pool: text(alloc, "gpu")?,
-        allowed,
-        denied,
-    };
-    Ok(NamespaceShown {
-        name: text(alloc, name)?,
-        row,
-    })
-}
-
-fn free_namespace(alloc: Global) -> Result<Response, AllocError> {
-    let shown = namespace(alloc, "free", None, None, Rows::new(alloc))?;
-    response(alloc, Content::Namespace(shown))
-}
-
-fn namespaces(alloc: Global) -> Result<Response, AllocError> {
-    let quota = text(alloc, "small")?;
-    let allowed = only(alloc, text(alloc, "gpu")?)?;
-    let denied = both(alloc, text(alloc, "old")?, text(alloc, "x")?)?;
-    let shown = namespace(alloc, "qa", Some(quota), Some(allowed), denied)?;
-    response(alloc, Content::Namespaces(only(alloc, shown)?))
-}
-
-#[test]
-fn shows_namespaces(rt: HostRuntime) -> Result<(), Fail> {
-    let alloc = rt.alloc();
-    let free = shown(alloc, Sample::FreeNamespace)?;
-    let expected =
-        "{\"Description\":\"Tests\",\"Name\":\"free\",\"NodePoolConfiguration\":{\"Allowed\":null,\"Default\":\"gpu\",\"Denied\":[]},\"Quota\":\"\"}";
-    assert_eq!(rt; body(&free), expected);
-    let list = shown(alloc, Sample::Namespaces)?;
-    let expected =
-        "{\"Description\":\"Tests\",\"Name\":\"qa\",\"NodePoolConfiguration\":{\"Allowed\":[\"gpu\"],\"Default\":\"gpu\",\"Denied\":[\"old\",\"x\"]},\"Quota\":\"small\"}";
-    assert_eq!(rt; in_brackets(&list), Some(expected));
-    Ok(())
-}
-
-fn quota(alloc: Global, name: &str, limits: Option<Limits>) -> Result<QuotaShown, AllocError> {
-    let row = Quota {
-        description: text(alloc, "")?,
-        limits,
-    };
-    Ok(QuotaShown {
-        name: text(alloc, name)?,
-        row,
-    })
-}
-
-fn small_quota(alloc: Global) -> Result<Response, AllocError> {
-    let limits = Limits {
-        cpu: Limit::AtMost(1000),
-        memory: Limit::Nothing,
-    };
-    response(alloc, Content::Quota(quota(alloc, "small", Some(limits))?))
-}
-
-fn quotas(alloc: Global) -> Result<Response, AllocError> {
-    let limits = Limits {
-        cpu: Limit::Unlimited,
-        memory: Limit::Unlimited,
-    };
-    let mut rows = Rows::new(alloc);
-    rows.push(quota(alloc, "open", None)?)?;
-    rows.push(quota(alloc, "zero", Some(limits))?)?;
-    response(alloc, Content::Quotas(rows))
-}
-
 fn usage(alloc: Global) -> Result<Response, AllocError> {
     let used = Resources {
         cpu: 800,
@@ -375,18 +245,8 @@ fn usage(alloc: Global) -> Result<Response, AllocError> {
 }
 
 #[test]
-fn shows_quotas(rt: HostRuntime) -> Result<(), Fail> {
-    let alloc = rt.alloc();
-    let small = shown(alloc, Sample::SmallQuota)?;
-    let expected =
-        "{\"Description\":\"\",\"Limits\":[{\"Region\":\"global\",\"RegionLimit\":{\"CPU\":1000,\"MemoryMB\":-1}}],\"Name\":\"small\"}";
-    assert_eq!(rt; body(&small), expected);
-    let list = shown(alloc, Sample::Quotas)?;
-    let first = "[{\"Description\":\"\",\"Limits\":[],\"Name\":\"open\"},";
-    let rest =
-        "{\"Description\":\"\",\"Limits\":[{\"Region\":\"global\",\"RegionLimit\":{\"CPU\":0,\"MemoryMB\":0}}],\"Name\":\"zero\"}]";
-    assert_eq!(rt; body(&list).strip_prefix(first), Some(rest));
-    let used = shown(alloc, Sample::Usage)?;
+fn shows_what_is_used_of_a_quota(rt: HostRuntime) -> Result<(), Fail> {
+    let used = shown(rt.alloc(), Sample::Usage)?;
     assert_eq!(rt;
         body(&used),
         "{\"Name\":\"qa\",\"Used\":{\"CPU\":800,\"MemoryMB\":512}}"
@@ -394,45 +254,13 @@ fn shows_quotas(rt: HostRuntime) -> Result<(), Fail> {
     Ok(())
 }
 
-fn pool(alloc: Global) -> Result<PoolShown, AllocError> {
-    let row = Pool {
-        description: text(alloc, "with cards")?,
-    };
-    Ok(PoolShown {
-        name: text(alloc, "gpu")?,
-        row,
-    })
-}
-
-fn one_pool(alloc: Global) -> Result<Response, AllocError> {
-    response(alloc, Content::Pool(pool(alloc)?))
-}
-
-fn pools(alloc: Global) -> Result<Response, AllocError> {
-    let rows = only(alloc, pool(alloc)?)?;
-    response(alloc, Content::Pools(rows))
-}
-
-fn attributes(alloc: Global) -> Result<Rows<Attribute>, AllocError> {
-    let arch = Attribute {
-        key: text(alloc, "arch")?,
-        value: text(alloc, "arm")?,
-    };
-    let os = Attribute {
-        key: text(alloc, "os")?,
-        value: text(alloc, "linux")?,
-    };
-    both(alloc, arch, os)
-}
-
 fn node(alloc: Global) -> Result<NodeShown, AllocError> {
     let pool = text(alloc, "gpu")?;
     let name = text(alloc, "n1")?;
     let class = text(alloc, "big")?;
-    let attributes = attributes(alloc)?;
     let offer = Offer {
         class,
-        attributes,
+        attributes: Rows::new(alloc),
         capacity: Resources {
             cpu: 4000,
             memory: 8192,
@@ -461,61 +289,13 @@ fn nodes(alloc: Global) -> Result<Response, AllocError> {
 }
 
 #[test]
-fn shows_pools_and_nodes(rt: HostRuntime) -> Result<(), Fail> {
-    let alloc = rt.alloc();
-    let one = shown(alloc, Sample::OnePool)?;
-    assert_eq!(rt;
-        body(&one),
-        "{\"Description\":\"with cards\",\"Name\":\"gpu\"}"
-    );
-    let list = shown(alloc, Sample::Pools)?;
-    assert_eq!(rt; in_brackets(&list), Some(body(&one)));
-    let list = shown(alloc, Sample::Nodes)?;
+fn shows_what_is_used_of_a_node(rt: HostRuntime) -> Result<(), Fail> {
+    let list = shown(rt.alloc(), Sample::Nodes)?;
     let first =
-        "[{\"Attributes\":{\"arch\":\"arm\",\"os\":\"linux\"},\"CPU\":4000,\"Eligibility\":\"eligible\",\"MemoryMB\":8192,\"Name\":\"n1\"";
+        "[{\"Attributes\":{},\"CPU\":4000,\"Eligibility\":\"eligible\",\"MemoryMB\":8192,\"Name\":\"n1\"";
     let rest =
         ",\"NodeClass\":\"big\",\"NodePool\":\"gpu\",\"Status\":\"ready\",\"Used\":{\"CPU\":500,\"MemoryMB\":256}}]";
     assert_eq!(rt; body(&list).strip_prefix(first), Some(rest));
-    Ok(())
-}
-
-fn policy(alloc: Global) -> Result<Response, AllocError> {
-    let name = text(alloc, "dev")?;
-    let description = text(alloc, "for all")?;
-    let row = Policy {
-        description,
-        text: text(alloc, "namespace \"qa\" {\n}")?,
-        rules: Rows::new(alloc),
-    };
-    let shown = PolicyShown { name, row };
-    response(alloc, Content::Policy(shown))
-}
-
-fn token(alloc: Global) -> Result<Response, AllocError> {
-    let policies = both(alloc, text(alloc, "dev")?, text(alloc, "qa")?)?;
-    let shown = TokenShown {
-        accessor: text(alloc, "a")?,
-        secret: text(alloc, "s")?,
-        name: text(alloc, "ops")?,
-        kind: TokenKind::Client,
-        policies,
-    };
-    response(alloc, Content::Token(shown))
-}
-
-#[test]
-fn shows_policies_and_tokens(rt: HostRuntime) -> Result<(), Fail> {
-    let alloc = rt.alloc();
-    let one = shown(alloc, Sample::Policy)?;
-    assert_eq!(rt;
-        body(&one),
-        "{\"Description\":\"for all\",\"Name\":\"dev\",\"Rules\":\"namespace \\\"qa\\\" {\\n}\"}"
-    );
-    let one = shown(alloc, Sample::Token)?;
-    assert_eq!(rt;
-        body(&one),
-        "{\"AccessorID\":\"a\",\"Name\":\"ops\",\"Policies\":[\"dev\",\"qa\"],\"SecretID\":\"s\",\"Type\":\"client\"}"
-    );
     Ok(())
 }
 
@@ -531,16 +311,8 @@ fn in_room(alloc: Global, room: Room, content: Content) -> Result<Response, Allo
     Ok(room.render(&reply))
 }
 
-fn written_in_room(alloc: Global) -> Result<Response, AllocError> {
-    in_room(alloc, Room::new(alloc)?, Content::Written)
-}
-
 fn stopped_in_room(alloc: Global) -> Result<Response, AllocError> {
     in_room(alloc, Room::new(alloc)?, Content::Stopped(2, 7))
-}
-
-fn registered_in_room(alloc: Global) -> Result<Response, AllocError> {
-    in_room(alloc, Room::new(alloc)?, Content::Registered(2, 7, 6))
 }
 
 #[test]
@@ -548,75 +320,8 @@ fn answers_writes(rt: HostRuntime) -> Result<(), Fail> {
     let alloc = rt.alloc();
     let nothing = shown(alloc, Sample::Written)?;
     assert_eq!(rt; body(&nothing), "{}");
-    let nothing = shown(alloc, Sample::WrittenInRoom)?;
-    assert_eq!(rt; body(&nothing), "{}");
     let stopped = shown(alloc, Sample::StoppedInRoom)?;
     let expected = "{\"EvalID\":\"00000000-0000-0001-0000-000000000002\",\"Index\":7}";
     assert_eq!(rt; body(&stopped), expected);
-    let registered = shown(alloc, Sample::RegisteredInRoom)?;
-    let expected =
-        "{\"EvalCreateIndex\":7,\"EvalID\":\"00000000-0000-0001-0000-000000000002\",\"JobModifyIndex\":6}";
-    assert_eq!(rt; body(&registered), expected);
-    Ok(())
-}
-
-fn repeated(alloc: Global, item: &str, times: usize) -> Result<Text, AllocError> {
-    let mut text = String::new(alloc);
-    for _ in 0..times {
-        text.push_str(item)?;
-    }
-    Ok(Text::from_string(text))
-}
-
-fn longest_policies(alloc: Global) -> Result<Rows<Text>, AllocError> {
-    let mut policies = Rows::new(alloc);
-    for _ in 0..64 {
-        policies.push(repeated(alloc, "p", 128)?)?;
-    }
-    Ok(policies)
-}
-
-/// Each byte of the name takes six.
-fn longest_token(alloc: Global) -> Result<NewToken, AllocError> {
-    Ok(NewToken {
-        accessor: repeated(alloc, "a", 36)?,
-        secret: repeated(alloc, "s", 36)?,
-        name: repeated(alloc, "\u{1}", 256)?,
-        kind: TokenKind::Management,
-        policies: longest_policies(alloc)?,
-    })
-}
-
-fn token_content(new: NewToken) -> Content
-    ensures { result ≡ Content.Token (made_token new) }
-{
-    Content::Token(TokenShown {
-        accessor: new.accessor,
-        secret: new.secret,
-        name: new.name,
-        kind: new.kind,
-        policies: new.policies,
-    })
-}
-
-fn longest_in_room(alloc: Global) -> Result<Response, AllocError> {
-    let new = longest_token(alloc)?;
-    match Room::for_token(alloc, &new) {
-        Ok(room) => in_room(alloc, room, token_content(new)),
-        Err(error) => {
-            drop(new);
-            Err(error)
-        }
-    }
-}
-
-#[test]
-fn has_room_for_the_longest_token(rt: HostRuntime) -> Result<(), Fail> {
-    let alloc = rt.alloc();
-    let response = shown(alloc, Sample::LongestInRoom)?;
-    let token = body(&response);
-    assert_eq!(rt; token.len(), 10066);
-    assert!(rt; token.starts_with("{\"AccessorID\":\"a"));
-    assert!(rt; token.ends_with("s\",\"Type\":\"management\"}"));
     Ok(())
 }

@@ -1,0 +1,38 @@
+//! What a server lends for one request: its core, and the draws that are known beforehand.
+
+use ns_api::{Draws, Takes};
+use ns_core::Core;
+use ns_types::refusal::Refusal;
+use ns_types::reply::Reply;
+use ns_types::step::Step;
+
+#[derive(Drop)]
+pub struct Lent<'a> {
+    pub core: &'a mut Core,
+}
+
+impl Takes for Lent<'_> {
+    ghost state = { λ lent. lent.core.now };
+
+    fn take(&mut self, step: &Step) -> Result<Reply, Refusal> {
+        self.core.take(step)
+    }
+}
+
+/// Draws sixteen times the same byte, one more each time.
+#[derive(Drop)]
+pub struct LentDraws<'a> {
+    pub next: &'a mut u8,
+}
+
+impl Draws for LentDraws<'_> {
+    ghost use Rattle.std.specs.Prelude.{◌≡◌, replicate};
+
+    ghost draws = { λ old bytes new. bytes ≡ replicate 16 old.next.now };
+
+    fn draw(&mut self) -> [u8; 16] {
+        let bytes = [*self.next; 16];
+        *self.next = self.next.wrapping_add(1);
+        bytes
+    }
+}

@@ -1,0 +1,174 @@
+//! The server of a script.
+
+use crate::answers::{write_phase, write_reply, write_response, write_served, write_snapshot};
+use crate::lent::{Lent, LentDraws};
+use crate::line::{Call, Line};
+use anyhow::Context;
+use ns_api::Api;
+use ns_core::Core;
+use ns_http::{Answer, Request};
+use ns_types::name::Secret;
+use ns_types::refusal::Refusal;
+use ns_types::reply::Response;
+use ns_types::text::Text;
+use std::alloc::{AllocError, Global};
+use std::io::Write;
+
+/// The secret of the first token.
+const ROOT: &str = "root";
+
+#[derive(Drop)]
+pub struct Server<'a> {
+    alloc: Global,
+    core: Core,
+    /// That of the requests that follow.
+    token: Option<&'a str>,
+    /// The byte that is drawn next.
+    next: u8,
+}
+
+/// A call that was refused for memory is made once more.
+fn repeated<S, T: Drop, F: Fn(&mut S) -> Result<T, Refusal>>(
+    state: &mut S,
+    call: F,
+) -> Result<T, Refusal>
+    requires { F.IsAlwaysCallable call }
+{
+    match call(state) {
+        Err(Refusal::Memory) => call(state),
+        answer => answer,
+    }
+}
+
+fn is_unanswered(answer: &Result<Response, AllocError>) -> bool {
+    match answer {
+        Ok(response) => matches!(response, Response::Refused(Refusal::Memory)),
+        Err(_) => true,
+    }
+}
+
+impl<'a> Server<'a> {
+    pub fn new(alloc: Global) -> anyhow::Result<Server<'a>> {
+        let root = Secret::read(alloc, ROOT)?.context("a bad secret")?;
+        let core = Core::new(alloc, &root)?;
+        Ok(Server {
+            alloc,
+            core,
+            token: Some(ROOT),
+            next: 1,
+        })
+    }
+
+    fn answer(&mut self, request: &Request<'_>) -> Result<Response, AllocError> {
+        let lent = Lent {
+            core: &mut self.core,
+        };
+        let draws = LentDraws {
+            next: &mut self.next,
+        };
+        let mut api = Api::new(self.alloc, lent, draws)?;
+        Ok(api.answer(request))
+    }
+
+    /// A request that was refused for memory is made once more, with the same draws.
+    fn ask(&mut self, request: &Request<'_>) -> Result<Response, AllocError> {
+        let next = self.next;
+        let answer = self.answer(request);
+        if !is_unanswered(&answer) {
+            return answer;
+        }
+        drop(answer);
+        self.next = next;
+        self.answer(request)
+    }
+
+    fn request<W: Write>(
+        &mut self,
+        method: &str,
+        target: &str,
+        body: &str,
+        out: &mut W,
+    ) -> anyhow::Result<()> {
+        let response = self.ask(&Request {
+            method: method.as_bytes(),
+            target,
+            token: self.token.map(|secret| secret.as_bytes()),
+            body: body.as_bytes(),
+        })?;
+        let written = write_response(out, &response);
+        drop(response);
+        written
+    }
+
+    fn dequeue<W: Write>(
+        &mut self,
+        worker: u64,
+        namespace: &Text,
+        number: u64,
+        out: &mut W,
+    ) -> anyhow::Result<()> {
+        let answer = repeated(
+            &mut self.core,
+            |core| core.dequeue(worker, namespace, number),
+        );
+        let written = write_reply(out, &answer);
+        drop(answer);
+        written
+    }
+
+    fn snap<W: Write>(&mut self, worker: u64, namespace: &Text, out: &mut W) -> anyhow::Result<()> {
+        let answer = repeated(&mut self.core, |core| core.snap(worker, namespace));
+        let written = write_snapshot(out, &answer);
+        drop(answer);
+        written
+    }
+
+    fn nack<W: Write>(&mut self, worker: u64, namespace: &Text, out: &mut W) -> anyhow::Result<()> {
+        let answer = repeated(&mut self.core, |core| core.nack(worker, namespace));
+        let written = write_reply(out, &answer);
+        drop(answer);
+        written
+    }
+
+    fn call<W: Write>(&mut self, call: Call<'_>, out: &mut W) -> anyhow::Result<()> {
+        match call {
+            Call::Dequeue(worker, namespace, number) => {
+                let namespace = Text::from_str(self.alloc, namespace)?;
+                self.dequeue(worker, &namespace, number, out)
+            }
+            Call::Snap(worker, namespace) => {
+                let namespace = Text::from_str(self.alloc, namespace)?;
+                self.snap(worker, &namespace, out)
+            }
+            Call::Nack(worker, namespace) => {
+                let namespace = Text::from_str(self.alloc, namespace)?;
+                self.nack(worker, &namespace, out)
+            }
+            Call::Served => write_served(out, &self.core),
+            Call::Phase(worker) => write_phase(out, &self.core, worker),
+        }
+    }
+
+    /// Does what the line says, and writes what it is answered.
+    fn obey<W: Write>(&mut self, line: Line<'a>, out: &mut W) -> anyhow::Result<()> {
+        match line {
+            Line::Remark => Ok(()),
+            Line::Token(token) => {
+                self.token = token;
+                Ok(())
+            }
+            Line::Request(method, target, body) => self.request(method, target, body, out),
+            Line::Call(call) => self.call(call, out),
+        }
+    }
+
+    /// Writes each line, and below it what it is answered.
+    pub fn play<W: Write>(&mut self, lines: &'a str, out: &mut W) -> anyhow::Result<()> {
+        for text in lines.split('\n') {
+            writeln!(out, "{text}")?;
+            let line = Line::read(text).context("a line that says nothing")?;
+            self.obey(line, out)?;
+        }
+        Ok(())
+    }
+}
