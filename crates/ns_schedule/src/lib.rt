@@ -1,0 +1,14 @@
+//! The plan of a snapshot: what stops, and where the missing allocations go.
+#![tactic(auto)]
+
+mod amounts;
+mod choice;
+mod eviction;
+pub mod laws;
+mod opening;
+mod placing;
+mod planned;
+mod sums;
+mod wanted;
+
+pub use planned::{Planned, plan};
