@@ -4,6 +4,7 @@
 mod amounts;
 mod choice;
 mod eviction;
+mod followers;
 pub mod laws;
 mod opening;
 mod placing;
@@ -11,4 +12,5 @@ mod planned;
 mod sums;
 mod wanted;
 
+pub use followers::escapes;
 pub use planned::{Planned, plan};
