@@ -23,7 +23,7 @@ fn text(alloc: Global, word: &str) -> Result<Text, AllocError> {
 
 // ---- tables
 
-fn allocation(
+pub(crate) fn allocation(
     alloc: Global,
     job: &str,
     node: &str,

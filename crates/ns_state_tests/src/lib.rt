@@ -26,6 +26,8 @@ mod owned;
 #[cfg(test)]
 mod placing;
 #[cfg(test)]
+mod plans;
+#[cfg(test)]
 mod quota;
 #[cfg(test)]
 mod relimits;

@@ -13,7 +13,7 @@ use ns_types::text::Text;
 use std::alloc::{AllocError, Global};
 use std::test::Fail;
 
-fn size(cpu: u64, memory: u64) -> Resources
+pub(crate) fn size(cpu: u64, memory: u64) -> Resources
     ensures { result ≡ record { cpu = cpu; memory = memory } }
 {
     Resources { cpu, memory }
@@ -22,7 +22,7 @@ fn size(cpu: u64, memory: u64) -> Resources
 // ---- constraints
 
 /// A ready and eligible node of the class `large`, whose attribute `os` is `linux`.
-fn linux(alloc: Global) -> Result<Node, AllocError> {
+pub(crate) fn linux(alloc: Global) -> Result<Node, AllocError> {
     let mut attributes = Rows::new(alloc);
     attributes.push(Attribute {
         key: Text::from_str(alloc, "os")?,
@@ -121,7 +121,7 @@ fn least_is_left_of_the_chosen_node(rt: HostRuntime) -> Result<(), Fail> {
 // ---- victims
 
 /// A live allocation of CPU 500 and memory 256.
-fn live(alloc: Global, number: u64, priority: u64) -> Result<LiveAllocation, AllocError>
+pub(crate) fn live(alloc: Global, number: u64, priority: u64) -> Result<LiveAllocation, AllocError>
     ensures { IfOk result (λ a. a.size ≡ record { cpu = 500; memory = 256 }) }
 {
     Ok(LiveAllocation {

@@ -132,7 +132,7 @@ fn read_quota(tables: &Tables, name: &str) -> Result<Option<Refusal>, AllocError
     Ok(seen(ns_admin::read_quota(tables, &name), refusal))
 }
 
-fn job(alloc: Global, pool: &str) -> Result<Job, AllocError> {
+pub(crate) fn job(alloc: Global, pool: &str) -> Result<Job, AllocError> {
     let document = Document {
         kind: JobKind::Service,
         priority: 50,

@@ -22,7 +22,7 @@ use ns_world::{EvaluationTable, Tables, TenantRows};
 use std::alloc::{AllocError, Global};
 use std::test::Fail;
 
-fn evaluation(alloc: Global) -> Result<Evaluation, AllocError> {
+pub(crate) fn evaluation(alloc: Global) -> Result<Evaluation, AllocError> {
     Ok(Evaluation {
         job: Text::from_str(alloc, "web")?,
         kind: JobKind::Service,

@@ -1,0 +1,79 @@
+-- Sums that are checked as they are made.
+use Rattle.std.specs.Prelude.{◌≡◌, ℕ, zero, suc, ◌+◌, ◌*◌, ◌^◌, ◌<◌, ◌≤◌, true, List, ◌∷◌, Option, Some, None, SomeIff, length, drop}
+use Rattle.std.specs.Prelude.{get_or, is_some, replicate, sum_by}
+use Rattle.std.proofs.Common.{refl, sym, ap, ◌∙◌, arith}
+use Rattle.std.proofs.lemmas.Bool.{and_from, and_parts, false_from_ne_true, lt-ltb, ltb-true}
+use Rattle.std.proofs.lemmas.List.Folds.{sum_by-replicate}
+use Rattle.std.proofs.lemmas.List.Sums.{sum_by-append}
+use Rattle.std.proofs.Math.Nat.{suc-mul}
+use Rattle.ns_types.specs.declared.job.Group.{Group}
+use Rattle.ns_types.specs.declared.job.Job.{Job}
+use Rattle.ns_types.specs.declared.plan.Demand.{Demand}
+use Rattle.ns_types.specs.declared.resources.Resources.{Resources}
+use Rattle.ns_types.specs.declared.snapshot.OwnAllocation.{OwnAllocation}
+use Rattle.ns_types.specs.Placing.Wanted.{demands_from, group_size, missing}
+use Rattle.ns_types.specs.State.Resources.{plus, total}
+use Rattle.ns_place.specs.Amounts.{IsCounted}
+use Rattle.ns_schedule.specs.Fits.{is_counted, times}
+use Rattle.ns_schedule.proofs.Differences.{same_amounts}
+use Rattle.ns_schedule.proofs.Wants.{first_of_rest}
+
+pub counted_true : (r : Resources) → IsCounted r → is_counted r ≡ true
+counted_true r h = and_from _ _ (lt-ltb r.cpu (2 ^ 64) h.0) (lt-ltb r.memory (2 ^ 64) h.1)
+
+pub true_counted : (r : Resources) → is_counted r ≡ true → IsCounted r
+true_counted r e = let both = and_parts _ _ e in (ltb-true r.cpu (2 ^ 64) both.0, ltb-true r.memory (2 ^ 64) both.1)
+
+-- what a checked sum says of the sum
+pub some_is : (o : Option Resources) (r : Resources) → SomeIff o (IsCounted r) r → is_some o ≡ is_counted r
+some_is None r h = sym (false_from_ne_true (is_counted r) (λ e. h (true_counted r e)))
+some_is (Some x) r h = sym (counted_true r h.0)
+
+-- one of several is within all of them
+one_within : (n x : ℕ) → (n ≡ 0 → ⊥) → x ≤ n * x
+one_within zero x some = absurd (some refl)
+one_within (suc n) x some = let more = suc-mul n x in omega (arith, more)
+
+pub one_counted : (sum size : Resources) (n : ℕ) → (n ≡ 0 → ⊥) → IsCounted (plus sum (times n size)) → IsCounted size
+one_counted sum size n some h =
+    let cpu = one_within n size.cpu some in
+    let memory = one_within n size.memory some in
+    (omega (arith, cpu, h.0), omega (arith, memory, h.1))
+
+-- what the missing ones of a group take, and of those after it
+pub demanded : (f : Resources → ℕ) (i : ℕ) (j : Job) (own : List OwnAllocation) (g : Group) (gs : List Group)
+    → sum_by (λ d. f d.size) (demands_from i j own (g ∷ gs))
+    ≡ missing j own g * f (group_size g) + sum_by (λ d. f d.size) (demands_from (i + 1) j own gs)
+demanded f i j own g gs =
+    let d : Demand = record { group = i; size = group_size g } in
+    sum_by-append (λ (x : Demand). f x.size) (replicate (missing j own g) d) (demands_from (i + 1) j own gs)
+    ∙ ap (λ n. n + sum_by (λ (x : Demand). f x.size) (demands_from (i + 1) j own gs)) (sum_by-replicate (λ (x : Demand). f x.size) (missing j own g) d)
+
+module _ (j : Job) (own : List OwnAllocation) (gs : List Group) (i : ℕ) (g : Group) (inside : i < length gs) (reads : g ≡ get_or gs i g) where
+  rest_is : (f : Resources → ℕ) → sum_by (λ d. f d.size) (demands_from i j own (drop i gs))
+      ≡ missing j own g * f (group_size g) + sum_by (λ d. f d.size) (demands_from (i + 1) j own (drop (i + 1) gs))
+  rest_is f =
+      ap (λ hs. sum_by (λ (d : Demand). f d.size) (demands_from i j own hs)) (first_of_rest gs i g inside reads) ∙ demanded f i j own g (drop (i + 1) gs)
+
+  abbrev with_group : Resources → Resources
+  with_group sum = plus sum (times (missing j own g) (group_size g))
+
+  same_whole : (sum : Resources) → plus (with_group sum) (total (λ d. d.size) (demands_from (i + 1) j own (drop (i + 1) gs)))
+      ≡ plus sum (total (λ d. d.size) (demands_from i j own (drop i gs)))
+  same_whole sum =
+      let cpu = rest_is (λ r. r.cpu) in
+      let memory = rest_is (λ r. r.memory) in
+      same_amounts _ _ (omega (arith, cpu)) (omega (arith, memory))
+
+  pub one_more : (sum new all : Resources) → new ≡ with_group sum → plus sum (total (λ d. d.size) (demands_from i j own (drop i gs))) ≡ all
+      → plus new (total (λ d. d.size) (demands_from (i + 1) j own (drop (i + 1) gs))) ≡ all
+  one_more sum new all is h =
+      ap (λ (r : Resources). plus r (total (λ (d : Demand). d.size) (demands_from (i + 1) j own (drop (i + 1) gs)))) is ∙ (same_whole sum ∙ h)
+
+  pub too_much : (sum all : Resources) → (IsCounted (with_group sum) → ⊥) → plus sum (total (λ d. d.size) (demands_from i j own (drop i gs))) ≡ all
+      → IsCounted all → ⊥
+  too_much sum all over h counted =
+      let whole = same_whole sum ∙ h in
+      let cpu = ap (λ (r : Resources). r.cpu) whole in
+      let memory = ap (λ (r : Resources). r.memory) whole in
+      over (omega (arith, cpu, counted.0), omega (arith, memory, counted.1))

@@ -1,0 +1,145 @@
+-- What a valid state keeps is far within 64 bits.
+use Rattle.std.specs.Prelude.{◌≡◌, ℕ, ◌+◌, ◌*◌, ◌^◌, ◌≤◌, ◌<◌, Bool, true, false, cond, ◌&&◌, List, [], ◌∷◌, Option, Some, None, length, nat_le, sum_by}
+use Rattle.std.specs.List.{list_all}
+use Rattle.std.specs.Option.{unwrap_or}
+use Rattle.std.proofs.Common.{refl, arith}
+use Rattle.std.proofs.lemmas.Bool.{and_from, leb-true}
+use Rattle.std.proofs.lemmas.List.Sums.{sum_by-le}
+use Rattle.std.proofs.lemmas.Nat.{mul-le}
+use Rattle.ns_types.specs.declared.job.Group.{Group}
+use Rattle.ns_types.specs.declared.job.Job.{Job}
+use Rattle.ns_types.specs.declared.job.Task.{Task}
+use Rattle.ns_types.specs.declared.name.NameKind.TheVariants as NameKind
+use Rattle.ns_types.specs.declared.plan.Demand.{Demand}
+use Rattle.ns_types.specs.declared.resources.Resources.{Resources}
+use Rattle.ns_types.specs.declared.snapshot.OwnAllocation.{OwnAllocation}
+use Rattle.ns_types.specs.declared.snapshot.PoolNode.{PoolNode}
+use Rattle.ns_types.specs.declared.snapshot.QuotaSeen.{QuotaSeen}
+use Rattle.ns_types.specs.declared.snapshot.Snapshot.{Snapshot}
+use Rattle.ns_types.specs.Placing.Plan.{no_quota, quota_of}
+use Rattle.ns_types.specs.Placing.Wanted.{demands, demands_from, group_size, missing}
+use Rattle.ns_types.specs.State.Limits.{is_amount, is_between, is_good_constraint, is_good_document, is_good_group, is_good_offer, is_good_task}
+use Rattle.ns_types.specs.State.Limits.{is_pool_name}
+use Rattle.ns_types.specs.State.Name.{is_name}
+use Rattle.ns_types.specs.State.Resources.{is_within, plus, total}
+use Rattle.ns_types.specs.Validity.{IsCountable, IsSmall, seen_load}
+use Rattle.ns_types.proofs.Elements.{all_from, each_from_all, each_of}
+use Rattle.ns_types.proofs.Named.{first_of_both, second_of_both}
+use Rattle.ns_schedule.specs.Fits.{fits, node_fits}
+use Rattle.ns_schedule.specs.Laws.{KeptFits}
+use Rattle.ns_schedule.proofs.Counts.{counted_true, demanded}
+
+most_of : (n : ℕ) → is_between 1 2147483647 n ≡ true → n ≤ 2147483647
+most_of n e = leb-true n 2147483647 (second_of_both (nat_le 1 n) (nat_le n 2147483647) e)
+
+cpu_of : (r : Resources) → is_amount r ≡ true → r.cpu ≤ 2147483647
+cpu_of r e = most_of r.cpu (first_of_both (is_between 1 2147483647 r.cpu) (is_between 1 2147483647 r.memory) e)
+
+memory_of : (r : Resources) → is_amount r ≡ true → r.memory ≤ 2147483647
+memory_of r e = most_of r.memory (second_of_both (is_between 1 2147483647 r.cpu) (is_between 1 2147483647 r.memory) e)
+
+-- ---- nodes
+
+node_small : (n : PoolNode) → is_good_offer n.row.offer ≡ true → is_within (seen_load n) n.row.offer.capacity ≡ true → node_fits n ≡ true
+node_small n good within =
+    let capacity = n.row.offer.capacity in
+    let load = seen_load n in
+    let amount : is_amount capacity ≡ true = second_of_both _ (is_amount capacity) good in
+    let cpu = cpu_of capacity amount in
+    let memory = memory_of capacity amount in
+    let cpu_within = leb-true load.cpu capacity.cpu (first_of_both (nat_le load.cpu capacity.cpu) (nat_le load.memory capacity.memory) within) in
+    let memory_within = leb-true load.memory capacity.memory (second_of_both (nat_le load.cpu capacity.cpu) (nat_le load.memory capacity.memory) within) in
+    counted_true (plus capacity load) (omega (arith, cpu, cpu_within), omega (arith, memory, memory_within))
+
+nodes_small : (ns : List PoolNode) → list_all (λ n. is_good_offer n.row.offer) ns ≡ true
+    → list_all (λ n. is_within (seen_load n) n.row.offer.capacity) ns ≡ true → list_all node_fits ns ≡ true
+nodes_small [] good within = refl
+nodes_small (n ∷ ns) good within =
+    and_from _ _
+    (node_small n (first_of_both (is_good_offer n.row.offer) _ good) (first_of_both (is_within (seen_load n) n.row.offer.capacity) _ within))
+    (nodes_small ns (second_of_both (is_good_offer n.row.offer) _ good) (second_of_both (is_within (seen_load n) n.row.offer.capacity) _ within))
+
+-- ---- groups
+
+module _ (g : Group) (good : is_good_group g ≡ true) where
+  abbrev counted : Bool
+  counted = is_name NameKind.Group g.name && nat_le g.count 1000
+
+  abbrev bounded : Bool
+  bounded = counted && is_between 1 16 (length g.tasks)
+
+  with_tasks : (bounded && list_all is_good_task g.tasks) ≡ true
+  with_tasks = first_of_both (bounded && list_all is_good_task g.tasks) _ good
+
+  pub few_missing : (j : Job) (own : List OwnAllocation) → missing j own g ≤ 1000
+  few_missing j own =
+      let few = leb-true g.count 1000 (second_of_both (is_name NameKind.Group g.name) _
+      (first_of_both counted _ (first_of_both bounded (list_all is_good_task g.tasks) with_tasks))) in
+      omega (arith, few)
+
+  size_small : (f : Resources → ℕ) → ((r : Resources) → is_amount r ≡ true → f r ≤ 2147483647)
+      → sum_by (λ t. f t.resources) g.tasks ≤ 34359738352
+  size_small f small =
+      let few = leb-true (length g.tasks) 16 (second_of_both (nat_le 1 (length g.tasks)) _
+      (second_of_both counted _ (first_of_both bounded (list_all is_good_task g.tasks) with_tasks))) in
+      let each_small = sum_by-le (λ (t : Task). f t.resources) 2147483647 g.tasks
+      (all_from (λ (t : Task). f t.resources ≤ 2147483647) g.tasks
+      (each_of (λ (t : Task). is_good_task t ≡ true) (λ (t : Task). f t.resources ≤ 2147483647)
+      (λ t e. small t.resources (second_of_both (is_name NameKind.Task t.name) (is_amount t.resources) e)) g.tasks
+      (each_from_all is_good_task g.tasks (second_of_both bounded _ with_tasks)))) in
+      omega (arith, few, each_small)
+
+-- ---- all that is missing
+
+module _ (f : Resources → ℕ) (small : (g : Group) → is_good_group g ≡ true → f (group_size g) ≤ 34359738352) (j : Job) (own : List OwnAllocation) where
+  groups_small : (i : ℕ) (gs : List Group) → list_all is_good_group gs ≡ true
+      → sum_by (λ d. f d.size) (demands_from i j own gs) ≤ length gs * 34359738352000
+  groups_small i [] good = omega arith
+  groups_small i (g ∷ gs) good =
+      let here = first_of_both (is_good_group g) (list_all is_good_group gs) good in
+      let parts = demanded f i j own g gs in
+      let rest = groups_small (i + 1) gs (second_of_both (is_good_group g) (list_all is_good_group gs) good) in
+      let part = mul-le (missing j own g) (f (group_size g)) 1000 34359738352 (few_missing g here j own) (small g here) in
+      omega (arith, parts, rest, part)
+
+  abbrev before : Bool
+  before = is_between 1 100 j.document.priority && is_pool_name j.document.pool && nat_le (length j.document.constraints) 16
+      && list_all is_good_constraint j.document.constraints
+
+  job_small : is_good_document j.document ≡ true → sum_by (λ d. f d.size) (demands (Some j) own) < 2 ^ 55
+  job_small good = by j.stop
+    where
+      with_groups : (before && is_between 1 16 (length j.document.groups) && list_all is_good_group j.document.groups) ≡ true
+      with_groups = first_of_both (before && is_between 1 16 (length j.document.groups) && list_all is_good_group j.document.groups) _ good
+
+      few : length j.document.groups ≤ 16
+      few = leb-true (length j.document.groups) 16 (second_of_both (nat_le 1 (length j.document.groups)) _
+          (second_of_both before _ (first_of_both (before && is_between 1 16 (length j.document.groups)) _ with_groups)))
+
+      by : (b : Bool) → sum_by (λ (d : Demand). f d.size) (cond b [] (demands_from 0 j own j.document.groups)) < 2 ^ 55
+      by true = omega arith
+      by false =
+          let all = groups_small 0 j.document.groups (second_of_both (before && is_between 1 16 (length j.document.groups)) _ with_groups) in
+          omega (arith, all, few)
+
+demands_small : (f : Resources → ℕ) → ((g : Group) → is_good_group g ≡ true → f (group_size g) ≤ 34359738352) → (o : Option Job) (own : List OwnAllocation)
+    → ((j : Job) → o ≡ Some j → is_good_document j.document ≡ true) → sum_by (λ d. f d.size) (demands o own) < 2 ^ 55
+demands_small f small None own good = omega arith
+demands_small f small (Some j) own good = job_small f small j own (good j refl)
+
+used_small : (o : Option QuotaSeen) → ((q : QuotaSeen) → o ≡ Some q → IsSmall q.used) → IsSmall (unwrap_or o no_quota).used
+used_small None small = (omega arith, omega arith)
+used_small (Some q) small = small q refl
+
+countable_fits : (kept : Snapshot) → IsCountable kept → ((j : Job) → kept.job ≡ Some j → is_good_document j.document ≡ true) → fits kept ≡ true
+countable_fits kept countable good =
+    let used = used_small kept.quota countable.used in
+    let cpu = demands_small (λ r. r.cpu) (λ g e. size_small g e (λ r. r.cpu) cpu_of) kept.job kept.own good in
+    let memory = demands_small (λ r. r.memory) (λ g e. size_small g e (λ r. r.memory) memory_of) kept.job kept.own good in
+    and_from _ _ (nodes_small kept.nodes countable.good countable.within)
+    (counted_true (plus (quota_of kept).used (total (λ d. d.size) (demands kept.job kept.own))) (omega (arith, cpu, used.0), omega (arith, memory, used.1)))
+
+pub kept_fits : KeptFits
+kept_fits s ns t number worker kept valid is_tenant is_worker is_kept =
+    let sound = ((valid.world.tenant ns t is_tenant).worker number worker is_worker).snapshot kept is_kept in
+    countable_fits kept sound.countable sound.job_good

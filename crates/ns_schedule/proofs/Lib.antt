@@ -1,0 +1,10 @@
+pub mod Counts
+pub mod Differences
+pub mod Kept
+pub mod Levels
+pub mod Orders
+pub mod Placings
+pub mod Plans
+pub mod Steps
+pub mod Victims
+pub mod Wants

@@ -1,0 +1,14 @@
+-- Which snapshots a plan can be computed of.
+use Rattle.std.specs.Prelude.{◌≡◌, ℕ, IsTrue, Some}
+use Rattle.std.specs.FinMap.{get}
+use Rattle.ns_types.specs.declared.snapshot.Snapshot.{Snapshot}
+use Rattle.ns_types.specs.declared.worker.Worker.{Worker}
+use Rattle.ns_types.specs.State.Names.{Name}
+use Rattle.ns_types.specs.State.Rows.{State, Tenant}
+use Rattle.ns_types.specs.Validity.{IsValid}
+use Rattle.ns_schedule.specs.Fits.{fits}
+
+-- each that a valid state keeps
+abbrev pub KeptFits : Type 0
+KeptFits = (s : State) (ns : Name) (t : Tenant) (number : ℕ) (worker : Worker) (kept : Snapshot) → IsValid s →
+    get s.world.tenants ns ≡ Some t → get t.workers number ≡ Some worker → worker.kept ≡ Some kept → IsTrue (fits kept)

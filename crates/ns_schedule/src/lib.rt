@@ -1,0 +1,16 @@
+//! The plan of a snapshot: what stops, and where the missing allocations go.
+#![tactic(auto)]
+
+mod amounts;
+mod choice;
+mod eviction;
+mod followers;
+pub mod laws;
+mod opening;
+mod placing;
+mod planned;
+mod sums;
+mod wanted;
+
+pub use followers::escapes;
+pub use planned::{Planned, plan};

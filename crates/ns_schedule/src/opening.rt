@@ -1,0 +1,123 @@
+//! The nodes as the job sees them, without what stops.
+
+ghost use Rattle.std.specs.Prelude.{◌≡◌, ◌==◌, IfOk, map};
+ghost use Rattle.std.specs.List.{All, list_any};
+ghost use Rattle.ns_types.specs.Placing.Plan.{candidate_of, is_among, staying, stays};
+ghost use Rattle.ns_types.specs.State.Resources.{minus, plus, total};
+ghost use Rattle.ns_types.specs.Validity.{seen_load};
+ghost use Rattle.ns_place.specs.Amounts.{IsCounted};
+
+use crate::amounts::less;
+use ns_place::{Candidate, feasible};
+use ns_preempt::evictable;
+use ns_types::job::Job;
+use ns_types::resources::Resources;
+use ns_types::shared::Shared;
+use ns_types::snapshot::{LiveAllocation, OwnAllocation, PoolNode};
+use ns_types::text::Text;
+use std::alloc::{AllocError, Global};
+
+fn has_number(stops: &[&OwnAllocation], number: u64) -> bool
+    ensures { result ≡ list_any (λ s. s.now.number == number) stops.now }
+{
+    stops.iter().any(|s| s.number == number)
+}
+
+fn is_among(stops: &[&OwnAllocation], number: u64) -> bool
+    ensures { result ≡ is_among (map (λ a. a.now) stops.now) number }
+{
+    has_number(stops, number)
+}
+
+fn stays(namespace: &Text, stops: &[&OwnAllocation], allocation: &LiveAllocation) -> bool
+    ensures { result ≡ stays namespace.now (map (λ a. a.now) stops.now) allocation.now }
+{
+    !(allocation.namespace == *namespace && is_among(stops, allocation.number))
+}
+
+/// What those that stay leave of the capacity.
+fn left_of(
+    capacity: Resources,
+    namespace: &Text,
+    stops: &[&OwnAllocation],
+    live: &[LiveAllocation],
+) -> Resources
+    ensures { result ≡ minus capacity
+        (total (λ a. a.size) (staying namespace.now (map (λ a. a.now) stops.now) live.now)) }
+{
+    let mut left = capacity;
+    for a in live {
+        if stays(namespace, stops, a) {
+            left = less(left, a.size);
+        }
+    }
+    left
+}
+
+fn staying<'a>(
+    alloc: Global,
+    namespace: &Text,
+    stops: &[&OwnAllocation],
+    order: &[&'a LiveAllocation],
+) -> Result<Vec<&'a LiveAllocation>, AllocError>
+    ensures { IfOk result (λ v. map (λ a. a.now) v.items
+        ≡ staying namespace.now (map (λ a. a.now) stops.now) (map (λ a. a.now) order.now)) }
+{
+    let mut left = Vec::new(alloc);
+    for a in order {
+        if stays(namespace, stops, a) {
+            left.push(*a)?;
+        }
+    }
+    Ok(left)
+}
+
+fn candidate<'a>(
+    alloc: Global,
+    job: &Job,
+    namespace: &Text,
+    stops: &[&OwnAllocation],
+    node: &'a PoolNode,
+) -> Result<Candidate<'a>, AllocError>
+    requires { IsCounted (plus node.now.row.offer.capacity (seen_load node.now)) }
+    ensures { IfOk result (λ c. c
+        ≡ candidate_of job.now namespace.now (map (λ a. a.now) stops.now) node.now) }
+{
+    let live = node.live.as_slice();
+    let order = evictable(alloc, live, job.document.priority)?;
+    let evictable = staying(alloc, namespace, stops, &order)?;
+    let left = left_of(node.row.offer.capacity, namespace, stops, live);
+    let constraints = job.document.constraints.as_slice();
+    let feasible = feasible(constraints, &node.name, &node.row);
+    Ok(Candidate::new(&node.name, feasible, left, evictable))
+}
+
+/// The nodes of a snapshot, without what stops.
+pub(crate) fn candidates<'a>(
+    alloc: Global,
+    job: &Job,
+    namespace: &Text,
+    stops: &[&OwnAllocation],
+    nodes: &'a [Shared<PoolNode>],
+) -> Result<Vec<Candidate<'a>>, AllocError>
+    requires { All (λ n. IsCounted (plus n.row.offer.capacity (seen_load n))) nodes.now }
+    ensures { IfOk result (λ v. v.items
+        ≡ map (candidate_of job.now namespace.now (map (λ a. a.now) stops.now)) nodes.now) }
+{
+    let mut candidates = Vec::with_capacity(alloc, nodes.len())?;
+    for node in nodes {
+        candidates.push(candidate(alloc, job, namespace, stops, node.get())?)?;
+    }
+    Ok(candidates)
+}
+
+/// What is in use without what stops.
+pub(crate) fn used_without(used: Resources, stops: &[&OwnAllocation]) -> Resources
+    ensures { result ≡ minus used (total (λ a. a.row.size) (map (λ a. a.now) stops.now)) }
+{
+    let mut left = used;
+    for a in stops {
+        left = less(left, a.row.size);
+    }
+    left
+}
