@@ -2,8 +2,6 @@
 #![tactic(auto)]
 
 #[cfg(test)]
-mod acl;
-#[cfg(test)]
 mod by_key;
 #[cfg(test)]
 mod down;

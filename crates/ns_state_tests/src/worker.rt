@@ -1,5 +1,4 @@
-// With ample memory workers take evaluations, as many as there are workers, and give them back; at the third nack an
-// evaluation has failed.
+// With ample memory a worker takes an evaluation and gives it back; at the third nack it has failed.
 
 ghost use Rattle.std.specs.Bool.{OnTrue};
 ghost use Rattle.ns_broker.specs.Nacking.{HasNackLeft};
@@ -7,7 +6,7 @@ ghost use Rattle.ns_world.specs.World.{world_of};
 
 use crate::ends::{end, is_past_now};
 use keyed::{KeyQueue, NameTable, NumberTable, Series};
-use ns_broker::{dequeue, nack, phase, row_of, served_ready, worker_at};
+use ns_broker::{dequeue, nack, row_of, served_ready, worker_at};
 use ns_change::Prepared;
 use ns_types::evaluation::{Evaluation, Status, Trigger};
 use ns_types::job::JobKind;
@@ -17,7 +16,6 @@ use ns_types::refusal::Refusal;
 use ns_types::reply::Content;
 use ns_types::rows::Rows;
 use ns_types::text::Text;
-use ns_types::worker::Phase;
 use ns_world::{EvaluationTable, Tables, TenantRows};
 use std::alloc::{AllocError, Global};
 use std::test::Fail;
@@ -51,39 +49,36 @@ fn namespace(alloc: Global) -> Result<Namespace, AllocError> {
     })
 }
 
-/// Evaluations of one job, from number 1 on.
-fn rows(alloc: Global, count: u64) -> Result<NumberTable<Evaluation>, AllocError> {
+/// One evaluation, under the number 1.
+fn rows(alloc: Global) -> Result<NumberTable<Evaluation>, AllocError> {
+    let row = evaluation(alloc)?;
     let mut table = NumberTable::new(alloc);
-    for number in 0..count {
-        let number = number + 1;
-        let row = evaluation(alloc)?;
-        table.reserve(number)?;
-        if table.has_slot(number) {
-            table.set(number, row);
-        } else {
-            drop(row);
-        }
+    table.reserve(1)?;
+    if table.has_slot(1) {
+        table.set(1, row);
+    } else {
+        drop(row);
     }
     Ok(table)
 }
 
-fn evaluations(alloc: Global, count: u64) -> Result<EvaluationTable, AllocError> {
-    let rows = rows(alloc, count)?;
+fn evaluations(alloc: Global) -> Result<EvaluationTable, AllocError> {
+    let rows = rows(alloc)?;
     let mut table = EvaluationTable::new(alloc);
     table.reserve_all(&rows)?;
     table.apply(rows);
     Ok(table)
 }
 
-/// A namespace with that many evaluations, at that index.
-fn tenant(alloc: Global, count: u64, index: u64) -> Result<TenantRows, AllocError> {
+/// A namespace with one evaluation, at that index.
+fn tenant(alloc: Global, index: u64) -> Result<TenantRows, AllocError> {
     Ok(TenantRows {
         namespace: namespace(alloc)?,
         index,
-        evaluation_number: count,
+        evaluation_number: 1,
         allocation_number: 0,
         jobs: NameTable::new(alloc),
-        evaluations: evaluations(alloc, count)?,
+        evaluations: evaluations(alloc)?,
         allocations: NumberTable::new(alloc),
         workers: NumberTable::new(alloc),
         events: Series::new(alloc),
@@ -105,25 +100,23 @@ fn tenants(
     Ok(tenants)
 }
 
-/// All of them, in their order.
-fn ready(alloc: Global, name: &Text, count: u64) -> Result<KeyQueue, AllocError> {
+/// It is ready.
+fn ready(alloc: Global, name: &Text) -> Result<KeyQueue, AllocError> {
     let mut keys = Rows::new(alloc);
-    for number in 0..count {
-        keys.push(EvalKey::new(name.clone()?, number + 1))?;
-    }
+    keys.push(EvalKey::new(name.clone()?, 1))?;
     let mut ready = KeyQueue::new(alloc);
     ready.reserve(keys.as_slice())?;
     ready.append(keys);
     Ok(ready)
 }
 
-/// Tables of the namespace `default` alone, with that many evaluations, which are ready.
-fn tables(alloc: Global, count: u64, index: u64) -> Result<Tables, AllocError> {
+/// Tables of the namespace `default` alone, at that index, with one evaluation, which is ready.
+fn tables(alloc: Global, index: u64) -> Result<Tables, AllocError> {
     let name = Text::from_str(alloc, "default")?;
-    let ready = ready(alloc, &name, count)?;
+    let ready = ready(alloc, &name)?;
     Ok(Tables {
         alloc,
-        tenants: tenants(alloc, &name, tenant(alloc, count, index)?)?,
+        tenants: tenants(alloc, &name, tenant(alloc, index)?)?,
         pools: NameTable::new(alloc),
         quotas: NameTable::new(alloc),
         ready,
@@ -206,40 +199,6 @@ pub(crate) fn is_refused(answer: Result<Prepared, Refusal>, refusal: Refusal) ->
     }
 }
 
-/// Whether the worker just took that evaluation, of a service job, which has five tries.
-fn has_taken(tables: &Tables, number: u64, evaluation: u64) -> bool {
-    match phase(tables, number) {
-        Some(busy) => busy.namespace.as_str() == "default"
-            && busy.evaluation == evaluation
-            && matches!(busy.phase, Phase::Took)
-            && busy.tries == 5,
-        None => false,
-    }
-}
-
-/// Whether each of the 64 takes the next one.
-fn all_take(tables: &mut Tables) -> Result<bool, AllocError> {
-    let mut do_take = true;
-    for number in 0..64 {
-        let took = taken(tables, number)?;
-        do_take &= took == Some(number + 1) && has_taken(tables, number, number + 1);
-    }
-    Ok(do_take)
-}
-
-/// Whether neither a busy worker nor a 65th takes the last one.
-fn none_takes(tables: &Tables, key: &EvalKey) -> bool {
-    let (namespace, last) = (key.namespace(), key.number());
-    is_refused(dequeue(tables, 64, namespace, last), Refusal::NotEnabled)
-        && is_refused(dequeue(tables, 5, namespace, last), Refusal::NotEnabled)
-}
-
-fn sixty_four_work(alloc: Global) -> Result<bool, AllocError> {
-    let mut tables = tables(alloc, 65, 1)?;
-    let key = EvalKey::new(Text::from_str(alloc, "default")?, 65);
-    Ok(all_take(&mut tables)? && none_takes(&tables, &key))
-}
-
 /// The worker takes the only evaluation and gives it back, three times.
 fn thrice(tables: &mut Tables, namespace: &Text) -> Result<bool, AllocError> {
     let mut is_right = true;
@@ -265,14 +224,14 @@ fn has_failed(tables: &Tables, namespace: &Text) -> bool {
 }
 
 fn fails_at_the_third(alloc: Global) -> Result<bool, AllocError> {
-    let mut tables = tables(alloc, 1, 1)?;
+    let mut tables = tables(alloc, 1)?;
     let name = Text::from_str(alloc, "default")?;
     Ok(thrice(&mut tables, &name)? && has_failed(&tables, &name))
 }
 
 /// At the last index only the third nack is refused, which replies would show.
 fn is_full_at_the_third(alloc: Global) -> Result<bool, AllocError> {
-    let mut tables = tables(alloc, 1, u64::MAX)?;
+    let mut tables = tables(alloc, u64::MAX)?;
     let name = Text::from_str(alloc, "default")?;
     let mut is_right = true;
     for _ in 0..2 {
@@ -282,12 +241,6 @@ fn is_full_at_the_third(alloc: Global) -> Result<bool, AllocError> {
     let took = taken(&mut tables, 0)?;
     is_right &= took == Some(1);
     Ok(is_right && is_refused(nacked(&tables, 0, &name), Refusal::Full))
-}
-
-#[test]
-fn sixty_four_workers_take_and_no_65th(rt: HostRuntime) -> Result<(), Fail> {
-    assert!(rt; sixty_four_work(rt.alloc())?);
-    Ok(())
 }
 
 #[test]
