@@ -1,2 +1,3 @@
 mod Loaded
+mod Placed
 mod Stored

@@ -1,15 +1,30 @@
 // That where there is memory a node goes down: the allocations on it are lost, and each job that had one gets an
-// evaluation, by namespace, then job id, with the priority of the least of its allocations, since the job is gone.
+// evaluation, by namespace, then job id, with the priority of the least of its allocations, since the job is gone. The
+// quota of a namespace that loses one is released: what it limits wakes, and where that can not be the node stays up.
 
-use crate::worker::ended;
+ghost use Rattle.std.specs.Prelude.{◌≡◌, IfSome};
+ghost use Rattle.std.specs.List.{list_any};
+ghost use Rattle.keyed.specs.Table.{at_slot};
+ghost use Rattle.ns_types.specs.State.Rows.{is_live};
+ghost use Rattle.ns_live.specs.Index.{IsRight};
+ghost use Rattle.ns_state_tests.specs.Placed.{has_live, is_some_live};
+ghost use Rattle.ns_world.specs.World.{tenant_of, world_of};
+
+use crate::ends::{is_awake, is_limited, is_listed, is_past_now};
+use crate::owned::holds;
+use crate::worker::{ended, is_refused};
 use keyed::{KeyQueue, NameTable, NumberTable, Series};
 use ns_broker::served_ready;
+use ns_change::{Change, Prepared, TenantChange};
+use ns_conclude::conclude;
+use ns_live::Live;
 use ns_nodes::set_down;
 use ns_types::allocation::{Allocation, ClientStatus, DesiredStatus};
 use ns_types::evaluation::Trigger;
 use ns_types::key::EvalKey;
 use ns_types::node::{Node, NodeStatus, Offer};
 use ns_types::records::{Namespace, Pool};
+use ns_types::refusal::Refusal;
 use ns_types::resources::Resources;
 use ns_types::rows::Rows;
 use ns_types::text::Text;
@@ -146,6 +161,27 @@ fn tenants(alloc: Global) -> Result<NameTable<TenantRows>, AllocError> {
     Ok(table)
 }
 
+/// The same namespaces before anything is placed.
+fn idle_tenants(alloc: Global) -> Result<NameTable<TenantRows>, AllocError> {
+    let mut table = NameTable::new(alloc);
+    put(
+        &mut table,
+        &text(alloc, "c")?,
+        tenant(alloc, NumberTable::new(alloc), None)?,
+    )?;
+    put(
+        &mut table,
+        &text(alloc, "a")?,
+        tenant(alloc, NumberTable::new(alloc), None)?,
+    )?;
+    put(
+        &mut table,
+        &text(alloc, "b")?,
+        tenant(alloc, NumberTable::new(alloc), None)?,
+    )?;
+    Ok(table)
+}
+
 /// The node `x` of the pool `p`, which is ready.
 fn pools(alloc: Global) -> Result<NameTable<PoolRows>, AllocError> {
     let node = Node {
@@ -173,16 +209,149 @@ fn pools(alloc: Global) -> Result<NameTable<PoolRows>, AllocError> {
     Ok(table)
 }
 
-pub(crate) fn tables(alloc: Global) -> Result<Tables, AllocError> {
+fn tables_of(alloc: Global, tenants: NameTable<TenantRows>) -> Result<Tables, AllocError> {
     Ok(Tables {
         alloc,
-        tenants: tenants(alloc)?,
+        tenants,
         pools: pools(alloc)?,
         quotas: NameTable::new(alloc),
         ready: KeyQueue::new(alloc),
         plans: KeyQueue::new(alloc),
         blocked: KeyQueue::new(alloc),
     })
+}
+
+pub(crate) fn tables(alloc: Global) -> Result<Tables, AllocError> {
+    tables_of(alloc, tenants(alloc)?)
+}
+
+fn idle_tables(alloc: Global) -> Result<Tables, AllocError> {
+    tables_of(alloc, idle_tenants(alloc)?)
+}
+
+/// A namespace whose quota limits the evaluation that is blocked in another one, which has that index.
+fn shared_tables(alloc: Global, index: u64) -> Result<Tables, AllocError> {
+    let mut tables = crate::ends::tables(alloc, index, true)?;
+    let quota = Some(text(alloc, "q")?);
+    let tenant = tenant(alloc, NumberTable::new(alloc), quota)?;
+    put(&mut tables.tenants, &text(alloc, "b")?, tenant)?;
+    Ok(tables)
+}
+
+// ---- the allocations are placed by a step, which keeps the index of live ones right
+
+fn any_live(slots: &[(u64, Option<Allocation>)]) -> bool
+    ensures { result ≡ list_any (at_slot (λ e. is_live e.1)) slots.now }
+{
+    slots.iter().any(|slot| is_live_slot(slot))
+}
+
+fn is_live_slot(slot: &(u64, Option<Allocation>)) -> bool
+    ensures { result ≡ at_slot (λ e. is_live e.1) slot.now }
+{
+    match &slot.1 {
+        Some(row) => row.is_live(),
+        None => false,
+    }
+}
+
+fn are_rows_live(rows: &TenantRows) -> bool
+    ensures { result ≡ has_live (tenant_of rows.now) }
+{
+    any_live(rows.allocations.as_slice())
+}
+
+fn has_live(slot: &(Text, Option<TenantRows>)) -> bool
+    ensures { result ≡ at_slot (λ e. has_live (tenant_of e.1)) slot.now }
+{
+    match &slot.1 {
+        Some(rows) => are_rows_live(rows),
+        None => false,
+    }
+}
+
+fn any_has_live(slots: &[(Text, Option<TenantRows>)]) -> bool
+    ensures { result ≡ list_any (at_slot (λ e. has_live (tenant_of e.1))) slots.now }
+{
+    slots.iter().any(|slot| has_live(slot))
+}
+
+fn is_some_live(tables: &Tables) -> bool
+    ensures { result ≡ is_some_live (world_of tables.now) }
+{
+    any_has_live(tables.tenants.as_slice())
+}
+
+/// An index of no keys, where no allocation is live.
+fn no_keys(tables: &Tables) -> Option<Live>
+    ensures { IfSome result (λ live. IsRight (world_of tables.now) live) }
+{
+    if is_some_live(tables) {
+        return None;
+    }
+    Some(Live::new(tables.alloc))
+}
+
+/// Makes that step.
+fn placed(tables: &mut Tables, change: Change) -> Option<Live>
+    ensures { IfSome result (λ live. IsRight (world_of tables.new) live) }
+{
+    if is_past_now(tables) {
+        drop(change);
+        return None;
+    }
+    let Some(mut live) = no_keys(tables) else {
+        drop(change);
+        return None;
+    };
+    match conclude(tables, &mut live, change) {
+        Ok(()) => Some(live),
+        Err(_) => {
+            drop(live);
+            None
+        }
+    }
+}
+
+fn placing(alloc: Global, allocations: NumberTable<Allocation>) -> TenantChange {
+    TenantChange {
+        evaluation_number: 0,
+        allocation_number: 3,
+        jobs: NameTable::new(alloc),
+        evaluations: NumberTable::new(alloc),
+        allocations,
+        workers: NumberTable::new(alloc),
+    }
+}
+
+fn all_placed(alloc: Global) -> Result<Change, AllocError> {
+    let mut change = Change::new(alloc);
+    put(
+        &mut change.tenants,
+        &text(alloc, "a")?,
+        placing(alloc, in_a(alloc)?),
+    )?;
+    put(
+        &mut change.tenants,
+        &text(alloc, "b")?,
+        placing(alloc, in_b(alloc)?),
+    )?;
+    put(
+        &mut change.tenants,
+        &text(alloc, "c")?,
+        placing(alloc, in_c(alloc)?),
+    )?;
+    Ok(change)
+}
+
+fn one_placed(alloc: Global) -> Result<Change, AllocError> {
+    let mut change = Change::new(alloc);
+    put(
+        &mut change.tenants,
+        &text(alloc, "b")?,
+        placing(alloc, in_b(alloc)?),
+    )?;
+    Ok(change)
 }
 
 // ---- what is left
@@ -259,10 +428,36 @@ fn serves_greatest(tables: &Tables) -> bool {
     }
 }
 
+/// What it comes to that the node goes down, beside a right index.
+fn down_beside(tables: &Tables, live: &Live, pool: &Text, name: &Text) -> Result<Prepared, Refusal>
+    requires { IsRight (world_of tables.now) live.now }
+{
+    if is_past_now(tables) {
+        return Err(Refusal::Foreign);
+    }
+    set_down(tables, live, pool, name)
+}
+
+/// The same once those allocations are placed.
+fn down(
+    tables: &mut Tables,
+    change: Change,
+    pool: &Text,
+    name: &Text,
+) -> Result<Prepared, Refusal> {
+    let Some(live) = placed(tables, change) else {
+        return Err(Refusal::Foreign);
+    };
+    let answer = down_beside(tables, &live, pool, name);
+    drop(live);
+    answer
+}
+
 fn goes_down(tables: &mut Tables) -> Result<bool, AllocError> {
     let pool = text(tables.alloc, "p")?;
     let name = text(tables.alloc, "x")?;
-    let answer = set_down(tables, &pool, &name);
+    let change = all_placed(tables.alloc)?;
+    let answer = down(tables, change, &pool, &name);
     let is_done = ended(tables, answer).is_some();
     Ok(
         is_done & is_down(tables, &pool, &name)
@@ -272,13 +467,46 @@ fn goes_down(tables: &mut Tables) -> Result<bool, AllocError> {
     )
 }
 
-fn goes_down_alone(alloc: Global) -> Result<bool, AllocError> {
-    let mut tables = tables(alloc)?;
-    goes_down(&mut tables)
+/// The evaluation that the quota limits wakes, and the job that lost an allocation gets one.
+fn wakes(tables: &mut Tables) -> Result<bool, AllocError> {
+    let pool = text(tables.alloc, "p")?;
+    let name = text(tables.alloc, "x")?;
+    let quota = text(tables.alloc, "q")?;
+    let namespace = text(tables.alloc, "n")?;
+    let change = one_placed(tables.alloc)?;
+    let answer = down(tables, change, &pool, &name);
+    let is_done = ended(tables, answer).is_some();
+    let wakes = is_awake(tables, &namespace, 8) && is_listed(tables, 2, 0);
+    Ok(is_done && wakes && is_limited(tables, &quota, 1, 1) && is_down(tables, &pool, &name))
+}
+
+fn is_full(tables: &mut Tables) -> Result<bool, AllocError> {
+    let pool = text(tables.alloc, "p")?;
+    let name = text(tables.alloc, "x")?;
+    let quota = text(tables.alloc, "q")?;
+    let change = one_placed(tables.alloc)?;
+    let is_full = is_refused(down(tables, change, &pool, &name), Refusal::Full);
+    let stays = is_listed(tables, 0, 1) && is_limited(tables, &quota, 1, 0);
+    Ok(is_full && stays && !is_down(tables, &pool, &name))
 }
 
 #[test]
 fn a_node_goes_down(rt: HostRuntime) -> Result<(), Fail> {
-    assert!(rt; goes_down_alone(rt.alloc())?);
+    let alloc = rt.alloc();
+    assert!(rt; holds(idle_tables(alloc), |tables| goes_down(tables))?);
+    Ok(())
+}
+
+#[test]
+fn a_loss_releases_its_quota(rt: HostRuntime) -> Result<(), Fail> {
+    let alloc = rt.alloc();
+    assert!(rt; holds(shared_tables(alloc, 7), |tables| wakes(tables))?);
+    Ok(())
+}
+
+#[test]
+fn a_loss_that_would_wake_at_the_last_index_is_full(rt: HostRuntime) -> Result<(), Fail> {
+    let alloc = rt.alloc();
+    assert!(rt; holds(shared_tables(alloc, u64::MAX), |tables| is_full(tables))?);
     Ok(())
 }
