@@ -1,23 +1,17 @@
--- What a command on a record comes to, where it is not made.
+-- What a command on a record comes to, for want of memory.
 use Rattle.std.specs.Prelude.{◌≡◌, true, Result, Ok, Err}
-use Rattle.std.proofs.Common.{refl, sym, subst}
+use Rattle.std.proofs.Common.{sym, subst}
 use Rattle.std.specs.Result.{IsErrAnd}
 use Rattle.ns_types.specs.declared.refusal.Refusal.{Refusal}
-use Rattle.ns_types.specs.Settling.Outcome.{Changes, Outcome, is_done}
+use Rattle.ns_types.specs.Settling.Outcome.{Outcome, is_done}
 use Rattle.ns_types.specs.State.Rows.{World}
 use Rattle.ns_world.specs.declared.tables.Tables.{Tables}
 use Rattle.ns_world.specs.World.{world_of}
 use Rattle.ns_admin.specs.declared.record.RecordChange.{RecordChange}
 use Rattle.ns_admin.specs.Recorded.{PreparesRecord}
 
--- want of memory, where the command would have been made
+-- where the command would have been made
 pub out_of_memory : (command : World → Outcome World) (t : Tables) (result : Result RecordChange Refusal)
     → IsErrAnd result (λ refusal. refusal ≡ Refusal.Memory) → is_done (command (world_of t)) ≡ true → PreparesRecord command t result
 out_of_memory command t (Ok change) e done = absurd e
 out_of_memory command t (Err refusal) e done = subst (λ refusal. PreparesRecord command t (Err refusal)) (sym e) done
-
--- a refusal, and then nothing is written
-pub refused_so : (command : World → Outcome World) (t : Tables) (refusal : Refusal) → PreparesRecord command t (Err refusal)
-    → Changes (command (world_of t)) (world_of t) (Err refusal) (world_of t)
-refused_so command t Refusal.Memory h = (h, refl)
-refused_so command t refusal h = (h, refl)
