@@ -18,7 +18,7 @@ use Rattle.ns_change.specs.Prepared.{bounded}
 use Rattle.ns_jobs.specs.Counted.{counted, counted_ask, passes_bound, passes_in, writes_jobs}
 use Rattle.ns_jobs.specs.Read.{only_reads}
 use Rattle.ns_jobs.proofs.Past.{counting_is, jobs_fit}
-use Rattle.ns_core.specs.Held.{IsHeld}
+use Rattle.ns_types.specs.Validity.{IsValid}
 use Rattle.ns_core.proofs.Keeping.{within}
 
 writes : (command : AskCommand) → writes_jobs command ≡ true → only_reads command ≡ false
@@ -26,7 +26,7 @@ writes (AskCommand.Register r) jobs = refl
 writes (AskCommand.Deregister id purge) jobs = refl
 writes _ jobs = not_both jobs refl
 
-module _ (s : State) (held : IsHeld s) (ns : Name) where
+module _ (s : State) (valid : IsValid s) (ns : Name) where
   -- no evaluation has the namespace's next number
   none_next : (t : Tenant) → get s.world.tenants ns ≡ Some t → get t.evaluations (t.evaluation_number + 1) ≡ None
   none_next t is = by (get t.evaluations (t.evaluation_number + 1)) refl
@@ -34,13 +34,13 @@ module _ (s : State) (held : IsHeld s) (ns : Name) where
       by : (o : Option Evaluation) → get t.evaluations (t.evaluation_number + 1) ≡ o → o ≡ None
       by None at = refl
       by (Some e) at = absurd (let over : t.evaluation_number + 1 ≤ t.evaluation_number =
-          ((held.valid.world.tenant ns t is).evaluation (t.evaluation_number + 1) e at).below in omega arith)
+          ((valid.world.tenant ns t is).evaluation (t.evaluation_number + 1) e at).below in omega arith)
 
   module _ (command : AskCommand) (jobs : writes_jobs command ≡ true) where
     counts_in : (t : Tenant) (content : Content) (w' : World) → get s.world.tenants ns ≡ Some t → ask ns command s.world ≡ Done content w' →
         (b : Bool) → passes_bound t ≡ b → is_past_bound (settle s.world w') ≡ b
     counts_in t content w' is done true passes = counting_is s.world ns command t content w' (writes command jobs) is (none_next t is) passes done
-    counts_in t content w' is done false passes = jobs_fit s.world ns command t content w' jobs is (within s held) passes done
+    counts_in t content w' is done false passes = jobs_fit s.world ns command t content w' jobs is (within s valid) passes done
 
     nowhere : get s.world.tenants ns ≡ None → ask ns command s.world ≡ Refused Refusal.NotFound
     unfolding ask

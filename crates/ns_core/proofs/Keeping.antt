@@ -1,5 +1,4 @@
--- What is true of every core stays true: each step within the limits keeps the state valid, and those made so far keep it
--- quiet.
+-- What is true of every core stays true: each step within the limits keeps the state valid.
 use Rattle.std.specs.Prelude.{◌≡◌, false, Ok, Err}
 use Rattle.std.proofs.Common.{sym, subst}
 use Rattle.ns_types.specs.declared.refusal.Refusal.TheVariants as Refusal
@@ -10,25 +9,20 @@ use Rattle.ns_types.specs.Steps.{Answer, Makes, after, is_past_bound, said}
 use Rattle.ns_types.specs.Within.{IsGoodStep}
 use Rattle.ns_audit.proofs.Valid.{valid_step}
 use Rattle.ns_jobs.specs.Counted.{HasFewVersionsIn}
-use Rattle.ns_steps.specs.Quiet.{ends_quiet}
-use Rattle.ns_steps.proofs.Quieting.{stays_quiet}
-use Rattle.ns_core.specs.Held.{IsHeld}
+use Rattle.ns_types.specs.Validity.{IsValid}
 
-module _ (step : Step) (s s' : State) (good : IsGoodStep step) (calm : ends_quiet step ≡ false) (held : IsHeld s) where
-  stepped : (answer : Answer) → after step s ≡ said answer s' → IsHeld s'
-  stepped answer e = record { valid = valid_step s s' step answer held.valid good e; quiet = stays_quiet s s' step answer held.quiet calm e }
-
-  pub keeps : (answer : Answer) → Makes step s answer s' → IsHeld s'
-  keeps (Ok reply) made = stepped (Ok reply) made
-  keeps (Err Refusal.Memory) made = subst IsHeld (sym made.1) held
-  keeps (Err Refusal.NotEnabled) made = subst IsHeld (sym made.1) held
-  keeps (Err refusal) made = subst IsHeld (sym made.1) held
+module _ (step : Step) (s s' : State) (good : IsGoodStep step) (valid : IsValid s) where
+  pub keeps : (answer : Answer) → Makes step s answer s' → IsValid s'
+  keeps (Ok reply) made = valid_step s s' step (Ok reply) valid good made
+  keeps (Err Refusal.Memory) made = subst IsValid (sym made.1) valid
+  keeps (Err Refusal.NotEnabled) made = subst IsValid (sym made.1) valid
+  keeps (Err refusal) made = subst IsValid (sym made.1) valid
 
 -- ---- what it says
 
-module _ (s : State) (held : IsHeld s) where
+module _ (s : State) (valid : IsValid s) where
   pub within : is_past_bound s.world ≡ false
-  within = held.valid.world.within
+  within = valid.world.within
 
   pub few_versions : (ns : Name) → HasFewVersionsIn s.world ns
-  few_versions ns t is id job at = ((held.valid.world.tenant ns t is).job id job at).versions
+  few_versions ns t is id job at = ((valid.world.tenant ns t is).job id job at).versions

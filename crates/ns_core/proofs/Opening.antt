@@ -1,27 +1,19 @@
 -- The opening parts hold the opening state.
-use Rattle.std.specs.Prelude.{◌≡◌, IsTrue}
+use Rattle.std.specs.Prelude.{◌≡◌}
 use Rattle.std.proofs.Common.{sym, subst}
-use Rattle.ns_types.specs.declared.name.NameKind.TheVariants as NameKind
-use Rattle.ns_types.specs.State.Name.{is_name}
 use Rattle.ns_types.specs.State.Names.{Name}
 use Rattle.ns_types.specs.State.Rows.{Acl}
 use Rattle.ns_types.specs.Steps.{opening, opening_acl, opening_world}
-use Rattle.ns_audit.proofs.Valid.{opening_is_valid}
-use Rattle.ns_steps.proofs.Quiet.{opening_quiet}
 use Rattle.ns_live.specs.declared.live.Live.{Live}
 use Rattle.ns_live.specs.Index.{IsEmpty, IsRight}
 use Rattle.ns_live.proofs.Administered.{empty_right}
 use Rattle.ns_world.specs.declared.tables.Tables.{Tables}
 use Rattle.ns_world.specs.World.{world_of}
-use Rattle.ns_core.specs.Held.{IsHeld}
 
 pub opening_parts : (secret : Name) (acl : Acl) (tables : Tables) → acl ≡ opening_acl secret → world_of tables ≡ opening_world →
     record { acl = acl; world = world_of tables } ≡ opening secret
 unfolding opening
 opening_parts secret acl tables a w = λ i. record { acl = a i; world = w i }
-
-pub opening_held : (secret : Name) → IsTrue (is_name NameKind.Secret secret) → IsHeld (opening secret)
-opening_held secret named = record { valid = opening_is_valid secret named; quiet = opening_quiet secret }
 
 pub opening_indexed : (secret : Name) (tables : Tables) (live : Live) → world_of tables ≡ opening_world
     → IsEmpty live → IsRight (world_of tables) live

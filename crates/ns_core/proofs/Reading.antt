@@ -22,21 +22,21 @@ use Rattle.ns_steps.specs.Served.{IsServedAsk, IsServedNode, only_reads, served_
 use Rattle.ns_steps.proofs.Reading.{changes_lift, reads_make}
 use Rattle.ns_jobs.specs.Read
 use Rattle.ns_jobs.specs.Read.{UsageFits, UseFits}
-use Rattle.ns_core.specs.Held.{IsHeld}
+use Rattle.ns_types.specs.Validity.{IsValid}
 use Rattle.ns_core.proofs.Keeping.{within}
 
 -- ---- what is used of a quota
 
-pub usage_fits : (s : State) → IsHeld s → (quota : Name) → UseFits (quota_use s.world quota)
-usage_fits s held quota =
-    let small = quota_small s.world quota held.valid.world in
+pub usage_fits : (s : State) → IsValid s → (quota : Name) → UseFits (quota_use s.world quota)
+usage_fits s valid quota =
+    let small = quota_small s.world quota valid.world in
     let cpu = small.0 in
     let memory = small.1 in
     record { cpu = omega (arith, cpu); memory = omega (arith, memory) }
 
-pub uses_fit : (s : State) → IsHeld s → (command : AskCommand) → UsageFits command s.world
-uses_fit s held (AskCommand.QuotaUsage quota) = usage_fits s held quota
-uses_fit s held _ = tt
+pub uses_fit : (s : State) → IsValid s → (command : AskCommand) → UsageFits command s.world
+uses_fit s valid (AskCommand.QuotaUsage quota) = usage_fits s valid quota
+uses_fit s valid _ = tt
 
 -- ---- a read as a step
 
@@ -47,19 +47,19 @@ reads (AskCommand.StopAllocation n) served only = only
 reads (AskCommand.Events index) served only = not_both served refl
 reads _ served only = refl
 
-pub ask_reads : (s : State) (ns : Name) (secret : Option Name) (command : AskCommand) → IsHeld s → IsServedAsk command → Read.only_reads command ≡ true
+pub ask_reads : (s : State) (ns : Name) (secret : Option Name) (command : AskCommand) → IsValid s → IsServedAsk command → Read.only_reads command ≡ true
     → right_of command (rights_of s.acl secret ns) ≡ true
     → (result : Result Content Refusal) → Changes (ask ns command s.world) s.world result s.world
     → Makes (Step.Ask ns secret command) s (answer_of (Step.Ask ns secret command) s.world result) s
 unfolding act
-ask_reads s ns secret command held served only allowed result h =
-    reads_make (Step.Ask ns secret command) s allowed (within s held) served (reads command served only)
+ask_reads s ns secret command valid served only allowed result h =
+    reads_make (Step.Ask ns secret command) s allowed (within s valid) served (reads command served only)
     result (changes_lift (with_world s.acl) (ask ns command s.world) s.world s.world result h)
 
-pub pool_reads : (s : State) (pool : Name) (secret : Option Name) (command : NodeCommand) → IsHeld s → IsServedNode command
+pub pool_reads : (s : State) (pool : Name) (secret : Option Name) (command : NodeCommand) → IsValid s → IsServedNode command
     → only_reads (served_node command) ≡ true → pool_right_of command (pool_rights_of s.acl secret pool) ≡ true
     → (result : Result Content Refusal) → Changes (ask_pool pool command s.world) s.world result s.world
     → Makes (Step.Node pool secret command) s (answer_of (Step.Node pool secret command) s.world result) s
 unfolding act
-pool_reads s pool secret command held served only allowed result h = reads_make (Step.Node pool secret command) s allowed (within s held) served only
+pool_reads s pool secret command valid served only allowed result h = reads_make (Step.Node pool secret command) s allowed (within s valid) served only
     result (changes_lift (with_world s.acl) (ask_pool pool command s.world) s.world s.world result h)

@@ -17,7 +17,7 @@ use Rattle.ns_live.proofs.Administered.{loads_fit}
 use Rattle.ns_nodes.specs.Listed.{LoadsFit}
 use Rattle.ns_core.specs.declared.parts.Parts.{Parts}
 use Rattle.ns_core.specs.Answering.{PreparesNode}
-use Rattle.ns_core.specs.Held.{IsHeld}
+use Rattle.ns_types.specs.Validity.{IsValid}
 use Rattle.ns_core.specs.Viewed.{state_of, world_of}
 
 module _ (pool : Name) (secret : Option Name) (command : NodeCommand) (s : State) where
@@ -34,5 +34,5 @@ prepares parts pool command (Err refusal) h secret allowed = refuses (Step.Node 
 
 -- ---- loads
 
-pub loads_of : (s : State) → IsHeld s → (pool : Name) → LoadsFit s.world pool
-loads_of s held pool name = loads_fit s.world held.valid.world pool name
+pub loads_of : (s : State) → IsValid s → (pool : Name) → LoadsFit s.world pool
+loads_of s valid pool name = loads_fit s.world valid.world pool name

@@ -19,17 +19,17 @@ use Rattle.ns_broker.proofs.Making.{dequeue_does, dequeue_refuses, nack_does, na
 use Rattle.ns_broker.proofs.Snaps.{snap_answers, snap_settles}
 use Rattle.ns_core.specs.declared.parts.Parts.{Parts}
 use Rattle.ns_core.specs.Answering.{MakesStep, PreparesStep}
-use Rattle.ns_core.specs.Held.{IsHeld}
+use Rattle.ns_types.specs.Validity.{IsValid}
 use Rattle.ns_core.specs.Viewed.{state_of, world_of}
 use Rattle.ns_core.proofs.Keeping.{within}
 use Rattle.ns_core.proofs.Making.{made_of}
 use Rattle.ns_core.proofs.Reading.{usage_fits}
 
-module _ (parts : Parts) (held : IsHeld (state_of parts)) (worker : ℕ) (ns : Name) where
+module _ (parts : Parts) (valid : IsValid (state_of parts)) (worker : ℕ) (ns : Name) where
   pub dequeue_prepares : (n : ℕ) (result : Result Prepared Refusal) → Prepares (dequeue worker (ns, n) (world_of parts)) parts.tables result →
       PreparesStep (Step.Dequeue worker ns n) parts result
   dequeue_prepares n (Ok x) h = dequeue_does worker ns (state_of parts) parts.tables n x h
-  dequeue_prepares n (Err refusal) h = dequeue_refuses worker ns (state_of parts) parts.tables n (within (state_of parts) held) refusal h
+  dequeue_prepares n (Err refusal) h = dequeue_refuses worker ns (state_of parts) parts.tables n (within (state_of parts) valid) refusal h
 
   pub nack_prepares : (result : Result Prepared Refusal) → Prepares (bounded (world_of parts) (nack worker ns (world_of parts))) parts.tables result →
       PreparesStep (Step.Nack worker ns) parts result
@@ -37,16 +37,16 @@ module _ (parts : Parts) (held : IsHeld (state_of parts)) (worker : ℕ) (ns : N
   nack_prepares (Err refusal) h = nack_refuses worker ns (state_of parts) parts.tables refusal h
 
   pub has_nack_left : HasNackLeft (world_of parts) worker ns
-  has_nack_left = nack_left (world_of parts) held.valid.world worker ns
+  has_nack_left = nack_left (world_of parts) valid.world worker ns
 
   -- ---- a worker that looks
 
   pub use_fits : UseFitsIn (world_of parts) ns
-  use_fits t is quota names = usage_fits (state_of parts) held quota
+  use_fits t is quota names = usage_fits (state_of parts) valid quota
 
   pub snap_refused : (refusal : Refusal) → Prepares (snap worker ns (world_of parts)) parts.tables (Err refusal) →
       MakesStep (Step.Snap worker ns) parts (Err refusal) parts
-  snap_refused refusal h = snap_refuses worker ns (state_of parts) parts.tables (within (state_of parts) held) refusal h
+  snap_refused refusal h = snap_refuses worker ns (state_of parts) parts.tables (within (state_of parts) valid) refusal h
 
   module _ (x : Prepared) (prepares : Prepares (snap worker ns (world_of parts)) parts.tables (Ok x)) where
     pub snap_prepares : PreparesStep (Step.Snap worker ns) parts (Ok x)
@@ -57,7 +57,7 @@ module _ (parts : Parts) (held : IsHeld (state_of parts)) (worker : ℕ) (ns : N
       -- the row keeps it once the step has settled
       pub still_kept : kept_at s.world worker ns ≡ Some seen
       still_kept = ap (λ w. kept_at w worker ns) ((made_of (Step.Snap worker ns) (state_of parts) s refl x.content _ snap_prepares reply made).1
-          ∙ snap_settles worker ns (world_of parts) x.content (view parts.tables x.change) prepares (within (state_of parts) held)) ∙ keeps
+          ∙ snap_settles worker ns (world_of parts) x.content (view parts.tables x.change) prepares (within (state_of parts) valid)) ∙ keeps
 
       -- and its number is what the reply says
       pub says_its_number : reply.content ≡ Content.Snapped seen.number

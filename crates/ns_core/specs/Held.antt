@@ -1,20 +1,13 @@
 -- What is true of every core.
-use Rattle.ns_types.specs.State.Rows.{State}
 use Rattle.ns_types.specs.Validity.{IsValid}
 use Rattle.ns_live.specs.Index.{IsRight}
-use Rattle.ns_steps.specs.Quiet.{IsQuiet}
 use Rattle.ns_core.specs.declared.parts.Parts.{Parts}
 use Rattle.ns_core.specs.Viewed.{state_of, world_of}
-
-pub record IsHeld (s : State) : Type 0 where
-  pub valid : IsValid s
-  -- until plans are applied
-  pub quiet : IsQuiet s.world
 
 -- the index of live allocations is right, and so is what is shown of nodes
 abbrev pub IsIndexed : Parts → Type 0
 IsIndexed parts = IsRight (world_of parts) parts.live
 
 pub record IsKept (parts : Parts) : Type 0 where
-  pub held : IsHeld (state_of parts)
+  pub valid : IsValid (state_of parts)
   pub index : IsIndexed parts

@@ -7,7 +7,8 @@ ghost use Rattle.ns_types.specs.Asking.Admins.{is_relimited};
 ghost use Rattle.ns_types.specs.Asking.Policies.{may_administer};
 ghost use Rattle.ns_admin.specs.Laws.{relimits};
 ghost use Rattle.ns_core.specs.Answering.{ChangesBy, MakesAdmin, MakesStep, ReadsBy, WritesPrepared, sees, sees_pool};
-ghost use Rattle.ns_core.specs.Held.{IsHeld, IsIndexed};
+ghost use Rattle.ns_types.specs.Validity.{IsValid};
+ghost use Rattle.ns_core.specs.Held.{IsIndexed};
 ghost use Rattle.ns_core.specs.Viewed.{state_of, world_of};
 
 use crate::parts::{Parts, plain};
@@ -114,7 +115,7 @@ impl Parts {
         secret: Option<&Text>,
         command: &AdminCommand,
     ) -> Result<Reply, Refusal>
-        requires held { IsHeld (state_of self.old) }
+        requires valid { IsValid (state_of self.old) }
         requires allowed { may_administer self.old.acl (option_copied secret) command.now ≡ true }
         requires same { relimits command.now (world_of self.old) ≡ false }
         ensures made { let step = Step.Admin (option_copied secret.entry) command.now in
@@ -127,7 +128,7 @@ impl Parts {
 
     /// Makes the step in which a quota gets other limits, by a secret that may.
     fn relimit(&mut self, name: &Text, quota: &Quota) -> Result<Reply, Refusal>
-        requires held { IsHeld (state_of self.old) }
+        requires valid { IsValid (state_of self.old) }
         requires other { is_relimited name.now quota.now (world_of self.old) ≡ true }
         ensures made { let command = AdminCommand.PutQuota name.now quota.now in
             MakesAdmin command self.old result self.new }
@@ -139,7 +140,7 @@ impl Parts {
 
     /// Makes the step that an administrator asks, or leaves the state as it is.
     pub fn admin(&mut self, secret: Option<&Text>, command: &AdminCommand) -> Result<Reply, Refusal>
-        requires { IsHeld (state_of self.old) }
+        requires { IsValid (state_of self.old) }
         ensures made { let step = Step.Admin (option_copied secret.entry) command.now in
             MakesStep step self.old result self.new }
         ensures index { IsIndexed self.old → IsIndexed self.new }

@@ -7,7 +7,8 @@ ghost use Rattle.ns_types.specs.Asking.Asks.{right_of};
 ghost use Rattle.ns_steps.specs.Served.{IsServedAsk};
 ghost use Rattle.ns_jobs.specs.Read.{only_reads};
 ghost use Rattle.ns_core.specs.Answering.{MakesAsk, MakesStep, PreparesAsk};
-ghost use Rattle.ns_core.specs.Held.{IsHeld, IsIndexed};
+ghost use Rattle.ns_types.specs.Validity.{IsValid};
+ghost use Rattle.ns_core.specs.Held.{IsIndexed};
 ghost use Rattle.ns_core.specs.Viewed.{state_of};
 
 use crate::parts::Parts;
@@ -36,7 +37,7 @@ impl Parts {
 
     /// Answers a command that only reads, by a secret that may.
     fn read(&self, namespace: &Text, command: &AskCommand) -> Result<Reply, Refusal>
-        requires held { IsHeld (state_of self.now) }
+        requires valid { IsValid (state_of self.now) }
         requires served { IsServedAsk command.now }
         requires reads { only_reads command.now ≡ true }
         ensures { MakesAsk namespace.now command.now self.now result self.now }
@@ -47,7 +48,7 @@ impl Parts {
 
     /// What a command that writes comes to, with what it changes, by a secret that may.
     fn prepare(&self, namespace: &Text, command: &AskCommand) -> Result<Prepared, Refusal>
-        requires held { IsHeld (state_of self.now) }
+        requires valid { IsValid (state_of self.now) }
         requires writes { only_reads command.now ≡ false }
         ensures { PreparesAsk namespace.now command.now self.now result }
     {
@@ -67,7 +68,7 @@ impl Parts {
 
     /// Makes the step of a command that writes, by a secret that may.
     fn write(&mut self, namespace: &Text, command: &AskCommand) -> Result<Reply, Refusal>
-        requires held { IsHeld (state_of self.old) }
+        requires valid { IsValid (state_of self.old) }
         requires writes { only_reads command.now ≡ false }
         ensures made { MakesAsk namespace.now command.now self.old result self.new }
         ensures index { IsIndexed self.old → IsIndexed self.new }
@@ -84,7 +85,7 @@ impl Parts {
         secret: Option<&Text>,
         command: &AskCommand,
     ) -> Result<Reply, Refusal>
-        requires held { IsHeld (state_of self.old) }
+        requires valid { IsValid (state_of self.old) }
         requires served { IsServedAsk command.now }
         ensures made { let step = Step.Ask namespace.now (option_copied secret.entry) command.now in
             MakesStep step self.old result self.new }

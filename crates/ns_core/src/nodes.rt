@@ -9,7 +9,8 @@ ghost use Rattle.ns_types.specs.Asking.Nodes.{pool_right_of};
 ghost use Rattle.ns_types.specs.State.Sums.{node_load};
 ghost use Rattle.ns_steps.specs.Served.{IsServedNode, only_reads, served_node};
 ghost use Rattle.ns_core.specs.Answering.{MakesNode, MakesStep, PreparesNode, ReadsPool};
-ghost use Rattle.ns_core.specs.Held.{IsHeld, IsIndexed};
+ghost use Rattle.ns_types.specs.Validity.{IsValid};
+ghost use Rattle.ns_core.specs.Held.{IsIndexed};
 ghost use Rattle.ns_core.specs.Viewed.{state_of, world_of};
 
 use crate::parts::{Parts, plain};
@@ -58,7 +59,7 @@ impl Parts {
 
     /// What a command that only reads comes to.
     fn read_in_pool(&self, pool: &Text, command: &NodeCommand) -> Result<Content, Refusal>
-        requires held { IsHeld (state_of self.now) }
+        requires valid { IsValid (state_of self.now) }
         requires index { IsIndexed self.now }
         requires served { IsServedNode command.now }
         requires reads { only_reads (served_node command.now) ≡ true }
@@ -73,7 +74,7 @@ impl Parts {
 
     /// Answers a command that only reads, by a secret that may.
     fn read_telling(&self, pool: &Text, command: &NodeCommand) -> Result<Reply, Refusal>
-        requires held { IsHeld (state_of self.now) }
+        requires valid { IsValid (state_of self.now) }
         requires index { IsIndexed self.now }
         requires served { IsServedNode command.now }
         requires reads { only_reads (served_node command.now) ≡ true }
@@ -85,7 +86,7 @@ impl Parts {
 
     /// What the live allocations on the node take together.
     fn load(&self, pool: &Text, node: &Text) -> Resources
-        requires held { IsHeld (state_of self.now) }
+        requires valid { IsValid (state_of self.now) }
         requires index { IsIndexed self.now }
         ensures { result ≡ node_load (world_of self.now) pool.now node.now }
     {
@@ -94,7 +95,7 @@ impl Parts {
 
     /// What it comes to that a node is up or goes down, by a secret that may.
     fn set_status(&self, pool: &Text, name: &Text, status: NodeStatus) -> Result<Prepared, Refusal>
-        requires held { IsHeld (state_of self.now) }
+        requires valid { IsValid (state_of self.now) }
         requires index { IsIndexed self.now }
         ensures { PreparesNode pool.now (NodeCommand.SetStatus name.now status) self.now result }
     {
@@ -106,7 +107,7 @@ impl Parts {
 
     /// What a command that writes comes to, with what it changes, by a secret that may.
     fn prepare_telling(&self, pool: &Text, command: &NodeCommand) -> Result<Prepared, Refusal>
-        requires held { IsHeld (state_of self.now) }
+        requires valid { IsValid (state_of self.now) }
         requires index { IsIndexed self.now }
         requires served { IsServedNode command.now }
         requires writes { only_reads (served_node command.now) ≡ false }
@@ -126,7 +127,7 @@ impl Parts {
 
     /// Makes the step of a command that writes, by a secret that may.
     fn write_telling(&mut self, pool: &Text, command: &NodeCommand) -> Result<Reply, Refusal>
-        requires held { IsHeld (state_of self.old) }
+        requires valid { IsValid (state_of self.old) }
         requires index { IsIndexed self.old }
         requires served { IsServedNode command.now }
         requires writes { only_reads (served_node command.now) ≡ false }
@@ -145,7 +146,7 @@ impl Parts {
         secret: Option<&Text>,
         command: &NodeCommand,
     ) -> Result<Reply, Refusal>
-        requires held { IsHeld (state_of self.old) }
+        requires valid { IsValid (state_of self.old) }
         requires index { IsIndexed self.old }
         requires served { IsServedNode command.now }
         ensures made { let step = Step.Node pool.now (option_copied secret.entry) command.now in

@@ -4,7 +4,8 @@ ghost use Rattle.std.specs.Prelude.{◌≡◌, IfOk, Some};
 ghost use Rattle.ns_types.specs.declared.step.Step.TheVariants as Step;
 ghost use Rattle.ns_broker.specs.Snapping.{kept_at};
 ghost use Rattle.ns_core.specs.Answering.{MakesStep};
-ghost use Rattle.ns_core.specs.Held.{IsHeld, IsIndexed, IsKept};
+ghost use Rattle.ns_types.specs.Validity.{IsValid};
+ghost use Rattle.ns_core.specs.Held.{IsIndexed, IsKept};
 ghost use Rattle.ns_core.specs.Viewed.{state_of, world_of};
 ghost use Rattle.ns_core.specs.Working.{MakesWork, snapped};
 
@@ -20,7 +21,7 @@ use ns_types::text::Text;
 impl Parts {
     /// Makes the step that was prepared, or leaves the state as it is.
     pub fn work(&mut self, prepared: Result<Prepared, Refusal>) -> Result<Reply, Refusal>
-        requires { IsHeld (state_of self.old) }
+        requires { IsValid (state_of self.old) }
         ensures made { MakesWork prepared self.old result self.new }
         ensures index { IsIndexed self.old → IsIndexed self.new }
     {
@@ -35,7 +36,7 @@ impl Parts {
         namespace: &Text,
         evaluation: u64,
     ) -> Result<Reply, Refusal>
-        requires { IsHeld (state_of self.old) }
+        requires { IsValid (state_of self.old) }
         ensures made { let step = Step.Dequeue worker namespace.now evaluation in
             MakesStep step self.old result self.new }
         ensures index { IsIndexed self.old → IsIndexed self.new }
@@ -61,7 +62,7 @@ impl Parts {
 
     /// Makes the step in which a worker gives its evaluation back, or leaves the state as it is.
     pub fn nack(&mut self, worker: u64, namespace: &Text) -> Result<Reply, Refusal>
-        requires { IsHeld (state_of self.old) }
+        requires { IsValid (state_of self.old) }
         ensures made { MakesStep (Step.Nack worker namespace.now) self.old result self.new }
         ensures index { IsIndexed self.old → IsIndexed self.new }
     {

@@ -12,8 +12,7 @@ use Rattle.ns_types.specs.declared.plan.Demand.{Demand}
 use Rattle.ns_types.specs.declared.resources.Resources.{Resources}
 use Rattle.ns_types.specs.declared.snapshot.OwnAllocation.{OwnAllocation}
 use Rattle.ns_types.specs.Placing.Wanted.{demands_from, group_size, missing}
-use Rattle.ns_types.specs.State.Resources.{plus, total}
-use Rattle.ns_place.specs.Amounts.{IsCounted}
+use Rattle.ns_types.specs.State.Resources.{IsCounted, plus, total}
 use Rattle.ns_schedule.specs.Fits.{is_counted, times}
 use Rattle.ns_schedule.proofs.Differences.{same_amounts}
 use Rattle.ns_schedule.proofs.Wants.{first_of_rest}

@@ -8,9 +8,8 @@ use Rattle.std.proofs.lemmas.List.Sums.{sum_by-append, sum_by-cons, sum_by-le-su
 use Rattle.ns_types.specs.declared.snapshot.LiveAllocation.{LiveAllocation}
 use Rattle.ns_types.specs.declared.resources.Resources.{Resources}
 use Rattle.ns_types.specs.Placing.Preemption.{evictable}
-use Rattle.ns_types.specs.State.Resources.{plus, minus, total}
+use Rattle.ns_types.specs.State.Resources.{IsCounted, minus, plus, total}
 use Rattle.ns_types.proofs.Sums.{sum_add, sum_filter, sum_kept}
-use Rattle.ns_place.specs.Amounts.{IsCounted}
 
 -- what is of the level a, and what is above it
 at_or_above : (a k n : ℕ) → cond (k == a) n 0 + cond (nat_le (a + 1) k) n 0 ≤ cond (nat_le a k) n 0

@@ -10,8 +10,7 @@ use Rattle.ns_types.specs.declared.snapshot.OwnAllocation.{OwnAllocation}
 use Rattle.ns_types.specs.declared.plan.Demand.{Demand}
 use Rattle.ns_types.specs.declared.resources.Resources.{Resources}
 use Rattle.ns_types.specs.Placing.Wanted.{demands_from, group_size, missing}
-use Rattle.ns_types.specs.State.Resources.{total}
-use Rattle.ns_place.specs.Amounts.{IsCounted}
+use Rattle.ns_types.specs.State.Resources.{IsCounted, total}
 
 -- what is repeated is within the whole
 repeated_within : (f : Resources → ℕ) (old rest : List Demand) (d : Demand) (m : ℕ)

@@ -1,8 +1,7 @@
 //! Sums and differences that may be past 64 bits or below zero, and what limits allow.
 
 ghost use Rattle.std.specs.Prelude.{◌≡◌, ◌+◌, ◌*◌, ◌<◌, ◌^◌, SomeIff};
-ghost use Rattle.ns_types.specs.State.Resources.{limit_allows, limits_allow, minus, plus};
-ghost use Rattle.ns_place.specs.Amounts.{IsCounted};
+ghost use Rattle.ns_types.specs.State.Resources.{IsCounted, limit_allows, limits_allow, minus, plus};
 ghost use Rattle.ns_schedule.specs.Fits.{times};
 
 use ns_types::resources::{Limit, Limits, Resources};

@@ -3,13 +3,12 @@
 ghost use Rattle.std.specs.Prelude.{◌≡◌, ◌≤◌, IfOk, IsTrue, filter, length, map, take};
 ghost use Rattle.ns_types.specs.Placing.Planning.{counts_for, eviction_of, placed_on};
 ghost use Rattle.ns_types.specs.Placing.Preemption.{makes_room};
-ghost use Rattle.ns_types.specs.State.Resources.{minus, plus, total};
-ghost use Rattle.ns_place.specs.Amounts.{IsCounted};
+ghost use Rattle.ns_types.specs.State.Resources.{IsCounted, minus, plus, total};
 
 use crate::amounts::less;
-use ns_place::{Candidate, plus};
+use ns_place::Candidate;
 use ns_types::plan::Eviction;
-use ns_types::resources::Resources;
+use ns_types::resources::{Resources, plus};
 use ns_types::rows::Rows;
 use ns_types::snapshot::{LiveAllocation, QuotaSeen};
 use std::alloc::{AllocError, Global};

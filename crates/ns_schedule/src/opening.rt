@@ -3,9 +3,8 @@
 ghost use Rattle.std.specs.Prelude.{◌≡◌, ◌==◌, IfOk, map};
 ghost use Rattle.std.specs.List.{All, list_any};
 ghost use Rattle.ns_types.specs.Placing.Plan.{candidate_of, is_among, staying, stays};
-ghost use Rattle.ns_types.specs.State.Resources.{minus, plus, total};
+ghost use Rattle.ns_types.specs.State.Resources.{IsCounted, minus, plus, total};
 ghost use Rattle.ns_types.specs.Validity.{seen_load};
-ghost use Rattle.ns_place.specs.Amounts.{IsCounted};
 
 use crate::amounts::less;
 use ns_place::{Candidate, feasible};

@@ -3,17 +3,16 @@
 ghost use Rattle.std.specs.Prelude.{◌≡◌, ◌<◌, ◌↔◌, IfOk, IsTrue, None, Some, length, take};
 ghost use Rattle.std.specs.List.{HoldsAt};
 ghost use Rattle.ns_types.specs.Placing.Planning.{place, placed_on, placed_one, update};
-ghost use Rattle.ns_types.specs.State.Resources.{plus, total};
-ghost use Rattle.ns_place.specs.Amounts.{IsCounted};
+ghost use Rattle.ns_types.specs.State.Resources.{IsCounted, plus, total};
 ghost use Rattle.ns_place.specs.Order.{IsOrder};
 ghost use Rattle.ns_schedule.specs.Chosen.{IsChosen, IsNext, IsRefused, IsWithin, site};
 
 use crate::amounts::limits_allow;
 use crate::choice::{Chosen, choose_with_victims};
 use crate::eviction::{GivenWay, give_way};
-use ns_place::{Candidate, Order, plus};
+use ns_place::{Candidate, Order};
 use ns_types::plan::{Demand, Placement, Placing};
-use ns_types::resources::Resources;
+use ns_types::resources::{Resources, plus};
 use ns_types::rows::Rows;
 use ns_types::snapshot::QuotaSeen;
 use std::alloc::{AllocError, Global};

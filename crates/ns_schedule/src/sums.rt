@@ -4,8 +4,7 @@ ghost use Rattle.std.specs.Prelude.{◌≡◌, SomeIff, unwrap_or};
 ghost use Rattle.std.specs.List.{list_all};
 ghost use Rattle.ns_types.specs.Placing.Plan.{no_quota};
 ghost use Rattle.ns_types.specs.Placing.Wanted.{demands, demands_from, group_size, missing};
-ghost use Rattle.ns_types.specs.State.Resources.{plus, total};
-ghost use Rattle.ns_place.specs.Amounts.{IsCounted};
+ghost use Rattle.ns_types.specs.State.Resources.{IsCounted, plus, total};
 ghost use Rattle.ns_schedule.specs.Fits.{fits, node_fits, quota_fits, times};
 
 use crate::amounts::{checked_more, checked_plus};

@@ -5,9 +5,8 @@ ghost use Rattle.std.specs.Prelude.{count_by, flat_map, map, replicate};
 ghost use Rattle.ns_types.specs.Placing.Wanted.{demands, done, group_size, is_current, is_of};
 ghost use Rattle.ns_types.specs.Placing.Wanted.{kept, live_ones, missing, outdated};
 ghost use Rattle.ns_types.specs.Placing.Wanted.{stopping, surplus};
-ghost use Rattle.ns_types.specs.State.Resources.{total};
+ghost use Rattle.ns_types.specs.State.Resources.{IsCounted, total};
 ghost use Rattle.ns_types.specs.State.Rows.{is_done, is_live};
-ghost use Rattle.ns_place.specs.Amounts.{IsCounted};
 
 use ns_types::allocation::{Allocation, ClientStatus, DesiredStatus};
 use ns_types::job::{Group, Job, JobKind};

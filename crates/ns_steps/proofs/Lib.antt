@@ -1,4 +1,2 @@
 pub mod Telling
 pub mod Reading
-pub mod Quiet
-pub mod Quieting

@@ -1,5 +1,4 @@
 pub mod Told
 pub mod Served
 pub mod Answers
-pub mod Quiet
 pub mod Laws

@@ -4,8 +4,7 @@ use Rattle.ns_types.specs.declared.snapshot.OwnAllocation.{OwnAllocation}
 use Rattle.ns_types.specs.declared.resources.Resources.{Resources}
 use Rattle.ns_types.specs.Placing.Plan.{staying, stays}
 use Rattle.ns_types.specs.Placing.Preemption.{evictable}
-use Rattle.ns_types.specs.State.Resources.{plus, total}
-use Rattle.ns_place.specs.Amounts.{IsCounted}
+use Rattle.ns_types.specs.State.Resources.{IsCounted, plus, total}
 use Rattle.ns_schedule.proofs.Levels.{opened_counted}
 use Rattle.ns_schedule.proofs.opening.candidate.Goals as goal
 

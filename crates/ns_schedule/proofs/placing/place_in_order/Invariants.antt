@@ -1,8 +1,7 @@
 -- The placements so far and what the rest would place make up the whole, the sums stay in range, and the order stands.
 use Rattle.std.proofs.Common.{◌≡◌, drop}
 use Rattle.ns_types.specs.Placing.Planning.{place}
-use Rattle.ns_types.specs.State.Resources.{plus, total}
-use Rattle.ns_place.specs.Amounts.{IsCounted}
+use Rattle.ns_types.specs.State.Resources.{IsCounted, plus, total}
 use Rattle.ns_place.specs.Order.{IsOrder}
 use Rattle.ns_schedule.specs.Chosen.{site, IsRefused}
 use Rattle.ns_schedule.proofs.Placings.{so_far}

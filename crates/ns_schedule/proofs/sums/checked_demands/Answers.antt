@@ -2,8 +2,7 @@ use Rattle.std.proofs.Common.{◌≡◌, ◌<◌, length, get_or, List, Option, 
 use Rattle.ns_types.specs.declared.job.Group.{Group}
 use Rattle.ns_types.specs.declared.resources.Resources.{Resources}
 use Rattle.ns_types.specs.Placing.Wanted.{demands_from}
-use Rattle.ns_types.specs.State.Resources.{plus, total}
-use Rattle.ns_place.specs.Amounts.{IsCounted}
+use Rattle.ns_types.specs.State.Resources.{IsCounted, plus, total}
 use Rattle.ns_schedule.proofs.Counts.{one_more, too_much}
 use Rattle.ns_schedule.proofs.sums.checked_demands.Goals as goal
 

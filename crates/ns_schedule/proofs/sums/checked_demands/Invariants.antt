@@ -1,7 +1,6 @@
 use Rattle.std.proofs.Common.{◌≡◌, drop}
 use Rattle.ns_types.specs.Placing.Wanted.{demands_from}
-use Rattle.ns_types.specs.State.Resources.{plus, total}
-use Rattle.ns_place.specs.Amounts.{IsCounted}
+use Rattle.ns_types.specs.State.Resources.{IsCounted, plus, total}
 use Rattle.ns_schedule.proofs.sums.checked_demands.Given as goal
 
 abbrev pub invariant-loop-group : goal.invariant-loop-group

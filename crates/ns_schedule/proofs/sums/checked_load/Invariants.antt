@@ -1,6 +1,5 @@
 use Rattle.std.proofs.Common.{◌≡◌, take}
-use Rattle.ns_types.specs.State.Resources.{plus, total}
-use Rattle.ns_place.specs.Amounts.{IsCounted}
+use Rattle.ns_types.specs.State.Resources.{IsCounted, plus, total}
 use Rattle.ns_schedule.proofs.sums.checked_load.Given as goal
 
 abbrev pub invariant-loop-a : goal.invariant-loop-a

@@ -2,8 +2,7 @@ use Rattle.std.proofs.Common.{Option, SomeIff, List, sym, subst, ◌∙◌}
 use Rattle.ns_types.specs.declared.job.Task.{Task}
 use Rattle.ns_types.specs.declared.resources.Resources.{Resources}
 use Rattle.ns_types.specs.Placing.Wanted.{missing, group_size}
-use Rattle.ns_types.specs.State.Resources.{plus, total}
-use Rattle.ns_place.specs.Amounts.{IsCounted}
+use Rattle.ns_types.specs.State.Resources.{IsCounted, plus, total}
 use Rattle.ns_schedule.specs.Fits.{times}
 use Rattle.ns_schedule.proofs.Counts.{one_counted}
 use Rattle.ns_schedule.proofs.sums.checked_missing.Goals as goal

@@ -1,6 +1,5 @@
 use Rattle.std.proofs.Common.{◌≡◌, take}
-use Rattle.ns_types.specs.State.Resources.{total}
-use Rattle.ns_place.specs.Amounts.{IsCounted}
+use Rattle.ns_types.specs.State.Resources.{IsCounted, total}
 use Rattle.ns_schedule.proofs.sums.checked_size.Given as goal
 
 abbrev pub invariant-loop-t : goal.invariant-loop-t

@@ -1,8 +1,7 @@
 use Rattle.std.proofs.Common.{◌≡◌, ◌<◌, [], Bool, cond, length, get_or, List, subst}
 use Rattle.ns_types.specs.declared.job.Group.{Group}
 use Rattle.ns_types.specs.Placing.Wanted.{demands_from}
-use Rattle.ns_types.specs.State.Resources.{total}
-use Rattle.ns_place.specs.Amounts.{IsCounted}
+use Rattle.ns_types.specs.State.Resources.{IsCounted, total}
 use Rattle.ns_schedule.proofs.Wants.{demands_more}
 use Rattle.ns_schedule.proofs.wanted.demands.Goals as goal
 

@@ -14,7 +14,7 @@ returns-in_err-content-clause-made c =
     let s = state_of c.args.self.now in
     let p = err_from_is_err_and c.from_residual.result c.from_residual.ensures.1 in
     rw (p.1, p.2) (administration_makes s (state_of c.administer.new.self) (option_copied c.args.secret) c.args.command.now
-    (Err c.in_err-content.field-0.0) c.requires.allowed (within s c.requires.held) c.requires.same c.in_err-content.ensures.made)
+    (Err c.in_err-content.field-0.0) c.requires.allowed (within s c.requires.valid) c.requires.same c.in_err-content.ensures.made)
 
 pub returns-in_err-content-clause-index : goal.returns-in_err-content-clause-index
 returns-in_err-content-clause-index c = index_stays (option_copied c.args.secret) c.args.command.now c.args.self.now c.administer.new.self
@@ -24,7 +24,7 @@ pub returns-clause-made : goal.returns-clause-made
 returns-clause-made c =
     let s = state_of c.args.self.now in
     administration_makes s (state_of c.administer.new.self) (option_copied c.args.secret) c.args.command.now
-    (Ok c.in_ok-content.content) c.requires.allowed (within s c.requires.held) c.requires.same c.in_ok-content.ensures.made
+    (Ok c.in_ok-content.content) c.requires.allowed (within s c.requires.valid) c.requires.same c.in_ok-content.ensures.made
     ∙ ap (λ reply. said (Ok reply) (state_of c.administer.new.self)) (sym c.plain.ensures)
 
 pub returns-clause-index : goal.returns-clause-index

@@ -19,22 +19,22 @@ abbrev PreparesBounded : Parts → Name → Result Prepared Refusal → AskComma
 PreparesBounded parts ns result command = Prepares (bounded (world_of parts) (ask ns command (world_of parts))) parts.tables result
 
 pub register-requires : goal.register-requires
-register-requires c = few_versions (state_of c.args.self.now) c.requires.held c.args.namespace.now
+register-requires c = few_versions (state_of c.args.self.now) c.requires.valid c.args.namespace.now
 
 pub stop_allocation-requires : goal.stop_allocation-requires
-stop_allocation-requires c = within (state_of c.args.self.now) c.requires.held
+stop_allocation-requires c = within (state_of c.args.self.now) c.requires.valid
 
 pub returns-in-Register : goal.returns-in-Register
 returns-in-Register c = prepares c.args.self.now c.args.namespace.now c.args.command.now c.register.result
     (subst (PreparesBounded c.args.self.now c.args.namespace.now c.register.result) (sym c.in-Register.is)
     (prepares_as _ _ c.args.self.now.tables c.register.result
-    (sym (counts (state_of c.args.self.now) c.requires.held c.args.namespace.now (AskCommand.Register c.in-Register.registration) refl)) c.register.ensures))
+    (sym (counts (state_of c.args.self.now) c.requires.valid c.args.namespace.now (AskCommand.Register c.in-Register.registration) refl)) c.register.ensures))
 
 pub returns-in-Deregister : goal.returns-in-Deregister
 returns-in-Deregister c = prepares c.args.self.now c.args.namespace.now c.args.command.now c.deregister.result
     (subst (PreparesBounded c.args.self.now c.args.namespace.now c.deregister.result) (sym c.in-Deregister.is)
     (prepares_as _ _ c.args.self.now.tables c.deregister.result
-    (sym (counts (state_of c.args.self.now) c.requires.held c.args.namespace.now (AskCommand.Deregister c.in-Deregister.id c.in-Deregister.purge) refl))
+    (sym (counts (state_of c.args.self.now) c.requires.valid c.args.namespace.now (AskCommand.Deregister c.in-Deregister.id c.in-Deregister.purge) refl))
     c.deregister.ensures))
 
 pub returns-in-StopAllocation : goal.returns-in-StopAllocation

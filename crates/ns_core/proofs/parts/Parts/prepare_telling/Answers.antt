@@ -7,13 +7,13 @@ use Rattle.ns_core.proofs.Telling.{prepares}
 use Rattle.ns_core.proofs.parts.Parts.prepare_telling.Goals as goal
 
 pub register_node-requires-clause-bounds : goal.register_node-requires-clause-bounds
-register_node-requires-clause-bounds c = within (state_of c.args.self.now) c.requires.held
+register_node-requires-clause-bounds c = within (state_of c.args.self.now) c.requires.valid
 
 pub remove_node-requires : goal.remove_node-requires
-remove_node-requires c = within (state_of c.args.self.now) c.requires.held
+remove_node-requires c = within (state_of c.args.self.now) c.requires.valid
 
 pub set_eligible-requires : goal.set_eligible-requires
-set_eligible-requires c = within (state_of c.args.self.now) c.requires.held
+set_eligible-requires c = within (state_of c.args.self.now) c.requires.valid
 
 pub returns-in-PutNode : goal.returns-in-PutNode
 returns-in-PutNode c = subst (λ (command : NodeCommand). PreparesNode c.args.pool.now command c.args.self.now c.register_node.result)

@@ -6,7 +6,7 @@ use Rattle.ns_core.specs.Answering.{ReadsPool}
 use Rattle.ns_core.specs.Viewed.{state_of}
 
 pub list_nodes-requires-clause-fits : goal.list_nodes-requires-clause-fits
-list_nodes-requires-clause-fits c = loads_of (state_of c.args.self.now) c.requires.held c.args.pool.now
+list_nodes-requires-clause-fits c = loads_of (state_of c.args.self.now) c.requires.valid c.args.pool.now
 
 pub returns-in-ReadPool : goal.returns-in-ReadPool
 returns-in-ReadPool c = subst (λ (command : NodeCommand). ReadsPool c.args.pool.now command c.args.self.now c.read_pool.result)

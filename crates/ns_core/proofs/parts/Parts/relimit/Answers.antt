@@ -7,7 +7,7 @@ use Rattle.ns_core.proofs.Keeping.{within}
 use Rattle.ns_core.proofs.parts.Parts.relimit.Goals as goal
 
 pub change_limits-prepared-requires-clause-bounds : goal.change_limits-prepared-requires-clause-bounds
-change_limits-prepared-requires-clause-bounds c = within (state_of c.args.self.now) c.requires.held
+change_limits-prepared-requires-clause-bounds c = within (state_of c.args.self.now) c.requires.valid
 
 pub returns-clause-made : goal.returns-clause-made
 returns-clause-made c = λ secret allowed. c.work.ensures.made (Step.Admin secret (AdminCommand.PutQuota c.args.name.now c.args.quota.now)) allowed refl

@@ -8,7 +8,7 @@ use Rattle.ns_core.proofs.Telling.{prepares}
 use Rattle.ns_core.proofs.parts.Parts.set_status.Goals as goal
 
 pub set_ready-requires : goal.set_ready-requires
-set_ready-requires c = within (state_of c.args.self.now) c.requires.held
+set_ready-requires c = within (state_of c.args.self.now) c.requires.valid
 
 pub returns-in-Ready : goal.returns-in-Ready
 returns-in-Ready c = subst
@@ -16,7 +16,7 @@ returns-in-Ready c = subst
     (sym c.in-Ready.is) (prepares c.args.self.now c.args.pool.now _ c.set_ready.result c.set_ready.ensures)
 
 pub set_down-requires-clause-bounds : goal.set_down-requires-clause-bounds
-set_down-requires-clause-bounds c = within (state_of c.args.self.now) c.requires.held
+set_down-requires-clause-bounds c = within (state_of c.args.self.now) c.requires.valid
 
 pub returns-in-Down : goal.returns-in-Down
 returns-in-Down c = subst

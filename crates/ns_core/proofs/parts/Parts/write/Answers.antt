@@ -8,7 +8,7 @@ use Rattle.ns_core.proofs.Keeping.{within}
 use Rattle.ns_core.proofs.parts.Parts.write.Goals as goal
 
 pub make-requires : goal.make-requires
-make-requires c = within (state_of c.args.self.now) c.requires.held
+make-requires c = within (state_of c.args.self.now) c.requires.valid
 
 pub returns-clause-made : goal.returns-clause-made
 returns-clause-made c = λ secret allowed. c.in_ok-content.ensures.made (Step.Ask c.args.namespace.now secret c.args.command.now) allowed

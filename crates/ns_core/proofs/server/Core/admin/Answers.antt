@@ -1,5 +1,5 @@
 use Rattle.std.specs.Prelude.{IsTrue}
-use Rattle.std.proofs.Common.{refl, sym, subst}
+use Rattle.std.proofs.Common.{sym, subst}
 use Rattle.std.specs.Option.{option_copied}
 use Rattle.ns_types.specs.declared.step.Step.TheVariants as Step
 use Rattle.ns_types.specs.Asking.Good.{is_good_admin}
@@ -8,12 +8,12 @@ use Rattle.ns_core.proofs.Keeping.{keeps}
 use Rattle.ns_core.proofs.server.Core.admin.Goals as goal
 
 pub admin-requires : goal.admin-requires
-admin-requires c = c.self.invariant.held
+admin-requires c = c.self.invariant.valid
 
 pub invariant_of-self : goal.invariant_of-self
 invariant_of-self c = record {
-  held = keeps (Step.Admin (option_copied c.args.secret) c.get.result.now) (state_of c.self.inside.parts) (state_of c.admin.new.self)
-      (subst (λ command. IsTrue (is_good_admin command)) (sym c.get.ensures.same) c.get.ensures.good) refl c.self.invariant.held c.admin.result
+  valid = keeps (Step.Admin (option_copied c.args.secret) c.get.result.now) (state_of c.self.inside.parts) (state_of c.admin.new.self)
+      (subst (λ command. IsTrue (is_good_admin command)) (sym c.get.ensures.same) c.get.ensures.good) c.self.invariant.valid c.admin.result
       c.admin.ensures.made;
   index = c.admin.ensures.index c.self.invariant.index;
 }

@@ -1,5 +1,5 @@
 use Rattle.std.specs.Prelude.{IsTrue}
-use Rattle.std.proofs.Common.{refl, sym, subst}
+use Rattle.std.proofs.Common.{sym, subst}
 use Rattle.std.specs.Option.{option_copied}
 use Rattle.ns_types.specs.declared.step.Step.TheVariants as Step
 use Rattle.ns_types.specs.Asking.Good.{is_good_ask}
@@ -7,12 +7,12 @@ use Rattle.ns_core.specs.Viewed.{state_of}
 use Rattle.ns_core.proofs.Keeping.{keeps}
 use Rattle.ns_core.proofs.server.Core.ask.Goals as goal
 
-pub ask-requires-clause-held : goal.ask-requires-clause-held
-ask-requires-clause-held c = c.self.invariant.held
+pub ask-requires-clause-valid : goal.ask-requires-clause-valid
+ask-requires-clause-valid c = c.self.invariant.valid
 
 pub invariant_of-self : goal.invariant_of-self
 invariant_of-self c = record {
-  held = keeps (Step.Ask c.args.namespace.now (option_copied c.args.secret) c.get.result.now) (state_of c.self.inside.parts) (state_of c.ask.new.self)
-      (subst (λ command. IsTrue (is_good_ask command)) (sym c.get.ensures.same) c.get.ensures.good) refl c.self.invariant.held c.ask.result c.ask.ensures.made;
+  valid = keeps (Step.Ask c.args.namespace.now (option_copied c.args.secret) c.get.result.now) (state_of c.self.inside.parts) (state_of c.ask.new.self)
+      (subst (λ command. IsTrue (is_good_ask command)) (sym c.get.ensures.same) c.get.ensures.good) c.self.invariant.valid c.ask.result c.ask.ensures.made;
   index = c.ask.ensures.index c.self.invariant.index;
 }

@@ -1,15 +1,15 @@
-use Rattle.std.proofs.Common.{refl}
+use Rattle.std.proofs.Common.{}
 use Rattle.ns_types.specs.declared.step.Step.TheVariants as Step
 use Rattle.ns_core.specs.Viewed.{state_of}
 use Rattle.ns_core.proofs.Keeping.{keeps}
 use Rattle.ns_core.proofs.server.Core.dequeue.Goals as goal
 
 pub dequeue-requires : goal.dequeue-requires
-dequeue-requires c = c.self.invariant.held
+dequeue-requires c = c.self.invariant.valid
 
 pub invariant_of-self : goal.invariant_of-self
 invariant_of-self c = record {
-  held = keeps (Step.Dequeue c.args.worker c.args.namespace.now c.args.evaluation) (state_of c.self.inside.parts) (state_of c.dequeue.new.self)
-      tt refl c.self.invariant.held c.dequeue.result c.dequeue.ensures.made;
+  valid = keeps (Step.Dequeue c.args.worker c.args.namespace.now c.args.evaluation) (state_of c.self.inside.parts) (state_of c.dequeue.new.self)
+      tt c.self.invariant.valid c.dequeue.result c.dequeue.ensures.made;
   index = c.dequeue.ensures.index c.self.invariant.index;
 }

@@ -1,4 +1,4 @@
-use Rattle.std.proofs.Common.{refl}
+use Rattle.std.proofs.Common.{}
 use Rattle.ns_types.specs.declared.step.Step.TheVariants as Step
 use Rattle.ns_core.specs.Viewed.{state_of}
 use Rattle.ns_core.specs.Working.{snapped}
@@ -10,7 +10,7 @@ snap-requires c = c.self.invariant
 
 pub invariant_of-self : goal.invariant_of-self
 invariant_of-self c = record {
-  held = keeps (Step.Snap c.args.worker c.args.namespace.now) (state_of c.self.inside.parts) (state_of c.snap.new.self)
-      tt refl c.self.invariant.held (snapped c.snap.result) c.snap.ensures.made;
+  valid = keeps (Step.Snap c.args.worker c.args.namespace.now) (state_of c.self.inside.parts) (state_of c.snap.new.self)
+      tt c.self.invariant.valid (snapped c.snap.result) c.snap.ensures.made;
   index = c.snap.ensures.index c.self.invariant.index;
 }
