@@ -5,7 +5,7 @@ use Rattle.ns_types.specs.declared.refusal.Refusal.TheVariants as Refusal
 use Rattle.ns_types.specs.declared.step.Step.{Step}
 use Rattle.ns_types.specs.State.Names.{Name}
 use Rattle.ns_types.specs.State.Rows.{State}
-use Rattle.ns_types.specs.Steps.{Answer, Makes, after, is_past_bound, said}
+use Rattle.ns_types.specs.Steps.{Answer, Makes, is_past_bound}
 use Rattle.ns_types.specs.Within.{IsGoodStep}
 use Rattle.ns_audit.proofs.Valid.{valid_step}
 use Rattle.ns_jobs.specs.Counted.{HasFewVersionsIn}

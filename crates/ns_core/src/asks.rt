@@ -15,7 +15,7 @@ use crate::parts::Parts;
 use crate::rights::has_any;
 use ns_change::Prepared;
 use ns_types::refusal::Refusal;
-use ns_types::reply::{Content, Reply};
+use ns_types::reply::Reply;
 use ns_types::step::AskCommand;
 use ns_types::text::Text;
 

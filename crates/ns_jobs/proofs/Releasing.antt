@@ -39,7 +39,8 @@ use Rattle.ns_release.specs.Released.{does_wake}
 use Rattle.ns_bounds.specs.Bounds.{is_at_bound, passes_in, places_pass, quota_passes, room_passes, shows_awake}
 use Rattle.ns_bounds.specs.Bounds.{tenant_passes, touches_asleep, waking_passes}
 use Rattle.ns_bounds.specs.Given.{given_limits_pass}
-use Rattle.ns_release.specs.Released.{ended_in, ended_of, ended_one, ended_rows, in_pool, is_woken, quota_left, quota_relimited, released_quotas, released_rooms}
+use Rattle.ns_release.specs.Released.{ended_in, ended_of, ended_one, ended_rows, in_pool, is_woken, quota_left, quota_relimited, released_quotas}
+use Rattle.ns_release.specs.Released.{released_rooms}
 use Rattle.ns_release.specs.Released.{releases_wake_at, room_left, rooms_left, rooms_of_pool}
 use Rattle.ns_bounds.specs.Given.{given_room_passes}
 use Rattle.ns_bounds.proofs.Indexes.{past_bound_is}
@@ -221,7 +222,8 @@ module _ (w : World) (ns : Name) (t : Tenant) (at : get w.tenants ns ≡ Some t)
 
       by : (q : Name) (b : Bool) → eq_by_cmp name_cmp q ns ≡ b → option_map (λ x. perhaps changed_tenant (row_at alone.tenants q) x) (get w.tenants q)
           ≡ cond b (Some after) (get w.tenants q)
-      by q true is = (λ i. option_map (λ x. perhaps changed_tenant (row q true is i) x) ((ap (get w.tenants) (tied one_name q ns is) ∙ at) i)) ∙ ap Some after_is
+      by q true is = (λ i. option_map (λ x. perhaps changed_tenant (row q true is i) x) ((ap (get w.tenants) (tied one_name q ns is) ∙ at) i))
+          ∙ ap Some after_is
       by q false is = ap (λ r. option_map (λ x. perhaps changed_tenant r x) (get w.tenants q)) (row q false is) ∙ idle (get w.tenants q)
 
   ready_is : changed_list w.ready alone.ready ≡ w.ready ++ added put_after (ns, next)

@@ -1,5 +1,6 @@
 -- A node that goes down, as one change of the world: the rows of each namespace, and the node.
-use Rattle.std.specs.Prelude.{◌≡◌, ℕ, ◌+◌, Bool, true, false, cond, not, ◌||◌, List, [], ◌∷◌, ◌++◌, Option, Some, None, filter, fold, is_some, length}
+use Rattle.std.specs.Prelude.{◌≡◌, ℕ, ◌+◌, Bool, true, false, cond, not, ◌||◌, List, [], ◌∷◌, ◌++◌, Option, Some, None, filter, fold, is_some}
+use Rattle.std.specs.Prelude.{length}
 use Rattle.std.specs.Prelude.{option_map, unwrap_or}
 use Rattle.std.proofs.Common.{refl, sym, ap, ◌∙◌, arith, Ordering}
 use Rattle.std.proofs.lemmas.List.{append-nil, length-map}
@@ -116,7 +117,8 @@ renewed_none [] ns t none = refl
 renewed_none (loss ∷ losses) ns t none = by (same_name ns loss.0) none (renewed_none losses ns t)
   where
     by : (b : Bool) → length (cond b (loss ∷ filter (λ loss. same_name ns loss.0) losses) (filter (λ loss. same_name ns loss.0) losses)) ≡ 0 →
-        (own ns losses ≡ 0 → renewed_in losses ns t ≡ t) → renewed_in losses ns (cond b (with_evaluation (evaluation_for t loss.1 Trigger.NodeUpdate) t) t) ≡ t
+        (own ns losses ≡ 0 → renewed_in losses ns t ≡ t) →
+        renewed_in losses ns (cond b (with_evaluation (evaluation_for t loss.1 Trigger.NodeUpdate) t) t) ≡ t
     by true is later = absurd (omega arith)
     by false is later = later is
 
@@ -173,7 +175,8 @@ or_true : (b : Bool) → (b || true) ≡ true
 or_true true = refl
 or_true false = refl
 
-none_left : (base keys : List Key) → ((k : Key) → has_key keys k ≡ true → has_key base k ≡ true) → filter (λ key. not (has_key base key)) keys ≡ []
+none_left : (base keys : List Key) → ((k : Key) → has_key keys k ≡ true → has_key base k ≡ true)
+    → filter (λ key. not (has_key base key)) keys ≡ []
 none_left base [] inside = refl
 none_left base (key ∷ keys) inside =
     ap (λ b. cond (not b) (key ∷ filter (λ key. not (has_key base key)) keys) (filter (λ key. not (has_key base key)) keys))
@@ -214,7 +217,8 @@ module _ (w : World) (pool name : Name) (p : PoolRows) (at : get w.pools pool �
   then_keeps : {A : Type 0} (part : World → A) → ((w : World) (keys : List Key) → part (record w { ready = keys }) ≡ part w) →
       ((w : World) (m : ByName Tenant) → part (record w { tenants = m }) ≡ part w) → part then_world ≡ part with_down
   unfolding go_down
-  then_keeps part ready tenants = renewed_keeps part ready tenants w (losses pool name w) (lose pool name with_down) ∙ tenants with_down (lose pool name with_down).tenants
+  then_keeps part ready tenants = renewed_keeps part ready tenants w (losses pool name w) (lose pool name with_down)
+      ∙ tenants with_down (lose pool name with_down).tenants
 
   abbrev pub whole : Name → Tenant → TenantChange
   whole ns t = record {

@@ -3,7 +3,7 @@
 ghost use Rattle.std.specs.Prelude.{◌≡◌, IfOk, Some, map};
 ghost use Rattle.std.specs.FinMap.{get};
 ghost use Rattle.ns_types.specs.State.Rows.{Tenant};
-ghost use Rattle.ns_types.specs.Working.Commit.{done, no_part, nodes_in};
+ghost use Rattle.ns_types.specs.Working.Commit.{done, nodes_in};
 ghost use Rattle.ns_plan.specs.Looks.{AreCounted, IsChecked};
 
 use crate::after::has_number;

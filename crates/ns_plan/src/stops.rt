@@ -2,8 +2,6 @@
 
 ghost use Rattle.std.specs.Prelude.{◌≡◌, IfOk, false, filter, option_copied};
 ghost use Rattle.std.specs.Option.{option_map_or};
-ghost use Rattle.ns_types.specs.State.Lists.{first_each};
-ghost use Rattle.ns_types.specs.State.Names.{same_number};
 ghost use Rattle.ns_types.specs.State.Rows.{allocation_at, is_live};
 ghost use Rattle.ns_types.specs.Working.Commit.{has_ended, same_version, still_stands};
 

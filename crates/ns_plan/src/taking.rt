@@ -1,6 +1,6 @@
 //! Whether a node can do its part of a plan.
 
-ghost use Rattle.std.specs.Prelude.{◌≡◌, List, map};
+ghost use Rattle.std.specs.Prelude.{◌≡◌, map};
 ghost use Rattle.ns_types.specs.declared.plan.Placement.{Placement};
 ghost use Rattle.ns_types.specs.declared.resources.Resources.{Resources};
 ghost use Rattle.ns_types.specs.Placing.Plan.{constraints_of};

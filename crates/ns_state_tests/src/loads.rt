@@ -21,7 +21,7 @@ use ns_types::resources::Resources;
 use ns_types::rows::Rows;
 use ns_types::text::Text;
 use ns_world::{Tables, TenantRows};
-use std::alloc::{AllocError, Global};
+use std::alloc::AllocError;
 use std::test::Fail;
 
 // ---- what is live on the node

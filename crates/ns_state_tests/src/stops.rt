@@ -13,7 +13,7 @@ use ns_types::allocation::DesiredStatus;
 use ns_types::refusal::Refusal;
 use ns_types::text::Text;
 use ns_world::Tables;
-use std::alloc::{AllocError, Global};
+use std::alloc::AllocError;
 use std::test::Fail;
 
 /// The namespace "a" comes in, with an allocation on the node "x". Either the quota "q" limits it, which has had so many

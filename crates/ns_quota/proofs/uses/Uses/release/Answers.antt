@@ -9,7 +9,8 @@ use Rattle.ns_quota.proofs.uses.Uses.release.Goals as goal
 
 pub returns-then-left-eq0-2-clause-total : goal.returns-then-left-eq0-2-clause-total
 returns-then-left-eq0-2-clause-total c = dropped c.self.inside.totals c.args.self.now c.self.view_is c.args.quota.now c.remove.new.self _ c.remove.ensures
-    (sym (c.minus-left.ensures ∙ ap (λ used. minus used c.args.amount) c.use_of-used.ensures) ∙ (λ i. record { cpu = c.if-left-eq0.true i; memory = c.if-left-eq0-2.true i }))
+    (sym (c.minus-left.ensures ∙ ap (λ used. minus used c.args.amount) c.use_of-used.ensures)
+    ∙ (λ i. record { cpu = c.if-left-eq0.true i; memory = c.if-left-eq0-2.true i }))
 
 pub returns-in-Some-clause-total : goal.returns-in-Some-clause-total
 returns-in-Some-clause-total c = set_over c.self.inside.totals c.args.self.now c.self.view_is c.args.quota.now _ _
