@@ -30,8 +30,11 @@ next_is q d xs used now_used node n x y gone inside reads chosen gone_is used_is
     update_is (placed_on d.size (take n x.evictable)) xs node x inside reads in
     ap (option_map (λ (c : Choice). (placement_of d c, after q d.size c (site xs used)))) chosen.chosen
     ∙ rw (gone_is, used_is, y_is)
-    (ap (λ (ys : List Candidate). Some (placement_of d ch, site ys
-    (minus (plus used d.size) (total (λ a. a.size) (filter (counts_for q) ch.victims))))) changed)
+    (ap (λ (ys : List Candidate). Some (
+      placement_of d ch,
+      site ys
+          (minus (plus used d.size) (total (λ a. a.size) (filter (counts_for q) ch.victims))),
+    )) changed)
 
 -- what a placement makes of the candidates
 pub changed_at : (size : Resources) (xs : List Candidate) (node n : ℕ) (x y : Candidate) → node < length xs → x ≡ get_or xs node x
