@@ -1,0 +1,30 @@
+//! The test, and values without parts.
+
+ghost use Rattle.std.specs.Prelude.{◌≡◌, ◌↔◌, IsTrue};
+
+use ns_types::text::{Text, same_text};
+
+/// Values that can be told apart exactly where contracts tell them apart.
+pub trait Equal {
+    /// Whether both are the same value.
+    fn equal(&self, other: &Self) -> bool
+        ensures { IsTrue result ↔ (self.now ≡ other.now) };
+}
+
+impl Equal for u64 {
+    fn equal(&self, other: &u64) -> bool {
+        *self == *other
+    }
+}
+
+impl Equal for bool {
+    fn equal(&self, other: &bool) -> bool {
+        if *self { *other } else { !*other }
+    }
+}
+
+impl Equal for Text {
+    fn equal(&self, other: &Text) -> bool {
+        same_text(self, other)
+    }
+}
