@@ -4,7 +4,7 @@ ghost use Rattle.std.specs.Prelude.{◌≡◌, ◌↔◌, IsTrue};
 
 use ns_types::text::{Text, same_text};
 
-/// Values that can be told apart exactly where contracts tell them apart.
+/// Values of which a program can tell whether contracts see the same in them.
 pub trait Equal {
     /// Whether both are the same value.
     fn equal(&self, other: &Self) -> bool
