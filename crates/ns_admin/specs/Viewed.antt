@@ -12,7 +12,7 @@ use Rattle.ns_types.specs.declared.reply.Content.{Content}
 use Rattle.ns_types.specs.declared.reply.NamespaceShown.{NamespaceShown}
 use Rattle.ns_types.specs.declared.reply.PoolShown.{PoolShown}
 use Rattle.ns_types.specs.declared.reply.QuotaShown.{QuotaShown}
-use Rattle.ns_types.specs.declared.worker.Worker.{Worker}
+use Rattle.ns_types.specs.Working.Worker.{Worker}
 use Rattle.ns_types.specs.Access.Sharing.{is_confined, overlaps, permits}
 use Rattle.ns_types.specs.Asking.Admins.{forbids_put, has_live, has_open, looks_to_pool, names_pool}
 use Rattle.ns_types.specs.Asking.Admins.{with_namespace, with_pool, with_quota}

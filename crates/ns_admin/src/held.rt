@@ -89,7 +89,7 @@ fn is_open_in(slot: &EvaluationSlot, asked: &Asked) -> bool
 fn keeps_in(worker: &Worker, asked: &Asked) -> bool
     ensures { result ≡ option_map_or (λ kept. passes asked.now kept.pool) worker.now.kept false }
 {
-    match &worker.kept {
+    match worker.kept() {
         Some(kept) => asked.passes(&kept.get().pool),
         None => false,
     }

@@ -8,7 +8,7 @@ use Rattle.ns_types.specs.declared.evaluation.Status.TheVariants as Status
 use Rattle.ns_types.specs.declared.job.Job.{Job}
 use Rattle.ns_types.specs.declared.records.Namespace.{Namespace}
 use Rattle.ns_types.specs.declared.snapshot.Snapshot.{Snapshot}
-use Rattle.ns_types.specs.declared.worker.Worker.{Worker}
+use Rattle.ns_types.specs.Working.Worker.{Worker}
 use Rattle.ns_types.specs.State.Names.{Name, has_key}
 use Rattle.ns_types.specs.State.Rows.{State, World, Tenant, is_open, is_live}
 use Rattle.ns_types.specs.Access.Sharing.{permits}

@@ -9,7 +9,7 @@ use Rattle.ns_types.specs.declared.step.AdminCommand.{AdminCommand}
 use Rattle.ns_types.specs.declared.step.AskCommand.{AskCommand}
 use Rattle.ns_types.specs.declared.step.NodeCommand.{NodeCommand}
 use Rattle.ns_types.specs.declared.step.Step.{Step}
-use Rattle.ns_types.specs.declared.worker.Worker.{Worker}
+use Rattle.ns_types.specs.Working.Worker.{Worker}
 use Rattle.ns_types.specs.Asking.Policies.{administer, with_acl, with_world, secret_of}
 use Rattle.ns_types.specs.Asking.Admins.{put_namespace, delete_namespace, put_quota, delete_quota, put_pool_record, delete_pool}
 use Rattle.ns_types.specs.Asking.Asks.{ask, asked_in, first_refusal, has_no_room, is_outdated, pool_of}

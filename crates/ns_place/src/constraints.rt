@@ -28,7 +28,8 @@ fn attribute_of<'a>(node: &'a Node, key: &Text) -> Option<&'a Text>
     Some(&found.value)
 }
 
-fn holds(name: &Text, node: &Node, constraint: &Constraint) -> bool
+/// Whether the constraint is met on the node of that name. It takes no memory.
+pub fn holds(name: &Text, node: &Node, constraint: &Constraint) -> bool
     ensures { result ≡ holds name.now node.now constraint.now }
 {
     let text = &constraint.value;

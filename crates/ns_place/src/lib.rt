@@ -10,5 +10,5 @@ mod order;
 
 pub use candidate::Candidate;
 pub use choice::best_node;
-pub use constraints::feasible;
+pub use constraints::{feasible, holds};
 pub use order::Order;

@@ -4,7 +4,6 @@
 mod amounts;
 mod choice;
 mod eviction;
-mod followers;
 pub mod laws;
 mod opening;
 mod placing;
@@ -12,5 +11,4 @@ mod planned;
 mod sums;
 mod wanted;
 
-pub use followers::escapes;
-pub use planned::{Planned, plan};
+pub use planned::plan;

@@ -2,8 +2,7 @@
 
 ghost use Rattle.std.specs.Prelude.{◌≡◌, IfOk, IsOkUnless, IsTrue, OnOk, Some, if◌then◌else◌, map};
 ghost use Rattle.ns_types.specs.declared.refusal.Refusal.TheVariants.{Full, Memory};
-ghost use Rattle.ns_types.specs.Placing.Plan.{does_nothing, is_short, no_quota, opening};
-ghost use Rattle.ns_types.specs.Placing.Plan.{placing_of, plan, quota_of};
+ghost use Rattle.ns_types.specs.Placing.Plan.{no_quota, opening, placing_of, plan, quota_of};
 ghost use Rattle.ns_types.specs.Placing.Planning.{all_placed, place};
 ghost use Rattle.ns_types.specs.Placing.Wanted.{demands};
 ghost use Rattle.ns_schedule.specs.Fits.{fits};
@@ -15,6 +14,7 @@ use crate::wanted::{demands, stopping};
 use ns_place::Order;
 use ns_types::job::Job;
 use ns_types::plan::{Placing, Plan};
+use ns_types::planned::Planned;
 use ns_types::refusal::Refusal;
 use ns_types::resources::{Limit, Limits, Resources};
 use ns_types::rows::Rows;
@@ -22,7 +22,6 @@ use ns_types::shared::Shared;
 use ns_types::snapshot::{OwnAllocation, QuotaSeen, Snapshot};
 use ns_types::text::Text;
 use std::alloc::{AllocError, Global};
-use std::marker::Model;
 
 fn numbers(alloc: Global, stops: &[&OwnAllocation]) -> Result<Rows<u64>, AllocError>
     ensures { IfOk result (λ rows. rows ≡ map (λ a. a.number) (map (λ a. a.now) stops.now)) }
@@ -111,53 +110,13 @@ fn plan_of(alloc: Global, snapshot: &Snapshot) -> Result<Plan, AllocError>
     Ok(Plan { stops, placing })
 }
 
-/// A snapshot with its plan. Contracts see the snapshot, which determines the plan.
-#[derive(Drop)]
-pub struct Planned {
-    snapshot: Shared<Snapshot>,
-    made: Plan,
-}
-
-impl Model for Planned {
-    ghost use Rattle.std.specs.Prelude.{◌≡◌};
-    ghost use Rattle.ns_types.specs.declared.snapshot.Snapshot.{Snapshot};
-    ghost use Rattle.ns_types.specs.Placing.Plan.{plan};
-
-    ghost Value = { Snapshot };
-
-    ghost view = { λ p. p.snapshot };
-
-    ghost invariant = { λ p. p.made ≡ plan p.snapshot };
-}
-
-impl Planned {
-    /// What the plan was made from.
-    pub fn snapshot(&self) -> &Shared<Snapshot>
-        ensures { result.now ≡ self.now }
-    {
-        &self.snapshot
-    }
-
-    /// Its stops by number, and its placements by the places of groups and nodes in the snapshot.
-    pub fn plan(&self) -> &Plan
-        ensures { result.now ≡ plan self.now }
-    {
-        &self.made
-    }
-
-    /// Whether the plan neither stops nor places. It takes no memory.
-    pub fn does_nothing(&self) -> bool
-        ensures { result ≡ does_nothing (plan self.now) }
-    {
-        self.made.stops.as_slice().is_empty() && self.made.placing.placements.as_slice().is_empty()
-    }
-
-    /// Whether something was missing and not placed. It takes no memory.
-    pub fn is_short(&self) -> bool
-        ensures { result ≡ is_short (plan self.now) }
-    {
-        self.made.placing.quota_limited || self.made.placing.class_limited
-    }
+/// The plan, for all that are to own it.
+fn shared_plan(alloc: Global, snapshot: &Snapshot) -> Result<Shared<Plan>, AllocError>
+    requires { IsTrue (fits snapshot.now) }
+    ensures { IfOk result (λ p. p ≡ plan snapshot.now) }
+{
+    let plan = plan_of(alloc, snapshot)?;
+    Shared::new(alloc, plan)
 }
 
 /// The stops, and then the missing allocations placed in what the stops leave. `Full`: a sum that it takes does not fit
@@ -172,8 +131,8 @@ pub fn plan(alloc: Global, snapshot: Shared<Snapshot>) -> Result<Planned, Refusa
         drop(snapshot);
         return Err(Refusal::Full);
     }
-    match plan_of(alloc, snapshot.get()) {
-        Ok(made) => Ok(Planned { snapshot, made }),
+    match shared_plan(alloc, snapshot.get()) {
+        Ok(made) => Ok(Planned::new(snapshot, made)),
         Err(_) => {
             drop(snapshot);
             Err(Refusal::Memory)

@@ -13,6 +13,7 @@ pub mod laws;
 pub mod name;
 pub mod node;
 pub mod plan;
+pub mod planned;
 pub mod records;
 pub mod refusal;
 pub mod reply;

@@ -14,7 +14,7 @@ use Rattle.ns_types.specs.declared.plan.Plan.{Plan}
 use Rattle.ns_types.specs.declared.reply.Content.TheVariants as Content
 use Rattle.ns_types.specs.declared.resources.Resources.{Resources}
 use Rattle.ns_types.specs.declared.snapshot.Snapshot.{Snapshot}
-use Rattle.ns_types.specs.declared.worker.Worker.{Worker}
+use Rattle.ns_types.specs.Working.Worker.{Worker}
 use Rattle.ns_types.specs.Working.Commit.{still_stands, live_stops, stop_all, node_name, nodes_in, part_of, size_of, victims_of, evict_all, quota_allows}
 use Rattle.ns_types.specs.Working.Commit.{Commit, begun, accepts_at, decide, new_allocation, with_allocation, with_place, counted, place_with, place_one}
 use Rattle.ns_types.specs.Working.Commit.{committed_placements, place_all, Victim, victim_at, evicted_rows, same_victim_job, least_of_job, make_up, Applied}

@@ -17,7 +17,7 @@ use Rattle.ns_types.specs.declared.step.AskCommand.{AskCommand}
 use Rattle.ns_types.specs.declared.step.NodeCommand.{NodeCommand}
 use Rattle.ns_types.specs.declared.step.Report.{Report}
 use Rattle.ns_types.specs.declared.step.Step.{Step}
-use Rattle.ns_types.specs.declared.worker.Worker.{Worker}
+use Rattle.ns_types.specs.Working.Worker.{Worker}
 use Rattle.ns_types.specs.Asking.Asks.{deregistered, asked_in, ask, first_refusal}
 use Rattle.ns_types.specs.Working.Commit.{Commit, decide, place_one, commit, applied_worker, applied, apply_for, apply}
 use Rattle.ns_types.specs.Isolation.{namespace_at}

@@ -8,7 +8,7 @@ use Rattle.ns_types.specs.declared.evaluation.Status.TheVariants as Status
 use Rattle.ns_types.specs.declared.reply.Content.TheVariants as Content
 use Rattle.ns_types.specs.declared.snapshot.Snapshot.{Snapshot}
 use Rattle.ns_types.specs.declared.worker.Phase.TheVariants as Phase
-use Rattle.ns_types.specs.declared.worker.Worker.{Worker}
+use Rattle.ns_types.specs.Working.Worker.{Worker}
 use Rattle.ns_types.specs.Isolation.{Part, alone_in}
 use Rattle.ns_types.specs.Settling.Making.{put_tenant, with_status}
 use Rattle.ns_types.specs.State.Names.{Name, Key, same_key}

@@ -8,7 +8,7 @@ use Rattle.ns_types.specs.declared.evaluation.Evaluation.{Evaluation}
 use Rattle.ns_types.specs.declared.evaluation.Status.{Status}
 use Rattle.ns_types.specs.declared.reply.Content.TheVariants as Content
 use Rattle.ns_types.specs.declared.snapshot.Snapshot.{Snapshot}
-use Rattle.ns_types.specs.declared.worker.Worker.{Worker}
+use Rattle.ns_types.specs.Working.Worker.{Worker}
 use Rattle.ns_types.specs.Settling.Making.{put_tenant, with_status, with_evaluation}
 use Rattle.ns_types.specs.State.Names.{Name, same_name, same_key, has_key}
 use Rattle.ns_types.specs.Settling.Outcome.{NotEnabled, Done}

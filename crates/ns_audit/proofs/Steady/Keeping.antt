@@ -11,7 +11,7 @@ use Rattle.ns_types.specs.declared.allocation.Allocation.{Allocation}
 use Rattle.ns_types.specs.declared.evaluation.Evaluation.{Evaluation}
 use Rattle.ns_types.specs.declared.evaluation.Status.TheVariants as Status
 use Rattle.ns_types.specs.declared.job.Job.{Job}
-use Rattle.ns_types.specs.declared.worker.Worker.{Worker}
+use Rattle.ns_types.specs.Working.Worker.{Worker}
 use Rattle.ns_types.specs.Settling.Making.{put_tenant, with_evaluation, make_in}
 use Rattle.ns_types.specs.State.Names.{Name, Key, ByName, ByNumber, same_name, same_key, has_key}
 use Rattle.ns_types.specs.Working.Queue.{queue, is_busy, is_of_job}

@@ -14,7 +14,7 @@ use Rattle.ns_types.specs.declared.refusal.Refusal.TheVariants as Refusal
 use Rattle.ns_types.specs.declared.reply.Content.TheVariants as Content
 use Rattle.ns_types.specs.declared.snapshot.Snapshot.{Snapshot}
 use Rattle.ns_types.specs.declared.step.AskCommand.{AskCommand}
-use Rattle.ns_types.specs.declared.worker.Worker.{Worker}
+use Rattle.ns_types.specs.Working.Worker.{Worker}
 use Rattle.ns_types.specs.Asking.Asks.{first_refusal, document_of, registered_job, register, deregistered, deregister_job, asked_in, ask}
 use Rattle.ns_types.specs.Settling.Making.{put_tenant, with_job, with_status, with_desired, with_evaluation, evaluation_of, evaluation_for, make_in}
 use Rattle.ns_types.specs.State.Names.{Name, Key, ByName, ByNumber}

@@ -13,7 +13,7 @@ use Rattle.ns_types.specs.declared.plan.Eviction.{Eviction}
 use Rattle.ns_types.specs.declared.plan.Placement.{Placement}
 use Rattle.ns_types.specs.declared.plan.Plan.{Plan}
 use Rattle.ns_types.specs.declared.snapshot.Snapshot.{Snapshot}
-use Rattle.ns_types.specs.declared.worker.Worker.{Worker}
+use Rattle.ns_types.specs.Working.Worker.{Worker}
 use Rattle.ns_types.specs.Working.Commit.{still_stands, live_stops, stop_all, node_name, nodes_in, counts, evict}
 use Rattle.ns_types.specs.Working.Commit.{evict_all, Commit, begun, decide, new_allocation, with_allocation, with_place, place_with, place_one}
 use Rattle.ns_types.specs.Working.Commit.{committed_placements, place_all, Victim, evicted_rows, same_victim_job, least_of_job, make_up, Applied}

@@ -15,7 +15,7 @@ use Rattle.ns_types.specs.declared.plan.Plan.{Plan}
 use Rattle.ns_types.specs.declared.reply.Content.TheVariants as Content
 use Rattle.ns_types.specs.declared.snapshot.Snapshot.{Snapshot}
 use Rattle.ns_types.specs.declared.worker.Phase.TheVariants as Phase
-use Rattle.ns_types.specs.declared.worker.Worker.{Worker}
+use Rattle.ns_types.specs.Working.Worker.{Worker}
 use Rattle.ns_types.specs.Working.Commit.{still_stands, live_stops, stop_all, node_name, nodes_in, evict, evict_all, Commit}
 use Rattle.ns_types.specs.Working.Commit.{begun, decide, new_allocation, with_allocation, with_place, place_with, place_one, committed_placements}
 use Rattle.ns_types.specs.Working.Commit.{place_all, Victim, evicted_rows, same_victim_job, least_of_job, make_up, Applied, refused_whole, done_with, done}

@@ -10,7 +10,7 @@ use Rattle.ns_types.specs.declared.records.Quota.{Quota}
 use Rattle.ns_types.specs.declared.snapshot.QuotaSeen.{QuotaSeen}
 use Rattle.ns_types.specs.declared.snapshot.Snapshot.{Snapshot}
 use Rattle.ns_types.specs.declared.step.AdminCommand.{AdminCommand}
-use Rattle.ns_types.specs.declared.worker.Worker.{Worker}
+use Rattle.ns_types.specs.Working.Worker.{Worker}
 use Rattle.ns_types.specs.Asking.Policies.{with_world, with_acl, administer}
 use Rattle.ns_types.specs.Asking.Admins.{has_open, new_tenant, with_namespace, put_namespace, delete_namespace, with_quota, put_quota, delete_quota, read_quota}
 use Rattle.ns_types.specs.Asking.Admins.{with_pool, put_pool_record, names_pool, looks_to_pool, is_pool_in_use, delete_pool}

@@ -5,7 +5,7 @@ use Rattle.std.specs.FinMap.{get, entries, insert, remove}
 use Rattle.std.specs.List.{list_any}
 use Rattle.std.specs.Option.{option_map_or, option_and_then}
 use Rattle.ns_types.specs.declared.evaluation.Evaluation.{Evaluation}
-use Rattle.ns_types.specs.declared.worker.Worker.{Worker}
+use Rattle.ns_types.specs.Working.Worker.{Worker}
 use Rattle.ns_types.specs.State.Names.{Name, Key, ByNumber, same_name, same_key, has_key}
 use Rattle.ns_types.specs.Working.Queue.{is_of_job, is_busy, queue, first_waiting, promote}
 use Rattle.ns_types.specs.State.Rows.{World, Tenant, is_pending}

@@ -8,7 +8,7 @@ use Rattle.std.specs.FinMap.Entries.{is_sorted, below_all}
 use Rattle.std.specs.List.{list_any}
 use Rattle.std.specs.Ordering.{nat_cmp}
 use Rattle.ns_types.specs.declared.evaluation.Evaluation.{Evaluation}
-use Rattle.ns_types.specs.declared.worker.Worker.{Worker}
+use Rattle.ns_types.specs.Working.Worker.{Worker}
 use Rattle.ns_types.specs.State.Lists.{Each}
 use Rattle.ns_types.specs.State.Names.{Name, Key, ByNumber, same_name, same_key, has_key}
 use Rattle.ns_types.specs.State.Rows.{World, Tenant}

@@ -4,7 +4,7 @@ use Rattle.std.proofs.Common.{refl, sym, ap, subst, ◌∙◌, arith}
 use Rattle.std.specs.FinMap.{get}
 use Rattle.ns_types.specs.declared.evaluation.Evaluation.{Evaluation}
 use Rattle.ns_types.specs.declared.node.Class.{Class}
-use Rattle.ns_types.specs.declared.worker.Worker.{Worker}
+use Rattle.ns_types.specs.Working.Worker.{Worker}
 use Rattle.ns_types.specs.State.Names.{Name, Key, has_key, same_key}
 use Rattle.ns_types.specs.Working.Queue.{queue}
 use Rattle.ns_types.specs.Settling.Releases.{released_classes, releases_quota, woken}

@@ -9,7 +9,7 @@ use Rattle.ns_types.specs.declared.job.Job.{Job}
 use Rattle.ns_types.specs.declared.snapshot.PoolNode.{PoolNode}
 use Rattle.ns_types.specs.declared.snapshot.QuotaSeen.{QuotaSeen}
 use Rattle.ns_types.specs.declared.snapshot.Snapshot.{Snapshot}
-use Rattle.ns_types.specs.declared.worker.Worker.{Worker}
+use Rattle.ns_types.specs.Working.Worker.{Worker}
 use Rattle.ns_types.specs.State.Limits.{is_good_document}
 use Rattle.ns_types.specs.State.Names.{Name, Key, has_key, same_key}
 use Rattle.ns_types.specs.State.Rows.{World, Tenant, PoolRows, QuotaRows}

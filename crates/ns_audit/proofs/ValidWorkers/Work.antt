@@ -12,7 +12,7 @@ use Rattle.ns_types.specs.declared.reply.Content.TheVariants as Content
 use Rattle.ns_types.specs.declared.snapshot.QuotaSeen.{QuotaSeen}
 use Rattle.ns_types.specs.declared.snapshot.Snapshot.{Snapshot}
 use Rattle.ns_types.specs.declared.worker.Phase.{Phase}
-use Rattle.ns_types.specs.declared.worker.Worker.{Worker}
+use Rattle.ns_types.specs.Working.Worker.{Worker}
 use Rattle.ns_types.specs.Working.Commit.{Applied, commit, tries_after, phase_after, applied_worker, applied, apply_for, apply}
 use Rattle.ns_types.specs.Settling.Making.{put_tenant}
 use Rattle.ns_types.specs.State.Names.{Name, Key, same_key, has_key}

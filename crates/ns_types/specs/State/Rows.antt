@@ -19,7 +19,7 @@ use Rattle.ns_types.specs.declared.node.Offer.{Offer}
 use Rattle.ns_types.specs.declared.records.Namespace.{Namespace}
 use Rattle.ns_types.specs.declared.records.Pool.{Pool}
 use Rattle.ns_types.specs.declared.records.Quota.{Quota}
-use Rattle.ns_types.specs.declared.worker.Worker.{Worker}
+use Rattle.ns_types.specs.Working.Worker.{Worker}
 use Rattle.std.specs.Prelude.{codes}
 use Rattle.ns_types.specs.State.Names.{Name, Key, ByName, ByNumber, ByClass, same_name, begins_with}
 

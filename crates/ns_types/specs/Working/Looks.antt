@@ -3,10 +3,9 @@
 use Rattle.std.specs.Prelude.{◌≡◌, ◌≢◌, ℕ, true, false, Option, Some, None, find, option_map}
 use Rattle.std.specs.FinMap.{get, entries, contains_key}
 use Rattle.std.specs.Option.{option_and_then}
-use Rattle.ns_types.specs.declared.plan.Plan.{Plan}
 use Rattle.ns_types.specs.declared.refusal.Refusal.{Refusal}
 use Rattle.ns_types.specs.declared.snapshot.Snapshot.{Snapshot}
-use Rattle.ns_types.specs.declared.worker.Worker.{Worker}
+use Rattle.ns_types.specs.Working.Worker.{Worker}
 use Rattle.ns_types.specs.State.Names.{Name, Key}
 use Rattle.ns_types.specs.Placing.Plan.{plan, does_nothing}
 use Rattle.ns_types.specs.Working.Queue.{served}
@@ -25,23 +24,21 @@ abbrev pub row_of : World → ℕ → Option (Name × Worker)
 row_of w number = option_and_then (λ t. option_map (λ worker. (t.0, worker)) (get t.1.workers number))
     (find (λ t. contains_key t.1.workers number) (entries w.tenants))
 
--- ---- a plan handed in
-
--- a plan, with the snapshot of which it was made
-pub record Planned : Type 0 where
-  pub snapshot : Snapshot
-  pub plan_of : Plan
-  pub made : plan_of ≡ plan snapshot
+-- ---- a plan handed in, which is that of a snapshot
 
 abbrev pub worker_at : World → ℕ → Name → Option Worker
 worker_at w number ns = option_and_then (λ t. get t.workers number) (get w.tenants ns)
 
+-- the worker has looked, and has not handed in a plan since
+abbrev pub InTurn : World → ℕ → Name → Worker → Type 0
+InTurn w number ns worker = (worker_at w number ns ≡ Some worker) × (is_snapped worker.phase ≡ true)
+
 -- why a plan is refused: the worker is not at that, the snapshot is another than the kept one, or the plan does nothing
-pub data RefusesPlan (w : World) (number : ℕ) (ns : Name) (p : Planned) : Refusal → Type 0 where
-  idle : worker_at w number ns ≡ None → RefusesPlan w number ns p Refusal.NotEnabled
+pub data RefusesPlan (w : World) (number : ℕ) (ns : Name) (planned : Snapshot) : Refusal → Type 0 where
+  idle : worker_at w number ns ≡ None → RefusesPlan w number ns planned Refusal.NotEnabled
   out_of_turn : (worker : Worker) → worker_at w number ns ≡ Some worker → is_snapped worker.phase ≡ false →
-      RefusesPlan w number ns p Refusal.NotEnabled
-  foreign : (worker : Worker) → worker_at w number ns ≡ Some worker → is_snapped worker.phase ≡ true →
-      worker.kept ≢ Some p.snapshot → RefusesPlan w number ns p Refusal.Foreign
-  empty : (worker : Worker) → worker_at w number ns ≡ Some worker → is_snapped worker.phase ≡ true →
-      worker.kept ≡ Some p.snapshot → does_nothing p.plan_of ≡ true → RefusesPlan w number ns p Refusal.NotEnabled
+      RefusesPlan w number ns planned Refusal.NotEnabled
+  foreign : (worker : Worker) → InTurn w number ns worker → worker.kept ≢ Some planned →
+      RefusesPlan w number ns planned Refusal.Foreign
+  empty : (worker : Worker) → InTurn w number ns worker → worker.kept ≡ Some planned →
+      does_nothing (plan planned) ≡ true → RefusesPlan w number ns planned Refusal.NotEnabled

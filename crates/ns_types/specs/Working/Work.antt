@@ -11,7 +11,7 @@ use Rattle.ns_types.specs.declared.job.JobKind.{JobKind}
 use Rattle.ns_types.specs.declared.reply.Content.TheVariants as Content
 use Rattle.ns_types.specs.declared.snapshot.Snapshot.{Snapshot}
 use Rattle.ns_types.specs.declared.worker.Phase.{Phase}
-use Rattle.ns_types.specs.declared.worker.Worker.{Worker}
+use Rattle.ns_types.specs.Working.Worker.{Worker}
 use Rattle.ns_types.specs.Settling.Making.{put_tenant, with_status}
 use Rattle.ns_types.specs.State.Names.{Name, Key, same_name, same_key}
 use Rattle.ns_types.specs.Settling.Outcome.{Outcome, NotEnabled, Done}
@@ -93,6 +93,17 @@ unfoldable pub snap : ℕ → Name → World → Outcome World
 snap number ns w = at_work number ns w (snap_for number ns w)
 
 -- ---- Submit
+
+-- from Submit on a row has the plan of its snapshot, until it looks again
+abbrev pub planned_in : Phase → Option Snapshot → Option Snapshot
+planned_in Phase.Took kept = None
+planned_in Phase.Snapped kept = None
+planned_in Phase.Submitted kept = kept
+planned_in Phase.Applied kept = kept
+planned_in Phase.Dropped kept = kept
+
+abbrev pub planned_of : Worker → Option Snapshot
+planned_of worker = planned_in worker.phase worker.kept
 
 abbrev pub is_snapped : Phase → Bool
 is_snapped Phase.Snapped = true
