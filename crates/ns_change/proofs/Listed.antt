@@ -8,7 +8,7 @@ use Rattle.std.specs.Cmp.{eq_by_cmp_equiv}
 use Rattle.std.specs.FinMap.{contains_key, entries, get}
 use Rattle.keyed.specs.Table.{rows, row_at, at_slot}
 use Rattle.ns_types.specs.declared.evaluation.Evaluation.{Evaluation}
-use Rattle.ns_types.specs.declared.worker.Worker.{Worker}
+use Rattle.ns_types.specs.Working.Worker.{Worker}
 use Rattle.ns_types.specs.State.Names.{Name, Key, has_key, same_key}
 use Rattle.ns_types.specs.Working.Queue.{is_busy, queue}
 use Rattle.ns_types.specs.Working.Work.{without_key}
@@ -21,7 +21,7 @@ use Rattle.ns_change.specs.declared.change.ListChange.{ListChange}
 use Rattle.ns_change.specs.declared.change.TenantChange.{TenantChange}
 use Rattle.ns_world.specs.declared.tables.Tables.{Tables}
 use Rattle.ns_world.specs.declared.tables.TenantRows.{TenantRows}
-use Rattle.ns_change.specs.Changed.{changed, changed_list}
+use Rattle.ns_change.specs.Changed.{DoesToList, changed, changed_list, with_key, without_keys}
 use Rattle.ns_change.specs.Changed.{view}
 use Rattle.ns_world.specs.World.{world_of}
 use Rattle.std.proofs.lemmas.List.Folds.{list_any-append}
@@ -29,7 +29,7 @@ use Rattle.keyed.proofs.Applying.{empty_by}
 use Rattle.keyed.proofs.Over.{any_row-both}
 use Rattle.keyed.proofs.Queues.{from_here}
 use Rattle.keyed.proofs.Viewing.{any_row-rows}
-use Rattle.ns_change.proofs.Waking.{unblock_one, wake_is, without_keys}
+use Rattle.ns_change.proofs.Waking.{unblock_one, wake_is, without_blocked_keys}
 use Rattle.ns_types.specs.Settling.Settle.{wake}
 use Rattle.ns_change.proofs.Seen.{changed_seen, kept_seen, none_seen}
 
@@ -92,14 +92,19 @@ module _ (w : World) (key : Key) where
   queue_ready e is free = sym (ap (λ e. option_map_or (λ e. cond (is_busy w key.0 e.job) w (record w { ready = w.ready ++ key ∷ [] })) e w) is ∙
       ap (λ b. cond b w (record w { ready = w.ready ++ key ∷ [] })) free)
 
--- an entry more of `ready`
-pub ready_more : (t : Tables) (c : Change) (key : Key) → view t (record c { ready = record c.ready { added = c.ready.added ++ key ∷ [] } }) ≡ record (view t c)
-    { ready = (view t c).ready ++ key ∷ [] }
-unfolding changed
-ready_more t c key = λ i. record (view t c) {
-  ready =
-      sym (append_assoc (filter (λ k. not (has_key c.ready.taken k)) (world_of t).ready) c.ready.added (key ∷ [])) i;
-}
+-- what is done to one of the lists is done to the world
+module _ (t : Tables) (c : Change) (x : ListChange) (f : List Key → List Key) where
+  pub ready_is : DoesToList f c.ready x → view t (record c { ready = x }) ≡ record (view t c) { ready = f (view t c).ready }
+  unfolding changed
+  ready_is does = λ i. record (view t c) { ready = does (world_of t).ready i }
+
+  pub plans_is : DoesToList f c.plans x → view t (record c { plans = x }) ≡ record (view t c) { plans = f (view t c).plans }
+  unfolding changed
+  plans_is does = λ i. record (view t c) { plans = does (world_of t).plans i }
+
+  pub blocked_is : DoesToList f c.blocked x → view t (record c { blocked = x }) ≡ record (view t c) { blocked = f (view t c).blocked }
+  unfolding changed
+  blocked_is does = λ i. record (view t c) { blocked = does (world_of t).blocked i }
 
 pub ready_seen : (t : Tables) (c : Change) → (view t c).ready ≡ changed_list t.ready.items c.ready
 unfolding changed world_of
@@ -139,9 +144,9 @@ filter_twice p q r (x ∷ xs) e = ap (λ b. cond b (x ∷ filter p xs) (filter p
       | false ↦ filter_twice p q r xs e
     ]
 
-pub taken_out : (keys base : List Key) (old new : ListChange) → new.taken ≡ old.taken ++ keys → new.added ≡ filter (stays keys) old.added →
-    changed_list base new ≡ filter (stays keys) (changed_list base old)
-taken_out keys base old new taken added = (λ i. filter (λ key. not (has_key (taken i) key)) base ++ added i)
+pub taken_out : (keys : List Key) (old new : ListChange) → new.taken ≡ old.taken ++ keys → new.added ≡ without_keys keys old.added →
+    DoesToList (without_keys keys) old new
+taken_out keys old new taken added base = (λ i. filter (λ key. not (has_key (taken i) key)) base ++ added i)
     ∙ ap (λ l. l ++ filter (stays keys) old.added)
     (filter_twice (λ key. not (has_key (old.taken ++ keys) key)) (stays keys) (λ key. not (has_key old.taken key)) base
     (λ key. ap not (list_any-append (same_key key) old.taken keys) ∙ by (has_key old.taken key) (has_key keys key)))
@@ -158,20 +163,15 @@ pub at_end : (xs : List Key) (i : ℕ) → length xs ≤ i → drop i xs ≡ []
 at_end xs i le = empty_by (drop i xs) (simp length-drop (omega arith))
 
 module _ (t : Tables) (keys : List Key) where
-  blocked_left : (c : Change) (x : ListChange) → ((base : List Key) → changed_list base x ≡ filter (stays keys) (changed_list base c.blocked)) →
-      view t (record c { blocked = x }) ≡ without_keys keys (view t c)
-  unfolding changed
-  blocked_left c x h = λ i. record (view t c) { blocked = h (world_of t).blocked i }
-
   pub woken_all : (c pending awake : Change) (x : ListChange) (i j : ℕ) → length keys ≤ i → length keys ≤ j
       → fold unblock_one (view t pending) (drop i keys) ≡ fold unblock_one (view t c) keys
-      → ((base : List Key) → changed_list base x ≡ filter (stays keys) (changed_list base pending.blocked))
+      → DoesToList (without_keys keys) pending.blocked x
       → fold queue (view t awake) (drop j keys) ≡ fold queue (view t (record pending { blocked = x })) keys
       → view t awake ≡ wake keys (view t c)
   woken_all c pending awake x i j ie je marked left queued =
       ap (fold queue (view t awake)) (sym (at_end keys j je)) ∙ queued
-      ∙ ap (λ w. fold queue w keys) (blocked_left pending x left ∙
-      ap (without_keys keys) (ap (fold unblock_one (view t pending)) (sym (at_end keys i ie)) ∙ marked))
+      ∙ ap (λ w. fold queue w keys) (blocked_is t pending x (without_keys keys) left ∙
+      ap (without_blocked_keys keys) (ap (fold unblock_one (view t pending)) (sym (at_end keys i ie)) ∙ marked))
       ∙ sym (wake_is keys (view t c))
 
 -- ---- one key alone
@@ -179,9 +179,12 @@ module _ (t : Tables) (keys : List Key) where
 swapped : (a b : Key) → same_key a b ≡ same_key b a
 swapped a b = λ i. (eq_by_cmp_equiv names).symm a.0 b.0 i && (eq_by_cmp_equiv numbers).symm a.1 b.1 i
 
-pub taken_alone : (key : Key) (keys : List Key) → filter (stays (key ∷ [])) keys ≡ without_key key keys
+pub taken_alone : (key : Key) (keys : List Key) → without_keys (key ∷ []) keys ≡ without_key key keys
 taken_alone key keys = λ i. filter (λ other. not ((by (same_key other key) ∙ swapped other key) i)) keys
   where
     by : (b : Bool) → (b || false) ≡ b
     by true = refl
     by false = refl
+
+pub added_one : (key : Key) (old : ListChange) → DoesToList (with_key key) old (record old { added = old.added ++ key ∷ [] })
+added_one key old base = sym (append_assoc (without_keys old.taken base) old.added (key ∷ []))

@@ -1,5 +1,5 @@
 -- A namespace's change that is taken out and put again.
-use Rattle.std.specs.Prelude.{◌≡◌, ◌+◌, Bool, true, false, cond, Option, Some, None, option_map, IsTrue}
+use Rattle.std.specs.Prelude.{◌≡◌, ℕ, ◌+◌, Bool, true, false, cond, Option, Some, None, option_map, IsTrue}
 use Rattle.std.proofs.Common.{refl, sym, ap, ◌∙◌, Ordering}
 use Rattle.std.specs.Option.{option_map_or}
 use Rattle.std.specs.Ordering.{eq_by_cmp, nat_cmp}
@@ -8,9 +8,10 @@ use Rattle.std.specs.FinMap.{FinMap, IsAntisymmetric, get, get-insert, get-remov
 use Rattle.keyed.specs.Table.{flat, rows, row_at, has_slot, emptied, with_slot, KeepsSlots}
 use Rattle.keyed.proofs.Tables.{get-rows, has_slot-insert, rows-emptied, rows-with_slot}
 use Rattle.ns_types.specs.declared.evaluation.Evaluation.{Evaluation}
-use Rattle.ns_types.specs.Settling.Making.{change_tenant, put_tenant, with_evaluation}
+use Rattle.ns_types.specs.Settling.Making.{change_tenant, make, make_in, put_tenant, with_evaluation}
 use Rattle.ns_types.specs.State.Names.{Name, name_cmp}
-use Rattle.ns_types.specs.State.Rows.{Tenant}
+use Rattle.ns_types.specs.State.Rows.{Tenant, World}
+use Rattle.ns_types.specs.Working.Queue.{queue}
 use Rattle.ns_types.specs.State.Tables.{map_rows}
 use Rattle.ns_types.proofs.Named.{names, one_name, numbers, one_number}
 use Rattle.ns_types.proofs.Tables.{get-map_rows, tied}
@@ -19,7 +20,7 @@ use Rattle.ns_change.specs.declared.change.Change.{Change}
 use Rattle.ns_change.specs.declared.change.TenantChange.{TenantChange}
 use Rattle.ns_world.specs.declared.tables.Tables.{Tables}
 use Rattle.ns_world.specs.declared.tables.TenantRows.{TenantRows}
-use Rattle.ns_change.specs.Changed.{changed, changed_tenant, perhaps, unchanged}
+use Rattle.ns_change.specs.Changed.{changed, changed_tenant, next_evaluation, perhaps, unchanged}
 use Rattle.keyed.specs.Over.{over}
 use Rattle.ns_change.specs.Opened.{IsOpen, Opened, with_tenant}
 use Rattle.ns_world.specs.World.{tenant_of, world_of}
@@ -118,22 +119,34 @@ module _ {K X : Type 0} {R : K → K → Ordering} (o : IsTotalOrder R) (same : 
 
 -- ---- a new evaluation
 
-module _ (t : Tables) (c left : Change) (ns : Name) (x : TenantChange) (opened : Opened t c ns (Some x) left) (z : Tenant)
-    (at : get (view t c).tenants ns ≡ Some z) where
-  base_is : changed_tenant opened.base x ≡ z
-  base_is = same_Some _ _ (sym opened.seen ∙ at)
-
+module _ (t : Tables) (c left : Change) (ns : Name) (x : TenantChange) (opened : Opened t c ns (Some x) left) where
   pub made_open : (e : Evaluation) (m : FinMap nat_cmp (Option Evaluation)) →
       m ≡ insert (with_slot x.evaluations (x.evaluation_number + 1)) (x.evaluation_number + 1) (Some e)
-      → view t (with_tenant ns (record x { evaluation_number = x.evaluation_number + 1; evaluations = m }) left) ≡ put_tenant ns (with_evaluation e z)
-      (view t c)
-  made_open e m is = opened.closes _ ∙ ap (λ y. put_tenant ns y (view t c))
-      ((λ i. record (changed_tenant opened.base x) {
+      → view t (with_tenant ns (record x { evaluation_number = x.evaluation_number + 1; evaluations = m }) left) ≡ change_tenant ns (with_evaluation e) (view t c)
+  made_open e m is = put_open t c left ns (with_evaluation e) x (record x { evaluation_number = x.evaluation_number + 1; evaluations = m }) opened
+      (λ base i. record (changed_tenant base x) {
         evaluation_number = x.evaluation_number + 1;
         evaluations =
-            (ap (over opened.base.evaluations) is ∙ over-slot numbers one_number opened.base.evaluations x.evaluations (x.evaluation_number + 1) e) i;
+            (ap (over base.evaluations) is ∙ over-slot numbers one_number base.evaluations x.evaluations (x.evaluation_number + 1) e) i;
       })
-      ∙ ap (with_evaluation e) base_is)
 
-  pub number_is : x.evaluation_number ≡ z.evaluation_number
-  number_is = ap (λ y. y.evaluation_number) base_is
+  pub next_open : Some (x.evaluation_number + 1) ≡ next_evaluation (view t c) ns
+  next_open = sym (ap (option_map (λ (t : Tenant). t.evaluation_number + 1)) opened.seen)
+
+module _ (w : World) (ns : Name) (e : Evaluation) where
+  -- with no namespace none is made
+  pub make_nowhere : next_evaluation w ns ≡ None → change_tenant ns (with_evaluation e) w ≡ make ns (λ _. e) w
+  make_nowhere none = by (get w.tenants ns) none
+    where
+      by : (o : Option Tenant) → option_map (λ t. t.evaluation_number + 1) o ≡ None →
+          option_map_or (λ t. put_tenant ns (with_evaluation e t) w) o w ≡ option_map_or (make_in ns e w) o w
+      by None none = refl
+      by (Some t) none = cc
+
+  pub make_next : (n : ℕ) → next_evaluation w ns ≡ Some n → queue (change_tenant ns (with_evaluation e) w) (ns, n) ≡ make ns (λ _. e) w
+  make_next n some = by (get w.tenants ns) some
+    where
+      by : (o : Option Tenant) → option_map (λ t. t.evaluation_number + 1) o ≡ Some n →
+          queue (option_map_or (λ t. put_tenant ns (with_evaluation e t) w) o w) (ns, n) ≡ option_map_or (make_in ns e w) o w
+      by None some = cc
+      by (Some t) some = ap (λ n. queue (put_tenant ns (with_evaluation e t) w) (ns, n)) (same_Some _ _ (sym some))

@@ -17,7 +17,7 @@ use Rattle.ns_types.specs.State.Names.{Name}
 use Rattle.ns_types.specs.Working.Queue.{first_waiting, is_busy, promote}
 use Rattle.ns_types.specs.Settling.Making.{change_tenant, put_tenant, with_status}
 use Rattle.ns_types.specs.State.Rows.{World, Tenant, is_blocked, is_pending}
-use Rattle.ns_types.specs.Working.Work.{blocked_of, cancel_blocked}
+use Rattle.ns_types.specs.Working.Work.{blocked_of, cancel_blocked, without_blocked}
 use Rattle.ns_types.proofs.Lists.{not_both}
 use Rattle.ns_types.proofs.Named.{first_of_both, names, one_name, numbers, one_number, same_name_is}
 use Rattle.ns_types.specs.declared.evaluation.Evaluation.{Evaluation}
@@ -28,7 +28,7 @@ use Rattle.ns_change.specs.declared.change.Change.{Change}
 use Rattle.ns_change.specs.declared.change.TenantChange.{TenantChange}
 use Rattle.ns_world.specs.declared.tables.Tables.{Tables}
 use Rattle.ns_world.specs.declared.tables.TenantRows.{TenantRows}
-use Rattle.ns_change.specs.Changed.{view}
+use Rattle.ns_change.specs.Changed.{unlist_blocked, view, without_blocked_key}
 use Rattle.ns_change.proofs.Seen.{changed_seen, kept_seen, none_seen}
 use Rattle.keyed.specs.Over.{over}
 use Rattle.ns_change.specs.Waiting.{Leads, first, row_passes, unheld_passes, IsFirst, lesser, of_job, stands, standing}
@@ -331,3 +331,18 @@ module _ (w : World) (ns job : Name) where
           option_map_or (λ t. put_tenant ns (with_status n Status.Canceled t) w) o w ≡ option_map_or (λ t. put_tenant ns (cancel_blocked job t) w) o w
       by None some = refl
       by (Some t) some = ap (λ o. put_tenant ns (option_map_or (λ n. with_status n Status.Canceled t) o t) w) (sym some)
+
+  pub unlist_none : blocked (get w.tenants ns) ≡ None → w ≡ unlist_blocked ns job w
+  unlist_none none = by (get w.tenants ns) none
+    where
+      by : (o : Option Tenant) → option_and_then (λ t. blocked_of t job) o ≡ None → w ≡ option_map_or (λ t. without_blocked ns job t w) o w
+      by None none = refl
+      by (Some t) none = ap (λ o. option_map_or (λ n. without_blocked_key (ns, n) w) o w) (sym none)
+
+  pub unlist_one : (n : ℕ) → blocked (get w.tenants ns) ≡ Some n → without_blocked_key (ns, n) w ≡ unlist_blocked ns job w
+  unlist_one n some = by (get w.tenants ns) some
+    where
+      by : (o : Option Tenant) → option_and_then (λ t. blocked_of t job) o ≡ Some n →
+          without_blocked_key (ns, n) w ≡ option_map_or (λ t. without_blocked ns job t w) o w
+      by None some = cc
+      by (Some t) some = ap (λ o. option_map_or (λ n. without_blocked_key (ns, n) w) o w) (sym some)

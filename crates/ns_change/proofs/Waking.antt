@@ -13,6 +13,7 @@ use Rattle.ns_types.specs.Settling.Settle.{pending, unblocked_in, wake, woken_ro
 use Rattle.ns_types.specs.State.Tables.{map_rows}
 use Rattle.ns_types.proofs.Named.{names, one_name, numbers, one_number}
 use Rattle.ns_types.proofs.Tables.{get-map_rows, map_rows_idle, tied}
+use Rattle.ns_change.specs.Changed.{without_keys}
 
 abbrev pub unblock_one : World → Key → World
 unblock_one w key = change_tenant key.0 (with_status key.1 Status.Pending) w
@@ -97,9 +98,9 @@ unblocked_all [] w = λ i. record w {
 unblocked_all (key ∷ keys) w = unblocked_all keys (unblock_one w key) ∙ others_then key keys w _ ∙ (λ i. record w { tenants = tenants_then key keys w i })
 
 -- the list `blocked` without them
-abbrev pub without_keys : List Key → World → World
-without_keys keys w = record w { blocked = filter (λ key. not (has_key keys key)) w.blocked }
+abbrev pub without_blocked_keys : List Key → World → World
+without_blocked_keys keys w = record w { blocked = without_keys keys w.blocked }
 
-pub wake_is : (keys : List Key) (w : World) → wake keys w ≡ fold queue (without_keys keys (fold unblock_one w keys)) keys
+pub wake_is : (keys : List Key) (w : World) → wake keys w ≡ fold queue (without_blocked_keys keys (fold unblock_one w keys)) keys
 unfolding wake
 wake_is keys w = ap (λ x. fold queue (record x { blocked = filter (λ key. not (has_key keys key)) x.blocked }) keys) (sym (unblocked_all keys w))

@@ -1,6 +1,6 @@
 -- The world as a change leaves it.
 use Rattle.std.specs.Prelude.{◌≡◌, ℕ, ◌+◌, ◌<◌, ◌^◌, not, List, [], ◌∷◌, ◌++◌, filter, Option}
-use Rattle.std.specs.Prelude.{Some, Result, OnOk}
+use Rattle.std.specs.Prelude.{Some, Result, OnOk, option_map}
 use Rattle.std.specs.Option.{option_and_then, option_map_or}
 use Rattle.std.specs.Ordering.{nat_cmp}
 use Rattle.std.specs.FinMap.{FinMap, empty, get, insert, remove}
@@ -14,7 +14,7 @@ use Rattle.ns_types.specs.State.Names.{Name, Key, has_key}
 use Rattle.ns_types.specs.State.Rows.{World, Tenant, PoolRows, QuotaRows, node_at}
 use Rattle.ns_types.specs.State.Tables.{map_rows}
 use Rattle.ns_types.specs.Working.Commit.{with_place}
-use Rattle.ns_types.specs.Working.Work.{without_key}
+use Rattle.ns_types.specs.Working.Work.{without_blocked, without_key}
 use Rattle.ns_change.specs.declared.change.Change.{Change}
 use Rattle.ns_change.specs.declared.change.ListChange.{ListChange}
 use Rattle.ns_change.specs.declared.change.PoolChange.{PoolChange}
@@ -43,8 +43,11 @@ changed_quota q x = record q { quota = x }
 abbrev pub perhaps : {A B : Type 0} → (A → B → A) → Option B → A → A
 perhaps change x a = option_map_or (change a) x a
 
+abbrev pub without_keys : List Key → List Key → List Key
+without_keys taken keys = filter (λ key. not (has_key taken key)) keys
+
 abbrev pub changed_list : List Key → ListChange → List Key
-changed_list keys x = filter (λ key. not (has_key x.taken key)) keys ++ x.added
+changed_list keys x = without_keys x.taken keys ++ x.added
 
 unfoldable pub changed : World → Change → World
 changed w c = record w {
@@ -128,11 +131,38 @@ HasEvaluationLeft w ns = (t : Tenant) → get w.tenants ns ≡ Some t → t.eval
 abbrev pub HasAllocationLeft : World → Name → Type 0
 HasAllocationLeft w ns = (t : Tenant) → get w.tenants ns ≡ Some t → t.allocation_number + 1 < 2 ^ 64
 
--- ---- the list of evaluations that are ready
+-- the number of the namespace's next evaluation, where the namespace is there
+abbrev pub next_evaluation : World → Name → Option ℕ
+next_evaluation w ns = option_map (λ t. t.evaluation_number + 1) (get w.tenants ns)
+
+-- ---- the lists of evaluations: those that are ready, whose plan was handed in, and blocked
+
+-- whatever the list was before the step, it is f of what it was
+abbrev pub DoesToList : (List Key → List Key) → ListChange → ListChange → Type 0
+DoesToList f before after = (base : List Key) → changed_list base after ≡ f (changed_list base before)
+
+-- behind the others
+abbrev pub with_key : Key → List Key → List Key
+with_key key keys = keys ++ key ∷ []
 
 abbrev pub without_ready : Key → World → World
 without_ready key w = record w { ready = without_key key w.ready }
 
--- behind the others
 abbrev pub with_ready : Key → World → World
-with_ready key w = record w { ready = w.ready ++ key ∷ [] }
+with_ready key w = record w { ready = with_key key w.ready }
+
+abbrev pub without_plan : Key → World → World
+without_plan key w = record w { plans = without_key key w.plans }
+
+abbrev pub with_plan : Key → World → World
+with_plan key w = record w { plans = with_key key w.plans }
+
+abbrev pub without_blocked_key : Key → World → World
+without_blocked_key key w = record w { blocked = without_key key w.blocked }
+
+abbrev pub with_blocked_key : Key → World → World
+with_blocked_key key w = record w { blocked = with_key key w.blocked }
+
+-- the job's blocked evaluation, if there is one, is no longer in the list
+abbrev pub unlist_blocked : Name → Name → World → World
+unlist_blocked ns job w = option_map_or (λ t. without_blocked ns job t w) (get w.tenants ns) w

@@ -1,20 +1,19 @@
 -- Which evaluations of a job are ready, with a worker or waiting, as a change leaves the world.
-use Rattle.std.specs.Prelude.{◌≡◌, ℕ, Bool, false, ◌&&◌, not, List, Option, filter, find, option_map}
+use Rattle.std.specs.Prelude.{ℕ, Bool, false, ◌&&◌, not, List, Option, find, option_map}
 use Rattle.std.specs.Option.{option_and_then, option_map_or}
 use Rattle.std.specs.List.{list_any}
 use Rattle.std.specs.Ordering.{nat_cmp}
 use Rattle.std.specs.FinMap.{FinMap, contains_key, get}
 use Rattle.keyed.specs.Table.{at_slot}
 use Rattle.ns_types.specs.declared.evaluation.Status.{Status}
-use Rattle.ns_types.specs.declared.worker.Worker.{Worker}
+use Rattle.ns_types.specs.Working.Worker.{Worker}
 use Rattle.ns_types.specs.State.Names.{Name, Key, has_key}
 use Rattle.ns_types.specs.State.Rows.{World}
 use Rattle.ns_types.specs.State.Tables.{any_row}
 use Rattle.ns_types.specs.Working.Queue.{is_of_job}
 use Rattle.ns_world.specs.declared.tables.Tables.{Tables}
 use Rattle.ns_change.specs.declared.change.Change.{Change}
-use Rattle.ns_change.specs.declared.change.ListChange.{ListChange}
-use Rattle.ns_change.specs.Changed.{changed_list, view}
+use Rattle.ns_change.specs.Changed.{view}
 use Rattle.ns_change.specs.Waiting.{first, of_job, stands}
 
 -- an entry that is not taken passes
@@ -49,8 +48,3 @@ is_worked_on w ns job = option_map_or (λ t. any_row (λ _ worker. is_of_job w n
 abbrev pub first_of_job : World → Name → Name → Status → Option ℕ
 first_of_job w ns job wanted = option_and_then (λ t. first (of_job (stands wanted) job) t.evaluations)
     (get w.tenants ns)
-
--- those keys go out of the list, whatever it was before the step
-abbrev pub TakesOut : List Key → ListChange → ListChange → Type 0
-TakesOut keys old new = (base : List Key) →
-    changed_list base new ≡ filter (λ key. not (has_key keys key)) (changed_list base old)

@@ -5,12 +5,13 @@ ghost use Rattle.keyed.specs.Table.{at_slot, rows};
 ghost use Rattle.ns_types.specs.State.Names.{same_name};
 ghost use Rattle.ns_types.specs.Working.Queue.{promote};
 ghost use Rattle.ns_types.specs.Working.Work.{cancel_blocked};
-ghost use Rattle.ns_change.specs.Changed.{Does, DoesIn, view};
+ghost use Rattle.ns_change.specs.Changed.{Does, DoesIn, unlist_blocked, view};
 ghost use Rattle.ns_change.specs.Queued.{first_of_job, first_slot};
 ghost use Rattle.ns_change.specs.Waiting.{Leads, lesser, of_job, row_passes, stands, standing, unheld_passes};
 
 use crate::change::Change;
 use crate::editing::set_status;
+use crate::lists::{add_ready, take_blocked};
 use crate::queueing::is_busy;
 use keyed::NumberTable;
 use ns_alike::same_text;
@@ -177,11 +178,7 @@ pub fn promote(
     let Some(number) = first_of_job(tables, change, namespace, job, Status::Pending) else {
         return Ok(());
     };
-    change
-        .ready
-        .added
-        .push(EvalKey::new(namespace.clone()?, number))?;
-    Ok(())
+    add_ready(change, EvalKey::new(namespace.clone()?, number))
 }
 
 /// The job's blocked evaluation is canceled.
@@ -199,4 +196,21 @@ pub fn cancel_blocked(
     };
     let key = EvalKey::new(namespace.clone()?, number);
     set_status(tables, change, &key, Status::Canceled)
+}
+
+/// The job's blocked evaluation is no longer among the blocked ones.
+pub fn unlist_blocked(
+    tables: &Tables,
+    change: &mut Change,
+    namespace: &Text,
+    job: &Text,
+) -> Result<(), AllocError>
+    ensures { Does result tables.now change.old change.new
+        (unlist_blocked namespace.now job.now) }
+{
+    let Some(number) = first_of_job(tables, change, namespace, job, Status::Blocked) else {
+        return Ok(());
+    };
+    let key = EvalKey::new(namespace.clone()?, number);
+    take_blocked(tables.alloc, change, &key)
 }

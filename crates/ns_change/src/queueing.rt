@@ -1,6 +1,6 @@
 //! The queue after a change, and whom a step wakes.
 
-ghost use Rattle.std.specs.Prelude.{◌≡◌, ℕ, IsTrue, OnOk, Some};
+ghost use Rattle.std.specs.Prelude.{◌≡◌, ℕ, IsTrue, Some};
 ghost use Rattle.keyed.specs.Table.{row_at};
 ghost use Rattle.ns_types.specs.declared.evaluation.Evaluation.{Evaluation};
 ghost use Rattle.std.specs.List.{list_any};
@@ -9,20 +9,21 @@ ghost use Rattle.ns_types.specs.Settling.Making.{make};
 ghost use Rattle.ns_types.specs.Settling.Settle.{wake};
 ghost use Rattle.ns_types.specs.Working.Queue.{is_busy, queue};
 ghost use Rattle.ns_change.specs.Changed.{Does, HasEvaluationLeft, changed_list, view};
-ghost use Rattle.ns_change.specs.Queued.{TakesOut, any_left, is_left, is_left_in, is_of, is_worked_on, works_on};
+ghost use Rattle.ns_change.specs.Queued.{any_left, is_left, is_left_in, is_of, is_worked_on, works_on};
 
 use crate::change::{Change, ListChange};
-use crate::editing::{open, set_status};
+use crate::editing::set_status;
+use crate::following::add_evaluation;
+use crate::lists::{add_ready, take_out};
 use crate::looking::evaluation;
 use keyed::{KeyQueue, NumberTable};
-use ns_alike::{has_key, same_number, same_text};
+use ns_alike::{same_number, same_text};
 use ns_types::evaluation::{Evaluation, Status};
 use ns_types::key::EvalKey;
-use ns_types::rows::Rows;
 use ns_types::text::Text;
 use ns_types::worker::Worker;
 use ns_world::{Tables, TenantRows};
-use std::alloc::{AllocError, Global};
+use std::alloc::AllocError;
 
 /// Whether that evaluation is of the job.
 fn is_of_job(
@@ -193,7 +194,9 @@ fn works_on(
     ensures { result ≡ works_on tables.now change.now namespace.now job.now slot.now }
 {
     match &slot.1 {
-        Some(worker) => is_of_job(tables, change, namespace, job, namespace, worker.evaluation),
+        Some(worker) => {
+            is_of_job(tables, change, namespace, job, namespace, worker.evaluation())
+        }
         None => false,
     }
 }
@@ -262,28 +265,7 @@ pub fn queue(tables: &Tables, change: &mut Change, key: &EvalKey) -> Result<(), 
         return Ok(());
     };
     if !is_busy(tables, change, key.namespace(), &row.job) {
-        change.ready.added.push(key.clone()?)?;
-    }
-    Ok(())
-}
-
-/// Takes those keys out of a list.
-pub(crate) fn take_out(
-    alloc: Global,
-    list: &mut ListChange,
-    keys: &[EvalKey],
-) -> Result<(), AllocError>
-    ensures { OnOk result (TakesOut keys.now list.old list.new) }
-{
-    let mut added = Rows::new(alloc);
-    for key in list.added.as_slice() {
-        if !has_key(keys, key) {
-            added.push(key.clone()?)?;
-        }
-    }
-    list.added = added;
-    for key in keys {
-        list.taken.push(key.clone()?)?;
+        add_ready(change, key.clone()?)?;
     }
     Ok(())
 }
@@ -312,15 +294,9 @@ pub fn make(
     requires { HasEvaluationLeft (view tables.now change.old) namespace.now }
     ensures { Does result tables.now change.old change.new (make namespace.now (λ _. row)) }
 {
-    let Some(mut tenant) = open(tables, change, namespace)? else {
-        drop(row);
+    let Some(number) = add_evaluation(tables, change, namespace, row)? else {
         return Ok(());
     };
-    let number = tenant.evaluation_number + 1;
-    tenant.evaluations.reserve(number)?;
-    tenant.evaluations.set(number, row);
-    tenant.evaluation_number = number;
-    change.tenants.set(namespace, tenant);
     let key = EvalKey::new(namespace.clone()?, number);
     queue(tables, change, &key)
 }

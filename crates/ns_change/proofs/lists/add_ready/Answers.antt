@@ -1,8 +1,7 @@
-use Rattle.std.proofs.Common.{ap, ◌∙◌}
-use Rattle.ns_change.specs.Changed.{view}
-use Rattle.ns_change.proofs.Listed.{ready_more}
+use Rattle.std.proofs.lemmas.Result.{on_ok_weaker}
+use Rattle.ns_change.specs.Changed.{with_key}
+use Rattle.ns_change.proofs.Listed.{ready_is}
 use Rattle.ns_change.proofs.lists.add_ready.Goals as goal
 
 pub returns : goal.returns
-returns c t = ap (λ l. view t (record c.args.change.now { ready = record c.args.change.now.ready { added = l } })) c.in_ok-push.ensures.ok
-    ∙ ready_more t c.args.change.now c.args.key
+returns c t = on_ok_weaker c.add_key.result (ready_is t c.args.change.now c.add_key.new.list (with_key c.args.key)) c.add_key.ensures

@@ -4,7 +4,7 @@ use Rattle.std.specs.Option.{option_copied}
 use Rattle.std.specs.Prelude.{◌&&◌}
 use Rattle.std.specs.FinMap.{contains_key}
 use Rattle.keyed.specs.Table.{at_slot}
-use Rattle.ns_types.specs.declared.worker.Worker.{Worker}
+use Rattle.ns_types.specs.Working.Worker.{Worker}
 use Rattle.ns_types.specs.Working.Queue.{is_of_job}
 use Rattle.ns_change.specs.Changed.{view}
 use Rattle.ns_change.proofs.Any.{or_else, or_then}

@@ -1,0 +1,7 @@
+use Rattle.std.proofs.lemmas.Result.{on_ok_weaker}
+use Rattle.ns_types.specs.Working.Work.{without_key}
+use Rattle.ns_change.proofs.Listed.{blocked_is}
+use Rattle.ns_change.proofs.lists.take_blocked.Goals as goal
+
+pub returns : goal.returns
+returns c t = on_ok_weaker c.take_key.result (blocked_is t c.args.change.now c.take_key.new.list (without_key c.args.key.now)) c.take_key.ensures

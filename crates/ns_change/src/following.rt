@@ -1,0 +1,58 @@
+//! New evaluations under the next number of their namespace, and evaluations that name one as their follower.
+
+ghost use Rattle.std.specs.Prelude.{◌≡◌, IfOk};
+ghost use Rattle.ns_types.specs.Settling.Making.{with_evaluation};
+ghost use Rattle.ns_types.specs.Working.Work.{tied_to};
+ghost use Rattle.ns_change.specs.Changed.{DoesIn, HasEvaluationLeft, next_evaluation, view};
+
+use crate::change::Change;
+use crate::editing::open;
+use crate::looking::evaluation;
+use crate::numbered::put_row;
+use ns_types::evaluation::Evaluation;
+use ns_types::key::EvalKey;
+use ns_types::text::Text;
+use ns_world::Tables;
+use std::alloc::AllocError;
+
+/// The evaluation names that one as its follower.
+pub fn set_follower(
+    tables: &Tables,
+    change: &mut Change,
+    key: &EvalKey,
+    follower: u64,
+) -> Result<(), AllocError>
+    ensures { DoesIn key.now.0 result tables.now change.old change.new (tied_to key.now.1 follower) }
+{
+    let Some(row) = evaluation(tables, change, key.namespace(), key.number()) else {
+        return Ok(());
+    };
+    let mut row = row.clone()?;
+    row.follower = Some(follower);
+    put_row(tables, change, key.namespace(), key.number(), row)
+}
+
+/// A new evaluation under the namespace's next number, which is answered. None: the namespace is not there.
+pub fn add_evaluation(
+    tables: &Tables,
+    change: &mut Change,
+    namespace: &Text,
+    row: Evaluation,
+) -> Result<Option<u64>, AllocError>
+    requires { HasEvaluationLeft (view tables.now change.old) namespace.now }
+    ensures made { DoesIn namespace.now result tables.now change.old change.new
+        (with_evaluation row) }
+    ensures number { IfOk result (λ number. number
+        ≡ next_evaluation (view tables.now change.old) namespace.now) }
+{
+    let Some(mut tenant) = open(tables, change, namespace)? else {
+        drop(row);
+        return Ok(None);
+    };
+    let number = tenant.evaluation_number + 1;
+    tenant.evaluations.reserve(number)?;
+    tenant.evaluations.set(number, row);
+    tenant.evaluation_number = number;
+    change.tenants.set(namespace, tenant);
+    Ok(Some(number))
+}
