@@ -1,3 +1,4 @@
+pub mod AtWork
 pub mod Bounding
 pub mod Dequeued
 pub mod Looked
@@ -5,3 +6,4 @@ pub mod Making
 pub mod Nacked
 pub mod Preferred
 pub mod Snaps
+pub mod Submitted

@@ -5,7 +5,7 @@ use Rattle.std.specs.Option.{option_and_then}
 use Rattle.std.specs.FinMap.{contains_key, entries, get}
 use Rattle.keyed.specs.Table.{row_at, row_list, rows}
 use Rattle.keyed.proofs.Tables.{entries-rows, get-rows}
-use Rattle.ns_types.specs.declared.worker.Worker.{Worker}
+use Rattle.ns_types.specs.Working.Worker.{Worker}
 use Rattle.ns_types.proofs.Named.{numbers}
 use Rattle.ns_types.proofs.Tables.{entries-table_of}
 use Rattle.ns_types.specs.State.Names.{Name}

@@ -12,7 +12,7 @@ use Rattle.ns_types.specs.Settling.Outcome.{Outcome, NotEnabled, Refused, Done, 
 use Rattle.ns_types.specs.State.Names.{Name}
 use Rattle.ns_types.specs.State.Rows.{State, World, Tenant, is_open, is_pending}
 use Rattle.ns_types.specs.Steps.{Makes, act, is_past_bound}
-use Rattle.ns_types.specs.Working.Work.{dequeue, nack, snap}
+use Rattle.ns_types.specs.Working.Work.{dequeue, nack, snap, submit}
 use Rattle.ns_types.proofs.Lists.{not_both}
 use Rattle.ns_types.proofs.Tests.{not_Some, same_Some}
 use Rattle.ns_change.specs.declared.change.Prepared.{Prepared}
@@ -24,6 +24,7 @@ use Rattle.ns_broker.specs.Bounded.{PassesNothing}
 use Rattle.ns_broker.specs.Nacking.{SoundHasNackLeft}
 use Rattle.ns_broker.proofs.Bounding.{dequeue_fits}
 use Rattle.ns_broker.proofs.Snaps.{snap_fits}
+use Rattle.ns_broker.proofs.Submitted.{submit_fits}
 
 -- a step that passes no bound is refused for none
 pub as_bounded : (f : World → Outcome World) → PassesNothing f → (w : World) → is_past_bound w ≡ false → bounded w (f w) ≡ f w
@@ -34,7 +35,7 @@ as_bounded f fits w within = by (f w) refl
     by (Refused refusal) is = refl
     by (Done content x) is = ap (λ b. cond b (Refused Refusal.Full) (Done content x)) (fits w content x within is)
 
--- ---- a worker takes an evaluation, looks, and gives one back
+-- ---- a worker takes an evaluation, looks, hands in its plan, and gives one back
 
 module _ (worker : ℕ) (ns : Name) (s : State) where
   dequeue_acts : (n : ℕ) → act (Step.Dequeue worker ns n) s ≡ lift (with_world s.acl) (dequeue worker (ns, n) s.world)
@@ -44,6 +45,10 @@ module _ (worker : ℕ) (ns : Name) (s : State) where
   snap_acts : act (Step.Snap worker ns) s ≡ lift (with_world s.acl) (snap worker ns s.world)
   unfolding act
   snap_acts = refl
+
+  submit_acts : act (Step.Submit worker ns) s ≡ lift (with_world s.acl) (submit worker ns s.world)
+  unfolding act
+  submit_acts = refl
 
   nack_acts : act (Step.Nack worker ns) s ≡ lift (with_world s.acl) (nack worker ns s.world)
   unfolding act
@@ -67,6 +72,15 @@ module _ (worker : ℕ) (ns : Name) (s : State) where
     pub snap_does : (x : Prepared) → Prepares (snap worker ns s.world) t (Ok x) →
         act (Step.Snap worker ns) s ≡ Done x.content (record s { world = view t x.change })
     snap_does x h = snap_acts ∙ ap (lift (with_world s.acl)) h
+
+    pub submit_refuses : is_past_bound s.world ≡ false → (refusal : Refusal) → Prepares (submit worker ns s.world) t (Err refusal) →
+        Makes (Step.Submit worker ns) s (Err refusal) s
+    submit_refuses within refusal h = refuses (Step.Submit worker ns) s _ submit_acts refl t refusal
+        (subst (λ o. Prepares o t (Err refusal)) (sym (as_bounded _ (submit_fits worker ns) s.world within)) h)
+
+    pub submit_does : (x : Prepared) → Prepares (submit worker ns s.world) t (Ok x) →
+        act (Step.Submit worker ns) s ≡ Done x.content (record s { world = view t x.change })
+    submit_does x h = submit_acts ∙ ap (lift (with_world s.acl)) h
 
     pub nack_refuses : (refusal : Refusal) → Prepares (bounded s.world (nack worker ns s.world)) t (Err refusal) →
         Makes (Step.Nack worker ns) s (Err refusal) s

@@ -1,61 +1,27 @@
 -- What a nack comes to.
-use Rattle.std.specs.Prelude.{◌≡◌, ℕ, ◌+◌, Bool, true, false, cond, Option, Some, None, nat_le}
-use Rattle.std.proofs.Common.{refl, ap, sym, ◌∙◌}
-use Rattle.std.specs.Option.{option_and_then, option_map_or}
-use Rattle.std.specs.FinMap.{get}
+use Rattle.std.specs.Prelude.{◌≡◌, ℕ, ◌+◌, Bool, true, false, cond, Some, None, nat_le}
+use Rattle.std.proofs.Common.{ap, sym, ◌∙◌}
+use Rattle.std.specs.Option.{option_map_or}
 use Rattle.ns_types.specs.declared.evaluation.Evaluation.{Evaluation}
 use Rattle.ns_types.specs.declared.evaluation.Status.TheVariants as Status
 use Rattle.ns_types.specs.declared.reply.Content.TheVariants as Content
-use Rattle.ns_types.specs.declared.worker.Worker.{Worker}
+use Rattle.ns_types.specs.Working.Worker.{Worker}
 use Rattle.ns_types.proofs.Named.{numbers, one_number}
 use Rattle.ns_types.proofs.TableRows.{get_put}
-use Rattle.ns_types.proofs.Tests.{not_Some}
 use Rattle.ns_types.specs.Settling.Making.{put_tenant, with_status}
 use Rattle.ns_types.specs.Settling.Outcome.{Outcome, NotEnabled, Done}
 use Rattle.ns_types.specs.State.Names.{Name}
 use Rattle.ns_types.specs.State.Rows.{World, Tenant, evaluation_at}
 use Rattle.ns_types.specs.Working.Looks.{worker_at}
 use Rattle.ns_types.specs.Working.Queue.{promote}
-use Rattle.ns_types.specs.Working.Work.{at_work, given_back, given_up, is_submitted, most_nacks, nack, nack_for, with_nack, without_worker}
+use Rattle.ns_types.specs.Working.Work.{given_back, given_up, is_submitted, most_nacks, nack, nack_for, with_nack, without_worker}
+use Rattle.ns_broker.proofs.AtWork.{no_evaluation, no_worker, works}
 use Rattle.ns_broker.specs.Nacking.{failed, left, nacked, put_away, put_back}
 use Rattle.ns_change.proofs.Opening.{insert_twice}
 use Rattle.ns_change.specs.Changed.{put_evaluation, with_ready}
 
 module _ (number : ℕ) (ns : Name) (w : World) where
-  abbrev with_evaluation : (Tenant → Worker → Evaluation → Outcome World) → Tenant → Worker → Outcome World
-  with_evaluation act t worker = option_map_or (act t worker) (get t.evaluations worker.evaluation) NotEnabled
-
-  abbrev in_tenant : (Tenant → Worker → Evaluation → Outcome World) → Tenant → Outcome World
-  in_tenant act t = option_map_or (with_evaluation act t) (get t.workers number) NotEnabled
-
-  no_worker : (act : Tenant → Worker → Evaluation → Outcome World) → worker_at w number ns ≡ None → at_work number ns w act ≡ NotEnabled
-  no_worker act is = by (get w.tenants ns) is
-    where
-      by : (r : Option Tenant) → option_and_then (λ t. get t.workers number) r ≡ None → option_map_or (in_tenant act) r NotEnabled ≡ NotEnabled
-      by None is = refl
-      by (Some t) is = ap (λ o. option_map_or (with_evaluation act t) o NotEnabled) is
-
-  no_evaluation : (act : Tenant → Worker → Evaluation → Outcome World) (worker : Worker) → worker_at w number ns ≡ Some worker →
-      evaluation_at w (ns, worker.evaluation) ≡ None → at_work number ns w act ≡ NotEnabled
-  no_evaluation act worker has is = by (get w.tenants ns) has is
-    where
-      by : (r : Option Tenant) → option_and_then (λ t. get t.workers number) r ≡ Some worker →
-          option_and_then (λ t. get t.evaluations worker.evaluation) r ≡ None → option_map_or (in_tenant act) r NotEnabled ≡ NotEnabled
-      by None has is = refl
-      by (Some t) has is = ap (λ o. option_map_or (with_evaluation act t) o NotEnabled) has ∙ ap (λ o. option_map_or (act t worker) o NotEnabled) is
-
   module _ (worker : Worker) (e : Evaluation) (has : worker_at w number ns ≡ Some worker) (at : evaluation_at w (ns, worker.evaluation) ≡ Some e) where
-    -- what it comes to in the namespace, which is there
-    works : (act : Tenant → Worker → Evaluation → Outcome World) (outcome : Outcome World) →
-        ((t : Tenant) → get w.tenants ns ≡ Some t → act t worker e ≡ outcome) → at_work number ns w act ≡ outcome
-    works act outcome goes = by (get w.tenants ns) refl has at
-      where
-        by : (r : Option Tenant) → get w.tenants ns ≡ r → option_and_then (λ t. get t.workers number) r ≡ Some worker →
-            option_and_then (λ t. get t.evaluations worker.evaluation) r ≡ Some e → option_map_or (in_tenant act) r NotEnabled ≡ outcome
-        by None is has at = absurd (not_Some worker has)
-        by (Some t) is has at = ap (λ o. option_map_or (with_evaluation act t) o NotEnabled) has ∙
-            ap (λ o. option_map_or (act t worker) o NotEnabled) at ∙ goes t is
-
     abbrev ends : Tenant → Bool → Outcome World
     ends t third =
         let t' = with_nack worker.evaluation e t in
@@ -63,12 +29,12 @@ module _ (number : ℕ) (ns : Name) (w : World) where
 
     pub plan_waits : is_submitted worker.phase ≡ true → nack number ns w ≡ NotEnabled
     unfolding nack
-    plan_waits is = works (nack_for number ns w) NotEnabled (λ t there. ap (λ b. cond b NotEnabled (ends t (nat_le most_nacks (e.nacks + 1)))) is)
+    plan_waits is = works number ns w worker e has at (nack_for number ns w) NotEnabled (λ t there. ap (λ b. cond b NotEnabled (ends t (nat_le most_nacks (e.nacks + 1)))) is)
 
     pub comes_back : is_submitted worker.phase ≡ false → nat_le most_nacks (e.nacks + 1) ≡ false →
         nack number ns w ≡ Done (Content.Nacked Status.Pending) (put_back number ns worker.evaluation e w)
     unfolding nack
-    comes_back is few = works (nack_for number ns w) _ (λ t there. ap (λ b. cond b NotEnabled (ends t (nat_le most_nacks (e.nacks + 1)))) is
+    comes_back is few = works number ns w worker e has at (nack_for number ns w) _ (λ t there. ap (λ b. cond b NotEnabled (ends t (nat_le most_nacks (e.nacks + 1)))) is
         ∙ ap (ends t) few
         ∙ ap (λ o. Done (Content.Nacked Status.Pending) (with_ready (ns, worker.evaluation)
         (option_map_or (λ t. put_tenant ns (left number worker.evaluation (nacked e) t) w) o w))) (sym there))
@@ -84,7 +50,7 @@ module _ (number : ℕ) (ns : Name) (w : World) where
     pub is_put_away : is_submitted worker.phase ≡ false → nat_le most_nacks (e.nacks + 1) ≡ true →
         nack number ns w ≡ Done (Content.Nacked Status.Failed) (put_away number ns worker.evaluation e w)
     unfolding nack
-    is_put_away is third = works (nack_for number ns w) _ (λ t there. ap (λ b. cond b NotEnabled (ends t (nat_le most_nacks (e.nacks + 1)))) is
+    is_put_away is third = works number ns w worker e has at (nack_for number ns w) _ (λ t there. ap (λ b. cond b NotEnabled (ends t (nat_le most_nacks (e.nacks + 1)))) is
         ∙ ap (ends t) third
         ∙ ap (λ y. Done (Content.Nacked Status.Failed) (promote ns e.job (put_tenant ns y w))) (failed_is t)
         ∙ ap (λ o. Done (Content.Nacked Status.Failed) (promote ns e.job
@@ -92,8 +58,8 @@ module _ (number : ℕ) (ns : Name) (w : World) where
 
   pub none_to_nack : worker_at w number ns ≡ None → nack number ns w ≡ NotEnabled
   unfolding nack
-  none_to_nack is = no_worker (nack_for number ns w) is
+  none_to_nack is = no_worker number ns w (nack_for number ns w) is
 
   pub nothing_to_nack : (worker : Worker) → worker_at w number ns ≡ Some worker → evaluation_at w (ns, worker.evaluation) ≡ None → nack number ns w ≡ NotEnabled
   unfolding nack
-  nothing_to_nack worker has is = no_evaluation (nack_for number ns w) worker has is
+  nothing_to_nack worker has is = no_evaluation number ns w (nack_for number ns w) worker has is

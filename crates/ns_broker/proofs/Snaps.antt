@@ -7,7 +7,7 @@ use Rattle.ns_types.specs.declared.evaluation.Evaluation.{Evaluation}
 use Rattle.ns_types.specs.declared.refusal.Refusal.{Refusal}
 use Rattle.ns_types.specs.declared.reply.Content.{Content}
 use Rattle.ns_types.specs.declared.snapshot.Snapshot.{Snapshot}
-use Rattle.ns_types.specs.declared.worker.Worker.{Worker}
+use Rattle.ns_types.specs.Working.Worker.{Worker}
 use Rattle.ns_types.specs.Settling.Making.{change_tenant, put_tenant}
 use Rattle.ns_types.specs.Settling.Outcome.{Outcome, NotEnabled, Done, is_done}
 use Rattle.ns_types.specs.Settling.Settle.{settle}

@@ -10,7 +10,7 @@ use Rattle.ns_types.specs.Settling.Settle.{settle}
 use Rattle.ns_types.specs.State.Names.{Key, Name}
 use Rattle.ns_types.specs.State.Rows.{World}
 use Rattle.ns_types.specs.Steps.{greatest, is_past_bound}
-use Rattle.ns_types.specs.Working.Work.{dequeue, snap}
+use Rattle.ns_types.specs.Working.Work.{dequeue, snap, submit}
 
 -- the namespace's next index would pass its bound
 abbrev pub is_last_index : World → Name → Bool
@@ -36,3 +36,7 @@ DequeuePassesNothing = (number : ℕ) (key : Key) → PassesNothing (dequeue num
 -- it looks
 abbrev pub SnapPassesNothing : Type 0
 SnapPassesNothing = (number : ℕ) (ns : Name) → PassesNothing (snap number ns)
+
+-- it hands in its plan
+abbrev pub SubmitPassesNothing : Type 0
+SubmitPassesNothing = (number : ℕ) (ns : Name) → PassesNothing (submit number ns)

@@ -3,3 +3,4 @@ pub mod Looking
 pub mod Nacking
 pub mod Serving
 pub mod Snapping
+pub mod Submitting

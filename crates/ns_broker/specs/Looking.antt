@@ -2,7 +2,7 @@
 use Rattle.std.specs.Prelude.{ℕ, Option, Some, None, option_map}
 use Rattle.keyed.specs.Table.{row_at}
 use Rattle.ns_types.specs.declared.worker.Phase.{Phase}
-use Rattle.ns_types.specs.declared.worker.Worker.{Worker}
+use Rattle.ns_types.specs.Working.Worker.{Worker}
 use Rattle.ns_types.specs.State.Names.{Name}
 use Rattle.ns_broker.specs.declared.looking.Busy.{Busy}
 use Rattle.ns_world.specs.declared.tables.TenantRows.{TenantRows}

@@ -1,5 +1,5 @@
-//! The evaluation broker: which evaluation is served next, and the steps in which a worker takes one, looks, and gives
-//! it back.
+//! The evaluation broker: which evaluation is served next, and the steps in which a worker takes one, looks, hands in
+//! its plan, and gives it back.
 //! Each step is a command over the tables: what it answers and changes, or that it is not enabled.
 #![tactic(auto)]
 
@@ -8,10 +8,12 @@ mod looking;
 mod nacking;
 mod serving;
 mod snapping;
+mod submitting;
 mod taking;
 
 pub use looking::{Busy, first_plan, phase, row_of, served_ready, worker_at};
 pub use nacking::nack;
 pub use serving::served;
 pub use snapping::{Snapped, snap};
+pub use submitting::submit;
 pub use taking::dequeue;

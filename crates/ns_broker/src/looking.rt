@@ -86,9 +86,9 @@ pub fn phase(tables: &Tables, number: u64) -> Option<Busy<'_>>
     match row_of(tables, number) {
         Some((namespace, worker)) => Some(Busy {
             namespace,
-            evaluation: worker.evaluation,
-            phase: worker.phase,
-            tries: worker.tries,
+            evaluation: worker.evaluation(),
+            phase: worker.phase(),
+            tries: worker.tries(),
         }),
         None => None,
     }

@@ -1,9 +1,10 @@
 //! A worker gives its evaluation back.
 
-ghost use Rattle.std.specs.Prelude.{◌≡◌, ◌+◌, ◌<◌, ◌^◌, false};
+ghost use Rattle.std.specs.Prelude.{◌≡◌, ◌+◌, ◌<◌, ◌^◌, false, option_copied};
 ghost use Rattle.ns_types.specs.declared.evaluation.Status.TheVariants as Status;
 ghost use Rattle.ns_types.specs.declared.reply.Content.TheVariants as Content;
 ghost use Rattle.ns_types.specs.Settling.Outcome.{Done};
+ghost use Rattle.ns_types.specs.State.Rows.{evaluation_at};
 ghost use Rattle.ns_types.specs.Steps.{is_past_bound};
 ghost use Rattle.ns_types.specs.Working.Work.{is_submitted, nack};
 ghost use Rattle.ns_broker.specs.Bounded.{cannot_fail, is_failed, is_last_index};
@@ -19,17 +20,25 @@ use ns_types::key::EvalKey;
 use ns_types::refusal::Refusal;
 use ns_types::reply::Content;
 use ns_types::text::Text;
-use ns_types::worker::Phase;
+use ns_types::worker::{Phase, Worker};
 use ns_world::Tables;
 use std::alloc::AllocError;
 
 /// An evaluation with so many nacks has failed at the next one.
 const NACKS: u64 = 2;
 
-fn is_submitted(phase: Phase) -> bool
-    ensures { result ≡ is_submitted phase }
+fn is_submitted(worker: &Worker) -> bool
+    ensures { result ≡ is_submitted worker.now.phase }
 {
-    matches!(phase, Phase::Submitted)
+    matches!(worker.phase(), Phase::Submitted)
+}
+
+/// The evaluation of the namespace that the worker has.
+fn evaluation<'a>(tables: &'a Tables, namespace: &Text, worker: &Worker) -> Option<&'a Evaluation>
+    ensures { option_copied result ≡
+        evaluation_at (world_of tables.now) (namespace.now, worker.now.evaluation) }
+{
+    tables.evaluation(namespace, worker.evaluation())
 }
 
 /// The evaluation has that row, and the worker is idle.
@@ -91,15 +100,16 @@ fn give_back(
     tables: &Tables,
     number: u64,
     namespace: &Text,
-    evaluation: u64,
+    worker: &Worker,
     row: &Evaluation,
 ) -> Result<Prepared, Refusal>
     requires { row.now.nacks + 1 < 2 ^ 64 }
     ensures { Prepares (Done (Content.Nacked Status.Pending)
-        (put_back number namespace.now evaluation row.now (world_of tables.now)))
+        (put_back number namespace.now worker.now.evaluation row.now (world_of tables.now)))
         tables.now result }
 {
     let mut change = Change::new(tables.alloc);
+    let evaluation = worker.evaluation();
     let made = put_back(tables, &mut change, number, namespace, evaluation, row);
     prepare(Content::Nacked(Status::Pending), change, made)
 }
@@ -108,15 +118,16 @@ fn give_up(
     tables: &Tables,
     number: u64,
     namespace: &Text,
-    evaluation: u64,
+    worker: &Worker,
     row: &Evaluation,
 ) -> Result<Prepared, Refusal>
     requires { row.now.nacks + 1 < 2 ^ 64 }
     ensures { Prepares (Done (Content.Nacked Status.Failed)
-        (put_away number namespace.now evaluation row.now (world_of tables.now)))
+        (put_away number namespace.now worker.now.evaluation row.now (world_of tables.now)))
         tables.now result }
 {
     let mut change = Change::new(tables.alloc);
+    let evaluation = worker.evaluation();
     let made = put_away(tables, &mut change, number, namespace, evaluation, row);
     prepare(Content::Nacked(Status::Failed), change, made)
 }
@@ -157,17 +168,17 @@ pub fn nack(tables: &Tables, number: u64, namespace: &Text) -> Result<Prepared, 
     let Some(worker) = worker_at(tables, number, namespace) else {
         return Err(Refusal::NotEnabled);
     };
-    let Some(row) = tables.evaluation(namespace, worker.evaluation) else {
+    let Some(row) = evaluation(tables, namespace, worker) else {
         return Err(Refusal::NotEnabled);
     };
-    if is_submitted(worker.phase) {
+    if is_submitted(worker) {
         return Err(Refusal::NotEnabled);
     }
     if row.nacks < NACKS {
-        return give_back(tables, number, namespace, worker.evaluation, row);
+        return give_back(tables, number, namespace, worker, row);
     }
     if cannot_fail(tables, namespace, row) {
         return Err(Refusal::Full);
     }
-    give_up(tables, number, namespace, worker.evaluation, row)
+    give_up(tables, number, namespace, worker, row)
 }

@@ -1,8 +1,10 @@
 //! A worker looks: it takes a snapshot.
 
-ghost use Rattle.std.specs.Prelude.{◌≡◌, IfOk};
+ghost use Rattle.std.specs.Prelude.{◌≡◌, IfOk, option_copied};
+ghost use Rattle.std.specs.FinMap.{get};
+ghost use Rattle.ns_types.specs.declared.reply.Content.TheVariants as Content;
 ghost use Rattle.ns_types.specs.Working.Snapshot.{snapshot_of};
-ghost use Rattle.ns_types.specs.Working.Work.{may_snap, with_snapshot};
+ghost use Rattle.ns_types.specs.Working.Work.{may_snap};
 ghost use Rattle.ns_broker.specs.Snapping.{Keeps, Snaps, UseFitsIn};
 ghost use Rattle.ns_live.specs.Index.{IsRight};
 ghost use Rattle.ns_snapshot.specs.Seen.{UseOfFits};
@@ -32,22 +34,26 @@ pub struct Snapped {
 fn may_snap(worker: &Worker) -> bool
     ensures { result ≡ may_snap worker.now.tries worker.now.phase }
 {
-    match worker.phase {
+    match worker.phase() {
         Phase::Took => true,
-        Phase::Dropped => worker.tries != 0,
+        Phase::Dropped => worker.tries() != 0,
         _ => false,
     }
 }
 
-fn with_snapshot(worker: &Worker, kept: Shared<Snapshot>) -> Worker
-    ensures { result ≡ with_snapshot kept worker.now }
+/// The evaluation of the namespace that the worker has.
+fn evaluation<'a>(tenant: &'a TenantRows, worker: &Worker) -> Option<&'a Evaluation>
+    ensures { option_copied result ≡
+        get (tenant_of tenant.now).evaluations worker.now.evaluation }
 {
-    Worker {
-        evaluation: worker.evaluation,
-        phase: Phase::Snapped,
-        tries: worker.tries,
-        kept: Some(kept),
-    }
+    tenant.evaluations.rows().get(worker.evaluation())
+}
+
+/// What is answered to a worker that looks.
+fn answer(worker: &Worker) -> Content
+    ensures { result ≡ Content.Snapped worker.now.evaluation }
+{
+    Content::Snapped(worker.evaluation())
 }
 
 /// The worker's row in the namespace is that one.
@@ -70,16 +76,23 @@ fn look(
     live: &mut Live,
     namespace: &Text,
     tenant: &TenantRows,
-    number: u64,
+    worker: &Worker,
     evaluation: &Evaluation,
 ) -> Result<Shared<Snapshot>, AllocError>
     requires right { IsRight (world_of tables.now) live.old }
     requires fits { UseOfFits (world_of tables.now) (tenant_of tenant.now) }
     ensures seen { let w = world_of tables.now in IfOk result (λ seen. seen
-        ≡ snapshot_of w namespace.now (tenant_of tenant.now) number evaluation.now) }
+        ≡ snapshot_of w namespace.now (tenant_of tenant.now) worker.now.evaluation evaluation.now) }
     ensures right { IsRight (world_of tables.now) live.new }
 {
-    let seen = snapshot(tables, live, namespace, tenant, number, evaluation)?;
+    let seen = snapshot(
+        tables,
+        live,
+        namespace,
+        tenant,
+        worker.evaluation(),
+        evaluation,
+    )?;
     Shared::new(tables.alloc, seen)
 }
 
@@ -103,20 +116,15 @@ pub fn snap(
     let Some(worker) = tenant.workers.get(number) else {
         return Err(Refusal::NotEnabled);
     };
-    let Some(row) = tenant.evaluations.rows().get(worker.evaluation) else {
+    let Some(row) = evaluation(tenant, worker) else {
         return Err(Refusal::NotEnabled);
     };
     if !may_snap(worker) {
         return Err(Refusal::NotEnabled);
     }
-    let snapshot = look(tables, live, namespace, tenant, worker.evaluation, row)?;
-    let change = keep(
-        tables,
-        number,
-        namespace,
-        with_snapshot(worker, snapshot.share()?),
-    )?;
-    let content = Content::Snapped(worker.evaluation);
+    let snapshot = look(tables, live, namespace, tenant, worker, row)?;
+    let change = keep(tables, number, namespace, worker.snapped(snapshot.share()?))?;
+    let content = answer(worker);
     Ok(Snapped {
         prepared: Prepared { content, change },
         snapshot,

@@ -16,7 +16,7 @@ use ns_types::key::EvalKey;
 use ns_types::refusal::Refusal;
 use ns_types::reply::Content;
 use ns_types::text::Text;
-use ns_types::worker::{Phase, Worker};
+use ns_types::worker::Worker;
 use ns_world::{Tables, TenantRows};
 use std::alloc::AllocError;
 
@@ -63,12 +63,7 @@ fn tries_for(kind: JobKind) -> u64
 fn new_worker(number: u64, evaluation: &Evaluation) -> Worker
     ensures { result ≡ new_worker number evaluation.now }
 {
-    Worker {
-        evaluation: number,
-        phase: Phase::Took,
-        tries: tries_for(evaluation.kind),
-        kept: None,
-    }
+    Worker::took(number, tries_for(evaluation.kind))
 }
 
 /// Whether there is a worker of that number.

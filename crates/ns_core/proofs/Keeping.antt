@@ -1,7 +1,8 @@
 -- What is true of every core stays true: each step within the limits keeps the state valid.
-use Rattle.std.specs.Prelude.{◌≡◌, false, Ok, Err}
+use Rattle.std.specs.Prelude.{◌≡◌, ℕ, false, Ok, Err}
 use Rattle.std.proofs.Common.{sym, subst}
 use Rattle.ns_types.specs.declared.refusal.Refusal.TheVariants as Refusal
+use Rattle.ns_types.specs.declared.snapshot.Snapshot.{Snapshot}
 use Rattle.ns_types.specs.declared.step.Step.{Step}
 use Rattle.ns_types.specs.State.Names.{Name}
 use Rattle.ns_types.specs.State.Rows.{State}
@@ -10,6 +11,7 @@ use Rattle.ns_types.specs.Within.{IsGoodStep}
 use Rattle.ns_audit.proofs.Valid.{valid_step}
 use Rattle.ns_jobs.specs.Counted.{HasFewVersionsIn}
 use Rattle.ns_types.specs.Validity.{IsValid}
+use Rattle.ns_core.specs.Working.{HandsIn}
 
 module _ (step : Step) (s s' : State) (good : IsGoodStep step) (valid : IsValid s) where
   pub keeps : (answer : Answer) → Makes step s answer s' → IsValid s'
@@ -17,6 +19,13 @@ module _ (step : Step) (s s' : State) (good : IsGoodStep step) (valid : IsValid 
   keeps (Err Refusal.Memory) made = subst IsValid (sym made.1) valid
   keeps (Err Refusal.NotEnabled) made = subst IsValid (sym made.1) valid
   keeps (Err refusal) made = subst IsValid (sym made.1) valid
+
+-- a plan that is handed in
+module _ (worker : ℕ) (ns : Name) (planned : Snapshot) (s s' : State) (valid : IsValid s) where
+  pub keeps_valid : (answer : Answer) → HandsIn worker ns planned s answer s' → IsValid s'
+  keeps_valid (Ok reply) h = keeps (Step.Submit worker ns) s s' tt valid (Ok reply) h.1
+  keeps_valid (Err Refusal.Memory) h = subst IsValid (sym h.1.1) valid
+  keeps_valid (Err refusal) h = subst IsValid (sym h.1) valid
 
 -- ---- what it says
 

@@ -1,5 +1,5 @@
 -- What is prepared for a worker's step, and what a worker that looked is answered.
-use Rattle.std.specs.Prelude.{◌≡◌, ℕ, Some, Result, Ok, Err}
+use Rattle.std.specs.Prelude.{◌≡◌, ℕ, true, Some, Result, Ok, Err}
 use Rattle.std.proofs.Common.{refl, ap, ◌∙◌}
 use Rattle.ns_types.specs.declared.refusal.Refusal.{Refusal}
 use Rattle.ns_types.specs.declared.reply.Content.{Content}
@@ -8,18 +8,24 @@ use Rattle.ns_types.specs.declared.snapshot.Snapshot.{Snapshot}
 use Rattle.ns_types.specs.declared.step.Step.{Step}
 use Rattle.ns_types.specs.State.Names.{Name}
 use Rattle.ns_types.specs.State.Rows.{State}
-use Rattle.ns_types.specs.Steps.{after, said}
-use Rattle.ns_types.specs.Working.Work.{dequeue, nack, snap}
+use Rattle.ns_types.specs.Steps.{Answer, Makes, after, is_made, said}
+use Rattle.ns_types.specs.Working.Work.{dequeue, nack, snap, submit}
 use Rattle.ns_change.specs.declared.change.Prepared.{Prepared}
 use Rattle.ns_change.specs.Changed.{view}
 use Rattle.ns_change.specs.Prepared.{Prepares, bounded}
 use Rattle.ns_broker.specs.Nacking.{HasNackLeft}
 use Rattle.ns_broker.specs.Snapping.{UseFitsIn, kept_at}
+use Rattle.ns_broker.specs.Submitting.{HasWork, Submits}
 use Rattle.ns_broker.proofs.Making.{dequeue_does, dequeue_refuses, nack_does, nack_left, nack_refuses, snap_does, snap_refuses}
+use Rattle.ns_broker.proofs.Making.{submit_does, submit_refuses}
 use Rattle.ns_broker.proofs.Snaps.{snap_answers, snap_settles}
+use Rattle.ns_broker.proofs.Submitted.{has_work}
 use Rattle.ns_core.specs.declared.parts.Parts.{Parts}
 use Rattle.ns_core.specs.Answering.{MakesStep, PreparesStep}
 use Rattle.ns_types.specs.Validity.{IsValid}
+use Rattle.ns_types.specs.Settling.Outcome.{is_done}
+use Rattle.ns_types.proofs.Lists.{not_both}
+use Rattle.ns_core.specs.Working.{HandsIn}
 use Rattle.ns_core.specs.Viewed.{state_of, world_of}
 use Rattle.ns_core.proofs.Keeping.{within}
 use Rattle.ns_core.proofs.Making.{made_of}
@@ -63,3 +69,29 @@ module _ (parts : Parts) (valid : IsValid (state_of parts)) (worker : ℕ) (ns :
       pub says_its_number : reply.content ≡ Content.Snapped seen.number
       says_its_number = (made_of (Step.Snap worker ns) (state_of parts) s refl x.content _ snap_prepares reply made).0
           ∙ snap_answers worker ns (world_of parts) x.content (view parts.tables x.change) prepares seen keeps
+
+  -- ---- a worker that hands in its plan
+
+  pub has_work_there : HasWork (world_of parts) worker ns
+  has_work_there = has_work (world_of parts) valid.world worker ns
+
+  module _ (planned : Snapshot) where
+    pub not_handed_in : (refusal : Refusal) → Submits worker ns planned parts.tables (Err refusal) →
+        HandsIn worker ns planned (state_of parts) (Err refusal) (state_of parts)
+    not_handed_in Refusal.Memory h = (h.0, submit_refuses worker ns (state_of parts) parts.tables (within (state_of parts) valid) Refusal.Memory h.1)
+    not_handed_in refusal h = (h, refl)
+
+    module _ (x : Prepared) (submits : Submits worker ns planned parts.tables (Ok x)) where
+      pub submit_prepares : PreparesStep (Step.Submit worker ns) parts (Ok x)
+      submit_prepares = submit_does worker ns (state_of parts) parts.tables x submits.1
+
+      goes_through : is_made (after (Step.Submit worker ns) (state_of parts)) ≡ true
+      goes_through = (submit_refuses worker ns (state_of parts) parts.tables (within (state_of parts) valid) Refusal.Memory (ap is_done submits.1)).0
+
+      -- what is prepared is made, but for want of memory
+      pub handed_in : (s : State) (answer : Answer) → Makes (Step.Submit worker ns) (state_of parts) answer s →
+          HandsIn worker ns planned (state_of parts) answer s
+      handed_in s (Ok reply) made = (submits.0, made)
+      handed_in s (Err Refusal.Memory) made = (submits.0, made)
+      handed_in s (Err Refusal.NotEnabled) made = not_both goes_through (ap is_made made.0)
+      handed_in s (Err refusal) made = not_both goes_through (ap is_made made.0)

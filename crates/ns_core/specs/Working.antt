@@ -1,10 +1,14 @@
 -- What workers' steps answer and leave.
-use Rattle.std.specs.Prelude.{◌≡◌, true, None, Result, Ok, Err}
+use Rattle.std.specs.Prelude.{◌≡◌, ℕ, true, Some, None, Result, Ok, Err}
 use Rattle.ns_types.specs.declared.refusal.Refusal.{Refusal}
 use Rattle.ns_types.specs.declared.reply.Content.{Content}
 use Rattle.ns_types.specs.declared.snapshot.Snapshot.{Snapshot}
 use Rattle.ns_types.specs.declared.step.Step.{Step}
-use Rattle.ns_types.specs.Steps.{Answer, index_shown, is_allowed}
+use Rattle.ns_types.specs.State.Names.{Name}
+use Rattle.ns_types.specs.State.Rows.{State}
+use Rattle.ns_types.specs.Steps.{Answer, Makes, index_shown, is_allowed}
+use Rattle.ns_types.specs.Working.Looks.{RefusesPlan}
+use Rattle.ns_broker.specs.Snapping.{kept_at}
 use Rattle.ns_change.specs.declared.change.Prepared.{Prepared}
 use Rattle.ns_core.specs.declared.parts.Parts.{Parts}
 use Rattle.ns_core.specs.Answering.{MakesStep, PreparesStep}
@@ -19,3 +23,12 @@ MakesWork prepared old result new = (step : Step) → is_allowed step old.acl �
 abbrev pub snapped : Result Snapshot Refusal → Answer
 snapped (Ok seen) = Ok (record { index = None; content = Content.Snapped seen.number })
 snapped (Err refusal) = Err refusal
+
+-- A plan of the snapshot that the worker keeps makes the model's step. Any other, and one that does nothing, is refused,
+-- and the state stays. Want of memory comes last, where the step would have been made.
+abbrev pub HandsIn : ℕ → Name → Snapshot → State → Answer → State → Type 0
+HandsIn worker ns planned s (Ok reply) s' =
+    (kept_at s.world worker ns ≡ Some planned) × Makes (Step.Submit worker ns) s (Ok reply) s'
+HandsIn worker ns planned s (Err Refusal.Memory) s' =
+    (kept_at s.world worker ns ≡ Some planned) × Makes (Step.Submit worker ns) s (Err Refusal.Memory) s'
+HandsIn worker ns planned s (Err refusal) s' = RefusesPlan s.world worker ns planned refusal × (s' ≡ s)

@@ -3,10 +3,10 @@
 ghost use Rattle.std.specs.Prelude.{◌≡◌, IfOk, Some, option_copied, option_map};
 ghost use Rattle.ns_types.specs.declared.step.Step.TheVariants as Step;
 ghost use Rattle.ns_types.specs.Steps.{Makes, opening};
-ghost use Rattle.ns_types.specs.Working.Looks.{row_of, served_ready};
+ghost use Rattle.ns_types.specs.Working.Looks.{first_plan, row_of, served_ready};
 ghost use Rattle.ns_broker.specs.Looking.{busy_of, busy_told};
 ghost use Rattle.ns_broker.specs.Snapping.{kept_at};
-ghost use Rattle.ns_core.specs.Working.{snapped};
+ghost use Rattle.ns_core.specs.Working.{HandsIn, snapped};
 ghost use Rattle.ns_steps.specs.Served.{IsServedAsk, IsServedNode};
 
 use crate::parts::Parts;
@@ -14,6 +14,7 @@ use ns_broker::Busy;
 use ns_types::good::{GoodAdmin, GoodAsk, GoodTelling};
 use ns_types::key::EvalKey;
 use ns_types::name::Secret;
+use ns_types::planned::Planned;
 use ns_types::refusal::Refusal;
 use ns_types::reply::Reply;
 use ns_types::shared::Shared;
@@ -120,6 +121,21 @@ impl Core {
         parts.snap(worker, namespace)
     }
 
+    /// Makes the step in which a worker hands in the plan of its snapshot. The reply says the number of its evaluation.
+    /// `NotEnabled`: the worker has no evaluation of the namespace, or it is not its turn. Then `Foreign`: the plan is of
+    /// another snapshot than its row keeps. Then `NotEnabled`: the plan does nothing.
+    pub fn submit(
+        &mut self,
+        worker: u64,
+        namespace: &Text,
+        planned: Planned,
+    ) -> Result<Reply, Refusal>
+        ensures { HandsIn worker namespace.now planned self.old result self.new }
+    {
+        let parts = &mut self.parts;
+        parts.submit(worker, namespace, planned)
+    }
+
     /// Makes the step in which a worker gives its evaluation of the namespace back. The reply says its status then.
     pub fn nack(&mut self, worker: u64, namespace: &Text) -> Result<Reply, Refusal>
         ensures { Makes (Step.Nack worker namespace.now) self.old result self.new }
@@ -133,6 +149,13 @@ impl Core {
         ensures { option_copied result ≡ served_ready self.now.world }
     {
         ns_broker::served_ready(&self.parts.tables)
+    }
+
+    /// The evaluation whose plan is served next.
+    pub fn first_plan(&self) -> Option<&EvalKey>
+        ensures { option_copied result ≡ first_plan self.now.world }
+    {
+        ns_broker::first_plan(&self.parts.tables)
     }
 
     /// What the worker is busy with, and how far it is. None: it is idle.

@@ -7,11 +7,12 @@ ghost use Rattle.ns_core.specs.Answering.{MakesStep};
 ghost use Rattle.ns_types.specs.Validity.{IsValid};
 ghost use Rattle.ns_core.specs.Held.{IsIndexed, IsKept};
 ghost use Rattle.ns_core.specs.Viewed.{state_of, world_of};
-ghost use Rattle.ns_core.specs.Working.{MakesWork, snapped};
+ghost use Rattle.ns_core.specs.Working.{HandsIn, MakesWork, snapped};
 
 use crate::parts::{Parts, plain};
-use ns_broker::{Snapped, dequeue, nack, snap};
+use ns_broker::{Snapped, dequeue, nack, snap, submit};
 use ns_change::Prepared;
+use ns_types::planned::Planned;
 use ns_types::refusal::Refusal;
 use ns_types::reply::Reply;
 use ns_types::shared::Shared;
@@ -58,6 +59,22 @@ impl Parts {
         let content = self.make(Ok(prepared))?;
         drop(content);
         Ok(snapshot)
+    }
+
+    /// Makes the step in which a worker hands in its plan, or leaves the state as it is.
+    pub fn submit(
+        &mut self,
+        worker: u64,
+        namespace: &Text,
+        planned: Planned,
+    ) -> Result<Reply, Refusal>
+        requires { IsValid (state_of self.old) }
+        ensures made { HandsIn worker namespace.now planned
+            (state_of self.old) result (state_of self.new) }
+        ensures index { IsIndexed self.old → IsIndexed self.new }
+    {
+        let prepared = submit(&self.tables, worker, namespace, planned)?;
+        self.work(Ok(prepared))
     }
 
     /// Makes the step in which a worker gives its evaluation back, or leaves the state as it is.

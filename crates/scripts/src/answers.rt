@@ -2,6 +2,7 @@
 
 use ns_core::Core;
 use ns_types::evaluation::Status;
+use ns_types::key::EvalKey;
 use ns_types::refusal::Refusal;
 use ns_types::reply::{Content, Reply, Response};
 use ns_types::shared::Shared;
@@ -45,6 +46,7 @@ fn status_text(status: Status) -> &'static str {
 fn write_content<W: Write>(out: &mut W, content: &Content) -> anyhow::Result<()> {
     match content {
         Content::Took(number) => writeln!(out, "took {number}")?,
+        Content::Queued(number) => writeln!(out, "queued {number}")?,
         Content::Nacked(status) => {
             let status = status_text(*status);
             writeln!(out, "nacked {status}")?;
@@ -82,9 +84,9 @@ pub fn write_snapshot<W: Write>(
     }
 }
 
-/// The evaluation that is served next.
-pub fn write_served<W: Write>(out: &mut W, core: &Core) -> anyhow::Result<()> {
-    match core.served() {
+/// An evaluation of a list, if there is one.
+pub fn write_key<W: Write>(out: &mut W, key: Option<&EvalKey>) -> anyhow::Result<()> {
+    match key {
         Some(key) => {
             let (number, namespace) = (key.number(), key.namespace().as_str());
             writeln!(out, "{number} of {namespace}")?;

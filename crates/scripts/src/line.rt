@@ -18,8 +18,11 @@ pub enum Line<'a> {
 pub enum Call<'a> {
     Dequeue(u64, &'a str, u64),
     Snap(u64, &'a str),
+    /// The plan of the snapshot that was taken last is handed in.
+    Submit(u64, &'a str),
     Nack(u64, &'a str),
     Served,
+    Planned,
     Phase(u64),
 }
 
@@ -59,6 +62,11 @@ fn snap(text: &str) -> Option<Call<'_>> {
     Some(Call::Snap(worker, namespace))
 }
 
+fn submit(text: &str) -> Option<Call<'_>> {
+    let (worker, namespace) = worker_in(text)?;
+    Some(Call::Submit(worker, namespace))
+}
+
 fn nack(text: &str) -> Option<Call<'_>> {
     let (worker, namespace) = worker_in(text)?;
     Some(Call::Nack(worker, namespace))
@@ -69,8 +77,10 @@ impl<'a> Call<'a> {
         match word {
             "dequeue" => dequeue(rest),
             "snap" => snap(rest),
+            "submit" => submit(rest),
             "nack" => nack(rest),
             "served" if rest.is_empty() => Some(Call::Served),
+            "planned" if rest.is_empty() => Some(Call::Planned),
             "phase" => Some(Call::Phase(number(rest)?)),
             _ => None,
         }

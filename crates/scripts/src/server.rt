@@ -1,15 +1,18 @@
 //! The server of a script.
 
-use crate::answers::{write_phase, write_reply, write_response, write_served, write_snapshot};
+use crate::answers::{write_key, write_phase, write_reply, write_response, write_snapshot};
 use crate::lent::{Lent, LentDraws};
 use crate::line::{Call, Line};
 use anyhow::Context;
 use ns_api::Api;
 use ns_core::Core;
 use ns_http::{Answer, Request};
+use ns_schedule::plan;
 use ns_types::name::Secret;
 use ns_types::refusal::Refusal;
-use ns_types::reply::Response;
+use ns_types::reply::{Reply, Response};
+use ns_types::shared::Shared;
+use ns_types::snapshot::Snapshot;
 use ns_types::text::Text;
 use std::alloc::{AllocError, Global};
 use std::io::Write;
@@ -25,6 +28,8 @@ pub struct Server<'a> {
     token: Option<&'a str>,
     /// The byte that is drawn next.
     next: u8,
+    /// The snapshot that was taken last.
+    seen: Option<Shared<Snapshot>>,
 }
 
 /// A call that was refused for memory is made once more.
@@ -38,6 +43,18 @@ fn repeated<S, T: Drop, F: Fn(&mut S) -> Result<T, Refusal>>(
         Err(Refusal::Memory) => call(state),
         answer => answer,
     }
+}
+
+/// The plan of the snapshot is made and handed in.
+fn submitted(
+    core: &mut Core,
+    alloc: Global,
+    worker: u64,
+    namespace: &Text,
+    seen: &Shared<Snapshot>,
+) -> Result<Reply, Refusal> {
+    let planned = plan(alloc, seen.share()?)?;
+    core.submit(worker, namespace, planned)
 }
 
 fn is_unanswered(answer: &Result<Response, AllocError>) -> bool {
@@ -56,6 +73,7 @@ impl<'a> Server<'a> {
             core,
             token: Some(ROOT),
             next: 1,
+            seen: None,
         })
     }
 
@@ -119,6 +137,25 @@ impl<'a> Server<'a> {
     fn snap<W: Write>(&mut self, worker: u64, namespace: &Text, out: &mut W) -> anyhow::Result<()> {
         let answer = repeated(&mut self.core, |core| core.snap(worker, namespace));
         let written = write_snapshot(out, &answer);
+        if let Ok(snapshot) = answer {
+            self.seen = Some(snapshot);
+        }
+        written
+    }
+
+    fn submit<W: Write>(
+        &mut self,
+        worker: u64,
+        namespace: &Text,
+        out: &mut W,
+    ) -> anyhow::Result<()> {
+        let alloc = self.alloc;
+        let seen = self.seen.as_ref().context("no snapshot was taken")?;
+        let answer = repeated(
+            &mut self.core,
+            |core| submitted(core, alloc, worker, namespace, seen),
+        );
+        let written = write_reply(out, &answer);
         drop(answer);
         written
     }
@@ -144,7 +181,12 @@ impl<'a> Server<'a> {
                 let namespace = Text::from_str(self.alloc, namespace)?;
                 self.nack(worker, &namespace, out)
             }
-            Call::Served => write_served(out, &self.core),
+            Call::Submit(worker, namespace) => {
+                let namespace = Text::from_str(self.alloc, namespace)?;
+                self.submit(worker, &namespace, out)
+            }
+            Call::Served => write_key(out, self.core.served()),
+            Call::Planned => write_key(out, self.core.first_plan()),
             Call::Phase(worker) => write_phase(out, &self.core, worker),
         }
     }

@@ -1,0 +1,109 @@
+//! A worker hands in its plan.
+
+ghost use Rattle.std.specs.Prelude.{◌≡◌, ◌↔◌, IsTrue, MatchResult, Some};
+ghost use Rattle.ns_types.specs.Working.Looks.{RefusesPlan};
+ghost use Rattle.ns_types.specs.Working.Work.{is_snapped};
+ghost use Rattle.ns_broker.specs.Submitting.{HasWork, IsAdmitted, Submits, handed_in};
+ghost use Rattle.ns_change.specs.Changed.{Does};
+ghost use Rattle.ns_world.specs.World.{world_of};
+
+use crate::looking::worker_at;
+use ns_change::{Change, Prepared, add_plan, prepare, put_row};
+use ns_equal::same_snapshot;
+use ns_types::key::EvalKey;
+use ns_types::planned::Planned;
+use ns_types::refusal::Refusal;
+use ns_types::reply::Content;
+use ns_types::snapshot::Snapshot;
+use ns_types::text::Text;
+use ns_types::worker::{Phase, Worker};
+use ns_world::Tables;
+use std::alloc::AllocError;
+
+/// Whether it has looked, and has not handed in a plan since.
+fn is_snapped(worker: &Worker) -> bool
+    ensures { result ≡ is_snapped worker.now.phase }
+{
+    matches!(worker.phase(), Phase::Snapped)
+}
+
+/// Whether the worker keeps that snapshot.
+fn keeps(worker: &Worker, snapshot: &Snapshot) -> bool
+    ensures { IsTrue result ↔ (worker.now.kept ≡ Some snapshot.now) }
+{
+    match worker.kept() {
+        Some(kept) => same_snapshot(kept.get(), snapshot),
+        None => false,
+    }
+}
+
+/// The worker's row, where it may hand in that plan. What is asked takes no memory.
+fn admitted<'a>(
+    tables: &'a Tables,
+    number: u64,
+    namespace: &Text,
+    planned: &Planned,
+) -> Result<&'a Worker, Refusal>
+    ensures { let w = world_of tables.now in
+        MatchResult result (λ worker. IsAdmitted w number namespace.now planned.now worker.now)
+        (λ refusal. RefusesPlan w number namespace.now planned.now refusal) }
+{
+    let Some(worker) = worker_at(tables, number, namespace) else {
+        return Err(Refusal::NotEnabled);
+    };
+    if !is_snapped(worker) {
+        return Err(Refusal::NotEnabled);
+    }
+    if !keeps(worker, planned.snapshot().get()) {
+        return Err(Refusal::Foreign);
+    }
+    if planned.does_nothing() {
+        return Err(Refusal::NotEnabled);
+    }
+    Ok(worker)
+}
+
+/// The worker has handed in the plan of its snapshot, which waits behind the others.
+fn hand_in(
+    tables: &Tables,
+    change: &mut Change,
+    number: u64,
+    namespace: &Text,
+    worker: &Worker,
+    planned: Planned,
+) -> Result<(), AllocError>
+    requires { worker.now.kept ≡ Some planned }
+    ensures { Does result tables.now change.old change.new
+        (handed_in number namespace.now worker.now) }
+{
+    let row = worker.submitted(planned)?;
+    put_row(tables, change, namespace, number, row)?;
+    add_plan(
+        change,
+        EvalKey::new(namespace.clone()?, worker.evaluation()),
+    )
+}
+
+/// The worker hands in a plan, which waits behind the others then. `NotEnabled`: the worker has no evaluation of the
+/// namespace, or it is not its turn. Then `Foreign`: the plan is of another snapshot than the worker keeps. Then
+/// `NotEnabled`: the plan does nothing. The worker's evaluation is there, as in each valid world.
+pub fn submit(
+    tables: &Tables,
+    number: u64,
+    namespace: &Text,
+    planned: Planned,
+) -> Result<Prepared, Refusal>
+    requires { HasWork (world_of tables.now) number namespace.now }
+    ensures { Submits number namespace.now planned tables.now result }
+{
+    let worker = match admitted(tables, number, namespace, &planned) {
+        Ok(worker) => worker,
+        Err(refusal) => {
+            drop(planned);
+            return Err(refusal);
+        }
+    };
+    let mut change = Change::new(tables.alloc);
+    let made = hand_in(tables, &mut change, number, namespace, worker, planned);
+    prepare(Content::Queued(worker.evaluation()), change, made)
+}
