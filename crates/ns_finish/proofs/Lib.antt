@@ -1,0 +1,4 @@
+pub mod Finished
+pub mod Followers
+pub mod Newer
+pub mod Numbered
