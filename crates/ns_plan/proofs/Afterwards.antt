@@ -1,5 +1,5 @@
 -- The state after the stops, row by row and sum by sum.
-use Rattle.std.specs.Prelude.{◌≡◌, ℕ, ◌+◌, ◌++◌, Bool, true, false, cond, List, [], ◌∷◌, Option, Some, None, ◌&&◌, map, option_map, sum_by}
+use Rattle.std.specs.Prelude.{◌≡◌, ℕ, ◌+◌, ◌++◌, Bool, true, false, cond, List, [], ◌∷◌, Option, Some, None, ◌&&◌, map, not, option_map, sum_by}
 use Rattle.std.proofs.Common.{◌<◌, Bor, get_or, length, take, add-one, refl, sym, ap, ◌∙◌, arith}
 use Rattle.std.proofs.Math.Seq.{take-suc}
 use Rattle.std.proofs.lemmas.List.{map-append}
@@ -10,16 +10,17 @@ use Rattle.ns_types.specs.declared.allocation.Allocation.{Allocation}
 use Rattle.ns_types.specs.declared.plan.Eviction.{Eviction}
 use Rattle.ns_types.specs.declared.resources.Resources.{Resources}
 use Rattle.ns_types.specs.State.Names.{Key, Name, has_key, has_number, same_key, same_name, same_number}
-use Rattle.ns_types.specs.State.Resources.{limits_allow, limits_in, minus, none, plus, unlimited}
+use Rattle.ns_types.specs.State.Resources.{limits_allow, limits_in, minus, none, plus, same_resources, unlimited}
 use Rattle.ns_types.specs.State.Rows.{Tenant, World, allocation_at, is_live, is_live_on, node_at}
 use Rattle.ns_types.specs.State.Sums.{names_quota, node_load, quota_use}
 use Rattle.ns_types.specs.Working.Commit.{counts, quota_named, stop_all, victim_key}
 use Rattle.ns_types.proofs.Elements.{any_map, any_under}
 use Rattle.ns_types.proofs.Gone.{rows_gone, stopped_are, stopped_row}
 use Rattle.ns_types.proofs.Less.{nodes_stay, quotas_stay, allocation_then, gone_alike, load_less, named_stays, use_less}
-use Rattle.ns_types.proofs.Named.{same_name_refl}
+use Rattle.ns_types.proofs.Named.{first_of_both, one_number, same_name_refl, second_of_both}
 use Rattle.ns_types.proofs.Once.{once, once_apart, once_has, once_push}
 use Rattle.ns_types.proofs.Taken.{node_part, quota_part, row_size, size_at}
+use Rattle.ns_types.proofs.Tables.{tied}
 use Rattle.ns_plan.specs.After.{keys_of, names, part_of_quota, part_on, stop_keys}
 use Rattle.ns_plan.specs.Looks.{if_live, limits_of, live_at}
 use Rattle.ns_plan.specs.Reader.{allows, load_left, use_left}
@@ -85,6 +86,23 @@ module _ (f g : Key → ℕ) where
           (minus (minus whole (sums (once keys))) part)
       by true = refl
       by false = one_less whole part (once keys) k cpu memory
+
+-- who takes nothing off changes nothing
+nothing_less : (r s : Resources) → same_resources s none ≡ true → minus r s ≡ r
+nothing_less r s e =
+    let cpu = tied one_number s.cpu 0 (first_of_both (same_number s.cpu 0) (same_number s.memory 0) e) in
+    let memory = tied one_number s.memory 0 (second_of_both (same_number s.cpu 0) (same_number s.memory 0) e) in
+    same_amounts _ _ (omega (arith, cpu)) (omega (arith, memory))
+
+pub first_less : (whole part : Resources) (b : Bool) →
+    cond (not (same_resources part none) && not b) (minus whole part) whole ≡ cond b whole (minus whole part)
+first_less whole part b = by (same_resources part none) refl b
+  where
+    by : (n : Bool) → same_resources part none ≡ n → (b : Bool) → cond (not n && not b) (minus whole part) whole ≡ cond b whole (minus whole part)
+    by true e true = refl
+    by true e false = sym (nothing_less whole part e)
+    by false e true = refl
+    by false e false = refl
 
 -- ---- what an allocation takes
 

@@ -5,3 +5,4 @@ pub mod Afterwards
 pub mod Holding
 pub mod Steps
 pub mod Parts
+pub mod Bounded

@@ -1,9 +1,13 @@
--- What is decided node by node needs no state but the one after the stops.
-use Rattle.std.specs.Prelude.{◌≡◌, ℕ, List, fold}
+-- What is decided node by node needs no state but the one after the stops; which sums are counted; how long plans are.
+use Rattle.std.specs.Prelude.{◌≡◌, ◌≤◌, ℕ, List, Some, fold, length}
+use Rattle.std.specs.FinMap.{get}
 use Rattle.ns_types.specs.declared.plan.Placement.{Placement}
 use Rattle.ns_types.specs.declared.snapshot.Snapshot.{Snapshot}
-use Rattle.ns_types.specs.State.Rows.{World}
-use Rattle.ns_types.specs.Validity.{IsSound}
+use Rattle.ns_types.specs.Working.Worker.{Worker}
+use Rattle.ns_types.specs.Placing.Plan.{plan}
+use Rattle.ns_types.specs.State.Names.{Name}
+use Rattle.ns_types.specs.State.Rows.{State, Tenant, World}
+use Rattle.ns_types.specs.Validity.{IsSound, IsValid}
 use Rattle.ns_types.specs.Working.Commit.{Commit, begun, decide}
 use Rattle.ns_plan.specs.Looks.{AreCounted}
 use Rattle.ns_plan.specs.Reader.{Read, read_all}
@@ -22,3 +26,9 @@ ReadingDecides = (kept : Snapshot) (placements : List Placement) (w : World) (no
 -- a valid world's sums can be counted
 abbrev pub SoundIsCounted : Type 0
 SoundIsCounted = (w : World) → IsSound w → AreCounted w
+
+-- the plan of each snapshot that a valid state keeps places at most 1,000 allocations for each of at most 16 groups
+abbrev pub KeptIsBounded : Type 0
+KeptIsBounded = (s : State) (ns : Name) (t : Tenant) (number : ℕ) (worker : Worker) (kept : Snapshot) → IsValid s →
+    get s.world.tenants ns ≡ Some t → get t.workers number ≡ Some worker → worker.kept ≡ Some kept →
+    length (plan kept).placing.placements ≤ 16000

@@ -1,7 +1,8 @@
 //! The state after a plan's stops, read from the present one: nothing is written. The stops are of one namespace.
 
-ghost use Rattle.std.specs.Prelude.{◌≡◌, ◌<◌, ℕ, length, map, option_copied, slice_index_or, take};
+ghost use Rattle.std.specs.Prelude.{◌≡◌, ◌<◌, ◌&&◌, ℕ, length, map, not, option_copied, slice_index_or, take};
 ghost use Rattle.ns_types.specs.State.Names.{has_key, has_number};
+ghost use Rattle.ns_types.specs.State.Resources.{none, same_resources};
 ghost use Rattle.ns_types.specs.State.Rows.{is_live_on};
 ghost use Rattle.ns_types.specs.State.Sums.{node_load, quota_use};
 ghost use Rattle.ns_types.specs.Working.Commit.{counts, stop_all};
@@ -11,6 +12,7 @@ ghost use Rattle.ns_plan.specs.Reader.{load_left, use_left};
 
 use crate::amounts::less;
 use crate::view::View;
+use ns_alike::same_resources;
 use ns_types::allocation::Allocation;
 use ns_types::plan::Eviction;
 use ns_types::resources::Resources;
@@ -121,6 +123,16 @@ fn stands_earlier(numbers: &[u64], place: usize) -> bool
     has_number(&numbers[..place], numbers[place])
 }
 
+/// Whether the number at the place takes something and stands there for the first time. The numbers before it are
+/// looked at only where it takes something.
+fn takes_first(part: Resources, numbers: &[u64], place: usize) -> bool
+    requires { place < length numbers.now }
+    ensures { (d : ℕ) → result ≡ (not (same_resources part none)
+        && not (has_number (take place numbers.now) (slice_index_or numbers.now place d))) }
+{
+    !same_resources(part, NONE) && !stands_earlier(numbers, place)
+}
+
 fn load<V: View>(view: &V, namespace: &Text, stops: &[u64], pool: &Text, node: &Text) -> Resources
     requires { AreCounted (V.world view.now) }
     ensures { result ≡ node_load (stop_all namespace.now stops.now (V.world view.now))
@@ -128,11 +140,9 @@ fn load<V: View>(view: &V, namespace: &Text, stops: &[u64], pool: &Text, node: &
 {
     let mut left = view.load(pool, node);
     for i in 0..stops.len() {
-        if !stands_earlier(stops, i) {
-            left = less(
-                left,
-                part_on(view.allocation(namespace, stops[i]), pool, node),
-            );
+        let part = part_on(view.allocation(namespace, stops[i]), pool, node);
+        if takes_first(part, stops, i) {
+            left = less(left, part);
         }
     }
     left

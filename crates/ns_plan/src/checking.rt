@@ -8,7 +8,7 @@ ghost use Rattle.ns_plan.specs.Looks.{AreCounted, IsChecked};
 
 use crate::after::has_number;
 use crate::deciding::{Decided, decide_all};
-use crate::stops::{live_stops, still_stands};
+use crate::stops::{live_stops, stands};
 use crate::victims::hold;
 use crate::view::View;
 use ns_types::plan::{Eviction, Placement, Plan};
@@ -145,7 +145,7 @@ pub fn check<'a, V: View>(
 {
     let nodes = nodes_in(alloc, plan.placing.placements.as_slice())?;
     let job = view.job(&snapshot.namespace, &snapshot.evaluation.job);
-    if still_stands(snapshot.job.as_ref(), job) {
+    if stands(snapshot.job.as_ref(), job) {
         check_standing(alloc, snapshot, plan, view, &nodes)
     } else {
         Ok(Outcome {

@@ -1,6 +1,6 @@
-//! What is decided node by node needs no state but the one after the stops.
+//! What is decided node by node needs no state but the one after the stops; which sums are counted; how long plans are.
 
-ghost use Rattle.ns_plan.specs.Laws.{ReadingDecides, SoundIsCounted};
+ghost use Rattle.ns_plan.specs.Laws.{KeptIsBounded, ReadingDecides, SoundIsCounted};
 
 /// Who writes nothing before all nodes are decided decides as who takes each node's victims out at once.
 pub fn reading_decides()
@@ -10,4 +10,9 @@ pub fn reading_decides()
 /// A valid world's sums can be counted.
 pub fn sound_is_counted()
     ensures { SoundIsCounted }
+{}
+
+/// The plan of each snapshot that a valid state keeps has at most 16,000 placements.
+pub fn kept_is_bounded()
+    ensures { KeptIsBounded }
 {}

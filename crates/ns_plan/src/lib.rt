@@ -12,4 +12,5 @@ mod victims;
 mod view;
 
 pub use checking::{Outcome, check};
+pub use stops::stands;
 pub use view::View;

@@ -30,8 +30,9 @@ fn same_version(a: Option<&Job>, b: Option<&Job>) -> bool
     }
 }
 
-/// Whether a plan for the one job stands now that the other is there.
-pub(crate) fn still_stands(planned: Option<&Job>, present: Option<&Job>) -> bool
+/// Whether a plan for the one job stands now that the other is there. Of a plan that does not, `check` does nothing. It
+/// takes no memory.
+pub fn stands(planned: Option<&Job>, present: Option<&Job>) -> bool
     ensures { result ≡ still_stands (option_copied planned.entry) (option_copied present.entry) }
 {
     if has_ended(planned) {

@@ -1,25 +1,35 @@
-use Rattle.std.proofs.Common.{◌≤◌, ◌∙◌, length, sym, ap, arith, false, true}
+use Rattle.std.proofs.Common.{◌≤◌, ◌&&◌, ◌∙◌, cond, get_or, length, refl, sym, ap, arith, take}
+use Rattle.std.specs.Prelude.{not}
 use Rattle.std.proofs.lemmas.List.{take_all}
-use Rattle.ns_types.specs.State.Resources.{minus}
+use Rattle.ns_types.specs.State.Resources.{minus, none, same_resources}
+use Rattle.ns_types.specs.State.Names.{has_number}
+use Rattle.ns_types.specs.State.Rows.{allocation_at}
 use Rattle.ns_types.proofs.Once.{once}
 use Rattle.ns_plan.specs.After.{part_on, stop_keys}
 use Rattle.ns_plan.specs.Reader.{load_left}
-use Rattle.ns_plan.proofs.Afterwards.{load_step, load_stopped}
+use Rattle.ns_plan.proofs.Afterwards.{first_less, load_step, load_stopped}
 use Rattle.ns_plan.proofs.after.load.Goals as goal
-use Rattle.ns_plan.proofs.after.load.Goals.{then-not-stands_earlier, else-not-stands_earlier}
+use Rattle.ns_plan.proofs.after.load.Goals.{then-takes_first, else-takes_first}
 
 pub loop-i-preserved : goal.loop-i-preserved
 loop-i-preserved g c =
     let w = g.V.View.world c.args.view.now in
+    let ns = c.args.namespace.now in
+    let stops = c.args.stops.now in
     let pool = c.args.pool.now in
     let node = c.args.node.now in
-    let step = load_step c.args.namespace.now c.args.stops.now c.loop-i.i c.loop-i-test.true w in
-    elim c.if-not-stands_earlier.branch [
-      | then-not-stands_earlier v ↦ v.left-is ∙ v.less-left.ensures
-          ∙ (λ i. minus (c.loop-i.invariant i) ((v.part_on.ensures ∙ ap (part_on pool node) v.allocation.ensures) i))
-          ∙ sym (step false (sym (c.stands_earlier.ensures 0) ∙ v.if-not-stands_earlier.true) pool node)
-      | else-not-stands_earlier v ↦ v.left-is ∙ c.loop-i.invariant
-          ∙ sym (step true (sym (c.stands_earlier.ensures 0) ∙ v.if-not-stands_earlier.false) pool node)
+    let at = c.loop-i.i in
+    let before = load_left w pool node (once (stop_keys ns (take at stops))) in
+    let row = allocation_at w (ns, get_or stops at 0) in
+    let stood = has_number (take at stops) (get_or stops at 0) in
+    let part = c.part_on-part.ensures ∙ ap (part_on pool node) c.allocation.ensures in
+    let next = first_less before (part_on pool node row) stood ∙ sym (load_step ns stops at c.loop-i-test.true w stood refl pool node) in
+    let first = ap (λ r. not (same_resources r none) && not stood) (sym part) ∙ sym (c.takes_first.ensures 0) in
+    elim c.if-takes_first.branch [
+      | then-takes_first v ↦ v.left-is ∙ v.less-left.ensures ∙ (λ i. minus (c.loop-i.invariant i) (part i))
+          ∙ sym (ap (λ b. cond b (minus before (part_on pool node row)) before) (first ∙ v.if-takes_first.true)) ∙ next
+      | else-takes_first v ↦ v.left-is ∙ c.loop-i.invariant
+          ∙ sym (ap (λ b. cond b (minus before (part_on pool node row)) before) (first ∙ v.if-takes_first.false)) ∙ next
     ]
 
 pub returns : goal.returns

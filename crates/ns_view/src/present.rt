@@ -1,0 +1,85 @@
+//! The present state as one value, which contracts see as its world.
+
+ghost use Rattle.std.specs.Prelude.{◌≡◌};
+ghost use Rattle.ns_live.specs.Index.{IsRight};
+ghost use Rattle.ns_world.specs.World.{world_of};
+
+use crate::looking;
+use ns_jobs::quota_use;
+use ns_live::Live;
+use ns_plan::View;
+use ns_types::allocation::Allocation;
+use ns_types::job::Job;
+use ns_types::node::Node;
+use ns_types::resources::{Limits, Resources};
+use ns_types::text::Text;
+use ns_world::Tables;
+use std::marker::Model;
+
+/// The tables of the world with an index of live allocations that is right for them. Contracts see the world.
+///
+/// A look-up of a row costs what the tables' do. The load of a node costs a walk over its live allocations. What a
+/// quota has in use costs a walk over all allocations of the namespaces that name it, until running totals are kept.
+#[derive(Drop)]
+pub struct Present<'a> {
+    tables: &'a Tables,
+    live: &'a Live,
+}
+
+impl<'a> Model for Present<'a> {
+    ghost use Rattle.std.specs.Coded.{codes};
+    ghost use Rattle.std.specs.FinMap.{code};
+    ghost use Rattle.ns_live.specs.Index.{IsRight};
+    ghost use Rattle.ns_types.specs.State.Rows.{World};
+    ghost use Rattle.ns_world.specs.World.{world_of};
+
+    ghost Value = { World };
+
+    ghost coded = { Prim.hlevel (codes, code) };
+
+    ghost view = { λ p. world_of p.tables.now };
+
+    ghost invariant = { λ p. IsRight (world_of p.tables.now) p.live.now };
+}
+
+impl<'a> Present<'a> {
+    /// The world that the tables hold, by an index that is right for it. It takes no memory.
+    pub fn new(tables: &'a Tables, live: &'a Live) -> Present<'a>
+        requires { IsRight (world_of tables.now) live.now }
+        ensures { result ≡ world_of tables.now }
+    {
+        Present { tables, live }
+    }
+}
+
+impl<'a> View for Present<'a> {
+    ghost world = { λ w. w };
+
+    fn allocation(&self, namespace: &Text, number: u64) -> Option<&Allocation> {
+        looking::allocation(self.tables, namespace, number)
+    }
+
+    fn node(&self, pool: &Text, name: &Text) -> Option<&Node> {
+        looking::node(self.tables, pool, name)
+    }
+
+    fn job(&self, namespace: &Text, id: &Text) -> Option<&Job> {
+        looking::job(self.tables, namespace, id)
+    }
+
+    fn load(&self, pool: &Text, node: &Text) -> Resources {
+        self.live.load(self.tables, pool, node)
+    }
+
+    fn quota(&self, namespace: &Text) -> Option<&Text> {
+        looking::quota(self.tables, namespace)
+    }
+
+    fn limits(&self, quota: &Text) -> Limits {
+        looking::limits(self.tables, quota)
+    }
+
+    fn used(&self, quota: &Text) -> Resources {
+        quota_use(self.tables, quota)
+    }
+}
