@@ -10,9 +10,9 @@ ghost use Rattle.ns_live.specs.Index.{IsRight};
 ghost use Rattle.ns_state_tests.specs.Placed.{has_live, is_some_live};
 ghost use Rattle.ns_world.specs.World.{tenant_of, world_of};
 
-use crate::ends::{is_awake, is_limited, is_listed, is_past_now};
-use crate::owned::holds;
-use crate::worker::{ended, is_refused};
+use crate::ends::{is_awake, is_limited, is_listed, is_past_now, limiting};
+use crate::owned::{holds, made};
+use crate::worker::{is_ended, is_refused};
 use keyed::{KeyQueue, NameTable, NumberTable, Series};
 use ns_broker::served_ready;
 use ns_change::{Change, Prepared, TenantChange};
@@ -76,54 +76,56 @@ fn place(
     Ok(())
 }
 
+/// The number of an allocation, its job, its node and its priority.
+pub(crate) type Placed = (u64, &'static str, &'static str, u64);
+
 /// Of the job `j2` one allocation on the node `x`, and of `j1` two.
-fn in_a(alloc: Global) -> Result<NumberTable<Allocation>, AllocError> {
-    let mut rows = NumberTable::new(alloc);
-    place(&mut rows, 1, allocation(alloc, "j2", "x", 10)?)?;
-    place(&mut rows, 2, allocation(alloc, "j1", "x", 20)?)?;
-    place(&mut rows, 3, allocation(alloc, "j1", "x", 30)?)?;
-    Ok(rows)
-}
+const IN_A: [Placed; 3] = [(1, "j2", "x", 10), (2, "j1", "x", 20), (3, "j1", "x", 30)];
 
 /// One on `x` with the greatest priority.
-pub(crate) fn in_b(alloc: Global) -> Result<NumberTable<Allocation>, AllocError> {
-    let mut rows = NumberTable::new(alloc);
-    place(&mut rows, 1, allocation(alloc, "k", "x", 70)?)?;
-    Ok(rows)
-}
+pub(crate) const IN_B: [Placed; 1] = [(1, "k", "x", 70)];
 
 /// One on `x`, and one on another node.
-fn in_c(alloc: Global) -> Result<NumberTable<Allocation>, AllocError> {
-    let mut rows = NumberTable::new(alloc);
-    place(&mut rows, 1, allocation(alloc, "m", "x", 50)?)?;
-    place(&mut rows, 2, allocation(alloc, "n", "y", 50)?)?;
-    Ok(rows)
+const IN_C: [Placed; 2] = [(1, "m", "x", 50), (2, "n", "y", 50)];
+
+fn place_all(
+    rows: &mut NumberTable<Allocation>,
+    alloc: Global,
+    placed: &[Placed],
+) -> Result<(), AllocError> {
+    for (number, job, node, priority) in placed {
+        place(rows, *number, allocation(alloc, job, node, *priority)?)?;
+    }
+    Ok(())
 }
 
-/// A namespace with these allocations, which that quota limits.
-pub(crate) fn tenant(
-    alloc: Global,
-    rows: NumberTable<Allocation>,
-    quota: Option<Text>,
-) -> Result<TenantRows, AllocError> {
-    let namespace = Namespace {
-        description: text(alloc, "")?,
+/// The record of a namespace that the quota `q` limits, or none.
+fn namespace(alloc: Global, is_limited: bool) -> Result<Namespace, AllocError> {
+    let description = text(alloc, "")?;
+    let default_pool = text(alloc, "p")?;
+    let quota = limiting(alloc, is_limited)?;
+    Ok(Namespace {
+        description,
         quota,
-        default_pool: text(alloc, "p")?,
+        default_pool,
         allowed: None,
         denied: Rows::new(alloc),
-    };
-    Ok(TenantRows {
+    })
+}
+
+/// A namespace before anything is placed.
+fn tenant(alloc: Global, namespace: Namespace) -> TenantRows {
+    TenantRows {
         namespace,
         index: 1,
         evaluation_number: 0,
         allocation_number: 3,
         jobs: NameTable::new(alloc),
         evaluations: EvaluationTable::new(alloc),
-        allocations: rows,
+        allocations: NumberTable::new(alloc),
         workers: NumberTable::new(alloc),
         events: Series::new(alloc),
-    })
+    }
 }
 
 /// One row more, under that name, or another one in place of that.
@@ -141,45 +143,36 @@ pub(crate) fn put<V: Drop>(
     Ok(())
 }
 
-fn tenants(alloc: Global) -> Result<NameTable<TenantRows>, AllocError> {
-    let mut table = NameTable::new(alloc);
-    put(
-        &mut table,
-        &text(alloc, "c")?,
-        tenant(alloc, in_c(alloc)?, None)?,
-    )?;
-    put(
-        &mut table,
-        &text(alloc, "a")?,
-        tenant(alloc, in_a(alloc)?, None)?,
-    )?;
-    put(
-        &mut table,
-        &text(alloc, "b")?,
-        tenant(alloc, in_b(alloc)?, None)?,
-    )?;
-    Ok(table)
+/// One namespace more, with these allocations, which the quota `q` limits, or none.
+pub(crate) fn put_tenant(
+    tables: &mut Tables,
+    name: &str,
+    is_limited: bool,
+    placed: &[Placed],
+) -> Result<(), AllocError> {
+    let alloc = tables.alloc;
+    let name = text(alloc, name)?;
+    let namespace = namespace(alloc, is_limited)?;
+    put(&mut tables.tenants, &name, tenant(alloc, namespace))?;
+    match tables.tenants.get_mut(&name) {
+        Some(rows) => place_all(&mut rows.allocations, alloc, placed),
+        None => Ok(()),
+    }
+}
+
+/// Three namespaces, of which each has something on the node.
+pub(crate) fn put_tenants(tables: &mut Tables) -> Result<(), AllocError> {
+    put_tenant(tables, "c", false, &IN_C)?;
+    put_tenant(tables, "a", false, &IN_A)?;
+    put_tenant(tables, "b", false, &IN_B)
 }
 
 /// The same namespaces before anything is placed.
-fn idle_tenants(alloc: Global) -> Result<NameTable<TenantRows>, AllocError> {
-    let mut table = NameTable::new(alloc);
-    put(
-        &mut table,
-        &text(alloc, "c")?,
-        tenant(alloc, NumberTable::new(alloc), None)?,
-    )?;
-    put(
-        &mut table,
-        &text(alloc, "a")?,
-        tenant(alloc, NumberTable::new(alloc), None)?,
-    )?;
-    put(
-        &mut table,
-        &text(alloc, "b")?,
-        tenant(alloc, NumberTable::new(alloc), None)?,
-    )?;
-    Ok(table)
+fn put_idle_tenants(tables: &mut Tables) -> Result<(), AllocError> {
+    for name in ["c", "a", "b"] {
+        put_tenant(tables, name, false, &[])?;
+    }
+    Ok(())
 }
 
 /// The node `x` of the pool `p`, which is ready.
@@ -209,33 +202,17 @@ fn pools(alloc: Global) -> Result<NameTable<PoolRows>, AllocError> {
     Ok(table)
 }
 
-fn tables_of(alloc: Global, tenants: NameTable<TenantRows>) -> Result<Tables, AllocError> {
+/// The pool alone.
+pub(crate) fn tables(alloc: Global) -> Result<Tables, AllocError> {
     Ok(Tables {
         alloc,
-        tenants,
+        tenants: NameTable::new(alloc),
         pools: pools(alloc)?,
         quotas: NameTable::new(alloc),
         ready: KeyQueue::new(alloc),
         plans: KeyQueue::new(alloc),
         blocked: KeyQueue::new(alloc),
     })
-}
-
-pub(crate) fn tables(alloc: Global) -> Result<Tables, AllocError> {
-    tables_of(alloc, tenants(alloc)?)
-}
-
-fn idle_tables(alloc: Global) -> Result<Tables, AllocError> {
-    tables_of(alloc, idle_tenants(alloc)?)
-}
-
-/// A namespace whose quota limits the evaluation that is blocked in another one, which has that index.
-fn shared_tables(alloc: Global, index: u64) -> Result<Tables, AllocError> {
-    let mut tables = crate::ends::tables(alloc, index, true)?;
-    let quota = Some(text(alloc, "q")?);
-    let tenant = tenant(alloc, NumberTable::new(alloc), quota)?;
-    put(&mut tables.tenants, &text(alloc, "b")?, tenant)?;
-    Ok(tables)
 }
 
 // ---- the allocations are placed by a step, which keeps the index of live ones right
@@ -313,45 +290,48 @@ fn placed(tables: &mut Tables, change: Change) -> Option<Live>
     }
 }
 
-fn placing(alloc: Global, allocations: NumberTable<Allocation>) -> TenantChange {
+fn placing(alloc: Global) -> TenantChange {
     TenantChange {
         evaluation_number: 0,
         allocation_number: 3,
         jobs: NameTable::new(alloc),
         evaluations: NumberTable::new(alloc),
-        allocations,
+        allocations: NumberTable::new(alloc),
         workers: NumberTable::new(alloc),
     }
 }
 
+/// These allocations of that namespace more.
+fn put_placing(
+    change: &mut Change,
+    alloc: Global,
+    name: &str,
+    placed: &[Placed],
+) -> Result<(), AllocError> {
+    let name = text(alloc, name)?;
+    put(&mut change.tenants, &name, placing(alloc))?;
+    match change.tenants.get_mut(&name) {
+        Some(rows) => place_all(&mut rows.allocations, alloc, placed),
+        None => Ok(()),
+    }
+}
+
+fn put_placings(change: &mut Change, alloc: Global) -> Result<(), AllocError> {
+    put_placing(change, alloc, "a", &IN_A)?;
+    put_placing(change, alloc, "b", &IN_B)?;
+    put_placing(change, alloc, "c", &IN_C)
+}
+
 fn all_placed(alloc: Global) -> Result<Change, AllocError> {
     let mut change = Change::new(alloc);
-    put(
-        &mut change.tenants,
-        &text(alloc, "a")?,
-        placing(alloc, in_a(alloc)?),
-    )?;
-    put(
-        &mut change.tenants,
-        &text(alloc, "b")?,
-        placing(alloc, in_b(alloc)?),
-    )?;
-    put(
-        &mut change.tenants,
-        &text(alloc, "c")?,
-        placing(alloc, in_c(alloc)?),
-    )?;
-    Ok(change)
+    let answer = put_placings(&mut change, alloc);
+    made(change, answer)
 }
 
 fn one_placed(alloc: Global) -> Result<Change, AllocError> {
     let mut change = Change::new(alloc);
-    put(
-        &mut change.tenants,
-        &text(alloc, "b")?,
-        placing(alloc, in_b(alloc)?),
-    )?;
-    Ok(change)
+    let answer = put_placing(&mut change, alloc, "b", &IN_B);
+    made(change, answer)
 }
 
 // ---- what is left
@@ -454,11 +434,12 @@ fn down(
 }
 
 fn goes_down(tables: &mut Tables) -> Result<bool, AllocError> {
+    put_idle_tenants(tables)?;
     let pool = text(tables.alloc, "p")?;
     let name = text(tables.alloc, "x")?;
     let change = all_placed(tables.alloc)?;
     let answer = down(tables, change, &pool, &name);
-    let is_done = ended(tables, answer).is_some();
+    let is_done = is_ended(tables, answer);
     Ok(
         is_done & is_down(tables, &pool, &name)
             && are_lost(tables)?
@@ -469,18 +450,20 @@ fn goes_down(tables: &mut Tables) -> Result<bool, AllocError> {
 
 /// The evaluation that the quota limits wakes, and the job that lost an allocation gets one.
 fn wakes(tables: &mut Tables) -> Result<bool, AllocError> {
+    put_tenant(tables, "b", true, &[])?;
     let pool = text(tables.alloc, "p")?;
     let name = text(tables.alloc, "x")?;
     let quota = text(tables.alloc, "q")?;
     let namespace = text(tables.alloc, "n")?;
     let change = one_placed(tables.alloc)?;
     let answer = down(tables, change, &pool, &name);
-    let is_done = ended(tables, answer).is_some();
+    let is_done = is_ended(tables, answer);
     let wakes = is_awake(tables, &namespace, 8) && is_listed(tables, 2, 0);
     Ok(is_done && wakes && is_limited(tables, &quota, 1, 1) && is_down(tables, &pool, &name))
 }
 
 fn is_full(tables: &mut Tables) -> Result<bool, AllocError> {
+    put_tenant(tables, "b", true, &[])?;
     let pool = text(tables.alloc, "p")?;
     let name = text(tables.alloc, "x")?;
     let quota = text(tables.alloc, "q")?;
@@ -492,21 +475,18 @@ fn is_full(tables: &mut Tables) -> Result<bool, AllocError> {
 
 #[test]
 fn a_node_goes_down(rt: HostRuntime) -> Result<(), Fail> {
-    let alloc = rt.alloc();
-    assert!(rt; holds(idle_tables(alloc), |tables| goes_down(tables))?);
+    assert!(rt; holds(tables(rt.alloc()), goes_down)?);
     Ok(())
 }
 
 #[test]
 fn a_loss_releases_its_quota(rt: HostRuntime) -> Result<(), Fail> {
-    let alloc = rt.alloc();
-    assert!(rt; holds(shared_tables(alloc, 7), |tables| wakes(tables))?);
+    assert!(rt; holds(crate::ends::tables(rt.alloc(), 7, true), wakes)?);
     Ok(())
 }
 
 #[test]
 fn a_loss_that_would_wake_at_the_last_index_is_full(rt: HostRuntime) -> Result<(), Fail> {
-    let alloc = rt.alloc();
-    assert!(rt; holds(shared_tables(alloc, u64::MAX), |tables| is_full(tables))?);
+    assert!(rt; holds(crate::ends::tables(rt.alloc(), u64::MAX, true), is_full)?);
     Ok(())
 }

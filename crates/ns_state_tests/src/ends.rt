@@ -7,6 +7,7 @@ ghost use Rattle.keyed.specs.Table.{at_slot};
 ghost use Rattle.ns_types.specs.Steps.{greatest, is_past_bound, is_pool_past_bound, is_tenant_past_bound};
 ghost use Rattle.ns_world.specs.World.{pool_of, tenant_of, world_of};
 
+use crate::owned::holds;
 use keyed::{KeyQueue, NameTable, NumberTable, Series};
 use ns_change::{Change, ListChange, PoolChange, put_quota};
 use ns_conclude::conclude;
@@ -332,7 +333,8 @@ pub(crate) fn is_listed(tables: &Tables, ready: usize, blocked: usize) -> bool {
     tables.ready.as_slice().len() == ready && tables.blocked.as_slice().len() == blocked
 }
 
-fn wakes(tables: &mut Tables, alloc: Global) -> Result<bool, AllocError> {
+fn wakes(tables: &mut Tables) -> Result<bool, AllocError> {
+    let alloc = tables.alloc;
     let namespace = text(alloc, "n")?;
     let pool = text(alloc, "p")?;
     let ended = end(tables, eligible(alloc)?);
@@ -340,7 +342,8 @@ fn wakes(tables: &mut Tables, alloc: Global) -> Result<bool, AllocError> {
     Ok(ended.is_ok() && wakes && is_released(tables, &pool))
 }
 
-fn wakes_by_limits(tables: &mut Tables, alloc: Global) -> Result<bool, AllocError> {
+fn wakes_by_limits(tables: &mut Tables) -> Result<bool, AllocError> {
+    let alloc = tables.alloc;
     let namespace = text(alloc, "n")?;
     let quota = text(alloc, "q")?;
     let ended = end(tables, relimited(alloc, 2)?);
@@ -348,79 +351,49 @@ fn wakes_by_limits(tables: &mut Tables, alloc: Global) -> Result<bool, AllocErro
     Ok(ended.is_ok() && wakes && is_limited(tables, &quota, 2, 1))
 }
 
-fn stays_by_limits(tables: &mut Tables, alloc: Global) -> Result<bool, AllocError> {
+fn stays_by_limits(tables: &mut Tables) -> Result<bool, AllocError> {
+    let alloc = tables.alloc;
     let quota = text(alloc, "q")?;
     let ended = end(tables, relimited(alloc, 1)?);
     Ok(ended.is_ok() && is_listed(tables, 0, 1) && is_limited(tables, &quota, 1, 0))
 }
 
-fn is_full(tables: &mut Tables, alloc: Global) -> Result<bool, AllocError> {
-    let ended = end(tables, eligible(alloc)?);
+fn is_full(tables: &mut Tables) -> Result<bool, AllocError> {
+    let ended = end(tables, eligible(tables.alloc)?);
     Ok(matches!(ended, Err(Refusal::Full)) && is_listed(tables, 0, 1))
 }
 
-fn stays(tables: &mut Tables, alloc: Global) -> Result<bool, AllocError> {
-    let ended = end(tables, Change::new(alloc));
+fn stays(tables: &mut Tables) -> Result<bool, AllocError> {
+    let ended = end(tables, Change::new(tables.alloc));
     Ok(ended.is_ok() && is_listed(tables, 0, 1))
-}
-
-/// What `check` says of the tables, which it may change, and which are then let go.
-fn holds<F: FnOnce(&mut Tables) -> Result<bool, AllocError>>(
-    tables: Result<Tables, AllocError>,
-    check: F,
-) -> Result<bool, AllocError>
-    requires { F.IsAlwaysCallable check }
-{
-    let mut tables = tables?;
-    check(&mut tables)
 }
 
 #[test]
 fn ends_where_nothing_settles(rt: HostRuntime) -> Result<(), Fail> {
-    let alloc = rt.alloc();
-    assert!(rt; holds(tables(alloc, 7, false), |tables| stays(tables, alloc))?);
+    assert!(rt; holds(tables(rt.alloc(), 7, false), stays)?);
     Ok(())
 }
 
 #[test]
 fn a_node_wakes_an_evaluation(rt: HostRuntime) -> Result<(), Fail> {
-    let alloc = rt.alloc();
-    assert!(rt; holds(tables(alloc, 7, false), |tables| wakes(tables, alloc))?);
+    assert!(rt; holds(tables(rt.alloc(), 7, false), wakes)?);
     Ok(())
 }
 
 #[test]
 fn other_limits_wake_an_evaluation(rt: HostRuntime) -> Result<(), Fail> {
-    let alloc = rt.alloc();
-    assert!(rt;
-        holds(
-            tables(alloc, 7, true),
-            |tables| wakes_by_limits(tables, alloc)
-        )?
-    );
+    assert!(rt; holds(tables(rt.alloc(), 7, true), wakes_by_limits)?);
     Ok(())
 }
 
 #[test]
 fn the_same_limits_wake_none(rt: HostRuntime) -> Result<(), Fail> {
-    let alloc = rt.alloc();
-    assert!(rt;
-        holds(
-            tables(alloc, 7, true),
-            |tables| stays_by_limits(tables, alloc)
-        )?
-    );
+    assert!(rt; holds(tables(rt.alloc(), 7, true), stays_by_limits)?);
     Ok(())
 }
 
 #[test]
 fn an_index_at_its_bound_is_full(rt: HostRuntime) -> Result<(), Fail> {
-    let alloc = rt.alloc();
-    assert!(rt;
-        holds(
-            tables(alloc, u64::MAX, false),
-            |tables| is_full(tables, alloc)
-        )?
-    );
+    assert!(rt; holds(tables(rt.alloc(), u64::MAX, false), is_full)?);
     Ok(())
 }

@@ -8,10 +8,10 @@ ghost use Rattle.ns_live.specs.Loads.{each_resource};
 ghost use Rattle.ns_state_tests.specs.Loads.{allocation_amount, tenant_amount};
 ghost use Rattle.ns_world.specs.World.{world_of};
 
-use crate::down::tables;
+use crate::down::{put_tenants, tables};
 use crate::ends::is_past_now;
 use crate::owned::holds;
-use crate::worker::{ended, is_refused};
+use crate::worker::{is_ended, is_refused};
 use ns_change::{Prepared, is_live_on};
 use ns_nodes::register_node;
 use ns_types::allocation::Allocation;
@@ -119,7 +119,7 @@ fn is_in_use(tables: &Tables, pool: &Text, name: &Text, capacity: Resources) -> 
 
 fn registers(tables: &mut Tables, pool: &Text, name: &Text, capacity: Resources) -> bool {
     let answer = registered(tables, pool, name, capacity);
-    ended(tables, answer).is_some()
+    is_ended(tables, answer)
 }
 
 fn offers(tables: &Tables, pool: &Text, name: &Text, capacity: Resources) -> bool {
@@ -134,6 +134,7 @@ fn offers(tables: &Tables, pool: &Text, name: &Text, capacity: Resources) -> boo
 
 /// Five allocations of one MHz and one MB are live on the node, which offers nine of each.
 fn keeps_room_for_its_load(tables: &mut Tables) -> Result<bool, AllocError> {
+    put_tenants(tables)?;
     let pool = Text::from_str(tables.alloc, "p")?;
     let name = Text::from_str(tables.alloc, "x")?;
     let of = |cpu: u64, memory: u64| Resources { cpu, memory };

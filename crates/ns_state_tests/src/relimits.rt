@@ -4,14 +4,14 @@
 use crate::ends::{is_awake, is_limited, is_listed, is_past_now, quota, tables};
 use crate::owned::{holds, seen};
 use crate::tables::{refusal, written};
-use crate::worker::ended;
+use crate::worker::is_ended;
 use ns_admin::{change_limits, is_relimited, put_quota};
 use ns_change::Prepared;
 use ns_types::records::Quota;
 use ns_types::refusal::Refusal;
 use ns_types::text::Text;
 use ns_world::Tables;
-use std::alloc::{AllocError, Global};
+use std::alloc::AllocError;
 use std::test::Fail;
 
 /// What it comes to that the quota gets other limits.
@@ -29,16 +29,18 @@ fn changed_to(tables: &Tables, name: &Text, most: u64) -> Result<Prepared, Refus
     answer
 }
 
-fn wakes(tables: &mut Tables, alloc: Global) -> Result<bool, AllocError> {
+fn wakes(tables: &mut Tables) -> Result<bool, AllocError> {
+    let alloc = tables.alloc;
     let namespace = Text::from_str(alloc, "n")?;
     let name = Text::from_str(alloc, "q")?;
     let answer = changed_to(tables, &name, 2);
-    let is_done = ended(tables, answer).is_some();
+    let is_done = is_ended(tables, answer);
     let wakes = is_awake(tables, &namespace, 8) && is_listed(tables, 1, 0);
     Ok(is_done && wakes && is_limited(tables, &name, 2, 1))
 }
 
-fn stays(tables: &mut Tables, alloc: Global) -> Result<bool, AllocError> {
+fn stays(tables: &mut Tables) -> Result<bool, AllocError> {
+    let alloc = tables.alloc;
     let name = Text::from_str(alloc, "q")?;
     let quota = quota(alloc, 1)?;
     let is_relimited = is_relimited(tables, &name, &quota);
@@ -53,7 +55,8 @@ fn is_refused(answer: &Result<Prepared, Refusal>) -> bool {
     matches!(answer, Err(Refusal::Full))
 }
 
-fn is_full(tables: &mut Tables, alloc: Global) -> Result<bool, AllocError> {
+fn is_full(tables: &mut Tables) -> Result<bool, AllocError> {
+    let alloc = tables.alloc;
     let name = Text::from_str(alloc, "q")?;
     let is_refused = seen(changed_to(tables, &name, 2), is_refused);
     Ok(is_refused && is_listed(tables, 0, 1) && is_limited(tables, &name, 1, 0))
@@ -61,26 +64,18 @@ fn is_full(tables: &mut Tables, alloc: Global) -> Result<bool, AllocError> {
 
 #[test]
 fn prepared_limits_wake(rt: HostRuntime) -> Result<(), Fail> {
-    let alloc = rt.alloc();
-    assert!(rt; holds(tables(alloc, 7, true), |tables| wakes(tables, alloc))?);
+    assert!(rt; holds(tables(rt.alloc(), 7, true), wakes)?);
     Ok(())
 }
 
 #[test]
 fn the_same_limits_are_put_at_once(rt: HostRuntime) -> Result<(), Fail> {
-    let alloc = rt.alloc();
-    assert!(rt; holds(tables(alloc, 7, true), |tables| stays(tables, alloc))?);
+    assert!(rt; holds(tables(rt.alloc(), 7, true), stays)?);
     Ok(())
 }
 
 #[test]
 fn a_wake_at_the_last_index_is_full(rt: HostRuntime) -> Result<(), Fail> {
-    let alloc = rt.alloc();
-    assert!(rt;
-        holds(
-            tables(alloc, u64::MAX, true),
-            |tables| is_full(tables, alloc)
-        )?
-    );
+    assert!(rt; holds(tables(rt.alloc(), u64::MAX, true), is_full)?);
     Ok(())
 }

@@ -1,12 +1,15 @@
 // Workers that look one after the other share the nodes that did not change. A node that changed is made anew, and what holds
 // it as it was keeps it so.
 
+ghost use Rattle.ns_steps.specs.Served.{IsServedNode};
+
 use crate::jobs::registers;
 use crate::nodes::{answer, eligibility, registration};
 use crate::owned::holds;
 use crate::server::root;
 use crate::workers::{look, take};
 use ns_core::Core;
+use ns_types::good::GoodTelling;
 use ns_types::refusal::Refusal;
 use ns_types::resources::Resources;
 use ns_types::shared::Shared;
@@ -53,6 +56,23 @@ fn registers_three(
     Ok(right)
 }
 
+/// Whether three workers that look one after the other share the node until `shut` makes it ineligible.
+fn looks_share(core: &mut Core, root: &Text, default: &Text, shut: GoodTelling) -> bool
+    requires { IsServedNode shut }
+{
+    let first = sees(core, 0, default, 1);
+    let mut right = only_node(&first) == Some((2, true));
+    let second = sees(core, 1, default, 2);
+    right &= only_node(&first) == Some((3, true)) && only_node(&second) == Some((3, true));
+    right &= answer(core, Some(root), default, shut).is_none();
+    let third = sees(core, 2, default, 3);
+    right &= only_node(&first) == Some((2, true)) && only_node(&third) == Some((2, false));
+    drop(first);
+    drop(second);
+    drop(third);
+    right
+}
+
 fn shares(core: &mut Core, alloc: Global, root: &Text) -> Result<bool, AllocError> {
     let default = Text::from_str(alloc, "default")?;
     let node = Text::from_str(alloc, "n1")?;
@@ -63,16 +83,8 @@ fn shares(core: &mut Core, alloc: Global, root: &Text) -> Result<bool, AllocErro
     let offer = registration(alloc, &node, capacity)?;
     let mut right = answer(core, Some(root), &default, offer).is_none();
     right &= registers_three(core, alloc, root, &default)?;
-    let first = sees(core, 0, &default, 1);
-    right &= only_node(&first) == Some((2, true));
-    let second = sees(core, 1, &default, 2);
-    right &= only_node(&first) == Some((3, true)) && only_node(&second) == Some((3, true));
-    right &= answer(core, Some(root), &default, eligibility(&node, false)?).is_none();
-    let third = sees(core, 2, &default, 3);
-    right &= only_node(&first) == Some((2, true)) && only_node(&third) == Some((2, false));
-    drop(first);
-    drop(second);
-    drop(third);
+    let shut = eligibility(&node, false)?;
+    right &= looks_share(core, root, &default, shut);
     Ok(right)
 }
 

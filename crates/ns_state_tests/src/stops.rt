@@ -1,31 +1,23 @@
 // The stop of an allocation that wakes a blocked evaluation of another namespace, by room on the node or by the quota: it is
 // made, and where a counter is at its bound it is refused and changes nothing.
 
-use crate::down::{in_b, put, tenant};
-use crate::ends::{
-    is_awake, is_limited, is_listed, is_past_now, limiting, pool, quota_rows, tables, text,
-};
-use crate::owned::holds;
-use crate::worker::{ended, is_refused};
+use crate::down::{IN_B, put, put_tenant};
+use crate::ends::{is_awake, is_limited, is_listed, is_past_now, pool, quota_rows, tables, text};
+use crate::worker::{is_ended, is_refused};
 use ns_change::Prepared;
 use ns_jobs::stop_allocation;
 use ns_types::allocation::DesiredStatus;
 use ns_types::refusal::Refusal;
 use ns_types::text::Text;
 use ns_world::Tables;
-use std::alloc::AllocError;
+use std::alloc::{AllocError, Global};
 use std::test::Fail;
 
 /// The namespace "a" comes in, with an allocation on the node "x". Either the quota "q" limits it, which has had so many
 /// releases, or the node is eligible.
 fn arrange(tables: &mut Tables, by_quota: bool, release: u64) -> Result<(), AllocError> {
     let alloc = tables.alloc;
-    let limit = limiting(alloc, by_quota)?;
-    put(
-        &mut tables.tenants,
-        &text(alloc, "a")?,
-        tenant(alloc, in_b(alloc)?, limit)?,
-    )?;
+    put_tenant(tables, "a", by_quota, &IN_B)?;
     put(
         &mut tables.pools,
         &text(alloc, "p")?,
@@ -56,18 +48,25 @@ fn is_stopped(tables: &Tables, namespace: &Text) -> bool {
 }
 
 /// Whether the stop is made, the evaluation wakes at index 8, and the quota, which had 5 releases, then has so many.
-fn wakes(tables: &mut Tables, by_quota: bool, release: u64) -> Result<bool, AllocError> {
+fn wakes_in(tables: &mut Tables, by_quota: bool, release: u64) -> Result<bool, AllocError> {
     arrange(tables, by_quota, 5)?;
     let namespace = text(tables.alloc, "a")?;
     let woken = text(tables.alloc, "n")?;
     let quota = text(tables.alloc, "q")?;
     let answer = stopped(tables, &namespace);
-    let is_done = ended(tables, answer).is_some();
+    let is_done = is_ended(tables, answer);
     let wakes = is_awake(tables, &woken, 8) && is_listed(tables, 2, 0);
     Ok(is_done && wakes && is_stopped(tables, &namespace) && is_limited(tables, &quota, 1, release))
 }
 
-fn is_full(tables: &mut Tables, by_quota: bool, release: u64) -> Result<bool, AllocError> {
+fn wakes(alloc: Global, by_quota: bool, release: u64) -> Result<bool, AllocError> {
+    let mut tables = tables(alloc, 7, by_quota)?;
+    let wakes = wakes_in(&mut tables, by_quota, release);
+    drop(tables);
+    wakes
+}
+
+fn is_full_in(tables: &mut Tables, by_quota: bool, release: u64) -> Result<bool, AllocError> {
     arrange(tables, by_quota, release)?;
     let namespace = text(tables.alloc, "a")?;
     let quota = text(tables.alloc, "q")?;
@@ -76,52 +75,40 @@ fn is_full(tables: &mut Tables, by_quota: bool, release: u64) -> Result<bool, Al
     Ok(is_refused && stays && is_limited(tables, &quota, 1, release))
 }
 
+/// Whether the stop is refused and changes nothing, where the evaluation's namespace has that index.
+fn is_full(alloc: Global, index: u64, by_quota: bool, release: u64) -> Result<bool, AllocError> {
+    let mut tables = tables(alloc, index, by_quota)?;
+    let is_full = is_full_in(&mut tables, by_quota, release);
+    drop(tables);
+    is_full
+}
+
 #[test]
 fn a_stop_wakes_by_room(rt: HostRuntime) -> Result<(), Fail> {
-    assert!(rt;
-        holds(
-            tables(rt.alloc(), 7, false),
-            |tables| wakes(tables, false, 5)
-        )?
-    );
+    assert!(rt; wakes(rt.alloc(), false, 5)?);
     Ok(())
 }
 
 #[test]
 fn a_stop_wakes_by_its_quota(rt: HostRuntime) -> Result<(), Fail> {
-    assert!(rt; holds(tables(rt.alloc(), 7, true), |tables| wakes(tables, true, 6))?);
+    assert!(rt; wakes(rt.alloc(), true, 6)?);
     Ok(())
 }
 
 #[test]
 fn room_that_wakes_at_the_last_index_is_full(rt: HostRuntime) -> Result<(), Fail> {
-    assert!(rt;
-        holds(
-            tables(rt.alloc(), u64::MAX, false),
-            |tables| is_full(tables, false, 5)
-        )?
-    );
+    assert!(rt; is_full(rt.alloc(), u64::MAX, false, 5)?);
     Ok(())
 }
 
 #[test]
 fn a_quota_that_wakes_at_the_last_index_is_full(rt: HostRuntime) -> Result<(), Fail> {
-    assert!(rt;
-        holds(
-            tables(rt.alloc(), u64::MAX, true),
-            |tables| is_full(tables, true, 5)
-        )?
-    );
+    assert!(rt; is_full(rt.alloc(), u64::MAX, true, 5)?);
     Ok(())
 }
 
 #[test]
 fn the_last_release_of_a_quota_is_full(rt: HostRuntime) -> Result<(), Fail> {
-    assert!(rt;
-        holds(
-            tables(rt.alloc(), 7, true),
-            |tables| is_full(tables, true, u64::MAX)
-        )?
-    );
+    assert!(rt; is_full(rt.alloc(), 7, true, u64::MAX)?);
     Ok(())
 }

@@ -132,14 +132,14 @@ fn has_nack_left(tables: &Tables, number: u64, namespace: &Text) -> bool
     let Some(worker) = worker_at(tables, number, namespace) else {
         return false;
     };
-    match tables.evaluation(namespace, worker.evaluation) {
+    match tables.evaluation(namespace, worker.evaluation()) {
         Some(row) => row.nacks < 3,
         None => false,
     }
 }
 
 /// What a step answers, once it has ended.
-pub(crate) fn ended(tables: &mut Tables, answer: Result<Prepared, Refusal>) -> Option<Content> {
+fn ended(tables: &mut Tables, answer: Result<Prepared, Refusal>) -> Option<Content> {
     let Ok(prepared) = answer else {
         return None;
     };
@@ -150,6 +150,17 @@ pub(crate) fn ended(tables: &mut Tables, answer: Result<Prepared, Refusal>) -> O
             drop(content);
             None
         }
+    }
+}
+
+/// Whether a step is made and has ended.
+pub(crate) fn is_ended(tables: &mut Tables, answer: Result<Prepared, Refusal>) -> bool {
+    match ended(tables, answer) {
+        Some(content) => {
+            drop(content);
+            true
+        }
+        None => false,
     }
 }
 

@@ -3,7 +3,7 @@ ghost use Rattle.std.specs.Prelude.{◌≡◌, IfOk, Some};
 ghost use Rattle.ns_broker.specs.Snapping.{kept_at};
 
 use crate::jobs::registers;
-use crate::owned::{holds, repeated, seen};
+use crate::owned::{holds, seen};
 use crate::server::root;
 use ns_core::Core;
 use ns_types::refusal::Refusal;
@@ -31,7 +31,10 @@ pub(crate) fn take(
     namespace: &Text,
     number: u64,
 ) -> Result<Option<u64>, Refusal> {
-    let answer = repeated(core, |core| core.dequeue(worker, namespace, number));
+    let answer = match core.dequeue(worker, namespace, number) {
+        Err(Refusal::Memory) => core.dequeue(worker, namespace, number),
+        answer => answer,
+    };
     seen(answer, taken)
 }
 
