@@ -195,7 +195,14 @@ fn works_on(
 {
     match &slot.1 {
         Some(worker) => {
-            is_of_job(tables, change, namespace, job, namespace, worker.evaluation())
+            is_of_job(
+                tables,
+                change,
+                namespace,
+                job,
+                namespace,
+                worker.evaluation(),
+            )
         }
         None => false,
     }

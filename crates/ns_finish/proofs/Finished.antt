@@ -81,7 +81,7 @@ module _ (number : ℕ) (ns : Name) (w : World) (t : Tenant) (worker : Worker) (
       let row = cond late (pending follower) follower in
       let u = ended number worker e (end_of worker) t in
       let number_is : u.evaluation_number ≡ t.evaluation_number =
-          canceling_stays e.job (with_status n (end_of worker) (without_worker number t)) ∙ status_stays n (end_of worker) (without_worker number t) in
+      canceling_stays e.job (with_status n (end_of worker) (without_worker number t)) ∙ status_stays n (end_of worker) (without_worker number t) in
       let done : World → Outcome World = λ x. Done (Content.Finished (end_of worker) (Some (t.evaluation_number + 1))) (promote ns e.job x) in
       ap (λ b. cond b with_one with_none) some
       ∙ ap done (follows_in u (without_blocked ns e.job t w) late)
