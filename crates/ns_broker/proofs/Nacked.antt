@@ -29,12 +29,14 @@ module _ (number : ℕ) (ns : Name) (w : World) where
 
     pub plan_waits : is_submitted worker.phase ≡ true → nack number ns w ≡ NotEnabled
     unfolding nack
-    plan_waits is = works number ns w worker e has at (nack_for number ns w) NotEnabled (λ t there. ap (λ b. cond b NotEnabled (ends t (nat_le most_nacks (e.nacks + 1)))) is)
+    plan_waits is = works number ns w worker e has at (nack_for number ns w) NotEnabled
+        (λ t there. ap (λ b. cond b NotEnabled (ends t (nat_le most_nacks (e.nacks + 1)))) is)
 
     pub comes_back : is_submitted worker.phase ≡ false → nat_le most_nacks (e.nacks + 1) ≡ false →
         nack number ns w ≡ Done (Content.Nacked Status.Pending) (put_back number ns worker.evaluation e w)
     unfolding nack
-    comes_back is few = works number ns w worker e has at (nack_for number ns w) _ (λ t there. ap (λ b. cond b NotEnabled (ends t (nat_le most_nacks (e.nacks + 1)))) is
+    comes_back is few = works number ns w worker e has at (nack_for number ns w) _
+        (λ t there. ap (λ b. cond b NotEnabled (ends t (nat_le most_nacks (e.nacks + 1)))) is
         ∙ ap (ends t) few
         ∙ ap (λ o. Done (Content.Nacked Status.Pending) (with_ready (ns, worker.evaluation)
         (option_map_or (λ t. put_tenant ns (left number worker.evaluation (nacked e) t) w) o w))) (sym there))
@@ -50,7 +52,8 @@ module _ (number : ℕ) (ns : Name) (w : World) where
     pub is_put_away : is_submitted worker.phase ≡ false → nat_le most_nacks (e.nacks + 1) ≡ true →
         nack number ns w ≡ Done (Content.Nacked Status.Failed) (put_away number ns worker.evaluation e w)
     unfolding nack
-    is_put_away is third = works number ns w worker e has at (nack_for number ns w) _ (λ t there. ap (λ b. cond b NotEnabled (ends t (nat_le most_nacks (e.nacks + 1)))) is
+    is_put_away is third = works number ns w worker e has at (nack_for number ns w) _
+        (λ t there. ap (λ b. cond b NotEnabled (ends t (nat_le most_nacks (e.nacks + 1)))) is
         ∙ ap (ends t) third
         ∙ ap (λ y. Done (Content.Nacked Status.Failed) (promote ns e.job (put_tenant ns y w))) (failed_is t)
         ∙ ap (λ o. Done (Content.Nacked Status.Failed) (promote ns e.job

@@ -116,7 +116,8 @@ module _ (number : ℕ) (ns : Name) (w : World) (t : Tenant) (worker : Worker) w
     where
       by : (o : Option Snapshot) → of_kept o ≡ NotEnabled
       by None = refl
-      by (Some kept) = ap (λ b. cond (b && not (does_nothing (plan kept))) (Done (Content.Queued worker.evaluation) (submitted number ns w t worker)) NotEnabled) late
+      by (Some kept) = ap (λ b. cond (b && not (does_nothing (plan kept)))
+          (Done (Content.Queued worker.evaluation) (submitted number ns w t worker)) NotEnabled) late
 
   nothing_done : (planned : Snapshot) → is_snapped worker.phase ≡ true → worker.kept ≡ Some planned → does_nothing (plan planned) ≡ true →
       of_kept worker.kept ≡ NotEnabled

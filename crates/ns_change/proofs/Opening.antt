@@ -122,7 +122,8 @@ module _ {K X : Type 0} {R : K → K → Ordering} (o : IsTotalOrder R) (same : 
 module _ (t : Tables) (c left : Change) (ns : Name) (x : TenantChange) (opened : Opened t c ns (Some x) left) where
   pub made_open : (e : Evaluation) (m : FinMap nat_cmp (Option Evaluation)) →
       m ≡ insert (with_slot x.evaluations (x.evaluation_number + 1)) (x.evaluation_number + 1) (Some e)
-      → view t (with_tenant ns (record x { evaluation_number = x.evaluation_number + 1; evaluations = m }) left) ≡ change_tenant ns (with_evaluation e) (view t c)
+      → view t (with_tenant ns (record x { evaluation_number = x.evaluation_number + 1; evaluations = m }) left)
+      ≡ change_tenant ns (with_evaluation e) (view t c)
   made_open e m is = put_open t c left ns (with_evaluation e) x (record x { evaluation_number = x.evaluation_number + 1; evaluations = m }) opened
       (λ base i. record (changed_tenant base x) {
         evaluation_number = x.evaluation_number + 1;
