@@ -1,4 +1,5 @@
 pub mod Finished
 pub mod Followers
+pub mod Kept
 pub mod Newer
 pub mod Numbered

@@ -2,42 +2,22 @@
 use Rattle.std.specs.Prelude.{◌≡◌, ℕ, ◌+◌, ◌<◌, ◌^◌, Option, Some, None}
 use Rattle.std.proofs.Common.{refl, ap, sym, subst, ◌∙◌}
 use Rattle.std.specs.Option.{option_map_or, unwrap_or}
-use Rattle.std.specs.FinMap.{get, insert}
-use Rattle.ns_types.specs.declared.evaluation.Evaluation.{Evaluation}
-use Rattle.ns_types.specs.declared.evaluation.Status.{Status}
-use Rattle.ns_types.specs.Settling.Making.{change_tenant, put_tenant, with_status}
+use Rattle.std.specs.FinMap.{get}
+use Rattle.ns_types.specs.Settling.Making.{change_tenant, put_tenant}
 use Rattle.ns_types.specs.State.Names.{Name}
 use Rattle.ns_types.specs.State.Rows.{World, Tenant}
-use Rattle.ns_types.specs.Working.Work.{blocked_of, cancel_blocked, tied_to, without_blocked, without_key, without_worker}
+use Rattle.ns_types.specs.Working.Work.{blocked_of, tied_to, without_blocked, without_key}
 use Rattle.ns_types.proofs.Named.{names, one_name}
 use Rattle.ns_types.proofs.TableRows.{get_put}
 use Rattle.ns_change.specs.Changed.{HasEvaluationLeft, unlist_blocked}
-use Rattle.ns_finish.specs.Ending.{ended_as, ended_in}
+use Rattle.ns_finish.proofs.Kept.{ending_keeps, tying_keeps}
+use Rattle.ns_finish.specs.Ending.{Ended, ended_as, ended_in}
 
 pub number_stays : (n follower : ℕ) (t : Tenant) → (tied_to n follower t).evaluation_number ≡ t.evaluation_number
-number_stays n follower t = by (get t.evaluations n)
-  where
-    by : (r : Option Evaluation) →
-        (option_map_or (λ e. record t { evaluations = insert t.evaluations n (record e { follower = Some follower }) }) r t).evaluation_number
-        ≡ t.evaluation_number
-    by None = refl
-    by (Some e) = refl
+number_stays = tying_keeps (λ t. t.evaluation_number) (λ t rows. refl)
 
-pub status_stays : (n : ℕ) (status : Status) (t : Tenant) → (with_status n status t).evaluation_number ≡ t.evaluation_number
-status_stays n status t = by (get t.evaluations n)
-  where
-    by : (r : Option Evaluation) →
-        (option_map_or (λ e. record t { evaluations = insert t.evaluations n (record e { status = status }) }) r t).evaluation_number
-        ≡ t.evaluation_number
-    by None = refl
-    by (Some e) = refl
-
-pub canceling_stays : (job : Name) (t : Tenant) → (cancel_blocked job t).evaluation_number ≡ t.evaluation_number
-canceling_stays job t = by (blocked_of t job)
-  where
-    by : (r : Option ℕ) → (option_map_or (λ n. with_status n Status.Canceled t) r t).evaluation_number ≡ t.evaluation_number
-    by None = refl
-    by (Some n) = status_stays n Status.Canceled t
+pub ended_stays : (e : Ended) (t : Tenant) → (ended_as e t).evaluation_number ≡ t.evaluation_number
+ended_stays = ending_keeps (λ t. t.evaluation_number) (λ t rows. refl) (λ t rows. refl)
 
 -- a change of the namespace that gives no number
 left_kept : (f : Tenant → Tenant) → ((t : Tenant) → (f t).evaluation_number ≡ t.evaluation_number) →
@@ -67,10 +47,8 @@ tenants_stay ns job w = by (get w.tenants ns)
     by (Some t) = one (blocked_of t job)
 
 -- nor does the end of one
-pub left_at_end : (w : World) (number n : ℕ) (ns job : Name) (status : Status) → HasEvaluationLeft w ns →
-    HasEvaluationLeft (ended_in number ns n job status w) ns
-left_at_end w number n ns job status left =
-    left_kept (ended_as number n job status)
-    (λ t. canceling_stays job (with_status n status (without_worker number t)) ∙ status_stays n status (without_worker number t))
-    (unlist_blocked ns job w) ns
-    (λ t there. left t (ap (λ m. get m ns) (sym (tenants_stay ns job w)) ∙ there))
+pub left_at_end : (w : World) (e : Ended) → HasEvaluationLeft w e.key.0 → HasEvaluationLeft (ended_in e w) e.key.0
+left_at_end w e left =
+    left_kept (ended_as e) (ended_stays e)
+    (unlist_blocked e.key.0 e.job w) e.key.0
+    (λ t there. left t (ap (λ m. get m e.key.0) (sym (tenants_stay e.key.0 e.job w)) ∙ there))

@@ -5,7 +5,12 @@ use Rattle.ns_types.specs.declared.evaluation.Status.TheVariants as Status
 use Rattle.ns_types.specs.declared.evaluation.Trigger.TheVariants as Trigger
 use Rattle.ns_types.specs.declared.snapshot.Snapshot.{Snapshot}
 use Rattle.ns_types.specs.Placing.Plan.{any_escapes, infeasible_classes}
+use Rattle.ns_types.specs.Settling.Releases.{missed}
+use Rattle.ns_types.specs.Settling.Settle.{pending}
 use Rattle.ns_types.specs.State.Names.{Name}
+use Rattle.ns_types.specs.State.Rows.{World}
+use Rattle.ns_types.specs.Working.Work.{follower_of}
+use Rattle.ns_types.specs.Working.Worker.{Worker}
 
 -- the quota's name, where it ended placing
 abbrev pub limiting : Snapshot → Bool → Option Name
@@ -29,3 +34,8 @@ follower_for e number kept failed limited = record {
   create_index = 0;
   modify_index = 0;
 }
+
+-- the follower as it is made: pending where it missed a release
+abbrev pub made_follower : World → Evaluation → Worker → Snapshot → Evaluation
+made_follower w e worker kept = let follower = follower_of e worker kept in
+    if missed w kept follower then pending follower else follower

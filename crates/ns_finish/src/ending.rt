@@ -1,9 +1,10 @@
 //! An evaluation ends, and its follower is made.
 
-ghost use Rattle.std.specs.Prelude.{◌≡◌, Some, not};
-ghost use Rattle.ns_change.specs.Changed.{Does, DoesIn, HasEvaluationLeft, next_evaluation, view};
+ghost use Rattle.ns_change.specs.Changed.{Does, DoesIn, HasEvaluationLeft, view};
 ghost use Rattle.ns_types.specs.Settling.Making.{change_tenant};
-ghost use Rattle.ns_finish.specs.Ending.{ended_alone, ended_followed, ended_in, followed_as, listed_if};
+ghost use Rattle.ns_types.specs.State.Rows.{is_blocked};
+ghost use Rattle.ns_finish.specs.Ending.{ended_alone, ended_followed, ended_in, ended_of};
+ghost use Rattle.ns_finish.specs.Ending.{followed_as, listed_if};
 
 use ns_change::{
     Change, add_blocked, add_evaluation, cancel_blocked, promote, remove_worker, set_follower,
@@ -15,22 +16,25 @@ use ns_types::text::Text;
 use ns_world::Tables;
 use std::alloc::AllocError;
 
+/// An evaluation that ends.
+pub(crate) struct Ending<'a> {
+    /// The number of the worker that has it.
+    pub(crate) worker: u64,
+    pub(crate) key: &'a EvalKey,
+    pub(crate) job: &'a Text,
+    /// The status that it gets.
+    pub(crate) status: Status,
+}
+
 /// The evaluation has ended, the job's blocked one is canceled and no longer listed, and the worker is idle.
-pub(crate) fn end(
-    tables: &Tables,
-    change: &mut Change,
-    number: u64,
-    key: &EvalKey,
-    job: &Text,
-    status: Status,
-) -> Result<(), AllocError>
-    ensures { Does result tables.now change.old change.new
-        (ended_in number key.now.0 key.now.1 job.now status) }
+fn end(tables: &Tables, change: &mut Change, ending: &Ending<'_>) -> Result<(), AllocError>
+    ensures { Does result tables.now change.old change.new (ended_in (ended_of ending.now)) }
 {
-    unlist_blocked(tables, change, key.namespace(), job)?;
-    remove_worker(tables, change, key.namespace(), number)?;
-    set_status(tables, change, key, status)?;
-    cancel_blocked(tables, change, key.namespace(), job)
+    let namespace = ending.key.namespace();
+    unlist_blocked(tables, change, namespace, ending.job)?;
+    remove_worker(tables, change, namespace, ending.worker)?;
+    set_status(tables, change, ending.key, ending.status)?;
+    cancel_blocked(tables, change, namespace, ending.job)
 }
 
 /// The follower is there under that number, which is the namespace's next, and the evaluation names it.
@@ -51,19 +55,19 @@ fn tie(
 }
 
 /// The follower is there, and listed where it is blocked.
-pub(crate) fn follow(
+fn follow(
     tables: &Tables,
     change: &mut Change,
     key: &EvalKey,
     number: u64,
     row: Evaluation,
-    is_blocked: bool,
 ) -> Result<(), AllocError>
     requires { HasEvaluationLeft (view tables.now change.old) key.now.0 }
     ensures { Does result tables.now change.old change.new
-        (λ w. listed_if is_blocked (key.now.0, number)
+        (λ w. listed_if (is_blocked row.status) (key.now.0, number)
         (change_tenant key.now.0 (followed_as key.now.1 number row) w)) }
 {
+    let is_blocked = matches!(row.status, Status::Blocked);
     tie(tables, change, key, number, row)?;
     if is_blocked {
         add_blocked(change, EvalKey::new(key.namespace().clone()?, number))?;
@@ -75,35 +79,27 @@ pub(crate) fn follow(
 pub(crate) fn end_alone(
     tables: &Tables,
     change: &mut Change,
-    number: u64,
-    key: &EvalKey,
-    job: &Text,
-    status: Status,
+    ending: &Ending<'_>,
 ) -> Result<(), AllocError>
-    ensures { Does result tables.now change.old change.new
-        (ended_alone number key.now.0 key.now.1 job.now status) }
+    ensures { Does result tables.now change.old change.new (ended_alone (ended_of ending.now)) }
 {
-    end(tables, change, number, key, job, status)?;
-    promote(tables, change, key.namespace(), job)
+    end(tables, change, ending)?;
+    promote(tables, change, ending.key.namespace(), ending.job)
 }
 
 /// The evaluation has ended, and its follower has that number, which is the namespace's next.
 pub(crate) fn end_followed(
     tables: &Tables,
     change: &mut Change,
-    number: u64,
-    key: &EvalKey,
-    job: &Text,
-    status: Status,
+    ending: &Ending<'_>,
     follower: u64,
     row: Evaluation,
-    is_blocked: bool,
 ) -> Result<(), AllocError>
-    requires { HasEvaluationLeft (view tables.now change.old) key.now.0 }
+    requires { HasEvaluationLeft (view tables.now change.old) ending.now.key.now.0 }
     ensures { Does result tables.now change.old change.new
-        (ended_followed number key.now.0 key.now.1 job.now status follower row is_blocked) }
+        (ended_followed (ended_of ending.now) follower row) }
 {
-    end(tables, change, number, key, job, status)?;
-    follow(tables, change, key, follower, row, is_blocked)?;
-    promote(tables, change, key.namespace(), job)
+    end(tables, change, ending)?;
+    follow(tables, change, ending.key, follower, row)?;
+    promote(tables, change, ending.key.namespace(), ending.job)
 }

@@ -8,17 +8,18 @@ use Rattle.ns_finish.proofs.ending.end.Goals as goal
 
 pub returns : goal.returns
 returns c =
-    let ns = c.args.key.now.0 in
-    let job = c.args.job.now in
-    let w = unlist_blocked ns job (view c.args.tables.now c.args.change.now) in
-    let idle = without_worker c.args.number in
-    let status = with_status c.args.key.now.1 c.args.status in
+    let ending = c.args.ending.now in
+    let ns = ending.key.now.0 in
+    let job = ending.job.now in
+    let before = view c.args.tables.now c.args.change.now in
+    let w = unlist_blocked ns job before in
+    let idle = without_worker ending.worker in
+    let status = with_status ending.key.now.1 ending.status in
     done_as c.cancel_blocked.result c.args.tables.now c.cancel_blocked.new.change _ _
-    ((λ i. change_tenant (c.namespace-3.ensures i) (cancel_blocked job) (c.in_ok-set_status.ensures i))
+    ((λ i. change_tenant (c.namespace-namespace.ensures i) (cancel_blocked job) (c.in_ok-set_status.ensures i))
     ∙ (λ i. change_tenant ns (cancel_blocked job) (change_tenant ns status (c.in_ok-remove_worker.ensures i)))
-    ∙ (λ i. change_tenant ns (cancel_blocked job) (change_tenant ns status (change_tenant (c.namespace-2.ensures i) idle (c.in_ok-unlist_blocked.ensures i))))
-    ∙ (λ i. change_tenant ns (cancel_blocked job) (change_tenant ns status (change_tenant ns idle
-    (unlist_blocked (c.namespace.ensures i) job (view c.args.tables.now c.args.change.now)))))
+    ∙ (λ i. change_tenant ns (cancel_blocked job) (change_tenant ns status (change_tenant (c.namespace-namespace.ensures i) idle (c.in_ok-unlist_blocked.ensures i))))
+    ∙ (λ i. change_tenant ns (cancel_blocked job) (change_tenant ns status (change_tenant ns idle (unlist_blocked (c.namespace-namespace.ensures i) job before))))
     ∙ ap (change_tenant ns (cancel_blocked job)) (changed_twice ns status idle w)
     ∙ changed_twice ns (cancel_blocked job) (λ t. status (idle t)) w)
     c.cancel_blocked.ensures
