@@ -6,3 +6,4 @@ pub mod Holding
 pub mod Steps
 pub mod Parts
 pub mod Bounded
+pub mod Nodes

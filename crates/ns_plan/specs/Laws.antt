@@ -1,4 +1,5 @@
--- What is decided node by node needs no state but the one after the stops; which sums are counted; how long plans are.
+-- What is decided node by node needs no state but the one after the stops; which sums are counted; how long plans are, and
+-- on which nodes.
 use Rattle.std.specs.Prelude.{◌≡◌, ◌≤◌, ℕ, List, Some, fold, length}
 use Rattle.std.specs.FinMap.{get}
 use Rattle.ns_types.specs.declared.plan.Placement.{Placement}
@@ -9,7 +10,7 @@ use Rattle.ns_types.specs.State.Names.{Name}
 use Rattle.ns_types.specs.State.Rows.{State, Tenant, World}
 use Rattle.ns_types.specs.Validity.{IsSound, IsValid}
 use Rattle.ns_types.specs.Working.Commit.{Commit, begun, decide}
-use Rattle.ns_plan.specs.Looks.{AreCounted}
+use Rattle.ns_plan.specs.Looks.{AreCounted, IsOnFewNodes}
 use Rattle.ns_plan.specs.Reader.{Read, read_all}
 
 -- the same is placed, committed and dropped
@@ -32,3 +33,9 @@ abbrev pub KeptIsBounded : Type 0
 KeptIsBounded = (s : State) (ns : Name) (t : Tenant) (number : ℕ) (worker : Worker) (kept : Snapshot) → IsValid s →
     get s.world.tenants ns ≡ Some t → get t.workers number ≡ Some worker → worker.kept ≡ Some kept →
     length (plan kept).placing.placements ≤ 16000
+
+-- and it is on few nodes
+abbrev pub KeptIsOnFewNodes : Type 0
+KeptIsOnFewNodes = (s : State) (ns : Name) (t : Tenant) (number : ℕ) (worker : Worker) (kept : Snapshot) → IsValid s →
+    get s.world.tenants ns ≡ Some t → get t.workers number ≡ Some worker → worker.kept ≡ Some kept →
+    IsOnFewNodes kept (plan kept)

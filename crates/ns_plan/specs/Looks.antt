@@ -1,5 +1,6 @@
 -- What a plan is checked against: look-ups of the present state whose sums can be counted.
-use Rattle.std.specs.Prelude.{◌≡◌, Option, Some, None, if◌then◌else◌}
+use Rattle.std.specs.Prelude.{◌≡◌, ℕ, ◌<◌, ◌≤◌, Option, Some, None, if◌then◌else◌, length, slice_get}
+use Rattle.std.specs.List.{All}
 use Rattle.std.specs.FinMap.{get}
 use Rattle.std.specs.Option.{option_and_then, option_map_or}
 use Rattle.ns_types.specs.State.Resources.{IsCounted}
@@ -7,6 +8,7 @@ use Rattle.ns_types.specs.declared.allocation.Allocation.{Allocation}
 use Rattle.ns_types.specs.declared.job.Job.{Job}
 use Rattle.ns_types.specs.declared.plan.Plan.{Plan}
 use Rattle.ns_types.specs.declared.resources.Limits.{Limits}
+use Rattle.ns_types.specs.declared.snapshot.PoolNode.{PoolNode}
 use Rattle.ns_types.specs.declared.snapshot.Snapshot.{Snapshot}
 use Rattle.ns_types.specs.State.Names.{Key, Name}
 use Rattle.ns_types.specs.State.Resources.{limits_in, unlimited}
@@ -25,6 +27,13 @@ limits_of w quota = option_map_or (λ rows. limits_in rows.quota.limits) (get w.
 pub record AreCounted (w : World) : Type 0 where
   pub load : (pool node : Name) → IsCounted (node_load w pool node)
   pub used : (quota : Name) → IsCounted (quota_use w quota)
+
+-- each placement is on a node of the snapshot, which has no more than a pool may have, and none twice
+pub record IsOnFewNodes (kept : Snapshot) (p : Plan) : Type 0 where
+  pub few : length kept.nodes ≤ 1000
+  pub once : (i j : ℕ) (m n : PoolNode) → slice_get kept.nodes i ≡ Some m → slice_get kept.nodes j ≡ Some n →
+      m.name ≡ n.name → i ≡ j
+  pub inside : All (λ placement. placement.node < length kept.nodes) p.placing.placements
 
 -- the allocation, where it is live
 abbrev pub if_live : Option Allocation → Option Allocation
