@@ -2,7 +2,11 @@
 #![tactic(auto)]
 
 mod committed;
+mod evicting;
+pub mod laws;
+mod looking;
 mod stopping;
 
 pub use committed::Committed;
+pub use evicting::evict;
 pub use stopping::stop;

@@ -1,0 +1,5 @@
+use Rattle.ns_apply.proofs.Victims.{evicting_is_deciding}
+use Rattle.ns_apply.proofs.laws.evicting_is_deciding.Goals as goal
+
+pub returns : goal.returns
+returns c = evicting_is_deciding
