@@ -1,0 +1,51 @@
+//! Evaluations of the jobs of allocations that ended.
+
+ghost use Rattle.std.specs.Prelude.{fold};
+ghost use Rattle.ns_change.specs.Changed.{Does, HasEvaluationLeft, view};
+ghost use Rattle.ns_renewal.specs.Renewing.{HasNumbers, renewed};
+ghost use Rattle.ns_world.specs.World.{world_of};
+
+use ns_change::{Change, evaluation_for, make};
+use ns_types::evaluation::Trigger;
+use ns_types::key::EvalKey;
+use ns_world::Tables;
+use std::alloc::AllocError;
+
+/// The job of the allocation at that key gets an evaluation, with its type, priority and pool before the step.
+fn renew(
+    tables: &Tables,
+    change: &mut Change,
+    key: &EvalKey,
+    trigger: Trigger,
+) -> Result<(), AllocError>
+    requires { HasEvaluationLeft (view tables.now change.old) key.now.0 }
+    ensures { Does result tables.now change.old change.new
+        (λ x. renewed trigger (world_of tables.now) x key.now) }
+{
+    let Some(tenant) = tables.tenants.get(key.namespace()) else {
+        return Ok(());
+    };
+    let Some(ended) = tenant.allocations.get(key.number()) else {
+        return Ok(());
+    };
+    let evaluation = evaluation_for(tables.alloc, tenant, ended, trigger)?;
+    make(tables, change, key.namespace(), evaluation)
+}
+
+/// The job of the allocation at each of the keys gets an evaluation, in this order, with its type, priority and pool
+/// before the step.
+pub fn renew_each(
+    tables: &Tables,
+    change: &mut Change,
+    keys: &[EvalKey],
+    trigger: Trigger,
+) -> Result<(), AllocError>
+    requires { HasNumbers (view tables.now change.old) keys.now }
+    ensures { Does result tables.now change.old change.new
+        (λ x. fold (renewed trigger (world_of tables.now)) x keys.now) }
+{
+    for key in keys {
+        renew(tables, change, key, trigger)?;
+    }
+    Ok(())
+}
