@@ -1,0 +1,6 @@
+pub mod Ended
+pub mod Keys
+pub mod Numbered
+pub mod Parted
+pub mod Settled
+pub mod Touched

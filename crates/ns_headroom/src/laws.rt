@@ -1,0 +1,9 @@
+//! Laws of counters, each the contract of a function that does nothing.
+
+ghost use Rattle.ns_headroom.specs.Passing.{PassesByEnds};
+
+/// A step that releases nothing but by the allocations that it ends passes a bound by what it counts itself, or by what
+/// one of these allocations releases.
+pub fn passes_by_ends()
+    ensures { PassesByEnds }
+{}
