@@ -1,0 +1,5 @@
+pub mod Numbered
+pub mod Placing
+pub mod Renewing
+pub mod Deciding
+pub mod Whole
