@@ -1,1 +1,2 @@
+pub mod Placements
 pub mod Victims

@@ -5,8 +5,10 @@ mod committed;
 mod evicting;
 pub mod laws;
 mod looking;
+mod placing;
 mod stopping;
 
 pub use committed::Committed;
 pub use evicting::evict;
+pub use placing::place;
 pub use stopping::stop;
