@@ -1,1 +1,3 @@
+pub mod Least
 pub mod Made
+pub mod Numbered

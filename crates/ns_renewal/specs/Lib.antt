@@ -1,1 +1,3 @@
+pub mod Losing
+pub mod Losses
 pub mod Renewing

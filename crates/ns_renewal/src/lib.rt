@@ -1,6 +1,8 @@
 //! Evaluations of the jobs that lose allocations by preemption: each gets one, in whichever namespace it is.
 #![tactic(auto)]
 
+mod losing;
+mod losses;
 mod renewing;
 
 pub use renewing::renew_each;

@@ -1,0 +1,73 @@
+-- The jobs that lose allocations by preemption.
+use Rattle.std.specs.Prelude.{◌≡◌, ℕ, ◌+◌, ◌<◌, ◌^◌, Bool, ◌&&◌, List, [], ◌∷◌, Option, Some, None, filter, flat_map, length, map, min, nat_lt, option_map, unwrap_or}
+use Rattle.std.specs.List.{filter_map}
+use Rattle.std.specs.Option.{option_and_then, option_to_list}
+use Rattle.std.specs.FinMap.{get}
+use Rattle.keyed.specs.Table.{row_at}
+use Rattle.ns_types.specs.declared.plan.Eviction.{Eviction}
+use Rattle.ns_types.specs.State.Lists.{first_each}
+use Rattle.ns_types.specs.State.Names.{ByName, Name, Key, same_name}
+use Rattle.ns_types.specs.State.Rows.{World, Tenant}
+use Rattle.ns_types.specs.State.Tables.{any_row}
+use Rattle.ns_types.specs.Steps.{greatest}
+use Rattle.ns_types.specs.Working.Commit.{Victim, same_victim_job, victim_at}
+
+-- the evictions' allocations with their rows, of those that are there
+abbrev pub victims_at : World → List Eviction → List Victim
+victims_at w evictions = filter_map (victim_at w) evictions
+
+-- of each job that loses one the first victim, in that order
+abbrev pub losing : List Victim → List Victim
+losing victims = first_each same_victim_job victims
+
+-- ---- the numbers of their evaluations
+
+-- how many jobs of the namespace lose one
+abbrev pub losing_in : Name → List Victim → ℕ
+losing_in ns victims = length (filter (λ v. same_name ns v.0) (losing victims))
+
+-- the number of the last evaluation that the namespace would make passes its bound
+abbrev pub numbers_pass_in : List Victim → Name → Tenant → Bool
+numbers_pass_in victims ns t = nat_lt greatest (t.evaluation_number + losing_in ns victims)
+
+abbrev pub numbers_pass : List Victim → World → Bool
+numbers_pass victims w = any_row (numbers_pass_in victims) w.tenants
+
+-- each namespace has the numbers for an evaluation of each of its jobs that lose one
+abbrev pub CanMakeUp : List Victim → World → Type 0
+CanMakeUp victims x = (ns : Name) (t : Tenant) → get x.tenants ns ≡ Some t → t.evaluation_number + losing_in ns victims < 2 ^ 64
+
+-- ---- of each job the victim with the least number
+
+abbrev pub is_of_job : Name → Name → Victim → Bool
+is_of_job ns job v = same_name ns v.0 && same_name job v.1.1.job
+
+-- of two numbers the lesser, where there are two
+abbrev pub lesser : Option ℕ → Option ℕ → Option ℕ
+lesser None n = n
+lesser (Some m) None = Some m
+lesser (Some m) (Some n) = Some (min m n)
+
+abbrev pub least : List ℕ → Option ℕ
+least [] = None
+least (n ∷ ns) = lesser (Some n) (least ns)
+
+-- the least number of the job's victims
+abbrev pub least_of : List Victim → Name → Name → Option ℕ
+least_of victims ns job = least (map (λ v. v.1.0) (filter (is_of_job ns job) victims))
+
+-- the least victim of that one's job
+abbrev pub least_key : List Victim → Victim → Key
+least_key victims v = (v.0, unwrap_or (least_of victims v.0 v.1.1.job) v.1.0)
+
+-- of each job that loses one, in the order of first victim
+abbrev pub losing_keys : List Victim → List Key
+losing_keys victims = map (least_key victims) (losing victims)
+
+-- the keys of those jobs that have a number
+abbrev pub keys_left : (Name → Name → Option ℕ) → List Victim → List Key
+keys_left number victims = flat_map (λ v. option_to_list (option_map (λ n. (v.0, n)) (number v.0 v.1.1.job))) (losing victims)
+
+-- the number that the job has in a table of a namespace's jobs, where there is such a table
+abbrev pub job_number : Option (ByName (Option ℕ)) → Name → Option ℕ
+job_number jobs job = option_and_then (λ jobs. row_at jobs job) jobs

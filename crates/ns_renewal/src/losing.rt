@@ -1,0 +1,104 @@
+//! The jobs that lose allocations by preemption, each with the least of its victims.
+
+ghost use Rattle.std.specs.Prelude.{◌≡◌, ◌∷◌, [], IfOk, OnOk, map, option_map};
+ghost use Rattle.std.specs.Option.{option_and_then, option_copied};
+ghost use Rattle.ns_types.specs.Working.Commit.{victim_at};
+ghost use Rattle.ns_renewal.specs.Losing.{keys_left, losing_keys, victims_at};
+ghost use Rattle.ns_renewal.specs.Losses.{Lowers, Takes, job_key, number_at};
+ghost use Rattle.ns_world.specs.World.{world_of};
+
+use crate::losses::Losses;
+use ns_types::allocation::Allocation;
+use ns_types::key::EvalKey;
+use ns_types::plan::Eviction;
+use ns_types::rows::Rows;
+use ns_world::Tables;
+use std::alloc::AllocError;
+
+/// The allocation of an eviction before the step, if it is there.
+fn allocation<'a>(tables: &'a Tables, eviction: &Eviction) -> Option<&'a Allocation>
+    ensures { option_map (λ a. (eviction.now.namespace, (eviction.now.number, a)))
+        (option_copied result) ≡ victim_at (world_of tables.now) eviction.now }
+{
+    let Some(tenant) = tables.tenants.get(&eviction.namespace) else {
+        return None;
+    };
+    tenant.allocations.get(eviction.number)
+}
+
+/// The job of the eviction's allocation has the allocation's number from then on, or its own where that is less.
+fn lower(tables: &Tables, losses: &mut Losses, eviction: &Eviction) -> Result<(), AllocError>
+    ensures { OnOk result (Lowers (victims_at (world_of tables.now) (eviction.now ∷ []))
+        losses.old losses.new) }
+{
+    let Some(row) = allocation(tables, eviction) else {
+        return Ok(());
+    };
+    losses.lower(&eviction.namespace, &row.job, eviction.number)
+}
+
+fn lower_each(
+    tables: &Tables,
+    losses: &mut Losses,
+    evictions: &[&Eviction],
+) -> Result<(), AllocError>
+    ensures { OnOk result (Lowers (victims_at (world_of tables.now) (map (λ e. e.now) evictions.now))
+        losses.old losses.new) }
+{
+    for eviction in evictions {
+        lower(tables, losses, eviction)?;
+    }
+    Ok(())
+}
+
+/// The least number of each job's victims, under its job. The job of the eviction's allocation has none from then on.
+fn take(
+    tables: &Tables,
+    losses: &mut Losses,
+    eviction: &Eviction,
+) -> Result<Option<EvalKey>, AllocError>
+    ensures key { IfOk result (λ key. key
+        ≡ option_and_then (job_key losses.old) (victim_at (world_of tables.now) eviction.now)) }
+    ensures others { OnOk result (Takes (victim_at (world_of tables.now) eviction.now)
+        losses.old losses.new) }
+{
+    let Some(row) = allocation(tables, eviction) else {
+        return Ok(None);
+    };
+    match losses.take(&eviction.namespace, &row.job) {
+        Some(number) => Ok(Some(EvalKey::new(eviction.namespace.clone()?, number))),
+        None => Ok(None),
+    }
+}
+
+/// Of each job the key of the victim with the least number, in the order of first victim. The numbers are those of the
+/// jobs' victims.
+fn take_each(
+    tables: &Tables,
+    losses: &mut Losses,
+    evictions: &[&Eviction],
+) -> Result<Rows<EvalKey>, AllocError>
+    ensures { IfOk result (λ keys. keys ≡ keys_left (number_at losses.old)
+        (victims_at (world_of tables.now) (map (λ e. e.now) evictions.now))) }
+{
+    let mut keys = Rows::new(tables.alloc);
+    for eviction in evictions {
+        if let Some(key) = take(tables, losses, eviction)? {
+            keys.push(key)?;
+        }
+    }
+    Ok(keys)
+}
+
+/// Of each job that loses an allocation the victim with the least number, in the order of first victim.
+pub(crate) fn losing_keys(
+    tables: &Tables,
+    evictions: &[&Eviction],
+) -> Result<Rows<EvalKey>, AllocError>
+    ensures { IfOk result (λ keys. keys ≡ losing_keys (victims_at (world_of tables.now)
+        (map (λ e. e.now) evictions.now))) }
+{
+    let mut losses = Losses::new(tables.alloc);
+    lower_each(tables, &mut losses, evictions)?;
+    take_each(tables, &mut losses, evictions)
+}
