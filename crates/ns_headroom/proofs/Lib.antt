@@ -1,7 +1,9 @@
+pub mod Applied
 pub mod Ended
 pub mod Keys
 pub mod Numbered
 pub mod Parted
 pub mod Raised
 pub mod Settled
+pub mod Shown
 pub mod Touched
