@@ -146,12 +146,18 @@ module _ (kept : Snapshot) (ps : List Placement) (w : World) where
       by true t e later = ap (λ j. is_some (node_at w kept.pool (node_name kept j))) (tied one_number j k t) ∙ h.0
       by false t e later = later e
 
-  pub decided_there : (nodes : List ℕ) → Each (λ (p : Placement). IsThereAt p.node) (committed_in (fold (decide kept ps) (begun w) nodes).committed)
-  decided_there nodes = each_of (λ (p : Placement). has_number c.committed p.node ≡ true) (λ (p : Placement). IsThereAt p.node)
-      (λ p. has_there c.committed there p.node) (committed_in c.committed) (each_passes (λ (p : Placement). has_number c.committed p.node) ps)
+  pub committed_there : (nodes : List ℕ) (j : ℕ) → has_number (fold (decide kept ps) (begun w) nodes).committed j ≡ true → IsThereAt j
+  committed_there nodes j e = has_there c.committed there j e
     where
       c : Commit
       c = fold (decide kept ps) (begun w) nodes
 
       there : Each IsThereAt c.committed
       there = subst (λ (c : Commit). Each IsThereAt c.committed) (sym (decided_is kept ps w nodes)) (is_read nodes).there
+
+  pub decided_there : (nodes : List ℕ) → Each (λ (p : Placement). IsThereAt p.node) (committed_in (fold (decide kept ps) (begun w) nodes).committed)
+  decided_there nodes = each_of (λ (p : Placement). has_number c.committed p.node ≡ true) (λ (p : Placement). IsThereAt p.node)
+      (λ p. committed_there nodes p.node) (committed_in c.committed) (each_passes (λ (p : Placement). has_number c.committed p.node) ps)
+    where
+      c : Commit
+      c = fold (decide kept ps) (begun w) nodes

@@ -3,3 +3,4 @@ pub mod Placing
 pub mod Renewing
 pub mod Deciding
 pub mod Whole
+pub mod Ending

@@ -4,9 +4,14 @@ use Rattle.std.proofs.Common.{append_assoc, refl, sym, ap, ◌∙◌}
 use Rattle.std.proofs.lemmas.List.{append-nil}
 use Rattle.std.specs.FinMap.{get, insert}
 use Rattle.std.specs.Option.{option_map_or}
+use Rattle.ns_types.specs.declared.allocation.Allocation.{Allocation}
 use Rattle.ns_types.specs.declared.evaluation.Evaluation.{Evaluation}
-use Rattle.ns_types.specs.declared.evaluation.Trigger.TheVariants as Trigger
-use Rattle.ns_types.specs.Settling.Making.{change_tenant, evaluation_for, make, make_in, put_tenant, with_evaluation}
+use Rattle.ns_types.specs.declared.evaluation.Status.TheVariants as Status
+use Rattle.ns_types.specs.declared.evaluation.Trigger.{Trigger}
+use Rattle.ns_types.specs.declared.evaluation.Trigger.TheVariants as triggers
+use Rattle.ns_types.specs.declared.job.Job.{Job}
+use Rattle.ns_types.specs.declared.job.JobKind.TheVariants as JobKind
+use Rattle.ns_types.specs.Settling.Making.{change_tenant, evaluation_for, evaluation_of, make, make_in, new_evaluation, put_tenant, with_evaluation}
 use Rattle.ns_types.specs.State.Lists.{first_each}
 use Rattle.ns_types.specs.State.Names.{ByName, Key, Name, same_name}
 use Rattle.ns_types.specs.State.Rows.{Tenant, World, evaluation_at}
@@ -62,7 +67,7 @@ made_grows ns evaluation w = by (get w.tenants ns)
 
 module _ (victims : List Victim) where
   abbrev pub made_for : Victim → Tenant → Evaluation
-  made_for v t = evaluation_for t (least_of_job victims v) Trigger.Preemption
+  made_for v t = evaluation_for t (least_of_job victims v) triggers.Preemption
 
   abbrev one_more : World → Victim → World
   one_more w v = make v.0 (made_for v) w
@@ -124,3 +129,13 @@ module _ (victims : List Victim) where
   pub made_up_grows : (w : World) → Grows w (make_up victims w)
   unfolding make_up
   made_up_grows w = each_grows (first_each same_victim_job victims) w
+
+pub made_is_pending : (t : Tenant) (a : Allocation) (trigger : Trigger) → let e = evaluation_for t a trigger in
+    (e.status ≡ Status.Pending) × (e.create_index ≡ 0) × (e.modify_index ≡ 0)
+made_is_pending t a trigger = by (get t.jobs a.job)
+  where
+    by : (o : Option Job) → let e = option_map_or (λ job. evaluation_of a.job job.document trigger) o
+        (new_evaluation a.job JobKind.Service a.priority a.pool trigger) in
+        (e.status ≡ Status.Pending) × (e.create_index ≡ 0) × (e.modify_index ≡ 0)
+    by None = (refl, refl, refl)
+    by (Some job) = (refl, refl, refl)

@@ -27,7 +27,7 @@ use Rattle.ns_types.proofs.Tests.{same_Some}
 use Rattle.ns_applied.specs.Laws.{IsRestKept}
 use Rattle.ns_applied.specs.Parts.{IsForJob, IsOutside, counted_rows, evicted, left_row, losers, losers_in, placed, placed_in}
 use Rattle.ns_applied.specs.Parts.{places_on, standing, stopped, stops, victims, with_places}
-use Rattle.ns_applied.proofs.Deciding.{decided_there, decided_world}
+use Rattle.ns_applied.proofs.Deciding.{committed_there, decided_there, decided_world}
 use Rattle.ns_applied.proofs.Numbered.{added, added_outside, added_row, evaluations_added}
 use Rattle.ns_applied.proofs.Placing.{IsPlaced, is_placed, own_rows, placed_keeps, with_rows}
 use Rattle.ns_applied.proofs.Renewing.{Grows, evaluations_of, grows_same, grows_then, made_for, made_up_grows, made_up_keeps, made_up_tenants}
@@ -97,12 +97,16 @@ module _ (kept : Snapshot) (p : Plan) (w : World) (t : Tenant) where
       ap (λ m. is_some (option_and_then (λ (rows : PoolRows). get rows.nodes (node_name kept q.node)) (get m kept.pool))) same ∙ there
 
   -- their nodes are there
+  stopped_pools : (stopped kept p w t).pools ≡ w.pools
+  stopped_pools = ap (λ x. x.pools) (stopped_are kept.namespace (done kept p w t).checked.stops w ∙ gone_all stopped_row (λ a. refl) its_stops w)
+
   there : Each (IsThere decided.world) (placed kept p w t)
   there = each_of (IsThere (stopped kept p w t)) (IsThere decided.world) (ended_nodes (stopped kept p w t) decided.world
       (ended_keeps (λ x. x.pools) (λ x m. refl) ∙ sym stopped_pools)) (placed kept p w t) (decided_there kept ps (stopped kept p w t) (nodes_in ps))
-    where
-      stopped_pools : (stopped kept p w t).pools ≡ w.pools
-      stopped_pools = ap (λ x. x.pools) (stopped_are kept.namespace (done kept p w t).checked.stops w ∙ gone_all stopped_row (λ a. refl) its_stops w)
+
+  pub committed_are_there : (k : ℕ) → has_number (done kept p w t).checked.committed k ≡ true → is_some (node_at w kept.pool (node_name kept k)) ≡ true
+  committed_are_there k e = ap (λ m. is_some (option_and_then (λ (rows : PoolRows). get rows.nodes (node_name kept k)) (get m kept.pool))) (sym stopped_pools)
+      ∙ committed_there kept ps (stopped kept p w t) (nodes_in ps) k e
 
   none_placed : IsForJob kept p → kept.job ≡ None → placed kept p w t ≡ []
   none_placed for_job none = ap (λ ps. committed ps) (for_job none)

@@ -1,20 +1,31 @@
 -- What an Apply of a plan that stands leaves, row by row. Here t is the snapshot's namespace, as the state has it.
-use Rattle.std.specs.Prelude.{◌≡◌, ℕ, ◌+◌, ◌++◌, List, Some, length, option_map}
+use Rattle.std.specs.Prelude.{◌≡◌, ℕ, ◌+◌, true, false, not, ◌&&◌, List, ◌++◌, Some, is_some, length, option_map}
 use Rattle.std.specs.Prelude.{slice_get, take}
 use Rattle.std.specs.FinMap.{get}
-use Rattle.ns_types.specs.declared.evaluation.Trigger.TheVariants as Trigger
+use Rattle.ns_types.specs.declared.allocation.Allocation.{Allocation}
+use Rattle.ns_types.specs.declared.evaluation.Status.TheVariants as Status
+use Rattle.ns_types.specs.declared.evaluation.Trigger.{Trigger}
+use Rattle.ns_types.specs.declared.evaluation.Trigger.TheVariants as triggers
 use Rattle.ns_types.specs.declared.job.Job.{Job}
 use Rattle.ns_types.specs.declared.node.Node.{Node}
+use Rattle.ns_types.specs.declared.plan.Eviction.{Eviction}
 use Rattle.ns_types.specs.declared.plan.Placement.{Placement}
 use Rattle.ns_types.specs.declared.plan.Plan.{Plan}
 use Rattle.ns_types.specs.declared.snapshot.Snapshot.{Snapshot}
+use Rattle.ns_types.specs.Placing.Plan.{plan}
 use Rattle.ns_types.specs.Settling.Making.{evaluation_for}
-use Rattle.ns_types.specs.State.Names.{Key, Name}
+use Rattle.ns_types.specs.State.Names.{Key, Name, has_key, has_number, same_key, same_name}
 use Rattle.ns_types.specs.State.Rows.{Tenant, World, allocation_at, evaluation_at, node_at}
 use Rattle.ns_types.specs.State.Tables.{map_rows}
-use Rattle.ns_types.specs.Working.Commit.{Victim, done, least_of_job, new_allocation, node_name}
-use Rattle.ns_applied.specs.Parts.{IsForJob, IsOutside, counted_rows, evicted, left_row, losers_in, placed, placed_in}
-use Rattle.ns_applied.specs.Parts.{places_on, standing, stops, victims, with_places}
+use Rattle.ns_types.specs.Working.Commit.{Victim, counts, done, least_of_job, new_allocation, node_name, victim_key}
+use Rattle.ns_applied.specs.Parts.{IsForJob, IsOutside, counted_rows, ended, evicted, left_row, lives_at, losers_in}
+use Rattle.ns_applied.specs.Parts.{placed, placed_in, places_on, standing, stops, victims, with_places}
+
+-- ---- plans
+
+-- the plan of a snapshot places nothing where there is no job
+abbrev pub PlanIsForJob : Type 0
+PlanIsForJob = (kept : Snapshot) → IsForJob kept (plan kept)
 
 -- ---- namespaces
 
@@ -49,6 +60,30 @@ AllocationsMade = (kept : Snapshot) (p : Plan) (w : World) (t : Tenant) → get 
     ≡ Some (new_allocation kept job q
     (with_places (places_on kept (take i (placed kept p w t)) kept.pool (node_name kept q.node)) node))
 
+-- ---- those that end
+
+-- the stops and the victims were live
+abbrev pub EndedWereLive : Type 0
+EndedWereLive = (kept : Snapshot) (p : Plan) (w : World) (t : Tenant) → get w.tenants kept.namespace ≡ Some t →
+    (key : Key) → has_key (ended kept p w t) key ≡ true → lives_at w key ≡ true
+
+-- of the allocations that were there they are live no more, and no other
+abbrev pub AllocationsEnd : Type 0
+AllocationsEnd = (kept : Snapshot) (p : Plan) (w : World) (t : Tenant) → get w.tenants kept.namespace ≡ Some t →
+    IsForJob kept p → (ns : Name) (u : Tenant) → get w.tenants ns ≡ Some u →
+    (n : ℕ) → IsOutside u.allocation_number (placed_in kept p w t ns) n →
+    has_key (ended kept p w t) (ns, n) ≡ (lives_at w (ns, n) && not (lives_at (done kept p w t).world (ns, n)))
+
+-- no victim is a stop
+abbrev pub NoVictimIsStopped : Type 0
+NoVictimIsStopped = (kept : Snapshot) (p : Plan) (w : World) (t : Tenant) (key : Key) →
+    has_key (victims kept p w t) key ≡ true → has_key (stops kept p w t) key ≡ false
+
+-- evictions that count on nodes of different names are of different allocations
+abbrev pub VictimsApart : Type 0
+VictimsApart = (w : World) (pool a b : Name) (e f : Eviction) → same_name a b ≡ false →
+    counts w pool a e ≡ true → counts w pool b f ≡ true → same_key (victim_key e) (victim_key f) ≡ false
+
 -- ---- evaluations
 
 -- one that was there is as it was
@@ -62,9 +97,19 @@ abbrev pub EvaluationsMade : Type 0
 EvaluationsMade = (kept : Snapshot) (p : Plan) (w : World) (t : Tenant) (ns : Name) (u : Tenant) →
     get w.tenants ns ≡ Some u → (i : ℕ) (v : Victim) → slice_get (losers_in kept p w t ns) i ≡ Some v →
     evaluation_at (done kept p w t).world (ns, u.evaluation_number + (i + 1))
-    ≡ Some (evaluation_for u (least_of_job (evicted kept p w t) v) Trigger.Preemption)
+    ≡ Some (evaluation_for u (least_of_job (evicted kept p w t) v) triggers.Preemption)
+
+-- it is pending, and has no index yet
+abbrev pub MadeIsPending : Type 0
+MadeIsPending = (t : Tenant) (a : Allocation) (trigger : Trigger) → let e = evaluation_for t a trigger in
+    (e.status ≡ Status.Pending) × (e.create_index ≡ 0) × (e.modify_index ≡ 0)
 
 -- ---- pools and lists
+
+-- the nodes that do their part are there
+abbrev pub CommittedAreThere : Type 0
+CommittedAreThere = (kept : Snapshot) (p : Plan) (w : World) (t : Tenant) (k : ℕ) →
+    has_number (done kept p w t).checked.committed k ≡ true → is_some (node_at w kept.pool (node_name kept k)) ≡ true
 
 -- each node has counted the placements on it, and nothing else of a pool is changed
 abbrev pub PlacesCounted : Type 0

@@ -1,6 +1,7 @@
 -- What an Apply does of a plan that stands, in words over the state before it. Here t is the snapshot's namespace.
 use Rattle.std.specs.Prelude.{◌≡◌, ◌≤◌, ◌<◌, ℕ, ◌+◌, Bool, ◌&&◌, ◌⊎◌, if◌then◌else◌, List, [], ◌++◌, None}
-use Rattle.std.specs.Prelude.{filter, length}
+use Rattle.std.specs.Prelude.{false, filter, length}
+use Rattle.std.specs.Option.{option_map_or}
 use Rattle.ns_types.specs.declared.allocation.Allocation.{Allocation}
 use Rattle.ns_types.specs.declared.allocation.DesiredStatus.TheVariants as DesiredStatus
 use Rattle.ns_types.specs.declared.event.Event.{Event}
@@ -12,7 +13,7 @@ use Rattle.ns_types.specs.declared.records.Namespace.{Namespace}
 use Rattle.ns_types.specs.declared.snapshot.Snapshot.{Snapshot}
 use Rattle.ns_types.specs.State.Lists.{first_each}
 use Rattle.ns_types.specs.State.Names.{ByName, ByNumber, Key, Name, has_key, has_number, same_name}
-use Rattle.ns_types.specs.State.Rows.{PoolRows, Tenant, World}
+use Rattle.ns_types.specs.State.Rows.{PoolRows, Tenant, World, allocation_at, is_live}
 use Rattle.ns_types.specs.State.Tables.{map_rows}
 use Rattle.ns_types.specs.Working.Commit.{Victim, done, evicted_rows, live_stops, node_name, same_victim_job, stop_all}
 use Rattle.ns_types.specs.Working.Worker.{Worker}
@@ -53,6 +54,9 @@ abbrev pub losers_in : Snapshot → Plan → World → Tenant → Name → List 
 losers_in kept p w t ns = filter (λ v. same_name ns v.0) (losers kept p w t)
 
 -- ---- rows
+
+abbrev pub lives_at : World → Key → Bool
+lives_at w key = option_map_or is_live (allocation_at w key) false
 
 -- none of as many numbers as follow the last one
 abbrev pub IsOutside : ℕ → ℕ → ℕ → Type 0

@@ -1,7 +1,14 @@
 //! What an Apply of a plan that stands leaves, each law the contract of a function that does nothing.
 
-ghost use Rattle.ns_applied.specs.Laws.{AllocationsMade, AllocationsStay, EvaluationsMade, EvaluationsStay};
-ghost use Rattle.ns_applied.specs.Laws.{NamespacesStay, NumbersGoOn, PlacesCounted, RestStays};
+ghost use Rattle.ns_applied.specs.Laws.{AllocationsEnd, AllocationsMade, AllocationsStay, CommittedAreThere};
+ghost use Rattle.ns_applied.specs.Laws.{EndedWereLive, EvaluationsMade, EvaluationsStay, MadeIsPending};
+ghost use Rattle.ns_applied.specs.Laws.{NamespacesStay, NoVictimIsStopped, NumbersGoOn, PlacesCounted};
+ghost use Rattle.ns_applied.specs.Laws.{PlanIsForJob, RestStays, VictimsApart};
+
+/// The plan of a snapshot places nothing where there is no job.
+pub fn plan_is_for_job()
+    ensures { PlanIsForJob }
+{}
 
 /// An Apply leaves the same namespaces, and of each all but its evaluations, its allocations and their last numbers.
 pub fn namespaces_stay()
@@ -23,6 +30,26 @@ pub fn allocations_made()
     ensures { AllocationsMade }
 {}
 
+/// Those that it stops or evicts were live.
+pub fn ended_were_live()
+    ensures { EndedWereLive }
+{}
+
+/// And they are live no more, and no other allocation ends.
+pub fn allocations_end()
+    ensures { AllocationsEnd }
+{}
+
+/// None is both stopped and evicted.
+pub fn no_victim_is_stopped()
+    ensures { NoVictimIsStopped }
+{}
+
+/// What counts on one node counts on no other.
+pub fn victims_apart()
+    ensures { VictimsApart }
+{}
+
 /// It leaves each evaluation as it was.
 pub fn evaluations_stay()
     ensures { EvaluationsStay }
@@ -31,6 +58,16 @@ pub fn evaluations_stay()
 /// It makes a pending evaluation for each job that loses an allocation.
 pub fn evaluations_made()
     ensures { EvaluationsMade }
+{}
+
+/// Such an evaluation is pending, and has no index before the step settles.
+pub fn made_is_pending()
+    ensures { MadeIsPending }
+{}
+
+/// The nodes that do their part are there.
+pub fn committed_are_there()
+    ensures { CommittedAreThere }
 {}
 
 /// It counts the placements on their nodes, and changes nothing else of a pool.
