@@ -1,2 +1,3 @@
-pub mod Writing
+pub mod Answering
 pub mod Placing
+pub mod Writing

@@ -1,6 +1,7 @@
 //! What an Apply writes of a plan, once it is known which nodes do their part.
 #![tactic(auto)]
 
+mod answering;
 mod committed;
 mod evicting;
 pub mod laws;
@@ -8,6 +9,7 @@ mod looking;
 mod placing;
 mod stopping;
 
+pub use answering::{Effect, mark, names_in, numbers_made};
 pub use committed::Committed;
 pub use evicting::evict;
 pub use placing::place;
