@@ -1,3 +1,3 @@
+pub mod NodeByNode
 pub mod Placements
 pub mod SortedNames
-pub mod Victims

@@ -1,8 +1,8 @@
 //! The victims of a plan.
 
-ghost use Rattle.std.specs.Prelude.{◌≡◌, filter};
-ghost use Rattle.ns_types.specs.Working.Commit.{counts, evict_all, victims_in};
-ghost use Rattle.ns_apply.specs.Writing.{evict_victims, placed_on};
+ghost use Rattle.std.specs.Prelude.{◌≡◌, ◌++◌, IfOk, OnOk, filter, map};
+ghost use Rattle.ns_types.specs.Working.Commit.{counts, evict_all, victims_in, victims_of};
+ghost use Rattle.ns_apply.specs.Writing.{placed_on};
 ghost use Rattle.ns_change.specs.Changed.{Does, view};
 
 use crate::committed::Committed;
@@ -28,53 +28,77 @@ fn counts(tables: &Tables, change: &Change, pool: &Text, node: &Text, eviction: 
     }
 }
 
-fn evict_on(
+fn add_counting<'a>(
+    victims: &mut Vec<&'a Eviction>,
     tables: &Tables,
-    change: &mut Change,
+    change: &Change,
     pool: &Text,
     node: &Text,
-    evictions: &[Eviction],
+    evictions: &'a [Eviction],
 ) -> Result<(), AllocError>
-    ensures { Does result tables.now change.old change.new
-        (λ w. evict_all w (filter (counts w pool.now node.now) evictions.now)) }
+    ensures { OnOk result (map (λ e. e.now) victims.new.items ≡ map (λ e. e.now) victims.old.items
+        ++ filter (counts (view tables.now change.now) pool.now node.now) evictions.now) }
 {
     for eviction in evictions {
         if counts(tables, change, pool, node, eviction) {
-            let key = EvalKey::new(eviction.namespace.clone()?, eviction.number);
-            set_desired(tables, change, &key, DesiredStatus::Evict)?;
+            victims.push(eviction)?;
         }
     }
     Ok(())
 }
 
-fn evict_for(
+fn add_victims<'a>(
+    victims: &mut Vec<&'a Eviction>,
     tables: &Tables,
-    change: &mut Change,
+    change: &Change,
     snapshot: &Snapshot,
-    placement: &Placement,
+    placement: &'a Placement,
 ) -> Result<(), AllocError>
-    ensures { Does result tables.now change.old change.new
-        (λ w. evict_all w (victims_in w snapshot.now placement.now)) }
+    ensures { OnOk result (map (λ e. e.now) victims.new.items ≡ map (λ e. e.now) victims.old.items
+        ++ victims_in (view tables.now change.now) snapshot.now placement.now) }
 {
     let nameless = Text::from_string(String::new(tables.alloc));
     let name = node_name(snapshot, placement.node, &nameless);
     let evictions = placement.evictions.as_slice();
-    evict_on(tables, change, &snapshot.pool, name, evictions)
+    add_counting(victims, tables, change, &snapshot.pool, name, evictions)
 }
 
-/// Evicts each allocation that a node which does its part wants gone, where the eviction counts as the change leaves it:
-/// after the stops. It costs a look-up for each eviction of these nodes, and the copy of each row that goes; whether a
+/// The evictions of the nodes that do their part, of those that count as the change leaves their allocations: in the
+/// plan's order, and an allocation may be named twice. It costs a look-up for each eviction of these nodes; whether a
 /// placement's node does its part, a walk over these nodes.
-pub fn evict(committed: &Committed, change: &mut Change) -> Result<(), AllocError>
+pub fn victims<'a>(
+    committed: &Committed<'a>,
+    change: &Change,
+) -> Result<Vec<&'a Eviction>, AllocError>
     ensures { let placements = committed.now.plan.now.placing.placements in
         let placed = placed_on committed.now.nodes.now placements in
-        Does result committed.now.tables.now change.old change.new
-        (evict_victims committed.now.snapshot.now placed) }
+        let w = view committed.now.tables.now change.now in
+        IfOk result (λ victims. map (λ e. e.now) victims.items
+        ≡ victims_of w committed.now.snapshot.now placed) }
 {
+    let mut victims = Vec::new(committed.tables.alloc);
     for placement in committed.plan.placing.placements.as_slice() {
         if has_number(committed.nodes, placement.node) {
-            evict_for(committed.tables, change, committed.snapshot, placement)?;
+            add_victims(
+                &mut victims,
+                committed.tables,
+                change,
+                committed.snapshot,
+                placement,
+            )?;
         }
+    }
+    Ok(victims)
+}
+
+/// Evicts the allocations that the evictions name, of those that are there. Each costs a look-up and the copy of a row.
+pub fn evict(tables: &Tables, change: &mut Change, victims: &[&Eviction]) -> Result<(), AllocError>
+    ensures { Does result tables.now change.old change.new
+        (λ w. evict_all w (map (λ e. e.now) victims.now)) }
+{
+    for victim in victims {
+        let key = EvalKey::new(victim.namespace.clone()?, victim.number);
+        set_desired(tables, change, &key, DesiredStatus::Evict)?;
     }
     Ok(())
 }

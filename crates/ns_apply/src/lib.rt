@@ -11,6 +11,6 @@ mod stopping;
 
 pub use answering::{Effect, mark, names_in, numbers_made};
 pub use committed::Committed;
-pub use evicting::evict;
+pub use evicting::{evict, victims};
 pub use placing::place;
 pub use stopping::stop;

@@ -1,13 +1,8 @@
-use Rattle.std.proofs.Common.{◌≡◌, drop, fold}
-use Rattle.ns_types.specs.Working.Commit.{evict_all, victims_in}
+use Rattle.std.proofs.Common.{◌≡◌, drop, map}
+use Rattle.ns_types.specs.Working.Commit.{evict_all}
 use Rattle.ns_change.specs.Changed.{view}
-use Rattle.ns_apply.specs.Writing.{placed_on}
 use Rattle.ns_apply.proofs.evicting.evict.Given as goal
 
-abbrev pub invariant-loop-placement : goal.invariant-loop-placement
-invariant-loop-placement l =
-    let kept = l.committed.snapshot.now in
-    let placements = l.committed.plan.now.placing.placements in
-    fold (λ w p. evict_all w (victims_in w kept p)) (view l.committed.tables.now l.change)
-    (placed_on l.committed.nodes.now (drop l.placement-index placements))
-    ≡ fold (λ w p. evict_all w (victims_in w kept p)) (view l.committed.tables.now l.initial.change) (placed_on l.committed.nodes.now placements)
+abbrev pub invariant-loop-victim : goal.invariant-loop-victim
+invariant-loop-victim l = evict_all (view l.tables l.change) (map (λ e. e.now) (drop l.victim-index l.victims))
+    ≡ evict_all (view l.tables l.initial.change) (map (λ e. e.now) l.victims)

@@ -1,4 +1,4 @@
-use Rattle.ns_apply.proofs.Victims.{evicting_is_deciding}
+use Rattle.ns_apply.proofs.NodeByNode.{evicting_is_deciding}
 use Rattle.ns_apply.proofs.laws.evicting_is_deciding.Goals as goal
 
 pub returns : goal.returns

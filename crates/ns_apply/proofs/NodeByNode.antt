@@ -1,7 +1,6 @@
--- Victims that are looked for one after another: those that went already count no more, and the same allocations go.
+-- Who decides node by node evicts the victims that count after the stops: those that went already count no more.
 use Rattle.std.specs.Prelude.{◌≡◌, ℕ, Bool, true, false, cond, not, ◌&&◌, ◌||◌, List, [], ◌∷◌, ◌++◌, filter, flat_map, fold, map}
 use Rattle.std.proofs.Common.{refl, sym, ap, ◌∙◌}
-use Rattle.std.proofs.lemmas.List.{map-append}
 use Rattle.std.proofs.lemmas.List.Folds.{list_any-append}
 use Rattle.std.proofs.lemmas.List.Sums.{fold-append}
 use Rattle.std.specs.List.{list_any}
@@ -11,7 +10,7 @@ use Rattle.ns_types.specs.declared.snapshot.Snapshot.{Snapshot}
 use Rattle.ns_types.specs.State.Names.{Key, Name, has_key, has_number, same_key, same_number}
 use Rattle.ns_types.specs.State.Resources.{plus}
 use Rattle.ns_types.specs.State.Rows.{World}
-use Rattle.ns_types.specs.Working.Commit.{Commit, accepts_at, begun, counts, decide, evict, evict_all, node_name, part_of, size_of, victim_key}
+use Rattle.ns_types.specs.Working.Commit.{Commit, accepts_at, begun, counts, decide, evict_all, node_name, part_of, size_of, victim_key}
 use Rattle.ns_types.specs.Working.Commit.{victims_in, victims_of}
 use Rattle.ns_types.proofs.Elements.{any_flat, any_map, any_same}
 use Rattle.ns_types.proofs.Gone.{evicted_are, evicted_row, rows_gone}
@@ -58,15 +57,6 @@ module _ {A : Type 0} (victims : World → A → List Eviction) (left : (a : A) 
       ∙ any_same (λ a. has_key (keys (victims (rows_gone evicted_row w gone) a)) k) (λ a. has_key (keys (victims w a)) k) (λ a. left a w gone k out) xs
       ∙ sym (any_victim xs w k)
 
-  pub one_by_one : (xs : List A) (w : World) → fold (λ w a. evict_all w (victims w a)) w xs ≡ evict_all w (all_victims xs w)
-  one_by_one [] w = refl
-  one_by_one (a ∷ xs) w =
-      one_by_one xs (evict_all w (victims w a))
-      ∙ ap (λ x. evict_all x (all_victims xs x)) (evicted_are (victims w a) w)
-      ∙ found_then (all_victims xs) (all_left xs) w (keys (victims w a))
-      ∙ ap (rows_gone evicted_row w) (sym (map-append victim_key (victims w a) (all_victims xs w)))
-      ∙ sym (evicted_are (victims w a ++ all_victims xs w) w)
-
 -- ---- on one node
 
 chosen : {A : Type 0} (p : A → Bool) (xs : List A) → flat_map (λ x. cond (p x) (x ∷ []) []) xs ≡ filter p xs
@@ -80,9 +70,6 @@ module _ (pool node : Name) where
   abbrev if_counts : World → Eviction → List Eviction
   if_counts w e = cond (counts w pool node e) (e ∷ []) []
 
-  abbrev pub evict_counting : World → Eviction → World
-  evict_counting w e = cond (counts w pool node e) (evict w e) w
-
   one_left : (e : Eviction) → IsLeft (λ w. if_counts w e)
   one_left e w gone k out =
       ap (λ b. has_key (keys (cond b (e ∷ []) [])) k) (counts_left evicted_row (λ a. refl) (λ a. refl) w gone pool node e)
@@ -94,12 +81,6 @@ module _ (pool node : Name) where
       by true is false s same = refl
       by true is true false same = sym (ap (λ s. s || false) same)
       by true is true true same = not_both is (ap (has_key gone) (sym (key_is k (victim_key e) same)) ∙ out)
-
-  pub evicted_on : (es : List Eviction) (w : World) → fold evict_counting w es ≡ evict_all w (filter (counts w pool node) es)
-  evicted_on es w = (λ i. fold (λ w e. step w e i) w es) ∙ one_by_one if_counts one_left es w ∙ ap (evict_all w) (chosen (counts w pool node) es)
-    where
-      step : (w : World) (e : Eviction) → evict_counting w e ≡ evict_all w (if_counts w e)
-      step w e = elim (counts w pool node e) as (λ b. cond b (evict w e) w ≡ evict_all w (cond b (e ∷ []) [])) [ true ↦ refl | false ↦ refl ]
 
   on_left : (es : List Eviction) → IsLeft (λ w. filter (counts w pool node) es)
   on_left es w gone k out = ap (λ l. has_key (keys l) k) (sym (chosen (counts (rows_gone evicted_row w gone) pool node) es))
@@ -143,11 +124,6 @@ one_more test nodes n ps =
 module _ (kept : Snapshot) where
   at_left : (p : Placement) → IsLeft (λ w. victims_in w kept p)
   at_left p = on_left kept.pool (node_name kept p.node) p.evictions
-
-  pub evicted_for : (ps : List Placement) (w : World) → fold (λ w p. evict_all w (victims_in w kept p)) w ps ≡ evict_victims kept ps w
-  evicted_for ps w = one_by_one (λ w p. victims_in w kept p) at_left ps w
-
-  -- ---- node by node
 
   of_part : (ps : List Placement) → IsLeft (λ w. victims_of w kept ps)
   of_part ps = all_left (λ w p. victims_in w kept p) at_left ps
