@@ -3,6 +3,8 @@
 
 mod losing;
 mod losses;
+mod making;
 mod renewing;
 
+pub use making::make_up;
 pub use renewing::renew_each;
