@@ -1,4 +1,5 @@
--- A stop of a live allocation, which makes an evaluation: the counters of its namespace, and what the stop releases, are all that can pass a bound.
+-- One allocation that gets another row, perhaps with an evaluation that is made: the counters of its namespace, and where the allocation ends what
+-- that releases, are all that can pass a bound.
 use Rattle.std.specs.Prelude.{◌≡◌, ℕ, ◌+◌, Bool, true, false, cond, not, ◌&&◌, ◌||◌, if◌then◌else◌, List, [], ◌∷◌, ◌++◌, Option, Some, None, flat_map}
 use Rattle.std.specs.Prelude.{nat_lt, option_map}
 use Rattle.std.proofs.Common.{refl, sym, ap, ◌∙◌, append-nil, Ordering}
@@ -17,10 +18,10 @@ use Rattle.ns_types.specs.declared.evaluation.Evaluation.{Evaluation}
 use Rattle.ns_types.specs.declared.node.Class.{Class}
 use Rattle.ns_types.specs.declared.node.Node.{Node}
 use Rattle.ns_types.specs.declared.records.Namespace.{Namespace}
-use Rattle.ns_types.specs.Settling.Making.{make_in, put_tenant, with_desired}
+use Rattle.ns_types.specs.Settling.Making.{make_in, put_tenant, with_desired, with_evaluation}
 use Rattle.ns_types.specs.Settling.Same.{same_allocation}
 use Rattle.ns_types.specs.Settling.Settle.{changes_allocation, is_changed, settle}
-use Rattle.ns_types.specs.State.Names.{Key, Name, has_key, name_cmp, same_name}
+use Rattle.ns_types.specs.State.Names.{ByNumber, Key, Name, has_key, name_cmp, same_name}
 use Rattle.ns_types.specs.State.Rows.{World, Tenant, class_of, evaluation_at, is_free, is_live, is_run, node_at}
 use Rattle.ns_types.specs.State.Tables.{map_rows}
 use Rattle.ns_types.specs.Steps.{greatest, is_past_bound, is_tenant_past_bound}
@@ -32,7 +33,7 @@ use Rattle.ns_types.proofs.TableRows.{entries_empty, get_other}
 use Rattle.ns_types.proofs.Tables.{get-map_rows, map_rows_idle, none_of_any, tied}
 use Rattle.ns_change.specs.declared.change.Change.{Change}
 use Rattle.ns_change.specs.declared.change.TenantChange.{TenantChange}
-use Rattle.ns_change.specs.Changed.{changed, changed_list, changed_pool, changed_quota, changed_tenant, perhaps}
+use Rattle.ns_change.specs.Changed.{changed, changed_list, changed_pool, changed_quota, changed_tenant, perhaps, put_allocation}
 use Rattle.ns_change.proofs.Nothing.{no_entries, nothing}
 use Rattle.ns_change.proofs.Opening.{row_set}
 use Rattle.ns_release.specs.Released.{does_wake}
@@ -153,59 +154,32 @@ queue_adds w key = by (evaluation_at w key)
     by None = same
     by (Some e) = at (is_busy w key.0 e.job)
 
--- ---- a stop
+-- ---- one allocation that gets another row, whatever is written of evaluations with it
 
-abbrev stopped : Allocation → Allocation
-stopped a = record a { desired = DesiredStatus.Stop }
-
--- it is shown otherwise than before
-differs : (a : Allocation) → is_live a ≡ true → same_allocation a (stopped a) ≡ false
-unfolding same_allocation
-differs a live = by _ _ a.desired (first_of_both (is_run a.desired) _ live)
-  where
-    none : (p q : Bool) → ((p && false) && q) ≡ false
-    none true q = refl
-    none false q = refl
-
-    by : (p q : Bool) (d : DesiredStatus) → is_run d ≡ true → ((p && same_name (desired_text d) (desired_text DesiredStatus.Stop)) && q) ≡ false
-    by p q DesiredStatus.Run runs = none p q
-    by p q DesiredStatus.Stop runs = not_both runs refl
-    by p q DesiredStatus.Evict runs = not_both runs refl
-
-module _ (w : World) (ns : Name) (t : Tenant) (at : get w.tenants ns ≡ Some t) (n : ℕ) (a : Allocation) (there : get t.allocations n ≡ Some a)
-    (live : is_live a ≡ true) (e : Evaluation) where
-  abbrev next : ℕ
-  next = t.evaluation_number + 1
-
+module _ (w : World) (ns : Name) (t : Tenant) (at : get w.tenants ns ≡ Some t) (n : ℕ) (a b : Allocation) (there : get t.allocations n ≡ Some a)
+    (shown : same_allocation a b ≡ false) (number : ℕ) (evaluations : ByNumber (Option Evaluation)) (keys : List Key) where
   abbrev rows : TenantChange
   rows = record {
-    evaluation_number = next;
+    evaluation_number = number;
     allocation_number = t.allocation_number;
     jobs = empty;
-    evaluations = insert empty next (Some e);
-    allocations = insert empty n (Some (stopped a));
+    evaluations = evaluations;
+    allocations = insert empty n (Some b);
     workers = empty;
   }
 
   abbrev after : Tenant
-  after = record t { evaluation_number = next; evaluations = insert t.evaluations next e; allocations = insert t.allocations n (stopped a) }
-
-  abbrev put_after : World
-  put_after = put_tenant ns after w
+  after = record t { evaluation_number = number; evaluations = over t.evaluations evaluations; allocations = insert t.allocations n b }
 
   abbrev alone : Change
-  alone = record nothing { tenants = insert empty ns (Some rows); ready = record { taken = []; added = added put_after (ns, next) } }
+  alone = record nothing { tenants = insert empty ns (Some rows); ready = record { taken = []; added = keys } }
 
-  abbrev left : World
-  left = make_in ns e w (with_desired n DesiredStatus.Stop t)
-
-  -- ---- the change is the stop
+  -- ---- the world after it
 
   after_is : changed_tenant t rows ≡ after
   after_is = λ i. record after {
     jobs = over-empty names one_name t.jobs i;
-    evaluations = over-one numbers one_number t.evaluations next e i;
-    allocations = over-one numbers one_number t.allocations n (stopped a) i;
+    allocations = over-one numbers one_number t.allocations n b i;
     workers = over-empty numbers one_number t.workers i;
   }
 
@@ -226,10 +200,10 @@ module _ (w : World) (ns : Name) (t : Tenant) (at : get w.tenants ns ≡ Some t)
           ∙ ap Some after_is
       by q false is = ap (λ r. option_map (λ x. perhaps changed_tenant r x) (get w.tenants q)) (row q false is) ∙ idle (get w.tenants q)
 
-  ready_is : changed_list w.ready alone.ready ≡ w.ready ++ added put_after (ns, next)
-  ready_is = ap (λ keys. keys ++ added put_after (ns, next)) (filter_all (λ key. not (has_key [] key)) w.ready (each _ (λ _. refl) w.ready))
+  ready_is : changed_list w.ready alone.ready ≡ w.ready ++ keys
+  ready_is = ap (λ ready. ready ++ keys) (filter_all (λ key. not (has_key [] key)) w.ready (each _ (λ _. refl) w.ready))
 
-  alone_is : changed w alone ≡ record put_after { ready = w.ready ++ added put_after (ns, next) }
+  alone_is : changed w alone ≡ record w { tenants = insert w.tenants ns after; ready = w.ready ++ keys }
   unfolding changed
   alone_is = λ i. record w {
     tenants = tenants_are i;
@@ -240,51 +214,64 @@ module _ (w : World) (ns : Name) (t : Tenant) (at : get w.tenants ns ≡ Some t)
     blocked = unchanged_list w.blocked i;
   }
 
-  left_is : changed w alone ≡ left
-  left_is = alone_is ∙ sym (ap (λ o. make_in ns e w (option_map_or
-      (λ a. record t { allocations = insert t.allocations n (record a { desired = DesiredStatus.Stop }) }) o t)) there ∙ queue_adds put_after (ns, next))
+  -- ---- what it releases, where the allocation was live and is not any more
 
-  -- ---- what it releases
+  abbrev ends : Bool
+  ends = is_live a && not (is_live b)
 
-  ended : ended_rows w alone ≡ (t.namespace, a) ∷ []
+  abbrev ended_if : Bool → List (Namespace × Allocation)
+  ended_if ends = if ends then (t.namespace, a) ∷ [] else []
+
+  abbrev rooms_if : Bool → List (Name × Class)
+  rooms_if ends = if ends then in_pool a.pool (room_left (node_at w a.pool a.node)) else []
+
+  abbrev quotas_if : Bool → List Name
+  quotas_if ends = if ends then quota_left t.namespace else []
+
+  ended : ended_rows w alone ≡ ended_if ends
   ended = ap (flat_map (λ (e : Name × Option TenantChange). ended_of w e.0 e.1)) (one_entry names one_name ns (Some rows)) ∙ append-nil _
       ∙ ap (λ o. option_map_or (λ t. ended_in t rows) o []) at
-      ∙ ap (flat_map (λ (e : ℕ × Option Allocation). ended_one t e.0 e.1)) (one_entry numbers one_number n (Some (stopped a))) ∙ append-nil _
-      ∙ ap (λ o. option_map_or (λ x. if is_live x && not (option_map_or is_live (Some (stopped a)) false) then (t.namespace, x) ∷ [] else []) o []) there
-      ∙ ap (λ b. if b && true then (t.namespace, a) ∷ [] else []) live
+      ∙ ap (flat_map (λ (e : ℕ × Option Allocation). ended_one t e.0 e.1)) (one_entry numbers one_number n (Some b)) ∙ append-nil _
+      ∙ ap (λ o. option_map_or (λ x. if is_live x && not (option_map_or is_live (Some b) false) then (t.namespace, x) ∷ [] else []) o []) there
 
-  abbrev rooms : List (Name × Class)
-  rooms = in_pool a.pool (room_left (node_at w a.pool a.node))
+  rooms_are : released_rooms w alone ≡ rooms_if ends
+  rooms_are = (λ i. flat_map (rooms_of_pool w) (entries_empty names one_name i) ++ flat_map (rooms_left (changed w alone)) (ended i)) ∙ by ends
+    where
+      by : (ends : Bool) → flat_map (rooms_left (changed w alone)) (ended_if ends) ≡ rooms_if ends
+      by true = append-nil _ ∙ ap (λ x. in_pool a.pool (room_left (node_at x a.pool a.node))) alone_is
+      by false = refl
 
-  rooms_are : released_rooms w alone ≡ rooms
-  rooms_are = (λ i. flat_map (rooms_of_pool w) (entries_empty names one_name i) ++ flat_map (rooms_left (changed w alone)) (ended i))
-      ∙ append-nil _ ∙ ap (λ x. in_pool a.pool (room_left (node_at x a.pool a.node))) alone_is
-
-  quotas_are : released_quotas w alone ≡ quota_left t.namespace
+  quotas_are : released_quotas w alone ≡ quotas_if ends
   quotas_are = (λ i. flat_map (quota_relimited w) (entries_empty names one_name i) ++ flat_map (λ (e : Namespace × Allocation). quota_left e.0) (ended i))
-      ∙ append-nil _
+      ∙ by ends
+    where
+      by : (ends : Bool) → flat_map (λ (e : Namespace × Allocation). quota_left e.0) (ended_if ends) ≡ quotas_if ends
+      by true = append-nil _
+      by false = refl
 
   -- ---- the counters
 
   module _ (within : is_past_bound w ≡ false) where
+    abbrev own_passes : Bool
+    own_passes = is_at_bound t.index || nat_lt greatest number
+
     given : nat_lt greatest t.allocation_number ≡ false
     unfolding is_past_bound
     given = right_none (nat_lt greatest t.index || nat_lt greatest t.evaluation_number) _
         (none_of_any one_name (λ _ t. is_tenant_past_bound t) w.tenants ns t (left_none _ _ (left_none _ _ within)) at)
 
     touched : touches_asleep w alone ns t rows ≡ true
-    touched = last _ _ (ap (list_any (at_slot (λ (e : ℕ × Allocation). changes_allocation t e.0 e.1))) (one_entry numbers one_number n (Some (stopped a)))
-        ∙ ap (λ b. b || false) (ap (λ o. is_changed same_allocation o (stopped a)) there ∙ ap not (differs a live)))
+    touched = last _ _ (ap (list_any (at_slot (λ (e : ℕ × Allocation). changes_allocation t e.0 e.1))) (one_entry numbers one_number n (Some b))
+        ∙ ap (λ b. b || false) (ap (λ o. is_changed same_allocation o b) there ∙ ap not shown))
       where
         last : (p q : Bool) → q ≡ true → (p || q) ≡ true
         last true q is = refl
         last false q is = is
 
-    own : list_any (tenant_passes w alone) (entries alone.tenants) ≡ passes_bound t
+    own : list_any (tenant_passes w alone) (entries alone.tenants) ≡ own_passes
     own = ap (list_any (tenant_passes w alone)) (one_entry names one_name ns (Some rows))
         ∙ ap (λ o. option_map_or (passes_in w alone ns rows) o false || false) at
-        ∙ by (nat_lt greatest (t.evaluation_number + 1)) (is_at_bound t.index) (nat_lt greatest t.allocation_number) (touches_asleep w alone ns t rows)
-        given touched
+        ∙ by (nat_lt greatest number) (is_at_bound t.index) (nat_lt greatest t.allocation_number) (touches_asleep w alone ns t rows) given touched
       where
         by : (e i g s : Bool) → g ≡ false → s ≡ true → (((e || g) || (i && s)) || false) ≡ (i || e)
         by e i true s fails holds = not_both refl fails
@@ -297,16 +284,16 @@ module _ (w : World) (ns : Name) (t : Tenant) (at : get w.tenants ns ≡ Some t)
     no_place : list_any (places_pass w) (entries alone.pools) ≡ false
     no_place = ap (list_any (places_pass w)) (entries_empty names one_name)
 
-    parts : is_past_bound (settle w left) ≡
-        ((passes_bound t || list_any (waking_passes w alone) w.blocked) || (list_any (room_passes w) rooms || false)
-        || list_any (quota_passes w) (quota_left t.namespace))
-    parts = ap (λ x. is_past_bound (settle w x)) (sym left_is) ∙ past_bound_is w alone within
+    parts : is_past_bound (settle w (changed w alone)) ≡
+        ((own_passes || list_any (waking_passes w alone) w.blocked) || (list_any (room_passes w) (rooms_if ends) || false)
+        || list_any (quota_passes w) (quotas_if ends))
+    parts = past_bound_is w alone within
         ∙ (λ i. (own i || list_any (waking_passes w alone) w.blocked) || (list_any (room_passes w) (rooms_are i) || no_place i)
         || list_any (quota_passes w) (quotas_are i))
 
-    module _ (fits : passes_bound t ≡ false) where
+    module _ (fits : own_passes ≡ false) where
       -- its own namespace's index does not pass, and no evaluation of another one is changed
-      waking_is : (key : Key) → waking_passes w alone key ≡ waking_by w rooms (quota_left t.namespace) key
+      waking_is : (key : Key) → waking_passes w alone key ≡ waking_by w (rooms_if ends) (quotas_if ends) key
       waking_is key = by (eq_by_cmp name_cmp key.0 ns) refl
         where
           mine : (s : Tenant → Bool) → key.0 ≡ ns → option_map_or (λ x. is_at_bound x.index && s x) (get w.tenants key.0) false ≡ false
@@ -317,24 +304,25 @@ module _ (w : World) (ns : Name) (t : Tenant) (at : get w.tenants ns ≡ Some t)
           stays other = ap (λ x. evaluation_at x key) alone_is
               ∙ ap (option_and_then (λ (t : Tenant). get t.evaluations key.1)) (get_other names one_name w.tenants ns after key.0 other)
 
-          by : (b : Bool) → eq_by_cmp name_cmp key.0 ns ≡ b → waking_passes w alone key ≡ waking_by w rooms (quota_left t.namespace) key
+          by : (b : Bool) → eq_by_cmp name_cmp key.0 ns ≡ b → waking_passes w alone key ≡ waking_by w (rooms_if ends) (quotas_if ends) key
           by true is = mine (λ x. does_wake w alone key && shows_awake x key.1 (evaluation_at (changed w alone) key)) (tied one_name key.0 ns is)
-              ∙ sym (mine (λ x. releases_wake_at w rooms (quota_left t.namespace) key && shows_awake x key.1 (evaluation_at w key)) (tied one_name key.0 ns is))
+              ∙ sym (mine (λ x. releases_wake_at w (rooms_if ends) (quotas_if ends) key && shows_awake x key.1 (evaluation_at w key))
+              (tied one_name key.0 ns is))
           by false other = λ i. option_map_or (λ x. is_at_bound x.index && (is_woken w alone.blocked (rooms_are i) (quotas_are i) key
               && shows_awake x key.1 (stays other i))) (get w.tenants key.0) false
 
       wakings_are : list_any (waking_passes w alone) w.blocked
-          ≡ (list_any (waking_by w rooms []) w.blocked || list_any (waking_by w [] (quota_left t.namespace)) w.blocked)
-      wakings_are = any_alike _ (λ key. waking_by w rooms [] key || waking_by w [] (quota_left t.namespace) key) w.blocked
-          (each _ (λ key. waking_is key ∙ waking_each w rooms (quota_left t.namespace) key) w.blocked)
-          ∙ any_both (waking_by w rooms []) (waking_by w [] (quota_left t.namespace)) w.blocked
+          ≡ (list_any (waking_by w (rooms_if ends) []) w.blocked || list_any (waking_by w [] (quotas_if ends)) w.blocked)
+      wakings_are = any_alike _ (λ key. waking_by w (rooms_if ends) [] key || waking_by w [] (quotas_if ends) key) w.blocked
+          (each _ (λ key. waking_is key ∙ waking_each w (rooms_if ends) (quotas_if ends) key) w.blocked)
+          ∙ any_both (waking_by w (rooms_if ends) []) (waking_by w [] (quotas_if ends)) w.blocked
 
-      others_pass : is_past_bound (settle w left) ≡ ending_passes w t a
+      others_pass : is_past_bound (settle w (changed w alone)) ≡ (ends && ending_passes w t a)
       others_pass = parts
-          ∙ (λ i. (fits i || wakings_are i) || (list_any (room_passes w) rooms || false) || list_any (quota_passes w) (quota_left t.namespace))
-          ∙ grouped (list_any (waking_by w rooms []) w.blocked) (list_any (waking_by w [] (quota_left t.namespace)) w.blocked)
-          (list_any (room_passes w) rooms) (list_any (quota_passes w) (quota_left t.namespace))
-          ∙ (λ i. rooms_pass w a.pool (node_at w a.pool a.node) i || limits_pass w t.namespace i)
+          ∙ (λ i. (fits i || wakings_are i) || (list_any (room_passes w) (rooms_if ends) || false) || list_any (quota_passes w) (quotas_if ends))
+          ∙ grouped (list_any (waking_by w (rooms_if ends) []) w.blocked) (list_any (waking_by w [] (quotas_if ends)) w.blocked)
+          (list_any (room_passes w) (rooms_if ends)) (list_any (quota_passes w) (quotas_if ends))
+          ∙ by ends
         where
           grouped : (r q s l : Bool) → (((r || q) || (s || false)) || l) ≡ ((r || s) || (q || l))
           grouped true q s l = refl
@@ -343,10 +331,91 @@ module _ (w : World) (ns : Name) (t : Tenant) (at : get w.tenants ns ≡ Some t)
           grouped false false true l = refl
           grouped false false false l = refl
 
-    pub stop_past : is_past_bound (settle w (make_in ns e w (with_desired n DesiredStatus.Stop t))) ≡ (passes_bound t || ending_passes w t a)
-    stop_past = by (passes_bound t) refl
+          by : (ends : Bool) → ((list_any (waking_by w (rooms_if ends) []) w.blocked || list_any (room_passes w) (rooms_if ends))
+              || (list_any (waking_by w [] (quotas_if ends)) w.blocked || list_any (quota_passes w) (quotas_if ends))) ≡ (ends && ending_passes w t a)
+          by true = λ i. rooms_pass w a.pool (node_at w a.pool a.node) i || limits_pass w t.namespace i
+          by false = λ i. (none_waking w i || false) || (none_waking w i || false)
+
+    row_past : is_past_bound (settle w (changed w alone)) ≡ (own_passes || (ends && ending_passes w t a))
+    row_past = by own_passes refl
       where
-        by : (b : Bool) → passes_bound t ≡ b → is_past_bound (settle w left) ≡ (b || ending_passes w t a)
-        by true past = parts ∙ ap (λ b. (b || list_any (waking_passes w alone) w.blocked) || (list_any (room_passes w) rooms || false)
-            || list_any (quota_passes w) (quota_left t.namespace)) past
+        by : (b : Bool) → own_passes ≡ b → is_past_bound (settle w (changed w alone)) ≡ (b || (ends && ending_passes w t a))
+        by true past = parts ∙ ap (λ b. (b || list_any (waking_passes w alone) w.blocked) || (list_any (room_passes w) (rooms_if ends) || false)
+            || list_any (quota_passes w) (quotas_if ends)) past
         by false fits = others_pass fits
+
+module _ (w : World) (ns : Name) (t : Tenant) (at : get w.tenants ns ≡ Some t) (n : ℕ) (a b : Allocation) (there : get t.allocations n ≡ Some a)
+    (shown : same_allocation a b ≡ false) (within : is_past_bound w ≡ false) where
+  abbrev next : ℕ
+  next = t.evaluation_number + 1
+
+  -- ---- and nothing else is written
+
+  given_before : nat_lt greatest t.evaluation_number ≡ false
+  unfolding is_past_bound
+  given_before = right_none (nat_lt greatest t.index) _ (left_none _ _
+      (none_of_any one_name (λ _ t. is_tenant_past_bound t) w.tenants ns t (left_none _ _ (left_none _ _ within)) at))
+
+  pub row_put_past : is_past_bound (settle w (put_tenant ns (put_allocation n b t) w)) ≡
+      (is_at_bound t.index || ((is_live a && not (is_live b)) && ending_passes w t a))
+  row_put_past = ap (λ x. is_past_bound (settle w x)) (sym left_is)
+      ∙ row_past w ns t at n a b there shown t.evaluation_number empty [] within
+      ∙ ap (λ c. c || ((is_live a && not (is_live b)) && ending_passes w t a)) (by (is_at_bound t.index) (nat_lt greatest t.evaluation_number) given_before)
+    where
+      left_is : changed w (alone w ns t at n a b there shown t.evaluation_number empty []) ≡ put_tenant ns (put_allocation n b t) w
+      left_is = alone_is w ns t at n a b there shown t.evaluation_number empty [] ∙ (λ i. record w {
+        tenants = insert w.tenants ns (record (put_allocation n b t) { evaluations = over-empty numbers one_number t.evaluations i });
+        ready = append-nil w.ready i;
+      })
+
+      by : (i e : Bool) → e ≡ false → (i || e) ≡ i
+      by true e is = refl
+      by false e is = is
+
+  -- ---- and an evaluation is made
+
+  pub row_made_past : (e : Evaluation) → is_past_bound (settle w (make_in ns e w (put_allocation n b t))) ≡
+      (passes_bound t || ((is_live a && not (is_live b)) && ending_passes w t a))
+  row_made_past e = ap (λ x. is_past_bound (settle w x)) (sym left_is) ∙ row_past w ns t at n a b there shown next made ready within
+    where
+      made : ByNumber (Option Evaluation)
+      made = insert empty next (Some e)
+
+      put : World
+      put = put_tenant ns (with_evaluation e (put_allocation n b t)) w
+
+      ready : List Key
+      ready = added put (ns, next)
+
+      left_is : changed w (alone w ns t at n a b there shown next made ready) ≡ make_in ns e w (put_allocation n b t)
+      left_is = alone_is w ns t at n a b there shown next made ready ∙ (λ i. record w {
+        tenants = insert w.tenants ns (record (with_evaluation e (put_allocation n b t)) { evaluations = over-one numbers one_number t.evaluations next e i });
+        ready = w.ready ++ ready;
+      }) ∙ sym (queue_adds put (ns, next))
+
+-- ---- a stop
+
+abbrev stopped : Allocation → Allocation
+stopped a = record a { desired = DesiredStatus.Stop }
+
+-- it is shown otherwise than before
+differs : (a : Allocation) → is_live a ≡ true → same_allocation a (stopped a) ≡ false
+unfolding same_allocation
+differs a live = by _ _ a.desired (first_of_both (is_run a.desired) _ live)
+  where
+    none : (p q : Bool) → ((p && false) && q) ≡ false
+    none true q = refl
+    none false q = refl
+
+    by : (p q : Bool) (d : DesiredStatus) → is_run d ≡ true → ((p && same_name (desired_text d) (desired_text DesiredStatus.Stop)) && q) ≡ false
+    by p q DesiredStatus.Run runs = none p q
+    by p q DesiredStatus.Stop runs = not_both runs refl
+    by p q DesiredStatus.Evict runs = not_both runs refl
+
+pub stop_past : (w : World) (ns : Name) (t : Tenant) → get w.tenants ns ≡ Some t → (n : ℕ) (a : Allocation) → get t.allocations n ≡ Some a →
+    is_live a ≡ true → (e : Evaluation) → is_past_bound w ≡ false →
+    is_past_bound (settle w (make_in ns e w (with_desired n DesiredStatus.Stop t))) ≡ (passes_bound t || ending_passes w t a)
+stop_past w ns t at n a there live e within =
+    ap (λ o. is_past_bound (settle w (make_in ns e w (option_map_or (λ a. put_allocation n (stopped a) t) o t)))) there
+    ∙ row_made_past w ns t at n a (stopped a) there (differs a live) within e
+    ∙ ap (λ b. passes_bound t || ((b && true) && ending_passes w t a)) live

@@ -4,6 +4,7 @@
 
 mod allocations;
 mod deregistration;
+mod ending;
 mod evaluations;
 mod jobs;
 pub mod laws;
@@ -15,6 +16,8 @@ mod stopping;
 mod usage;
 
 pub use deregistration::deregister;
+pub use ending::ending_passes;
+pub use looking::{allocation, job, node};
 pub use reading::read;
 pub use registration::register;
 pub use stopping::stop_allocation;

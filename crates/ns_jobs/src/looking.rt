@@ -15,7 +15,8 @@ use ns_types::node::Node;
 use ns_types::text::Text;
 use ns_world::{Tables, TenantRows};
 
-pub(crate) fn job<'a>(tenant: &'a TenantRows, id: &Text) -> Option<&'a Job>
+/// The job of the namespace.
+pub fn job<'a>(tenant: &'a TenantRows, id: &Text) -> Option<&'a Job>
     ensures { option_copied result ≡ get (tenant_of tenant.now).jobs id.now }
 {
     tenant.jobs.get(id)
@@ -27,14 +28,15 @@ pub(crate) fn evaluation(tenant: &TenantRows, number: u64) -> Option<&Evaluation
     tenant.evaluations.rows().get(number)
 }
 
-pub(crate) fn allocation(tenant: &TenantRows, number: u64) -> Option<&Allocation>
+/// The allocation of the namespace.
+pub fn allocation(tenant: &TenantRows, number: u64) -> Option<&Allocation>
     ensures { option_copied result ≡ get (tenant_of tenant.now).allocations number }
 {
     tenant.allocations.get(number)
 }
 
 /// The node of the pool.
-pub(crate) fn node<'a>(tables: &'a Tables, pool: &Text, name: &Text) -> Option<&'a Node>
+pub fn node<'a>(tables: &'a Tables, pool: &Text, name: &Text) -> Option<&'a Node>
     ensures { option_copied result ≡ node_at (world_of tables.now) pool.now name.now }
 {
     match tables.pools.get(pool) {

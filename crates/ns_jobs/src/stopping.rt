@@ -7,49 +7,18 @@ ghost use Rattle.ns_types.specs.Asking.Asks.{ask};
 ghost use Rattle.ns_types.specs.Steps.{is_past_bound};
 ghost use Rattle.ns_change.specs.Prepared.{Prepares, bounded};
 ghost use Rattle.ns_jobs.specs.Counted.{IsNext};
-ghost use Rattle.ns_jobs.specs.Ending.{ending_passes, left_quota_passes, left_room_passes};
 ghost use Rattle.ns_jobs.specs.Made.{stopped_with};
 ghost use Rattle.ns_world.specs.World.{tenant_of, world_of};
 
-use crate::looking::{allocation, node};
+use crate::ending::ending_passes;
+use crate::looking::allocation;
 use crate::making::{Numbers, next_numbers, stop_and_make};
-use ns_alike::is_free;
-use ns_bounds::{given_limits_pass, given_room_passes};
 use ns_change::{Change, Prepared, prepare};
 use ns_types::allocation::Allocation;
 use ns_types::refusal::Refusal;
 use ns_types::reply::Content;
 use ns_types::text::Text;
 use ns_world::{Tables, TenantRows};
-
-/// Whether a counter passes its bound by the room that the allocation leaves on its node. A node that is not there, not
-/// ready or not eligible gives none.
-fn left_room_passes(tables: &Tables, row: &Allocation) -> bool
-    ensures { result ≡ left_room_passes (world_of tables.now) row.now }
-{
-    match node(tables, &row.pool, &row.node) {
-        Some(node) => is_free(node) && given_room_passes(tables, &row.pool, &node.offer),
-        None => false,
-    }
-}
-
-/// Whether a counter passes its bound by what an allocation of the namespace leaves of its quota.
-fn left_quota_passes(tables: &Tables, tenant: &TenantRows) -> bool
-    ensures { result ≡ left_quota_passes (world_of tables.now) (tenant_of tenant.now) }
-{
-    match &tenant.namespace.quota {
-        Some(quota) => given_limits_pass(tables, quota),
-        None => false,
-    }
-}
-
-/// Whether a counter passes its bound by what the end of the allocation releases. It takes no memory. Its work grows
-/// with the number of blocked evaluations.
-fn ending_passes(tables: &Tables, tenant: &TenantRows, row: &Allocation) -> bool
-    ensures { result ≡ ending_passes (world_of tables.now) (tenant_of tenant.now) row.now }
-{
-    left_room_passes(tables, row) || left_quota_passes(tables, tenant)
-}
 
 /// What the stop of a live allocation answers and changes.
 fn stopped(

@@ -1,0 +1,108 @@
+-- What a report writes, in a namespace that is there.
+use Rattle.std.specs.Prelude.{◌≡◌, ℕ, ◌+◌, ◌<◌, ◌≤◌, ◌^◌, ◌&&◌, Bool, true, false, if◌then◌else◌, Option, Some, None, nat_lt}
+use Rattle.std.proofs.Common.{arith, refl, ap, sym, subst, ◌∙◌}
+use Rattle.std.proofs.lemmas.Bool.{ltb-false}
+use Rattle.std.specs.Option.{option_map_or}
+use Rattle.std.specs.FinMap.{get}
+use Rattle.ns_types.specs.declared.allocation.Allocation.{Allocation}
+use Rattle.ns_types.specs.declared.evaluation.Evaluation.{Evaluation}
+use Rattle.ns_types.specs.declared.evaluation.Trigger.TheVariants as Trigger
+use Rattle.ns_types.specs.declared.job.JobKind.TheVariants as JobKind
+use Rattle.ns_types.specs.declared.step.Report.{Report}
+use Rattle.ns_types.specs.Asking.Nodes.{calls_for_one, reported}
+use Rattle.ns_types.specs.Settling.Making.{change_tenant, evaluation_for, evaluation_of, make, make_in, new_evaluation, put_tenant, with_client, with_evaluation}
+use Rattle.ns_types.specs.State.Rows.{World, Tenant}
+use Rattle.ns_types.specs.Steps.{greatest}
+use Rattle.ns_types.specs.Working.Queue.{queue}
+use Rattle.ns_types.proofs.Lists.{not_both}
+use Rattle.ns_types.proofs.Named.{names, one_name}
+use Rattle.ns_types.proofs.TableRows.{get_put}
+use Rattle.ns_types.proofs.Tests.{same_Some}
+use Rattle.ns_change.specs.Changed.{HasEvaluationLeft, put_allocation}
+use Rattle.ns_change.proofs.Opening.{insert_twice}
+use Rattle.ns_bounds.specs.Bounds.{is_at_bound}
+use Rattle.ns_report.specs.Reporting.{number_passes}
+
+module _ (w : World) (r : Report) (t : Tenant) (at : get w.tenants r.namespace ≡ Some t) (a : Allocation) where
+  abbrev after : Tenant
+  after = with_client r.number r.client t
+
+  abbrev told : World
+  told = change_tenant r.namespace (with_client r.number r.client) w
+
+  abbrev evaluation : Tenant → Evaluation
+  evaluation t = evaluation_for t a Trigger.AllocFailure
+
+  told_is : told ≡ put_tenant r.namespace after w
+  told_is = ap (λ o. option_map_or (λ t. put_tenant r.namespace (with_client r.number r.client t) w) o w) at
+
+  after_at : get told.tenants r.namespace ≡ Some after
+  after_at = ap (λ x. get x.tenants r.namespace) told_is ∙ get_put names one_name w.tenants r.namespace after
+
+  reported_if : reported r a w ≡ (if calls_for_one t a r.client then make r.namespace evaluation told else told)
+  reported_if = ap (λ o. if option_map_or (λ t. calls_for_one t a r.client) o false then make r.namespace evaluation told else told) at
+
+  -- ---- it calls for no evaluation
+
+  pub told_alone : calls_for_one t a r.client ≡ false → told ≡ reported r a w
+  told_alone calls = sym (reported_if ∙ ap (λ b. if b then make r.namespace evaluation told else told) calls)
+
+  -- ---- it calls for one
+
+  -- jobs and numbers stay, so that it is the evaluation as of before, under the number that came next
+  jobs_stay : after.jobs ≡ t.jobs
+  jobs_stay = by (get t.allocations r.number)
+    where
+      by : (o : Option Allocation) → (option_map_or (λ a. put_allocation r.number (record a { client = r.client }) t) o t).jobs ≡ t.jobs
+      by None = refl
+      by (Some a) = refl
+
+  number_stays : after.evaluation_number ≡ t.evaluation_number
+  number_stays = by (get t.allocations r.number)
+    where
+      by : (o : Option Allocation) → (option_map_or (λ a. put_allocation r.number (record a { client = r.client }) t) o t).evaluation_number
+          ≡ t.evaluation_number
+      by None = refl
+      by (Some a) = refl
+
+  evaluation_stays : evaluation after ≡ evaluation t
+  evaluation_stays = ap (λ jobs. option_map_or (λ job. evaluation_of a.job job.document Trigger.AllocFailure) (get jobs a.job)
+      (new_evaluation a.job JobKind.Service a.priority a.pool Trigger.AllocFailure)) jobs_stay
+
+  pub told_made : calls_for_one t a r.client ≡ true → make r.namespace (λ _. evaluation t) told ≡ reported r a w
+  told_made calls = ap (λ o. option_map_or (make_in r.namespace (evaluation t) told) o told) after_at
+      ∙ ap (λ e. make_in r.namespace e told after) (sym evaluation_stays)
+      ∙ sym (reported_if ∙ ap (λ b. if b then make r.namespace evaluation told else told) calls
+      ∙ ap (λ o. option_map_or (λ t. make_in r.namespace (evaluation t) told t) o told) after_at)
+
+  pub left_there : calls_for_one t a r.client ≡ true → number_passes t a r.client ≡ false → HasEvaluationLeft told r.namespace
+  left_there calls fits z is = subst (λ n. n + 1 < 2 ^ 64) (sym number_stays ∙ ap (λ t. t.evaluation_number) (same_Some _ _ (sym after_at ∙ is)))
+      (within (t.evaluation_number + 1) (by (is_at_bound t.evaluation_number) calls fits))
+    where
+      within : (n : ℕ) → nat_lt greatest n ≡ false → n < 2 ^ 64
+      within n e = let le : n ≤ greatest = ltb-false greatest n e in omega arith
+
+      by : (past : Bool) → calls_for_one t a r.client ≡ true → (past && calls_for_one t a r.client) ≡ false → past ≡ false
+      by true calls fits = not_both calls fits
+      by false calls fits = refl
+
+  -- ---- of a row that is there
+
+  module _ (there : get t.allocations r.number ≡ Some a) where
+    abbrev row : Allocation
+    row = record a { client = r.client }
+
+    after_is : after ≡ put_allocation r.number row t
+    after_is = ap (λ o. option_map_or (λ a. put_allocation r.number (record a { client = r.client }) t) o t) there
+
+    pub reported_alone : calls_for_one t a r.client ≡ false → reported r a w ≡ put_tenant r.namespace (put_allocation r.number row t) w
+    reported_alone calls = sym (told_alone calls) ∙ told_is ∙ ap (λ t. put_tenant r.namespace t w) after_is
+
+    pub reported_made : calls_for_one t a r.client ≡ true →
+        reported r a w ≡ make_in r.namespace (evaluation t) w (put_allocation r.number row t)
+    reported_made calls = sym (told_made calls)
+        ∙ ap (λ o. option_map_or (make_in r.namespace (evaluation t) told) o told) after_at
+        ∙ (λ i. make_in r.namespace (evaluation t) (told_is i) after)
+        ∙ ap (λ m. queue (record w { tenants = m }) (r.namespace, after.evaluation_number + 1))
+        (insert_twice names one_name w.tenants r.namespace after (with_evaluation (evaluation t) after))
+        ∙ ap (make_in r.namespace (evaluation t) w) after_is
