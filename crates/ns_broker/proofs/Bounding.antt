@@ -46,6 +46,12 @@ module _ {A : Type 0} (part : World → A) (keeps : (w : World) (keys : List Key
       by false None = refl
       by false (Some t) = one (first_waiting job t)
 
+-- ---- a namespace of a world that has passed no bound has passed none
+
+pub tenant_within : (w : World) (ns : Name) (t : Tenant) → is_past_bound w ≡ false → get w.tenants ns ≡ Some t → is_tenant_past_bound t ≡ false
+unfolding is_past_bound
+tenant_within w ns t within at = none_of_any one_name (λ _ t. is_tenant_past_bound t) w.tenants ns t (left_none _ _ (left_none _ _ within)) at
+
 -- ---- a step that changes rows of one namespace, but no allocation of it
 
 module _ (w w' : World) (ns : Name) (t u : Tenant) (within : is_past_bound w ≡ false) (at : get w.tenants ns ≡ Some t)
@@ -74,7 +80,7 @@ module _ (w w' : World) (ns : Name) (t u : Tenant) (within : is_past_bound w ≡
       ∙ or_none _ ∙ or_none _
 
   own : is_tenant_past_bound t ≡ false
-  own = none_of_any one_name (λ _ t. is_tenant_past_bound t) w.tenants ns t (left_none _ _ (left_none _ _ parts)) at
+  own = tenant_within w ns t within at
 
   module _ (index : u.index ≡ t.index) (evaluation : u.evaluation_number ≡ t.evaluation_number) (allocation : u.allocation_number ≡ t.allocation_number) where
     -- none of its rows is shown otherwise

@@ -15,5 +15,5 @@ pub use looking::{Busy, first_plan, phase, row_of, served_ready, worker_at};
 pub use nacking::nack;
 pub use serving::served;
 pub use snapping::{Snapped, snap};
-pub use submitting::submit;
+pub use submitting::{keeps, submit};
 pub use taking::dequeue;

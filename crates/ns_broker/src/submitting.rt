@@ -27,8 +27,8 @@ fn is_snapped(worker: &Worker) -> bool
     matches!(worker.phase(), Phase::Snapped)
 }
 
-/// Whether the worker keeps that snapshot.
-fn keeps(worker: &Worker, snapshot: &Snapshot) -> bool
+/// Whether the worker keeps that snapshot. It takes no memory, and as long as comparing the two.
+pub fn keeps(worker: &Worker, snapshot: &Snapshot) -> bool
     ensures { IsTrue result ↔ (worker.now.kept ≡ Some snapshot.now) }
 {
     match worker.kept() {

@@ -67,7 +67,8 @@ module _ (number : ℕ) (ns : Name) (w : World) (t : Tenant) (worker : Worker) (
       ∙ ap (λ x. Done (Content.Finished (end_of worker) None) (promote ns e.job x)) (sym ends_in)
 
   tie_is : (u : Tenant) (x : World) (row : Evaluation) →
-      change_tenant ns (followed_as worker.evaluation (u.evaluation_number + 1) row) (put_tenant ns u x) ≡ put_tenant ns (with_follower worker.evaluation row u) x
+      change_tenant ns (followed_as worker.evaluation (u.evaluation_number + 1) row) (put_tenant ns u x)
+      ≡ put_tenant ns (with_follower worker.evaluation row u) x
   tie_is u x row =
       let n = worker.evaluation in
       let k = u.evaluation_number + 1 in

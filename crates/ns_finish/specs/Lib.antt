@@ -1,3 +1,4 @@
 pub mod Ending
+pub mod Finishing
 pub mod Following
 pub mod Missing

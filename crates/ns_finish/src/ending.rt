@@ -17,6 +17,7 @@ use ns_world::Tables;
 use std::alloc::AllocError;
 
 /// An evaluation that ends.
+#[derive(Clone, Copy)]
 pub(crate) struct Ending<'a> {
     /// The number of the worker that has it.
     pub(crate) worker: u64,

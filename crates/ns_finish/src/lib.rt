@@ -3,8 +3,11 @@
 #![tactic(auto)]
 
 mod ending;
+mod finishing;
 mod following;
+pub mod laws;
 mod missing;
 
+pub use finishing::finish;
 pub use following::follower;
 pub use missing::missed;

@@ -15,11 +15,12 @@ returns c =
     let w = unlist_blocked ns job before in
     let idle = without_worker ending.worker in
     let status = with_status ending.key.now.1 ending.status in
+    let named = c.namespace-namespace.ensures in
     done_as c.cancel_blocked.result c.args.tables.now c.cancel_blocked.new.change _ _
-    ((λ i. change_tenant (c.namespace-namespace.ensures i) (cancel_blocked job) (c.in_ok-set_status.ensures i))
+    ((λ i. change_tenant (named i) (cancel_blocked job) (c.in_ok-set_status.ensures i))
     ∙ (λ i. change_tenant ns (cancel_blocked job) (change_tenant ns status (c.in_ok-remove_worker.ensures i)))
-    ∙ (λ i. change_tenant ns (cancel_blocked job) (change_tenant ns status (change_tenant (c.namespace-namespace.ensures i) idle (c.in_ok-unlist_blocked.ensures i))))
-    ∙ (λ i. change_tenant ns (cancel_blocked job) (change_tenant ns status (change_tenant ns idle (unlist_blocked (c.namespace-namespace.ensures i) job before))))
+    ∙ (λ i. change_tenant ns (cancel_blocked job) (change_tenant ns status (change_tenant (named i) idle (c.in_ok-unlist_blocked.ensures i))))
+    ∙ (λ i. change_tenant ns (cancel_blocked job) (change_tenant ns status (change_tenant ns idle (unlist_blocked (named i) job before))))
     ∙ ap (change_tenant ns (cancel_blocked job)) (changed_twice ns status idle w)
     ∙ changed_twice ns (cancel_blocked job) (λ t. status (idle t)) w)
     c.cancel_blocked.ensures
