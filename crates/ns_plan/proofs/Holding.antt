@@ -2,11 +2,15 @@
 use Rattle.std.specs.Prelude.{◌≡◌, ℕ, ◌+◌, ◌<◌, ◌++◌, Bool, true, false, cond, not, List, [], ◌∷◌, ◌&&◌, filter, length, map, take}
 use Rattle.std.proofs.Common.{Bor, add-one, append_assoc, get_or, refl, sym, ap, ◌∙◌}
 use Rattle.std.proofs.Math.Seq.{take-suc}
+use Rattle.std.proofs.lemmas.Grind.{flat_map-append}
 use Rattle.std.proofs.lemmas.List.{append-nil, map-append}
 use Rattle.std.specs.List.{list_any}
 use Rattle.ns_types.specs.declared.plan.Eviction.{Eviction}
-use Rattle.ns_types.specs.State.Names.{Key, has_key, same_key}
-use Rattle.ns_types.specs.Working.Commit.{victim_key}
+use Rattle.ns_types.specs.declared.plan.Placement.{Placement}
+use Rattle.ns_types.specs.declared.snapshot.Snapshot.{Snapshot}
+use Rattle.ns_types.specs.State.Names.{Key, has_key, has_number, same_key}
+use Rattle.ns_types.specs.State.Rows.{World}
+use Rattle.ns_types.specs.Working.Commit.{victim_key, victims_in, victims_of}
 use Rattle.ns_types.proofs.Elements.{any_map}
 use Rattle.ns_types.proofs.Lists.{filter-append}
 use Rattle.ns_types.proofs.Once.{once, once_has, once_push}
@@ -60,3 +64,19 @@ module _ (c : Eviction → Bool) (evictions : List Eviction) (i : ℕ) (e : Evic
     pub held_same : (c e && not (has_key (keys_of (map (λ e. e.now) l)) (victim_key e))) ≡ false →
         keys_of (map (λ e. e.now) held) ≡ once (seen ++ keys_of (filter c (take (i + 1) evictions)))
     held_same old = sym (ap (λ b. cond b (keys_of (map (λ e. e.now) held) ++ victim_key e ∷ []) (keys_of (map (λ e. e.now) held))) old) ∙ step
+
+-- one placement more, whose victims are held too or not
+pub victims_next : (w : World) (kept : Snapshot) (nodes : List ℕ) (ps : List Placement) (i : ℕ) (p : Placement) → i < length ps → p ≡ get_or ps i p →
+    (b : Bool) → has_number nodes p.node ≡ b → keys_of (victims_of w kept (filter (λ p. has_number nodes p.node) (take (i + 1) ps)))
+    ≡ keys_of (victims_of w kept (filter (λ p. has_number nodes p.node) (take i ps))) ++ cond b (keys_of (victims_in w kept p)) []
+victims_next w kept nodes ps i p inside is b held = ap keys_of (ap (victims_of w kept) (filter_next ps i p inside is (λ p. has_number nodes p.node))
+    ∙ flat_map-append (victims_in w kept) before (cond (has_number nodes p.node) (p ∷ []) []))
+    ∙ map-append victim_key (victims_of w kept before) (victims_of w kept (cond (has_number nodes p.node) (p ∷ []) []))
+    ∙ ap (λ l. keys_of (victims_of w kept before) ++ l) (ap (λ b. keys_of (victims_of w kept (cond b (p ∷ []) []))) held ∙ by b)
+  where
+    before : List Placement
+    before = filter (λ p. has_number nodes p.node) (take i ps)
+
+    by : (b : Bool) → keys_of (victims_of w kept (cond b (p ∷ []) [])) ≡ cond b (keys_of (victims_in w kept p)) []
+    by true = ap keys_of (append-nil (victims_in w kept p))
+    by false = refl

@@ -2,8 +2,11 @@ pub mod Reader
 pub mod Capped
 pub mod Looks
 pub mod Afterwards
+pub mod Few
 pub mod Holding
+pub mod Leaves
 pub mod Steps
 pub mod Parts
 pub mod Bounded
 pub mod Nodes
+pub mod Nodewise

@@ -46,7 +46,8 @@ module _ (size : Resources) (cs : List Candidate) (ch : Choice) where
           option_map_or (λ k. Some (record { node = k; victims = [] })) b (option_and_then at_place v) ≡ Some ch → ch.node < length cs
       by (Some k) f v g e = subst (λ (c : Choice). c.node < length cs) (same_Some (record { node = k; victims = [] }) ch e)
           (best_inside (fits size) (better size) cs k f)
-      by None f (Some k) g e = preempted k (best_inside (λ c. is_some (victims size c)) (cheaper size) cs k g) (option_and_then (victims size) (slice_get cs k)) e
+      by None f (Some k) g e = preempted k
+          (best_inside (λ c. is_some (victims size c)) (cheaper size) cs k g) (option_and_then (victims size) (slice_get cs k)) e
       by None f None g e = absurd (not_Some ch e)
 
 -- ---- the plan

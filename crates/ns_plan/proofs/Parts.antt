@@ -1,5 +1,5 @@
 -- From the parts as they are found to the parts that the model does.
-use Rattle.std.specs.Prelude.{◌≡◌, ℕ, ◌++◌, Bool, true, false, cond, not, List, [], ◌∷◌, Some, ◌||◌, ◌+◌, ◌<◌, T, IfOk, Result, Ok, Err, filter, length, map}
+use Rattle.std.specs.Prelude.{◌≡◌, ℕ, ◌++◌, Bool, true, false, cond, not, List, [], ◌∷◌, Some, ◌||◌, ◌+◌, ◌<◌, T, filter, length, map}
 use Rattle.std.specs.Prelude.{take}
 use Rattle.std.proofs.Common.{get_or, refl, sym, ap, subst, ◌∙◌}
 use Rattle.std.proofs.lemmas.List.{append-nil, map-append}
@@ -10,17 +10,16 @@ use Rattle.ns_types.specs.declared.plan.Placement.{Placement}
 use Rattle.ns_types.specs.declared.plan.Plan.{Plan}
 use Rattle.ns_types.specs.declared.snapshot.Snapshot.{Snapshot}
 use Rattle.ns_types.specs.State.Lists.{first_each}
-use Rattle.ns_types.specs.State.Names.{Key, has_number, same_number}
-use Rattle.ns_types.specs.State.Rows.{Tenant, World, allocation_at, is_live}
-use Rattle.ns_types.specs.Working.Commit.{commit, done, live_stops, no_part, nodes_in, refused_whole, still_stands, stop_all, victims_of}
+use Rattle.ns_types.specs.State.Names.{has_number, same_number}
+use Rattle.ns_types.specs.State.Rows.{Tenant, World, is_live}
+use Rattle.ns_types.specs.Working.Commit.{commit, done, live_stops, no_part, nodes_in, refused_whole, still_stands, stop_all, victim_keys, victims_of}
 use Rattle.ns_types.proofs.Lists.{any_chosen, each, filter-append}
 use Rattle.ns_types.proofs.Named.{numbers, one_number}
-use Rattle.ns_types.proofs.Once.{once}
 use Rattle.ns_types.proofs.Tables.{tied}
 use Rattle.std.specs.Cmp.{eq_by_cmp_equiv}
 use Rattle.ns_plan.proofs.Holding.{take_next}
-use Rattle.ns_plan.specs.After.{keys_of}
-use Rattle.ns_plan.specs.Looks.{job_at}
+use Rattle.ns_plan.specs.After.{after_stops, counted_stops}
+use Rattle.ns_plan.specs.Looks.{decision_of, job_at}
 use Rattle.ns_plan.specs.Reader.{IsDecided, read_all}
 use Rattle.ns_plan.proofs.Reader.{decided_is}
 
@@ -69,37 +68,32 @@ module _ (ps : List Placement) (i : ℕ) (p : Placement) (inside : i < length ps
       known = sym e ∙ ap (λ l. has_number l p.node) (seen ∙ so_far)
           ∙ first_has same_number (eq_by_cmp_equiv numbers).symm (tied one_number) (map (λ p. p.node) (take i ps)) p.node
 
-pub if_ok : {A E : Type 0} (P Q : A → Type 0) → ((a : A) → P a → Q a) → (r : Result A E) → IfOk r P → IfOk r Q
-if_ok P Q f (Ok a) h = f a h
-if_ok P Q f (Err e) h = h
-
 module _ (kept : Snapshot) (p : Plan) (w : World) (t : Tenant) (is : get w.tenants kept.namespace ≡ Some t) where
   abbrev ps : List Placement
   ps = p.placing.placements
 
-  stops_are : filter (λ n. option_map_or is_live (allocation_at w (kept.namespace, n)) false) p.stops ≡ live_stops t p.stops
+  -- the stops that count, as the model has them
+  pub stops_are : counted_stops w kept.namespace p.stops ≡ live_stops t p.stops
   stops_are = λ i. filter (λ n. option_map_or is_live (option_and_then (λ (t : Tenant). get t.allocations n) (is i)) false) p.stops
 
-  pub done_is : (stops committed dropped : List ℕ) (victims : List Key) →
-      stops ≡ filter (λ n. option_map_or is_live (allocation_at w (kept.namespace, n)) false) p.stops →
-      IsDecided committed dropped (read_all kept ps (stop_all kept.namespace stops w) (nodes_in ps)) →
-      victims ≡ once (keys_of (victims_of (stop_all kept.namespace stops w) kept (filter (λ p. has_number committed p.node) ps))) →
-      record { is_refused = false; stops = stops; committed = committed; dropped = dropped; victims = victims } ≡ (done kept p w t).checked
-  done_is stops committed dropped victims s d v = λ i. record {
-    is_refused = false;
-    stops = same i;
-    committed = at_committed i;
-    dropped = (d.dropped_is ∙ ap (λ x. (read_all kept ps (stop_all kept.namespace x w) (nodes_in ps)).dropped) same
-        ∙ ap (λ c. c.dropped) (sym (decided_is kept ps (stop_all kept.namespace (live_stops t p.stops) w) (nodes_in ps)))) i;
-    victims = (v ∙ (λ j. once (keys_of (victims_of (stop_all kept.namespace (same j) w) kept (filter (λ p. has_number (at_committed j) p.node) ps))))) i;
-  }
-    where
-      same : stops ≡ live_stops t p.stops
-      same = s ∙ stops_are
+  -- and the state after them
+  pub after_is : after_stops w kept.namespace p.stops ≡ stop_all kept.namespace (live_stops t p.stops) w
+  after_is = ap (λ l. stop_all kept.namespace l w) stops_are
 
-      at_committed : committed ≡ (done kept p w t).checked.committed
-      at_committed = d.committed_is ∙ ap (λ x. (read_all kept ps (stop_all kept.namespace x w) (nodes_in ps)).committed) same
-          ∙ ap (λ c. c.committed) (sym (decided_is kept ps (stop_all kept.namespace (live_stops t p.stops) w) (nodes_in ps)))
+  pub done_is : (committed dropped : List ℕ) → IsDecided committed dropped (read_all kept ps (after_stops w kept.namespace p.stops) (nodes_in ps)) →
+      record { is_refused = false; committed = committed; dropped = dropped } ≡ decision_of (done kept p w t).checked
+  done_is committed dropped d = λ i. record {
+    is_refused = false;
+    committed = (d.committed_is ∙ ap (λ x. (read_all kept ps x (nodes_in ps)).committed) after_is
+        ∙ ap (λ c. c.committed) (sym (decided_is kept ps (stop_all kept.namespace (live_stops t p.stops) w) (nodes_in ps)))) i;
+    dropped = (d.dropped_is ∙ ap (λ x. (read_all kept ps x (nodes_in ps)).dropped) after_is
+        ∙ ap (λ c. c.dropped) (sym (decided_is kept ps (stop_all kept.namespace (live_stops t p.stops) w) (nodes_in ps)))) i;
+  }
+
+  -- the victims of the nodes that do their part
+  pub victims_done : victim_keys (victims_of (after_stops w kept.namespace p.stops) kept
+      (filter (λ q. has_number (done kept p w t).checked.committed q.node) ps)) ≡ (done kept p w t).checked.victims
+  victims_done = ap (λ x. victim_keys (victims_of x kept (filter (λ q. has_number (done kept p w t).checked.committed q.node) ps))) after_is
 
   job_is : job_at w kept.namespace kept.evaluation.job ≡ get t.jobs kept.evaluation.job
   job_is = ap (option_and_then (λ (t : Tenant). get t.jobs kept.evaluation.job)) is

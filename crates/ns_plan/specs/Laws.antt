@@ -1,5 +1,5 @@
--- What is decided node by node needs no state but the one after the stops; which sums are counted; how long plans are, and
--- on which nodes.
+-- What is decided node by node needs no state but the one after the stops; which sums are counted; how long plans are,
+-- and on which nodes.
 use Rattle.std.specs.Prelude.{◌≡◌, ◌≤◌, ℕ, List, Some, fold, length}
 use Rattle.std.specs.FinMap.{get}
 use Rattle.ns_types.specs.declared.plan.Placement.{Placement}

@@ -1,5 +1,5 @@
 -- What a plan is checked against: look-ups of the present state whose sums can be counted.
-use Rattle.std.specs.Prelude.{◌≡◌, ℕ, ◌<◌, ◌≤◌, Option, Some, None, if◌then◌else◌, length, slice_get}
+use Rattle.std.specs.Prelude.{◌≡◌, ℕ, ◌<◌, ◌≤◌, Bool, List, Option, Some, None, if◌then◌else◌, length, slice_get}
 use Rattle.std.specs.List.{All}
 use Rattle.std.specs.FinMap.{get}
 use Rattle.std.specs.Option.{option_and_then, option_map_or}
@@ -43,7 +43,16 @@ if_live (Some a) = if is_live a then Some a else None
 abbrev pub live_at : World → Key → Option Allocation
 live_at w key = if_live (allocation_at w key)
 
--- the parts of the plan that are done in this state, where the snapshot's namespace is there
-abbrev pub IsChecked : Snapshot → Plan → World → Checked → Type 0
-IsChecked kept p w checked = (t : Tenant) → get w.tenants kept.namespace ≡ Some t →
-    checked ≡ (commit kept p w t).checked
+-- whether a plan is refused; places of the nodes that do their part of it, and of those that do not
+pub record Decision : Type 0 where
+  pub is_refused : Bool
+  pub committed : List ℕ
+  pub dropped : List ℕ
+
+abbrev pub decision_of : Checked → Decision
+decision_of c = record { is_refused = c.is_refused; committed = c.committed; dropped = c.dropped }
+
+-- what is decided of the plan in this state, where the snapshot's namespace is there
+abbrev pub IsChecked : Snapshot → Plan → World → Decision → Type 0
+IsChecked kept p w decision = (t : Tenant) → get w.tenants kept.namespace ≡ Some t →
+    decision ≡ decision_of (commit kept p w t).checked

@@ -1,21 +1,27 @@
 -- The decision node by node as one who only reads makes it: the state is the one after the stops, and of the nodes that
 -- do their part only the keys of their victims are held.
-use Rattle.std.specs.Prelude.{◌≡◌, ℕ, Bool, true, false, ◌&&◌, List, [], ◌∷◌, ◌++◌, map, fold, if◌then◌else◌}
+use Rattle.std.specs.Prelude.{◌≡◌, ℕ, Bool, true, false, ◌&&◌, List, [], ◌∷◌, ◌++◌, Option, Some, None, filter}
+use Rattle.std.specs.Prelude.{flat_map, map, fold, if◌then◌else◌}
 use Rattle.std.specs.Option.{option_map_or}
 use Rattle.ns_types.specs.declared.node.Node.{Node}
+use Rattle.ns_types.specs.declared.plan.Eviction.{Eviction}
 use Rattle.ns_types.specs.declared.plan.Placement.{Placement}
 use Rattle.ns_types.specs.declared.resources.Resources.{Resources}
 use Rattle.ns_types.specs.declared.snapshot.Snapshot.{Snapshot}
 use Rattle.ns_types.specs.Placing.Constraint.{is_feasible}
 use Rattle.ns_types.specs.Placing.Plan.{constraints_of}
-use Rattle.ns_types.specs.State.Names.{Key, Name}
+use Rattle.ns_types.specs.State.Names.{Key, Name, has_key, same_key, same_number}
 use Rattle.ns_types.specs.State.Resources.{is_within, limits_allow, minus, none, plus}
-use Rattle.ns_types.specs.State.Rows.{World, node_at}
+use Rattle.ns_types.specs.State.Rows.{World, allocation_at, is_live_on, node_at}
 use Rattle.ns_types.specs.State.Sums.{node_load, quota_use}
-use Rattle.ns_types.specs.Working.Commit.{node_name, part_of, quota_named, size_of, victim_key, victims_of}
+use Rattle.ns_types.specs.Working.Commit.{counts, node_name, part_of, quota_named, size_of, victim_key, victims_of}
 use Rattle.ns_types.proofs.Less.{node_parts, quota_parts}
 use Rattle.ns_types.proofs.Once.{once}
+use Rattle.ns_plan.specs.After.{keys_of}
 use Rattle.ns_plan.specs.Looks.{limits_of}
+use Rattle.ns_plan.specs.Amounts.{amount_of}
+use Rattle.ns_plan.specs.declared.deciding.SoFar.{SoFar}
+use Rattle.ns_plan.specs.declared.leaving.Left.{Left}
 
 -- ---- without the allocations at some keys
 
@@ -73,6 +79,81 @@ read_one kept placements w r k =
 
 abbrev pub read_all : Snapshot → List Placement → World → List ℕ → Read
 read_all kept placements w nodes = fold (read_one kept placements w) nothing_read nodes
+
+-- ---- without a list of victims
+
+-- what is left of the use of a quota, where there is one
+abbrev pub quota_left : World → Option Name → List Key → Resources
+quota_left w None keys = none
+quota_left w (Some quota) keys = use_left w quota keys
+
+-- what is left of a node and of the quota, each key counted once
+abbrev pub left_without : World → Name → Name → Option Name → List Key → Left
+left_without w pool node quota keys = record {
+  load = load_left w pool node (once keys);
+  used = quota_left w quota (once keys);
+}
+
+-- with an allocation of that size gone, which counts for the quota or not
+abbrev pub with_gone : Left → Resources → Bool → Left
+with_gone left size shared = record {
+  load = minus left.load size;
+  used = if shared then minus left.used size else left.used;
+}
+
+abbrev pub evictions_of : List Placement → List Eviction
+evictions_of placements = flat_map (λ p. p.evictions) placements
+
+-- the keys of those evictions that count on the node
+abbrev pub counted_keys : World → Name → Name → List Eviction → List Key
+counted_keys w pool node evictions = keys_of (filter (counts w pool node) evictions)
+
+abbrev pub same_eviction : Eviction → Eviction → Bool
+same_eviction a b = same_key (victim_key a) (victim_key b) && same_number a.priority b.priority
+
+-- whether the allocation at the key is live on the node
+abbrev pub is_on : World → Name → Name → Key → Bool
+is_on w pool node key = option_map_or (is_live_on pool node) (allocation_at w key) false
+
+-- none of the keys is of an allocation that is live on the node
+abbrev pub AreElsewhere : World → Name → Name → List Key → Type 0
+AreElsewhere w pool node keys = (key : Key) → is_on w pool node key ≡ true → has_key keys key ≡ false
+
+-- what is left where those of the evictions that count went, beside the keys
+abbrev pub left_by : World → Name → Name → Option Name → List Key → List Eviction → Left
+left_by w pool node quota keys evictions =
+    left_without w pool node quota (keys ++ counted_keys w pool node evictions)
+
+-- the one is left by the first evictions, and the other by those that follow too, whatever went elsewhere
+abbrev pub Leaves : World → Name → Name → Option Name → List Eviction → Left → List Eviction → Left → Type 0
+Leaves w pool node quota seen old more new = (keys : List Key) → AreElsewhere w pool node keys →
+    old ≡ left_by w pool node quota keys seen → new ≡ left_by w pool node quota keys (seen ++ more)
+
+-- ---- the node's test, by what is left
+
+abbrev pub accepts_left : Snapshot → World → Option Name → Name → Left → Resources → Resources → Node → Bool
+accepts_left kept w quota name left size placed node =
+    is_feasible (constraints_of kept.job) name node
+    && is_within (plus left.load size) node.offer.capacity
+    && option_map_or (λ q. limits_allow (limits_of w q) (plus left.used (plus placed size))) quota true
+
+abbrev pub takes_left : Snapshot → World → Option Name → Name → Left → Resources → Resources → Bool
+takes_left kept w quota name left size placed =
+    option_map_or (accepts_left kept w quota name left size placed) (node_at w kept.pool name) false
+
+-- ---- what is decided
+
+-- so far: what is left of the quota's use, and what is placed, as it is counted
+pub record IsSoFar (w : World) (quota : Option Name) (so_far : SoFar) (r : Read) : Type 0 where
+  pub used_is : so_far.used ≡ quota_left w quota (once r.keys)
+  pub placed_is : so_far.placed ≡ amount_of r.placed
+  pub committed_is : so_far.committed.items ≡ r.committed
+  pub dropped_is : so_far.dropped.items ≡ r.dropped
+
+-- from what is decided so far to what is decided with the node, where none of the victims so far is on it
+abbrev pub Decides : Snapshot → List Placement → World → Option Name → ℕ → SoFar → SoFar → Type 0
+Decides kept placements w quota k old new = (r : Read) → IsSoFar w quota old r →
+    AreElsewhere w kept.pool (node_name kept k) r.keys → IsSoFar w quota new (read_one kept placements w r k)
 
 -- the nodes that do their part, and those that do not
 pub record IsDecided (committed dropped : List ℕ) (r : Read) : Type 0 where

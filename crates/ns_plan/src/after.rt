@@ -1,14 +1,13 @@
 //! The state after a plan's stops, read from the present one: nothing is written. The stops are of one namespace.
 
-ghost use Rattle.std.specs.Prelude.{◌≡◌, ◌<◌, ◌&&◌, ℕ, length, map, not, option_copied, slice_index_or, take};
-ghost use Rattle.ns_types.specs.State.Names.{has_key, has_number};
+ghost use Rattle.std.specs.Prelude.{◌≡◌, ◌<◌, ◌&&◌, [], ℕ, length, not, option_copied, slice_index_or, take};
+ghost use Rattle.ns_types.specs.State.Names.{has_key, has_number, same_number};
 ghost use Rattle.ns_types.specs.State.Resources.{none, same_resources};
 ghost use Rattle.ns_types.specs.State.Rows.{is_live_on};
 ghost use Rattle.ns_types.specs.State.Sums.{node_load, quota_use};
-ghost use Rattle.ns_types.specs.Working.Commit.{counts, stop_all};
-ghost use Rattle.ns_plan.specs.After.{keys_of, names, part_of_quota, part_on, stop_keys};
+ghost use Rattle.ns_plan.specs.After.{after_stops, counted, names, part_of_quota, part_on, shares, stop_keys};
 ghost use Rattle.ns_plan.specs.Looks.{AreCounted, if_live, live_at};
-ghost use Rattle.ns_plan.specs.Reader.{load_left, use_left};
+ghost use Rattle.ns_plan.specs.Reader.{quota_left};
 
 use crate::amounts::less;
 use crate::view::View;
@@ -45,7 +44,7 @@ fn if_live<'a>(row: Option<&'a Allocation>) -> Option<&'a Allocation>
 }
 
 /// The allocation, where it is live after the stops.
-pub(crate) fn live<'a, V: View>(
+fn live<'a, V: View>(
     view: &'a V,
     namespace: &Text,
     stops: &[u64],
@@ -53,7 +52,7 @@ pub(crate) fn live<'a, V: View>(
     number: u64,
 ) -> Option<&'a Allocation>
     ensures { option_copied result ≡
-        live_at (stop_all namespace.now stops.now (V.world view.now)) (owner.now, number) }
+        live_at (after_stops (V.world view.now) namespace.now stops.now) (owner.now, number) }
 {
     if is_stopped(namespace, stops, owner, number) {
         None
@@ -68,22 +67,30 @@ fn is_live_on(row: &Allocation, pool: &Text, node: &Text) -> bool
     row.is_live() && same_text(pool, &row.pool) && same_text(node, &row.node)
 }
 
-/// Whether the eviction counts on the node after the stops.
-#[tactic(auto, using(crate::proofs::Afterwards::counts_live))]
-pub(crate) fn counts<V: View>(
-    view: &V,
+fn counts_on(row: &Allocation, pool: &Text, node: &Text, priority: u64) -> bool
+    ensures { result ≡ (is_live_on pool.now node.now row.now
+        && same_number row.now.priority priority) }
+{
+    is_live_on(row, pool, node) && row.priority == priority
+}
+
+/// The allocation that goes by the eviction, where that counts on the node after the stops.
+#[tactic(auto, using(crate::proofs::Afterwards::counted_live))]
+pub(crate) fn counted<'a, V: View>(
+    view: &'a V,
     namespace: &Text,
     stops: &[u64],
     pool: &Text,
     node: &Text,
     eviction: &Eviction,
-) -> bool
-    ensures { result ≡ counts (stop_all namespace.now stops.now (V.world view.now))
+) -> Option<&'a Allocation>
+    ensures { option_copied result ≡
+        counted (after_stops (V.world view.now) namespace.now stops.now)
         pool.now node.now eviction.now }
 {
     match live(view, namespace, stops, &eviction.namespace, eviction.number) {
-        Some(row) => is_live_on(row, pool, node) && row.priority == eviction.priority,
-        None => false,
+        Some(row) if counts_on(row, pool, node, eviction.priority) => Some(row),
+        _ => None,
     }
 }
 
@@ -133,9 +140,16 @@ fn takes_first(part: Resources, numbers: &[u64], place: usize) -> bool
     !same_resources(part, NONE) && !stands_earlier(numbers, place)
 }
 
-fn load<V: View>(view: &V, namespace: &Text, stops: &[u64], pool: &Text, node: &Text) -> Resources
+/// The node's load after the stops. It costs a look-up for each of them.
+pub(crate) fn load<V: View>(
+    view: &V,
+    namespace: &Text,
+    stops: &[u64],
+    pool: &Text,
+    node: &Text,
+) -> Resources
     requires { AreCounted (V.world view.now) }
-    ensures { result ≡ node_load (stop_all namespace.now stops.now (V.world view.now))
+    ensures { result ≡ node_load (after_stops (V.world view.now) namespace.now stops.now)
         pool.now node.now }
 {
     let mut left = view.load(pool, node);
@@ -148,30 +162,10 @@ fn load<V: View>(view: &V, namespace: &Text, stops: &[u64], pool: &Text, node: &
     left
 }
 
-/// What is left of the node's load without the stops and those allocations.
-pub(crate) fn load_left<V: View>(
-    view: &V,
-    namespace: &Text,
-    stops: &[u64],
-    held: &[&Eviction],
-    pool: &Text,
-    node: &Text,
-) -> Resources
-    requires { AreCounted (V.world view.now) }
-    ensures { result ≡ load_left (stop_all namespace.now stops.now (V.world view.now))
-        pool.now node.now (keys_of (map (λ e. e.now) held.now)) }
-{
-    let mut left = load(view, namespace, stops, pool, node);
-    for victim in held {
-        let row = live(view, namespace, stops, &victim.namespace, victim.number);
-        left = less(left, part_on(row, pool, node));
-    }
-    left
-}
-
 fn used<V: View>(view: &V, namespace: &Text, stops: &[u64], quota: &Text) -> Resources
     requires { AreCounted (V.world view.now) }
-    ensures { result ≡ quota_use (stop_all namespace.now stops.now (V.world view.now)) quota.now }
+    ensures { result ≡ quota_use (after_stops (V.world view.now) namespace.now stops.now)
+        quota.now }
 {
     let named = names(view, quota, namespace);
     let mut left = view.used(quota);
@@ -186,25 +180,30 @@ fn used<V: View>(view: &V, namespace: &Text, stops: &[u64], quota: &Text) -> Res
     left
 }
 
-/// What is left of the quota's use without the stops and those allocations.
-pub(crate) fn use_left<V: View>(
+/// The use of the quota after the stops, where there is one. It costs a look-up for each of them, and the square of
+/// their number.
+pub(crate) fn use_of<V: View>(
     view: &V,
     namespace: &Text,
     stops: &[u64],
-    held: &[&Eviction],
-    quota: &Text,
+    quota: Option<&Text>,
 ) -> Resources
     requires { AreCounted (V.world view.now) }
-    ensures { result ≡ use_left (stop_all namespace.now stops.now (V.world view.now))
-        quota.now (keys_of (map (λ e. e.now) held.now)) }
+    ensures { result ≡ quota_left (after_stops (V.world view.now) namespace.now stops.now)
+        (option_copied quota.entry) [] }
 {
-    let mut left = used(view, namespace, stops, quota);
-    for victim in held {
-        let row = live(view, namespace, stops, &victim.namespace, victim.number);
-        left = less(
-            left,
-            part_of_quota(names(view, quota, &victim.namespace), row),
-        );
+    match quota {
+        Some(quota) => used(view, namespace, stops, quota),
+        None => NONE,
     }
-    left
+}
+
+/// Whether the namespace names the quota, where there is one.
+pub(crate) fn shares<V: View>(view: &V, quota: Option<&Text>, namespace: &Text) -> bool
+    ensures { result ≡ shares (V.world view.now) (option_copied quota.entry) namespace.now }
+{
+    match quota {
+        Some(quota) => names(view, quota, namespace),
+        None => false,
+    }
 }

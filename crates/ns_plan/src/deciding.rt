@@ -1,62 +1,110 @@
-//! Which nodes do their part of a plan: each its whole part or none of it. Nothing is written.
+//! Which nodes do their part of a plan: each its whole part or none of it. Nothing is written, and no memory is taken.
 
-ghost use Rattle.std.specs.Prelude.{IfOk};
-ghost use Rattle.ns_types.specs.Working.Commit.{stop_all};
-ghost use Rattle.ns_plan.specs.Looks.{AreCounted};
-ghost use Rattle.ns_plan.specs.Reader.{IsDecided, read_all};
+ghost use Rattle.std.specs.Prelude.{◌≡◌, ◌<◌, length, option_copied};
+ghost use Rattle.arrayvec.specs.ArrayVec.{array_vec_len};
+ghost use Rattle.ns_types.specs.Working.Commit.{nodes_in, quota_named};
+ghost use Rattle.ns_plan.specs.After.{after_stops};
+ghost use Rattle.ns_plan.specs.Looks.{AreCounted, IsOnFewNodes};
+ghost use Rattle.ns_plan.specs.Reader.{Decides, IsDecided, read_all};
 
-use crate::amounts::{add, amount_of};
-use crate::taking::{size_of_part, takes_at};
-use crate::victims::hold;
+use crate::after::{has_number, use_of};
+use crate::amounts::{Amount, add, amount_of};
+use crate::leaving::left_at;
+use crate::taking::{node_name, size_of_part, takes};
 use crate::view::View;
-use ns_types::plan::{Eviction, Placement};
+use arrayvec::ArrayVec;
+use ns_types::plan::Plan;
 use ns_types::resources::Resources;
 use ns_types::snapshot::Snapshot;
-use std::alloc::{AllocError, Global};
+use ns_types::text::Text;
 
-/// Places of the nodes that do their part, and of those that do not, each in the order of the nodes.
+/// What is decided so far.
 #[derive(Drop)]
-pub(crate) struct Decided {
-    pub(crate) committed: Vec<u64>,
-    pub(crate) dropped: Vec<u64>,
+pub(crate) struct SoFar {
+    /// What is left of the quota's use.
+    pub(crate) used: Resources,
+    /// What the nodes that do their part place.
+    pub(crate) placed: Amount,
+    /// Places of the nodes that do their part.
+    pub(crate) committed: ArrayVec<u64, 1000>,
+    /// Places of those that do not.
+    pub(crate) dropped: ArrayVec<u64, 1000>,
 }
 
-/// Decides for each of the nodes, one after another, after the stops.
-pub(crate) fn decide_all<V: View>(
-    alloc: Global,
+impl SoFar {
+    ghost use Rattle.std.specs.Prelude.{◌≡◌, ◌||◌};
+    ghost use Rattle.ns_types.specs.State.Names.{has_number};
+
+    fn has(&self, node: u64) -> bool
+        ensures { result ≡ (has_number self.now.committed.items node
+            || has_number self.now.dropped.items node) }
+    {
+        has_number(self.committed.as_slice(), node) || has_number(self.dropped.as_slice(), node)
+    }
+}
+
+/// Decides for the node, which stands in neither list.
+fn decide<V: View>(
     view: &V,
     snapshot: &Snapshot,
-    stops: &[u64],
-    placements: &[Placement],
-    nodes: &[u64],
-) -> Result<Decided, AllocError>
-    requires { AreCounted (V.world view.now) }
-    ensures { IfOk result (λ d. IsDecided d.committed.items d.dropped.items (read_all snapshot.now
-        placements.now (stop_all snapshot.now.namespace stops.now (V.world view.now)) nodes.now)) }
+    plan: &Plan,
+    quota: Option<&Text>,
+    node: u64,
+    so_far: &mut SoFar,
+)
+    requires counted { AreCounted (V.world view.now) }
+    requires quota { option_copied quota ≡
+        quota_named (V.world view.now) snapshot.now.namespace }
+    requires inside { node < length snapshot.now.nodes }
+    requires room { array_vec_len so_far.old.committed < 1000 }
+    requires room_dropped { array_vec_len so_far.old.dropped < 1000 }
+    ensures { Decides snapshot.now plan.now.placing.placements
+        (after_stops (V.world view.now) snapshot.now.namespace plan.now.stops)
+        (option_copied quota.entry) node so_far.old so_far.new }
 {
-    let mut held: Vec<&Eviction> = Vec::new(alloc);
-    let mut placed = amount_of(Resources { cpu: 0, memory: 0 });
-    let mut committed = Vec::new(alloc);
-    let mut dropped = Vec::new(alloc);
-    for node in nodes {
-        let before = held.as_slice().len();
-        hold(
-            alloc,
-            view,
-            snapshot,
-            stops,
-            placements,
-            &[*node],
-            &mut held,
-        )?;
-        let size = size_of_part(placements, *node);
-        if takes_at(alloc, view, snapshot, stops, &held, *node, size, placed) {
-            placed = add(placed, size);
-            committed.push(*node)?;
-        } else {
-            held.truncate(before);
-            dropped.push(*node)?;
+    let stops = plan.stops.as_slice();
+    let placements = plan.placing.placements.as_slice();
+    let name = node_name(snapshot, node);
+    let left = left_at(
+        view,
+        snapshot,
+        stops,
+        placements,
+        quota,
+        node,
+        name,
+        so_far.used,
+    );
+    let size = size_of_part(placements, node);
+    if takes(view, snapshot, quota, name, left, size, so_far.placed) {
+        so_far.used = left.used;
+        so_far.placed = add(so_far.placed, size);
+        so_far.committed.push(node);
+    } else {
+        so_far.dropped.push(node);
+    }
+}
+
+/// Decides for each node of the plan, one after another, after the stops.
+pub(crate) fn decide_all<V: View>(view: &V, snapshot: &Snapshot, plan: &Plan) -> SoFar
+    requires counted { AreCounted (V.world view.now) }
+    requires fits { IsOnFewNodes snapshot.now plan.now }
+    ensures { IsDecided result.committed.items result.dropped.items (read_all snapshot.now
+        plan.now.placing.placements
+        (after_stops (V.world view.now) snapshot.now.namespace plan.now.stops)
+        (nodes_in plan.now.placing.placements)) }
+{
+    let quota = view.quota(&snapshot.namespace);
+    let mut so_far = SoFar {
+        used: use_of(view, &snapshot.namespace, plan.stops.as_slice(), quota),
+        placed: amount_of(Resources { cpu: 0, memory: 0 }),
+        committed: ArrayVec::new(),
+        dropped: ArrayVec::new(),
+    };
+    for placement in plan.placing.placements.as_slice() {
+        if !so_far.has(placement.node) {
+            decide(view, snapshot, plan, quota, placement.node, &mut so_far);
         }
     }
-    Ok(Decided { committed, dropped })
+    so_far
 }

@@ -18,8 +18,8 @@ pub fn kept_is_bounded()
     ensures { KeptIsBounded }
 {}
 
-/// The plan of each snapshot that a valid state keeps is on at most 1,000 nodes, all of them of the snapshot, where none
-/// stands twice.
+/// The plan of each snapshot that a valid state keeps is on at most 1,000 nodes, all of them of the snapshot, where
+/// none stands twice.
 pub fn kept_is_on_few_nodes()
     ensures { KeptIsOnFewNodes }
 {}

@@ -5,12 +5,14 @@ mod after;
 mod amounts;
 mod checking;
 mod deciding;
+mod evicting;
 pub mod laws;
+mod leaving;
 mod stops;
 mod taking;
-mod victims;
 mod view;
 
 pub use checking::{Outcome, check};
-pub use stops::stands;
+pub use evicting::{counts, victims};
+pub use stops::{live_stops, stands};
 pub use view::View;

@@ -1,9 +1,10 @@
 //! Whether a plan still stands, and which of its stops count.
 
-ghost use Rattle.std.specs.Prelude.{◌≡◌, IfOk, false, filter, option_copied};
+ghost use Rattle.std.specs.Prelude.{◌≡◌, IfOk, false, option_copied};
 ghost use Rattle.std.specs.Option.{option_map_or};
-ghost use Rattle.ns_types.specs.State.Rows.{allocation_at, is_live};
+ghost use Rattle.ns_types.specs.State.Rows.{is_live};
 ghost use Rattle.ns_types.specs.Working.Commit.{has_ended, same_version, still_stands};
+ghost use Rattle.ns_plan.specs.After.{counted_stops};
 
 use crate::view::View;
 use ns_types::allocation::Allocation;
@@ -51,15 +52,15 @@ fn is_live(row: Option<&Allocation>) -> bool
     }
 }
 
-/// The stops of allocations that are live, in their order.
-pub(crate) fn live_stops<V: View>(
+/// The stops of allocations that are live, in their order. It costs a look-up for each.
+pub fn live_stops<V: View>(
     alloc: Global,
     view: &V,
     namespace: &Text,
     stops: &[u64],
 ) -> Result<Vec<u64>, AllocError>
-    ensures { IfOk result (λ v. v.items ≡ filter (λ n. option_map_or is_live
-        (allocation_at (V.world view.now) (namespace.now, n)) false) stops.now) }
+    ensures { IfOk result (λ v. v.items ≡
+        counted_stops (V.world view.now) namespace.now stops.now) }
 {
     let mut live = Vec::new(alloc);
     for number in stops {

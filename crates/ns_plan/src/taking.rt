@@ -1,26 +1,33 @@
 //! Whether a node can do its part of a plan.
 
-ghost use Rattle.std.specs.Prelude.{◌≡◌, map};
-ghost use Rattle.ns_types.specs.declared.plan.Placement.{Placement};
+ghost use Rattle.std.specs.Prelude.{◌≡◌, ◌<◌, length, option_copied, true};
+ghost use Rattle.std.specs.Option.{option_map_or};
 ghost use Rattle.ns_types.specs.declared.resources.Resources.{Resources};
 ghost use Rattle.ns_types.specs.Placing.Plan.{constraints_of};
-ghost use Rattle.ns_types.specs.Working.Commit.{node_name, part_of, size_of, stop_all};
-ghost use Rattle.ns_plan.specs.After.{keys_of};
+ghost use Rattle.ns_types.specs.State.Resources.{is_within, limits_allow, plus};
+ghost use Rattle.ns_types.specs.Working.Commit.{node_name, part_of, size_of};
 ghost use Rattle.ns_plan.specs.Amounts.{amount_of};
-ghost use Rattle.ns_plan.specs.Looks.{AreCounted};
-ghost use Rattle.ns_plan.specs.Reader.{accepts, allows, has_room, takes};
+ghost use Rattle.ns_plan.specs.Looks.{limits_of};
+ghost use Rattle.ns_plan.specs.Reader.{accepts_left, takes_left};
 
-use crate::after::{load_left, use_left};
 use crate::amounts::{Amount, add, amount_of, is_below, limits_allow};
+use crate::leaving::Left;
 use crate::view::View;
 use ns_place::feasible;
 use ns_types::job::{Constraint, Job};
 use ns_types::node::Node;
-use ns_types::plan::{Eviction, Placement};
+use ns_types::plan::Placement;
 use ns_types::resources::Resources;
 use ns_types::snapshot::Snapshot;
 use ns_types::text::Text;
-use std::alloc::Global;
+
+/// The name of the node at the place of the snapshot.
+pub(crate) fn node_name(snapshot: &Snapshot, node: u64) -> &Text
+    requires { node < length snapshot.now.nodes }
+    ensures { result.now ≡ node_name snapshot.now node }
+{
+    &snapshot.nodes.as_slice()[node as usize].get().name
+}
 
 /// What the placements on the node take.
 pub(crate) fn size_of_part(placements: &[Placement], node: u64) -> Amount
@@ -44,41 +51,21 @@ fn constraints_of(job: &Option<Job>) -> &[Constraint]
     }
 }
 
-fn has_room<V: View>(
-    view: &V,
-    snapshot: &Snapshot,
-    stops: &[u64],
-    held: &[&Eviction],
-    name: &Text,
-    size: Amount,
-    node: &Node,
-) -> bool
-    requires { AreCounted (V.world view.now) }
+fn has_room(load: Resources, size: Amount, node: &Node) -> bool
     ensures { (r : Resources) → size ≡ amount_of r → result ≡
-        has_room (stop_all snapshot.now.namespace stops.now (V.world view.now)) snapshot.now.pool
-        name.now (keys_of (map (λ e. e.now) held.now)) r node.now }
+        is_within (plus load r) node.now.offer.capacity }
 {
-    let left = load_left(view, &snapshot.namespace, stops, held, &snapshot.pool, name);
-    is_below(add(amount_of(left), size), node.offer.capacity)
+    is_below(add(amount_of(load), size), node.offer.capacity)
 }
 
-fn allows<V: View>(
-    view: &V,
-    snapshot: &Snapshot,
-    stops: &[u64],
-    held: &[&Eviction],
-    more: Amount,
-) -> bool
-    requires { AreCounted (V.world view.now) }
-    ensures { (r : Resources) → more ≡ amount_of r → result ≡
-        allows (stop_all snapshot.now.namespace stops.now (V.world view.now))
-        snapshot.now.namespace (keys_of (map (λ e. e.now) held.now)) r }
+/// Whether the quota, where there is one, allows that much more beside what is in use.
+fn allows<V: View>(view: &V, quota: Option<&Text>, used: Resources, more: Amount) -> bool
+    ensures { (r : Resources) → more ≡ amount_of r → result ≡ option_map_or
+        (λ q. limits_allow (limits_of (V.world view.now) q) (plus used r))
+        (option_copied quota.entry) true }
 {
-    match view.quota(&snapshot.namespace) {
-        Some(quota) => {
-            let left = use_left(view, &snapshot.namespace, stops, held, quota);
-            limits_allow(view.limits(quota), add(amount_of(left), more))
-        }
+    match quota {
+        Some(quota) => limits_allow(view.limits(quota), add(amount_of(used), more)),
         None => true,
     }
 }
@@ -86,63 +73,37 @@ fn allows<V: View>(
 fn accepts<V: View>(
     view: &V,
     snapshot: &Snapshot,
-    stops: &[u64],
-    held: &[&Eviction],
+    quota: Option<&Text>,
     name: &Text,
+    left: Left,
     size: Amount,
     placed: Amount,
     node: &Node,
 ) -> bool
-    requires { AreCounted (V.world view.now) }
     ensures { (r p : Resources) → size ≡ amount_of r → placed ≡ amount_of p → result ≡
-        accepts snapshot.now (stop_all snapshot.now.namespace stops.now (V.world view.now))
-        (keys_of (map (λ e. e.now) held.now)) name.now r p node.now }
+        accepts_left snapshot.now (V.world view.now) (option_copied quota.entry) name.now left r p
+        node.now }
 {
     feasible(constraints_of(&snapshot.job), name, node)
-        && has_room(view, snapshot, stops, held, name, size, node)
-        && allows(view, snapshot, stops, held, add(placed, size))
+        && has_room(left.load, size, node)
+        && allows(view, quota, left.used, add(placed, size))
 }
 
-fn takes<V: View>(
+/// Whether the node takes placements of that size beside what is placed, by what is left of it and of the quota.
+pub(crate) fn takes<V: View>(
     view: &V,
     snapshot: &Snapshot,
-    stops: &[u64],
-    held: &[&Eviction],
+    quota: Option<&Text>,
     name: &Text,
+    left: Left,
     size: Amount,
     placed: Amount,
 ) -> bool
-    requires { AreCounted (V.world view.now) }
     ensures { (r p : Resources) → size ≡ amount_of r → placed ≡ amount_of p → result ≡
-        takes snapshot.now (stop_all snapshot.now.namespace stops.now (V.world view.now))
-        (keys_of (map (λ e. e.now) held.now)) name.now r p }
+        takes_left snapshot.now (V.world view.now) (option_copied quota.entry) name.now left r p }
 {
     match view.node(&snapshot.pool, name) {
-        Some(node) => accepts(view, snapshot, stops, held, name, size, placed, node),
+        Some(node) => accepts(view, snapshot, quota, name, left, size, placed, node),
         None => false,
-    }
-}
-
-/// Whether the node at the place takes placements of that size beside what is placed, without the allocations that are
-/// held.
-pub(crate) fn takes_at<V: View>(
-    alloc: Global,
-    view: &V,
-    snapshot: &Snapshot,
-    stops: &[u64],
-    held: &[&Eviction],
-    place: u64,
-    size: Amount,
-    placed: Amount,
-) -> bool
-    requires { AreCounted (V.world view.now) }
-    ensures { (r p : Resources) → size ≡ amount_of r → placed ≡ amount_of p → result ≡
-        takes snapshot.now (stop_all snapshot.now.namespace stops.now (V.world view.now))
-        (keys_of (map (λ e. e.now) held.now)) (node_name snapshot.now place) r p }
-{
-    let nameless = Text::from_string(String::new(alloc));
-    match snapshot.nodes.as_slice().get(place as usize) {
-        Some(node) => takes(view, snapshot, stops, held, &node.get().name, size, placed),
-        None => takes(view, snapshot, stops, held, &nameless, size, placed),
     }
 }

@@ -7,7 +7,7 @@ use Rattle.ns_types.specs.State.Rows.{allocation_at}
 use Rattle.ns_types.proofs.Once.{once}
 use Rattle.ns_plan.specs.After.{part_on, stop_keys}
 use Rattle.ns_plan.specs.Reader.{load_left}
-use Rattle.ns_plan.proofs.Afterwards.{first_less, load_step, load_stopped}
+use Rattle.ns_plan.proofs.Afterwards.{first_less, load_after, load_step}
 use Rattle.ns_plan.proofs.after.load.Goals as goal
 use Rattle.ns_plan.proofs.after.load.Goals.{then-takes_first, else-takes_first}
 
@@ -39,4 +39,4 @@ returns g c =
     c.loop-i.invariant
     ∙ ap (λ l. load_left w c.args.pool.now c.args.node.now (once (stop_keys c.args.namespace.now l)))
     (take_all c.loop-i.i c.args.stops.now at_end)
-    ∙ sym (load_stopped w c.args.namespace.now c.args.stops.now c.args.pool.now c.args.node.now)
+    ∙ sym (load_after w c.args.namespace.now c.args.stops.now c.args.pool.now c.args.node.now)

@@ -4,7 +4,7 @@ use Rattle.ns_types.specs.State.Resources.{minus}
 use Rattle.ns_types.proofs.Once.{once}
 use Rattle.ns_plan.specs.After.{part_of_quota, stop_keys}
 use Rattle.ns_plan.specs.Reader.{use_left}
-use Rattle.ns_plan.proofs.Afterwards.{use_step, use_stopped}
+use Rattle.ns_plan.proofs.Afterwards.{use_after, use_step}
 use Rattle.ns_plan.proofs.after.used.Goals as goal
 use Rattle.ns_plan.proofs.after.used.Goals.{then-not-stands_earlier, else-not-stands_earlier}
 
@@ -30,4 +30,4 @@ returns g c =
     c.loop-i.invariant.0
     ∙ ap (λ l. use_left w c.args.quota.now (once (stop_keys c.args.namespace.now l)))
     (take_all c.loop-i.i c.args.stops.now at_end)
-    ∙ sym (use_stopped w c.args.namespace.now c.args.stops.now c.args.quota.now)
+    ∙ sym (use_after w c.args.namespace.now c.args.stops.now c.args.quota.now)

@@ -1,9 +1,10 @@
-use Rattle.std.proofs.Common.{take}
-use Rattle.ns_types.specs.Working.Commit.{stop_all}
-use Rattle.ns_plan.specs.Reader.{read_all}
-use Rattle.ns_plan.proofs.Steps.{IsSoFar}
+use Rattle.std.proofs.Common.{option_copied, take}
+use Rattle.ns_types.specs.Working.Commit.{nodes_in}
+use Rattle.ns_plan.specs.After.{after_stops}
+use Rattle.ns_plan.specs.Reader.{IsSoFar, read_all}
 use Rattle.ns_plan.proofs.deciding.decide_all.Given as goal
 
-abbrev pub invariant-loop-node : goal.invariant-loop-node
-invariant-loop-node g l = IsSoFar l.held.items l.placed l.committed.items l.dropped.items
-    (read_all l.snapshot l.placements (stop_all l.snapshot.namespace l.stops (g.V.View.world l.view)) (take l.node-index l.nodes))
+abbrev pub invariant-loop-placement : goal.invariant-loop-placement
+invariant-loop-placement g l = IsSoFar (after_stops (g.V.View.world l.view) l.snapshot.namespace l.plan.stops) (option_copied l.quota) l.so_far
+    (read_all l.snapshot l.plan.placing.placements (after_stops (g.V.View.world l.view) l.snapshot.namespace l.plan.stops)
+    (nodes_in (take l.placement-index l.plan.placing.placements)))

@@ -1,9 +1,0 @@
-use Rattle.std.proofs.Common.{◌≡◌, map, take}
-use Rattle.ns_types.specs.Working.Commit.{stop_all}
-use Rattle.ns_plan.specs.After.{keys_of}
-use Rattle.ns_plan.specs.Reader.{load_left}
-use Rattle.ns_plan.proofs.after.load_left.Given as goal
-
-abbrev pub invariant-loop-victim : goal.invariant-loop-victim
-invariant-loop-victim g l = l.left ≡ load_left (stop_all l.namespace l.stops (g.V.View.world l.view)) l.pool l.node
-    (keys_of (map (λ e. e.now) (take l.victim-index l.held)))
