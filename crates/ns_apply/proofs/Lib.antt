@@ -1,3 +1,5 @@
+pub mod Between
 pub mod NodeByNode
 pub mod Placements
 pub mod SortedNames
+pub mod Together

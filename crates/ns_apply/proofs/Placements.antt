@@ -29,7 +29,7 @@ pools_stay ns f w = by (get w.tenants ns)
     by (Some t) = refl
 
 -- and one of a pool the namespaces
-tenants_stay : (name : Name) (f : PoolRows → PoolRows) (w : World) → (change_pool name f w).tenants ≡ w.tenants
+pub tenants_stay : (name : Name) (f : PoolRows → PoolRows) (w : World) → (change_pool name f w).tenants ≡ w.tenants
 tenants_stay name f w = by (get w.pools name)
   where
     by : (o : Option PoolRows) → (option_map_or (λ p. put_pool name (f p) w) o w).tenants ≡ w.tenants
@@ -48,7 +48,7 @@ module _ (kept : Snapshot) (p : Placement) (w : World) where
     abbrev added : World
     added = change_tenant kept.namespace (with_allocation (new_allocation kept job p node)) w
 
-    one_placed : place_one kept w p ≡ change_pool kept.pool (with_place name node) added
+    pub one_placed : place_one kept w p ≡ change_pool kept.pool (with_place name node) added
     unfolding place_one
     one_placed = λ i. option_map_or (λ job. option_map_or (place_with kept p w job) (is i) w) (at i) w
 

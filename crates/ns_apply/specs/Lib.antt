@@ -1,3 +1,4 @@
 pub mod Answering
 pub mod Placing
+pub mod Whole
 pub mod Writing

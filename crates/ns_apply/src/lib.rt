@@ -8,9 +8,11 @@ pub mod laws;
 mod looking;
 mod placing;
 mod stopping;
+mod writing;
 
 pub use answering::{Effect, mark, names_in, numbers_made};
 pub use committed::Committed;
 pub use evicting::{evict, victims};
 pub use placing::place;
 pub use stopping::stop;
+pub use writing::write;
