@@ -6,4 +6,5 @@ pub mod Parted
 pub mod Raised
 pub mod Settled
 pub mod Shown
+pub mod Sleeping
 pub mod Touched

@@ -1,4 +1,5 @@
 pub mod Applying
+pub mod Judging
 pub mod Passing
 pub mod Raising
 pub mod Releasing
