@@ -26,7 +26,8 @@ use Rattle.ns_types.proofs.Tables.{tied}
 use Rattle.ns_types.proofs.Tests.{is_no}
 use Rattle.ns_plan.specs.After.{stop_keys}
 use Rattle.ns_plan.proofs.Afterwards.{stopped_has}
-use Rattle.ns_applied.specs.Parts.{IsForJob, IsOutside, ended, lives_at, placed, placed_in, stopped, stops, victims}
+use Rattle.ns_headroom.specs.Releasing.{ends_at, lives_at}
+use Rattle.ns_applied.specs.Parts.{IsForJob, IsOutside, ended, placed, placed_in, stopped, stops, victims}
 use Rattle.ns_applied.proofs.Whole.{allocations_stay}
 
 -- what holds of each key holds of one that is among them
@@ -95,16 +96,16 @@ live_stop t numbers n e = second_of_both (has_number numbers n) _
     (λ m same. ap (λ m. option_map_or is_live (get t.allocations m) false) (sym (tied one_number n m same))) numbers) ∙ e)
 
 module _ (kept : Snapshot) (p : Plan) (w : World) (t : Tenant) where
-  victims_live : Each (λ key. lives_at (stopped kept p w t) key ≡ true) (map victim_key (victims_of (stopped kept p w t) kept (placed kept p w t)))
-  victims_live = each_mapped (λ key. lives_at (stopped kept p w t) key ≡ true) victim_key (victims_of (stopped kept p w t) kept (placed kept p w t))
-      (each_flat_map (λ e. lives_at (stopped kept p w t) (victim_key e) ≡ true) (victims_in (stopped kept p w t) kept)
+  pub victims_live : Each (λ e. lives_at (stopped kept p w t) (victim_key e) ≡ true) (victims_of (stopped kept p w t) kept (placed kept p w t))
+  victims_live = each_flat_map (λ e. lives_at (stopped kept p w t) (victim_key e) ≡ true) (victims_in (stopped kept p w t) kept)
       (λ (q : Placement). each_of (λ e. counts (stopped kept p w t) kept.pool (node_name kept q.node) e ≡ true)
       (λ e. lives_at (stopped kept p w t) (victim_key e) ≡ true) (λ e c. counted_lives (stopped kept p w t) kept.pool (node_name kept q.node) e c)
-      (victims_in (stopped kept p w t) kept q) (each_passes (counts (stopped kept p w t) kept.pool (node_name kept q.node)) q.evictions)) (placed kept p w t))
+      (victims_in (stopped kept p w t) kept q) (each_passes (counts (stopped kept p w t) kept.pool (node_name kept q.node)) q.evictions)) (placed kept p w t)
 
   victim_stays : (key : Key) → has_key (victims kept p w t) key ≡ true → (not (has_key (stops kept p w t) key) && lives_at w key) ≡ true
   victim_stays key e = sym (stopped_lives w kept.namespace (live_stops t p.stops) key)
-      ∙ each_has (λ key. lives_at (stopped kept p w t) key ≡ true) (map victim_key (victims_of (stopped kept p w t) kept (placed kept p w t))) victims_live key
+      ∙ each_has (λ key. lives_at (stopped kept p w t) key ≡ true) (map victim_key (victims_of (stopped kept p w t) kept (placed kept p w t)))
+      (each_mapped (λ key. lives_at (stopped kept p w t) key ≡ true) victim_key (victims_of (stopped kept p w t) kept (placed kept p w t)) victims_live) key
       (sym (once_has (map victim_key (victims_of (stopped kept p w t) kept (placed kept p w t))) key) ∙ e)
 
   -- no victim is a stop
@@ -131,7 +132,7 @@ module _ (kept : Snapshot) (p : Plan) (w : World) (t : Tenant) where
     -- of those that were there they end, and no other
     pub allocations_end : IsForJob kept p → (q : Name) (u : Tenant) → get w.tenants q ≡ Some u → (n : ℕ) →
         IsOutside u.allocation_number (placed_in kept p w t q) n →
-        has_key (ended kept p w t) (q, n) ≡ (lives_at w (q, n) && not (lives_at (done kept p w t).world (q, n)))
+        has_key (ended kept p w t) (q, n) ≡ ends_at w (done kept p w t).world (q, n)
     allocations_end for_job q u at n out = list_any-append (same_key (q, n)) (stops kept p w t) (victims kept p w t)
         ∙ by (allocation_at w (q, n)) (has_key (victims kept p w t) (q, n)) (has_key (stops kept p w t) (q, n))
         (λ e. ended_were_live (q, n) (list_any-append (same_key (q, n)) (stops kept p w t) (victims kept p w t) ∙ e))

@@ -4,3 +4,6 @@ pub mod Renewing
 pub mod Deciding
 pub mod Whole
 pub mod Ending
+pub mod Touching
+pub mod Counting
+pub mod Refusing

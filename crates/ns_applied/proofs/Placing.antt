@@ -22,7 +22,9 @@ use Rattle.ns_types.proofs.Lists.{not_both}
 use Rattle.ns_types.proofs.Named.{names, one_name}
 use Rattle.ns_types.proofs.Tables.{get-map_rows, map_rows_idle, tied}
 use Rattle.ns_types.proofs.Tests.{not_Some, same_Some, some_mapped}
-use Rattle.ns_applied.specs.Parts.{counted_rows, goes_to, places_on, with_places}
+use Rattle.ns_headroom.specs.Applying.{goes_to, places_on}
+use Rattle.ns_headroom.specs.Raising.{with_places}
+use Rattle.ns_applied.specs.Parts.{counted_rows}
 use Rattle.ns_applied.proofs.Numbered.{added, allocations_added}
 
 -- ---- tables
@@ -57,6 +59,14 @@ get_changed ns f w q = by (get w.tenants ns) refl (same_name q ns) refl
         ∙ ap (option_map (λ t. cond (same_name q ns) (f t) t)) (sym (ap (get w.tenants) (tied one_name q ns e) ∙ at))
     by (Some t) at false e = get-insert names w.tenants ns (f t) q ∙ ap (λ b. cond b (Some (f t)) (get w.tenants q)) e
         ∙ idle (same_name q ns) f e (get w.tenants q)
+
+module _ {A : Type 0} (part : World → A) (keeps : (w : World) (m : ByName Tenant) → part (record w { tenants = m }) ≡ part w) where
+  pub changed_keeps : (ns : Name) (f : Tenant → Tenant) (w : World) → part (change_tenant ns f w) ≡ part w
+  changed_keeps ns f w = by (get w.tenants ns)
+    where
+      by : (o : Option Tenant) → part (option_map_or (λ t. put_tenant ns (f t) w) o w) ≡ part w
+      by None = refl
+      by (Some t) = keeps w (insert w.tenants ns (f t))
 
 -- ---- places
 
@@ -125,6 +135,16 @@ none_counted kept m = map_rows_idle names one_name (counted_rows kept []) m (λ 
   nodes = map_rows_idle names one_name (λ _ node. with_places 0 node) rows.nodes (λ _ node _. none_more node) i;
 })
 
+pub node_counted : (kept : Snapshot) (x w : World) (ps : List Placement) → x.pools ≡ map_rows (counted_rows kept ps) w.pools → (pool name : Name) →
+    node_at x pool name ≡ option_map (with_places (places_on kept ps pool name)) (node_at w pool name)
+node_counted kept x w ps pools pool name = ap (λ m. option_and_then (λ rows. get rows.nodes name) (get m pool)) pools
+    ∙ ap (option_and_then (λ rows. get rows.nodes name)) (get-map_rows names one_name (counted_rows kept ps) w.pools pool) ∙ by (get w.pools pool)
+  where
+    by : (o : Option PoolRows) → option_and_then (λ rows. get rows.nodes name) (option_map (counted_rows kept ps pool) o)
+        ≡ option_map (with_places (places_on kept ps pool name)) (option_and_then (λ rows. get rows.nodes name) o)
+    by None = refl
+    by (Some rows) = get-map_rows names one_name (λ name node. with_places (places_on kept ps pool name) node) rows.nodes name
+
 -- ---- one placement
 
 module _ (kept : Snapshot) (job : Job) (has : kept.job ≡ Some job) where
@@ -141,15 +161,6 @@ module _ (kept : Snapshot) (job : Job) (has : kept.job ≡ Some job) where
   one_is : (w : World) (p : Placement) → place_one kept w p ≡ placed_in w p (seen w p)
   unfolding place_one
   one_is w p = ap (λ o. option_map_or (λ job. option_map_or (place_with kept p w job) (seen w p) w) o w) has
-
-  -- the pools stay until the place is counted
-  module _ {A : Type 0} (part : World → A) (keeps : (w : World) (m : ByName Tenant) → part (record w { tenants = m }) ≡ part w) where
-    pub changed_keeps : (ns : Name) (f : Tenant → Tenant) (w : World) → part (change_tenant ns f w) ≡ part w
-    changed_keeps ns f w = by (get w.tenants ns)
-      where
-        by : (o : Option Tenant) → part (option_map_or (λ t. put_tenant ns (f t) w) o w) ≡ part w
-        by None = refl
-        by (Some t) = keeps w (insert w.tenants ns (f t))
 
   one_pools : (w : World) (p : Placement) → (place_one kept w p).pools ≡ map_rows (counted_rows kept (p ∷ [])) w.pools
   one_pools w p = ap (λ x. x.pools) (one_is w p) ∙ by (get w.pools kept.pool) refl
@@ -221,16 +232,6 @@ module _ (kept : Snapshot) (job : Job) (has : kept.job ≡ Some job) where
             (λ name node. counted_then kept p ps pool name node) rows.nodes i;
       }) w.pools
 
-  pub node_counted : (x w : World) (ps : List Placement) → x.pools ≡ map_rows (counted_rows kept ps) w.pools → (pool name : Name) →
-      node_at x pool name ≡ option_map (with_places (places_on kept ps pool name)) (node_at w pool name)
-  node_counted x w ps pools pool name = ap (λ m. option_and_then (λ rows. get rows.nodes name) (get m pool)) pools
-      ∙ ap (option_and_then (λ rows. get rows.nodes name)) (get-map_rows names one_name (counted_rows kept ps) w.pools pool) ∙ by (get w.pools pool)
-    where
-      by : (o : Option PoolRows) → option_and_then (λ rows. get rows.nodes name) (option_map (counted_rows kept ps pool) o)
-          ≡ option_map (with_places (places_on kept ps pool name)) (option_and_then (λ rows. get rows.nodes name) o)
-      by None = refl
-      by (Some rows) = get-map_rows names one_name (λ name node. with_places (places_on kept ps pool name) node) rows.nodes name
-
   -- ---- the new allocations
 
   abbrev put_rows : List Allocation → Tenant → Tenant
@@ -294,7 +295,7 @@ module _ (kept : Snapshot) (job : Job) (has : kept.job ≡ Some job) where
   IsThere w p = is_some (seen w p) ≡ true
 
   there_still : (w : World) (p q : Placement) → IsThere w q → IsThere (place_one kept w p) q
-  there_still w p q there = ap is_some (node_counted (place_one kept w p) w (p ∷ []) (one_pools w p) kept.pool (node_name kept q.node))
+  there_still w p q there = ap is_some (node_counted kept (place_one kept w p) w (p ∷ []) (one_pools w p) kept.pool (node_name kept q.node))
       ∙ some_mapped (with_places (places_on kept (p ∷ []) kept.pool (node_name kept q.node))) (seen w q) ∙ there
 
   pub rows_counted : (ps : List Placement) (w : World) → Each (IsThere w) ps → length (new_rows w ps) ≡ length ps
@@ -317,7 +318,7 @@ module _ (kept : Snapshot) (job : Job) (has : kept.job ≡ Some job) where
   rows_in_order (q ∷ ps) w h (suc i) p is node at = by (seen w q) h.0
       (rows_in_order ps (place_one kept w q) (each_of (IsThere w) (IsThere (place_one kept w q)) (λ r. there_still w q r) ps h.1) i p is
       (with_places (places_on kept (q ∷ []) kept.pool (node_name kept p.node)) node)
-      (node_counted (place_one kept w q) w (q ∷ []) (one_pools w q) kept.pool (node_name kept p.node)
+      (node_counted kept (place_one kept w q) w (q ∷ []) (one_pools w q) kept.pool (node_name kept p.node)
       ∙ ap (option_map (with_places (places_on kept (q ∷ []) kept.pool (node_name kept p.node)))) at)
       ∙ ap (λ n. Some (new_allocation kept job p n)) (counted_then kept q (take i ps) kept.pool (node_name kept p.node) node))
     where

@@ -26,13 +26,15 @@ use Rattle.ns_types.proofs.Tables.{get-map_rows}
 use Rattle.ns_types.proofs.Tests.{same_Some}
 use Rattle.ns_applied.specs.Laws.{IsRestKept}
 use Rattle.ns_applied.specs.Parts.{IsForJob, IsOutside, counted_rows, evicted, left_row, losers, losers_in, placed, placed_in}
-use Rattle.ns_applied.specs.Parts.{places_on, standing, stopped, stops, victims, with_places}
+use Rattle.ns_headroom.specs.Applying.{places_on}
+use Rattle.ns_headroom.specs.Raising.{with_places}
+use Rattle.ns_applied.specs.Parts.{standing, stopped, stops, victims}
 use Rattle.ns_applied.proofs.Deciding.{committed_there, decided_there, decided_world}
 use Rattle.ns_applied.proofs.Numbered.{added, added_outside, added_row, evaluations_added}
 use Rattle.ns_applied.proofs.Placing.{IsPlaced, is_placed, own_rows, placed_keeps, with_rows}
 use Rattle.ns_applied.proofs.Renewing.{Grows, evaluations_of, grows_same, grows_then, made_for, made_up_grows, made_up_keeps, made_up_tenants}
 
-abbrev with_evaluations : List Evaluation → Tenant → Tenant
+abbrev pub with_evaluations : List Evaluation → Tenant → Tenant
 with_evaluations es t = record t { evaluation_number = t.evaluation_number + length es; evaluations = added t.evaluation_number es t.evaluations }
 
 module _ (kept : Snapshot) (p : Plan) (w : World) (t : Tenant) where
@@ -57,7 +59,7 @@ module _ (kept : Snapshot) (p : Plan) (w : World) (t : Tenant) where
   ended_world = decided_world kept ps (stopped kept p w t) (nodes_in ps)
       ∙ ap (λ x. rows_gone evicted_row x its_victims) (stopped_are kept.namespace (done kept p w t).checked.stops w)
 
-  abbrev ended_in : Name → Tenant → Tenant
+  abbrev pub ended_in : Name → Tenant → Tenant
   ended_in q u = gone_in evicted_row its_victims q (gone_in stopped_row its_stops q u)
 
   gone_tenants : (g : Allocation → Allocation) (idle : (a : Allocation) → g (g a) ≡ g a) (keys : List Key) (x : World) (q : Name) →
@@ -83,10 +85,10 @@ module _ (kept : Snapshot) (p : Plan) (w : World) (t : Tenant) where
 
   -- ---- those that are placed
 
-  its_placed : IsPlaced kept (placed kept p w t) decided.world
+  pub its_placed : IsPlaced kept (placed kept p w t) decided.world
   its_placed = is_placed kept (placed kept p w t) decided.world
 
-  abbrev rows : List Allocation
+  abbrev pub rows : List Allocation
   rows = its_placed.rows
 
   abbrev IsThere : World → Placement → Type 0
@@ -116,13 +118,13 @@ module _ (kept : Snapshot) (p : Plan) (w : World) (t : Tenant) where
 
   -- ---- all
 
-  abbrev made_in : Name → Tenant → List Evaluation
+  abbrev pub made_in : Name → Tenant → List Evaluation
   made_in q u = evaluations_of (evicted kept p w t) q (losers kept p w t) u
 
-  abbrev after : Name → Tenant → Tenant
+  abbrev pub after : Name → Tenant → Tenant
   after q u = with_evaluations (made_in q u) (with_rows (own_rows kept rows q) (ended_in q u))
 
-  tenants_after : (q : Name) → get then.tenants q ≡ option_map (after q) (get w.tenants q)
+  pub tenants_after : (q : Name) → get then.tenants q ≡ option_map (after q) (get w.tenants q)
   tenants_after q = made_up_tenants (evicted kept p w t) (place_all kept decided.world (placed kept p w t)) q
       ∙ ap (option_map (λ u. fold (λ u e. with_evaluation e u) u (made_in q u))) (its_placed.tenants q
       ∙ ap (option_map (λ u. with_rows (own_rows kept rows q) u)) (ended_tenants q)) ∙ by (get w.tenants q)
@@ -132,7 +134,7 @@ module _ (kept : Snapshot) (p : Plan) (w : World) (t : Tenant) where
       by None = refl
       by (Some u) = ap Some (evaluations_added (made_in q u) (with_rows (own_rows kept rows q) (ended_in q u)))
 
-  tenant_after : (q : Name) (u : Tenant) → get w.tenants q ≡ Some u → get then.tenants q ≡ Some (after q u)
+  pub tenant_after : (q : Name) (u : Tenant) → get w.tenants q ≡ Some u → get then.tenants q ≡ Some (after q u)
   tenant_after q u is = tenants_after q ∙ ap (option_map (after q)) is
 
   pub namespaces_stay : (q : Name) → option_map standing (get then.tenants q) ≡ option_map standing (get w.tenants q)
@@ -145,7 +147,7 @@ module _ (kept : Snapshot) (p : Plan) (w : World) (t : Tenant) where
   -- ---- numbers
 
   module _ (for_job : IsForJob kept p) where
-    counted : length rows ≡ length (placed kept p w t)
+    pub counted : length rows ≡ length (placed kept p w t)
     counted = its_placed.counted (none_placed for_job) there
 
     owned : (q : Name) → length (own_rows kept rows q) ≡ placed_in kept p w t q

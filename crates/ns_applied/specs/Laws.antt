@@ -1,5 +1,5 @@
 -- What an Apply of a plan that stands leaves, row by row. Here t is the snapshot's namespace, as the state has it.
-use Rattle.std.specs.Prelude.{◌≡◌, ℕ, ◌+◌, true, false, not, ◌&&◌, List, ◌++◌, Some, is_some, length, option_map}
+use Rattle.std.specs.Prelude.{◌≡◌, ℕ, ◌+◌, true, false, List, ◌++◌, Some, is_some, length, option_map}
 use Rattle.std.specs.Prelude.{slice_get, take}
 use Rattle.std.specs.FinMap.{get}
 use Rattle.ns_types.specs.declared.allocation.Allocation.{Allocation}
@@ -18,8 +18,11 @@ use Rattle.ns_types.specs.State.Names.{Key, Name, has_key, has_number, same_key,
 use Rattle.ns_types.specs.State.Rows.{Tenant, World, allocation_at, evaluation_at, node_at}
 use Rattle.ns_types.specs.State.Tables.{map_rows}
 use Rattle.ns_types.specs.Working.Commit.{Victim, counts, done, least_of_job, new_allocation, node_name, victim_key}
-use Rattle.ns_applied.specs.Parts.{IsForJob, IsOutside, counted_rows, ended, evicted, left_row, lives_at, losers_in}
-use Rattle.ns_applied.specs.Parts.{placed, placed_in, places_on, standing, stops, victims, with_places}
+use Rattle.ns_headroom.specs.Applying.{places_on}
+use Rattle.ns_headroom.specs.Raising.{with_places}
+use Rattle.ns_headroom.specs.Releasing.{ends_at, lives_at}
+use Rattle.ns_applied.specs.Parts.{IsForJob, IsOutside, counted_rows, ended, evicted, left_row, losers_in, placed}
+use Rattle.ns_applied.specs.Parts.{placed_in, standing, stops, victims}
 
 -- ---- plans
 
@@ -72,7 +75,7 @@ abbrev pub AllocationsEnd : Type 0
 AllocationsEnd = (kept : Snapshot) (p : Plan) (w : World) (t : Tenant) → get w.tenants kept.namespace ≡ Some t →
     IsForJob kept p → (ns : Name) (u : Tenant) → get w.tenants ns ≡ Some u →
     (n : ℕ) → IsOutside u.allocation_number (placed_in kept p w t ns) n →
-    has_key (ended kept p w t) (ns, n) ≡ (lives_at w (ns, n) && not (lives_at (done kept p w t).world (ns, n)))
+    has_key (ended kept p w t) (ns, n) ≡ ends_at w (done kept p w t).world (ns, n)
 
 -- no victim is a stop
 abbrev pub NoVictimIsStopped : Type 0

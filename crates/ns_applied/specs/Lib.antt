@@ -1,2 +1,3 @@
 pub mod Parts
 pub mod Laws
+pub mod Counters

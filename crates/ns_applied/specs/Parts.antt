@@ -1,22 +1,22 @@
 -- What an Apply does of a plan that stands, in words over the state before it. Here t is the snapshot's namespace.
-use Rattle.std.specs.Prelude.{◌≡◌, ◌≤◌, ◌<◌, ℕ, ◌+◌, Bool, ◌&&◌, ◌⊎◌, if◌then◌else◌, List, [], ◌++◌, None}
-use Rattle.std.specs.Prelude.{false, filter, length}
-use Rattle.std.specs.Option.{option_map_or}
+use Rattle.std.specs.Prelude.{◌≡◌, ◌≤◌, ◌<◌, ℕ, ◌+◌, ◌⊎◌, if◌then◌else◌, List, [], ◌++◌, None}
+use Rattle.std.specs.Prelude.{filter, length}
 use Rattle.ns_types.specs.declared.allocation.Allocation.{Allocation}
 use Rattle.ns_types.specs.declared.allocation.DesiredStatus.TheVariants as DesiredStatus
 use Rattle.ns_types.specs.declared.event.Event.{Event}
 use Rattle.ns_types.specs.declared.job.Job.{Job}
-use Rattle.ns_types.specs.declared.node.Node.{Node}
 use Rattle.ns_types.specs.declared.plan.Placement.{Placement}
 use Rattle.ns_types.specs.declared.plan.Plan.{Plan}
 use Rattle.ns_types.specs.declared.records.Namespace.{Namespace}
 use Rattle.ns_types.specs.declared.snapshot.Snapshot.{Snapshot}
 use Rattle.ns_types.specs.State.Lists.{first_each}
 use Rattle.ns_types.specs.State.Names.{ByName, ByNumber, Key, Name, has_key, has_number, same_name}
-use Rattle.ns_types.specs.State.Rows.{PoolRows, Tenant, World, allocation_at, is_live}
+use Rattle.ns_types.specs.State.Rows.{PoolRows, Tenant, World}
 use Rattle.ns_types.specs.State.Tables.{map_rows}
-use Rattle.ns_types.specs.Working.Commit.{Victim, done, evicted_rows, live_stops, node_name, same_victim_job, stop_all}
+use Rattle.ns_types.specs.Working.Commit.{Victim, done, evicted_rows, live_stops, same_victim_job, stop_all}
 use Rattle.ns_types.specs.Working.Worker.{Worker}
+use Rattle.ns_headroom.specs.Applying.{Doing, places_on}
+use Rattle.ns_headroom.specs.Raising.{with_places}
 use Rattle.ns_plan.specs.After.{stop_keys}
 
 -- a plan that places something is for a job
@@ -53,10 +53,15 @@ losers kept p w t = first_each same_victim_job (evicted kept p w t)
 abbrev pub losers_in : Snapshot → Plan → World → Tenant → Name → List Victim
 losers_in kept p w t ns = filter (λ v. same_name ns v.0) (losers kept p w t)
 
--- ---- rows
+-- the same, as counters are judged by it
+abbrev pub doing : Snapshot → Plan → World → Tenant → Doing
+doing kept p w t = record {
+  stops = (done kept p w t).checked.stops;
+  placed = placed kept p w t;
+  victims = evicted kept p w t;
+}
 
-abbrev pub lives_at : World → Key → Bool
-lives_at w key = option_map_or is_live (allocation_at w key) false
+-- ---- rows
 
 -- none of as many numbers as follow the last one
 abbrev pub IsOutside : ℕ → ℕ → ℕ → Type 0
@@ -74,16 +79,6 @@ left_row stops victims key a =
     else a
 
 -- ---- nodes
-
--- a placement on the node
-abbrev pub goes_to : Snapshot → Name → Name → Placement → Bool
-goes_to kept pool name q = same_name pool kept.pool && same_name name (node_name kept q.node)
-
-abbrev pub places_on : Snapshot → List Placement → Name → Name → ℕ
-places_on kept placements pool name = length (filter (goes_to kept pool name) placements)
-
-abbrev pub with_places : ℕ → Node → Node
-with_places count node = record node { places = node.places + count }
 
 -- each node has counted the placements on it
 abbrev pub counted_rows : Snapshot → List Placement → Name → PoolRows → PoolRows

@@ -1,8 +1,11 @@
-//! What an Apply of a plan that stands leaves, each law the contract of a function that does nothing.
+//! What an Apply leaves of the state, where its plan stands, and when it passes the bound of a counter. Each law is the
+//! contract of a function that does nothing.
 
-ghost use Rattle.ns_applied.specs.Laws.{AllocationsEnd, AllocationsMade, AllocationsStay, CommittedAreThere};
-ghost use Rattle.ns_applied.specs.Laws.{EndedWereLive, EvaluationsMade, EvaluationsStay, MadeIsPending};
-ghost use Rattle.ns_applied.specs.Laws.{NamespacesStay, NoVictimIsStopped, NumbersGoOn, PlacesCounted};
+ghost use Rattle.ns_applied.specs.Counters.{ApplyPasses, RefusedPassesNothing};
+ghost use Rattle.ns_applied.specs.Laws.{AllocationsEnd, AllocationsMade, AllocationsStay};
+ghost use Rattle.ns_applied.specs.Laws.{CommittedAreThere, EndedWereLive, EvaluationsMade};
+ghost use Rattle.ns_applied.specs.Laws.{EvaluationsStay, MadeIsPending, NamespacesStay};
+ghost use Rattle.ns_applied.specs.Laws.{NoVictimIsStopped, NumbersGoOn, PlacesCounted};
 ghost use Rattle.ns_applied.specs.Laws.{PlanIsForJob, RestStays, VictimsApart};
 
 /// The plan of a snapshot places nothing where there is no job.
@@ -10,7 +13,7 @@ pub fn plan_is_for_job()
     ensures { PlanIsForJob }
 {}
 
-/// An Apply leaves the same namespaces, and of each all but its evaluations, its allocations and their last numbers.
+/// An Apply leaves the same namespaces, and of each all but its evaluations, allocations and last numbers.
 pub fn namespaces_stay()
     ensures { NamespacesStay }
 {}
@@ -78,4 +81,14 @@ pub fn places_counted()
 /// It leaves the quotas and the lists, but that evaluations may be ready behind the others.
 pub fn rest_stays()
     ensures { RestStays }
+{}
+
+/// An Apply passes the bound of a counter by what it ends and gives, said of the state before it.
+pub fn apply_passes()
+    ensures { ApplyPasses }
+{}
+
+/// An Apply of a plan that no longer stands passes no bound.
+pub fn refused_passes_nothing()
+    ensures { RefusedPassesNothing }
 {}
