@@ -7,3 +7,4 @@ pub mod Ending
 pub mod Touching
 pub mod Counting
 pub mod Refusing
+pub mod Judging

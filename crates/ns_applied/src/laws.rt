@@ -1,7 +1,8 @@
 //! What an Apply leaves of the state, where its plan stands, and when it passes the bound of a counter. Each law is the
 //! contract of a function that does nothing.
 
-ghost use Rattle.ns_applied.specs.Counters.{ApplyPasses, RefusedPassesNothing};
+ghost use Rattle.ns_applied.specs.Counters.{ApplyIsJudged, ApplyPasses, RefusedPassesNothing};
+ghost use Rattle.ns_applied.specs.Counters.{RoomIsLeft};
 ghost use Rattle.ns_applied.specs.Laws.{AllocationsEnd, AllocationsMade, AllocationsStay};
 ghost use Rattle.ns_applied.specs.Laws.{CommittedAreThere, EndedWereLive, EvaluationsMade};
 ghost use Rattle.ns_applied.specs.Laws.{EvaluationsStay, MadeIsPending, NamespacesStay};
@@ -91,4 +92,14 @@ pub fn apply_passes()
 /// An Apply of a plan that no longer stands passes no bound.
 pub fn refused_passes_nothing()
     ensures { RefusedPassesNothing }
+{}
+
+/// So whether a worker's Apply is made or refused is told before anything is written.
+pub fn apply_is_judged()
+    ensures { ApplyIsJudged }
+{}
+
+/// Where it passes no bound there are numbers and places for all that is new.
+pub fn room_is_left()
+    ensures { RoomIsLeft }
 {}
