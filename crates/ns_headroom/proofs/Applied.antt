@@ -106,20 +106,20 @@ module _ (w : World) (within : is_past_bound w ≡ false) (kept : Snapshot) (d :
 
   -- ---- nodes
 
-  place_within : (pool : Name) (p : PoolRows) → get w.pools pool ≡ Some p → (name : Name) (node : Node) → get p.nodes name ≡ Some node → nat_lt greatest node.places ≡ false
+  pub place_within : (pool : Name) (p : PoolRows) → get w.pools pool ≡ Some p → (name : Name) (node : Node) → get p.nodes name ≡ Some node → nat_lt greatest node.places ≡ false
   unfolding is_past_bound
   place_within pool p is name node at = none_of_any one_name (λ _ node. nat_lt greatest node.places) p.nodes name node
       (right_none (nat_lt greatest p.release) _ (none_of_any one_name (λ _ p. is_pool_past_bound p) w.pools pool p
       (right_none (any_row (λ _ t. is_tenant_past_bound t) w.tenants) _ (left_none _ _ within)) is)) at
 
-  abbrev past_on : Name → Name → Node → Bool
+  abbrev pub past_on : Name → Name → Node → Bool
   past_on pool name node = nat_lt greatest (node.places + places_on kept d.placed pool name)
 
   abbrev name_of : Placement → Name
   name_of p = node_name kept p.node
 
   -- where nothing goes to the node, its number is as it was
-  one_node : (pool name : Name) (node : Node) → nat_lt greatest node.places ≡ false →
+  pub one_node : (pool name : Name) (node : Node) → nat_lt greatest node.places ≡ false →
       past_on pool name node ≡ (list_any (goes_to kept pool name) d.placed && past_on pool name node)
   one_node pool name node none = by d.placed (list_any (goes_to kept pool name) d.placed) refl
     where

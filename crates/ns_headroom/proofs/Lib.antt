@@ -1,4 +1,5 @@
 pub mod Applied
+pub mod Counting
 pub mod Ended
 pub mod Keys
 pub mod Numbered

@@ -38,15 +38,17 @@ module _ {K X Y : Type 0} {R : K → K → Ordering} (o : IsTotalOrder R) (same 
       by k None is = refl
       by k (Some y) is = none_of_any same g n k y none is
 
+-- tests of which none passes without the other
+pub together : (a b : Bool) → (b ≡ false → a ≡ false) → (a ≡ false → b ≡ false) → a ≡ b
+together true true back on = refl
+together true false back on = back refl
+together false b back on = sym (on refl)
+
 module _ {K X Y : Type 0} {R : K → K → Ordering} (o : IsTotalOrder R) (same : IsAntisymmetric R) where
   pub any_between : (f : K → X → Bool) (g : K → Y → Bool) (m : FinMap R X) (n : FinMap R Y) →
       ((k : K) → option_map_or (f k) (get m k) false ≡ option_map_or (g k) (get n k) false) → any_row f m ≡ any_row g n
-  any_between f g m n alike = by (any_row f m) (any_row g n) (none_between o same f g m n alike) (none_between o same g f n m (λ k. sym (alike k)))
-    where
-      by : (a b : Bool) → (b ≡ false → a ≡ false) → (a ≡ false → b ≡ false) → a ≡ b
-      by true true back on = refl
-      by true false back on = back refl
-      by false b back on = sym (on refl)
+  any_between f g m n alike =
+      together (any_row f m) (any_row g n) (none_between o same f g m n alike) (none_between o same g f n m (λ k. sym (alike k)))
 
 -- ---- nodes that count
 

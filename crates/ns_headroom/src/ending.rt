@@ -1,15 +1,17 @@
 //! What the end of an allocation releases, judged for many of them by the same tables. It takes no memory.
 
-ghost use Rattle.std.specs.Prelude.{◌≡◌, option_copied};
+ghost use Rattle.std.specs.Prelude.{◌≡◌, ◌+◌, [], nat_lt, option_copied};
 ghost use Rattle.std.specs.List.{list_any};
 ghost use Rattle.ns_types.specs.declared.node.Class.{Class};
 ghost use Rattle.ns_types.specs.State.Rows.{allocation_at, node_at, offered_class};
+ghost use Rattle.ns_types.specs.Steps.{greatest};
 ghost use Rattle.ns_types.specs.Working.Commit.{quota_named};
 ghost use Rattle.ns_bounds.specs.Bounds.{is_at_bound, quota_passes, room_passes};
 ghost use Rattle.ns_bounds.specs.Given.{given_limits_pass, given_room_passes};
 ghost use Rattle.ns_headroom.specs.Applying.{is_last_index};
-ghost use Rattle.ns_headroom.specs.Judging.{any_last_index};
+ghost use Rattle.ns_headroom.specs.Judging.{allocations_pass, any_last_index, node_passes};
 ghost use Rattle.ns_headroom.specs.Passing.{end_passes, left_quota_passes, left_room_passes};
+ghost use Rattle.ns_headroom.specs.Releasing.{lives_at};
 ghost use Rattle.ns_world.specs.World.{world_of};
 
 use ns_alike::is_free;
@@ -22,14 +24,21 @@ use ns_world::Tables;
 use std::marker::Model;
 
 /// Whether a counter can not rise any more.
-pub(crate) fn is_at_bound(count: u64) -> bool
+fn is_at_bound(count: u64) -> bool
     ensures { result ≡ is_at_bound count }
 {
     count == u64::MAX
 }
 
+/// Whether a counter passes its bound by so much more.
+fn is_past(count: u64, more: u64) -> bool
+    ensures { result ≡ nat_lt greatest (count + more) }
+{
+    more > u64::MAX - count
+}
+
 /// Whether the namespace's index is at its bound.
-pub(crate) fn is_last_index(tables: &Tables, namespace: &Text) -> bool
+fn is_last_index(tables: &Tables, namespace: &Text) -> bool
     ensures { result ≡ is_last_index (world_of tables.now) namespace.now }
 {
     match tables.tenants.get(namespace) {
@@ -66,6 +75,15 @@ fn is_last_quota_release(tables: &Tables, quota: &Text) -> bool
 {
     match tables.quotas.get(quota) {
         Some(rows) => is_at_bound(rows.release),
+        None => false,
+    }
+}
+
+fn allocations_pass(tables: &Tables, namespace: &Text, count: u64) -> bool
+    ensures { result ≡ allocations_pass (world_of tables.now) namespace.now count }
+{
+    match tables.tenants.get(namespace) {
+        Some(tenant) => is_past(tenant.allocation_number, count),
         None => false,
     }
 }
@@ -133,6 +151,47 @@ impl<'a> Headroom<'a> {
         Headroom {
             tables,
             wakes: any_last_index(tables),
+        }
+    }
+
+    /// A text without characters. It takes no memory.
+    pub(crate) fn nameless(&self) -> Text
+        ensures { result ≡ [] }
+    {
+        Text::from_string(String::new(self.tables.alloc))
+    }
+
+    /// Whether the allocation is live.
+    pub(crate) fn lives_at(&self, namespace: &Text, number: u64) -> bool
+        ensures { result ≡ lives_at self.now (namespace.now, number) }
+    {
+        match allocation(self.tables, namespace, number) {
+            Some(row) => row.is_live(),
+            None => false,
+        }
+    }
+
+    /// Whether the namespace's index is at its bound.
+    pub(crate) fn is_last_index(&self, namespace: &Text) -> bool
+        ensures { result ≡ is_last_index self.now namespace.now }
+    {
+        is_last_index(self.tables, namespace)
+    }
+
+    /// Whether the number of the last of so many more allocations passes its bound.
+    pub(crate) fn allocations_pass(&self, namespace: &Text, count: u64) -> bool
+        ensures { result ≡ allocations_pass self.now namespace.now count }
+    {
+        allocations_pass(self.tables, namespace, count)
+    }
+
+    /// Whether the node's number of places passes its bound by so many more.
+    pub(crate) fn node_passes(&self, pool: &Text, name: &Text, count: u64) -> bool
+        ensures { result ≡ node_passes self.now pool.now name.now count }
+    {
+        match node(self.tables, pool, name) {
+            Some(node) => is_past(node.places, count),
+            None => false,
         }
     }
 

@@ -4,6 +4,7 @@
 //! `Headroom` judges it before anything is written. It takes no memory.
 #![tactic(auto)]
 
+mod applying;
 mod ending;
 pub mod laws;
 
