@@ -76,7 +76,7 @@ module _ (h : Name → Name → Option ℕ) where
   abbrev pub key_of : Victim → Option Key
   key_of v = option_map (λ n. (v.0, n)) (h v.0 v.1.1.job)
 
-same_turned : (a b : Victim) → same_victim_job a b ≡ is_of_job b.0 b.1.1.job a
+pub same_turned : (a b : Victim) → same_victim_job a b ≡ is_of_job b.0 b.1.1.job a
 same_turned a b = λ i. (eq_by_cmp_equiv names).symm a.0 b.0 i && (eq_by_cmp_equiv names).symm a.1.1.job b.1.1.job i
 
 module _ (h h' : Name → Name → Option ℕ) (v : Victim)

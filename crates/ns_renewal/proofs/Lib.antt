@@ -1,3 +1,4 @@
+pub mod Counting
 pub mod Least
 pub mod Made
 pub mod MadeUp

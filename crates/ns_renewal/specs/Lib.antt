@@ -1,3 +1,4 @@
+pub mod Laws
 pub mod Losing
 pub mod Losses
 pub mod Renewing

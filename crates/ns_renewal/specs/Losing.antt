@@ -1,7 +1,7 @@
 -- The jobs that lose allocations by preemption.
-use Rattle.std.specs.Prelude.{◌≡◌, ℕ, ◌+◌, ◌<◌, ◌^◌, Bool, ◌&&◌, List, [], ◌∷◌, Option, Some, None, filter, flat_map, length, map, min, nat_lt, option_map, unwrap_or}
-use Rattle.std.specs.List.{filter_map}
-use Rattle.std.specs.Option.{option_and_then, option_to_list}
+use Rattle.std.specs.Prelude.{◌≡◌, ℕ, ◌+◌, ◌<◌, ◌^◌, Bool, false, ◌&&◌, List, [], ◌∷◌, Option, Some, None, filter, flat_map, length, map, min, nat_lt, not, option_map, unwrap_or}
+use Rattle.std.specs.List.{filter_map, list_any}
+use Rattle.std.specs.Option.{option_and_then, option_map_or, option_to_list}
 use Rattle.std.specs.FinMap.{get}
 use Rattle.keyed.specs.Table.{row_at}
 use Rattle.ns_types.specs.declared.plan.Eviction.{Eviction}
@@ -32,6 +32,14 @@ numbers_pass_in victims ns t = nat_lt greatest (t.evaluation_number + losing_in 
 
 abbrev pub numbers_pass : List Victim → World → Bool
 numbers_pass victims w = any_row (numbers_pass_in victims) w.tenants
+
+-- the same of a namespace that may not be there
+abbrev pub numbers_pass_at : World → List Victim → Name → Bool
+numbers_pass_at w victims ns = option_map_or (numbers_pass_in victims ns) (get w.tenants ns) false
+
+-- the victim is the namespace's, and none of the later ones is of its job
+abbrev pub is_last_of_job : Name → List Victim → Victim → Bool
+is_last_of_job ns later v = same_name ns v.0 && not (list_any (same_victim_job v) later)
 
 -- each namespace has the numbers for an evaluation of each of its jobs that lose one
 abbrev pub CanMakeUp : List Victim → World → Type 0

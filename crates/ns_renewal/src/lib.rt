@@ -1,10 +1,16 @@
 //! Evaluations of the jobs that lose allocations by preemption: each gets one, in whichever namespace it is.
 #![tactic(auto)]
 
+mod evictions;
+mod laws;
 mod losing;
 mod losses;
 mod making;
+mod numbers;
 mod renewing;
 
+pub use evictions::Evictions;
+pub use laws::numbers_suffice;
 pub use making::make_up;
+pub use numbers::numbers_pass;
 pub use renewing::renew_each;

@@ -16,7 +16,7 @@ use ns_world::Tables;
 use std::alloc::AllocError;
 
 /// The allocation of an eviction before the step, if it is there.
-fn allocation<'a>(tables: &'a Tables, eviction: &Eviction) -> Option<&'a Allocation>
+pub(crate) fn allocation<'a>(tables: &'a Tables, eviction: &Eviction) -> Option<&'a Allocation>
     ensures { option_map (λ a. (eviction.now.namespace, (eviction.now.number, a)))
         (option_copied result) ≡ victim_at (world_of tables.now) eviction.now }
 {
