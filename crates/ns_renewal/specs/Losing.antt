@@ -1,5 +1,6 @@
 -- The jobs that lose allocations by preemption.
-use Rattle.std.specs.Prelude.{◌≡◌, ℕ, ◌+◌, ◌<◌, ◌^◌, Bool, false, ◌&&◌, List, [], ◌∷◌, Option, Some, None, filter, flat_map, length, map, min, nat_lt, not, option_map, unwrap_or}
+use Rattle.std.specs.Prelude.{◌≡◌, ℕ, ◌+◌, ◌<◌, ◌^◌, Bool, false, not, ◌&&◌, List, [], ◌∷◌, Option, Some, None, filter, flat_map}
+use Rattle.std.specs.Prelude.{length, map, min, nat_lt, option_map, unwrap_or}
 use Rattle.std.specs.List.{filter_map, list_any}
 use Rattle.std.specs.Option.{option_and_then, option_map_or, option_to_list}
 use Rattle.std.specs.FinMap.{get}

@@ -42,8 +42,8 @@ fn lower_each(
     losses: &mut Losses,
     evictions: &[&Eviction],
 ) -> Result<(), AllocError>
-    ensures { OnOk result (Lowers (victims_at (world_of tables.now) (map (λ e. e.now) evictions.now))
-        losses.old losses.new) }
+    ensures { OnOk result (Lowers (victims_at (world_of tables.now)
+        (map (λ e. e.now) evictions.now)) losses.old losses.new) }
 {
     for eviction in evictions {
         lower(tables, losses, eviction)?;
@@ -82,8 +82,8 @@ fn take_each(
         (victims_at (world_of tables.now) (map (λ e. e.now) evictions.now))) }
 {
     let mut keys = Rows::new(tables.alloc);
-    for eviction in evictions {
-        if let Some(key) = take(tables, losses, eviction)? {
+    for victim in evictions {
+        if let Some(key) = take(tables, losses, victim)? {
             keys.push(key)?;
         }
     }

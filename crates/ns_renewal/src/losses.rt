@@ -57,7 +57,8 @@ impl Losses {
         }
     }
 
-    /// The job has the number from then on, or its own where that is less. Two binary searches, and room for what is new.
+    /// The job has the number from then on, or its own where that is less. It costs binary searches, and room for a
+    /// job that is new.
     pub(crate) fn lower(
         &mut self,
         namespace: &Text,

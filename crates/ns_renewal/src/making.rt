@@ -16,18 +16,18 @@ use ns_world::Tables;
 use std::alloc::AllocError;
 
 /// Each job that loses an allocation by one of the evictions gets an evaluation, in the order of first victim, with its
-/// type, priority and pool before the step; an eviction whose allocation is not there counts for nothing, and one that
-/// stands twice counts once. The premises are that the change leaves the jobs as they were, and that each namespace has
-/// numbers for its evaluations. It costs a few look-ups for each eviction, and for each job that loses one what it costs
-/// to make an evaluation.
+/// type, priority and pool before the step. An eviction whose allocation is not there counts for nothing, and an
+/// allocation that is named twice counts once. The premises are that the change leaves the jobs as they were, and that
+/// each namespace has numbers for its evaluations. It costs a few look-ups for each eviction, and for each job that loses
+/// an allocation what it costs to make an evaluation.
 pub fn make_up(
     tables: &Tables,
     change: &mut Change,
     evictions: &[&Eviction],
 ) -> Result<(), AllocError>
     requires jobs { SameJobs (world_of tables.now) (view tables.now change.old) }
-    requires numbers { let victims = victims_at (world_of tables.now) (map (λ e. e.now) evictions.now)
-        in CanMakeUp victims (view tables.now change.old) }
+    requires numbers { CanMakeUp (victims_at (world_of tables.now)
+        (map (λ e. e.now) evictions.now)) (view tables.now change.old) }
     ensures { Does result tables.now change.old change.new
         (make_up (victims_at (world_of tables.now) (map (λ e. e.now) evictions.now))) }
 {

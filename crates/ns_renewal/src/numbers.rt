@@ -130,9 +130,9 @@ fn numbers_pass_at<E: Evictions>(
     numbers_pass_in(tables, namespace, tenant, evictions)
 }
 
-/// Whether some namespace has too few numbers for an evaluation of each of its jobs that lose an allocation by one of the
-/// evictions. It takes no memory, and costs a look-up for each eviction; only for a namespace that has fewer numbers left
-/// than there are evictions it goes over each eviction's later ones.
+/// Whether some namespace has too few numbers for an evaluation of each of its jobs that lose an allocation by one of
+/// the evictions. It takes no memory, and costs a look-up for each eviction; only for a namespace that has fewer numbers
+/// left than there are evictions it goes over each eviction's later ones.
 pub fn numbers_pass<E: Evictions>(tables: &Tables, evictions: E) -> bool
     requires { is_past_bound (world_of tables.now) ≡ false }
     ensures { let w = world_of tables.now in

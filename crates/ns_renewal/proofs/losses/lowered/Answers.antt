@@ -17,5 +17,7 @@ returns c =
       | in-Some w ↦ ap (λ m. row_at m id) w.jobs-is ∙ sym (ap (λ t. job_number t id) w.in-Some.is)
       | in-None w ↦ ap (λ m. row_at m id) (w.jobs-is ∙ w.new-jobs.ensures) ∙ row_nowhere id ∙ sym (ap (λ t. job_number t id) w.in-None.is)
     ] in
-    λ id. job_put c.match-jobs.jobs c.reserve.new.self c.set.new.self c.args.job.now c.lesser-least.result c.in_ok-reserve.ensures.ok c.set.ensures id
-    ∙ (λ i. cond (same_name id c.args.job.now) ((c.lesser-least.ensures ∙ ap (λ o. lesser o (Some c.args.number)) (c.get.ensures ∙ before c.args.job.now)) i) (before id i))
+    let job = c.args.job.now in
+    let least = c.lesser-least.ensures ∙ ap (λ o. lesser o (Some c.args.number)) (c.get.ensures ∙ before job) in
+    λ id. job_put c.match-jobs.jobs c.reserve.new.self c.set.new.self job c.lesser-least.result c.in_ok-reserve.ensures.ok c.set.ensures id
+    ∙ (λ i. cond (same_name id job) (least i) (before id i))
