@@ -28,8 +28,8 @@ use Rattle.ns_headroom.specs.Applying.{apply_passes, apply_raise, ended_keys, pl
 use Rattle.ns_headroom.specs.Raising.{IsRaised, Raises, with_places}
 use Rattle.ns_headroom.specs.Releasing.{EndsAlone, ends_at, lives_at, opens, release_at}
 use Rattle.ns_headroom.proofs.Applied.{apply_pass}
-use Rattle.ns_applied.specs.Counters.{IsAtWork, applied_world}
-use Rattle.ns_applied.specs.Parts.{IsForJob, counted_rows, doing, ended, placed}
+use Rattle.ns_applied.specs.Counters.{IsAtWork}
+use Rattle.ns_applied.specs.Parts.{applied_world, IsForJob, counted_rows, doing, ended, placed}
 use Rattle.ns_applied.proofs.Ending.{allocations_end, ended_were_live, plan_is_for_job}
 use Rattle.ns_applied.proofs.Placing.{changed_keeps, get_changed, node_counted}
 use Rattle.ns_applied.proofs.Touching.{ended_are, touched_is}

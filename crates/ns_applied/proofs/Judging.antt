@@ -1,5 +1,5 @@
 -- An Apply as it is judged before anything is written, and the room that is left where it passes no bound.
-use Rattle.std.specs.Prelude.{◌≡◌, ◌<◌, ℕ, ◌+◌, ◌^◌, Bool, true, false, cond, ◌&&◌, ◌||◌, List, [], ◌∷◌, Option, Some, None, filter, length, nat_lt}
+use Rattle.std.specs.Prelude.{◌≡◌, ◌<◌, ℕ, ◌+◌, ◌^◌, Bool, true, false, cond, not, ◌&&◌, ◌||◌, List, [], ◌∷◌, Option, Some, None, filter, length, nat_lt}
 use Rattle.std.proofs.Common.{refl, sym, ap, ◌∙◌, arith, inl, inr}
 use Rattle.std.proofs.lemmas.Bool.Decides.{leb_tells}
 use Rattle.std.specs.Cmp.{eq_by_cmp_equiv}
@@ -17,7 +17,7 @@ use Rattle.ns_types.specs.State.Names.{Name, same_name}
 use Rattle.ns_types.specs.State.Rows.{PoolRows, Tenant, World, node_at}
 use Rattle.ns_types.specs.State.Tables.{any_row}
 use Rattle.ns_types.specs.Steps.{greatest, is_past_bound, is_pool_past_bound, is_tenant_past_bound}
-use Rattle.ns_types.specs.Working.Commit.{applied, apply, apply_for, commit, node_name, still_stands}
+use Rattle.ns_types.specs.Working.Commit.{Applied, applied, apply, apply_for, commit, done, node_name, refused_whole, still_stands}
 use Rattle.ns_types.specs.Working.Queue.{is_served}
 use Rattle.ns_types.specs.Working.Work.{is_submitted}
 use Rattle.ns_types.specs.Working.Worker.{Worker}
@@ -43,14 +43,25 @@ module _ (w : World) (number : ℕ) (ns : Name) (t : Tenant) (worker : Worker) (
   abbrev passes : Bool
   passes = apply_passes w kept (doing kept (plan kept) w t)
 
-  abbrev made : Outcome World
-  made = applied number ns worker e (commit kept (plan kept) w t)
+  abbrev made_of : Applied
+  made_of = commit kept (plan kept) w t
 
-  made_is : (b : Bool) → stands ≡ b → bounded w made ≡ cond (stands && passes) (Refused Refusal.Full) made
+  abbrev made : Outcome World
+  made = applied number ns worker e made_of
+
+  refused_is : made_of.checked.is_refused ≡ not stands
+  unfolding commit
+  refused_is = by stands
+    where
+      by : (b : Bool) → (cond b (done kept (plan kept) w t) (refused_whole kept (plan kept) w)).checked.is_refused ≡ not b
+      by true = refl
+      by false = refl
+
+  made_is : (b : Bool) → stands ≡ b → bounded w made ≡ cond (not made_of.checked.is_refused && passes) (Refused Refusal.Full) made
   made_is true s = ap (λ past. cond past (Refused Refusal.Full) made) (apply_passes_is w number ns t worker e kept h s)
-      ∙ ap (λ b. cond (b && passes) (Refused Refusal.Full) made) (sym s)
+      ∙ ap (λ b. cond (not b && passes) (Refused Refusal.Full) made) (sym (refused_is ∙ ap not s))
   made_is false s = ap (λ past. cond past (Refused Refusal.Full) made) (refused_passes_nothing w number ns t worker e kept h s)
-      ∙ ap (λ b. cond (b && passes) (Refused Refusal.Full) made) (sym s)
+      ∙ ap (λ b. cond (not b && passes) (Refused Refusal.Full) made) (sym (refused_is ∙ ap not s))
 
   pub apply_is_judged : get t.evaluations worker.evaluation ≡ Some e → bounded w (apply number ns w) ≡ judged number ns w t worker e kept
   unfolding apply
@@ -64,7 +75,8 @@ module _ (w : World) (number : ℕ) (ns : Name) (t : Tenant) (worker : Worker) (
       ∙ ap (λ o. bounded w (option_map_or (apply_for number ns w t worker e) o NotEnabled)) h.keeps
       ∙ by (is_submitted worker.phase && is_served w w.plans (ns, worker.evaluation))
     where
-      by : (b : Bool) → bounded w (cond b made NotEnabled) ≡ cond b (cond (stands && passes) (Refused Refusal.Full) made) NotEnabled
+      by : (b : Bool) → bounded w (cond b made NotEnabled)
+          ≡ cond (not b) NotEnabled (cond (not made_of.checked.is_refused && passes) (Refused Refusal.Full) made)
       by true = made_is stands refl
       by false = refl
 

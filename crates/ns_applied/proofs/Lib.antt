@@ -8,3 +8,4 @@ pub mod Touching
 pub mod Counting
 pub mod Refusing
 pub mod Judging
+pub mod Marking

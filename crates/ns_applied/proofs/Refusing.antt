@@ -25,7 +25,8 @@ use Rattle.ns_headroom.specs.Raising.{IsRaised, Raises, with_places}
 use Rattle.ns_headroom.specs.Releasing.{EndsAlone, lives_at, opens, release_at}
 use Rattle.ns_headroom.proofs.Applied.{apply_pass}
 use Rattle.ns_headroom.proofs.Shown.{untouched_rows}
-use Rattle.ns_applied.specs.Counters.{IsAtWork, applied_world}
+use Rattle.ns_applied.specs.Parts.{applied_world}
+use Rattle.ns_applied.specs.Counters.{IsAtWork}
 use Rattle.ns_applied.proofs.Counting.{opens_not}
 use Rattle.ns_applied.proofs.Placing.{changed_keeps, get_changed}
 

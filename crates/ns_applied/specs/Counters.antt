@@ -1,31 +1,24 @@
 -- When an Apply passes the bound of a counter, by the state before it.
-use Rattle.std.specs.Prelude.{◌≡◌, ◌<◌, ℕ, ◌+◌, ◌^◌, true, false, ◌&&◌, if◌then◌else◌, Some, filter, length}
+use Rattle.std.specs.Prelude.{◌≡◌, ◌<◌, ℕ, ◌+◌, ◌^◌, true, false, not, ◌&&◌, if◌then◌else◌, Some, filter, length}
 use Rattle.std.specs.FinMap.{get}
 use Rattle.ns_types.specs.declared.evaluation.Evaluation.{Evaluation}
 use Rattle.ns_types.specs.declared.node.Node.{Node}
 use Rattle.ns_types.specs.declared.refusal.Refusal.{Refusal}
 use Rattle.ns_types.specs.declared.snapshot.Snapshot.{Snapshot}
 use Rattle.ns_types.specs.Placing.Plan.{plan}
-use Rattle.ns_types.specs.Settling.Making.{change_tenant}
 use Rattle.ns_types.specs.Settling.Outcome.{NotEnabled, Outcome, Refused}
 use Rattle.ns_types.specs.Settling.Settle.{settle}
 use Rattle.ns_types.specs.State.Names.{Name, same_name}
 use Rattle.ns_types.specs.State.Rows.{Tenant, World, node_at}
 use Rattle.ns_types.specs.Steps.{is_past_bound}
 use Rattle.ns_types.specs.Validity.{IsSound}
-use Rattle.ns_types.specs.Working.Commit.{Applied, applied, applied_worker, apply, commit, node_name, still_stands}
+use Rattle.ns_types.specs.Working.Commit.{applied, apply, commit, node_name, still_stands}
 use Rattle.ns_types.specs.Working.Queue.{is_served}
-use Rattle.ns_types.specs.Working.Work.{is_submitted, with_worker, without_key}
+use Rattle.ns_types.specs.Working.Work.{is_submitted}
 use Rattle.ns_types.specs.Working.Worker.{Worker}
 use Rattle.ns_change.specs.Prepared.{bounded}
 use Rattle.ns_headroom.specs.Applying.{Doing, apply_passes, losing_in}
-use Rattle.ns_applied.specs.Parts.{doing}
-
--- the state that the step leads to, with the worker's row and without its plan
-abbrev pub applied_world : ℕ → Name → Worker → Evaluation → Applied → World
-applied_world number ns worker e a =
-    record (change_tenant ns (with_worker number (applied_worker a worker e)) a.world)
-    { plans = without_key (ns, worker.evaluation) a.world.plans }
+use Rattle.ns_applied.specs.Parts.{applied_world, doing}
 
 -- a worker of a valid state that is busy for the namespace, and the snapshot that it keeps
 pub record IsAtWork (w : World) (number : ℕ) (ns : Name) (t : Tenant) (worker : Worker) (kept : Snapshot) : Type 0 where
@@ -51,12 +44,10 @@ RefusedPassesNothing = (w : World) (number : ℕ) (ns : Name) (t : Tenant) (work
 -- the step as it is judged before anything is written
 abbrev pub judged : ℕ → Name → World → Tenant → Worker → Evaluation → Snapshot → Outcome World
 judged number ns w t worker e kept =
-    if is_submitted worker.phase && is_served w w.plans (ns, worker.evaluation) then (
-    if still_stands kept.job (get t.jobs kept.evaluation.job) && apply_passes w kept (doing kept (plan kept) w t)
-    then Refused Refusal.Full
-    else applied number ns worker e (commit kept (plan kept) w t)
-    )
-    else NotEnabled
+    let a = commit kept (plan kept) w t in
+    if not (is_submitted worker.phase && is_served w w.plans (ns, worker.evaluation)) then NotEnabled
+    else if not a.checked.is_refused && apply_passes w kept (doing kept (plan kept) w t) then Refused Refusal.Full
+    else applied number ns worker e a
 
 abbrev pub ApplyIsJudged : Type 0
 ApplyIsJudged = (w : World) (number : ℕ) (ns : Name) (t : Tenant) (worker : Worker) (e : Evaluation) (kept : Snapshot)

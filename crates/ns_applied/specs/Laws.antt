@@ -1,8 +1,9 @@
 -- What an Apply of a plan that stands leaves, row by row. Here t is the snapshot's namespace, as the state has it.
-use Rattle.std.specs.Prelude.{◌≡◌, ℕ, ◌+◌, true, false, List, ◌++◌, Some, is_some, length, option_map}
+use Rattle.std.specs.Prelude.{◌≡◌, ℕ, ◌+◌, true, if◌then◌else◌, false, List, ◌++◌, Some, is_some, length, option_map}
 use Rattle.std.specs.Prelude.{slice_get, take}
 use Rattle.std.specs.FinMap.{get}
 use Rattle.ns_types.specs.declared.allocation.Allocation.{Allocation}
+use Rattle.ns_types.specs.declared.evaluation.Evaluation.{Evaluation}
 use Rattle.ns_types.specs.declared.evaluation.Status.TheVariants as Status
 use Rattle.ns_types.specs.declared.evaluation.Trigger.{Trigger}
 use Rattle.ns_types.specs.declared.evaluation.Trigger.TheVariants as triggers
@@ -17,11 +18,13 @@ use Rattle.ns_types.specs.Settling.Making.{evaluation_for}
 use Rattle.ns_types.specs.State.Names.{Key, Name, has_key, has_number, same_key, same_name}
 use Rattle.ns_types.specs.State.Rows.{Tenant, World, allocation_at, evaluation_at, node_at}
 use Rattle.ns_types.specs.State.Tables.{map_rows}
-use Rattle.ns_types.specs.Working.Commit.{Victim, counts, done, least_of_job, new_allocation, node_name, victim_key}
+use Rattle.ns_types.specs.Working.Commit.{Applied, Victim, applied_worker, counts, done, least_of_job, new_allocation, node_name, victim_key}
+use Rattle.ns_types.specs.Working.Work.{with_worker, without_key}
+use Rattle.ns_types.specs.Working.Worker.{Worker}
 use Rattle.ns_headroom.specs.Applying.{places_on}
 use Rattle.ns_headroom.specs.Raising.{with_places}
 use Rattle.ns_headroom.specs.Releasing.{ends_at, lives_at}
-use Rattle.ns_applied.specs.Parts.{IsForJob, IsOutside, counted_rows, ended, evicted, left_row, losers_in, placed}
+use Rattle.ns_applied.specs.Parts.{IsForJob, IsOutside, applied_world, counted_rows, ended, evicted, left_row, losers_in, placed}
 use Rattle.ns_applied.specs.Parts.{placed_in, standing, stops, victims}
 
 -- ---- plans
@@ -129,3 +132,20 @@ pub record IsRestKept (w x : World) : Type 0 where
 
 abbrev pub RestStays : Type 0
 RestStays = (kept : Snapshot) (p : Plan) (w : World) (t : Tenant) → IsRestKept w (done kept p w t).world
+
+-- ---- the worker
+
+-- of x nothing is otherwise than of y but one row of a worker, and a plan that is out of the list
+pub record IsMarked (number : ℕ) (ns : Name) (worker row : Worker) (y x : World) : Type 0 where
+  pub tenants : (q : Name) →
+      get x.tenants q ≡ option_map (λ u. if same_name q ns then with_worker number row u else u) (get y.tenants q)
+  pub pools : x.pools ≡ y.pools
+  pub quotas : x.quotas ≡ y.quotas
+  pub ready : x.ready ≡ y.ready
+  pub plans : x.plans ≡ without_key (ns, worker.evaluation) y.plans
+  pub blocked : x.blocked ≡ y.blocked
+
+-- so the step ends
+abbrev pub AppliedIsMarked : Type 0
+AppliedIsMarked = (number : ℕ) (ns : Name) (worker : Worker) (e : Evaluation) (a : Applied) →
+    IsMarked number ns worker (applied_worker a worker e) a.world (applied_world number ns worker e a)

@@ -3,17 +3,20 @@ use Rattle.std.specs.Prelude.{◌≡◌, ◌≤◌, ◌<◌, ℕ, ◌+◌, ◌�
 use Rattle.std.specs.Prelude.{filter, length}
 use Rattle.ns_types.specs.declared.allocation.Allocation.{Allocation}
 use Rattle.ns_types.specs.declared.allocation.DesiredStatus.TheVariants as DesiredStatus
+use Rattle.ns_types.specs.declared.evaluation.Evaluation.{Evaluation}
 use Rattle.ns_types.specs.declared.event.Event.{Event}
 use Rattle.ns_types.specs.declared.job.Job.{Job}
 use Rattle.ns_types.specs.declared.plan.Placement.{Placement}
 use Rattle.ns_types.specs.declared.plan.Plan.{Plan}
 use Rattle.ns_types.specs.declared.records.Namespace.{Namespace}
 use Rattle.ns_types.specs.declared.snapshot.Snapshot.{Snapshot}
+use Rattle.ns_types.specs.Settling.Making.{change_tenant}
 use Rattle.ns_types.specs.State.Lists.{first_each}
 use Rattle.ns_types.specs.State.Names.{ByName, ByNumber, Key, Name, has_key, has_number, same_name}
 use Rattle.ns_types.specs.State.Rows.{PoolRows, Tenant, World}
 use Rattle.ns_types.specs.State.Tables.{map_rows}
-use Rattle.ns_types.specs.Working.Commit.{Victim, done, evicted_rows, live_stops, same_victim_job, stop_all}
+use Rattle.ns_types.specs.Working.Commit.{Applied, Victim, applied_worker, done, evicted_rows, live_stops, same_victim_job, stop_all}
+use Rattle.ns_types.specs.Working.Work.{with_worker, without_key}
 use Rattle.ns_types.specs.Working.Worker.{Worker}
 use Rattle.ns_headroom.specs.Applying.{Doing, places_on}
 use Rattle.ns_headroom.specs.Raising.{with_places}
@@ -97,3 +100,11 @@ pub record Standing : Type 0 where
 
 abbrev pub standing : Tenant → Standing
 standing t = record { namespace = t.namespace; index = t.index; jobs = t.jobs; workers = t.workers; events = t.events }
+
+-- ---- the worker
+
+-- the state that the step leads to, with the worker's row and without its plan
+abbrev pub applied_world : ℕ → Name → Worker → Evaluation → Applied → World
+applied_world number ns worker e a =
+    record (change_tenant ns (with_worker number (applied_worker a worker e)) a.world)
+    { plans = without_key (ns, worker.evaluation) a.world.plans }

@@ -4,10 +4,10 @@
 ghost use Rattle.ns_applied.specs.Counters.{ApplyIsJudged, ApplyPasses, RefusedPassesNothing};
 ghost use Rattle.ns_applied.specs.Counters.{RoomIsLeft};
 ghost use Rattle.ns_applied.specs.Laws.{AllocationsEnd, AllocationsMade, AllocationsStay};
-ghost use Rattle.ns_applied.specs.Laws.{CommittedAreThere, EndedWereLive, EvaluationsMade};
-ghost use Rattle.ns_applied.specs.Laws.{EvaluationsStay, MadeIsPending, NamespacesStay};
-ghost use Rattle.ns_applied.specs.Laws.{NoVictimIsStopped, NumbersGoOn, PlacesCounted};
-ghost use Rattle.ns_applied.specs.Laws.{PlanIsForJob, RestStays, VictimsApart};
+ghost use Rattle.ns_applied.specs.Laws.{AppliedIsMarked, CommittedAreThere, EndedWereLive};
+ghost use Rattle.ns_applied.specs.Laws.{EvaluationsMade, EvaluationsStay, MadeIsPending};
+ghost use Rattle.ns_applied.specs.Laws.{NamespacesStay, NoVictimIsStopped, NumbersGoOn};
+ghost use Rattle.ns_applied.specs.Laws.{PlacesCounted, PlanIsForJob, RestStays, VictimsApart};
 
 /// The plan of a snapshot places nothing where there is no job.
 pub fn plan_is_for_job()
@@ -82,6 +82,11 @@ pub fn places_counted()
 /// It leaves the quotas and the lists, but that evaluations may be ready behind the others.
 pub fn rest_stays()
     ensures { RestStays }
+{}
+
+/// Besides, the worker's row is written and its plan is out of the list.
+pub fn applied_is_marked()
+    ensures { AppliedIsMarked }
 {}
 
 /// An Apply passes the bound of a counter by what it ends and gives, said of the state before it.
