@@ -1,7 +1,7 @@
 -- What an Apply of a plan that stands leaves.
-use Rattle.std.specs.Prelude.{◌≡◌, ℕ, ◌+◌, Bool, true, false, cond, List, [], Option, Some, None, filter, fold, is_some, length, option_map}
+use Rattle.std.specs.Prelude.{◌≡◌, ◌++◌, ℕ, ◌+◌, Bool, true, false, cond, List, [], Option, Some, None, filter, fold, is_some, length, option_map}
 use Rattle.std.specs.Prelude.{slice_get, take}
-use Rattle.std.proofs.Common.{refl, sym, ap, subst, ◌∙◌}
+use Rattle.std.proofs.Common.{refl, sym, ap, subst, ◌∙◌, arith}
 use Rattle.std.proofs.lemmas.List.{length-map}
 use Rattle.std.proofs.lemmas.Option.{slice_get-map}
 use Rattle.std.specs.FinMap.{get}
@@ -23,16 +23,16 @@ use Rattle.ns_types.proofs.Elements.{each_of}
 use Rattle.ns_types.proofs.Gone.{evicted_row, gone_all, gone_in, gone_row, rows_gone, stopped_are, stopped_row}
 use Rattle.ns_types.proofs.Named.{names, numbers, one_name, one_number, same_name_refl}
 use Rattle.ns_types.proofs.Tables.{get-map_rows}
-use Rattle.ns_types.proofs.Tests.{same_Some}
+use Rattle.ns_types.proofs.Tests.{not_Some, same_Some}
 use Rattle.ns_applied.specs.Laws.{IsRestKept}
-use Rattle.ns_applied.specs.Parts.{IsForJob, IsOutside, counted_rows, evicted, left_row, losers, losers_in, placed, placed_in}
+use Rattle.ns_applied.specs.Parts.{IsForJob, IsNew, IsOutside, counted_rows, evicted, left_row, losers, losers_in, placed, placed_in}
 use Rattle.ns_headroom.specs.Applying.{places_on}
 use Rattle.ns_headroom.specs.Raising.{with_places}
 use Rattle.ns_applied.specs.Parts.{standing, stopped, stops, victims}
 use Rattle.ns_applied.proofs.Deciding.{committed_there, decided_there, decided_world}
 use Rattle.ns_applied.proofs.Numbered.{added, added_outside, added_row, evaluations_added}
 use Rattle.ns_applied.proofs.Placing.{IsPlaced, is_placed, own_rows, placed_keeps, with_rows}
-use Rattle.ns_applied.proofs.Renewing.{Grows, evaluations_of, grows_same, grows_then, made_for, made_up_grows, made_up_keeps, made_up_tenants}
+use Rattle.ns_applied.proofs.Renewing.{evaluations_of, made_for, made_up_keeps, made_up_ready, made_up_tenants}
 
 abbrev pub with_evaluations : List Evaluation → Tenant → Tenant
 with_evaluations es t = record t { evaluation_number = t.evaluation_number + length es; evaluations = added t.evaluation_number es t.evaluations }
@@ -250,15 +250,26 @@ module _ (kept : Snapshot) (p : Plan) (w : World) (t : Tenant) where
     all_keep : ((w : World) (keys : List Key) → part (record w { ready = keys }) ≡ part w) → part then ≡ part w
     all_keep ready = made_up_keeps (evicted kept p w t) part ready tenants with_placed ∙ before_renewal
 
-  ready_grows : Grows w then
-  ready_grows = grows_then w with_placed then (grows_same w with_placed (before_renewal (λ x. x.ready) (λ x m. refl) (λ x m. refl)))
-      (made_up_grows (evicted kept p w t) with_placed)
+  -- the numbers are those before it
+  before_numbers : (q : Name) (count n : ℕ) → IsNew count (get with_placed.tenants q) n → IsNew count (get w.tenants q) n
+  before_numbers q count n (v, at, low, high) = by (get w.tenants q) refl
+      (sym (its_placed.tenants q ∙ ap (option_map (λ u. with_rows (own_rows kept rows q) u)) (ended_tenants q)) ∙ at)
+    where
+      same : (u : Tenant) → with_rows (own_rows kept rows q) (ended_in q u) ≡ v → u.evaluation_number ≡ v.evaluation_number
+      same u is = ap (λ (v : Tenant). v.evaluation_number) is
 
-  pub rest_stays : IsRestKept w then
+      by : (o : Option Tenant) → get w.tenants q ≡ o →
+          option_map (λ u. with_rows (own_rows kept rows q) u) (option_map (ended_in q) o) ≡ Some v → IsNew count (get w.tenants q) n
+      by None was is = absurd (not_Some v is)
+      by (Some u) was is = let number = same u (same_Some _ v is) in (u, was, omega (arith, number, low), omega (arith, number, high))
+
+  pub rest_stays : IsRestKept (λ ns. length (losers_in kept p w t ns)) w then
   rest_stays = record {
     quotas = all_keep (λ x. x.quotas) (λ x m. refl) (λ x m. refl) (λ x keys. refl);
     plans = all_keep (λ x. x.plans) (λ x m. refl) (λ x m. refl) (λ x keys. refl);
     blocked = all_keep (λ x. x.blocked) (λ x m. refl) (λ x m. refl) (λ x keys. refl);
-    more = ready_grows.0;
-    ready = ready_grows.1;
+    more = (made_up_ready (evicted kept p w t) with_placed).0;
+    ready = (made_up_ready (evicted kept p w t) with_placed).1
+        ∙ ap (λ l. l ++ (made_up_ready (evicted kept p w t) with_placed).0) (before_renewal (λ x. x.ready) (λ x m. refl) (λ x m. refl));
+    new = λ key e. before_numbers key.0 (length (losers_in kept p w t key.0)) key.1 ((made_up_ready (evicted kept p w t) with_placed).2 key e);
   }

@@ -24,7 +24,7 @@ use Rattle.ns_types.specs.Working.Worker.{Worker}
 use Rattle.ns_headroom.specs.Applying.{places_on}
 use Rattle.ns_headroom.specs.Raising.{with_places}
 use Rattle.ns_headroom.specs.Releasing.{ends_at, lives_at}
-use Rattle.ns_applied.specs.Parts.{IsForJob, IsOutside, applied_world, counted_rows, ended, evicted, left_row, losers_in, placed}
+use Rattle.ns_applied.specs.Parts.{IsForJob, IsNew, IsOutside, applied_world, counted_rows, ended, evicted, left_row, losers_in, placed}
 use Rattle.ns_applied.specs.Parts.{placed_in, standing, stops, victims}
 
 -- ---- plans
@@ -122,16 +122,18 @@ abbrev pub PlacesCounted : Type 0
 PlacesCounted = (kept : Snapshot) (p : Plan) (w : World) (t : Tenant) → IsForJob kept p →
     (done kept p w t).world.pools ≡ map_rows (counted_rows kept (placed kept p w t)) w.pools
 
--- the quotas and the lists stay, but that evaluations may be ready behind the others
-pub record IsRestKept (w x : World) : Type 0 where
+-- the quotas and the lists stay, but that new evaluations may be ready behind the others
+pub record IsRestKept (count : Name → ℕ) (w x : World) : Type 0 where
   pub quotas : x.quotas ≡ w.quotas
   pub plans : x.plans ≡ w.plans
   pub blocked : x.blocked ≡ w.blocked
   pub more : List Key
   pub ready : x.ready ≡ w.ready ++ more
+  pub new : (key : Key) → has_key more key ≡ true → IsNew (count key.0) (get w.tenants key.0) key.1
 
 abbrev pub RestStays : Type 0
-RestStays = (kept : Snapshot) (p : Plan) (w : World) (t : Tenant) → IsRestKept w (done kept p w t).world
+RestStays = (kept : Snapshot) (p : Plan) (w : World) (t : Tenant) →
+    IsRestKept (λ ns. length (losers_in kept p w t ns)) w (done kept p w t).world
 
 -- ---- the worker
 

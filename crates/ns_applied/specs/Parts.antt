@@ -1,5 +1,5 @@
 -- What an Apply does of a plan that stands, in words over the state before it. Here t is the snapshot's namespace.
-use Rattle.std.specs.Prelude.{◌≡◌, ◌≤◌, ◌<◌, ℕ, ◌+◌, ◌⊎◌, if◌then◌else◌, List, [], ◌++◌, None}
+use Rattle.std.specs.Prelude.{◌≡◌, ◌≤◌, ◌<◌, ℕ, ◌+◌, ◌⊎◌, if◌then◌else◌, List, [], ◌++◌, Option, Some, None}
 use Rattle.std.specs.Prelude.{filter, length}
 use Rattle.ns_types.specs.declared.allocation.Allocation.{Allocation}
 use Rattle.ns_types.specs.declared.allocation.DesiredStatus.TheVariants as DesiredStatus
@@ -69,6 +69,10 @@ doing kept p w t = record {
 -- none of as many numbers as follow the last one
 abbrev pub IsOutside : ℕ → ℕ → ℕ → Type 0
 IsOutside last count n = (n ≤ last) ⊎ (last + count < n)
+
+-- one of as many numbers as follow the last evaluation of a namespace that is there
+abbrev pub IsNew : ℕ → Option Tenant → ℕ → Type 0
+IsNew count found n = (u : Tenant) × (found ≡ Some u) × (u.evaluation_number < n) × (n ≤ u.evaluation_number + count)
 
 -- how many allocations a namespace gets
 abbrev pub placed_in : Snapshot → Plan → World → Tenant → Name → ℕ

@@ -79,7 +79,7 @@ pub fn places_counted()
     ensures { PlacesCounted }
 {}
 
-/// It leaves the quotas and the lists, but that evaluations may be ready behind the others.
+/// It leaves the quotas and the lists, but that new evaluations may be ready behind the others.
 pub fn rest_stays()
     ensures { RestStays }
 {}
