@@ -20,9 +20,14 @@ use Rattle.ns_types.specs.Placing.Plan.{candidate_of, opening, plan, placing_of,
 use Rattle.ns_types.specs.Placing.Planning.{Choice, Site, after, choice, ended_by_quota, place, placed_on, placement_of, then_rest, update, without_one}
 use Rattle.ns_types.specs.Placing.Preemption.{best_victims, cheaper, victims}
 use Rattle.ns_types.specs.Placing.Wanted.{demands, stopping}
+use Rattle.ns_types.specs.State.Names.{Name}
 use Rattle.ns_types.specs.State.Resources.{limits_allow, plus}
+use Rattle.ns_types.specs.State.Rows.{Tenant, World}
+use Rattle.ns_types.specs.Validity.{IsSoundSnapshot}
+use Rattle.ns_types.specs.Working.Worker.{Worker}
 use Rattle.ns_types.proofs.Tests.{not_Some, same_Some}
 use Rattle.ns_plan.specs.Laws.{KeptIsOnFewNodes}
+use Rattle.ns_plan.specs.Looks.{IsOnFewNodes}
 
 -- ---- the choice
 
@@ -76,11 +81,15 @@ placing_inside kept None stops = All-nil (λ (p : Placement). p.node < length ke
 placing_inside kept (Some j) stops = placed_inside (quota_of kept) (length kept.nodes) (demands (Some j) kept.own) (opening kept j stops)
     (length-map kept.nodes (candidate_of j kept.namespace stops))
 
-pub kept_is_on_few_nodes : KeptIsOnFewNodes
+pub sound_is_on_few_nodes : (w : World) (ns : Name) (t : Tenant) (worker : Worker) (kept : Snapshot) → IsSoundSnapshot w ns t worker kept →
+    IsOnFewNodes kept (plan kept)
 unfolding plan
-kept_is_on_few_nodes s ns t number worker kept valid is_tenant is_worker is_kept =
-    let sound = ((valid.world.tenant ns t is_tenant).worker number worker is_worker).snapshot kept is_kept in record {
-      few = sound.countable.few_nodes;
-      once = sound.nodes_once;
-      inside = placing_inside kept kept.job (stopping kept.job kept.own);
-    }
+sound_is_on_few_nodes w ns t worker kept sound = record {
+  few = sound.countable.few_nodes;
+  once = sound.nodes_once;
+  inside = placing_inside kept kept.job (stopping kept.job kept.own);
+}
+
+pub kept_is_on_few_nodes : KeptIsOnFewNodes
+kept_is_on_few_nodes s ns t number worker kept valid is_tenant is_worker is_kept = sound_is_on_few_nodes s.world ns t worker kept
+    (((valid.world.tenant ns t is_tenant).worker number worker is_worker).snapshot kept is_kept)
