@@ -66,7 +66,7 @@ fn add_victims<'a>(
 /// The evictions of the nodes that do their part, of those that count as the change leaves their allocations: in the
 /// plan's order, and an allocation may be named twice. It costs a look-up for each eviction of these nodes; whether a
 /// placement's node does its part, a walk over these nodes.
-pub fn victims<'a>(
+pub(crate) fn victims<'a>(
     committed: &Committed<'a>,
     change: &Change,
 ) -> Result<Vec<&'a Eviction>, AllocError>
@@ -92,7 +92,11 @@ pub fn victims<'a>(
 }
 
 /// Evicts the allocations that the evictions name, of those that are there. Each costs a look-up and the copy of a row.
-pub fn evict(tables: &Tables, change: &mut Change, victims: &[&Eviction]) -> Result<(), AllocError>
+pub(crate) fn evict(
+    tables: &Tables,
+    change: &mut Change,
+    victims: &[&Eviction],
+) -> Result<(), AllocError>
     ensures { Does result tables.now change.old change.new
         (λ w. evict_all w (map (λ e. e.now) victims.now)) }
 {

@@ -16,7 +16,7 @@ use ns_types::text::Text;
 use ns_world::{Tables, TenantRows};
 use std::alloc::AllocError;
 
-fn is_live(tenant: &TenantRows, number: u64) -> bool
+pub(crate) fn is_live(tenant: &TenantRows, number: u64) -> bool
     ensures { result ≡ option_map_or is_live (get (tenant_of tenant.now).allocations number) false }
 {
     match tenant.allocations.get(number) {
@@ -46,7 +46,7 @@ fn stop_in(
 
 /// Stops each allocation that the plan stops and that is live in the tables. Each stop costs a look-up, and one that is
 /// live the copy of its row.
-pub fn stop(committed: &Committed, change: &mut Change) -> Result<(), AllocError>
+pub(crate) fn stop(committed: &Committed, change: &mut Change) -> Result<(), AllocError>
     ensures { let kept = committed.now.snapshot.now in
         let w = world_of committed.now.tables.now in
         (t : Tenant) → get w.tenants kept.namespace ≡ Some t →

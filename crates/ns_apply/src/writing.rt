@@ -39,7 +39,7 @@ fn clear<'a>(
 
 /// Writes all that is done of a plan that stands, into a change of nothing: the live stops, the victims of the nodes that
 /// do their part, what is placed on them, and an evaluation of each job that loses an allocation by preemption.
-pub fn write(
+pub(crate) fn write(
     committed: &Committed,
     change: &mut Change,
     tenant: &TenantRows,
