@@ -106,7 +106,7 @@ module _ {A : Type 0} (same : A → A → Bool) (turned : (a b : A) → same a b
 
 -- ---- victims
 
-alike_victims : (a b c : Victim) → same_victim_job a b ≡ true → same_victim_job a c ≡ same_victim_job b c
+pub alike_victims : (a b c : Victim) → same_victim_job a b ≡ true → same_victim_job a c ≡ same_victim_job b c
 alike_victims a b c e = λ i. same_name (same_name_is a.0 b.0 (first_of_both _ _ e) i) c.0
     && same_name (same_name_is a.1.1.job b.1.1.job (second_of_both _ _ e) i) c.1.1.job
 

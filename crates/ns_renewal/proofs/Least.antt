@@ -39,7 +39,7 @@ lesser_assoc (Some m) (Some n) (Some k) = ap Some (let e : min (min m n) k ≡ m
 
 -- ---- the least of a job's victims
 
-least_first : (v : Victim) (vs : List Victim) (ns job : Name) → least_of (v ∷ vs) ns job ≡ lesser (least_of (v ∷ []) ns job) (least_of vs ns job)
+pub least_first : (v : Victim) (vs : List Victim) (ns job : Name) → least_of (v ∷ vs) ns job ≡ lesser (least_of (v ∷ []) ns job) (least_of vs ns job)
 least_first v vs ns job = by (is_of_job ns job v)
   where
     by : (b : Bool) → least (map (λ (v : Victim). v.1.0) (cond b (v ∷ filter (is_of_job ns job) vs) (filter (is_of_job ns job) vs)))

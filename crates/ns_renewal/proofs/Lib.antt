@@ -3,3 +3,5 @@ pub mod Least
 pub mod Made
 pub mod MadeUp
 pub mod Numbered
+pub mod Repeated
+pub mod Stopped

@@ -10,7 +10,7 @@ mod numbers;
 mod renewing;
 
 pub use evictions::Evictions;
-pub use laws::numbers_suffice;
+pub use laws::{numbers_suffice, once_is_enough, once_needs_no_more, rows_before_stops};
 pub use making::make_up;
 pub use numbers::numbers_pass;
 pub use renewing::renew_each;
