@@ -11,7 +11,7 @@ use Rattle.ns_types.specs.Within.{IsGoodStep}
 use Rattle.ns_audit.proofs.Valid.{valid_step}
 use Rattle.ns_jobs.specs.Counted.{HasFewVersionsIn}
 use Rattle.ns_types.specs.Validity.{IsValid}
-use Rattle.ns_core.specs.Working.{HandsIn}
+use Rattle.ns_core.specs.Working.{FinishesBy, HandsIn}
 
 module _ (step : Step) (s s' : State) (good : IsGoodStep step) (valid : IsValid s) where
   pub keeps : (answer : Answer) → Makes step s answer s' → IsValid s'
@@ -20,12 +20,18 @@ module _ (step : Step) (s s' : State) (good : IsGoodStep step) (valid : IsValid 
   keeps (Err Refusal.NotEnabled) made = subst IsValid (sym made.1) valid
   keeps (Err refusal) made = subst IsValid (sym made.1) valid
 
--- a plan that is handed in
+-- a plan that is handed in, and a finish by one
 module _ (worker : ℕ) (ns : Name) (planned : Snapshot) (s s' : State) (valid : IsValid s) where
   pub keeps_valid : (answer : Answer) → HandsIn worker ns planned s answer s' → IsValid s'
   keeps_valid (Ok reply) h = keeps (Step.Submit worker ns) s s' tt valid (Ok reply) h.1
   keeps_valid (Err Refusal.Memory) h = subst IsValid (sym h.1.1) valid
   keeps_valid (Err refusal) h = subst IsValid (sym h.1) valid
+
+  pub finish_keeps_valid : (answer : Answer) → FinishesBy worker ns planned s answer s' → IsValid s'
+  finish_keeps_valid (Ok reply) h = keeps (Step.Finish worker ns) s s' tt valid (Ok reply) h.1
+  finish_keeps_valid (Err Refusal.Memory) h = subst IsValid (sym h.1.1) valid
+  finish_keeps_valid (Err Refusal.Full) h = subst IsValid (sym h.1.1) valid
+  finish_keeps_valid (Err refusal) h = subst IsValid (sym h.1) valid
 
 -- ---- what it says
 

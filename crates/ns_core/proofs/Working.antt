@@ -20,12 +20,15 @@ use Rattle.ns_broker.proofs.Making.{dequeue_does, dequeue_refuses, nack_does, na
 use Rattle.ns_broker.proofs.Making.{submit_does, submit_refuses}
 use Rattle.ns_broker.proofs.Snaps.{snap_answers, snap_settles}
 use Rattle.ns_broker.proofs.Submitted.{has_work}
+use Rattle.ns_finish.specs.Finishing.{Finishes, HasPendingWork}
+use Rattle.ns_finish.proofs.Answered.{pending_there}
+use Rattle.ns_finish.proofs.Making.{finish_does, finish_refuses}
 use Rattle.ns_core.specs.declared.parts.Parts.{Parts}
 use Rattle.ns_core.specs.Answering.{MakesStep, PreparesStep}
 use Rattle.ns_types.specs.Validity.{IsValid}
 use Rattle.ns_types.specs.Settling.Outcome.{is_done}
 use Rattle.ns_types.proofs.Lists.{not_both}
-use Rattle.ns_core.specs.Working.{HandsIn}
+use Rattle.ns_core.specs.Working.{FinishesBy, HandsIn}
 use Rattle.ns_core.specs.Viewed.{state_of, world_of}
 use Rattle.ns_core.proofs.Keeping.{within}
 use Rattle.ns_core.proofs.Making.{made_of}
@@ -95,3 +98,31 @@ module _ (parts : Parts) (valid : IsValid (state_of parts)) (worker : ℕ) (ns :
       handed_in s (Err Refusal.Memory) made = (submits.0, made)
       handed_in s (Err Refusal.NotEnabled) made = not_both goes_through (ap is_made made.0)
       handed_in s (Err refusal) made = not_both goes_through (ap is_made made.0)
+
+  -- ---- a worker that finishes its evaluation
+
+  pub has_pending_work_there : HasPendingWork (world_of parts) worker ns
+  has_pending_work_there = pending_there (world_of parts) valid.world worker ns
+
+  module _ (planned : Snapshot) where
+    pub not_finished : (refusal : Refusal) → Finishes worker ns planned parts.tables (Err refusal) →
+        FinishesBy worker ns planned (state_of parts) (Err refusal) (state_of parts)
+    not_finished Refusal.Memory h = (h.0, finish_refuses worker ns (state_of parts) parts.tables Refusal.Memory h.1)
+    not_finished Refusal.Full h = (h.0, finish_refuses worker ns (state_of parts) parts.tables Refusal.Full h.1)
+    not_finished refusal h = (h, refl)
+
+    module _ (x : Prepared) (finishes : Finishes worker ns planned parts.tables (Ok x)) where
+      pub finish_prepares : PreparesStep (Step.Finish worker ns) parts (Ok x)
+      finish_prepares = finish_does worker ns (state_of parts) parts.tables x finishes.1
+
+      finish_goes_through : is_made (after (Step.Finish worker ns) (state_of parts)) ≡ true
+      finish_goes_through = (finish_refuses worker ns (state_of parts) parts.tables Refusal.Memory (ap is_done finishes.1)).0
+
+      -- what is prepared is made, but for want of memory
+      pub finished_by : (s : State) (answer : Answer) → Makes (Step.Finish worker ns) (state_of parts) answer s →
+          FinishesBy worker ns planned (state_of parts) answer s
+      finished_by s (Ok reply) made = (finishes.0, made)
+      finished_by s (Err Refusal.Memory) made = (finishes.0, made)
+      finished_by s (Err Refusal.Full) made = (finishes.0, made)
+      finished_by s (Err Refusal.NotEnabled) made = not_both finish_goes_through (ap is_made made.0)
+      finished_by s (Err refusal) made = not_both finish_goes_through (ap is_made made.0)

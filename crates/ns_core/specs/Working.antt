@@ -7,7 +7,7 @@ use Rattle.ns_types.specs.declared.step.Step.{Step}
 use Rattle.ns_types.specs.State.Names.{Name}
 use Rattle.ns_types.specs.State.Rows.{State}
 use Rattle.ns_types.specs.Steps.{Answer, Makes, index_shown, is_allowed}
-use Rattle.ns_types.specs.Working.Looks.{RefusesPlan}
+use Rattle.ns_types.specs.Working.Looks.{RefusesFinish, RefusesPlan}
 use Rattle.ns_broker.specs.Snapping.{kept_at}
 use Rattle.ns_change.specs.declared.change.Prepared.{Prepared}
 use Rattle.ns_core.specs.declared.parts.Parts.{Parts}
@@ -32,3 +32,15 @@ HandsIn worker ns planned s (Ok reply) s' =
 HandsIn worker ns planned s (Err Refusal.Memory) s' =
     (kept_at s.world worker ns ≡ Some planned) × Makes (Step.Submit worker ns) s (Err Refusal.Memory) s'
 HandsIn worker ns planned s (Err refusal) s' = RefusesPlan s.world worker ns planned refusal × (s' ≡ s)
+
+-- A finish by the plan of the snapshot that the worker keeps makes the model's step, or would pass a counter's bound. Any
+-- other, and one whose plan does something and was not handed in, is refused, and the state stays. Want of memory comes
+-- last, where the step would have been made.
+abbrev pub FinishesBy : ℕ → Name → Snapshot → State → Answer → State → Type 0
+FinishesBy worker ns planned s (Ok reply) s' =
+    (kept_at s.world worker ns ≡ Some planned) × Makes (Step.Finish worker ns) s (Ok reply) s'
+FinishesBy worker ns planned s (Err Refusal.Memory) s' =
+    (kept_at s.world worker ns ≡ Some planned) × Makes (Step.Finish worker ns) s (Err Refusal.Memory) s'
+FinishesBy worker ns planned s (Err Refusal.Full) s' =
+    (kept_at s.world worker ns ≡ Some planned) × Makes (Step.Finish worker ns) s (Err Refusal.Full) s'
+FinishesBy worker ns planned s (Err refusal) s' = RefusesFinish s.world worker ns planned refusal × (s' ≡ s)

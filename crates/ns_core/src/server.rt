@@ -6,7 +6,7 @@ ghost use Rattle.ns_types.specs.Steps.{Makes, opening};
 ghost use Rattle.ns_types.specs.Working.Looks.{first_plan, row_of, served_ready};
 ghost use Rattle.ns_broker.specs.Looking.{busy_of, busy_told};
 ghost use Rattle.ns_broker.specs.Snapping.{kept_at};
-ghost use Rattle.ns_core.specs.Working.{HandsIn, snapped};
+ghost use Rattle.ns_core.specs.Working.{FinishesBy, HandsIn, snapped};
 ghost use Rattle.ns_steps.specs.Served.{IsServedAsk, IsServedNode};
 
 use crate::parts::Parts;
@@ -134,6 +134,22 @@ impl Core {
     {
         let parts = &mut self.parts;
         parts.submit(worker, namespace, planned)
+    }
+
+    /// Makes the step in which a worker finishes its evaluation, by the plan of its snapshot. The reply says the status that
+    /// the evaluation has then, and the number of its follower. `NotEnabled`: the worker has no evaluation of the namespace,
+    /// or is not at its end. Then `Foreign`: the plan is of another snapshot than its row keeps. Then `NotEnabled`: the plan
+    /// does something and was not handed in. Then `Full`: the namespace has no index left, or no number for a follower.
+    pub fn finish(
+        &mut self,
+        worker: u64,
+        namespace: &Text,
+        planned: &Planned,
+    ) -> Result<Reply, Refusal>
+        ensures { FinishesBy worker namespace.now planned.now self.old result self.new }
+    {
+        let parts = &mut self.parts;
+        parts.finish(worker, namespace, planned)
     }
 
     /// Makes the step in which a worker gives its evaluation of the namespace back. The reply says its status then.

@@ -7,11 +7,12 @@ ghost use Rattle.ns_core.specs.Answering.{MakesStep};
 ghost use Rattle.ns_types.specs.Validity.{IsValid};
 ghost use Rattle.ns_core.specs.Held.{IsIndexed, IsKept};
 ghost use Rattle.ns_core.specs.Viewed.{state_of, world_of};
-ghost use Rattle.ns_core.specs.Working.{HandsIn, MakesWork, snapped};
+ghost use Rattle.ns_core.specs.Working.{FinishesBy, HandsIn, MakesWork, snapped};
 
 use crate::parts::{Parts, plain};
 use ns_broker::{Snapped, dequeue, nack, snap, submit};
 use ns_change::Prepared;
+use ns_finish::finish;
 use ns_types::planned::Planned;
 use ns_types::refusal::Refusal;
 use ns_types::reply::Reply;
@@ -74,6 +75,22 @@ impl Parts {
         ensures index { IsIndexed self.old → IsIndexed self.new }
     {
         let prepared = submit(&self.tables, worker, namespace, planned)?;
+        self.work(Ok(prepared))
+    }
+
+    /// Makes the step in which a worker finishes its evaluation, or leaves the state as it is.
+    pub fn finish(
+        &mut self,
+        worker: u64,
+        namespace: &Text,
+        planned: &Planned,
+    ) -> Result<Reply, Refusal>
+        requires { IsValid (state_of self.old) }
+        ensures made { FinishesBy worker namespace.now planned.now
+            (state_of self.old) result (state_of self.new) }
+        ensures index { IsIndexed self.old → IsIndexed self.new }
+    {
+        let prepared = finish(&self.tables, worker, namespace, planned)?;
         self.work(Ok(prepared))
     }
 
