@@ -72,10 +72,12 @@ module _ (w : World) (within : is_past_bound w ≡ false) (kept : Snapshot) (d :
 
   one_namespace : (ns : Name) (t : Tenant) → get w.tenants ns ≡ Some t →
       (nat_lt greatest (t.evaluation_number + losing_in ns d.victims)
-      || nat_lt greatest (t.allocation_number + (if is_own ns then length d.placed else 0)) || (is_at_bound t.index && ((is_own ns && does_something d) || has_victim ns)))
+      || nat_lt greatest (t.allocation_number + (if is_own ns then length d.placed else 0))
+      || (is_at_bound t.index && ((is_own ns && does_something d) || has_victim ns)))
       ≡ ((nat_lt greatest (t.evaluation_number + losing_in ns d.victims) || (is_own ns && own_passes_in d t)) || (has_victim ns && is_at_bound t.index))
   one_namespace ns t is = ap (λ b. nat_lt greatest (t.evaluation_number + losing_in ns d.victims) || b
-      || (is_at_bound t.index && ((is_own ns && does_something d) || has_victim ns))) (no_more (is_own ns) t.allocation_number (length d.placed) (number_within ns t is))
+      || (is_at_bound t.index && ((is_own ns && does_something d)
+      || has_victim ns))) (no_more (is_own ns) t.allocation_number (length d.placed) (number_within ns t is))
       ∙ by (nat_lt greatest (t.evaluation_number + losing_in ns d.victims)) (is_own ns) (own_number t) (is_at_bound t.index) (does_something d) (has_victim ns)
     where
       by : (e o n i s v : Bool) → (e || (o && n) || (i && ((o && s) || v))) ≡ ((e || (o && (n || (i && s)))) || (v && i))
@@ -94,9 +96,12 @@ module _ (w : World) (within : is_past_bound w ≡ false) (kept : Snapshot) (d :
   namespaces_are : raises_pass w (apply_raise kept d)
       ≡ ((evaluations_pass w d.victims || own_passes w kept.namespace d) || list_any (λ v. is_last_index w v.0) d.victims)
   namespaces_are = any_row-alike names one_name _
-      (λ ns t. (nat_lt greatest (t.evaluation_number + losing_in ns d.victims) || (is_own ns && own_passes_in d t)) || (has_victim ns && is_at_bound t.index)) w.tenants one_namespace
-      ∙ any_row-either (λ ns t. nat_lt greatest (t.evaluation_number + losing_in ns d.victims) || (is_own ns && own_passes_in d t)) (λ ns t. has_victim ns && is_at_bound t.index) w.tenants
-      ∙ (λ i. any_row-either (λ ns t. nat_lt greatest (t.evaluation_number + losing_in ns d.victims)) (λ ns t. is_own ns && own_passes_in d t) w.tenants i || victims i)
+      (λ ns t. (nat_lt greatest (t.evaluation_number + losing_in ns d.victims) || (is_own ns && own_passes_in d t))
+      || (has_victim ns && is_at_bound t.index)) w.tenants one_namespace
+      ∙ any_row-either (λ ns t. nat_lt greatest (t.evaluation_number + losing_in ns d.victims)
+      || (is_own ns && own_passes_in d t)) (λ ns t. has_victim ns && is_at_bound t.index) w.tenants
+      ∙ (λ i. any_row-either (λ ns t. nat_lt greatest (t.evaluation_number + losing_in ns d.victims)) (λ ns t. is_own ns
+      && own_passes_in d t) w.tenants i || victims i)
       ∙ ap (λ b. (evaluations_pass w d.victims || b) || list_any (λ v. is_last_index w v.0) d.victims) (at_owner kept.namespace (own_passes_in d) w.tenants)
     where
       victims : any_row (λ ns t. has_victim ns && is_at_bound t.index) w.tenants ≡ list_any (λ v. is_last_index w v.0) d.victims
@@ -106,7 +111,8 @@ module _ (w : World) (within : is_past_bound w ≡ false) (kept : Snapshot) (d :
 
   -- ---- nodes
 
-  pub place_within : (pool : Name) (p : PoolRows) → get w.pools pool ≡ Some p → (name : Name) (node : Node) → get p.nodes name ≡ Some node → nat_lt greatest node.places ≡ false
+  pub place_within : (pool : Name) (p : PoolRows) → get w.pools pool ≡ Some p → (name : Name) (node : Node) → get p.nodes name ≡ Some node →
+      nat_lt greatest node.places ≡ false
   unfolding is_past_bound
   place_within pool p is name node at = none_of_any one_name (λ _ node. nat_lt greatest node.places) p.nodes name node
       (right_none (nat_lt greatest p.release) _ (none_of_any one_name (λ _ p. is_pool_past_bound p) w.pools pool p
@@ -132,7 +138,8 @@ module _ (w : World) (within : is_past_bound w ≡ false) (kept : Snapshot) (d :
           ∙ empty_filter xs (right_none (goes_to kept pool name x) _ e)
 
       by : (xs : List Placement) (b : Bool) → list_any (goes_to kept pool name) xs ≡ b →
-          nat_lt greatest (node.places + length (filter (goes_to kept pool name) xs)) ≡ (b && nat_lt greatest (node.places + length (filter (goes_to kept pool name) xs)))
+          nat_lt greatest (node.places + length (filter (goes_to kept pool name) xs))
+          ≡ (b && nat_lt greatest (node.places + length (filter (goes_to kept pool name) xs)))
       by xs true e = refl
       by xs false e = ap (λ l. nat_lt greatest (node.places + length l)) (empty_filter xs e) ∙ ap (nat_lt greatest) same ∙ none
 
@@ -140,7 +147,8 @@ module _ (w : World) (within : is_past_bound w ≡ false) (kept : Snapshot) (d :
   past_at pool p o = option_map_or (λ node. same_name pool kept.pool && past_on pool (name_of p) node) o false
 
   one_pool : (pool : Name) (p : PoolRows) → get w.pools pool ≡ Some p →
-      any_row (past_on pool) p.nodes ≡ list_any (λ q. same_name pool kept.pool && option_map_or (past_on pool (name_of q)) (get p.nodes (name_of q)) false) d.placed
+      any_row (past_on pool) p.nodes
+      ≡ list_any (λ q. same_name pool kept.pool && option_map_or (past_on pool (name_of q)) (get p.nodes (name_of q)) false) d.placed
   one_pool pool p is = any_row-alike names one_name (past_on pool)
       (λ name node. list_any (λ q. same_name name (name_of q) && (same_name pool kept.pool && past_on pool name node)) d.placed) p.nodes
       (λ name node at. one_node pool name node (place_within pool p is name node at) ∙ any_with (goes_to kept pool name) (past_on pool name node) d.placed
@@ -173,7 +181,8 @@ module _ (w : World) (within : is_past_bound w ≡ false) (kept : Snapshot) (d :
 pub apply_pass : PassesByApply
 apply_pass w x kept d within only raises = counts_pass w x (ended_keys kept d) (apply_raise kept d) (places_on kept d.placed) within only raises
     ∙ (λ i. namespaces_are w within kept d i || nodes_are w within kept d i || ends_are w within kept d i)
-    ∙ turned (evaluations_pass w d.victims || own_passes w kept.namespace d) (list_any (λ v. is_last_index w v.0) d.victims) (list_any (place_passes w kept d.placed) d.placed)
+    ∙ turned (evaluations_pass w d.victims
+    || own_passes w kept.namespace d) (list_any (λ v. is_last_index w v.0) d.victims) (list_any (place_passes w kept d.placed) d.placed)
     (list_any (stop_passes w kept.namespace) d.stops) (list_any (λ v. end_passes w w (victim_key v)) d.victims)
     ∙ ap (λ b. evaluations_pass w d.victims || own_passes w kept.namespace d || list_any (place_passes w kept d.placed) d.placed
     || list_any (stop_passes w kept.namespace) d.stops || b)

@@ -70,7 +70,8 @@ pub own_is : (w : World) (ns : Name) (count : ℕ) (does : Bool) → (allocation
     ≡ option_map_or (λ t. nat_lt greatest (t.allocation_number + count) || (is_at_bound t.index && does)) (get w.tenants ns) false
 own_is w ns count does = by (get w.tenants ns)
   where
-    by : (o : Option Tenant) → (option_map_or (λ t. nat_lt greatest (t.allocation_number + count)) o false || (option_map_or (λ t. is_at_bound t.index) o false && does))
+    by : (o : Option Tenant) →
+        (option_map_or (λ t. nat_lt greatest (t.allocation_number + count)) o false || (option_map_or (λ t. is_at_bound t.index) o false && does))
         ≡ option_map_or (λ t. nat_lt greatest (t.allocation_number + count) || (is_at_bound t.index && does)) o false
     by None = refl
     by (Some t) = refl

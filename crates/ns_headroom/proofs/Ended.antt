@@ -1,5 +1,6 @@
 -- What such a step releases, and whom that wakes, said by the allocations that end.
-use Rattle.std.specs.Prelude.{◌≡◌, ℕ, Bool, true, false, not, ◌&&◌, ◌||◌, if◌then◌else◌, List, [], ◌∷◌, Option, Some, None, filter, flat_map, is_some, option_map}
+use Rattle.std.specs.Prelude.{◌≡◌, ℕ, Bool, true, false, not, ◌&&◌, ◌||◌, if◌then◌else◌, List, [], ◌∷◌, Option, Some, None, filter, flat_map, is_some}
+use Rattle.std.specs.Prelude.{option_map}
 use Rattle.std.proofs.Common.{refl, sym, ap, ◌∙◌}
 use Rattle.std.specs.Option.{option_and_then, option_map_or}
 use Rattle.std.specs.List.{list_any}
@@ -89,7 +90,8 @@ module _ (w x : World) (keys : List Key) (only : EndsAlone w x keys) where
       of t (Some a) = refl
 
       by : (k : Key) (o : Option Tenant) → option_map_or (λ t. passes_at t k) o false
-          ≡ option_map_or (λ (e : Namespace × Allocation). passes e.0 e.1) (option_and_then (λ t. option_map (λ a. (t.namespace, a)) (get t.allocations k.1)) o) false
+          ≡ option_map_or (λ (e : Namespace × Allocation). passes e.0 e.1) (option_and_then (λ t. option_map
+          (λ a. (t.namespace, a)) (get t.allocations k.1)) o) false
       by k None = refl
       by k (Some t) = of t (get t.allocations k.1)
 
@@ -201,7 +203,8 @@ module _ (w x : World) (keys : List Key) (only : EndsAlone w x keys) where
           ∙ any_swap (λ (e : Name × Node) key. at_key w (is_on name e.0) key && serves e.1) (entries p.nodes) keys
           ∙ any_same _ (left_at (Some p)) (λ key. by (told_at w key)) keys
         where
-          by : (o : Option (Namespace × Allocation)) → list_any (λ (e : Name × Node). option_map_or (λ a. is_on name e.0 a.0 a.1) o false && serves e.1) (entries p.nodes)
+          by : (o : Option (Namespace × Allocation)) →
+              list_any (λ (e : Name × Node). option_map_or (λ a. is_on name e.0 a.0 a.1) o false && serves e.1) (entries p.nodes)
               ≡ option_map_or (left_on (Some p)) o false
           by None = any_none (entries p.nodes)
           by (Some e) = on_node e
@@ -216,7 +219,8 @@ module _ (w x : World) (keys : List Key) (only : EndsAlone w x keys) where
         none None = refl
         none (Some e) = and_none (same_name name e.1.pool)
 
-        by : (o : Option PoolRows) → get x.pools name ≡ o → list_any passes (option_map_or (released_classes w x name) o []) ≡ list_any (at_room name passes) rooms
+        by : (o : Option PoolRows) → get x.pools name ≡ o →
+            list_any passes (option_map_or (released_classes w x name) o []) ≡ list_any (at_room name passes) rooms
         by (Some p) is = pool_is p is
         by None is = sym (in_rooms ∙ ap (λ pool. list_any (left_at pool) keys) is ∙ any_same _ (λ _. false) (λ key. none (told_at w key)) keys ∙ any_none keys)
 

@@ -2,6 +2,7 @@ pub mod Applied
 pub mod Counting
 pub mod Ended
 pub mod Keys
+pub mod Lost
 pub mod Numbered
 pub mod Parted
 pub mod Raised

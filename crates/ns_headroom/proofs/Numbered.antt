@@ -37,7 +37,8 @@ module _ (w x : World) (keys : List Key) (only : EndsAlone w x keys) where
   unfolding settle stamp number_releases
   quotas_then = ap (map_rows (λ name q. after_quota_release (releases_quota w x name q) q)) (wake_quotas (woken w x) x)
 
-  quota_past : (q : QuotaRows) → nat_lt greatest q.release ≡ false → (b : Bool) → nat_lt greatest (after_quota_release b q).release ≡ (b && is_at_bound q.release)
+  quota_past : (q : QuotaRows) → nat_lt greatest q.release ≡ false → (b : Bool) →
+      nat_lt greatest (after_quota_release b q).release ≡ (b && is_at_bound q.release)
   quota_past q within true = refl
   quota_past q within false = within
 

@@ -123,7 +123,8 @@ module _ (w x : World) (keys : List Key) (raise : Name → Raise) (places : Name
           ap (λ o. option_map_or (λ (node : Node). nat_lt greatest node.places) o false) (sym (ap (option_and_then (λ (p : PoolRows). get p.nodes name)) is)
           ∙ raises.nodes pool name)
           ∙ of (places pool name) (node_at w pool name)
-          ∙ ap (λ o. option_map_or (λ node. nat_lt greatest (node.places + places pool name)) (option_and_then (λ (p : PoolRows). get p.nodes name) o) false) at)
+          ∙ ap (λ o. option_map_or (λ node. nat_lt greatest (node.places + places pool name)) (option_and_then
+          (λ (p : PoolRows). get p.nodes name) o) false) at)
 
   -- ---- what ends
 

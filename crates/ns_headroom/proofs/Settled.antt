@@ -76,7 +76,8 @@ module _ (w x : World) (keys : List Key) (only : EndsAlone w x keys) where
   unfolding is_past_bound
   passes_are within = (λ i. tenants_within w x keys only (left_none _ _ (left_none _ _ within)) i
       || pools_within w x keys only (right_none (any_row (λ _ t. is_tenant_past_bound t) w.tenants) _ (left_none _ _ within)) i
-      || quotas_within w x keys only (right_none (any_row (λ _ t. is_tenant_past_bound t) w.tenants || any_row (λ _ p. is_pool_past_bound p) w.pools) _ within) i)
+      || quotas_within w x keys only (right_none (any_row (λ _ t. is_tenant_past_bound t) w.tenants
+      || any_row (λ _ p. is_pool_past_bound p) w.pools) _ within) i)
       ∙ turned (numbers_past x) (places_past x) (indexes_pass w x) wakings (list_any (room_passes w) (rooms w x keys only))
       (list_any (quota_passes w) (quotas w x keys only))
       ∙ ap (λ b. numbers_past x || places_past x || indexes_pass w x || b) (parted w (rooms w x keys only) (quotas w x keys only) ∙ ends_are)

@@ -39,7 +39,8 @@ ended_shown a b live dead = by (same_allocation a b) refl
         let desired = first_of_both _ (same_name (client_text a.client) (client_text b.client)) is in
         let same_desired = same_name_is (desired_text a.desired) (desired_text b.desired)
         (second_of_both _ (same_name (desired_text a.desired) (desired_text b.desired)) desired) in
-        let same_client = same_name_is (client_text a.client) (client_text b.client) (second_of_both _ (same_name (client_text a.client) (client_text b.client)) is) in
+        let same_client = same_name_is (client_text a.client) (client_text b.client) (second_of_both _ (same_name (client_text a.client)
+        (client_text b.client)) is) in
         let runs : is_run a.desired ≡ is_run b.desired = run_is a.desired ∙ ap (λ t. same_name t (codes "run")) same_desired ∙ sym (run_is b.desired) in
         let holds : is_held a.client ≡ is_held b.client = held_is a.client
         ∙ ap (λ t. same_name t (codes "pending") || same_name t (codes "running")) same_client ∙ sym (held_is b.client) in
@@ -49,7 +50,8 @@ ended_shown a b live dead = by (same_allocation a b) refl
 
 module _ (t u : Tenant) (n : ℕ) (b : Allocation) (there : get u.allocations n ≡ Some b) where
   by_row : changes_allocation t n b ≡ true → is_touched t u ≡ true
-  by_row changed = last (any_row (λ id _. changes_job t u id) u.jobs || any_row (λ id _. changes_job t u id) t.jobs || any_row (changes_evaluation t) u.evaluations) _
+  by_row changed = last (any_row (λ id _. changes_job t u id) u.jobs || any_row (λ id _. changes_job t u id) t.jobs
+      || any_row (changes_evaluation t) u.evaluations) _
       (some_row numbers one_number (changes_allocation t) u.allocations n b there changed)
     where
       last : (p q : Bool) → q ≡ true → (p || q) ≡ true

@@ -37,7 +37,8 @@ use Rattle.ns_headroom.proofs.Keys.{any_members, any_row-keys}
 
 module _ (t u : Tenant) where
   -- its next index, where rows of it were touched
-  stamped_past : nat_lt greatest u.index ≡ false → is_tenant_past_bound (stamp_tenant (Some t) u) ≡ (is_number_past u || (is_at_bound t.index && is_touched t u))
+  stamped_past : nat_lt greatest u.index ≡ false →
+      is_tenant_past_bound (stamp_tenant (Some t) u) ≡ (is_number_past u || (is_at_bound t.index && is_touched t u))
   unfolding stamp_tenant
   stamped_past within = by (is_touched t u)
     where

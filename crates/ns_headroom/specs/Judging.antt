@@ -1,16 +1,19 @@
 -- How an Apply is judged before anything is written.
-use Rattle.std.specs.Prelude.{ℕ, ◌+◌, Bool, false, ◌||◌, List, filter, nat_lt}
+use Rattle.std.specs.Prelude.{ℕ, ◌+◌, Bool, false, ◌&&◌, ◌||◌, List, filter, nat_lt}
 use Rattle.std.specs.Option.{option_map_or}
 use Rattle.std.specs.List.{list_any}
 use Rattle.std.specs.FinMap.{get}
+use Rattle.ns_types.specs.declared.plan.Eviction.{Eviction}
 use Rattle.ns_types.specs.declared.plan.Placement.{Placement}
 use Rattle.ns_types.specs.declared.plan.Plan.{Plan}
 use Rattle.ns_types.specs.declared.snapshot.Snapshot.{Snapshot}
 use Rattle.ns_types.specs.State.Names.{Name, has_number}
 use Rattle.ns_types.specs.State.Rows.{World, node_at}
 use Rattle.ns_types.specs.Steps.{greatest}
-use Rattle.ns_types.specs.Working.Commit.{evicted_rows, node_name, stop_all}
+use Rattle.ns_types.specs.Working.Commit.{counts, evicted_rows, node_name, stop_all}
 use Rattle.ns_headroom.specs.Applying.{Doing, is_last_index, own_passes, place_passes, place_passes_on, stop_passes}
+use Rattle.ns_headroom.specs.Applying.{victim_passes}
+use Rattle.ns_headroom.specs.Passing.{end_passes}
 use Rattle.ns_headroom.specs.Releasing.{lives_at}
 
 -- the index of a namespace with a blocked evaluation is at its bound
@@ -48,6 +51,19 @@ doing w kept p committed =
 abbrev pub committed_passes : World → Snapshot → List Placement → ℕ → Bool
 committed_passes w kept placed k = option_map_or (place_passes_on kept placed (node_name kept k))
     (node_at w kept.pool (node_name kept k)) false
+
+-- an eviction that counts passes, or the index of its namespace
+abbrev pub eviction_passes : World → Eviction → Bool
+eviction_passes w e = is_last_index w e.namespace || end_passes w w (e.namespace, e.number)
+
+-- some eviction counts on the node at that place of the snapshot after the stops, and passes
+abbrev pub evictions_pass_at : World → World → Snapshot → ℕ → List Eviction → Bool
+evictions_pass_at w stopped kept k evictions =
+    list_any (λ e. eviction_passes w e && counts stopped kept.pool (node_name kept k) e) evictions
+
+-- what it evicts passes a bound, be it that of the index of the namespace that loses the allocation
+abbrev pub lost_part_passes : World → Snapshot → Plan → List ℕ → Bool
+lost_part_passes w kept p committed = list_any (victim_passes w) (doing w kept p committed).victims
 
 -- what it places and stops passes a bound, be it that of its own namespace's index
 abbrev pub own_part_passes : World → Snapshot → Plan → List ℕ → Bool

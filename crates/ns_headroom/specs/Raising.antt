@@ -29,8 +29,10 @@ with_places count node = record node { places = node.places + count }
 
 -- the step led from w to x: each namespace got that, and each node so many places and nothing else
 pub record Raises (w x : World) (raise : Name → Raise) (places : Name → Name → ℕ) : Type 0 where
-  pub tenants : (ns : Name) (t u : Tenant) → get w.tenants ns ≡ Some t → get x.tenants ns ≡ Some u → IsRaised (raise ns) t u
-  pub nodes : (pool name : Name) → node_at x pool name ≡ option_map (with_places (places pool name)) (node_at w pool name)
+  pub tenants : (ns : Name) (t u : Tenant) → get w.tenants ns ≡ Some t → get x.tenants ns ≡ Some u →
+      IsRaised (raise ns) t u
+  pub nodes : (pool name : Name) →
+      node_at x pool name ≡ option_map (with_places (places pool name)) (node_at w pool name)
 
 -- ---- counters
 

@@ -6,7 +6,8 @@ ghost use Rattle.ns_types.specs.State.Names.{has_number, same_name};
 ghost use Rattle.ns_types.specs.Steps.{is_past_bound};
 ghost use Rattle.ns_types.specs.Working.Commit.{node_name};
 ghost use Rattle.ns_headroom.specs.Applying.{does_something, own_passes, place_passes, stop_passes};
-ghost use Rattle.ns_headroom.specs.Judging.{allocations_pass, committed_passes, doing, live_numbers, own_part_passes, placed_on};
+ghost use Rattle.ns_headroom.specs.Judging.{allocations_pass, committed_passes, doing, live_numbers};
+ghost use Rattle.ns_headroom.specs.Judging.{own_part_passes, placed_on};
 ghost use Rattle.ns_headroom.specs.Releasing.{lives_at};
 
 use crate::ending::Headroom;
@@ -15,7 +16,7 @@ use ns_types::snapshot::Snapshot;
 use ns_types::text::{Text, same_text};
 
 #[tactic(auto, using(ns_types::proofs::Named::number_ties))]
-fn has_number(numbers: &[u64], number: u64) -> bool
+pub(crate) fn has_number(numbers: &[u64], number: u64) -> bool
     ensures { result ≡ has_number numbers.now number }
 {
     numbers.iter().any(|n| number == *n)

@@ -9,7 +9,7 @@ ghost use Rattle.ns_types.specs.Working.Commit.{quota_named};
 ghost use Rattle.ns_bounds.specs.Bounds.{is_at_bound, quota_passes, room_passes};
 ghost use Rattle.ns_bounds.specs.Given.{given_limits_pass, given_room_passes};
 ghost use Rattle.ns_headroom.specs.Applying.{is_last_index};
-ghost use Rattle.ns_headroom.specs.Judging.{allocations_pass, any_last_index, node_passes};
+ghost use Rattle.ns_headroom.specs.Judging.{allocations_pass, any_last_index, eviction_passes, node_passes};
 ghost use Rattle.ns_headroom.specs.Passing.{end_passes, left_quota_passes, left_room_passes};
 ghost use Rattle.ns_headroom.specs.Releasing.{lives_at};
 ghost use Rattle.ns_world.specs.World.{world_of};
@@ -19,6 +19,7 @@ use ns_bounds::{given_limits_pass, given_room_passes};
 use ns_types::allocation::Allocation;
 use ns_types::key::EvalKey;
 use ns_types::node::{Node, Offer};
+use ns_types::plan::Eviction;
 use ns_types::text::Text;
 use ns_world::Tables;
 use std::marker::Model;
@@ -118,8 +119,8 @@ fn quota_named<'a>(tables: &'a Tables, namespace: &Text) -> Option<&'a Text>
 /// The tables, as the counters that releases may pass are looked at. Contracts see the world.
 ///
 /// Where no blocked evaluation is of a namespace whose index is at its bound, none that wakes passes an index. That is
-/// looked at once, over all blocked evaluations. From then on a release costs a look-up, and only where there is such an
-/// evaluation a walk over the blocked ones.
+/// looked at once, over all blocked evaluations. From then on a release costs a look-up. Only where there is such an
+/// evaluation it costs a walk over the blocked ones.
 #[derive(Drop)]
 pub struct Headroom<'a> {
     tables: &'a Tables,
@@ -243,5 +244,13 @@ impl<'a> Headroom<'a> {
             Some(row) => self.left_room_passes(row) || self.left_quota_passes(namespace),
             None => false,
         }
+    }
+    /// Whether a counter passes its bound by the eviction, where that counts: by what the end of its allocation
+    /// releases, or the index of its namespace.
+    pub fn eviction_passes(&self, eviction: &Eviction) -> bool
+        ensures { result ≡ eviction_passes self.now eviction.now }
+    {
+        self.is_last_index(&eviction.namespace)
+            || self.end_passes(&eviction.namespace, eviction.number)
     }
 }
