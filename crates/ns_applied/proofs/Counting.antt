@@ -25,14 +25,15 @@ use Rattle.ns_types.proofs.Named.{names, one_name}
 use Rattle.ns_types.proofs.Tables.{get-map_rows}
 use Rattle.ns_types.proofs.Tests.{not_Some, same_Some}
 use Rattle.ns_headroom.specs.Applying.{apply_passes, apply_raise, ended_keys, places_on}
+use Rattle.ns_headroom.specs.Judging.{doing}
 use Rattle.ns_headroom.specs.Raising.{IsRaised, Raises, with_places}
 use Rattle.ns_headroom.specs.Releasing.{EndsAlone, ends_at, lives_at, opens, release_at}
 use Rattle.ns_headroom.proofs.Applied.{apply_pass}
 use Rattle.ns_applied.specs.Counters.{IsAtWork}
-use Rattle.ns_applied.specs.Parts.{applied_world, IsForJob, counted_rows, doing, ended, placed}
+use Rattle.ns_applied.specs.Parts.{IsForJob, applied_world, counted_rows, ended, placed}
 use Rattle.ns_applied.proofs.Ending.{allocations_end, ended_were_live, plan_is_for_job}
 use Rattle.ns_applied.proofs.Placing.{changed_keeps, get_changed, node_counted}
-use Rattle.ns_applied.proofs.Touching.{ended_are, touched_is}
+use Rattle.ns_applied.proofs.Touching.{doing_is, ended_are, its_doing, touched_is}
 use Rattle.ns_applied.proofs.Whole.{after, evaluations_stay, numbers_go_on, places_counted, rest_stays, tenant_after, tenants_after}
 
 -- a free node that has counted placements was free and offered the same before
@@ -98,7 +99,7 @@ module _ (kept : Snapshot) (p : Plan) (w : World) (t : Tenant) where
               ∙ opens_not (places_on kept (placed kept p w t) pool name) old)
 
       module _ (sound : IsSound w) (is : get w.tenants kept.namespace ≡ Some t) where
-        ended_is : (key : Key) → has_key (ended_keys kept (doing kept p w t)) key ≡ ends_at w x key
+        ended_is : (key : Key) → has_key (ended_keys kept (its_doing kept p w t)) key ≡ ends_at w x key
         ended_is key = ended_are kept p w t key ∙ row (allocation_at w key) refl (get w.tenants key.0) refl
             ∙ ap (λ b. lives_at w key && not b) (sym (lives_as key))
           where
@@ -133,7 +134,7 @@ module _ (kept : Snapshot) (p : Plan) (w : World) (t : Tenant) where
             by None = refl
             by (Some u) = refl
 
-        ends_alone : EndsAlone w x (ended_keys kept (doing kept p w t))
+        ends_alone : EndsAlone w x (ended_keys kept (its_doing kept p w t))
         ends_alone = record {
           ended = ended_is;
           indexes = index_then;
@@ -144,17 +145,17 @@ module _ (kept : Snapshot) (p : Plan) (w : World) (t : Tenant) where
           asleep = asleep;
         }
 
-        raised : (q : Name) (u v : Tenant) → get w.tenants q ≡ Some u → get x.tenants q ≡ Some v → IsRaised (apply_raise kept (doing kept p w t) q) u v
-        raised q u v at at_then = subst (IsRaised (apply_raise kept (doing kept p w t) q) u) (tenant_then q u v at at_then) (
+        raised : (q : Name) (u v : Tenant) → get w.tenants q ≡ Some u → get x.tenants q ≡ Some v → IsRaised (apply_raise kept (its_doing kept p w t) q) u v
+        raised q u v at at_then = subst (IsRaised (apply_raise kept (its_doing kept p w t) q) u) (tenant_then q u v at at_then) (
             let numbers = numbers_go_on kept p w t for_job q u (after kept p w t q u) at (tenant_after kept p w t q u at) in
             record { evaluations = numbers.1; allocations = numbers.0; touched = touched_is kept p w t sound is for_job q u at (left.workers q u) }
             )
 
-        raises : Raises w x (apply_raise kept (doing kept p w t)) (places_on kept (placed kept p w t))
+        raises : Raises w x (apply_raise kept (its_doing kept p w t)) (places_on kept (placed kept p w t))
         raises = record { tenants = raised; nodes = node_then }
 
-        passes : is_past_bound (settle w x) ≡ apply_passes w kept (doing kept p w t)
-        passes = apply_pass w x kept (doing kept p w t) sound.within ends_alone raises
+        passes : is_past_bound (settle w x) ≡ apply_passes w kept (its_doing kept p w t)
+        passes = apply_pass w x kept (its_doing kept p w t) sound.within ends_alone raises
 
   -- ---- with the worker's row
 
@@ -192,13 +193,18 @@ module _ (w : World) (number : ℕ) (ns : Name) (t : Tenant) (worker : Worker) (
   own_is = (((h.sound.tenant ns t h.tenant).worker number worker h.worker_row).snapshot kept h.keeps).namespace
 
   of_done : (a : Applied) → a.world ≡ (done kept (plan kept) w t).world →
-      is_past_bound (settle w (applied_world number ns worker e a)) ≡ apply_passes w kept (doing kept (plan kept) w t)
+      is_past_bound (settle w (applied_world number ns worker e a)) ≡ apply_passes w kept (its_doing kept (plan kept) w t)
   of_done a same = ap (λ y. is_past_bound (settle w (record (change_tenant ns (with_worker number (applied_worker a worker e)) y)
       { plans = without_key (ns, worker.evaluation) y.plans }))) same
       ∙ passes kept (plan kept) w t (with_row kept (plan kept) w t number ns worker (applied_worker a worker e))
       (left_with_row kept (plan kept) w t number ns worker (applied_worker a worker e)) (plan_is_for_job kept) h.sound (ap (get w.tenants) own_is ∙ h.tenant)
 
   pub apply_passes_is : still_stands kept.job (get t.jobs kept.evaluation.job) ≡ true →
-      is_past_bound (settle w (applied_world number ns worker e result)) ≡ apply_passes w kept (doing kept (plan kept) w t)
+      is_past_bound (settle w (applied_world number ns worker e result)) ≡ apply_passes w kept (doing w kept (plan kept) result.checked.committed)
   unfolding commit
-  apply_passes_is stands = of_done result (ap (λ b. (cond b (done kept (plan kept) w t) (refused_whole kept (plan kept) w)).world) stands)
+  apply_passes_is stands = of_done result (ap (λ a. a.world) is_done)
+      ∙ ap (apply_passes w kept) (doing_is kept (plan kept) w t (ap (get w.tenants) own_is ∙ h.tenant)
+      ∙ ap (λ (a : Applied). doing w kept (plan kept) a.checked.committed) (sym is_done))
+    where
+      is_done : commit kept (plan kept) w t ≡ done kept (plan kept) w t
+      is_done = ap (λ b. cond b (done kept (plan kept) w t) (refused_whole kept (plan kept) w)) stands

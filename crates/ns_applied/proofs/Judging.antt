@@ -29,8 +29,8 @@ use Rattle.ns_types.proofs.Tests.{not_Some}
 use Rattle.ns_change.specs.Prepared.{bounded}
 use Rattle.ns_headroom.specs.Applying.{Doing, apply_passes, evaluations_pass, losing_in, own_passes, own_passes_in, place_passes, place_passes_on, places_on}
 use Rattle.ns_headroom.specs.Applying.{stop_passes, victim_passes}
+use Rattle.ns_headroom.specs.Judging.{doing}
 use Rattle.ns_applied.specs.Counters.{HasRoom, IsAtWork, judged}
-use Rattle.ns_applied.specs.Parts.{doing}
 use Rattle.ns_applied.proofs.Counting.{apply_passes_is}
 use Rattle.ns_applied.proofs.Refusing.{refused_passes_nothing}
 
@@ -40,11 +40,11 @@ module _ (w : World) (number : ℕ) (ns : Name) (t : Tenant) (worker : Worker) (
   abbrev stands : Bool
   stands = still_stands kept.job (get t.jobs kept.evaluation.job)
 
-  abbrev passes : Bool
-  passes = apply_passes w kept (doing kept (plan kept) w t)
-
   abbrev made_of : Applied
   made_of = commit kept (plan kept) w t
+
+  abbrev passes : Bool
+  passes = apply_passes w kept (doing w kept (plan kept) made_of.checked.committed)
 
   abbrev made : Outcome World
   made = applied number ns worker e made_of

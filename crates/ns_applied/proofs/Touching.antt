@@ -1,5 +1,5 @@
 -- In which namespaces a row is new after an Apply, or shown otherwise than before.
-use Rattle.std.specs.Prelude.{◌≡◌, ℕ, ◌+◌, ◌&&◌, ◌||◌, Bool, true, false, cond, not, List, [], ◌∷◌, Option, Some, None, filter_map, length}
+use Rattle.std.specs.Prelude.{filter, ◌≡◌, ℕ, ◌+◌, ◌&&◌, ◌||◌, Bool, true, false, cond, not, List, [], ◌∷◌, Option, Some, None, filter_map, length}
 use Rattle.std.specs.Prelude.{is_some, map, option_map, slice_get}
 use Rattle.std.proofs.Common.{inl, refl, sym, ap, ◌∙◌, arith}
 use Rattle.std.proofs.lemmas.List.Folds.{list_any-append}
@@ -17,7 +17,7 @@ use Rattle.ns_types.specs.State.Names.{ByNumber, Key, Name, has_key, has_name, h
 use Rattle.ns_types.specs.State.Rows.{Tenant, World, allocation_at, is_live}
 use Rattle.ns_types.specs.State.Tables.{map_rows}
 use Rattle.ns_types.specs.Validity.{IsSound}
-use Rattle.ns_types.specs.Working.Commit.{Victim, done, same_victim_job, victim_at, victim_key, victims_of}
+use Rattle.ns_types.specs.Working.Commit.{Victim, done, evicted_rows, live_stops, same_victim_job, stop_all, victim_at, victim_key, victims_of}
 use Rattle.ns_types.specs.Working.Worker.{Worker}
 use Rattle.ns_types.proofs.Elements.{any_map, each_first, map_map}
 use Rattle.ns_types.proofs.Gone.{evicted_row, gone_row, stopped_row}
@@ -27,12 +27,13 @@ use Rattle.ns_types.proofs.Once.{once_has}
 use Rattle.ns_types.proofs.TableRows.{each_fails, no_entries}
 use Rattle.ns_types.proofs.Tables.{map_rows_idle}
 use Rattle.ns_types.proofs.Tests.{is_no, some_mapped}
-use Rattle.ns_headroom.specs.Applying.{does_something, ended_keys}
+use Rattle.ns_headroom.specs.Applying.{Doing, does_something, ended_keys}
 use Rattle.ns_headroom.specs.Applying as counters
+use Rattle.ns_headroom.specs.Judging.{doing, live_numbers}
 use Rattle.ns_headroom.specs.Releasing.{lives_at}
 use Rattle.ns_headroom.proofs.Shown.{touched_by_end, touched_by_new, untouched_rows}
 use Rattle.ns_plan.proofs.Afterwards.{stopped_has}
-use Rattle.ns_applied.specs.Parts.{IsForJob, doing, ended, evicted, left_row, losers, placed, stopped, stops, victims}
+use Rattle.ns_applied.specs.Parts.{IsForJob, ended, evicted, left_row, losers, placed, stopped, stops, victims}
 use Rattle.ns_applied.proofs.Ending.{allocations_end, ended_were_live, victims_live}
 use Rattle.ns_applied.proofs.Numbered.{added, added_row}
 use Rattle.ns_applied.proofs.Placing.{own_rows}
@@ -59,6 +60,24 @@ pub no_key : (ns : Name) (keys : List Key) → has_name (map (λ k. k.0) keys) n
 no_key ns [] e n = refl
 no_key ns (k ∷ keys) e n = λ i. (left_none (same_name ns k.0) _ e i && same_number n k.1) || no_key ns keys (right_none (same_name ns k.0) _ e) n i
 
+-- ---- what is done
+
+-- as counters are judged by it
+abbrev pub its_doing : Snapshot → Plan → World → Tenant → Doing
+its_doing kept p w t = record { stops = (done kept p w t).checked.stops; placed = placed kept p w t; victims = evicted kept p w t }
+
+-- told by the nodes that do their part
+pub doing_is : (kept : Snapshot) (p : Plan) (w : World) (t : Tenant) → get w.tenants kept.namespace ≡ Some t →
+    its_doing kept p w t ≡ doing w kept p (done kept p w t).checked.committed
+doing_is kept p w t is = λ i. record {
+  stops = live i;
+  placed = placed kept p w t;
+  victims = evicted_rows (stop_all kept.namespace (live i) w) kept (placed kept p w t);
+}
+  where
+    live : live_stops t p.stops ≡ live_numbers w kept.namespace p.stops
+    live = λ i. filter (λ n. option_map_or is_live (option_and_then (λ (t : Tenant). get t.allocations n) (sym is i)) false) p.stops
+
 -- ---- the keys of the victims
 
 rows_named : (x : World) (es : List Eviction) → Each (λ e. lives_at x (victim_key e) ≡ true) es →
@@ -81,7 +100,7 @@ module _ (kept : Snapshot) (p : Plan) (w : World) (t : Tenant) where
       (rows_named (stopped kept p w t) (victims_of (stopped kept p w t) kept (placed kept p w t)) (victims_live kept p w t))
       ∙ sym (once_has (map victim_key (victims_of (stopped kept p w t) kept (placed kept p w t))) key)
 
-  pub ended_are : (key : Key) → has_key (ended_keys kept (doing kept p w t)) key ≡ has_key (ended kept p w t) key
+  pub ended_are : (key : Key) → has_key (ended_keys kept (its_doing kept p w t)) key ≡ has_key (ended kept p w t) key
   ended_are key = list_any-append (same_key key) (stops kept p w t) keys_lost ∙ ap (λ b. has_key (stops kept p w t) key || b) (victims_are key)
       ∙ sym (list_any-append (same_key key) (stops kept p w t) (victims kept p w t))
 
@@ -90,7 +109,7 @@ module _ (kept : Snapshot) (p : Plan) (w : World) (t : Tenant) where
   lost_names = map_map (λ k. k.0) counters.victim_key (evicted kept p w t)
 
   abbrev something : Bool
-  something = does_something (doing kept p w t)
+  something = does_something (its_doing kept p w t)
 
   abbrev is_own : Name → Bool
   is_own q = same_name q kept.namespace

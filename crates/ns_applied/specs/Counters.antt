@@ -18,7 +18,8 @@ use Rattle.ns_types.specs.Working.Work.{is_submitted}
 use Rattle.ns_types.specs.Working.Worker.{Worker}
 use Rattle.ns_change.specs.Prepared.{bounded}
 use Rattle.ns_headroom.specs.Applying.{Doing, apply_passes, losing_in}
-use Rattle.ns_applied.specs.Parts.{applied_world, doing}
+use Rattle.ns_headroom.specs.Judging.{doing}
+use Rattle.ns_applied.specs.Parts.{applied_world}
 
 -- a worker of a valid state that is busy for the namespace, and the snapshot that it keeps
 pub record IsAtWork (w : World) (number : ℕ) (ns : Name) (t : Tenant) (worker : Worker) (kept : Snapshot) : Type 0 where
@@ -31,8 +32,8 @@ pub record IsAtWork (w : World) (number : ℕ) (ns : Name) (t : Tenant) (worker 
 abbrev pub ApplyPasses : Type 0
 ApplyPasses = (w : World) (number : ℕ) (ns : Name) (t : Tenant) (worker : Worker) (e : Evaluation) (kept : Snapshot)
     → IsAtWork w number ns t worker kept → still_stands kept.job (get t.jobs kept.evaluation.job) ≡ true
-    → is_past_bound (settle w (applied_world number ns worker e (commit kept (plan kept) w t)))
-    ≡ apply_passes w kept (doing kept (plan kept) w t)
+    → let a = commit kept (plan kept) w t in is_past_bound (settle w (applied_world number ns worker e a))
+    ≡ apply_passes w kept (doing w kept (plan kept) a.checked.committed)
 
 -- a plan that does not stand passes none
 abbrev pub RefusedPassesNothing : Type 0
@@ -46,7 +47,8 @@ abbrev pub judged : ℕ → Name → World → Tenant → Worker → Evaluation 
 judged number ns w t worker e kept =
     let a = commit kept (plan kept) w t in
     if not (is_submitted worker.phase && is_served w w.plans (ns, worker.evaluation)) then NotEnabled
-    else if not a.checked.is_refused && apply_passes w kept (doing kept (plan kept) w t) then Refused Refusal.Full
+    else if not a.checked.is_refused && apply_passes w kept (doing w kept (plan kept) a.checked.committed)
+    then Refused Refusal.Full
     else applied number ns worker e a
 
 abbrev pub ApplyIsJudged : Type 0

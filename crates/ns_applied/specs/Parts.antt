@@ -18,7 +18,7 @@ use Rattle.ns_types.specs.State.Tables.{map_rows}
 use Rattle.ns_types.specs.Working.Commit.{Applied, Victim, applied_worker, done, evicted_rows, live_stops, same_victim_job, stop_all}
 use Rattle.ns_types.specs.Working.Work.{with_worker, without_key}
 use Rattle.ns_types.specs.Working.Worker.{Worker}
-use Rattle.ns_headroom.specs.Applying.{Doing, places_on}
+use Rattle.ns_headroom.specs.Applying.{places_on}
 use Rattle.ns_headroom.specs.Raising.{with_places}
 use Rattle.ns_plan.specs.After.{stop_keys}
 
@@ -55,14 +55,6 @@ losers kept p w t = first_each same_victim_job (evicted kept p w t)
 
 abbrev pub losers_in : Snapshot → Plan → World → Tenant → Name → List Victim
 losers_in kept p w t ns = filter (λ v. same_name ns v.0) (losers kept p w t)
-
--- the same, as counters are judged by it
-abbrev pub doing : Snapshot → Plan → World → Tenant → Doing
-doing kept p w t = record {
-  stops = (done kept p w t).checked.stops;
-  placed = placed kept p w t;
-  victims = evicted kept p w t;
-}
 
 -- ---- rows
 
