@@ -10,10 +10,10 @@ use Rattle.ns_types.specs.declared.plan.Placement.{Placement}
 use Rattle.ns_types.specs.declared.plan.Plan.{Plan}
 use Rattle.ns_types.specs.declared.snapshot.Snapshot.{Snapshot}
 use Rattle.ns_types.specs.State.Lists.{first_each}
-use Rattle.ns_types.specs.State.Names.{has_number, same_number}
+use Rattle.ns_types.specs.State.Names.{Key, has_number, same_number}
 use Rattle.ns_types.specs.State.Rows.{Tenant, World, is_live}
-use Rattle.ns_types.specs.Working.Commit.{commit, done, live_stops, no_part, nodes_in, refused_whole, still_stands, stop_all, victim_keys, victims_of}
-use Rattle.ns_types.proofs.Lists.{any_chosen, each, filter-append}
+use Rattle.ns_types.specs.Working.Commit.{Checked, commit, done, live_stops, no_part, nodes_in, refused_whole, still_stands, stop_all, victim_keys, victims_of}
+use Rattle.ns_types.proofs.Lists.{any_chosen, each, filter-append, filter_none}
 use Rattle.ns_types.proofs.Named.{numbers, one_number}
 use Rattle.ns_types.proofs.Tables.{tied}
 use Rattle.std.specs.Cmp.{eq_by_cmp_equiv}
@@ -107,3 +107,23 @@ module _ (kept : Snapshot) (p : Plan) (w : World) (t : Tenant) (is : get w.tenan
       by : (b : Bool) → still_stands kept.job (get t.jobs kept.evaluation.job) ≡ b → (commit kept p w t).checked ≡ cond b (done kept p w t).checked (no_part p)
       by true e = ap (λ b. (cond b (done kept p w t) (refused_whole kept p w)).checked) e
       by false e = ap (λ b. (cond b (done kept p w t) (refused_whole kept p w)).checked) e
+
+  -- the victims of the nodes that do their part: of a plan that is refused none
+  pub victims_checked : (committed : List ℕ) (keys : List Key) →
+      keys ≡ victim_keys (victims_of (after_stops w kept.namespace p.stops) kept (filter (λ q. has_number committed q.node) ps)) →
+      committed ≡ (commit kept p w t).checked.committed → keys ≡ (commit kept p w t).checked.victims
+  victims_checked committed keys is same = is ∙ ap (λ l. victim_keys (victims_of after kept (filter (λ q. has_number l q.node) ps))) same
+      ∙ by (still_stands kept.job (job_at w kept.namespace kept.evaluation.job)) refl
+    where
+      after : World
+      after = after_stops w kept.namespace p.stops
+
+      of_checked : Checked → List Key
+      of_checked c = victim_keys (victims_of after kept (filter (λ q. has_number c.committed q.node) ps))
+
+      by : (b : Bool) → still_stands kept.job (job_at w kept.namespace kept.evaluation.job) ≡ b →
+          of_checked (commit kept p w t).checked ≡ (commit kept p w t).checked.victims
+      by true e = ap of_checked (checked_is true e) ∙ victims_done ∙ ap (λ c. c.victims) (sym (checked_is true e))
+      by false e = ap of_checked (checked_is false e) ∙ ap (λ l. victim_keys (victims_of after kept l))
+          (filter_none (λ q. has_number [] q.node) ps (each _ (λ q. refl) ps))
+          ∙ ap (λ c. c.victims) (sym (checked_is false e))

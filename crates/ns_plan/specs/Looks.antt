@@ -56,3 +56,8 @@ decision_of c = record { is_refused = c.is_refused; committed = c.committed; dro
 abbrev pub IsChecked : Snapshot → Plan → World → Decision → Type 0
 IsChecked kept p w decision = (t : Tenant) → get w.tenants kept.namespace ≡ Some t →
     decision ≡ decision_of (commit kept p w t).checked
+
+-- these are the victims of what is done, where these nodes do their part
+abbrev pub AreVictims : Snapshot → Plan → World → List ℕ → List Key → Type 0
+AreVictims kept p w committed keys = (t : Tenant) → get w.tenants kept.namespace ≡ Some t →
+    committed ≡ (commit kept p w t).checked.committed → keys ≡ (commit kept p w t).checked.victims

@@ -6,7 +6,7 @@ ghost use Rattle.ns_types.specs.State.Names.{Key, has_key, has_number, same_key}
 ghost use Rattle.ns_types.specs.Working.Commit.{counts, node_name, victim_key, victim_keys, victims_in, victims_of};
 ghost use Rattle.ns_types.proofs.Once.{once};
 ghost use Rattle.ns_plan.specs.After.{after_stops, keys_of};
-ghost use Rattle.ns_plan.specs.Looks.{IsOnFewNodes};
+ghost use Rattle.ns_plan.specs.Looks.{AreVictims, IsOnFewNodes};
 
 use crate::after::{counted, has_number};
 use crate::taking::node_name;
@@ -108,9 +108,11 @@ pub fn victims<'a, V: View>(
     committed: &[u64],
 ) -> Result<Vec<&'a Eviction>, AllocError>
     requires { IsOnFewNodes snapshot.now plan.now }
-    ensures { IfOk result (λ v. keys_of (map (λ e. e.now) v.items) ≡ victim_keys (victims_of
+    ensures listed { IfOk result (λ v. keys_of (map (λ e. e.now) v.items) ≡ victim_keys (victims_of
         (after_stops (V.world view.now) snapshot.now.namespace plan.now.stops) snapshot.now
         (filter (λ p. has_number committed.now p.node) plan.now.placing.placements))) }
+    ensures checked { IfOk result (λ v. AreVictims snapshot.now plan.now (V.world view.now)
+        committed.now (keys_of (map (λ e. e.now) v.items))) }
 {
     let stops = plan.stops.as_slice();
     let mut held = Vec::new(alloc);

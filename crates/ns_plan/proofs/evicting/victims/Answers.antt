@@ -6,6 +6,7 @@ use Rattle.ns_types.specs.Working.Commit.{victims_in, victims_of}
 use Rattle.ns_types.proofs.Once.{once}
 use Rattle.ns_plan.specs.After.{after_stops, keys_of}
 use Rattle.ns_plan.proofs.Holding.{victims_next}
+use Rattle.ns_plan.proofs.Parts.{victims_checked}
 use Rattle.ns_plan.proofs.evicting.victims.Goals as goal
 use Rattle.ns_plan.proofs.evicting.victims.Goals.{then-has_number+in_ok-hold, else-has_number}
 
@@ -33,7 +34,9 @@ loop-placement-preserved g c =
 pub returns : goal.returns
 returns g c =
     let kept = c.args.snapshot.now in
-    let x = after_stops (g.V.View.world c.args.view.now) kept.namespace c.args.plan.now.stops in
+    let w = g.V.View.world c.args.view.now in
+    let x = after_stops w kept.namespace c.args.plan.now.stops in
     let long = ap length c.as_slice-placement-items.ensures in
-    c.loop-placement.invariant ∙ ap (λ l. once (keys_of (victims_of x kept (filter (λ p. has_number c.args.committed.now p.node) l))))
-    (take_all c.loop-placement.placement-index c.args.plan.now.placing.placements (omega (arith, long)))
+    let listed = c.loop-placement.invariant ∙ ap (λ l. once (keys_of (victims_of x kept (filter (λ p. has_number c.args.committed.now p.node) l))))
+    (take_all c.loop-placement.placement-index c.args.plan.now.placing.placements (omega (arith, long))) in
+    record { listed = listed; checked = λ t is same. victims_checked kept c.args.plan.now w t is c.args.committed.now _ listed same }
