@@ -1,3 +1,4 @@
+pub mod Counted
 pub mod Laws
 pub mod Losing
 pub mod Losses

@@ -1,6 +1,7 @@
 //! Evaluations of the jobs that lose allocations by preemption: each gets one, in whichever namespace it is.
 #![tactic(auto)]
 
+mod counted;
 mod evictions;
 mod laws;
 mod losing;
@@ -9,6 +10,7 @@ mod making;
 mod numbers;
 mod renewing;
 
+pub use counted::{Counted, Counts};
 pub use evictions::Evictions;
 pub use laws::{numbers_suffice, once_is_enough, once_needs_no_more, rows_before_stops};
 pub use making::make_up;

@@ -1,0 +1,95 @@
+//! Evictions of placements, of which some count.
+
+ghost use Rattle.std.specs.Prelude.{◌≡◌, ◌∷◌, [], Bool, MatchOption, filter};
+ghost use Rattle.ns_types.specs.declared.plan.Eviction.{Eviction};
+ghost use Rattle.ns_types.specs.declared.plan.Placement.{Placement};
+ghost use Rattle.ns_renewal.specs.Counted.{counted_of, first_evictions, left_of};
+
+use crate::evictions::Evictions;
+use ns_types::plan::{Eviction, Placement};
+
+/// Which evictions of which placements count. It takes no memory to ask.
+pub trait Counts: Copy {
+    /// Whether the eviction counts, as one of the placement.
+    ghost passes: { Self → Placement → Eviction → Bool };
+
+    /// Whether the eviction counts, as one of the placement.
+    fn counts(&self, placement: &Placement, eviction: &Eviction) -> bool
+        ensures { result ≡ passes self.now placement.now eviction.now };
+}
+
+/// The evictions of placements that count, in the order of the placements.
+#[derive(Clone, Copy)]
+pub struct Counted<'a, C> {
+    /// The first one is gone over.
+    placements: &'a [Placement],
+    /// What is left of the first one.
+    evictions: &'a [Eviction],
+    of: C,
+}
+
+fn first_evictions(placements: &[Placement]) -> &[Eviction]
+    ensures { result.now ≡ first_evictions placements.now }
+{
+    match placements {
+        [first, ..] => first.evictions.as_slice(),
+        [] => &[],
+    }
+}
+
+/// The first eviction that counts, and those behind it.
+fn split_counted<'a, C: Counts>(
+    of: C,
+    placement: &Placement,
+    evictions: &'a [Eviction],
+) -> Option<(&'a Eviction, &'a [Eviction])>
+    ensures { let counted = filter (C.passes of placement.now) in
+        MatchOption result (counted evictions.now ≡ [])
+        (λ split. counted evictions.now ≡ split.0.now ∷ counted split.1.now) }
+{
+    let mut rest = evictions;
+    while let Some((eviction, others)) = rest.split_first() {
+        if of.counts(placement, eviction) {
+            return Some((eviction, others));
+        }
+        rest = others;
+    }
+    None
+}
+
+impl<'a, C: Counts> Counted<'a, C> {
+    /// Those of the placements that count. It takes no memory.
+    pub fn new(placements: &'a [Placement], of: C) -> Counted<'a, C>
+        ensures { left_of (C.passes result.of) result.placements.now result.evictions.now
+            ≡ counted_of (C.passes of) placements.now }
+    {
+        Counted {
+            placements,
+            evictions: first_evictions(placements),
+            of,
+        }
+    }
+}
+
+impl<'a, C: Counts> Evictions for Counted<'a, C> {
+    ghost list = { λ c. left_of (C.passes c.of) c.placements.now c.evictions.now };
+
+    fn split_first(&self) -> Option<(&Eviction, Self)> {
+        let of = self.of;
+        let mut placements = self.placements;
+        let mut evictions = self.evictions;
+        while let Some((placement, others)) = placements.split_first() {
+            if let Some((eviction, later)) = split_counted(of, placement, evictions) {
+                let rest = Counted {
+                    placements,
+                    evictions: later,
+                    of,
+                };
+                return Some((eviction, rest));
+            }
+            placements = others;
+            evictions = first_evictions(others);
+        }
+        None
+    }
+}
