@@ -1,0 +1,73 @@
+//! Whether what is done of a plan passes the bound of a counter. It takes no memory.
+
+ghost use Rattle.std.specs.Prelude.{◌≡◌, false};
+ghost use Rattle.ns_types.specs.Steps.{is_past_bound};
+ghost use Rattle.ns_headroom.specs.Applying.{apply_passes};
+ghost use Rattle.ns_headroom.specs.Judging.{doing};
+ghost use Rattle.ns_live.specs.Index.{IsRight};
+ghost use Rattle.ns_plan.specs.Looks.{IsOnFewNodes};
+ghost use Rattle.ns_renewal.specs.Counted.{counted_of};
+ghost use Rattle.ns_renewal.specs.Losing.{numbers_pass, victims_at};
+ghost use Rattle.ns_applier.specs.Losing.{is_victim};
+ghost use Rattle.ns_plan.specs.After.{after_stops};
+ghost use Rattle.ns_world.specs.World.{world_of};
+
+use crate::losing::Evicting;
+use ns_headroom::{Headroom, lost_part_passes, own_part_passes};
+use ns_live::Live;
+use ns_renewal::{Counted, numbers_pass};
+use ns_types::plan::Plan;
+use ns_types::snapshot::Snapshot;
+use ns_view::Present;
+use ns_world::Tables;
+
+/// Whether a namespace has too few numbers for an evaluation of each of its jobs that lose an allocation.
+fn evaluations_pass(
+    tables: &Tables,
+    present: &Present<'_>,
+    snapshot: &Snapshot,
+    plan: &Plan,
+    nodes: &[u64],
+) -> bool
+    requires same { present.now ≡ world_of tables.now }
+    requires within { is_past_bound (world_of tables.now) ≡ false }
+    ensures { let w = world_of tables.now in
+        let stopped = after_stops w snapshot.now.namespace plan.now.stops in
+        let counted = counted_of (is_victim stopped snapshot.now nodes.now) in
+        result ≡ numbers_pass (victims_at w (counted plan.now.placing.placements)) w }
+{
+    let evicting = Evicting {
+        present,
+        snapshot,
+        stops: plan.stops.as_slice(),
+        nodes,
+    };
+    let placements = plan.placing.placements.as_slice();
+    numbers_pass(tables, Counted::new(placements, evicting))
+}
+
+/// Whether a counter passes its bound once the plan is done on the nodes at those places of the snapshot, which do their
+/// part: the number of an allocation, an evaluation, a place or a release, or an index.
+pub(crate) fn passes(
+    tables: &Tables,
+    live: &Live,
+    snapshot: &Snapshot,
+    plan: &Plan,
+    nodes: &[u64],
+) -> bool
+    requires right { IsRight (world_of tables.now) live.now }
+    requires within { is_past_bound (world_of tables.now) ≡ false }
+    requires few { IsOnFewNodes snapshot.now plan.now }
+    ensures { let w = world_of tables.now in
+        result ≡ apply_passes w snapshot.now (doing w snapshot.now plan.now nodes.now) }
+{
+    let headroom = Headroom::new(tables);
+    let present = Present::new(tables, live);
+    if evaluations_pass(tables, &present, snapshot, plan, nodes) {
+        return true;
+    }
+    if own_part_passes(&headroom, snapshot, plan, nodes) {
+        return true;
+    }
+    lost_part_passes(&headroom, &present, snapshot, plan, nodes)
+}

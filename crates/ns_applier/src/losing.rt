@@ -1,0 +1,42 @@
+//! Which evictions of a plan are those of victims. It takes no memory to ask.
+
+ghost use Rattle.std.specs.Prelude.{◌≡◌};
+ghost use Rattle.ns_types.specs.State.Names.{has_number};
+
+use ns_alike::same_number;
+use ns_plan::counts;
+use ns_renewal::Counts;
+use ns_types::plan::{Eviction, Placement};
+use ns_types::snapshot::Snapshot;
+use ns_view::Present;
+
+/// The nodes that do their part of a plan, with what its evictions are looked up in.
+#[derive(Clone, Copy)]
+pub(crate) struct Evicting<'a> {
+    pub(crate) present: &'a Present<'a>,
+    pub(crate) snapshot: &'a Snapshot,
+    pub(crate) stops: &'a [u64],
+    /// The places in the snapshot of the nodes that do their part.
+    pub(crate) nodes: &'a [u64],
+}
+
+fn has_number(numbers: &[u64], number: u64) -> bool
+    ensures { result ≡ has_number numbers.now number }
+{
+    numbers.iter().any(|other| same_number(number, *other))
+}
+
+impl<'a> Counts for Evicting<'a> {
+    ghost use Rattle.ns_plan.specs.After.{after_stops};
+    ghost use Rattle.ns_applier.specs.Losing.{is_victim};
+
+    ghost passes = { λ e. is_victim (after_stops e.present.now e.snapshot.now.namespace e.stops.now)
+        e.snapshot.now e.nodes.now };
+
+    fn counts(&self, placement: &Placement, eviction: &Eviction) -> bool {
+        let node = placement.node;
+        node < self.snapshot.nodes.as_slice().len() as u64
+            && has_number(self.nodes, node)
+            && counts(self.present, self.snapshot, self.stops, node, eviction)
+    }
+}
