@@ -9,6 +9,7 @@ use Rattle.ns_types.specs.declared.step.Step.{Step}
 use Rattle.ns_types.specs.State.Names.{Name}
 use Rattle.ns_types.specs.State.Rows.{State}
 use Rattle.ns_types.specs.Steps.{Answer, Makes, after, is_made, said}
+use Rattle.ns_types.specs.Working.Commit.{apply}
 use Rattle.ns_types.specs.Working.Work.{dequeue, nack, snap, submit}
 use Rattle.ns_change.specs.declared.change.Prepared.{Prepared}
 use Rattle.ns_change.specs.Changed.{view}
@@ -20,6 +21,7 @@ use Rattle.ns_broker.proofs.Making.{dequeue_does, dequeue_refuses, nack_does, na
 use Rattle.ns_broker.proofs.Making.{submit_does, submit_refuses}
 use Rattle.ns_broker.proofs.Snaps.{snap_answers, snap_settles}
 use Rattle.ns_broker.proofs.Submitted.{has_work}
+use Rattle.ns_applier.proofs.Making.{apply_does, apply_refuses}
 use Rattle.ns_finish.specs.Finishing.{Finishes, HasPendingWork}
 use Rattle.ns_finish.proofs.Answered.{pending_there}
 use Rattle.ns_finish.proofs.Making.{finish_does, finish_refuses}
@@ -44,6 +46,11 @@ module _ (parts : Parts) (valid : IsValid (state_of parts)) (worker : ℕ) (ns :
       PreparesStep (Step.Nack worker ns) parts result
   nack_prepares (Ok x) h = nack_does worker ns (state_of parts) parts.tables x h
   nack_prepares (Err refusal) h = nack_refuses worker ns (state_of parts) parts.tables refusal h
+
+  pub apply_prepares : (result : Result Prepared Refusal) → Prepares (bounded (world_of parts) (apply worker ns (world_of parts))) parts.tables result →
+      PreparesStep (Step.Apply worker ns) parts result
+  apply_prepares (Ok x) h = apply_does worker ns (state_of parts) parts.tables x h
+  apply_prepares (Err refusal) h = apply_refuses worker ns (state_of parts) parts.tables refusal h
 
   pub has_nack_left : HasNackLeft (world_of parts) worker ns
   has_nack_left = nack_left (world_of parts) valid.world worker ns

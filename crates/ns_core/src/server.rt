@@ -136,6 +136,17 @@ impl Core {
         parts.submit(worker, namespace, planned)
     }
 
+    /// Makes the step in which a worker's plan is applied: what of it still stands is done, node by node all or nothing.
+    /// The reply says the numbers of the allocations that are placed, and the names of the nodes of which nothing is done.
+    /// `NotEnabled`: the worker has no evaluation of the namespace, has not handed in a plan, or another plan is served. Then
+    /// `Full`: a counter would pass its bound.
+    pub fn apply(&mut self, worker: u64, namespace: &Text) -> Result<Reply, Refusal>
+        ensures { Makes (Step.Apply worker namespace.now) self.old result self.new }
+    {
+        let parts = &mut self.parts;
+        parts.apply(worker, namespace)
+    }
+
     /// Makes the step in which a worker finishes its evaluation, by the plan of its snapshot. The reply says the status that
     /// the evaluation has then, and the number of its follower. `NotEnabled`: the worker has no evaluation of the namespace,
     /// or is not at its end. Then `Foreign`: the plan is of another snapshot than its row keeps. Then `NotEnabled`: the plan

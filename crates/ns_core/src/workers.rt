@@ -10,6 +10,7 @@ ghost use Rattle.ns_core.specs.Viewed.{state_of, world_of};
 ghost use Rattle.ns_core.specs.Working.{FinishesBy, HandsIn, MakesWork, snapped};
 
 use crate::parts::{Parts, plain};
+use ns_applier::apply;
 use ns_broker::{Snapped, dequeue, nack, snap, submit};
 use ns_change::Prepared;
 use ns_finish::finish;
@@ -76,6 +77,16 @@ impl Parts {
     {
         let prepared = submit(&self.tables, worker, namespace, planned)?;
         self.work(Ok(prepared))
+    }
+
+    /// Makes the step in which a worker's plan is applied, or leaves the state as it is.
+    pub fn apply(&mut self, worker: u64, namespace: &Text) -> Result<Reply, Refusal>
+        requires { IsKept self.old }
+        ensures made { MakesStep (Step.Apply worker namespace.now) self.old result self.new }
+        ensures index { IsIndexed self.old → IsIndexed self.new }
+    {
+        let prepared = apply(&self.tables, &self.live, worker, namespace);
+        self.work(prepared)
     }
 
     /// Makes the step in which a worker finishes its evaluation, or leaves the state as it is.
