@@ -1,0 +1,3 @@
+mod Rows
+mod Turns
+mod Rounds

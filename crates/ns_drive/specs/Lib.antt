@@ -1,0 +1,4 @@
+pub mod Calls
+pub mod Driving
+pub mod Working
+pub mod Kept
