@@ -1,8 +1,7 @@
 -- What the parts of an Apply leave of each other's premises.
-use Rattle.std.specs.Prelude.{◌≡◌, ℕ, ◌+◌, ◌<◌, ◌^◌, Bool, true, false, cond, ◌&&◌, List, [], ◌∷◌, Option, Some, None, fold, map, option_map}
+use Rattle.std.specs.Prelude.{◌≡◌, ℕ, ◌+◌, ◌<◌, ◌^◌, Bool, true, false, cond, List, [], ◌∷◌, Option, Some, None, fold, option_map}
 use Rattle.std.proofs.Common.{refl, sym, ap, subst, ◌∙◌}
 use Rattle.std.specs.FinMap.{get, get-insert, insert}
-use Rattle.std.specs.List.{cons_option, filter_map}
 use Rattle.std.specs.Option.{option_and_then, option_map_or}
 use Rattle.ns_types.specs.declared.allocation.Allocation.{Allocation}
 use Rattle.ns_types.specs.declared.allocation.DesiredStatus.{DesiredStatus}
@@ -13,15 +12,10 @@ use Rattle.ns_types.specs.declared.plan.Eviction.{Eviction}
 use Rattle.ns_types.specs.declared.plan.Placement.{Placement}
 use Rattle.ns_types.specs.declared.snapshot.Snapshot.{Snapshot}
 use Rattle.ns_types.specs.Settling.Making.{change_tenant, put_tenant, with_desired}
-use Rattle.ns_types.specs.State.Lists.{Each}
-use Rattle.ns_types.specs.State.Names.{ByName, ByNumber, Key, Name, has_key, same_name, same_number}
-use Rattle.ns_types.specs.State.Rows.{PoolRows, Tenant, World, allocation_at, is_live_on, node_at}
-use Rattle.ns_types.specs.Working.Commit.{counts, evict, evict_all, new_allocation, node_name, place_all, place_one, stop_all, victim_at, victims_in, victims_of}
-use Rattle.ns_types.specs.Working.Commit.{victim_key, with_allocation, with_place}
-use Rattle.ns_types.proofs.Elements.{each_flat_map, each_of, each_passes}
-use Rattle.ns_types.proofs.Gone.{stopped_are, stopped_row}
-use Rattle.ns_types.proofs.Less.{allocation_then}
-use Rattle.ns_types.proofs.Lists.{not_both}
+use Rattle.ns_types.specs.State.Names.{ByName, ByNumber, Name, same_name}
+use Rattle.ns_types.specs.State.Rows.{PoolRows, Tenant, World, node_at}
+use Rattle.ns_types.specs.Working.Commit.{evict, evict_all, new_allocation, node_name, place_all, place_one, stop_all}
+use Rattle.ns_types.specs.Working.Commit.{with_allocation, with_place}
 use Rattle.ns_types.proofs.Named.{names, one_name}
 use Rattle.ns_types.proofs.Tables.{tied}
 use Rattle.ns_types.proofs.Tests.{not_Some, same_Some}
@@ -121,39 +115,3 @@ can_still kept placed of stops victims w can = record {
   where
     stopped : World
     stopped = stop_all of stops w
-
--- ---- the victims' rows
-
-module _ (of : Name) (stops : List ℕ) (w : World) where
-  abbrev stopped : World
-  stopped = stop_all of stops w
-
-  -- one that counts is not stopped
-  row_stays : (pool node : Name) (e : Eviction) → counts stopped pool node e ≡ true → victim_at stopped e ≡ victim_at w e
-  unfolding counts
-  row_stays pool node e count = ap (option_map (λ a. (e.namespace, (e.number, a)))) (row ∙ by (allocation_at w (victim_key e)) (has_key keys (victim_key e))
-      (ap (λ o. option_map_or (λ a. is_live_on pool node a && same_number a.priority e.priority) o false) (sym row) ∙ count))
-    where
-      keys : List Key
-      keys = map (λ n. (of, n)) stops
-
-      row : allocation_at stopped (victim_key e) ≡ option_map (λ a. cond (has_key keys (victim_key e)) (stopped_row a) a) (allocation_at w (victim_key e))
-      row = ap (λ x. allocation_at x (victim_key e)) (stopped_are of stops w) ∙ allocation_then stopped_row (λ a. refl) w keys (victim_key e)
-
-      by : (o : Option Allocation) (b : Bool) →
-          option_map_or (λ a. is_live_on pool node a && same_number a.priority e.priority) (option_map (λ a. cond b (stopped_row a) a) o) false ≡ true →
-          option_map (λ a. cond b (stopped_row a) a) o ≡ o
-      by None b count = refl
-      by (Some a) false count = refl
-      by (Some a) true count = not_both count refl
-
-  rows_stay : (victims : List Eviction) → Each (λ e. victim_at stopped e ≡ victim_at w e) victims →
-      filter_map (victim_at w) victims ≡ filter_map (victim_at stopped) victims
-  rows_stay [] h = refl
-  rows_stay (e ∷ victims) h = λ i. cons_option (sym h.0 i) (rows_stay victims h.1 i)
-
-  pub victims_stay : (kept : Snapshot) (ps : List Placement) →
-      filter_map (victim_at w) (victims_of stopped kept ps) ≡ filter_map (victim_at stopped) (victims_of stopped kept ps)
-  victims_stay kept ps = rows_stay (victims_of stopped kept ps) (each_flat_map (λ e. victim_at stopped e ≡ victim_at w e) (victims_in stopped kept)
-      (λ p. each_of _ _ (λ e. row_stays kept.pool (node_name kept p.node) e) (victims_in stopped kept p)
-      (each_passes (counts stopped kept.pool (node_name kept p.node)) p.evictions)) ps)

@@ -62,7 +62,8 @@ sorted_is ns = ap (λ m. map (λ (e : Name × Option Unit). e.0) (entries m)) (p
     ∙ map_map (λ (e : Name × Option Unit). e.0) (λ (e : Name × Name). (e.0, here e.1)) (entries (named ns))
 
 -- one place after another
-each_name : (kept : Snapshot) (ks : List ℕ) (m : ByName (Option Unit)) → fold (λ m k. with_name m (node_name kept k)) m ks ≡ names_put m (map (node_name kept) ks)
+each_name : (kept : Snapshot) (ks : List ℕ) (m : ByName (Option Unit)) →
+    fold (λ m k. with_name m (node_name kept k)) m ks ≡ names_put m (map (node_name kept) ks)
 each_name kept [] m = refl
 each_name kept (k ∷ ks) m = each_name kept ks (with_name m (node_name kept k))
 

@@ -13,10 +13,11 @@ use Rattle.ns_types.specs.State.Rows.{Tenant, World}
 use Rattle.ns_types.specs.Working.Commit.{Victim, done, evict_all, live_stops, make_up, nodes_in, place_all, victim_at, victims_of}
 use Rattle.ns_renewal.specs.Losing.{CanMakeUp, losing_in}
 use Rattle.ns_renewal.specs.Renewing.{SameJobs}
+use Rattle.ns_renewal.proofs.Stopped.{rows_before}
 use Rattle.ns_apply.specs.Placing.{CanPlace}
 use Rattle.ns_apply.specs.Whole.{CanWrite, IsCleared, stopped}
 use Rattle.ns_apply.specs.Writing.{evict_victims, placed_on}
-use Rattle.ns_apply.proofs.Between.{can_still, evicted_keeps, placed_keeps, part_at, still_below, stopped_keeps, victims_stay}
+use Rattle.ns_apply.proofs.Between.{can_still, evicted_keeps, placed_keeps, part_at, still_below, stopped_keeps}
 use Rattle.ns_apply.proofs.NodeByNode.{evicting_is_deciding}
 
 module _ (kept : Snapshot) (p : Plan) (w : World) (t : Tenant) (nodes : List ℕ) (can : CanWrite kept p w t nodes)
@@ -44,12 +45,13 @@ module _ (kept : Snapshot) (p : Plan) (w : World) (t : Tenant) (nodes : List ℕ
   jobs_stay ns = part_stays (λ t. t.jobs) (λ t m n. refl) ns
 
   rows_are : filter_map (victim_at w) victims ≡ filter_map (victim_at (stopped kept p w t)) (victims_of (stopped kept p w t) kept placed)
-  rows_are = ap (filter_map (victim_at w)) cleared.victims_are ∙ victims_stay kept.namespace (live_stops t p.stops) w kept placed
+  rows_are = ap (filter_map (victim_at w)) cleared.victims_are ∙ sym (rows_before w kept.namespace (live_stops t p.stops) kept placed)
 
   pub make_up_still : CanMakeUp (filter_map (victim_at w) victims) then
   make_up_still ns = still_below (λ t. t.evaluation_number) w then ns (part_stays (λ t. t.evaluation_number) (λ t m n. refl) ns)
       (losing_in ns (filter_map (victim_at w) victims))
-      (subst (λ (rows : List Victim). (t : Tenant) → get w.tenants ns ≡ Some t → t.evaluation_number + losing_in ns rows < 2 ^ 64) (sym rows_are) (can.make_up ns))
+      (subst (λ (rows : List Victim). (t : Tenant) → get w.tenants ns ≡ Some t → t.evaluation_number + losing_in ns rows < 2 ^ 64)
+      (sym rows_are) (can.make_up ns))
 
   pub written : make_up (filter_map (victim_at w) victims) then ≡ (done kept p w t).world
   written = (λ i. make_up (rows_are i) (place_all kept ((cleared.world_is ∙ ap (evict_all (stopped kept p w t)) cleared.victims_are) i) placed))

@@ -49,8 +49,10 @@ pub(crate) fn write(
     requires nothing { let t = committed.now.tables.now in view t change.old ≡ world_of t }
     requires can { CanWrite committed.now.snapshot.now committed.now.plan.now
         (world_of committed.now.tables.now) (tenant_of tenant.now) committed.now.nodes.now }
-    ensures { Does result committed.now.tables.now change.old change.new
-        (λ w. (done committed.now.snapshot.now committed.now.plan.now w (tenant_of tenant.now)).world) }
+    ensures { let kept = committed.now.snapshot.now in
+        let t = tenant_of tenant.now in
+        Does result committed.now.tables.now change.old change.new
+        (λ w. (done kept committed.now.plan.now w t).world) }
 {
     let victims = clear(committed, change, tenant)?;
     place(committed, change)?;
