@@ -72,7 +72,8 @@ module _ (number : ℕ) (w : World) (t : Tenant) (worker : Worker) (e : Evaluati
       judged_is : (b : Bool) → apply_passes w kept (doing w kept p d.committed) ≡ b →
           comes_to number w t worker e kept p ≡ cond b (Refused Refusal.Full) (applied number kept.namespace worker e whole)
       judged_is b past = ap (comes_as number w worker e kept p) (stands off)
-          ∙ ap (λ nodes. cond (apply_passes w kept (doing w kept p nodes)) (Refused Refusal.Full) (applied number kept.namespace worker e whole)) (sym committed_is)
+          ∙ ap (λ nodes. cond (apply_passes w kept (doing w kept p nodes)) (Refused Refusal.Full)
+          (applied number kept.namespace worker e whole)) (sym committed_is)
           ∙ ap (λ b. cond b (Refused Refusal.Full) (applied number kept.namespace worker e whole)) past
 
       -- a counter would pass its bound

@@ -18,6 +18,7 @@ use ns_apply::{Committed, Turn, apply_refused, apply_standing};
 use ns_broker::worker_at;
 use ns_change::Prepared;
 use ns_live::Live;
+use ns_marks::Marked;
 use ns_types::plan::Plan;
 use ns_types::refusal::Refusal;
 use ns_types::snapshot::Snapshot;
@@ -48,15 +49,15 @@ fn come_to(
     if outcome.is_refused() {
         return apply_refused(tables, snapshot, turn, outcome.dropped());
     }
-    let nodes = outcome.committed();
-    if passes(tables, live, snapshot, plan, nodes) {
+    let nodes = Marked::new(outcome.committed());
+    if passes(tables, live, snapshot, plan, &nodes) {
         return Err(Refusal::Full);
     }
     let committed = Committed {
         tables,
         snapshot,
         plan,
-        nodes,
+        nodes: &nodes,
     };
     apply_standing(&committed, tenant, turn, outcome.dropped())
 }

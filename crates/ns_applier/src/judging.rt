@@ -15,6 +15,7 @@ ghost use Rattle.ns_world.specs.World.{world_of};
 use crate::losing::Evicting;
 use ns_headroom::{Headroom, lost_part_passes, own_part_passes};
 use ns_live::Live;
+use ns_marks::Marked;
 use ns_renewal::{Counted, numbers_pass};
 use ns_types::plan::Plan;
 use ns_types::snapshot::Snapshot;
@@ -27,7 +28,7 @@ fn evaluations_pass(
     present: &Present<'_>,
     snapshot: &Snapshot,
     plan: &Plan,
-    nodes: &[u64],
+    nodes: &Marked<'_>,
 ) -> bool
     requires same { present.now ≡ world_of tables.now }
     requires within { is_past_bound (world_of tables.now) ≡ false }
@@ -53,7 +54,7 @@ pub(crate) fn passes(
     live: &Live,
     snapshot: &Snapshot,
     plan: &Plan,
-    nodes: &[u64],
+    nodes: &Marked<'_>,
 ) -> bool
     requires right { IsRight (world_of tables.now) live.now }
     requires within { is_past_bound (world_of tables.now) ≡ false }

@@ -1,9 +1,6 @@
 //! Which evictions of a plan are those of victims. It takes no memory to ask.
 
-ghost use Rattle.std.specs.Prelude.{◌≡◌};
-ghost use Rattle.ns_types.specs.State.Names.{has_number};
-
-use ns_alike::same_number;
+use ns_marks::Marked;
 use ns_plan::counts;
 use ns_renewal::Counts;
 use ns_types::plan::{Eviction, Placement};
@@ -17,13 +14,7 @@ pub(crate) struct Evicting<'a> {
     pub(crate) snapshot: &'a Snapshot,
     pub(crate) stops: &'a [u64],
     /// The places in the snapshot of the nodes that do their part.
-    pub(crate) nodes: &'a [u64],
-}
-
-fn has_number(numbers: &[u64], number: u64) -> bool
-    ensures { result ≡ has_number numbers.now number }
-{
-    numbers.iter().any(|other| same_number(number, *other))
+    pub(crate) nodes: &'a Marked<'a>,
 }
 
 impl<'a> Counts for Evicting<'a> {
@@ -36,7 +27,7 @@ impl<'a> Counts for Evicting<'a> {
     fn counts(&self, placement: &Placement, eviction: &Eviction) -> bool {
         let node = placement.node;
         node < self.snapshot.nodes.as_slice().len() as u64
-            && has_number(self.nodes, node)
+            && self.nodes.has(node)
             && counts(self.present, self.snapshot, self.stops, node, eviction)
     }
 }

@@ -16,10 +16,11 @@ ghost use Rattle.ns_apply.specs.Writing.{placed_on};
 ghost use Rattle.ns_change.specs.Changed.{Does};
 
 use crate::committed::Committed;
-use crate::looking::{has_number, node_name};
+use crate::looking::node_name;
 use crate::stopping::is_live;
 use keyed::NameTable;
 use ns_change::{Change, put_row, take_plan};
+use ns_marks::Marked;
 use ns_types::evaluation::Evaluation;
 use ns_types::job::JobKind;
 use ns_types::key::EvalKey;
@@ -44,7 +45,7 @@ pub(crate) fn numbers_made(committed: &Committed, last: u64) -> Result<Rows<u64>
     let mut numbers = Rows::new(committed.tables.alloc);
     let mut number = last;
     for placement in committed.plan.placing.placements.as_slice() {
-        if has_number(committed.nodes, placement.node) {
+        if committed.nodes.has(placement.node) {
             number += 1;
             numbers.push(number)?;
         }
@@ -122,12 +123,10 @@ fn any_live(tenant: &TenantRows, stops: &[u64]) -> bool
     stops.iter().any(|number| is_live(tenant, *number))
 }
 
-fn any_placed(nodes: &[u64], placements: &[Placement]) -> bool
+fn any_placed(nodes: &Marked<'_>, placements: &[Placement]) -> bool
     ensures { result ≡ list_any (λ p. has_number nodes.now p.node) placements.now }
 {
-    placements
-        .iter()
-        .any(|placement| has_number(nodes, placement.node))
+    placements.iter().any(|placement| nodes.has(placement.node))
 }
 
 /// What becomes of a plan that stands, where these of its nodes are dropped.

@@ -1,5 +1,6 @@
 //! The part of a plan that is done.
 
+use ns_marks::Marked;
 use ns_types::plan::Plan;
 use ns_types::snapshot::Snapshot;
 use ns_world::Tables;
@@ -12,5 +13,5 @@ pub struct Committed<'a> {
     pub snapshot: &'a Snapshot,
     pub plan: &'a Plan,
     /// The places in the snapshot of the nodes that do their part.
-    pub nodes: &'a [u64],
+    pub nodes: &'a Marked<'a>,
 }

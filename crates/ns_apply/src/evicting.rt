@@ -6,7 +6,7 @@ ghost use Rattle.ns_apply.specs.Writing.{placed_on};
 ghost use Rattle.ns_change.specs.Changed.{Does, view};
 
 use crate::committed::Committed;
-use crate::looking::{has_number, node_name};
+use crate::looking::node_name;
 use ns_alike::same_number;
 use ns_change::{Change, allocation, is_live_on, set_desired};
 use ns_types::allocation::DesiredStatus;
@@ -64,8 +64,7 @@ fn add_victims<'a>(
 }
 
 /// The evictions of the nodes that do their part, of those that count as the change leaves their allocations: in the
-/// plan's order, and an allocation may be named twice. It costs a look-up for each eviction of these nodes; whether a
-/// placement's node does its part, a walk over these nodes.
+/// plan's order, and an allocation may be named twice. It costs a look-up for each eviction of these nodes.
 pub(crate) fn victims<'a>(
     committed: &Committed<'a>,
     change: &Change,
@@ -78,7 +77,7 @@ pub(crate) fn victims<'a>(
 {
     let mut victims = Vec::new(committed.tables.alloc);
     for placement in committed.plan.placing.placements.as_slice() {
-        if has_number(committed.nodes, placement.node) {
+        if committed.nodes.has(placement.node) {
             add_victims(
                 &mut victims,
                 committed.tables,

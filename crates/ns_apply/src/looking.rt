@@ -1,19 +1,10 @@
 //! Places of nodes, and their names.
 
 ghost use Rattle.std.specs.Prelude.{◌≡◌, []};
-ghost use Rattle.ns_types.specs.State.Names.{has_number};
 ghost use Rattle.ns_types.specs.Working.Commit.{node_name};
 
-use ns_alike::same_number;
 use ns_types::snapshot::Snapshot;
 use ns_types::text::Text;
-
-/// Whether the number is among them.
-pub(crate) fn has_number(numbers: &[u64], number: u64) -> bool
-    ensures { result ≡ has_number numbers.now number }
-{
-    numbers.iter().any(|other| same_number(number, *other))
-}
 
 /// The name of the node at that place of the snapshot, or the nameless text where there is none.
 pub(crate) fn node_name<'a>(snapshot: &'a Snapshot, place: u64, nameless: &'a Text) -> &'a Text

@@ -7,7 +7,7 @@ ghost use Rattle.ns_apply.specs.Writing.{placed_on};
 ghost use Rattle.ns_change.specs.Changed.{Does, HasAllocationLeft, HasPlaceLeft, view};
 
 use crate::committed::Committed;
-use crate::looking::{has_number, node_name};
+use crate::looking::node_name;
 use ns_change::{Change, add_allocation, count_place, node};
 use ns_types::allocation::{Allocation, ClientStatus, DesiredStatus};
 use ns_types::job::Job;
@@ -93,7 +93,7 @@ fn place_all(committed: &Committed, change: &mut Change, job: &Job) -> Result<()
         (λ w. place_all committed.now.snapshot.now w placed) }
 {
     for placement in committed.plan.placing.placements.as_slice() {
-        if has_number(committed.nodes, placement.node) {
+        if committed.nodes.has(placement.node) {
             place_one(committed.tables, change, committed.snapshot, job, placement)?;
         }
     }
@@ -102,7 +102,7 @@ fn place_all(committed: &Committed, change: &mut Change, job: &Job) -> Result<()
 
 /// Places what the plan places on the nodes that do their part, in its order: each is a new allocation, pending under
 /// the next number of the snapshot's namespace, and has the next place of its node. It costs two look-ups and the copy
-/// of a node for each of them; whether a placement's node does its part, a walk over these nodes.
+/// of a node for each of them.
 pub(crate) fn place(committed: &Committed, change: &mut Change) -> Result<(), AllocError>
     requires { let placements = committed.now.plan.now.placing.placements in
         let placed = placed_on committed.now.nodes.now placements in

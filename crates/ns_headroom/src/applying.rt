@@ -11,32 +11,23 @@ ghost use Rattle.ns_headroom.specs.Judging.{own_part_passes, placed_on};
 ghost use Rattle.ns_headroom.specs.Releasing.{lives_at};
 
 use crate::ending::Headroom;
+use ns_marks::Marked;
 use ns_types::plan::{Placement, Plan};
 use ns_types::snapshot::Snapshot;
 use ns_types::text::{Text, same_text};
 
-#[tactic(auto, using(ns_types::proofs::Named::number_ties))]
-pub(crate) fn has_number(numbers: &[u64], number: u64) -> bool
-    ensures { result ≡ has_number numbers.now number }
-{
-    numbers.iter().any(|n| number == *n)
-}
-
 // ---- its own namespace
 
-fn any_placed(placements: &[Placement], committed: &[u64]) -> bool
+fn any_placed(placements: &[Placement], committed: &Marked<'_>) -> bool
     ensures { result ≡ list_any (λ p. has_number committed.now p.node) placements.now }
 {
-    placements.iter().any(|p| has_number(committed, p.node))
+    placements.iter().any(|p| committed.has(p.node))
 }
 
-fn count_placed(placements: &[Placement], committed: &[u64]) -> usize
+fn count_placed(placements: &[Placement], committed: &Marked<'_>) -> usize
     ensures { result ≡ length (placed_on committed.now placements.now) }
 {
-    placements
-        .iter()
-        .filter(|p| has_number(committed, p.node))
-        .count()
+    placements.iter().filter(|p| committed.has(p.node)).count()
 }
 
 fn any_live(headroom: &Headroom, namespace: &Text, numbers: &[u64]) -> bool
@@ -50,7 +41,7 @@ fn numbers_pass(
     headroom: &Headroom,
     namespace: &Text,
     placements: &[Placement],
-    committed: &[u64],
+    committed: &Marked<'_>,
 ) -> bool
     ensures { result ≡ allocations_pass headroom.now namespace.now
         (length (placed_on committed.now placements.now)) }
@@ -59,7 +50,12 @@ fn numbers_pass(
         && headroom.allocations_pass(namespace, count_placed(placements, committed) as u64)
 }
 
-fn does_something(headroom: &Headroom, snapshot: &Snapshot, plan: &Plan, committed: &[u64]) -> bool
+fn does_something(
+    headroom: &Headroom,
+    snapshot: &Snapshot,
+    plan: &Plan,
+    committed: &Marked<'_>,
+) -> bool
     ensures { result ≡ does_something (doing headroom.now snapshot.now plan.now committed.now) }
 {
     any_live(headroom, &snapshot.namespace, plan.stops.as_slice())
@@ -67,7 +63,7 @@ fn does_something(headroom: &Headroom, snapshot: &Snapshot, plan: &Plan, committ
 }
 
 /// Whether the number of the last allocation passes, or the index of the plan's namespace.
-fn own_passes(headroom: &Headroom, snapshot: &Snapshot, plan: &Plan, committed: &[u64]) -> bool
+fn own_passes(headroom: &Headroom, snapshot: &Snapshot, plan: &Plan, committed: &Marked<'_>) -> bool
     ensures { result ≡ own_passes headroom.now snapshot.now.namespace
         (doing headroom.now snapshot.now plan.now committed.now) }
 {
@@ -93,7 +89,7 @@ fn node_name<'a>(snapshot: &'a Snapshot, nameless: &'a Text, place: u64) -> &'a 
 fn is_on(
     snapshot: &Snapshot,
     nameless: &Text,
-    committed: &[u64],
+    committed: &Marked<'_>,
     name: &Text,
     placement: &Placement,
 ) -> bool
@@ -101,8 +97,7 @@ fn is_on(
     ensures { result ≡ (has_number committed.now placement.now.node
         && same_name name.now (node_name snapshot.now placement.now.node)) }
 {
-    has_number(committed, placement.node)
-        && same_text(name, node_name(snapshot, nameless, placement.node))
+    committed.has(placement.node) && same_text(name, node_name(snapshot, nameless, placement.node))
 }
 
 /// How many placements are on the node of that name.
@@ -110,7 +105,7 @@ fn count_on(
     snapshot: &Snapshot,
     nameless: &Text,
     placements: &[Placement],
-    committed: &[u64],
+    committed: &Marked<'_>,
     name: &Text,
 ) -> usize
     requires { nameless.now ≡ [] }
@@ -129,7 +124,7 @@ fn node_passes(
     snapshot: &Snapshot,
     nameless: &Text,
     placements: &[Placement],
-    committed: &[u64],
+    committed: &Marked<'_>,
     place: u64,
 ) -> bool
     requires { nameless.now ≡ [] }
@@ -150,19 +145,24 @@ fn any_node_passes(
     snapshot: &Snapshot,
     nameless: &Text,
     placements: &[Placement],
-    committed: &[u64],
+    committed: &Marked<'_>,
 ) -> bool
     requires { nameless.now ≡ [] }
     ensures { result ≡ list_any (committed_passes headroom.now snapshot.now
         (placed_on committed.now placements.now)) committed.now }
 {
-    committed.iter().any(|place| node_passes(
+    committed.as_slice().iter().any(|place| node_passes(
         headroom, snapshot, nameless, placements, committed, *place,
     ))
 }
 
 /// Whether the number of places of a node passes.
-fn places_pass(headroom: &Headroom, snapshot: &Snapshot, plan: &Plan, committed: &[u64]) -> bool
+fn places_pass(
+    headroom: &Headroom,
+    snapshot: &Snapshot,
+    plan: &Plan,
+    committed: &Marked<'_>,
+) -> bool
     requires { is_past_bound headroom.now ≡ false }
     ensures { let kept = snapshot.now in
         let placed = placed_on committed.now plan.now.placing.placements in
@@ -201,7 +201,7 @@ pub fn own_part_passes(
     headroom: &Headroom,
     snapshot: &Snapshot,
     plan: &Plan,
-    committed: &[u64],
+    committed: &Marked<'_>,
 ) -> bool
     requires { is_past_bound headroom.now ≡ false }
     ensures { result ≡ own_part_passes headroom.now snapshot.now plan.now committed.now }

@@ -8,8 +8,8 @@ ghost use Rattle.ns_plan.specs.After.{after_stops};
 ghost use Rattle.ns_plan.specs.Looks.{IsOnFewNodes};
 ghost use Rattle.ns_headroom.specs.Judging.{eviction_passes, evictions_pass_at, lost_part_passes};
 
-use crate::applying::has_number;
 use crate::ending::Headroom;
+use ns_marks::Marked;
 use ns_plan::{View, counts};
 use ns_types::plan::{Eviction, Placement, Plan};
 use ns_types::snapshot::Snapshot;
@@ -41,7 +41,7 @@ fn placement_passes<V: View>(
     view: &V,
     snapshot: &Snapshot,
     stops: &[u64],
-    committed: &[u64],
+    committed: &Marked<'_>,
     placement: &Placement,
 ) -> bool
     ensures { let kept = snapshot.now in let p = placement.now in
@@ -50,7 +50,7 @@ fn placement_passes<V: View>(
         (after_stops (V.world view.now) kept.namespace stops.now) kept p.node p.evictions) }
 {
     placement.node < snapshot.nodes.as_slice().len() as u64
-        && has_number(committed, placement.node)
+        && committed.has(placement.node)
         && any_eviction_passes(
             headroom,
             view,
@@ -66,7 +66,7 @@ fn any_placement_passes<V: View>(
     view: &V,
     snapshot: &Snapshot,
     stops: &[u64],
-    committed: &[u64],
+    committed: &Marked<'_>,
     placements: &[Placement],
 ) -> bool
     ensures { let kept = snapshot.now in
@@ -89,7 +89,7 @@ pub fn lost_part_passes<V: View>(
     view: &V,
     snapshot: &Snapshot,
     plan: &Plan,
-    committed: &[u64],
+    committed: &Marked<'_>,
 ) -> bool
     requires same { V.world view.now ≡ headroom.now }
     requires nodes { IsOnFewNodes snapshot.now plan.now }

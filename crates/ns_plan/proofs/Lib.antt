@@ -3,6 +3,7 @@ pub mod Capped
 pub mod Looks
 pub mod Afterwards
 pub mod Few
+pub mod Gathered
 pub mod Holding
 pub mod Leaves
 pub mod Steps

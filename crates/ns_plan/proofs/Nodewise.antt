@@ -1,6 +1,6 @@
 -- One placement more: its node is decided already, or there is room for it and it is decided now.
-use Rattle.std.specs.Prelude.{◌≡◌, ℕ, ◌+◌, ◌<◌, ◌++◌, Bool, true, false, cond, List, [], ◌∷◌, ◌||◌, Option, length}
-use Rattle.std.proofs.Common.{arith, get_or, refl, sym, ap, subst, take, ◌∙◌}
+use Rattle.std.specs.Prelude.{◌≡◌, ℕ, ◌+◌, ◌<◌, ◌++◌, Bool, true, false, cond, List, [], ◌∷◌, Option, length}
+use Rattle.std.proofs.Common.{arith, get_or, refl, sym, ap, subst, take}
 use Rattle.ns_types.specs.declared.plan.Placement.{Placement}
 use Rattle.ns_types.specs.declared.plan.Plan.{Plan}
 use Rattle.ns_types.specs.declared.snapshot.Snapshot.{Snapshot}
@@ -26,36 +26,30 @@ module _ (kept : Snapshot) (plan : Plan) (fits : IsOnFewNodes kept plan) (w : Wo
   abbrev r : Read
   r = read_all kept ps w nodes
 
-  module _ (b : Bool) (found : (has_number s.committed.items p.node || has_number s.dropped.items p.node) ≡ b) where
-    known : has_number nodes p.node ≡ b
-    known = sym ((read_is kept ps w nodes).has p.node)
-        ∙ (λ j. has_number (sym so_far.committed_is j) p.node || has_number (sym so_far.dropped_is j) p.node) ∙ found
+  pub next : (b : Bool) → has_number nodes p.node ≡ b → cond b nodes (nodes ++ p.node ∷ []) ≡ nodes_in (take (i + 1) ps)
+  next b known = nodes_step ps i p inside at nodes refl nodes refl b known
 
-    next : cond b nodes (nodes ++ p.node ∷ []) ≡ nodes_in (take (i + 1) ps)
-    next = nodes_step ps i p inside at nodes refl nodes refl b known
+  pub already : has_number nodes p.node ≡ true → IsSoFar w quota s (read_all kept ps w (nodes_in (take (i + 1) ps)))
+  already known = subst (λ l. IsSoFar w quota s (read_all kept ps w l)) (next true known) so_far
 
-  pub already : (has_number s.committed.items p.node || has_number s.dropped.items p.node) ≡ true →
-      IsSoFar w quota s (read_all kept ps w (nodes_in (take (i + 1) ps)))
-  already found = subst (λ l. IsSoFar w quota s (read_all kept ps w l)) (next true found) so_far
-
-  module _ (new : (has_number s.committed.items p.node || has_number s.dropped.items p.node) ≡ false) where
+  module _ (new : has_number nodes p.node ≡ false) where
     pub now : (s : SoFar) → IsSoFar w quota s (read_one kept ps w r p.node) → IsSoFar w quota s (read_all kept ps w (nodes_in (take (i + 1) ps)))
     now s is = subst (λ l. IsSoFar w quota s (read_all kept ps w l)) (next false new) (subst (IsSoFar w quota s) (sym (read_next kept ps w nodes p.node)) is)
 
     pub elsewhere_now : AreElsewhere w kept.pool (node_name kept p.node) r.keys
     elsewhere_now = elsewhere_is kept plan fits w p.node (node_inside kept plan fits i p inside at) nodes r (read_is kept ps w nodes)
-        (all_below kept plan fits i) (known false new)
+        (all_below kept plan fits i) new
 
     pub room_committed : length s.committed.items < 1000
     room_committed =
-        let room = has_room kept plan fits i p inside at (known false new) in
+        let room = has_room kept plan fits i p inside at new in
         let sum = (read_is kept ps w nodes).count in
         let same = ap length so_far.committed_is in
         omega (arith, room, sum, same)
 
     pub room_dropped : length s.dropped.items < 1000
     room_dropped =
-        let room = has_room kept plan fits i p inside at (known false new) in
+        let room = has_room kept plan fits i p inside at new in
         let sum = (read_is kept ps w nodes).count in
         let same = ap length so_far.dropped_is in
         omega (arith, room, sum, same)

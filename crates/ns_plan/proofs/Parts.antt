@@ -17,6 +17,7 @@ use Rattle.ns_types.proofs.Lists.{any_chosen, each, filter-append, filter_none}
 use Rattle.ns_types.proofs.Named.{numbers, one_number}
 use Rattle.ns_types.proofs.Tables.{tied}
 use Rattle.std.specs.Cmp.{eq_by_cmp_equiv}
+use Rattle.ns_marks.specs.Marks.{AreFlags}
 use Rattle.ns_plan.proofs.Holding.{take_next}
 use Rattle.ns_plan.specs.After.{after_stops, counted_stops}
 use Rattle.ns_plan.specs.Looks.{decision_of, job_at}
@@ -67,6 +68,11 @@ module _ (ps : List Placement) (i : ℕ) (p : Placement) (inside : i < length ps
       known : b ≡ has_number (map (λ p. p.node) (take i ps)) p.node
       known = sym e ∙ ap (λ l. has_number l p.node) (seen ∙ so_far)
           ∙ first_has same_number (eq_by_cmp_equiv numbers).symm (tied one_number) (map (λ p. p.node) (take i ps)) p.node
+
+  -- and its flag
+  pub flagged : (b : Bool) → has_number (nodes_in (take i ps)) p.node ≡ b → (flags : List Bool) →
+      AreFlags flags (cond b (nodes_in (take i ps)) (nodes_in (take i ps) ++ p.node ∷ [])) → AreFlags flags (nodes_in (take (i + 1) ps))
+  flagged b known flags = subst (AreFlags flags) (nodes_step (nodes_in (take i ps)) refl (nodes_in (take i ps)) refl b known)
 
 module _ (kept : Snapshot) (p : Plan) (w : World) (t : Tenant) (is : get w.tenants kept.namespace ≡ Some t) where
   abbrev ps : List Placement

@@ -4,11 +4,11 @@ ghost use Rattle.std.specs.Prelude.{◌≡◌};
 ghost use Rattle.ns_types.specs.Working.Commit.{nodes_in};
 ghost use Rattle.ns_plan.specs.Looks.{AreCounted, IsChecked, IsOnFewNodes};
 
-use crate::after::has_number;
 use crate::deciding::decide_all;
 use crate::stops::stands;
 use crate::view::View;
 use arrayvec::ArrayVec;
+use ns_marks::Flags;
 use ns_types::plan::Plan;
 use ns_types::snapshot::Snapshot;
 use std::marker::Model;
@@ -64,9 +64,12 @@ fn nodes_in(snapshot: &Snapshot, plan: &Plan) -> ArrayVec<u64, 1000>
     ensures { result.items ≡ nodes_in plan.now.placing.placements }
 {
     let mut nodes = ArrayVec::new();
+    let mut seen = Flags::new();
     for placement in plan.placing.placements.as_slice() {
-        if !has_number(&nodes, placement.node) {
-            nodes.push(placement.node);
+        let node = placement.node;
+        if !seen.has(node) {
+            seen.flag(node);
+            nodes.push(node);
         }
     }
     nodes
@@ -78,9 +81,10 @@ fn nodes_in(snapshot: &Snapshot, plan: &Plan) -> ArrayVec<u64, 1000>
 /// Of the plan's stops those count whose allocations are live (`live_stops`). What the nodes that do their part evict,
 /// `victims` lists.
 ///
-/// For each node of the plan it goes over the placements, asks the node's load once, and looks each stop up. It looks
-/// each eviction up once, with a walk over the stops where it is of the snapshot's namespace, and for each that counts
-/// it goes over the placements before it. What a quota has in use is asked once, and costs the square of the stops.
+/// It goes over the placements twice. For each node of the plan it asks the node's load once, looks each stop up, and
+/// goes from the node's first placement that evicts to its last. It looks each eviction up once, with a walk over the
+/// stops where it is of the snapshot's namespace, and for each that counts it goes from the node's first such placement
+/// to the eviction. What a quota has in use is asked once, and costs the square of the stops.
 pub fn check<V: View>(snapshot: &Snapshot, plan: &Plan, view: &V) -> Outcome
     requires counted { AreCounted (V.world view.now) }
     requires fits { IsOnFewNodes snapshot.now plan.now }

@@ -4,15 +4,18 @@ ghost use Rattle.std.specs.Prelude.{◌≡◌, ◌<◌, length, option_copied};
 ghost use Rattle.arrayvec.specs.ArrayVec.{array_vec_len};
 ghost use Rattle.ns_types.specs.Working.Commit.{nodes_in, quota_named};
 ghost use Rattle.ns_plan.specs.After.{after_stops};
+ghost use Rattle.ns_plan.specs.Gathered.{IsPart};
 ghost use Rattle.ns_plan.specs.Looks.{AreCounted, IsOnFewNodes};
 ghost use Rattle.ns_plan.specs.Reader.{Decides, IsDecided, read_all};
 
-use crate::after::{has_number, use_of};
+use crate::after::use_of;
 use crate::amounts::{Amount, add, amount_of};
+use crate::gathering::{Part, evicting, parts_of};
 use crate::leaving::left_at;
-use crate::taking::{node_name, size_of_part, takes};
+use crate::taking::{node_name, takes};
 use crate::view::View;
 use arrayvec::ArrayVec;
+use ns_marks::Flags;
 use ns_types::plan::Plan;
 use ns_types::resources::Resources;
 use ns_types::snapshot::Snapshot;
@@ -31,31 +34,21 @@ pub(crate) struct SoFar {
     pub(crate) dropped: ArrayVec<u64, 1000>,
 }
 
-impl SoFar {
-    ghost use Rattle.std.specs.Prelude.{◌≡◌, ◌||◌};
-    ghost use Rattle.ns_types.specs.State.Names.{has_number};
-
-    fn has(&self, node: u64) -> bool
-        ensures { result ≡ (has_number self.now.committed.items node
-            || has_number self.now.dropped.items node) }
-    {
-        has_number(self.committed.as_slice(), node) || has_number(self.dropped.as_slice(), node)
-    }
-}
-
-/// Decides for the node, which stands in neither list.
+/// Decides for the node, which stands in neither list, by its part of the plan.
 fn decide<V: View>(
     view: &V,
     snapshot: &Snapshot,
     plan: &Plan,
     quota: Option<&Text>,
     node: u64,
+    part: Part,
     so_far: &mut SoFar,
 )
     requires counted { AreCounted (V.world view.now) }
     requires quota { option_copied quota ≡
         quota_named (V.world view.now) snapshot.now.namespace }
     requires inside { node < length snapshot.now.nodes }
+    requires part { IsPart node plan.now.placing.placements part }
     requires room { array_vec_len so_far.old.committed < 1000 }
     requires room_dropped { array_vec_len so_far.old.dropped < 1000 }
     ensures { Decides snapshot.now plan.now.placing.placements
@@ -64,21 +57,12 @@ fn decide<V: View>(
 {
     let stops = plan.stops.as_slice();
     let placements = plan.placing.placements.as_slice();
+    let run = evicting(placements, part);
     let name = node_name(snapshot, node);
-    let left = left_at(
-        view,
-        snapshot,
-        stops,
-        placements,
-        quota,
-        node,
-        name,
-        so_far.used,
-    );
-    let size = size_of_part(placements, node);
-    if takes(view, snapshot, quota, name, left, size, so_far.placed) {
+    let left = left_at(view, snapshot, stops, run, quota, node, name, so_far.used);
+    if takes(view, snapshot, quota, name, left, part.size, so_far.placed) {
         so_far.used = left.used;
-        so_far.placed = add(so_far.placed, size);
+        so_far.placed = add(so_far.placed, part.size);
         so_far.committed.push(node);
     } else {
         so_far.dropped.push(node);
@@ -101,9 +85,14 @@ pub(crate) fn decide_all<V: View>(view: &V, snapshot: &Snapshot, plan: &Plan) ->
         committed: ArrayVec::new(),
         dropped: ArrayVec::new(),
     };
+    let parts = parts_of(snapshot, plan);
+    let mut decided = Flags::new();
     for placement in plan.placing.placements.as_slice() {
-        if !so_far.has(placement.node) {
-            decide(view, snapshot, plan, quota, placement.node, &mut so_far);
+        let node = placement.node;
+        if !decided.has(node) {
+            decided.flag(node);
+            let part = parts[node as usize];
+            decide(view, snapshot, plan, quota, node, part, &mut so_far);
         }
     }
     so_far

@@ -149,9 +149,9 @@ fn without_victims<V: View>(
     left
 }
 
-/// What is left of the node's load, and of the use that was left of the quota, without the victims of the node's part.
-/// It costs a walk over the placements, a look-up for each stop and for each eviction of the part, and for each of
-/// these that counts another walk over the placements before it.
+/// What is left of the node's load, and of the use that was left of the quota, without the victims of the node's part
+/// of these placements. It costs a walk over them, a look-up for each stop and for each eviction of the part, and for
+/// each of these that counts another walk over the placements before it.
 pub(crate) fn left_at<V: View>(
     view: &V,
     snapshot: &Snapshot,

@@ -6,6 +6,7 @@ mod amounts;
 mod checking;
 mod deciding;
 mod evicting;
+mod gathering;
 pub mod laws;
 mod leaving;
 mod stops;

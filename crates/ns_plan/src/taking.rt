@@ -5,7 +5,7 @@ ghost use Rattle.std.specs.Option.{option_map_or};
 ghost use Rattle.ns_types.specs.declared.resources.Resources.{Resources};
 ghost use Rattle.ns_types.specs.Placing.Plan.{constraints_of};
 ghost use Rattle.ns_types.specs.State.Resources.{is_within, limits_allow, plus};
-ghost use Rattle.ns_types.specs.Working.Commit.{node_name, part_of, size_of};
+ghost use Rattle.ns_types.specs.Working.Commit.{node_name};
 ghost use Rattle.ns_plan.specs.Amounts.{amount_of};
 ghost use Rattle.ns_plan.specs.Looks.{limits_of};
 ghost use Rattle.ns_plan.specs.Reader.{accepts_left, takes_left};
@@ -16,7 +16,6 @@ use crate::view::View;
 use ns_place::feasible;
 use ns_types::job::{Constraint, Job};
 use ns_types::node::Node;
-use ns_types::plan::Placement;
 use ns_types::resources::Resources;
 use ns_types::snapshot::Snapshot;
 use ns_types::text::Text;
@@ -27,19 +26,6 @@ pub(crate) fn node_name(snapshot: &Snapshot, node: u64) -> &Text
     ensures { result.now ≡ node_name snapshot.now node }
 {
     &snapshot.nodes.as_slice()[node as usize].get().name
-}
-
-/// What the placements on the node take.
-pub(crate) fn size_of_part(placements: &[Placement], node: u64) -> Amount
-    ensures { result ≡ amount_of (size_of (part_of node placements.now)) }
-{
-    let mut sum = amount_of(Resources { cpu: 0, memory: 0 });
-    for placement in placements {
-        if placement.node == node {
-            sum = add(sum, amount_of(placement.size));
-        }
-    }
-    sum
 }
 
 fn constraints_of(job: &Option<Job>) -> &[Constraint]

@@ -37,7 +37,7 @@ returns-then-passes c =
     let off = sym c.is_refused.ensures ∙ c.if-is_refused.false in
     comes_full c.args.turn.now.number w t c.args.turn.now.worker.now c.args.turn.now.evaluation.now kept p c.check-outcome.result there
     c.check-outcome.ensures off
-    (ap (λ nodes. apply_passes w kept (doing w kept p nodes)) (sym c.committed-nodes.ensures) ∙ sym c.passes.ensures ∙ c.if-passes.true)
+    (ap (λ nodes. apply_passes w kept (doing w kept p nodes)) (sym (c.new-nodes.ensures ∙ c.committed.ensures)) ∙ sym c.passes.ensures ∙ c.if-passes.true)
 
 pub apply_standing-requires-clause-can : goal.apply_standing-requires-clause-can
 apply_standing-requires-clause-can c =
@@ -48,10 +48,10 @@ apply_standing-requires-clause-can c =
     let p = c.args.plan.now in
     let there = tenant_at tables kept.namespace ∙ ap (option_map tenant_of) c.requires.tenant in
     let off = sym c.is_refused.ensures ∙ c.if-is_refused.false in
-    subst (λ nodes. CanWrite kept p w t nodes) (sym c.committed-nodes.ensures)
+    subst (λ nodes. CanWrite kept p w t nodes) (sym (c.new-nodes.ensures ∙ c.committed.ensures))
     (can_write c.args.turn.now.number w t c.args.turn.now.worker.now c.args.turn.now.evaluation.now kept p c.check-outcome.result there
     c.check-outcome.ensures off
-    (ap (λ nodes. apply_passes w kept (doing w kept p nodes)) (sym c.committed-nodes.ensures) ∙ sym c.passes.ensures ∙ c.if-passes.false)
+    (ap (λ nodes. apply_passes w kept (doing w kept p nodes)) (sym (c.new-nodes.ensures ∙ c.committed.ensures)) ∙ sym c.passes.ensures ∙ c.if-passes.false)
     c.requires.within)
 
 pub apply_standing-requires-clause-dropped : goal.apply_standing-requires-clause-dropped
@@ -75,5 +75,5 @@ returns c =
     prepares_as _ _ tables c.apply_standing.result
     (comes_done c.args.turn.now.number w t c.args.turn.now.worker.now c.args.turn.now.evaluation.now kept p c.check-outcome.result there
     c.check-outcome.ensures off
-    (ap (λ nodes. apply_passes w kept (doing w kept p nodes)) (sym c.committed-nodes.ensures) ∙ sym c.passes.ensures ∙ c.if-passes.false))
+    (ap (λ nodes. apply_passes w kept (doing w kept p nodes)) (sym (c.new-nodes.ensures ∙ c.committed.ensures)) ∙ sym c.passes.ensures ∙ c.if-passes.false))
     c.apply_standing.ensures

@@ -6,7 +6,7 @@ use Rattle.ns_apply.specs.Placing.{CanPlace}
 use Rattle.ns_apply.specs.Writing.{placed_on}
 use Rattle.ns_apply.proofs.Placements.{next_passed, next_placed, place_left, still_left}
 use Rattle.ns_apply.proofs.placing.place_all.Goals as goal
-use Rattle.ns_apply.proofs.placing.place_all.Goals.{then-has_number+in_ok-place_one, else-has_number}
+use Rattle.ns_apply.proofs.placing.place_all.Goals.{then-has+in_ok-place_one, else-has}
 
 pub place_one-requires-clause-place : goal.place_one-requires-clause-place
 place_one-requires-clause-place c =
@@ -17,7 +17,7 @@ place_one-requires-clause-place c =
     let p = c.placement-item.result in
     let i = c.loop-placement.placement-index in
     let next = next_placed nodes placements c.as_slice-placement-items.result.now c.as_slice-placement-items.ensures i p
-    c.loop-placement-test.true c.placement-item.is (sym c.has_number.ensures ∙ c.if-has_number.true) in
+    c.loop-placement-test.true c.placement-item.is (sym c.has.ensures ∙ c.if-has.true) in
     place_left kept p (placed_on nodes (drop (i + 1) placements)) w (subst (λ (l : List Placement). CanPlace kept l w) next c.loop-placement.invariant.left)
 
 pub loop-placement-preserved : goal.loop-placement-preserved
@@ -32,10 +32,10 @@ loop-placement-preserved c =
     let rest = placed_on nodes (drop (i + 1) placements) in
     let xs = c.as_slice-placement-items.result.now in
     let same = c.as_slice-placement-items.ensures in
-    elim c.if-has_number.branch [
-      | then-has_number+in_ok-place_one v ↦
+    elim c.if-has.branch [
+      | then-has+in_ok-place_one v ↦
           let next = next_placed nodes placements xs same i p c.loop-placement-test.true c.placement-item.is
-          (sym c.has_number.ensures ∙ v.if-has_number.true) in
+          (sym c.has.ensures ∙ v.if-has.true) in
           let done = ap (view tables) v.change-is ∙ v.in_ok-place_one.ensures in
           record {
             left =
@@ -43,9 +43,9 @@ loop-placement-preserved c =
                 (subst (λ (l : List Placement). CanPlace kept l w) next c.loop-placement.invariant.left));
             placed = ap (λ x. place_all kept x rest) done ∙ ap (place_all kept w) (sym next) ∙ c.loop-placement.invariant.placed;
           }
-      | else-has_number v ↦
+      | else-has v ↦
           let next = next_passed nodes placements xs same i p c.loop-placement-test.true c.placement-item.is
-          (sym c.has_number.ensures ∙ v.if-has_number.false) in
+          (sym c.has.ensures ∙ v.if-has.false) in
           let stays = ap (view tables) v.change-is in
           record {
             left = subst (CanPlace kept rest) (sym stays) (subst (λ (l : List Placement). CanPlace kept l w) next c.loop-placement.invariant.left);

@@ -1,8 +1,9 @@
-use Rattle.std.proofs.Common.{◌∙◌, ◌++◌, ◌∷◌, [], ap, option_copied, sym}
+use Rattle.std.proofs.Common.{◌∙◌, ◌++◌, ◌∷◌, [], ap, option_copied, subst, sym}
 use Rattle.ns_types.specs.Working.Commit.{node_name, part_of, size_of}
 use Rattle.ns_types.proofs.Once.{once}
 use Rattle.ns_plan.specs.After.{after_stops}
-use Rattle.ns_plan.specs.Amounts.{added, amount_of}
+use Rattle.ns_plan.specs.Amounts.{added}
+use Rattle.ns_plan.specs.Gathered.{IsPart}
 use Rattle.ns_plan.specs.Reader.{evictions_of, is_on, left_by, quota_left, takes_left, with_victims}
 use Rattle.ns_plan.proofs.Capped.{amount_added}
 use Rattle.ns_plan.proofs.Steps.{left_is, step_left, step_taken, takes_same}
@@ -22,12 +23,13 @@ returns-then-takes g c = λ r so_far elsewhere.
     let stops_is = c.as_slice-stops.ensures in
     let ps_is = c.as_slice-placements.ensures in
     let name_is = c.node_name-name.ensures in
+    let run_is = c.evicting-run.ensures k (subst (λ l. IsPart k l c.args.part) (sym ps_is) c.requires.part) ∙ ap (λ l. evictions_of (part_of k l)) ps_is in
     let left = c.left_at-left.ensures r.keys
     (λ key on. elsewhere key ((λ i. is_on (after_stops w kept.namespace (sym stops_is i)) pool (sym name_is i) key) ∙ on))
     (so_far.used_is ∙ ap (λ l. quota_left (after_stops w kept.namespace l) quota (once r.keys)) (sym stops_is))
-    ∙ (λ i. left_by (after_stops w kept.namespace (stops_is i)) pool (name_is i) quota r.keys (evictions_of (part_of k (ps_is i))))
+    ∙ (λ i. left_by (after_stops w kept.namespace (stops_is i)) pool (name_is i) quota r.keys (run_is i))
     ∙ left_is kept ps x quota r k in
-    let size = c.size_of_part-size.ensures ∙ ap (λ l. amount_of (size_of (part_of k l))) ps_is in
+    let size = c.requires.part.size_is in
     let decided = c.takes.ensures (size_of part) r.placed size so_far.placed_is
     ∙ (λ i. takes_left kept w quota (name_is i) (left i) (size_of part) r.placed)
     ∙ takes_same kept w stops quota c.requires.quota (with_victims kept x r.keys part) (node_name kept k) (size_of part) r.placed in
@@ -49,12 +51,13 @@ returns-else-takes g c = λ r so_far elsewhere.
     let stops_is = c.as_slice-stops.ensures in
     let ps_is = c.as_slice-placements.ensures in
     let name_is = c.node_name-name.ensures in
+    let run_is = c.evicting-run.ensures k (subst (λ l. IsPart k l c.args.part) (sym ps_is) c.requires.part) ∙ ap (λ l. evictions_of (part_of k l)) ps_is in
     let left = c.left_at-left.ensures r.keys
     (λ key on. elsewhere key ((λ i. is_on (after_stops w kept.namespace (sym stops_is i)) pool (sym name_is i) key) ∙ on))
     (so_far.used_is ∙ ap (λ l. quota_left (after_stops w kept.namespace l) quota (once r.keys)) (sym stops_is))
-    ∙ (λ i. left_by (after_stops w kept.namespace (stops_is i)) pool (name_is i) quota r.keys (evictions_of (part_of k (ps_is i))))
+    ∙ (λ i. left_by (after_stops w kept.namespace (stops_is i)) pool (name_is i) quota r.keys (run_is i))
     ∙ left_is kept ps x quota r k in
-    let size = c.size_of_part-size.ensures ∙ ap (λ l. amount_of (size_of (part_of k l))) ps_is in
+    let size = c.requires.part.size_is in
     let decided = c.takes.ensures (size_of part) r.placed size so_far.placed_is
     ∙ (λ i. takes_left kept w quota (name_is i) (left i) (size_of part) r.placed)
     ∙ takes_same kept w stops quota c.requires.quota (with_victims kept x r.keys part) (node_name kept k) (size_of part) r.placed in

@@ -1,0 +1,5 @@
+use Rattle.std.proofs.Common.{arith, refl}
+use Rattle.ns_plan.proofs.gathering.no_part.Goals as goal
+
+pub returns : goal.returns
+returns c = λ k. record { size_is = c.amount_of.ensures; order = omega arith; inside = omega arith; none_before = refl; none_behind = refl }

@@ -1,0 +1,80 @@
+//! What a plan does on each node, gathered in one walk over its placements.
+
+ghost use Rattle.std.specs.Prelude.{◌≡◌, ◌+◌, ◌<◌, ◌≤◌, ◌++◌, ◌∷◌, [], ℕ, List, length};
+ghost use Rattle.ns_types.specs.declared.plan.Placement.{Placement};
+ghost use Rattle.ns_types.specs.Working.Commit.{part_of};
+ghost use Rattle.ns_plan.specs.Gathered.{AreParts, IsPart};
+ghost use Rattle.ns_plan.specs.Looks.{IsOnFewNodes};
+ghost use Rattle.ns_plan.specs.Reader.{evictions_of};
+
+use crate::amounts::{Amount, add, amount_of};
+use ns_types::plan::{Placement, Plan};
+use ns_types::resources::Resources;
+use ns_types::snapshot::Snapshot;
+
+/// The placements on one node.
+#[derive(Clone, Copy, Debug)]
+pub(crate) struct Part {
+    /// What they take together.
+    pub(crate) size: Amount,
+    /// The place in the plan of the first that evicts something.
+    pub(crate) start: usize,
+    /// The place behind the last that does.
+    pub(crate) end: usize,
+}
+
+fn no_part() -> Part
+    ensures { (k : ℕ) → IsPart k [] result }
+{
+    Part {
+        size: amount_of(Resources { cpu: 0, memory: 0 }),
+        start: 0,
+        end: 0,
+    }
+}
+
+/// With the next placement too, which is on the node. The plan's places end behind it at `end`.
+fn with_next(part: Part, placement: &Placement, end: usize) -> Part
+    requires { 0 < end }
+    ensures { (before : List Placement) → end ≡ length before + 1 →
+        IsPart placement.now.node before part →
+        IsPart placement.now.node (before ++ placement.now ∷ []) result }
+{
+    let size = add(part.size, amount_of(placement.size));
+    if placement.evictions.as_slice().is_empty() {
+        Part { size, ..part }
+    } else if part.end == 0 {
+        Part {
+            size,
+            start: end - 1,
+            end,
+        }
+    } else {
+        Part { size, end, ..part }
+    }
+}
+
+/// The part of each node, by the node's place.
+pub(crate) fn parts_of(snapshot: &Snapshot, plan: &Plan) -> [Part; 1000]
+    requires { IsOnFewNodes snapshot.now plan.now }
+    ensures { AreParts plan.now.placing.placements result }
+{
+    let placements = plan.placing.placements.as_slice();
+    let mut parts = [no_part(); 1000];
+    for i in 0..placements.len() {
+        let placement = &placements[i];
+        let node = placement.node as usize;
+        parts[node] = with_next(parts[node], placement, i + 1);
+    }
+    parts
+}
+
+/// The placements from the first on the node that evicts something to the last.
+pub(crate) fn evicting(placements: &[Placement], part: Part) -> &[Placement]
+    requires order { part.start ≤ part.end }
+    requires inside { part.end ≤ length placements.now }
+    ensures { (k : ℕ) → IsPart k placements.now part →
+        evictions_of (part_of k result.now) ≡ evictions_of (part_of k placements.now) }
+{
+    &placements[part.start..part.end]
+}
