@@ -31,7 +31,9 @@ use Rattle.ns_change.specs.declared.change.PoolChange.{PoolChange}
 use Rattle.ns_change.specs.declared.change.TenantChange.{TenantChange}
 use Rattle.ns_change.specs.Changed.{changed, changed_list, changed_pool, changed_quota, changed_tenant, perhaps}
 use Rattle.ns_change.proofs.Nothing.{no_entries}
-use Rattle.ns_nodes.proofs.Renewed.{all_rows, get_made, keys_counted, keys_in, keys_of, losses_are, lost_tenant, made_at, renewal}
+use Rattle.ns_renewal.specs.Renewing.{keys_in}
+use Rattle.ns_renewal.proofs.Made.{get_made, made_at, renewal}
+use Rattle.ns_nodes.proofs.Renewed.{all_rows, keys_counted, keys_of, losses_are, lost_tenant}
 
 -- ---- one namespace
 
@@ -44,13 +46,13 @@ renewed_in [] ns t = t
 renewed_in (loss ∷ losses) ns t = renewed_in losses ns (made_at loss.0 (λ t. evaluation_for t loss.1 Trigger.NodeUpdate) ns t)
 
 renewed_tenants : (w : World) (losses : List (Name × Allocation)) (x : World) (ns : Name) →
-    get (fold (renewal w) x losses).tenants ns ≡ option_map (renewed_in losses ns) (get x.tenants ns)
+    get (fold (renewal Trigger.NodeUpdate w) x losses).tenants ns ≡ option_map (renewed_in losses ns) (get x.tenants ns)
 renewed_tenants w [] x ns = by (get x.tenants ns)
   where
     by : (o : Option Tenant) → o ≡ option_map (renewed_in [] ns) o
     by None = refl
     by (Some t) = refl
-renewed_tenants w (loss ∷ losses) x ns = renewed_tenants w losses (renewal w x loss) ns
+renewed_tenants w (loss ∷ losses) x ns = renewed_tenants w losses (renewal Trigger.NodeUpdate w x loss) ns
     ∙ ap (option_map (renewed_in losses ns)) (get_made loss.0 (λ t. evaluation_for t loss.1 Trigger.NodeUpdate) x ns) ∙ by (get x.tenants ns)
   where
     by : (o : Option Tenant) →
@@ -144,9 +146,9 @@ module _ {A : Type 0} (part : World → A) (ready : (w : World) (keys : List Key
       by (Some t) = queue_keeps part ready (put_tenant ns (with_evaluation (evaluation t) t) x) (ns, t.evaluation_number + 1)
           ∙ tenants x (insert x.tenants ns (with_evaluation (evaluation t) t))
 
-  renewed_keeps : (w : World) (losses : List (Name × Allocation)) (x : World) → part (fold (renewal w) x losses) ≡ part x
+  renewed_keeps : (w : World) (losses : List (Name × Allocation)) (x : World) → part (fold (renewal Trigger.NodeUpdate w) x losses) ≡ part x
   renewed_keeps w [] x = refl
-  renewed_keeps w (loss ∷ losses) x = renewed_keeps w losses (renewal w x loss)
+  renewed_keeps w (loss ∷ losses) x = renewed_keeps w losses (renewal Trigger.NodeUpdate w x loss)
       ∙ made_keeps loss.0 (λ t. evaluation_for t loss.1 Trigger.NodeUpdate) x
 
 -- ---- tables and lists with changes over them

@@ -6,14 +6,11 @@ use Rattle.std.specs.Option.{option_map_or}
 use Rattle.std.specs.FinMap.{empty, entries, from_entries, get, insert, values}
 use Rattle.keyed.specs.Table.{has_slot, row_list, with_slot}
 use Rattle.ns_types.specs.declared.allocation.Allocation.{Allocation}
-use Rattle.ns_types.specs.declared.evaluation.Trigger.TheVariants as Trigger
 use Rattle.ns_types.specs.Asking.Nodes.{losing_jobs}
-use Rattle.ns_types.specs.Settling.Making.{evaluation_for, make}
 use Rattle.ns_types.specs.State.Names.{Name, Key, ByName, ByNumber, name_cmp, same_name}
 use Rattle.ns_types.specs.State.Rows.{World, Tenant, is_live_on}
 use Rattle.ns_types.specs.State.Tables.{any_row}
 use Rattle.ns_types.specs.Steps.{greatest}
-use Rattle.ns_change.specs.Changed.{HasEvaluationLeft}
 use Rattle.ns_bounds.specs.Bounds.{is_at_bound}
 use Rattle.ns_bounds.specs.Given.{given_limits_pass}
 use Rattle.ns_world.specs.declared.tables.TenantRows.{TenantRows}
@@ -55,16 +52,6 @@ losing_keys_in pool node ns t = map (λ a. (ns, a.0)) (losing_rows pool node t)
 -- by namespace, then job id
 abbrev pub losing_keys : Name → Name → World → List Key
 losing_keys pool node w = flat_map (λ e. losing_keys_in pool node e.0 e.1) (entries w.tenants)
-
--- the job of the allocation at that key gets an evaluation, with what the job was before the step
-abbrev pub renewed : World → World → Key → World
-renewed w x key = option_map_or (λ t. option_map_or
-    (λ a. make key.0 (λ _. evaluation_for t a Trigger.NodeUpdate) x) (get t.allocations key.1) x) (get w.tenants key.0) x
-
--- each namespace has the number that comes next, one key after the other
-abbrev pub CanRenew : World → World → List Key → Type 0
-CanRenew w x [] = Unit {0}
-CanRenew w x (key ∷ keys) = HasEvaluationLeft x key.0 × CanRenew w (renewed w x key) keys
 
 -- ---- slot by slot
 

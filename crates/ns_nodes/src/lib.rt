@@ -10,7 +10,6 @@ mod losing;
 mod prepared;
 mod registered;
 mod removed;
-mod renewing;
 mod status;
 
 pub use eligible::{set_eligible, set_ready};

@@ -17,9 +17,10 @@ ghost use Rattle.ns_world.specs.World.{world_of};
 use crate::bounds::loss_passes;
 use crate::losing::losing_keys;
 use crate::prepared::node_of;
-use crate::renewing::renew_each;
 use ns_change::{Change, Prepared, copied_node, lose, prepare, put_node};
 use ns_live::Live;
+use ns_renewal::renew_each;
+use ns_types::evaluation::Trigger;
 use ns_types::node::{Node, NodeStatus};
 use ns_types::refusal::Refusal;
 use ns_types::reply::Content;
@@ -36,7 +37,7 @@ fn go_down(tables: &Tables, change: &mut Change, pool: &Text, name: &Text) -> Re
 {
     let keys = losing_keys(tables, pool, name)?;
     lose(tables, change, pool, name)?;
-    renew_each(tables, change, keys.as_slice())
+    renew_each(tables, change, keys.as_slice(), Trigger::NodeUpdate)
 }
 
 /// The node is put, and then it goes down.

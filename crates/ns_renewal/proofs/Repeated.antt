@@ -53,7 +53,8 @@ module _ {A : Type 0} (same : A → A → Bool) (p : A → Bool) (alike : (x y :
       by : (b : Bool) → p x ≡ b → filter p (first_each same xs) ≡ first_each same (filter p xs) →
           cond b (x ∷ filter p (filter others (first_each same xs))) (filter p (filter others (first_each same xs)))
           ≡ first_each same (cond b (x ∷ filter p xs) (filter p xs))
-      by true e rest = ap (λ l. x ∷ l) (filter_chosen p others others (first_each same xs) (each _ (λ y _. refl) (first_each same xs)) ∙ ap (filter others) rest)
+      by true e rest = ap (λ l. x ∷ l)
+          (filter_chosen p others others (first_each same xs) (each _ (λ y _. refl) (first_each same xs)) ∙ ap (filter others) rest)
       by false e rest = sym (filter_inside others p (first_each same xs) (each _ (fails e) (first_each same xs))) ∙ rest
 
 -- ---- rows by key
