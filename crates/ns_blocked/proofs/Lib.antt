@@ -1,0 +1,4 @@
+pub mod ByKey
+pub mod Grouping
+pub mod Listed
+pub mod Rooms

@@ -1,0 +1,111 @@
+-- The list of blocked evaluations, in the order in which they were blocked, and what each waits for.
+use Rattle.std.specs.Prelude.{◌≡◌, ℕ, ◌+◌, ◌<◌, ◌^◌, Bool, true, not, ◌&&◌, cond, IsTrue, List}
+use Rattle.std.specs.Prelude.{[], ◌∷◌, ◌++◌, map, filter, Option, Some, None, option_map, false}
+use Rattle.std.specs.FinMap.{entries, values}
+use Rattle.keyed.specs.Table.{has_slot, row_at, rows}
+use Rattle.ns_blocked.specs.declared.entry.Entry.{Entry}
+use Rattle.ns_blocked.specs.declared.entry.Waits.{Waits}
+use Rattle.ns_blocked.specs.declared.groups.Groups.{Groups}
+use Rattle.ns_blocked.specs.declared.index.Index.{Index}
+use Rattle.ns_blocked.specs.ByKey.{KeepsRows, WritesRow, has_room, row_in}
+use Rattle.ns_blocked.specs.ByKey as by_key
+use Rattle.ns_blocked.specs.Groups.{KeepsGroupRoom, KeepsGroups, WritesGroup, group_room, group_row, same_waits}
+use Rattle.ns_types.specs.State.Names.{Key, ByNumber, has_key, same_number}
+use Rattle.ns_types.specs.State.Tables.{table_of}
+
+-- ---- the entries
+
+abbrev pub entry_in : Groups → ℕ → Option Waits → Option Entry
+entry_in groups place None = None
+entry_in groups place (Some waits) = option_map (λ key. record { key = key; waits = waits }) (group_row groups waits place)
+
+abbrev pub entry_at : Index → ℕ → Option Entry
+entry_at index place = entry_in index.groups place (row_at index.waits place)
+
+-- the entries by their places
+unfoldable pub by_place : Index → ByNumber Entry
+by_place index = rows (table_of (λ place _. entry_at index place) index.waits)
+
+-- the index of the entries, and the first place that none has had yet
+pub record BlockedList : Type 0 where
+  pub index : Index
+  pub next : ℕ
+
+-- the entries in their order
+abbrev pub entries_of : BlockedList → List Entry
+entries_of b = values (by_place b.index)
+
+abbrev pub keys_of : BlockedList → List Key
+keys_of b = map (λ e. e.key) (entries_of b)
+
+-- the keys of those that wait for it, in their order, with their places
+abbrev pub waiting_for : Waits → BlockedList → List (ℕ × Key)
+waiting_for waits b = map (λ e. (e.0, e.1.key)) (filter (λ e. same_waits waits e.1.waits) (entries (by_place b.index)))
+
+-- none of the entries' keys is among those, and none comes twice
+abbrev pub are_new : List Key → List Entry → Bool
+are_new keys [] = true
+are_new keys (e ∷ es) = not (has_key keys e.key) && are_new (keys ++ e.key ∷ []) es
+
+-- ---- room
+
+-- the entry can be put at this place without memory
+pub record HasRoomAt (place : ℕ) (e : Entry) (index : Index) : Type 0 where
+  pub waits : IsTrue (has_slot index.waits place)
+  pub group : IsTrue (group_room index.groups e.waits place)
+  pub key : IsTrue (has_room index.places e.key)
+
+abbrev pub HasRoomFrom : ℕ → List Entry → Index → Type 0
+HasRoomFrom place [] index = Unit {0}
+HasRoomFrom place (e ∷ es) index = (place + 1 < 2 ^ 64) × HasRoomAt place e index × HasRoomFrom (place + 1) es index
+
+-- the entries can be appended without memory
+abbrev pub CanAdd : List Entry → BlockedList → Type 0
+CanAdd es b = HasRoomFrom b.next es b.index
+
+-- ---- what holds of every list
+
+-- the entry's key, where it waits for that
+abbrev pub key_for : Waits → Option Entry → Option Key
+key_for waits None = None
+key_for waits (Some e) = cond (same_waits waits e.waits) (Some e.key) None
+
+pub record IsIndexed (index : Index) (next : ℕ) : Type 0 where
+  -- a group has the keys of those that wait for it, at their places
+  pub grouped : (waits : Waits) (n : ℕ) → group_row index.groups waits n ≡ key_for waits (entry_at index n)
+  -- each is found by its key, and no other key has a place
+  pub placed : (n : ℕ) (e : Entry) → entry_at index n ≡ Some e → row_in index.places e.key ≡ Some n
+  pub there : (key : Key) (n : ℕ) → row_in index.places key ≡ Some n → option_map (λ e. e.key) (entry_at index n) ≡ Some key
+  -- the places to come are behind
+  pub before : (n : ℕ) (e : Entry) → entry_at index n ≡ Some e → n < next
+
+-- ---- what a change leaves
+
+pub record SameIndex (old new : Index) : Type 0 where
+  pub entry : (n : ℕ) → entry_at new n ≡ entry_at old n
+  pub groups : KeepsGroups old.groups new.groups
+  pub places : KeepsRows old.places new.places
+
+pub record KeepsIndexRoom (old new : Index) : Type 0 where
+  pub waits : (n : ℕ) → IsTrue (has_slot old.waits n) → IsTrue (has_slot new.waits n)
+  pub groups : KeepsGroupRoom old.groups new.groups
+  pub keys : by_key.KeepsRoom old.places new.places
+
+-- the room of all places but one
+pub record KeepsRoomBut (at : ℕ) (old new : Index) : Type 0 where
+  pub waits : (n : ℕ) → IsTrue (has_slot old.waits n) → IsTrue (has_slot new.waits n)
+  pub groups : (waits : Waits) (n : ℕ) → same_number n at ≡ false →
+      IsTrue (group_room old.groups waits n) → IsTrue (group_room new.groups waits n)
+  pub keys : by_key.KeepsRoom old.places new.places
+
+-- the entry is at this place afterwards
+pub record PutsEntry (at : ℕ) (e : Entry) (old new : Index) : Type 0 where
+  pub entry : (n : ℕ) → entry_at new n ≡ cond (same_number n at) (Some e) (entry_at old n)
+  pub groups : WritesGroup e.waits at (Some e.key) old.groups new.groups
+  pub places : WritesRow e.key (Some at) old.places new.places
+
+-- the entry of this place is gone afterwards
+pub record TakesEntry (at : ℕ) (e : Entry) (old new : Index) : Type 0 where
+  pub entry : (n : ℕ) → entry_at new n ≡ cond (same_number n at) None (entry_at old n)
+  pub groups : WritesGroup e.waits at None old.groups new.groups
+  pub places : WritesRow e.key None old.places new.places

@@ -1,0 +1,96 @@
+//! Which entries wait for the same quota or pool, by their places in the list.
+
+ghost use Rattle.std.specs.Prelude.{◌≡◌, ℕ, IsTrue, None, OnOk, Some};
+ghost use Rattle.std.specs.FinMap.{entries};
+ghost use Rattle.ns_blocked.specs.declared.entry.Waits.{Waits};
+ghost use Rattle.ns_blocked.specs.Groups.{KeepsGroupRoom, KeepsGroups, KeepsOtherGroupRoom};
+ghost use Rattle.ns_blocked.specs.Groups.{WritesGroup, group_of, group_room, group_row};
+
+use crate::by_key::{ByKey, clear_row, remove_row, reserve_row, set_row, slots_of};
+use crate::entry::Waits;
+use keyed::NameTable;
+use ns_types::key::EvalKey;
+use ns_types::text::Text;
+use std::alloc::{AllocError, Global};
+
+/// The keys of the entries that wait for a quota, and of those that wait for a pool, by its name and then by their places.
+#[derive(Drop)]
+pub(crate) struct Groups {
+    quotas: ByKey<EvalKey>,
+    pools: ByKey<EvalKey>,
+}
+
+impl Groups {
+    pub(crate) fn new(alloc: Global) -> Groups
+        ensures { (waits : Waits) (place : ℕ) → group_row result waits place ≡ None }
+    {
+        Groups {
+            quotas: NameTable::new(alloc),
+            pools: NameTable::new(alloc),
+        }
+    }
+
+    /// The slots of those that wait for the quota, in the order of their places.
+    pub(crate) fn of_quota(&self, quota: &Text) -> &[(u64, Option<EvalKey>)]
+        ensures { result.now ≡ entries (group_of self.now (Waits.Quota quota.now)) }
+    {
+        slots_of(&self.quotas, quota)
+    }
+
+    /// The slots of those that wait for the pool, in the order of their places.
+    pub(crate) fn of_pool(&self, pool: &Text) -> &[(u64, Option<EvalKey>)]
+        ensures { result.now ≡ entries (group_of self.now (Waits.Pool pool.now)) }
+    {
+        slots_of(&self.pools, pool)
+    }
+
+    /// Makes room for an entry at this place. Want of memory is the only error.
+    pub(crate) fn reserve(
+        &mut self,
+        alloc: Global,
+        waits: &Waits,
+        place: u64,
+    ) -> Result<(), AllocError>
+        ensures rows { KeepsGroups self.old self.new }
+        ensures room { KeepsGroupRoom self.old self.new }
+        ensures ok { OnOk result (IsTrue (group_room self.new waits.now place)) }
+    {
+        match waits {
+            Waits::Quota(name) => reserve_row(&mut self.quotas, alloc, name, place),
+            Waits::Pool(name) => reserve_row(&mut self.pools, alloc, name, place),
+        }
+    }
+
+    /// The entry with this key waits at this place. It takes no memory.
+    pub(crate) fn set(&mut self, waits: &Waits, place: u64, key: EvalKey)
+        requires { IsTrue (group_room self.old waits.now place) }
+        ensures rows { WritesGroup waits.now place (Some key) self.old self.new }
+        ensures room { KeepsGroupRoom self.old self.new }
+    {
+        match waits {
+            Waits::Quota(name) => set_row(&mut self.quotas, name, place, key),
+            Waits::Pool(name) => set_row(&mut self.pools, name, place, key),
+        }
+    }
+
+    /// The entry at this place waits no longer. It takes no memory.
+    pub(crate) fn remove(&mut self, waits: &Waits, place: u64)
+        ensures rows { WritesGroup waits.now place None self.old self.new }
+        ensures room { KeepsOtherGroupRoom place self.old self.new }
+    {
+        match waits {
+            Waits::Quota(name) => remove_row(&mut self.quotas, name, place),
+            Waits::Pool(name) => remove_row(&mut self.pools, name, place),
+        }
+    }
+
+    /// Takes the room for an entry at this place away again, unless one is there.
+    pub(crate) fn clear(&mut self, waits: &Waits, place: u64)
+        ensures { KeepsGroups self.old self.new }
+    {
+        match waits {
+            Waits::Quota(name) => clear_row(&mut self.quotas, name, place),
+            Waits::Pool(name) => clear_row(&mut self.pools, name, place),
+        }
+    }
+}

@@ -1,0 +1,199 @@
+//! The list of blocked evaluations.
+
+ghost use Rattle.std.specs.Prelude.{◌≡◌, ◌+◌, ◌<◌, ◌^◌, ◌++◌, ◌∷◌, []};
+ghost use Rattle.std.specs.Prelude.{false, IsTrue, List, OnOk, filter, not};
+ghost use Rattle.keyed.specs.Table.{row_list};
+ghost use Rattle.ns_blocked.specs.Blocked.{CanAdd, HasRoomAt, KeepsIndexRoom, are_new};
+ghost use Rattle.ns_blocked.specs.Blocked.{entries_of, keys_of, waiting_for};
+ghost use Rattle.ns_blocked.specs.declared.entry.Entry.{Entry};
+ghost use Rattle.ns_types.specs.State.Names.{has_key, same_key};
+
+use crate::by_key::get_row;
+use crate::entry::{Entry, Waits};
+use crate::index::Index;
+use ns_types::key::EvalKey;
+use ns_types::rows::Rows;
+use ns_types::text::Text;
+use std::alloc::{AllocError, Global};
+use std::marker::Model;
+
+/// The blocked evaluations in their order, with room for more, which is made before it is needed. Each has a place, a
+/// number that rises along the list; those that wait for a quota or a pool are looked up.
+#[derive(Drop)]
+pub struct BlockedList {
+    alloc: Global,
+    index: Index,
+    next: u64,
+}
+
+impl Model for BlockedList {
+    ghost use Rattle.std.specs.Coded.{codes};
+    ghost use Rattle.ns_blocked.specs.Blocked.{BlockedList, IsIndexed};
+    ghost use Rattle.ns_blocked.specs.contracts.index.Index as table;
+
+    ghost Value = { BlockedList };
+
+    ghost coded = { Prim.hlevel (codes, table.the_row.coded) };
+
+    ghost view = { λ b. record { index = b.index; next = b.next } };
+
+    ghost invariant = { λ b. IsIndexed b.index b.next };
+}
+
+impl BlockedList {
+    /// No entries. It takes no memory.
+    pub fn new(alloc: Global) -> BlockedList
+        ensures { entries_of result ≡ [] }
+    {
+        BlockedList {
+            alloc,
+            index: Index::new(alloc),
+            next: 0,
+        }
+    }
+
+    /// Whether the key is among them: a look-up.
+    pub fn has(&self, namespace: &Text, number: u64) -> bool
+        ensures { result ≡ has_key (keys_of self.now) (namespace.now, number) }
+    {
+        match get_row(&self.index.places, namespace, number) {
+            Some(_) => true,
+            None => false,
+        }
+    }
+
+    /// The keys of those that wait for the quota, in their order, with their places: a look-up. A vacant slot is none.
+    pub fn of_quota(&self, quota: &Text) -> &[(u64, Option<EvalKey>)]
+        ensures { row_list result.now ≡ waiting_for (Waits.Quota quota.now) self.now }
+    {
+        self.index.groups.of_quota(quota)
+    }
+
+    /// The keys of those that wait for the pool, in their order, with their places: a look-up. A vacant slot is none.
+    pub fn of_pool(&self, pool: &Text) -> &[(u64, Option<EvalKey>)]
+        ensures { row_list result.now ≡ waiting_for (Waits.Pool pool.now) self.now }
+    {
+        self.index.groups.of_pool(pool)
+    }
+
+    /// Takes vacant slots away, where they are more than the entries.
+    fn compact(&mut self)
+        ensures entries { entries_of self.new ≡ entries_of self.old }
+        ensures next { self.new.next ≡ self.old.next }
+    {
+        self.index.compact();
+    }
+
+    /// Makes room for the entry at this place. Want of memory is the only error.
+    fn reserve_at(&mut self, place: u64, entry: &Entry) -> Result<(), AllocError>
+        ensures entries { entries_of self.new ≡ entries_of self.old }
+        ensures next { self.new.next ≡ self.old.next }
+        ensures room { KeepsIndexRoom self.old.index self.new.index }
+        ensures ok { OnOk result (HasRoomAt place entry.now self.new.index) }
+    {
+        self.index.reserve(self.alloc, place, entry)
+    }
+
+    /// Makes room for those entries. Want of memory is the only error, or of places: there are 2^64, each given once.
+    pub fn reserve(&mut self, entries: &[Entry]) -> Result<(), AllocError>
+        ensures entries { entries_of self.new ≡ entries_of self.old }
+        ensures ok { OnOk result (CanAdd entries.now self.new) }
+    {
+        self.compact();
+        let mut place = self.next;
+        for entry in entries {
+            if place >= u64::MAX {
+                return Err(AllocError);
+            }
+            self.reserve_at(place, entry)?;
+            place += 1;
+        }
+        Ok(())
+    }
+
+    /// Puts an entry at the end. It takes no memory.
+    fn push(&mut self, entry: Entry)
+        requires places { self.old.next + 1 < 2 ^ 64 }
+        requires room { HasRoomAt self.old.next entry self.old.index }
+        requires fresh { has_key (keys_of self.old) entry.key ≡ false }
+        ensures entries { entries_of self.new ≡ entries_of self.old ++ entry ∷ [] }
+        ensures next { self.new.next ≡ self.old.next + 1 }
+        ensures room { KeepsIndexRoom self.old.index self.new.index }
+    {
+        self.index.put(self.next, entry);
+        self.next += 1;
+    }
+
+    /// Puts those entries at the end. It takes no memory.
+    pub fn append(&mut self, entries: Rows<Entry>)
+        requires room { CanAdd entries self.old }
+        requires fresh { IsTrue (are_new (keys_of self.old) entries) }
+        ensures { entries_of self.new ≡ entries_of self.old ++ entries }
+    {
+        for entry in entries.into_vec() {
+            self.push(entry);
+        }
+    }
+
+    /// Takes the entry with that key out, if there is one. It takes no memory, and looks at no other.
+    fn take_one(&mut self, key: &EvalKey)
+        ensures entries { entries_of self.new ≡
+            filter (λ e. not (same_key e.key key.now)) (entries_of self.old) }
+        ensures room { (es : List Entry) → CanAdd es self.old → CanAdd es self.new }
+    {
+        let Some(place) = get_row(&self.index.places, key.namespace(), key.number()) else {
+            return;
+        };
+        let place = *place;
+        self.index.take(place, key);
+    }
+
+    /// Takes the entries with those keys out; room for others stays. It takes no memory, and looks at no other entry.
+    pub fn take_out(&mut self, keys: &[EvalKey])
+        ensures entries { entries_of self.new ≡
+            filter (λ e. not (has_key keys.now e.key)) (entries_of self.old) }
+        ensures room { (es : List Entry) → CanAdd es self.old → CanAdd es self.new }
+    {
+        for key in keys {
+            self.take_one(key);
+        }
+    }
+
+    /// Takes the room for the entry at this place away again.
+    fn clear_at(&mut self, place: u64, entry: &Entry)
+        ensures entries { entries_of self.new ≡ entries_of self.old }
+        ensures next { self.new.next ≡ self.old.next }
+    {
+        self.index.clear(place, entry);
+    }
+
+    /// Takes room for those entries away again. Those that are in stay.
+    pub fn clear_room(&mut self, entries: &[Entry])
+        ensures { entries_of self.new ≡ entries_of self.old }
+    {
+        let mut place = self.next;
+        for entry in entries {
+            self.clear_at(place, entry);
+            if place < u64::MAX {
+                place += 1;
+            }
+        }
+    }
+
+    /// Takes the room for the key away again.
+    fn clear_key(&mut self, key: &EvalKey)
+        ensures entries { entries_of self.new ≡ entries_of self.old }
+        ensures next { self.new.next ≡ self.old.next }
+    {
+        self.index.clear_key(key);
+    }
+
+    /// Takes room for those keys away again, which `take_out` leaves. Those that are in stay.
+    pub fn clear_keys(&mut self, keys: &[EvalKey])
+        ensures { entries_of self.new ≡ entries_of self.old }
+    {
+        for key in keys {
+            self.clear_key(key);
+        }
+    }
+}
