@@ -75,7 +75,8 @@ module _ (w : World) (r : Report) (a : Allocation) (within : is_past_bound w ≡
 
   pub again : same_client a.client r.client ≡ true → Comes (Done Content.Written w)
   again same = done_still w _ Content.Written w
-      (ap (λ b. if b then Done Content.Written w else unless (not (may_become a.client r.client)) Refusal.Conflict (Done Content.Written (reported r a w))) same)
+      (ap (λ b. if b then Done Content.Written w
+      else unless (not (may_become a.client r.client)) Refusal.Conflict (Done Content.Written (reported r a w))) same)
       (ap is_past_bound (settle_same w) ∙ within)
 
   module _ (other : same_client a.client r.client ≡ false) where

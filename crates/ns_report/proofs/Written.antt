@@ -10,7 +10,8 @@ use Rattle.ns_types.specs.declared.evaluation.Trigger.TheVariants as Trigger
 use Rattle.ns_types.specs.declared.job.JobKind.TheVariants as JobKind
 use Rattle.ns_types.specs.declared.step.Report.{Report}
 use Rattle.ns_types.specs.Asking.Nodes.{calls_for_one, reported}
-use Rattle.ns_types.specs.Settling.Making.{change_tenant, evaluation_for, evaluation_of, make, make_in, new_evaluation, put_tenant, with_client, with_evaluation}
+use Rattle.ns_types.specs.Settling.Making.{change_tenant, evaluation_for, evaluation_of, make, make_in}
+use Rattle.ns_types.specs.Settling.Making.{new_evaluation, put_tenant, with_client, with_evaluation}
 use Rattle.ns_types.specs.State.Rows.{World, Tenant}
 use Rattle.ns_types.specs.Steps.{greatest}
 use Rattle.ns_types.specs.Working.Queue.{queue}
