@@ -149,6 +149,7 @@ write_fits (Step.Node pool secret (NodeCommand.PutNode name offer)) content serv
 write_fits (Step.Node pool secret (NodeCommand.DeleteNode name)) content served e t = room_of_written None content t
 write_fits (Step.Node pool secret (NodeCommand.SetStatus name status)) content served e t = room_of_written None content t
 write_fits (Step.Node pool secret (NodeCommand.SetEligible name eligible)) content served e t = room_of_written None content t
+write_fits (Step.Node pool secret (NodeCommand.Report name r)) content served e t = room_of_written None content t
 write_fits (Step.Node pool secret _) content served e t = not_both refl e
 write_fits _ content served e t = not_both refl e
 

@@ -1,25 +1,39 @@
--- The answers of a connection are a run.
-use Rattle.std.proofs.Common.{◌≡◌, ℕ, inl, inr, List, [], ◌∷◌, Result, Ok, Err, refl, sym, subst, ap}
+-- The answers of a connection, with what follows each, are a run.
+use Rattle.std.proofs.Common.{◌≡◌, ℕ, inl, inr, List, [], ◌∷◌, ◌++◌, Result, Ok, Err, refl, sym, subst, ap}
 use Rattle.ns_types.specs.declared.refusal.Refusal.{Refusal}
 use Rattle.ns_types.specs.declared.refusal.Refusal.TheVariants.{Memory}
 use Rattle.ns_types.specs.declared.reply.Rendered.{Rendered}
 use Rattle.ns_types.specs.declared.step.Step.{Step}
-use Rattle.ns_types.specs.Wire.Http.{Message, asked_by, Whole, Refused}
+use Rattle.ns_types.specs.Wire.Http.{Asked, Message, asked_by, Whole, Refused}
 use Rattle.ns_types.specs.State.Rows.{State}
+use Rattle.ns_types.specs.Steps.{Answer, Run}
 use Rattle.ns_types.specs.Wire.Responses
 use Rattle.ns_types.specs.Wire.Responses.{Exchange}
 use Rattle.ns_api.specs.Asking.{asked}
 use Rattle.ns_api.specs.Drawing.{DrawsFor}
-use Rattle.ns_api.specs.Answering.{AnswersAsked, AnswersOrWants, AnswersRefused, Answers, MakesNone, RunsAs}
+use Rattle.ns_api.specs.Answering.{AnswersAsked, AnswersOrWants, AnswersRefused, AnswersRequest, Answers, Holding, MakesNone, MakesOwn, RunsAs}
+
+-- one run after the other
+joined : (s mid s' : State) (steps steps' : List Step) (answers answers' : List Answer) → Run s steps answers mid → Run mid steps' answers' s' →
+    Run s (steps ++ steps') (answers ++ answers') s'
+joined s mid s' [] steps' [] answers' run rest = subst (λ x. Run x steps' answers' s') run rest
+joined s mid s' (step ∷ steps) steps' (answer ∷ answers) answers' run rest =
+    (run.0, run.1, joined run.0 mid s' steps steps' answers answers' run.2 rest)
+joined s mid s' [] steps' (answer ∷ answers) answers' run rest = absurd run
+joined s mid s' (step ∷ steps) steps' [] answers' run rest = absurd run
+
+-- what a request made itself, as a run
+record OwnRun {D : Type 0} (draws : D → List ℕ → D → Type 0) (asks : Result Step Refusal) (old : State × D) (reply : Rendered) (new : State × D) : Type 0
+  where
+    steps : List Step
+    answers : List Answer
+    run : Run old.0 steps answers new.0
+    makes : MakesOwn draws asks old.1 reply new.1 steps answers
 
 module _ {D : Type 0} (draws : D → List ℕ → D → Type 0) where
-  -- a request that made no step
-  none_first : (m : Message) (reply : Rendered) (old mid new : State × D) (exchanges : List Exchange) →
-      MakesNone draws (asked (asked_by m)) old.1 reply mid.1 → mid.0 ≡ old.0 → RunsAs draws mid exchanges new →
-      RunsAs draws old ((Whole m, reply) ∷ exchanges) new
-  none_first m reply old mid new exchanges none same r =
-      subst (λ x. RunsAs draws (x, old.1) ((Whole m, reply) ∷ exchanges) new) same
-      (record { steps = r.steps; answers = r.answers; run = r.run; made = (mid.1, inl (none, r.made)) })
+  none : (asks : Result Step Refusal) (old new : State × D) (reply : Rendered) → MakesNone draws asks old.1 reply new.1 → new.0 ≡ old.0 →
+      OwnRun draws asks old reply new
+  none asks old new reply makes same = record { steps = []; answers = []; run = same; makes = makes }
 
   refused_alone : (refusal : Refusal) (old new : State × D) (reply : Rendered) → AnswersRefused refusal old reply new →
       AnswersRefused refusal old.1 reply new.1
@@ -31,55 +45,61 @@ module _ {D : Type 0} (draws : D → List ℕ → D → Type 0) where
   none_memory (Err refusal) old new reply r = inr (refused_alone Memory old new reply r)
 
   -- a step that was made, or not for want of memory
-  made_first : (m : Message) (reply : Rendered) (old mid new : State × D) (exchanges : List Exchange) (wanted made : Step) →
-      asked (asked_by m) ≡ Ok wanted → DrawsFor draws wanted old.1 made mid.1 → AnswersOrWants made old.0 reply mid.0 →
-      RunsAs draws mid exchanges new → RunsAs draws old ((Whole m, reply) ∷ exchanges) new
-  made_first m reply old mid new exchanges wanted made is drawn (inl a) r = record {
-    steps = made ∷ r.steps;
-    answers = a.0 ∷ r.answers;
-    run = (mid.0, a.1, r.run);
-    made = (
-      mid.1,
-      inr (
-        r.steps,
-        r.answers,
-        record {
-          wanted = wanted;
-          made = made;
-          told = a.0;
-          asks_wanted = is;
-          draws_made =
-              drawn;
-          shows_told = a.2;
-          made_first = refl;
-          told_first = refl;
-        },
-        r.made,
-      ),
-    );
+  own_made : (reply : Rendered) (old new : State × D) (wanted made : Step) → DrawsFor draws wanted old.1 made new.1 →
+      AnswersOrWants made old.0 reply new.0 → OwnRun draws (Ok wanted) old reply new
+  own_made reply old new wanted made drawn (inl a) = record {
+    steps = made ∷ [];
+    answers = a.0 ∷ [];
+    run = (new.0, a.1, refl);
+    makes = record { wanted = wanted; asks_wanted = refl; draws_made = drawn; shows_told = a.2 };
   }
-  made_first m reply old mid new exchanges wanted made is drawn (inr w) r =
-      let none : MakesNone draws (Ok wanted) old.1 reply mid.1 = inr (made, drawn, w.0) in
-      none_first m reply old mid new exchanges (subst (λ x. MakesNone draws x old.1 reply mid.1) (sym is) none) w.1 r
+  own_made reply old new wanted made drawn (inr w) = none (Ok wanted) old new reply (inr (made, drawn, w.0)) w.1
 
-  -- a request that was answered as it asked
-  asked_first : (m : Message) (reply : Rendered) (old mid new : State × D) (exchanges : List Exchange) (asks : Result Step Refusal) →
-      asked (asked_by m) ≡ asks → AnswersAsked draws asks old reply mid → RunsAs draws mid exchanges new →
-      RunsAs draws old ((Whole m, reply) ∷ exchanges) new
-  asked_first m reply old mid new exchanges (Err refusal) is a r =
-      let none : MakesNone draws (Err refusal) old.1 reply mid.1 = inl (refused_alone refusal old mid reply a) in
-      none_first m reply old mid new exchanges (subst (λ x. MakesNone draws x old.1 reply mid.1) (sym is) none) (ap (λ x. x.0) a.1) r
-  asked_first m reply old mid new exchanges (Ok wanted) is a r = made_first m reply old mid new exchanges wanted a.0 is a.1 a.2 r
+  own_asked : (asks : Result Step Refusal) (reply : Rendered) (old new : State × D) → AnswersAsked draws asks old reply new →
+      OwnRun draws asks old reply new
+  own_asked (Err refusal) reply old new a =
+      none (Err refusal) old new reply (inl (refused_alone refusal old new reply a)) (ap (λ x. x.0) a.1)
+  own_asked (Ok wanted) reply old new a = own_made reply old new wanted a.0 a.1 a.2
 
-  whole_first : (m : Message) (reply : Rendered) (old mid new : State × D) (exchanges : List Exchange) →
-      Answers draws old (asked_by m) reply mid → RunsAs draws mid exchanges new → RunsAs draws old ((Whole m, reply) ∷ exchanges) new
-  whole_first m reply old mid new exchanges (inl a) r = asked_first m reply old mid new exchanges (asked (asked_by m)) refl a r
-  whole_first m reply old mid new exchanges (inr w) r =
-      none_first m reply old mid new exchanges (none_memory (asked (asked_by m)) old mid reply w) (ap (λ x. x.0) w.1) r
+  own : (a : Asked) (reply : Rendered) (old new : State × D) → AnswersRequest draws old a reply new → OwnRun draws (asked a) old reply new
+  own a reply old new (inl answers) = own_asked (asked a) reply old new answers
+  own a reply old new (inr w) = none (asked a) old new reply (none_memory (asked a) old new reply w) (ap (λ x. x.0) w.1)
 
-  pub runs : (old : State × D) (exchanges : List Exchange) (new : State × D) → Responses.Answers (Answers draws) old exchanges new →
-      RunsAs draws old exchanges new
-  runs old [] new c = record { steps = []; answers = []; run = ap (λ x. x.0) c; made = (refl, refl, ap (λ x. x.1) c) }
+module _ {D F : Type 0} (draws : D → List ℕ → D → Type 0) (follows : F → State → List Step → List Answer → State → F → Type 0) where
+  whole_first : (m : Message) (reply : Rendered) (old mid new : Holding D F) (exchanges : List Exchange) →
+      Answers draws follows old (asked_by m) reply mid → RunsAs draws follows mid exchanges new →
+      RunsAs draws follows old ((Whole m, reply) ∷ exchanges) new
+  whole_first m reply old mid new exchanges a r =
+      let o = own draws (asked_by m) reply (old.state, old.draws) (a.between, mid.draws) a.answered in
+      record {
+        steps = o.steps ++ a.steps ++ r.steps;
+        answers = o.answers ++ a.answers ++ r.answers;
+        run = joined old.state mid.state new.state (o.steps ++ a.steps) r.steps (o.answers ++ a.answers) r.answers
+            (joined old.state a.between mid.state o.steps a.steps o.answers a.answers o.run a.run) r.run;
+        made = (
+          mid,
+          r.steps,
+          r.answers,
+          record {
+            between = a.between;
+            own = o.steps;
+            told = o.answers;
+            own_run = o.run;
+            makes_own = o.makes;
+            following = a.steps;
+            answered = a.answers;
+            followed = a.followed;
+            run = a.run;
+            are_steps = refl;
+            are_answers = refl;
+          },
+          r.made,
+        );
+      }
+
+  pub runs : (old : Holding D F) (exchanges : List Exchange) (new : Holding D F) → Responses.Answers (Answers draws follows) old exchanges new →
+      RunsAs draws follows old exchanges new
+  runs old [] new c = record { steps = []; answers = []; run = ap (λ x. x.state) c; made = (refl, refl, c) }
   runs old ((Whole m, reply) ∷ exchanges) new c = whole_first m reply old c.0 new exchanges c.1 (runs c.0 exchanges new c.2)
   runs old ((Refused fault, reply) ∷ exchanges) new c =
       let r = runs old exchanges new c.1 in

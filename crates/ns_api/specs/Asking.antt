@@ -22,7 +22,7 @@ use Rattle.ns_request.specs.Queries.{namespace_in, purge_in}
 use Rattle.ns_request.specs.Secrets.{secret_of}
 use Rattle.ns_request.specs.Targets.{query_in}
 use Rattle.ns_api.specs.Parts.{bearer_in, fourth_part, namespace_of, number_in, prefix_in, third_part}
-use Rattle.ns_api.specs.Telling.{eligibility_put, node_deleted, node_put, nodes_listed, status_put}
+use Rattle.ns_api.specs.Telling.{eligibility_put, node_deleted, node_put, nodes_listed, report_put, status_put}
 
 -- ---- commands by who asks
 
@@ -142,12 +142,12 @@ asked_of Endpoint.PoolNodes method a = by_kind method (nodes_listed a) not_serve
 asked_of Endpoint.Node method a = by_kind method not_served (node_put a) (node_deleted a)
 asked_of Endpoint.NodeStatus method a = by_kind method not_served (status_put a) not_served
 asked_of Endpoint.NodeEligibility method a = by_kind method not_served (eligibility_put a) not_served
+asked_of Endpoint.NodeReport method a = by_kind method not_served (report_put a) not_served
 asked_of Endpoint.Policy method a = by_kind method (admin_of (AdminCommand.ReadPolicy (fourth_part a)) a) (policy_put a)
     (admin_of (AdminCommand.DeletePolicy (fourth_part a)) a)
 asked_of Endpoint.NewToken method a = by_kind method not_served (token_asked a) not_served
 asked_of Endpoint.Token method a = by_kind method not_served not_served
     (admin_of (AdminCommand.DeleteToken (canonical (fourth_part a))) a)
-asked_of Endpoint.NodeReport method a = not_served
 asked_of Endpoint.EventStream method a = not_served
 
 unfoldable pub asked : Asked → Result Step Refusal

@@ -4,5 +4,6 @@ pub mod Asking
 pub mod Wanted
 pub mod Drawing
 pub mod Rooms
+pub mod Following
 pub mod Answering
 pub mod Serving

@@ -36,6 +36,5 @@ status_put = node_by (body_in node_status_in) NodeCommand.SetStatus
 abbrev pub eligibility_put : Asked → Result Step Refusal
 eligibility_put = node_by (body_in eligibility_in) NodeCommand.SetEligible
 
--- no request asks for it yet
 abbrev pub report_put : Asked → Result Step Refusal
 report_put = node_by (body_in report_in) NodeCommand.Report

@@ -1,18 +1,20 @@
-//! Answers requests, over anything that takes the steps which they ask for.
+//! Answers requests, over anything that takes the steps which they ask for, and does what follows them.
 
 ghost use Rattle.std.specs.Prelude.{◌≡◌, Ok, IfOk, true, false};
 ghost use Rattle.ns_types.specs.Steps.{Makes};
 ghost use Rattle.ns_types.specs.Wire.Responses.{rendered_of};
+ghost use Rattle.ns_http.specs.Head;
 ghost use Rattle.ns_steps.specs.Served.{IsServed, is_reading};
 ghost use Rattle.ns_json.specs.Replies.{rendered};
 ghost use Rattle.ns_replies.specs.Rendered.{HasRoom, IsRendered};
-ghost use Rattle.ns_api.specs.Answering.{AnswersAsked, AnswersOrWants, ShowsOrWants};
+ghost use Rattle.ns_api.specs.Answering.{AnswersAsked, AnswersOrWants, AnswersRequest, ShowsOrWants};
 ghost use Rattle.ns_api.specs.Rooms.{room_of};
 ghost use Rattle.ns_api.specs.Serving.{held};
 ghost use Rattle.ns_api.specs.Wanted.{draft_step, IsServedDraft};
 
 use crate::asking::asked;
 use crate::drawing::{Draws, drawn};
+use crate::following::Follows;
 use crate::wanted::Draft;
 use ns_http::{Answer, Request};
 use ns_replies::{Room, render};
@@ -35,11 +37,12 @@ pub trait Takes {
         ensures { Makes step.now (state self.old) result (state self.new) };
 }
 
-/// Answers requests over what takes their steps, with the random bits that new tokens need.
+/// Answers requests over what takes their steps, with the random bits that new tokens need, and does after each what follows.
 #[derive(Drop)]
-pub struct Api<T, D> {
+pub struct Api<T, D, F> {
     taker: T,
     draws: D,
+    follower: F,
     routes: Routes,
     alloc: Global,
 }
@@ -67,6 +70,7 @@ fn is_read(step: &Step) -> bool
                 | NodeCommand::DeleteNode(_)
                 | NodeCommand::SetStatus(_, _)
                 | NodeCommand::SetEligible(_, _)
+                | NodeCommand::Report(_, _)
         ),
         _ => true,
     }
@@ -111,19 +115,22 @@ fn shown_in(room: Room, answer: &Result<Reply, Refusal>) -> Response
     }
 }
 
-impl<T: Takes, D: Draws> Api<T, D> {
+impl<T: Takes, D: Draws, F> Api<T, D, F> {
     /// The table of the paths is made here, and no later.
-    pub fn new(alloc: Global, taker: T, draws: D) -> Result<Api<T, D>, AllocError>
+    pub fn new(alloc: Global, taker: T, draws: D, follower: F) -> Result<Api<T, D, F>, AllocError>
     where
         T: Drop,
         D: Drop,
+        F: Drop,
         ensures taker { IfOk result (λ api. api.taker ≡ taker) }
         ensures drawer { IfOk result (λ api. api.draws ≡ draws) }
+        ensures follower { IfOk result (λ api. api.follower ≡ follower) }
     {
         let routes = Routes::new(alloc)?;
         Ok(Api {
             taker,
             draws,
+            follower,
             routes,
             alloc,
         })
@@ -136,6 +143,7 @@ impl<T: Takes, D: Draws> Api<T, D> {
         ensures answered { AnswersOrWants step.now
             (T.state self.old.taker) (rendered_of result) (T.state self.new.taker) }
         ensures draws_none { self.new.draws ≡ self.old.draws }
+        ensures not_yet { self.new.follower ≡ self.old.follower }
     {
         let Ok(room) = room_for(self.alloc, step) else {
             return Response::Refused(Refusal::Memory);
@@ -153,6 +161,7 @@ impl<T: Takes, D: Draws> Api<T, D> {
         ensures answered { AnswersOrWants step.now
             (T.state self.old.taker) (rendered_of result) (T.state self.new.taker) }
         ensures draws_none { self.new.draws ≡ self.old.draws }
+        ensures not_yet { self.new.follower ≡ self.old.follower }
     {
         let answer = self.taker.take(step);
         let response = shown(self.alloc, &answer);
@@ -166,6 +175,7 @@ impl<T: Takes, D: Draws> Api<T, D> {
         ensures answered { AnswersOrWants step.now
             (T.state self.old.taker) (rendered_of result) (T.state self.new.taker) }
         ensures draws_none { self.new.draws ≡ self.old.draws }
+        ensures not_yet { self.new.follower ≡ self.old.follower }
     {
         if is_read(step) {
             self.read(step)
@@ -177,8 +187,9 @@ impl<T: Takes, D: Draws> Api<T, D> {
     /// Draws what the step lacks, and takes it.
     fn make(&mut self, draft: Draft) -> Response
         requires { IsServedDraft draft }
-        ensures { AnswersAsked D.draws (Ok (draft_step draft))
+        ensures answered { AnswersAsked D.draws (Ok (draft_step draft))
             (held T.state self.old) (rendered_of result) (held T.state self.new) }
+        ensures not_yet { self.new.follower ≡ self.old.follower }
     {
         match drawn(self.alloc, &mut self.draws, draft) {
             Ok(step) => {
@@ -189,21 +200,32 @@ impl<T: Takes, D: Draws> Api<T, D> {
             Err(_) => Response::Refused(Refusal::Memory),
         }
     }
-}
 
-impl<T: Takes, D: Draws> Answer for Api<T, D> {
-    ghost use Rattle.ns_api.specs.Answering.{Answers};
-    ghost use Rattle.ns_api.specs.Serving.{held};
-
-    ghost answers = { λ old a reply new.
-        Answers D.draws (held T.state old) a reply (held T.state new) };
-
-    type A = Global;
-
-    fn answer(&mut self, request: &Request<'_>) -> Response {
+    /// Answers a request, and does nothing that follows it.
+    fn request(&mut self, request: &Request<'_>) -> Response
+        ensures answered { AnswersRequest D.draws (held T.state self.old)
+            (Head.asked request.now) (rendered_of result) (held T.state self.new) }
+        ensures not_yet { self.new.follower ≡ self.old.follower }
+    {
         match asked(self.alloc, &self.routes, request) {
             Ok(draft) => self.make(draft),
             Err(refusal) => Response::Refused(refusal),
         }
+    }
+}
+
+impl<T: Takes, D: Draws, F: Follows<T>> Answer for Api<T, D, F> {
+    ghost use Rattle.ns_api.specs.Answering.{Answers};
+    ghost use Rattle.ns_api.specs.Serving.{holding};
+
+    ghost answers = { λ old a reply new.
+        Answers D.draws F.follows (holding T.state old) a reply (holding T.state new) };
+
+    type A = Global;
+
+    fn answer(&mut self, request: &Request<'_>) -> Response {
+        let response = self.request(request);
+        self.follower.follow(self.alloc, &mut self.taker);
+        response
     }
 }

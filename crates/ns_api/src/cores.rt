@@ -2,9 +2,11 @@
 
 ghost use Rattle.std.specs.Prelude.{◌≡◌, IfOk};
 ghost use Rattle.ns_types.specs.Steps.{opening};
+ghost use Rattle.ns_api.specs.Following.{driver_of};
 
 use crate::answering::{Api, Takes};
 use crate::drawing::Draws;
+use crate::following::{Driven, Driver};
 use ns_core::Core;
 use ns_types::name::Secret;
 use ns_types::refusal::Refusal;
@@ -27,20 +29,22 @@ impl Takes for Core {
     }
 }
 
-/// A new server, which answers requests.
+/// A new server, which answers requests and drives whom it is told.
 pub fn open<D: Draws + Drop>(
     alloc: Global,
     bootstrap: &Secret,
     draws: D,
-) -> Result<Api<Core, D>, AllocError>
+    driven: Driven,
+) -> Result<Api<Core, D, Driver>, AllocError>
     ensures taker { IfOk result (λ api. api.taker ≡ opening bootstrap.now) }
     ensures drawer { IfOk result (λ api. api.draws ≡ draws) }
+    ensures follower { IfOk result (λ api. api.follower ≡ driver_of driven) }
 {
     let core = Core::new(alloc, bootstrap)?;
-    Api::new(alloc, core, draws)
+    Api::new(alloc, core, draws, Driver::new(driven))
 }
 
 /// Lets a server go. Its value is large, so its end is proved here and not by each caller.
-pub fn close<D: Draws + Drop>(api: Api<Core, D>) {
+pub fn close<D: Draws + Drop>(api: Api<Core, D, Driver>) {
     drop(api);
 }

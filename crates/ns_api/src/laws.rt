@@ -1,15 +1,18 @@
 //! Laws of the definitions, each the contract of a function that does nothing.
 ghost use Rattle.std.specs.Prelude.{List};
-ghost use Rattle.ns_types.specs.State.Rows.{State};
 ghost use Rattle.ns_types.specs.Wire.Responses;
 ghost use Rattle.ns_types.specs.Wire.Responses.{Exchange};
-ghost use Rattle.ns_api.specs.Answering.{Answers, RunsAs};
+ghost use Rattle.ns_api.specs.Answering.{Answers, Holding, RunsAs};
 
+use crate::answering::Takes;
 use crate::drawing::Draws;
+use crate::following::Follows;
 
 /// What a connection was answered, one request after the other, is a run of the model: the steps that its
-/// requests ask for, in their order, but for those that were refused without a step. What is drawn is drawn in this order.
-pub fn answers_are_a_run<D: Draws>()
-    ensures { (old new : State × D) (exchanges : List Exchange) →
-        Responses.Answers (Answers D.draws) old exchanges new → RunsAs D.draws old exchanges new }
+/// requests ask for, in their order, but for those that were refused without a step, and after each those that followed it.
+/// What is drawn is drawn in this order.
+pub fn answers_are_a_run<T: Takes, D: Draws, F: Follows<T>>()
+    ensures { (old new : Holding D F) (exchanges : List Exchange) →
+        Responses.Answers (Answers D.draws F.follows) old exchanges new →
+        RunsAs D.draws F.follows old exchanges new }
 {}

@@ -4,32 +4,34 @@ ghost use Rattle.std.specs.Prelude.{◌≡◌, ◌+◌, ◌≤◌, min, length, 
 ghost use Rattle.ns_types.specs.Wire.Http.{End};
 ghost use Rattle.ns_http.specs.Conversation.{streams_between, EndsWell, IsReadFault};
 ghost use Rattle.ns_http.specs.Counts.{IsOpen, IsWriteFault};
-ghost use Rattle.ns_api.specs.Serving.{held, Served, ServedInPart};
+ghost use Rattle.ns_api.specs.Serving.{holding, Served, ServedInPart};
 
 use crate::answering::{Api, Takes};
 use crate::drawing::Draws;
+use crate::following::Follows;
 use ns_http::{ConnFault, Counted, READ_LIMIT, READ_ROOM};
 use std::alloc::Allocator;
 use std::io::{Read, Write};
 
-/// Answers the requests of a connection, one after the other, and says how many there were. What they made is a run.
-pub fn serve<A: Allocator + Copy, R: Read, W: Write, T: Takes, D: Draws>(
+/// Answers the requests of a connection, one after the other, each with what follows it, and says how many there were. What
+/// they made is a run.
+pub fn serve<A: Allocator + Copy, R: Read, W: Write, T: Takes, D: Draws, F: Follows<T>>(
     alloc: A,
     reader: &mut Counted<R>,
     writer: &mut Counted<W>,
-    api: &mut Api<T, D>,
+    api: &mut Api<T, D, F>,
 ) -> Result<u64, ConnFault>
     ensures ok { IfOk result (λ count. (end : End)
-        × (c : Served D.draws (held T.state api.old) (held T.state api.new)
+        × (c : Served D.draws F.follows (holding T.state api.old) (holding T.state api.new)
         (streams_between R.remaining W.contents reader.old reader.new writer.old writer.new) end)
         × EndsWell end (R.remaining reader.new.inner) reader.new.counts
         × (count ≡ length c.conversation.exchanges)) }
     ensures read { IsErrOf result ConnFault.Read → (end : End)
-        × Served D.draws (held T.state api.old) (held T.state api.new)
+        × Served D.draws F.follows (holding T.state api.old) (holding T.state api.new)
         (streams_between R.remaining W.contents reader.old reader.new writer.old writer.new) end
         × IsReadFault end (R.remaining reader.new.inner) reader.old.counts reader.new.counts }
     ensures write { IsErrOf result ConnFault.Write
-        → ServedInPart D.draws (held T.state api.old) (held T.state api.new)
+        → ServedInPart D.draws F.follows (holding T.state api.old) (holding T.state api.new)
         (streams_between R.remaining W.contents reader.old reader.new writer.old writer.new)
         × IsWriteFault writer.old.counts writer.new.counts }
     ensures memory { IsErrOf result ConnFault.Memory

@@ -10,7 +10,7 @@ ghost use Rattle.ns_api.specs.Parts.{prefix_in, third_part};
 ghost use Rattle.ns_api.specs.Wanted.{IsServedWanted, Wants};
 
 use crate::documents::{create_token, put_namespace, put_policy, put_pool, put_quota, register};
-use crate::telling::{put_eligibility, put_node, put_status};
+use crate::telling::{put_eligibility, put_node, put_report, put_status};
 use crate::wanted::{Wanted, administers, asks, asks_in, tells};
 use ns_request::{Endpoint, Method, Target};
 use ns_types::id::{IdKind, id_read};
@@ -117,6 +117,7 @@ fn write(alloc: Global, target: &Target<'_>) -> Result<Wanted, Refusal>
         Endpoint::Node => put_node(alloc, request, &target.name, &target.node),
         Endpoint::NodeStatus => put_status(alloc, request, &target.name, &target.node),
         Endpoint::NodeEligibility => put_eligibility(alloc, request, &target.name, &target.node),
+        Endpoint::NodeReport => put_report(alloc, request, &target.name, &target.node),
         Endpoint::Policy => put_policy(alloc, request, &target.name),
         Endpoint::NewToken => create_token(alloc, request),
         _ => Err(Refusal::NotServed),

@@ -1,15 +1,15 @@
-//! What requests tell of nodes.
+//! What requests tell of nodes, and report of the allocations on them.
 
 ghost use Rattle.std.specs.Prelude.{◌≡◌, IfOk, IsTrue};
 ghost use Rattle.ns_types.specs.declared.name.NameKind.TheVariants as NameKind;
 ghost use Rattle.ns_types.specs.State.Name.{is_name};
 ghost use Rattle.ns_http.specs.Head.{asked};
 ghost use Rattle.ns_api.specs.Parts.{fourth_part, sixth_part};
-ghost use Rattle.ns_api.specs.Telling.{eligibility_put, node_put, status_put};
+ghost use Rattle.ns_api.specs.Telling.{eligibility_put, node_put, report_put, status_put};
 ghost use Rattle.ns_api.specs.Wanted.{IsServedWanted, Wants};
 
 use crate::wanted::{Wanted, tells};
-use ns_documents::{read_eligibility, read_node, read_node_status};
+use ns_documents::{read_eligibility, read_node, read_node_status, read_report};
 use ns_http::Request;
 use ns_types::refusal::Refusal;
 use ns_types::step::NodeCommand;
@@ -69,4 +69,21 @@ pub fn put_eligibility(
         pool.clone()?,
         NodeCommand::SetEligible(node.clone()?, eligible),
     ))
+}
+
+/// A report of an allocation on the node that the path names. The document names the allocation.
+#[tactic(auto, unfolding(crate::specs::Telling::node_by, crate::specs::Telling::node_of, crate::specs::Parts::bearer_in, crate::specs::Wanted::step_of))]
+pub fn put_report(
+    alloc: Global,
+    request: &Request<'_>,
+    pool: &Text,
+    node: &Text,
+) -> Result<Wanted, Refusal>
+    requires pool { pool.now ≡ fourth_part (asked request.now) }
+    requires node { node.now ≡ sixth_part (asked request.now) }
+    ensures wanted { Wants request.now result report_put }
+    ensures served { IfOk result IsServedWanted }
+{
+    let report = read_report(alloc, request.body)?;
+    Ok(tells(pool.clone()?, NodeCommand::Report(node.clone()?, report)))
 }

@@ -18,8 +18,9 @@ use Rattle.ns_types.specs.Steps.{Makes, act}
 use Rattle.ns_types.proofs.Lists.{not_both}
 use Rattle.ns_types.proofs.LiveSums.{quota_small}
 use Rattle.ns_steps.specs.Answers.{answer_of}
-use Rattle.ns_steps.specs.Served.{IsServedAsk, IsServedNode, only_reads, served_ask, served_node}
+use Rattle.ns_steps.specs.Served.{IsServedAsk, only_reads, served_ask, served_node}
 use Rattle.ns_steps.proofs.Reading.{changes_lift, reads_make}
+use Rattle.ns_steps.proofs.Telling.{is_served_node}
 use Rattle.ns_jobs.specs.Read
 use Rattle.ns_jobs.specs.Read.{UsageFits, UseFits}
 use Rattle.ns_types.specs.Validity.{IsValid}
@@ -56,10 +57,10 @@ ask_reads s ns secret command valid served only allowed result h =
     reads_make (Step.Ask ns secret command) s allowed (within s valid) served (reads command served only)
     result (changes_lift (with_world s.acl) (ask ns command s.world) s.world s.world result h)
 
-pub pool_reads : (s : State) (pool : Name) (secret : Option Name) (command : NodeCommand) → IsValid s → IsServedNode command
+pub pool_reads : (s : State) (pool : Name) (secret : Option Name) (command : NodeCommand) → IsValid s
     → only_reads (served_node command) ≡ true → pool_right_of command (pool_rights_of s.acl secret pool) ≡ true
     → (result : Result Content Refusal) → Changes (ask_pool pool command s.world) s.world result s.world
     → Makes (Step.Node pool secret command) s (answer_of (Step.Node pool secret command) s.world result) s
 unfolding act
-pool_reads s pool secret command valid served only allowed result h = reads_make (Step.Node pool secret command) s allowed (within s valid) served only
-    result (changes_lift (with_world s.acl) (ask_pool pool command s.world) s.world s.world result h)
+pool_reads s pool secret command valid only allowed result h = reads_make (Step.Node pool secret command) s allowed (within s valid)
+    (is_served_node command) only result (changes_lift (with_world s.acl) (ask_pool pool command s.world) s.world s.world result h)

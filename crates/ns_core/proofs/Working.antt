@@ -30,7 +30,7 @@ use Rattle.ns_core.specs.Answering.{MakesStep, PreparesStep}
 use Rattle.ns_types.specs.Validity.{IsValid}
 use Rattle.ns_types.specs.Settling.Outcome.{is_done}
 use Rattle.ns_types.proofs.Lists.{not_both}
-use Rattle.ns_core.specs.Working.{FinishesBy, HandsIn}
+use Rattle.ns_drive.specs.Calls.{FinishesBy, HandsIn}
 use Rattle.ns_core.specs.Viewed.{state_of, world_of}
 use Rattle.ns_core.proofs.Keeping.{within}
 use Rattle.ns_core.proofs.Making.{made_of}

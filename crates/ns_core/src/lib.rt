@@ -3,6 +3,7 @@
 
 mod administration;
 mod asks;
+mod driven;
 mod nodes;
 mod parts;
 mod rights;

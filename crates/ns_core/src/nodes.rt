@@ -7,7 +7,7 @@ ghost use Rattle.ns_types.specs.declared.step.Step.TheVariants as Step;
 ghost use Rattle.ns_types.specs.Access.Rights.{pool_rights_of};
 ghost use Rattle.ns_types.specs.Asking.Nodes.{pool_right_of};
 ghost use Rattle.ns_types.specs.State.Sums.{node_load};
-ghost use Rattle.ns_steps.specs.Served.{IsServedNode, only_reads, served_node};
+ghost use Rattle.ns_steps.specs.Served.{only_reads, served_node};
 ghost use Rattle.ns_core.specs.Answering.{MakesNode, MakesStep, PreparesNode, ReadsPool};
 ghost use Rattle.ns_types.specs.Validity.{IsValid};
 ghost use Rattle.ns_core.specs.Held.{IsIndexed};
@@ -61,7 +61,6 @@ impl Parts {
     fn read_in_pool(&self, pool: &Text, command: &NodeCommand) -> Result<Content, Refusal>
         requires valid { IsValid (state_of self.now) }
         requires index { IsIndexed self.now }
-        requires served { IsServedNode command.now }
         requires reads { only_reads (served_node command.now) ≡ true }
         ensures { ReadsPool pool.now command.now self.now result }
     {
@@ -76,7 +75,6 @@ impl Parts {
     fn read_telling(&self, pool: &Text, command: &NodeCommand) -> Result<Reply, Refusal>
         requires valid { IsValid (state_of self.now) }
         requires index { IsIndexed self.now }
-        requires served { IsServedNode command.now }
         requires reads { only_reads (served_node command.now) ≡ true }
         ensures { MakesNode pool.now command.now self.now result self.now }
     {
@@ -109,7 +107,6 @@ impl Parts {
     fn prepare_telling(&self, pool: &Text, command: &NodeCommand) -> Result<Prepared, Refusal>
         requires valid { IsValid (state_of self.now) }
         requires index { IsIndexed self.now }
-        requires served { IsServedNode command.now }
         requires writes { only_reads (served_node command.now) ≡ false }
         ensures { PreparesNode pool.now command.now self.now result }
     {
@@ -121,6 +118,7 @@ impl Parts {
             NodeCommand::DeleteNode(name) => remove_node(tables, pool, name),
             NodeCommand::SetStatus(name, status) => self.set_status(pool, name, *status),
             NodeCommand::SetEligible(name, eligible) => set_eligible(tables, pool, name, *eligible),
+            NodeCommand::Report(name, report) => ns_report::report(tables, pool, name, report),
             _ => unreachable!(),
         }
     }
@@ -129,7 +127,6 @@ impl Parts {
     fn write_telling(&mut self, pool: &Text, command: &NodeCommand) -> Result<Reply, Refusal>
         requires valid { IsValid (state_of self.old) }
         requires index { IsIndexed self.old }
-        requires served { IsServedNode command.now }
         requires writes { only_reads (served_node command.now) ≡ false }
         ensures made { MakesNode pool.now command.now self.old result self.new }
         ensures index { IsIndexed self.new }
@@ -148,7 +145,6 @@ impl Parts {
     ) -> Result<Reply, Refusal>
         requires valid { IsValid (state_of self.old) }
         requires index { IsIndexed self.old }
-        requires served { IsServedNode command.now }
         ensures made { let step = Step.Node pool.now (option_copied secret.entry) command.now in
             MakesStep step self.old result self.new }
         ensures index { IsIndexed self.new }

@@ -6,8 +6,8 @@ ghost use Rattle.ns_types.specs.Steps.{Makes, opening};
 ghost use Rattle.ns_types.specs.Working.Looks.{first_plan, row_of, served_ready};
 ghost use Rattle.ns_broker.specs.Looking.{busy_of, busy_told};
 ghost use Rattle.ns_broker.specs.Snapping.{kept_at};
-ghost use Rattle.ns_core.specs.Working.{FinishesBy, HandsIn, snapped};
-ghost use Rattle.ns_steps.specs.Served.{IsServedAsk, IsServedNode};
+ghost use Rattle.ns_drive.specs.Calls.{FinishesBy, HandsIn, snapped};
+ghost use Rattle.ns_steps.specs.Served.{IsServedAsk};
 
 use crate::parts::Parts;
 use ns_broker::Busy;
@@ -79,14 +79,13 @@ impl Core {
         parts.admin(secret, command.get())
     }
 
-    /// Makes the step that a secret tells of a pool: all but reports on allocations.
+    /// Makes the step that a secret tells of a pool.
     pub fn node(
         &mut self,
         pool: &Text,
         secret: Option<&Text>,
         command: &GoodTelling,
     ) -> Result<Reply, Refusal>
-        requires { IsServedNode command.now }
         ensures { let step = Step.Node pool.now (option_copied secret.entry) command.now in
             Makes step self.old result self.new }
     {

@@ -7,7 +7,8 @@ ghost use Rattle.ns_core.specs.Answering.{MakesStep};
 ghost use Rattle.ns_types.specs.Validity.{IsValid};
 ghost use Rattle.ns_core.specs.Held.{IsIndexed, IsKept};
 ghost use Rattle.ns_core.specs.Viewed.{state_of, world_of};
-ghost use Rattle.ns_core.specs.Working.{FinishesBy, HandsIn, MakesWork, snapped};
+ghost use Rattle.ns_core.specs.Working.{MakesWork};
+ghost use Rattle.ns_drive.specs.Calls.{FinishesBy, HandsIn, snapped};
 
 use crate::parts::{Parts, plain};
 use ns_applier::apply;

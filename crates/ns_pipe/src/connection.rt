@@ -1,41 +1,42 @@
 //! One connection with a new server.
 
 ghost use Rattle.std.specs.Prelude.{◌≡◌};
-ghost use Rattle.ns_types.specs.Steps.{opening};
-ghost use Rattle.ns_pipe.specs.Ending.{IsEnd, EndsServed, EndsByReader, EndsByWriter};
+ghost use Rattle.ns_pipe.specs.Ending.{IsEnd, EndsServed, EndsByReader, EndsByWriter, opened};
 ghost use Rattle.ns_pipe.specs.Lines.{Tells, status_of, line_of};
 
 use crate::lines::tell;
 use crate::status::{OUT_OF_MEMORY, READ_FAULT, SERVED, WRITE_FAULT};
-use ns_api::{Draws, close, open, serve};
+use ns_api::{Draws, Driven, close, open, serve};
 use ns_http::{ConnFault, Counted};
 use ns_types::name::Secret;
 use std::alloc::Global;
 use std::io::{Read, Write};
 
-/// Serves one connection with a new server, and says the exit status.
+/// Serves one connection with a new server, which drives whom it is told after each request, and says the exit status. The
+/// steps of the requests, and those that follow each, are one run.
 pub fn pipe<D: Draws + Drop, R: Read, W: Write, E: Write>(
     alloc: Global,
     bootstrap: &Secret,
     draws: D,
+    driven: Driven,
     reader: &mut Counted<R>,
     writer: &mut Counted<W>,
     errors: &mut Counted<E>,
 ) -> u8
     ensures status { IsEnd result }
     ensures served { result ≡ SERVED → EndsServed D.draws R.remaining W.contents
-        (opening bootstrap.now, draws) reader.old reader.new writer.old writer.new }
+        (opened bootstrap.now draws driven) reader.old reader.new writer.old writer.new }
     ensures read_fault { result ≡ READ_FAULT → EndsByReader D.draws R.remaining W.contents
-        (opening bootstrap.now, draws) reader.old reader.new writer.old writer.new }
+        (opened bootstrap.now draws driven) reader.old reader.new writer.old writer.new }
     ensures write_fault { result ≡ WRITE_FAULT → EndsByWriter D.draws R.remaining W.contents
-        (opening bootstrap.now, draws) reader.old reader.new writer.old writer.new }
+        (opened bootstrap.now draws driven) reader.old reader.new writer.old writer.new }
     ensures out_of_memory { result ≡ OUT_OF_MEMORY
         → (reader.new ≡ reader.old) × (writer.new ≡ writer.old) }
     ensures silent { result ≡ SERVED → errors.new ≡ errors.old }
     ensures told { (fault : ConnFault) → result ≡ status_of fault
         → Tells E.contents errors.old errors.new (line_of fault) }
 {
-    let Ok(mut api) = open(alloc, bootstrap, draws) else {
+    let Ok(mut api) = open(alloc, bootstrap, draws, driven) else {
         return tell(ConnFault::Memory, errors);
     };
     let ended = serve(alloc, reader, writer, &mut api);

@@ -3,9 +3,9 @@
 ghost use Rattle.std.specs.Prelude.{◌≡◌, ◌≢◌, ℕ, List, ◌⊎◌};
 ghost use Rattle.ns_http.specs.Output.{WritesAll};
 ghost use Rattle.ns_types.specs.State.Names.{Name};
-ghost use Rattle.ns_types.specs.Steps.{opening};
+ghost use Rattle.ns_api.specs.declared.following.Driven.{Driven};
 ghost use Rattle.ns_pipe.specs.Asking.{IsHelp, IsMistake};
-ghost use Rattle.ns_pipe.specs.Ending.{Ends, uncounted};
+ghost use Rattle.ns_pipe.specs.Ending.{Ends, opened, uncounted};
 ghost use Rattle.ns_pipe.specs.Lines.{Tells, FailsToWrite, status_of, line_of};
 
 use crate::asked::Asked;
@@ -50,8 +50,8 @@ pub fn run<D: Draws + Drop, R: Read + Drop, W: Write + Drop, E: Write>(
     writer: W,
     errors: &mut Counted<E>,
 ) -> Ended<R, W>
-    ensures pipe { (secret : Name) → asked.now ≡ Asked.Pipe secret
-        → Ends D.draws R.remaining W.contents (opening secret, draws) result.status
+    ensures pipe { (secret : Name) (driven : Driven) → asked.now ≡ Asked.Pipe secret driven
+        → Ends D.draws R.remaining W.contents (opened secret draws driven) result.status
         (uncounted reader) result.reader (uncounted writer) result.writer }
     ensures help { (text : List ℕ) → IsHelp asked.now text
         → (result.status ≡ SERVED) ⊎ (result.status ≡ WRITE_FAULT) }
@@ -64,7 +64,7 @@ pub fn run<D: Draws + Drop, R: Read + Drop, W: Write + Drop, E: Write>(
         × Tells E.contents errors.old errors.new text }
     ensures no_memory { asked.now ≡ Asked.NoMemory
         → (result.status ≡ OUT_OF_MEMORY) × (result.writer ≡ uncounted writer) }
-    ensures unread { ((secret : Name) → asked.now ≢ Asked.Pipe secret)
+    ensures unread { ((secret : Name) (driven : Driven) → asked.now ≢ Asked.Pipe secret driven)
         → result.reader ≡ uncounted reader }
 
     // What is written on the errors goes by the status.
@@ -75,8 +75,16 @@ pub fn run<D: Draws + Drop, R: Read + Drop, W: Write + Drop, E: Write>(
     let mut reader = Counted::new(reader);
     let mut writer = Counted::new(writer);
     let status = match asked {
-        Asked::Pipe(secret) => {
-            let status = pipe(alloc, secret, draws, &mut reader, &mut writer, errors);
+        Asked::Pipe(secret, driven) => {
+            let status = pipe(
+                alloc,
+                secret,
+                draws,
+                *driven,
+                &mut reader,
+                &mut writer,
+                errors,
+            );
             return Ended {
                 status,
                 reader,

@@ -1,26 +1,28 @@
 -- What replies say, step by step.
-use Rattle.std.specs.Prelude.{◌≡◌, ◌+◌, Bool, true, false, cond, Option, Some, None, Ok, Err, is_ok, is_some, IsSomeAnd}
+use Rattle.std.specs.Prelude.{◌≡◌, ◌+◌, Bool, true, false, not, cond, Option, Some, None, Ok, Err, is_ok, is_some, IsSome, IsSomeAnd}
 use Rattle.std.proofs.Common.{refl, sym, ap, subst, ◌∙◌}
 use Rattle.std.specs.FinMap.{get}
+use Rattle.ns_types.specs.declared.allocation.Allocation.{Allocation}
 use Rattle.ns_types.specs.declared.refusal.Refusal.{Refusal}
 use Rattle.ns_types.specs.declared.reply.Content.{Content}
 use Rattle.ns_types.specs.declared.reply.Reply.{Reply}
 use Rattle.ns_types.specs.declared.step.AdminCommand.{AdminCommand}
 use Rattle.ns_types.specs.declared.step.AskCommand.{AskCommand}
 use Rattle.ns_types.specs.declared.step.NodeCommand.{NodeCommand}
+use Rattle.ns_types.specs.declared.step.Report.{Report}
 use Rattle.ns_types.specs.declared.step.Step.{Step}
 use Rattle.ns_types.specs.Asking.Policies.{administer, create_token, delete_policy, delete_token, put_policy, read_policy, secret_of, with_acl, with_world}
 use Rattle.ns_types.specs.Asking.Admins.{delete_namespace, delete_pool, delete_quota, put_namespace, put_pool_record, put_quota, read_quota}
 use Rattle.ns_types.specs.Asking.Asks.{ask, asked_in, deregister_job, document_of, first_refusal, registered_job, registered_with}
 use Rattle.ns_types.specs.State.Names.{Name}
-use Rattle.ns_types.specs.Asking.Nodes.{ask_pool, asked_in_pool}
+use Rattle.ns_types.specs.Asking.Nodes.{ask_pool, asked_in_pool, may_become, report_of, reported, same_client}
 use Rattle.ns_types.specs.Settling.Outcome.{Outcome, NotEnabled, Refused, Done, found, lift, refused_by, unless}
-use Rattle.ns_types.specs.State.Rows.{PoolRows, State, Tenant, World}
+use Rattle.ns_types.specs.State.Rows.{PoolRows, State, Tenant, World, allocation_at}
 use Rattle.ns_types.specs.Settling.Settle.{settle}
 use Rattle.ns_types.specs.Steps.{Answer, act, after, concluded, is_allowed, is_past_bound, reply_of, said}
 use Rattle.ns_types.specs.State.Sums.{names_quota, quota_use}
 use Rattle.ns_types.proofs.Lists.{not_both}
-use Rattle.ns_steps.specs.Served.{IsServed, IsServedAsk, IsServedNode, IsToldBy, is_reading, only_reads, served_admin, served_ask, served_node}
+use Rattle.ns_steps.specs.Served.{IsServed, IsServedAsk, IsToldBy, is_reading, only_reads, served_admin, served_ask, served_node}
 use Rattle.ns_steps.specs.Told.{Holds, Shape}
 use Rattle.ns_types.proofs.Tests.{same_Some}
 use Rattle.ns_types.proofs.Settling.{settle_same}
@@ -135,19 +137,39 @@ told_ask ns command w served = tells_found _ (get w.tenants ns) (asked_in ns com
 
 -- ---- what is told of a pool
 
-told_of_pool : (pool : Name) (command : NodeCommand) (w : World) (p : PoolRows) → IsServedNode command →
-    Tells (IsTold (served_node command)) (asked_in_pool pool command w p)
-told_of_pool pool NodeCommand.ReadPool w p served = tt
-told_of_pool pool NodeCommand.ListNodes w p served = tt
-told_of_pool pool (NodeCommand.PutNode name offer) w p served = tells_unless _ _ _ _ (tells_unless _ _ _ _ tt)
-told_of_pool pool (NodeCommand.DeleteNode name) w p served = tells_found _ (get p.nodes name) _ (λ node. tells_unless _ _ _ _ tt)
-told_of_pool pool (NodeCommand.SetStatus name status) w p served = tells_found _ (get p.nodes name) _ (λ node. tt)
-told_of_pool pool (NodeCommand.SetEligible name eligible) w p served = tells_found _ (get p.nodes name) _ (λ node. tt)
-told_of_pool pool (NodeCommand.Report name report) w p served = not_both served refl
+-- all of it is served
+pub is_served_node : (command : NodeCommand) → IsSome (served_node command)
+is_served_node NodeCommand.ReadPool = refl
+is_served_node NodeCommand.ListNodes = refl
+is_served_node (NodeCommand.PutNode name offer) = refl
+is_served_node (NodeCommand.DeleteNode name) = refl
+is_served_node (NodeCommand.SetStatus name status) = refl
+is_served_node (NodeCommand.SetEligible name eligible) = refl
+is_served_node (NodeCommand.Report name r) = refl
 
-told_node : (pool : Name) (command : NodeCommand) (w : World) → IsServedNode command → Tells (IsTold (served_node command)) (ask_pool pool command w)
+told_of_report : (r : Report) (w : World) (a : Allocation) → Tells (IsTold (Some Shape.Written)) (report_of r w a)
+told_of_report r w a = by (same_client a.client r.client)
+  where
+    changed : Outcome World
+    changed = unless (not (may_become a.client r.client)) Refusal.Conflict (Done Content.Written (reported r a w))
+
+    by : (b : Bool) → Tells (IsTold (Some Shape.Written)) (cond b (Done Content.Written w) changed)
+    by true = tt
+    by false = tells_unless _ _ _ _ tt
+
+told_of_pool : (pool : Name) (command : NodeCommand) (w : World) (p : PoolRows) → Tells (IsTold (served_node command)) (asked_in_pool pool command w p)
+told_of_pool pool NodeCommand.ReadPool w p = tt
+told_of_pool pool NodeCommand.ListNodes w p = tt
+told_of_pool pool (NodeCommand.PutNode name offer) w p = tells_unless _ _ _ _ (tells_unless _ _ _ _ tt)
+told_of_pool pool (NodeCommand.DeleteNode name) w p = tells_found _ (get p.nodes name) _ (λ node. tells_unless _ _ _ _ tt)
+told_of_pool pool (NodeCommand.SetStatus name status) w p = tells_found _ (get p.nodes name) _ (λ node. tt)
+told_of_pool pool (NodeCommand.SetEligible name eligible) w p = tells_found _ (get p.nodes name) _ (λ node. tt)
+told_of_pool pool (NodeCommand.Report name r) w p = tells_found _ (get p.nodes name) _ (λ node.
+    tells_found _ (allocation_at w (r.namespace, r.number)) _ (λ a. tells_unless _ _ _ _ (told_of_report r w a)))
+
+told_node : (pool : Name) (command : NodeCommand) (w : World) → Tells (IsTold (served_node command)) (ask_pool pool command w)
 unfolding ask_pool
-told_node pool command w served = tells_found _ (get w.pools pool) (asked_in_pool pool command w) (λ p. told_of_pool pool command w p served)
+told_node pool command w = tells_found _ (get w.pools pool) (asked_in_pool pool command w) (λ p. told_of_pool pool command w p)
 
 -- ---- every step that is served
 
@@ -155,7 +177,7 @@ told_by : (step : Step) (s : State) → IsServed step → Tells (IsToldBy step) 
 unfolding act
 told_by (Step.Ask ns secret command) s served = tells_lift _ (with_world s.acl) (ask ns command s.world) (told_ask ns command s.world served)
 told_by (Step.Admin secret command) s served = told_of secret command s
-told_by (Step.Node pool secret command) s served = tells_lift _ (with_world s.acl) (ask_pool pool command s.world) (told_node pool command s.world served)
+told_by (Step.Node pool secret command) s served = tells_lift _ (with_world s.acl) (ask_pool pool command s.world) (told_node pool command s.world)
 told_by _ s served = not_both served refl
 
 decided_concluded : (P : Content → Type 0) (step : Step) (s : State) (o : Outcome State) → Tells P o → concluded step s o ≡ None → ⊥
@@ -238,24 +260,23 @@ rests_records secret (AdminCommand.ReadPolicy name) s only =
     rests_lift (with_acl s.world) s.acl (read_policy name s.acl) (rests_found s.acl (get s.acl.policies name) _ (λ policy. refl))
 rests_records secret _ s only = not_both only refl
 
-rests_of_pool : (pool : Name) (command : NodeCommand) (w : World) (p : PoolRows) → IsServedNode command → only_reads (served_node command) ≡ true →
+rests_of_pool : (pool : Name) (command : NodeCommand) (w : World) (p : PoolRows) → only_reads (served_node command) ≡ true →
     Rests w (asked_in_pool pool command w p)
-rests_of_pool pool NodeCommand.ReadPool w p served only = refl
-rests_of_pool pool NodeCommand.ListNodes w p served only = refl
-rests_of_pool pool (NodeCommand.Report name report) w p served only = not_both served refl
-rests_of_pool pool _ w p served only = not_both only refl
+rests_of_pool pool NodeCommand.ReadPool w p only = refl
+rests_of_pool pool NodeCommand.ListNodes w p only = refl
+rests_of_pool pool _ w p only = not_both only refl
 
-rests_node : (pool : Name) (command : NodeCommand) (w : World) → IsServedNode command → only_reads (served_node command) ≡ true →
+rests_node : (pool : Name) (command : NodeCommand) (w : World) → only_reads (served_node command) ≡ true →
     Rests w (ask_pool pool command w)
 unfolding ask_pool
-rests_node pool command w served only = rests_found w (get w.pools pool) (asked_in_pool pool command w) (λ p. rests_of_pool pool command w p served only)
+rests_node pool command w only = rests_found w (get w.pools pool) (asked_in_pool pool command w) (λ p. rests_of_pool pool command w p only)
 
 pub rests_by : (step : Step) (s : State) → IsServed step → is_reading step ≡ true → Rests s (act step s)
 unfolding act
 rests_by (Step.Ask ns secret command) s served only = rests_lift (with_world s.acl) s.world (ask ns command s.world) (rests_ask ns command s.world served only)
 rests_by (Step.Admin secret command) s served only = rests_records secret command s only
 rests_by (Step.Node pool secret command) s served only =
-    rests_lift (with_world s.acl) s.world (ask_pool pool command s.world) (rests_node pool command s.world served only)
+    rests_lift (with_world s.acl) s.world (ask_pool pool command s.world) (rests_node pool command s.world only)
 rests_by _ s served only = not_both served refl
 
 rests_concluded : (step : Step) (s : State) (o : Outcome State) (answer : Answer) (s' : State) → Rests s o → concluded step s o ≡ said answer s' → s' ≡ s

@@ -50,7 +50,7 @@ served_node (NodeCommand.PutNode name offer) = Some Shape.Written
 served_node (NodeCommand.DeleteNode name) = Some Shape.Written
 served_node (NodeCommand.SetStatus name status) = Some Shape.Written
 served_node (NodeCommand.SetEligible name eligible) = Some Shape.Written
-served_node (NodeCommand.Report name report) = None
+served_node (NodeCommand.Report name report) = Some Shape.Written
 
 abbrev pub served : Step → Option Shape
 served (Step.Ask ns secret command) = served_ask command
@@ -62,9 +62,6 @@ served _ = None
 
 abbrev pub IsServedAsk : AskCommand → Type 0
 IsServedAsk command = IsSome (served_ask command)
-
-abbrev pub IsServedNode : NodeCommand → Type 0
-IsServedNode command = IsSome (served_node command)
 
 abbrev pub IsServed : Step → Type 0
 IsServed step = IsSome (served step)

@@ -13,7 +13,7 @@ returns-in_default-clause-wanted c =
     let h = c.in_default in
     let endpoint = c.args.target.now.endpoint in
     write_elsewhere endpoint _ h.not-Jobs h.not-NewNamespace h.not-Namespace h.not-NewQuota h.not-Quota h.not-Pools h.not-Pool h.not-AllocationStop
-    h.not-Node h.not-NodeStatus h.not-NodeEligibility h.not-Policy h.not-NewToken
+    h.not-Node h.not-NodeStatus h.not-NodeEligibility h.not-NodeReport h.not-Policy h.not-NewToken
 
 pub put_namespace-requires-in-Namespace : goal.put_namespace-requires-in-Namespace
 put_namespace-requires-in-Namespace c =

@@ -1,5 +1,7 @@
 use Rattle.std.proofs.Common.{◌≡◌, ◌≢◌, ◌⊎◌, ℕ, List, Option, refl, inl, inr, arith, string_bytes}
-use Rattle.ns_types.specs.State.Rows.{State}
+use Rattle.ns_api.specs.declared.following.Driven.{Driven}
+use Rattle.ns_api.specs.declared.following.Driver.{Driver}
+use Rattle.ns_api.specs.Answering.{Holding}
 use Rattle.ns_http.specs.declared.counting.Counted.{Counted}
 use Rattle.ns_pipe.specs.Asking.{IsHelp, IsMistake}
 use Rattle.ns_pipe.specs.Ending.{Ends}
@@ -7,23 +9,23 @@ use Rattle.ns_pipe.specs.declared.asked.Asked.{Asked}
 use Rattle.nsd.proofs.run.run_words.Goals as goal
 
 -- what the words come to: a connection, or help, a mistake or no memory
-cases : (asked : Asked) → ((secret : List ℕ) × (asked ≡ Asked.Pipe secret)) ⊎
-    (((secret : List ℕ) → asked ≢ Asked.Pipe secret) ×
+cases : (asked : Asked) → ((secret : List ℕ) × (driven : Driven) × (asked ≡ Asked.Pipe secret driven)) ⊎
+    (((secret : List ℕ) (driven : Driven) → asked ≢ Asked.Pipe secret driven) ×
     (((text : List ℕ) × IsHelp asked text) ⊎ ((text : List ℕ) × IsMistake asked text) ⊎ (asked ≡ Asked.NoMemory)))
-cases (Asked.Pipe secret) = inl (secret, refl)
-cases (Asked.Help text) = inr ((λ secret e. cc), inl (string_bytes text, refl))
-cases (Asked.Mistake text) = inr ((λ secret e. cc), inr (inl (string_bytes text, refl)))
-cases Asked.NoMemory = inr ((λ secret e. cc), inr (inr refl))
+cases (Asked.Pipe secret driven) = inl (secret, driven, refl)
+cases (Asked.Help text) = inr ((λ secret driven e. cc), inl (string_bytes text, refl))
+cases (Asked.Mistake text) = inr ((λ secret driven e. cc), inr (inl (string_bytes text, refl)))
+cases Asked.NoMemory = inr ((λ secret driven e. cc), inr (inr refl))
 
-no_connection : (asked : Asked) → asked ≡ Asked.NoMemory → (secret : List ℕ) → asked ≢ Asked.Pipe secret
-no_connection asked none secret e = cc
+no_connection : (asked : Asked) → asked ≡ Asked.NoMemory → (secret : List ℕ) (driven : Driven) → asked ≢ Asked.Pipe secret driven
+no_connection asked none secret driven e = cc
 
 module _ {D R W : Type 0} (draws : D → List ℕ → D → Type 0) (remaining : R → Option (List ℕ))
     (contents : W → Option (List ℕ)) where
   -- nothing was read or written, for want of memory
-  unserved : (opened : State × D) (status : ℕ) (reader reader' : Counted R) (writer writer' : Counted W) → status ≡ 5 → reader' ≡ reader →
-      writer' ≡ writer → Ends draws remaining contents opened status reader reader' writer writer'
-  unserved opened status reader reader' writer writer' is r w = record {
+  unserved : (old : Holding D Driver) (status : ℕ) (reader reader' : Counted R) (writer writer' : Counted W) → status ≡ 5 → reader' ≡ reader →
+      writer' ≡ writer → Ends draws remaining contents old status reader reader' writer writer'
+  unserved old status reader reader' writer writer' is r w = record {
     is_end = inr (inr (inr is));
     served = λ e. let zero : status ≡ 0 = e in absurd (omega (arith, is, zero));
     read_fault = λ e. let three : status ≡ 3 = e in absurd (omega (arith, is, three));
@@ -35,7 +37,7 @@ pub returns-clause-served_or_told : goal.returns-clause-served_or_told
 returns-clause-served_or_told g c =
     let ran = c.run.ensures in
     elim (cases c.read-asked.result) [
-      | inl pipe ↦ inl (pipe.0, c.read-asked.ensures.gives pipe.0 pipe.1, ran.pipe pipe.0 pipe.1)
+      | inl pipe ↦ inl (pipe.0, pipe.1, c.read-asked.ensures.gives pipe.0 pipe.1 pipe.2, ran.pipe pipe.0 pipe.1 pipe.2)
       | inr other ↦ inr (
         ran.unread other.0,
         elim other.1 [
@@ -52,10 +54,10 @@ returns-clause-served_or_told g c =
     ]
 
 pub returns-clause-served : goal.returns-clause-served
-returns-clause-served g c = λ secret good.
+returns-clause-served g c = λ secret driven good.
     let ran = c.run.ensures in
-    elim (c.read-asked.ensures.good secret good) [
-      | inl is ↦ ran.pipe secret is
+    elim (c.read-asked.ensures.good secret driven good) [
+      | inl is ↦ ran.pipe secret driven is
       | inr none ↦ unserved g.D.Draws.draws g.R.Read.remaining g.W.Write.contents _ _ _ _ _ _ (ran.no_memory none).0
           (ran.unread (no_connection _ none)) (ran.no_memory none).1
     ]

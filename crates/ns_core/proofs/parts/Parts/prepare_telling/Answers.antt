@@ -15,6 +15,9 @@ remove_node-requires c = within (state_of c.args.self.now) c.requires.valid
 pub set_eligible-requires : goal.set_eligible-requires
 set_eligible-requires c = within (state_of c.args.self.now) c.requires.valid
 
+pub report-requires : goal.report-requires
+report-requires c = within (state_of c.args.self.now) c.requires.valid
+
 pub returns-in-PutNode : goal.returns-in-PutNode
 returns-in-PutNode c = subst (λ (command : NodeCommand). PreparesNode c.args.pool.now command c.args.self.now c.register_node.result)
     (sym c.in-PutNode.is) (prepares c.args.self.now c.args.pool.now _ c.register_node.result c.register_node.ensures)
@@ -30,3 +33,7 @@ returns-in-SetStatus c = subst (λ (command : NodeCommand). PreparesNode c.args.
 pub returns-in-SetEligible : goal.returns-in-SetEligible
 returns-in-SetEligible c = subst (λ (command : NodeCommand). PreparesNode c.args.pool.now command c.args.self.now c.set_eligible.result)
     (sym c.in-SetEligible.is) (prepares c.args.self.now c.args.pool.now _ c.set_eligible.result c.set_eligible.ensures)
+
+pub returns-in-Report : goal.returns-in-Report
+returns-in-Report c = subst (λ (command : NodeCommand). PreparesNode c.args.pool.now command c.args.self.now c.report.result)
+    (sym c.in-Report.is) (prepares c.args.self.now c.args.pool.now _ c.report.result c.report.ensures)

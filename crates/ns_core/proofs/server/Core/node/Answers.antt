@@ -2,7 +2,6 @@ use Rattle.std.proofs.Common.{sym, subst}
 use Rattle.std.specs.Option.{option_copied}
 use Rattle.ns_types.specs.declared.step.Step.TheVariants as Step
 use Rattle.ns_types.specs.Asking.Good.{IsGoodTelling}
-use Rattle.ns_steps.specs.Served.{IsServedNode}
 use Rattle.ns_core.specs.Viewed.{state_of}
 use Rattle.ns_core.proofs.Keeping.{keeps}
 use Rattle.ns_core.proofs.server.Core.node.Goals as goal
@@ -12,9 +11,6 @@ node-requires-clause-valid c = c.self.invariant.valid
 
 pub node-requires-clause-index : goal.node-requires-clause-index
 node-requires-clause-index c = c.self.invariant.index
-
-pub node-requires-clause-served : goal.node-requires-clause-served
-node-requires-clause-served c = subst IsServedNode (sym c.get.ensures.same) c.requires
 
 pub invariant_of-self : goal.invariant_of-self
 invariant_of-self c = record {

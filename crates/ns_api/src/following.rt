@@ -1,0 +1,78 @@
+//! What a server does of itself after each request.
+
+ghost use Rattle.std.specs.Prelude.{◌≡◌, List};
+ghost use Rattle.ns_types.specs.declared.step.Step.{Step};
+ghost use Rattle.ns_types.specs.Steps.{Answer, Run};
+ghost use Rattle.ns_api.specs.Following.{driver_of};
+
+use crate::answering::Takes;
+use ns_core::Core;
+use ns_drive::{Kept, drive};
+use std::alloc::Global;
+
+/// What follows each request, over what took its step.
+pub trait Follows<T: Takes> {
+    ghost use Rattle.ns_types.specs.State.Rows.{State};
+
+    // These steps, with these answers, lead from the first state and follower to the second.
+    ghost follows: { Self → State → List Step → List Answer → State → Self → Type 0 };
+
+    /// Makes the steps that follow a request. They are a run.
+    fn follow(&mut self, alloc: Global, taker: &mut T)
+        ensures { (steps : List Step) × (answers : List Answer)
+            × follows self.old (T.state taker.old) steps answers (T.state taker.new) self.new
+            × Run (T.state taker.old) steps answers (T.state taker.new) };
+}
+
+/// Nothing follows.
+#[derive(Drop)]
+pub struct NoFollower;
+
+impl<T: Takes> Follows<T> for NoFollower {
+    ghost use Rattle.ns_api.specs.Following.{FollowsNothing};
+
+    ghost follows = { λ old s steps answers s' new. FollowsNothing s steps answers s' };
+
+    fn follow(&mut self, _alloc: Global, _taker: &mut T) {}
+}
+
+/// Whom a server drives after each request.
+#[derive(Clone, Copy, Debug, PartialEq, Eq)]
+pub enum Driven {
+    Nobody,
+    /// Worker 0: it takes what is ready, places it, has its plans applied and finishes, at most 10,000 steps at a time.
+    Worker,
+}
+
+/// Drives whom a server drives.
+#[derive(Drop)]
+pub enum Driver {
+    Nobody,
+    /// What the worker keeps from one step to the next.
+    Worker(Kept),
+}
+
+impl Driver {
+    /// The driver of a server that has just begun.
+    pub fn new(driven: Driven) -> Driver
+        ensures { result ≡ driver_of driven }
+    {
+        match driven {
+            Driven::Nobody => Driver::Nobody,
+            Driven::Worker => Driver::Worker(Kept::Nothing),
+        }
+    }
+}
+
+impl Follows<Core> for Driver {
+    ghost use Rattle.ns_api.specs.Following.{FollowsBy};
+
+    ghost follows = { FollowsBy };
+
+    /// A worker that is left busy goes on after the next request.
+    fn follow(&mut self, alloc: Global, taker: &mut Core) {
+        if let Driver::Worker(kept) = self {
+            let _stop = drive(alloc, taker, kept);
+        }
+    }
+}

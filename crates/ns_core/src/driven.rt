@@ -1,0 +1,59 @@
+//! A server's workers can be driven.
+
+use crate::server::Core;
+use ns_broker::Busy;
+use ns_drive::Works;
+use ns_types::key::EvalKey;
+use ns_types::planned::Planned;
+use ns_types::refusal::Refusal;
+use ns_types::reply::Reply;
+use ns_types::shared::Shared;
+use ns_types::snapshot::Snapshot;
+use ns_types::text::Text;
+
+impl Works for Core {
+    ghost state = { λ core. core };
+
+    fn served(&self) -> Option<&EvalKey> {
+        self.served()
+    }
+
+    fn phase(&self, worker: u64) -> Option<Busy<'_>> {
+        self.phase(worker)
+    }
+
+    fn dequeue(
+        &mut self,
+        worker: u64,
+        namespace: &Text,
+        evaluation: u64,
+    ) -> Result<Reply, Refusal> {
+        self.dequeue(worker, namespace, evaluation)
+    }
+
+    fn snap(&mut self, worker: u64, namespace: &Text) -> Result<Shared<Snapshot>, Refusal> {
+        self.snap(worker, namespace)
+    }
+
+    fn submit(
+        &mut self,
+        worker: u64,
+        namespace: &Text,
+        planned: Planned,
+    ) -> Result<Reply, Refusal> {
+        self.submit(worker, namespace, planned)
+    }
+
+    fn apply(&mut self, worker: u64, namespace: &Text) -> Result<Reply, Refusal> {
+        self.apply(worker, namespace)
+    }
+
+    fn finish(
+        &mut self,
+        worker: u64,
+        namespace: &Text,
+        planned: &Planned,
+    ) -> Result<Reply, Refusal> {
+        self.finish(worker, namespace, planned)
+    }
+}
