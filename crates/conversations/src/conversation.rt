@@ -2,6 +2,7 @@
 
 use crate::same_bytes::SameBytes;
 use anyhow::Context;
+use ns_api::Driven;
 use ns_http::Counted;
 use ns_pipe::pipe;
 use ns_types::name::Secret;
@@ -16,21 +17,29 @@ pub struct Conversation<'a> {
     bootstrap: Secret,
     /// By how much each draw is greater than the one before.
     step: u8,
+    /// Whom the server drives after each request.
+    driven: Driven,
     input: &'a str,
 }
 
 const BAD_HEAD: &str = "a bad first line";
 
 impl<'a> Conversation<'a> {
-    /// Its first line holds the bootstrap secret, the step of the draws and a name. All that follows is the input.
+    /// Its first line holds the bootstrap secret, the step of the draws, `driven` where a worker is driven, and a name. All that
+    /// follows is the input.
     pub fn read(alloc: Global, text: &'a str) -> anyhow::Result<Conversation<'a>> {
         let (head, input) = text.split_once('\n').context(BAD_HEAD)?;
         let (secret, rest) = head.split_once(' ').context(BAD_HEAD)?;
-        let (step, _) = rest.split_once(' ').context(BAD_HEAD)?;
+        let (step, name) = rest.split_once(' ').context(BAD_HEAD)?;
         Ok(Conversation {
             head,
             bootstrap: Secret::read(alloc, secret)?.context(BAD_HEAD)?,
             step: step.parse().ok().context(BAD_HEAD)?,
+            driven: if name.starts_with("driven ") {
+                Driven::Worker
+            } else {
+                Driven::Nobody
+            },
             input,
         })
     }
@@ -45,6 +54,7 @@ impl<'a> Conversation<'a> {
             alloc,
             &self.bootstrap,
             draws,
+            self.driven,
             &mut reader,
             &mut writer,
             &mut errors,

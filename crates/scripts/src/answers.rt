@@ -7,6 +7,7 @@ use ns_types::refusal::Refusal;
 use ns_types::reply::{Content, Reply, Response};
 use ns_types::shared::Shared;
 use ns_types::snapshot::Snapshot;
+use ns_types::text::Text;
 use ns_types::worker::Phase;
 use std::io::Write;
 
@@ -43,10 +44,59 @@ fn status_text(status: Status) -> &'static str {
     }
 }
 
+/// With a space before each.
+fn write_numbers<W: Write>(out: &mut W, numbers: &[u64]) -> anyhow::Result<()> {
+    if numbers.is_empty() {
+        write!(out, " nothing")?;
+    }
+    for number in numbers {
+        write!(out, " {number}")?;
+    }
+    Ok(())
+}
+
+/// With a space before each.
+fn write_names<W: Write>(out: &mut W, names: &[Text]) -> anyhow::Result<()> {
+    if names.is_empty() {
+        write!(out, " nothing")?;
+    }
+    for name in names {
+        let name = name.as_str();
+        write!(out, " {name}")?;
+    }
+    Ok(())
+}
+
+/// The allocations that were made, and the nodes that were dropped.
+fn write_applied<W: Write>(out: &mut W, made: &[u64], dropped: &[Text]) -> anyhow::Result<()> {
+    write!(out, "applied")?;
+    write_numbers(out, made)?;
+    write!(out, ", dropped")?;
+    write_names(out, dropped)?;
+    writeln!(out)?;
+    Ok(())
+}
+
+/// How the evaluation ended, and its follower.
+fn write_finished<W: Write>(
+    out: &mut W,
+    status: Status,
+    follower: Option<u64>,
+) -> anyhow::Result<()> {
+    let status = status_text(status);
+    match follower {
+        Some(number) => writeln!(out, "finished {status}, followed by {number}")?,
+        None => writeln!(out, "finished {status}, followed by nothing")?,
+    }
+    Ok(())
+}
+
 fn write_content<W: Write>(out: &mut W, content: &Content) -> anyhow::Result<()> {
     match content {
         Content::Took(number) => writeln!(out, "took {number}")?,
         Content::Queued(number) => writeln!(out, "queued {number}")?,
+        Content::Applied(made, dropped) => write_applied(out, made.as_slice(), dropped.as_slice())?,
+        Content::Finished(status, follower) => write_finished(out, *status, *follower)?,
         Content::Nacked(status) => {
             let status = status_text(*status);
             writeln!(out, "nacked {status}")?;

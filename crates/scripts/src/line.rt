@@ -13,14 +13,24 @@ pub enum Line<'a> {
     Call(Call<'a>),
 }
 
-/// What a worker does, or what is looked at. A worker comes first, and then the namespace.
+/// A worker's step in a namespace.
+#[derive(Clone, Copy)]
+pub enum Work {
+    Dequeue(u64),
+    Snap,
+    /// The plan of the snapshot that was taken at that place in the script is handed in, or of the worker's last.
+    Submit(Option<u64>),
+    Apply,
+    /// By the plan of the snapshot, as it is handed in.
+    Finish(Option<u64>),
+    Nack,
+}
+
+/// What a worker does, or what is looked at.
 #[derive(Clone, Copy)]
 pub enum Call<'a> {
-    Dequeue(u64, &'a str, u64),
-    Snap(u64, &'a str),
-    /// The plan of the snapshot that was taken last is handed in.
-    Submit(u64, &'a str),
-    Nack(u64, &'a str),
+    /// The worker, and the namespace.
+    Work(u64, &'a str, Work),
     Served,
     Planned,
     Phase(u64),
@@ -45,44 +55,45 @@ fn namespace(text: &str) -> Option<&str> {
     }
 }
 
-/// A worker and a namespace.
-fn worker_in(text: &str) -> Option<(u64, &str)> {
-    let (worker, rest) = text.split_once(' ')?;
-    Some((number(worker)?, namespace(rest)?))
+/// The worker and the namespace of a step, and what stands behind them.
+fn worker_in(text: &str) -> Option<(u64, &str, &str)> {
+    let (worker, rest) = first_word(text);
+    let (name, rest) = first_word(rest);
+    Some((number(worker)?, namespace(name)?, rest))
 }
 
-fn dequeue(text: &str) -> Option<Call<'_>> {
-    let (words, evaluation) = text.rsplit_once(' ')?;
-    let (worker, namespace) = worker_in(words)?;
-    Some(Call::Dequeue(worker, namespace, number(evaluation)?))
+/// The place of a snapshot, if it is said.
+fn place(text: &str) -> Option<Option<u64>> {
+    if text.is_empty() {
+        return Some(None);
+    }
+    Some(Some(number(text)?))
 }
 
-fn snap(text: &str) -> Option<Call<'_>> {
-    let (worker, namespace) = worker_in(text)?;
-    Some(Call::Snap(worker, namespace))
-}
-
-fn submit(text: &str) -> Option<Call<'_>> {
-    let (worker, namespace) = worker_in(text)?;
-    Some(Call::Submit(worker, namespace))
-}
-
-fn nack(text: &str) -> Option<Call<'_>> {
-    let (worker, namespace) = worker_in(text)?;
-    Some(Call::Nack(worker, namespace))
+impl Work {
+    fn read(word: &str, rest: &str) -> Option<Work> {
+        match word {
+            "dequeue" => Some(Work::Dequeue(number(rest)?)),
+            "snap" if rest.is_empty() => Some(Work::Snap),
+            "submit" => Some(Work::Submit(place(rest)?)),
+            "apply" if rest.is_empty() => Some(Work::Apply),
+            "finish" => Some(Work::Finish(place(rest)?)),
+            "nack" if rest.is_empty() => Some(Work::Nack),
+            _ => None,
+        }
+    }
 }
 
 impl<'a> Call<'a> {
     fn read(word: &str, rest: &'a str) -> Option<Call<'a>> {
         match word {
-            "dequeue" => dequeue(rest),
-            "snap" => snap(rest),
-            "submit" => submit(rest),
-            "nack" => nack(rest),
             "served" if rest.is_empty() => Some(Call::Served),
             "planned" if rest.is_empty() => Some(Call::Planned),
             "phase" => Some(Call::Phase(number(rest)?)),
-            _ => None,
+            _ => {
+                let (worker, namespace, rest) = worker_in(rest)?;
+                Some(Call::Work(worker, namespace, Work::read(word, rest)?))
+            }
         }
     }
 }

@@ -2,9 +2,10 @@
 
 use crate::answers::{write_key, write_phase, write_reply, write_response, write_snapshot};
 use crate::lent::{Lent, LentDraws};
-use crate::line::{Call, Line};
+use crate::line::{Call, Line, Work};
+use crate::taken::Snapshots;
 use anyhow::Context;
-use ns_api::Api;
+use ns_api::{Api, NoFollower};
 use ns_core::Core;
 use ns_http::{Answer, Request};
 use ns_schedule::plan;
@@ -28,8 +29,7 @@ pub struct Server<'a> {
     token: Option<&'a str>,
     /// The byte that is drawn next.
     next: u8,
-    /// The snapshot that was taken last.
-    seen: Option<Shared<Snapshot>>,
+    seen: Snapshots,
 }
 
 /// A call that was refused for memory is made once more.
@@ -57,6 +57,20 @@ fn submitted(
     core.submit(worker, namespace, planned)
 }
 
+/// The evaluation is finished by the plan of the snapshot, which is made once more.
+fn finished(
+    core: &mut Core,
+    alloc: Global,
+    worker: u64,
+    namespace: &Text,
+    seen: &Shared<Snapshot>,
+) -> Result<Reply, Refusal> {
+    let planned = plan(alloc, seen.share()?)?;
+    let answer = core.finish(worker, namespace, &planned);
+    drop(planned);
+    answer
+}
+
 fn is_unanswered(answer: &Result<Response, AllocError>) -> bool {
     match answer {
         Ok(response) => matches!(response, Response::Refused(Refusal::Memory)),
@@ -73,7 +87,7 @@ impl<'a> Server<'a> {
             core,
             token: Some(ROOT),
             next: 1,
-            seen: None,
+            seen: Snapshots::new(alloc),
         })
     }
 
@@ -84,7 +98,7 @@ impl<'a> Server<'a> {
         let draws = LentDraws {
             next: &mut self.next,
         };
-        let mut api = Api::new(self.alloc, lent, draws)?;
+        let mut api = Api::new(self.alloc, lent, draws, NoFollower)?;
         Ok(api.answer(request))
     }
 
@@ -136,24 +150,61 @@ impl<'a> Server<'a> {
 
     fn snap<W: Write>(&mut self, worker: u64, namespace: &Text, out: &mut W) -> anyhow::Result<()> {
         let answer = repeated(&mut self.core, |core| core.snap(worker, namespace));
-        let written = write_snapshot(out, &answer);
+        write_snapshot(out, &answer)?;
         if let Ok(snapshot) = answer {
-            self.seen = Some(snapshot);
+            self.seen.keep(worker, snapshot)?;
         }
-        written
+        Ok(())
     }
 
     fn submit<W: Write>(
         &mut self,
         worker: u64,
         namespace: &Text,
+        place: Option<u64>,
         out: &mut W,
     ) -> anyhow::Result<()> {
         let alloc = self.alloc;
-        let seen = self.seen.as_ref().context("no snapshot was taken")?;
+        let seen = self
+            .seen
+            .find(worker, place)
+            .context("no snapshot was taken")?;
         let answer = repeated(
             &mut self.core,
             |core| submitted(core, alloc, worker, namespace, seen),
+        );
+        let written = write_reply(out, &answer);
+        drop(answer);
+        written
+    }
+
+    fn apply<W: Write>(
+        &mut self,
+        worker: u64,
+        namespace: &Text,
+        out: &mut W,
+    ) -> anyhow::Result<()> {
+        let answer = repeated(&mut self.core, |core| core.apply(worker, namespace));
+        let written = write_reply(out, &answer);
+        drop(answer);
+        written
+    }
+
+    fn finish<W: Write>(
+        &mut self,
+        worker: u64,
+        namespace: &Text,
+        place: Option<u64>,
+        out: &mut W,
+    ) -> anyhow::Result<()> {
+        let alloc = self.alloc;
+        let seen = self
+            .seen
+            .find(worker, place)
+            .context("no snapshot was taken")?;
+        let answer = repeated(
+            &mut self.core,
+            |core| finished(core, alloc, worker, namespace, seen),
         );
         let written = write_reply(out, &answer);
         drop(answer);
@@ -167,23 +218,29 @@ impl<'a> Server<'a> {
         written
     }
 
+    /// A worker's step in the namespace.
+    fn work<W: Write>(
+        &mut self,
+        worker: u64,
+        namespace: &Text,
+        work: Work,
+        out: &mut W,
+    ) -> anyhow::Result<()> {
+        match work {
+            Work::Dequeue(number) => self.dequeue(worker, namespace, number, out),
+            Work::Snap => self.snap(worker, namespace, out),
+            Work::Submit(place) => self.submit(worker, namespace, place, out),
+            Work::Apply => self.apply(worker, namespace, out),
+            Work::Finish(place) => self.finish(worker, namespace, place, out),
+            Work::Nack => self.nack(worker, namespace, out),
+        }
+    }
+
     fn call<W: Write>(&mut self, call: Call<'_>, out: &mut W) -> anyhow::Result<()> {
         match call {
-            Call::Dequeue(worker, namespace, number) => {
+            Call::Work(worker, namespace, work) => {
                 let namespace = Text::from_str(self.alloc, namespace)?;
-                self.dequeue(worker, &namespace, number, out)
-            }
-            Call::Snap(worker, namespace) => {
-                let namespace = Text::from_str(self.alloc, namespace)?;
-                self.snap(worker, &namespace, out)
-            }
-            Call::Nack(worker, namespace) => {
-                let namespace = Text::from_str(self.alloc, namespace)?;
-                self.nack(worker, &namespace, out)
-            }
-            Call::Submit(worker, namespace) => {
-                let namespace = Text::from_str(self.alloc, namespace)?;
-                self.submit(worker, &namespace, out)
+                self.work(worker, &namespace, work, out)
             }
             Call::Served => write_key(out, self.core.served()),
             Call::Planned => write_key(out, self.core.first_plan()),

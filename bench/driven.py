@@ -1,0 +1,146 @@
+"""Times what a driven worker places, over one connection of `./nsd pipe --drive`.
+
+    python3 bench/driven.py place              100 jobs of 1,000 allocations over 1,000 nodes
+    python3 bench/driven.py preempt            8 jobs that fill 1,000 nodes, and 2 that take half of that
+    python3 bench/driven.py place 10           another number of jobs
+    python3 bench/driven.py place 10 --show    prints the requests, and runs nothing
+
+The nodes are registered first, which is not timed. Then the jobs are sent, and one request behind them, whose reply comes once
+the last job was driven. What was placed is counted from what the nodes use and from the allocations that were evicted, and has
+to be what the input asks for; else the exit status is 1.
+"""
+
+import json
+import os
+import subprocess
+import sys
+import threading
+import time
+
+NODES = 1_000
+COUNT = 1_000
+MHZ = 100
+COMMAND = ["./nsd", "pipe", "--bootstrap", "root", "--drive"]
+LIST = "/v1/node/pool/default/nodes"
+
+
+def request(method, path, document=None):
+    body = "" if document is None else json.dumps(document, separators=(",", ":"))
+    head = f"{method} {path} HTTP/1.1\r\nX-Nomad-Token: root\r\nContent-Length: {len(body)}\r\n\r\n"
+    return (head + body).encode("ascii")
+
+
+def nodes(places):
+    """Each has room for so many allocations of one size."""
+    offer = {"CPU": places * MHZ, "MemoryMB": places * MHZ}
+    return [request("PUT", f"/v1/node/pool/default/node/n{node}", offer) for node in range(NODES)]
+
+
+def jobs(name, number, priority, sizes):
+    """Each allocation takes as much as so many of one size."""
+    task = {"Name": "t", "Resources": {"CPU": sizes * MHZ, "MemoryMB": sizes * MHZ}}
+    group = {"Name": "g", "Count": COUNT, "Tasks": [task]}
+    ids = (f"{name}-{job}" for job in range(number))
+    documents = ({"Job": {"ID": id, "Priority": priority, "TaskGroups": [group]}} for id in ids)
+    return [request("POST", "/v1/jobs", document) for document in documents]
+
+
+class Server:
+    def __init__(self):
+        self.program = subprocess.Popen(COMMAND, stdin=subprocess.PIPE, stdout=subprocess.PIPE)
+
+    def reply(self):
+        status = self.program.stdout.readline()
+        if not status.startswith(b"HTTP/1.1 200 "):
+            sys.exit(f"a request was not served: {status}")
+        length = 0
+        while (line := self.program.stdout.readline()) not in (b"\r\n", b""):
+            if line.startswith(b"Content-Length: "):
+                length = int(line.split()[1])
+        return self.program.stdout.read(length)
+
+    def write(self, requests):
+        self.program.stdin.write(b"".join(requests))
+        self.program.stdin.flush()
+
+    def ask(self, requests):
+        """Sends the requests at once while it takes the replies, and answers the last reply."""
+        writer = threading.Thread(target=self.write, args=(requests,))
+        writer.start()
+        replies = [self.reply() for _ in requests]
+        writer.join()
+        return json.loads(replies[-1])
+
+    def used(self):
+        return sum(node["Used"]["CPU"] for node in self.ask([request("GET", LIST)]))
+
+    def timed(self, requests):
+        """The seconds until all of it was driven."""
+        start = time.perf_counter()
+        self.ask(requests + [request("GET", "/v1/namespaces")])
+        return time.perf_counter() - start
+
+    def count(self, name, number, desired):
+        """How many allocations of these jobs have that desired status."""
+        paths = (f"/v1/job/{name}-{job}/allocations" for job in range(number))
+        rows = (row for path in paths for row in self.ask([request("GET", path)]))
+        return sum(row["DesiredStatus"] == desired for row in rows)
+
+    def end(self):
+        self.program.stdin.close()
+        self.program.wait()
+
+
+def told(what, number, seconds):
+    print(f"{number} {what} in {seconds:.3f} s, {number / seconds:.0f} a second", flush=True)
+
+
+def places_in(number):
+    """As many on each node as fill them all."""
+    return -(-number * COUNT // NODES)
+
+
+def place(server, number):
+    server.ask(nodes(places_in(number)))
+    seconds = server.timed(jobs("job", number, 20, 1))
+    placed = server.used() // MHZ
+    told("placements", placed, seconds)
+    return placed == number * COUNT
+
+
+def preempt(server, number):
+    filled = place(server, number)
+    greater = number // 4
+    seconds = server.timed(jobs("high", greater, 60, 2))
+    placed = server.count("high", greater, "run")
+    evicted = server.count("job", number, "evict")
+    told("placements where others give way", placed, seconds)
+    told("evictions", evicted, seconds)
+    return filled and placed == greater * COUNT and evicted == 2 * placed
+
+
+def inputs(kind, number):
+    filling = nodes(places_in(number)) + jobs("job", number, 20, 1)
+    return filling if kind == "place" else filling + jobs("high", number // 4, 60, 2)
+
+
+def main():
+    words = [word for word in sys.argv[1:] if word != "--show"]
+    kind = words[0]
+    number = int(words[1]) if len(words) > 1 else {"place": 100, "preempt": 8}[kind]
+    if "--show" in sys.argv:
+        sys.stdout.buffer.write(b"".join(inputs(kind, number)))
+        return 0
+    if not os.path.exists("nsd"):
+        print("there is no ./nsd here: build the program first", file=sys.stderr)
+        return 2
+    server = Server()
+    is_right = {"place": place, "preempt": preempt}[kind](server, number)
+    server.end()
+    if not is_right:
+        print("that is not what the input asks for", file=sys.stderr)
+    return 0 if is_right else 1
+
+
+if __name__ == "__main__":
+    sys.exit(main())
