@@ -1,9 +1,10 @@
 // Tables with ample memory, filled to their limits: one row more is refused as too many, and not for want of memory.
 
 use crate::owned::{holds, seen};
-use crate::tables::{refusal, written};
 use ns_acl::Acl;
-use ns_admin::{opening as opening_tables, put_namespace, put_pool, put_quota};
+use ns_admin::{
+    RecordChange, opening as opening_tables, put_namespace, put_pool, put_quota, write,
+};
 use ns_types::acl::{Policy, TokenKind};
 use ns_types::records::{Namespace, Pool, Quota};
 use ns_types::refusal::Refusal;
@@ -29,6 +30,23 @@ fn name_of(alloc: Global, number: u64) -> Result<Text, AllocError> {
 
 fn described(alloc: Global) -> Result<Text, AllocError> {
     Text::from_str(alloc, "")
+}
+
+fn refusal(answer: &Result<Content, Refusal>) -> Option<Refusal> {
+    match answer {
+        Ok(_) => None,
+        Err(refusal) => Some(*refusal),
+    }
+}
+
+/// Writes what was prepared.
+fn written(
+    tables: &mut Tables,
+    prepared: Result<RecordChange, Refusal>,
+) -> Result<Content, Refusal> {
+    let change = prepared?;
+    write(tables, change)?;
+    Ok(Content::Written)
 }
 
 /// Puts a row of each name in turn, until one is refused.

@@ -1,9 +1,8 @@
 // What is told of nodes, with ample memory: a call that was refused for memory is made again.
-ghost use Rattle.std.specs.Prelude.{IfOk, IsTrue};
+ghost use Rattle.std.specs.Prelude.{IsTrue};
 ghost use Rattle.ns_types.specs.declared.name.NameKind.TheVariants as NameKind;
 ghost use Rattle.ns_types.specs.State.Limits.{is_amount};
 ghost use Rattle.ns_types.specs.State.Name.{is_name};
-ghost use Rattle.ns_steps.specs.Served.{IsServedNode};
 
 use crate::owned::seen;
 use ns_core::Core;
@@ -24,7 +23,6 @@ pub(crate) fn registration(
 ) -> Result<GoodTelling, AllocError>
     requires name { IsTrue (is_name NameKind.Node node.now) }
     requires capacity { IsTrue (is_amount capacity) }
-    ensures { IfOk result IsServedNode }
 {
     let offer = Offer {
         class: Text::from_str(alloc, "linux")?,
@@ -34,9 +32,7 @@ pub(crate) fn registration(
     Ok(GoodTelling::new(NodeCommand::PutNode(node.clone()?, offer)))
 }
 
-pub(crate) fn eligibility(node: &Text, eligible: bool) -> Result<GoodTelling, AllocError>
-    ensures { IfOk result IsServedNode }
-{
+pub(crate) fn eligibility(node: &Text, eligible: bool) -> Result<GoodTelling, AllocError> {
     Ok(GoodTelling::new(NodeCommand::SetEligible(node.clone()?, eligible)))
 }
 
@@ -45,9 +41,7 @@ pub(crate) fn told(
     secret: Option<&Text>,
     pool: &Text,
     command: &GoodTelling,
-) -> Result<Reply, Refusal>
-    requires { IsServedNode command.now }
-{
+) -> Result<Reply, Refusal> {
     match core.node(pool, secret, command) {
         Err(Refusal::Memory) => core.node(pool, secret, command),
         answer => answer,
@@ -70,9 +64,7 @@ pub(crate) fn answer(
     secret: Option<&Text>,
     pool: &Text,
     command: GoodTelling,
-) -> Option<Refusal>
-    requires { IsServedNode command }
-{
+) -> Option<Refusal> {
     let answer = told(core, secret, pool, &command);
     drop(command);
     seen(answer, refusal)

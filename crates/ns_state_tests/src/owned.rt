@@ -33,14 +33,3 @@ pub(crate) fn repeated<S, T: Drop, F: Fn(&mut S) -> Result<T, Refusal>>(
         answer => answer,
     }
 }
-
-/// The value, where there was memory for what was put into it.
-pub(crate) fn made<T: Drop>(value: T, answer: Result<(), AllocError>) -> Result<T, AllocError> {
-    match answer {
-        Ok(()) => Ok(value),
-        Err(error) => {
-            drop(value);
-            Err(error)
-        }
-    }
-}

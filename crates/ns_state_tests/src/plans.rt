@@ -1,22 +1,123 @@
 // That plans stop, place and evict as the rules of reconciling, of placement and of preemption tell it.
 
-use crate::down::allocation;
+ghost use Rattle.std.specs.Prelude.{◌≡◌, IfOk};
+
 use crate::owned::{repeated, seen};
-use crate::placing::{linux, live, size};
-use crate::tables::job;
-use crate::worker::evaluation;
 use ns_schedule::plan;
-use ns_types::job::{Group, Job, Task};
+use ns_types::allocation::{Allocation, ClientStatus, DesiredStatus};
+use ns_types::evaluation::{Evaluation, Status, Trigger};
+use ns_types::job::{Document, Group, Job, JobKind, Task};
+use ns_types::node::{Attribute, Node, NodeStatus, Offer};
 use ns_types::plan::Placement;
 use ns_types::planned::Planned;
 use ns_types::refusal::Refusal;
-use ns_types::resources::{Limit, Limits};
+use ns_types::resources::{Limit, Limits, Resources};
 use ns_types::rows::Rows;
 use ns_types::shared::Shared;
-use ns_types::snapshot::{OwnAllocation, PoolNode, QuotaSeen, Snapshot};
+use ns_types::snapshot::{LiveAllocation, OwnAllocation, PoolNode, QuotaSeen, Snapshot};
 use ns_types::text::Text;
 use std::alloc::{AllocError, Global};
 use std::test::Fail;
+
+fn size(cpu: u64, memory: u64) -> Resources
+    ensures { result ≡ record { cpu = cpu; memory = memory } }
+{
+    Resources { cpu, memory }
+}
+
+/// A ready and eligible node of the class `large`, whose attribute `os` is `linux`.
+fn linux(alloc: Global) -> Result<Node, AllocError> {
+    let mut attributes = Rows::new(alloc);
+    attributes.push(Attribute {
+        key: Text::from_str(alloc, "os")?,
+        value: Text::from_str(alloc, "linux")?,
+    })?;
+    Ok(Node {
+        offer: Offer {
+            class: Text::from_str(alloc, "large")?,
+            attributes,
+            capacity: size(1000, 1024),
+        },
+        status: NodeStatus::Ready,
+        eligible: true,
+        places: 0,
+    })
+}
+
+/// A live allocation of CPU 500 and memory 256.
+fn live(alloc: Global, number: u64, priority: u64) -> Result<LiveAllocation, AllocError>
+    ensures { IfOk result (λ a. a.size ≡ record { cpu = 500; memory = 256 }) }
+{
+    Ok(LiveAllocation {
+        namespace: Text::from_str(alloc, "tb")?,
+        number,
+        priority,
+        size: size(500, 256),
+    })
+}
+
+fn job(alloc: Global, pool: &str) -> Result<Job, AllocError> {
+    let document = Document {
+        kind: JobKind::Service,
+        priority: 50,
+        pool: Text::from_str(alloc, pool)?,
+        constraints: Rows::new(alloc),
+        groups: Rows::new(alloc),
+    };
+    Ok(Job {
+        document,
+        stop: false,
+        version: 0,
+        create_index: 1,
+        modify_index: 1,
+    })
+}
+
+fn text(alloc: Global, word: &str) -> Result<Text, AllocError> {
+    Text::from_str(alloc, word)
+}
+
+fn allocation(
+    alloc: Global,
+    job: &str,
+    node: &str,
+    priority: u64,
+) -> Result<Allocation, AllocError> {
+    Ok(Allocation {
+        job: text(alloc, job)?,
+        group: text(alloc, "g")?,
+        evaluation: 1,
+        pool: text(alloc, "p")?,
+        node: text(alloc, node)?,
+        place: 1,
+        size: Resources { cpu: 1, memory: 1 },
+        priority,
+        job_modify_index: 1,
+        desired: DesiredStatus::Run,
+        client: ClientStatus::Running,
+        create_index: 1,
+        modify_index: 1,
+    })
+}
+
+fn evaluation(alloc: Global) -> Result<Evaluation, AllocError> {
+    Ok(Evaluation {
+        job: Text::from_str(alloc, "web")?,
+        kind: JobKind::Service,
+        priority: 50,
+        pool: Text::from_str(alloc, "default")?,
+        trigger: Trigger::JobRegister,
+        status: Status::Pending,
+        previous: None,
+        follower: None,
+        quota: None,
+        escapes: false,
+        infeasible: Rows::new(alloc),
+        nacks: 0,
+        create_index: 1,
+        modify_index: 1,
+    })
+}
 
 /// A service of priority 50, whose groups `g` and `h` have such counts and take so much CPU.
 fn service(alloc: Global, counts: [u64; 2], cpus: [u64; 2]) -> Result<Job, AllocError> {

@@ -1,8 +1,6 @@
 // Workers that look one after the other share the nodes that did not change. A node that changed is made anew, and what holds
 // it as it was keeps it so.
 
-ghost use Rattle.ns_steps.specs.Served.{IsServedNode};
-
 use crate::jobs::registers;
 use crate::nodes::{answer, eligibility, registration};
 use crate::owned::holds;
@@ -57,9 +55,7 @@ fn registers_three(
 }
 
 /// Whether three workers that look one after the other share the node until `shut` makes it ineligible.
-fn looks_share(core: &mut Core, root: &Text, default: &Text, shut: GoodTelling) -> bool
-    requires { IsServedNode shut }
-{
+fn looks_share(core: &mut Core, root: &Text, default: &Text, shut: GoodTelling) -> bool {
     let first = sees(core, 0, default, 1);
     let mut right = only_node(&first) == Some((2, true));
     let second = sees(core, 1, default, 2);

@@ -1,18 +1,14 @@
-// What a server's worker sees that takes an evaluation and looks, with ample memory.
+// A server's worker takes an evaluation and looks, with ample memory: a call that was refused for memory is made again.
 ghost use Rattle.std.specs.Prelude.{◌≡◌, IfOk, Some};
 ghost use Rattle.ns_broker.specs.Snapping.{kept_at};
 
-use crate::jobs::registers;
-use crate::owned::{holds, seen};
-use crate::server::root;
+use crate::owned::seen;
 use ns_core::Core;
 use ns_types::refusal::Refusal;
 use ns_types::reply::{Content, Reply};
 use ns_types::shared::Shared;
 use ns_types::snapshot::Snapshot;
 use ns_types::text::Text;
-use std::alloc::{AllocError, Global};
-use std::test::Fail;
 
 /// The evaluation that was taken, or why none was.
 fn taken(answer: &Result<Reply, Refusal>) -> Result<Option<u64>, Refusal> {
@@ -51,40 +47,4 @@ pub(crate) fn look(
         Err(Refusal::Memory) => core.snap(worker, namespace),
         answer => answer,
     }
-}
-
-/// Whether it is a snapshot of the first evaluation, in a pool without nodes.
-fn is_first(answer: &Result<Shared<Snapshot>, Refusal>) -> bool {
-    let Ok(shared) = answer else {
-        return false;
-    };
-    let snapshot = shared.get();
-    snapshot.number == 1
-        && snapshot.namespace.as_str() == "default"
-        && snapshot.evaluation.priority == 50
-        && snapshot.job.is_some()
-        && snapshot.own.as_slice().is_empty()
-        && snapshot.pool.as_str() == "default"
-        && snapshot.nodes.as_slice().is_empty()
-        && snapshot.quota.is_none()
-}
-
-fn sees_first(core: &mut Core, alloc: Global, root: &Text) -> Result<bool, AllocError> {
-    let namespace = Text::from_str(alloc, "default")?;
-    let mut right = registers(core, alloc, root, &namespace, 1, (1, 1, 1))?;
-    right &= take(core, 3, &namespace, 1) == Ok(Some(1));
-    Ok(right && seen(look(core, 3, &namespace), is_first))
-}
-
-#[test]
-fn sees_the_job_that_was_registered(rt: HostRuntime) -> Result<(), Fail> {
-    let alloc = rt.alloc();
-    let root = root(alloc)?;
-    assert!(rt;
-        holds(
-            Core::new(alloc, &root),
-            |core| sees_first(core, alloc, root.get())
-        )?
-    );
-    Ok(())
 }

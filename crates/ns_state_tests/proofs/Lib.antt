@@ -1,3 +1,0 @@
-mod Loaded
-mod Placed
-mod Stored
