@@ -3,6 +3,7 @@ pub mod Parts
 pub mod Rules
 pub mod Targets
 pub mod Queries
+pub mod Numbers
 pub mod Seeking
 pub mod Spelling
 pub mod Routing

@@ -1,8 +1,11 @@
 -- Queries, as form data.
-use Rattle.std.specs.Prelude.{ℕ, ◌==◌, Bool, true, false, not, ◌&&◌, ◌||◌, List, [], length, find, Option, Some, None}
-use Rattle.std.specs.Prelude.{option_map, unwrap_or, Result, Ok, Err, if◌then◌else◌, nat_lt, bytes_eq, codes}
+use Rattle.std.specs.Prelude.{ℕ, ◌==◌, ◌^◌, Bool, true, false, not, ◌&&◌, ◌||◌, List, [], length, find}
+use Rattle.std.specs.Prelude.{Option, Some, None, option_map, unwrap_or, Result, Ok, Err, if◌then◌else◌, nat_lt, bytes_eq, codes}
+use Rattle.std.specs.Char.{is_ascii_digit}
+use Rattle.std.specs.List.{list_all}
 use Rattle.std.specs.Option.{option_map_or}
 use Rattle.std.specs.Str.Lossy.{utf8_lossy}
+use Rattle.std.specs.Str.Parse.{digits_value}
 use Rattle.form_urlencoded.specs.Form.{raw_pairs, decode}
 use Rattle.ns_types.specs.declared.name.NameKind.TheVariants as NameKind
 use Rattle.ns_types.specs.declared.refusal.Member.TheVariants as Member
@@ -88,4 +91,18 @@ purge_in query = elim (parameter (codes "purge") query) [
       if bytes_eq value (codes "true") || bytes_eq value (codes "1") then Ok true
       else if length value == 0 || bytes_eq value (codes "false") || bytes_eq value (codes "0") then Ok false
       else Err (BadField Member.Purge)
+]
+
+-- ---- the index of events
+
+-- digits alone, one or more, whose number is below 2^64
+abbrev pub is_number : List ℕ → Bool
+is_number value =
+    list_all is_ascii_digit value && (nat_lt 0 (length value) && nat_lt (digits_value 10 value) (2 ^ 64))
+
+-- the index from which events are asked for, and absent it is 0
+unfoldable pub index_in : List ℕ → Result ℕ Refusal
+index_in query = elim (parameter (codes "index") query) [
+  | None ↦ Ok 0
+  | Some value ↦ if is_number value then Ok (digits_value 10 value) else Err (BadField Member.Index)
 ]

@@ -1,10 +1,13 @@
 //! The parameters of a query.
 
-ghost use Rattle.std.specs.Prelude.{◌≡◌, IfOk, OnOk, Some, false};
+ghost use Rattle.std.specs.Prelude.{◌≡◌, IfOk, None, OnOk, Some, false, if◌then◌else◌};
+ghost use Rattle.std.specs.Char.{is_ascii_digit};
+ghost use Rattle.std.specs.List.{list_all};
 ghost use Rattle.std.specs.Option.{option_copied, option_map_or, option_or};
+ghost use Rattle.std.specs.Str.Parse.{digits_value};
 ghost use Rattle.ns_json.specs.Reading.{same};
 ghost use Rattle.ns_request.specs.Gives.{Gives};
-ghost use Rattle.ns_request.specs.Queries.{is_awaited, is_not_empty, is_star, is_unserved, namespace_in, prefix_of, purge_in};
+ghost use Rattle.ns_request.specs.Queries.{index_in, is_awaited, is_not_empty, is_number, is_star, is_unserved, namespace_in, prefix_of, purge_in};
 
 use crate::endpoint::Endpoint;
 use crate::method::Method;
@@ -117,6 +120,22 @@ fn is_awaited(value: Option<&Text>) -> bool
     }
 }
 
+fn has_digits_alone(text: &str) -> bool
+    ensures { result ≡ list_all is_ascii_digit text.now }
+{
+    text.as_bytes().iter().all(|b| b.is_ascii_digit())
+}
+
+/// The number that the text is, where it is one. A sign makes it none, which `parse` would let pass.
+fn number_of(text: &str) -> Option<u64>
+    ensures { result ≡ (if is_number text.now then Some (digits_value 10 text.now) else None) }
+{
+    if !has_digits_alone(text) {
+        return None;
+    }
+    text.parse().ok()
+}
+
 impl<'a> Query<'a> {
     /// The parameters of the query.
     pub fn read(alloc: Global, text: &'a str) -> Result<Query<'a>, AllocError>
@@ -194,5 +213,19 @@ impl<'a> Query<'a> {
             return Ok(false);
         }
         Err(Refusal::BadField(Member::Purge))
+    }
+
+    /// The index from which events are asked for.
+    #[tactic(auto, unfolding(crate::specs::Queries::index_in))]
+    pub fn index(&self) -> Result<u64, Refusal>
+        ensures { Gives same result (index_in self.now) }
+    {
+        let Some(value) = &self.values.index else {
+            return Ok(0);
+        };
+        match number_of(value.as_str()) {
+            Some(index) => Ok(index),
+            None => Err(Refusal::BadField(Member::Index)),
+        }
     }
 }
