@@ -24,6 +24,7 @@ IsRendered (Content.Pools ps) = Unit {0}
 IsRendered (Content.Nodes ns) = Unit {0}
 IsRendered (Content.Policy p) = Unit {0}
 IsRendered (Content.Token t) = Unit {0}
+IsRendered (Content.Events ns es) = Unit {0}
 IsRendered Content.Written = Unit {0}
 IsRendered _ = ⊥
 
@@ -44,6 +45,7 @@ IsText (Content.Pools ps) = Unit {0}
 IsText (Content.Nodes ns) = Unit {0}
 IsText (Content.Policy p) = Unit {0}
 IsText (Content.Token t) = Unit {0}
+IsText (Content.Events ns es) = Unit {0}
 IsText _ = ⊥
 
 -- a room is the body that it holds for a token, if it holds one

@@ -2,6 +2,7 @@
 #![tactic(auto)]
 
 mod access;
+mod events;
 mod job;
 mod node;
 mod records;

@@ -5,6 +5,7 @@ ghost use Rattle.ns_types.specs.Wire.Responses.{rendered_of};
 ghost use Rattle.ns_json.specs.Replies.{body_of, rendered};
 ghost use Rattle.ns_replies.specs.Rendered.{IsRendered, IsText};
 
+use crate::events::events_text;
 use crate::records::usage_text;
 use crate::room::Room;
 use crate::shown::text_of;
@@ -51,6 +52,7 @@ fn body_text(alloc: Global, content: &Content) -> Result<String, AllocError>
         Content::Nodes(nodes) => text_of(alloc, nodes),
         Content::Policy(policy) => text_of(alloc, policy),
         Content::Token(token) => text_of(alloc, token),
+        Content::Events(namespace, events) => events_text(alloc, namespace, events),
         _ => unreachable!(),
     }
 }
