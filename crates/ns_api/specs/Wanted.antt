@@ -7,7 +7,7 @@ use Rattle.ns_types.specs.Wire.Http.{Asked}
 use Rattle.ns_http.specs.declared.head.Request.{Request}
 use Rattle.ns_http.specs.Head.{asked}
 use Rattle.ns_json.specs.Reading.{◌>>=◌}
-use Rattle.ns_steps.specs.Served.{IsServed, IsServedAsk}
+use Rattle.ns_steps.specs.Served.{IsServed}
 use Rattle.ns_api.specs.declared.wanted.Bearer.{Bearer}
 use Rattle.ns_api.specs.declared.wanted.Draft.{Draft}
 use Rattle.ns_api.specs.declared.wanted.Wanted.{Wanted}
@@ -40,12 +40,10 @@ abbrev pub makes_token : AdminCommand → Bool
 makes_token (AdminCommand.CreateToken new) = true
 makes_token _ = false
 
+-- a new token is wanted by its document alone, since its texts are yet to be drawn
 abbrev pub IsServedWanted : Wanted → Type 0
-IsServedWanted (Wanted.Ask document command) = IsServedAsk command
-IsServedWanted (Wanted.AskIn namespace command) = IsServedAsk command
 IsServedWanted (Wanted.Admin command) = IsTrue (not (makes_token command))
-IsServedWanted (Wanted.Token document) = Unit {0}
-IsServedWanted (Wanted.Node pool command) = Unit {0}
+IsServedWanted _ = Unit {0}
 
 -- the request asks what is wanted, or is refused so; want of memory says nothing
 abbrev pub Wants : Request → Result Wanted Refusal → (Asked → Result Step Refusal) → Type 0

@@ -15,12 +15,11 @@ use Rattle.ns_types.specs.State.Names.{Name}
 use Rattle.ns_types.specs.State.Rows.{State}
 use Rattle.ns_types.specs.State.Sums.{quota_use}
 use Rattle.ns_types.specs.Steps.{Makes, act}
-use Rattle.ns_types.proofs.Lists.{not_both}
 use Rattle.ns_types.proofs.LiveSums.{quota_small}
 use Rattle.ns_steps.specs.Answers.{answer_of}
-use Rattle.ns_steps.specs.Served.{IsServedAsk, only_reads, served_ask, served_node}
+use Rattle.ns_steps.specs.Served.{only_reads, served_ask, served_node}
 use Rattle.ns_steps.proofs.Reading.{changes_lift, reads_make}
-use Rattle.ns_steps.proofs.Telling.{is_served_node}
+use Rattle.ns_steps.proofs.Telling.{is_served_ask, is_served_node}
 use Rattle.ns_jobs.specs.Read
 use Rattle.ns_jobs.specs.Read.{UsageFits, UseFits}
 use Rattle.ns_types.specs.Validity.{IsValid}
@@ -41,20 +40,19 @@ uses_fit s valid _ = tt
 
 -- ---- a read as a step
 
-reads : (command : AskCommand) → IsServedAsk command → Read.only_reads command ≡ true → only_reads (served_ask command) ≡ true
-reads (AskCommand.Register r) served only = only
-reads (AskCommand.Deregister id purge) served only = only
-reads (AskCommand.StopAllocation n) served only = only
-reads (AskCommand.Events index) served only = not_both served refl
-reads _ served only = refl
+reads : (command : AskCommand) → Read.only_reads command ≡ true → only_reads (served_ask command) ≡ true
+reads (AskCommand.Register r) only = only
+reads (AskCommand.Deregister id purge) only = only
+reads (AskCommand.StopAllocation n) only = only
+reads _ only = refl
 
-pub ask_reads : (s : State) (ns : Name) (secret : Option Name) (command : AskCommand) → IsValid s → IsServedAsk command → Read.only_reads command ≡ true
+pub ask_reads : (s : State) (ns : Name) (secret : Option Name) (command : AskCommand) → IsValid s → Read.only_reads command ≡ true
     → right_of command (rights_of s.acl secret ns) ≡ true
     → (result : Result Content Refusal) → Changes (ask ns command s.world) s.world result s.world
     → Makes (Step.Ask ns secret command) s (answer_of (Step.Ask ns secret command) s.world result) s
 unfolding act
-ask_reads s ns secret command valid served only allowed result h =
-    reads_make (Step.Ask ns secret command) s allowed (within s valid) served (reads command served only)
+ask_reads s ns secret command valid only allowed result h =
+    reads_make (Step.Ask ns secret command) s allowed (within s valid) (is_served_ask command) (reads command only)
     result (changes_lift (with_world s.acl) (ask ns command s.world) s.world s.world result h)
 
 pub pool_reads : (s : State) (pool : Name) (secret : Option Name) (command : NodeCommand) → IsValid s

@@ -4,7 +4,6 @@ ghost use Rattle.std.specs.Prelude.{◌≡◌, false, option_copied, true};
 ghost use Rattle.ns_types.specs.declared.step.Step.TheVariants as Step;
 ghost use Rattle.ns_types.specs.Access.Rights.{rights_of};
 ghost use Rattle.ns_types.specs.Asking.Asks.{right_of};
-ghost use Rattle.ns_steps.specs.Served.{IsServedAsk};
 ghost use Rattle.ns_jobs.specs.Read.{only_reads};
 ghost use Rattle.ns_core.specs.Answering.{MakesAsk, MakesStep, PreparesAsk};
 ghost use Rattle.ns_types.specs.Validity.{IsValid};
@@ -38,7 +37,6 @@ impl Parts {
     /// Answers a command that only reads, by a secret that may.
     fn read(&self, namespace: &Text, command: &AskCommand) -> Result<Reply, Refusal>
         requires valid { IsValid (state_of self.now) }
-        requires served { IsServedAsk command.now }
         requires reads { only_reads command.now ≡ true }
         ensures { MakesAsk namespace.now command.now self.now result self.now }
     {
@@ -85,8 +83,7 @@ impl Parts {
         secret: Option<&Text>,
         command: &AskCommand,
     ) -> Result<Reply, Refusal>
-        requires valid { IsValid (state_of self.old) }
-        requires served { IsServedAsk command.now }
+        requires { IsValid (state_of self.old) }
         ensures made { let step = Step.Ask namespace.now (option_copied secret.entry) command.now in
             MakesStep step self.old result self.new }
         ensures index { IsIndexed self.old → IsIndexed self.new }

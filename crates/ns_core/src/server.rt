@@ -7,7 +7,6 @@ ghost use Rattle.ns_types.specs.Working.Looks.{first_plan, row_of, served_ready}
 ghost use Rattle.ns_broker.specs.Looking.{busy_of, busy_told};
 ghost use Rattle.ns_broker.specs.Snapping.{kept_at};
 ghost use Rattle.ns_drive.specs.Calls.{FinishesBy, HandsIn, snapped};
-ghost use Rattle.ns_steps.specs.Served.{IsServedAsk};
 
 use crate::parts::Parts;
 use ns_broker::Busy;
@@ -62,7 +61,6 @@ impl Core {
         secret: Option<&Text>,
         command: &GoodAsk,
     ) -> Result<Reply, Refusal>
-        requires { IsServedAsk command.now }
         ensures { let step = Step.Ask namespace.now (option_copied secret.entry) command.now in
             Makes step self.old result self.new }
     {

@@ -2,7 +2,6 @@
 ghost use Rattle.std.specs.Prelude.{IfOk, IsTrue};
 ghost use Rattle.ns_types.specs.declared.name.NameKind.TheVariants as NameKind;
 ghost use Rattle.ns_types.specs.State.Name.{is_name};
-ghost use Rattle.ns_steps.specs.Served.{IsServedAsk};
 
 use crate::owned::{holds, seen};
 use crate::server::{asked, groups, is_refused, is_registered, root};
@@ -33,9 +32,7 @@ fn job_id(alloc: Global, text: &str) -> Result<Text, AllocError>
 }
 
 /// A job whose id is the number.
-fn registration(alloc: Global, number: u64) -> Result<GoodAsk, AllocError>
-    ensures { IfOk result IsServedAsk }
-{
+fn registration(alloc: Global, number: u64) -> Result<GoodAsk, AllocError> {
     let number = format!(in alloc; "{number}")?;
     Ok(GoodAsk::new(AskCommand::Register(Registration {
         id: job_id(alloc, number.as_str())?,

@@ -1,6 +1,5 @@
 // What is asked in a namespace, with ample memory: a call that was refused for memory is made again.
 ghost use Rattle.std.specs.Prelude.{◌≡◌, ◌∷◌, [], IfOk, codes};
-ghost use Rattle.ns_steps.specs.Served.{IsServedAsk};
 
 use crate::owned::seen;
 use ns_core::Core;
@@ -59,9 +58,7 @@ pub(crate) fn asked(
     secret: Option<&Text>,
     namespace: &Text,
     command: &GoodAsk,
-) -> Result<Reply, Refusal>
-    requires { IsServedAsk command.now }
-{
+) -> Result<Reply, Refusal> {
     match core.ask(namespace, secret, command) {
         Err(Refusal::Memory) => core.ask(namespace, secret, command),
         answer => answer,
@@ -93,9 +90,7 @@ pub(crate) fn is_refused(
     namespace: &Text,
     command: &GoodAsk,
     wanted: Refusal,
-) -> bool
-    requires { IsServedAsk command.now }
-{
+) -> bool {
     seen(asked(core, secret, namespace, command), refusal) == Some(wanted)
 }
 
@@ -105,8 +100,6 @@ pub(crate) fn is_registered(
     namespace: &Text,
     command: &GoodAsk,
     wanted: (u64, u64, u64),
-) -> bool
-    requires { IsServedAsk command.now }
-{
+) -> bool {
     seen(asked(core, Some(secret), namespace, command), numbers) == Some(wanted)
 }

@@ -22,7 +22,7 @@ use Rattle.ns_types.specs.Settling.Settle.{settle}
 use Rattle.ns_types.specs.Steps.{Answer, act, after, concluded, is_allowed, is_past_bound, reply_of, said}
 use Rattle.ns_types.specs.State.Sums.{names_quota, quota_use}
 use Rattle.ns_types.proofs.Lists.{not_both}
-use Rattle.ns_steps.specs.Served.{IsServed, IsServedAsk, IsToldBy, is_reading, only_reads, served_admin, served_ask, served_node}
+use Rattle.ns_steps.specs.Served.{IsServed, IsToldBy, is_reading, only_reads, served_admin, served_ask, served_node}
 use Rattle.ns_steps.specs.Told.{Holds, Shape}
 use Rattle.ns_types.proofs.Tests.{same_Some}
 use Rattle.ns_types.proofs.Settling.{settle_same}
@@ -109,31 +109,47 @@ told_of secret (AdminCommand.DeleteToken accessor) s =
 
 -- ---- what is asked in a namespace
 
-told_in : (ns : Name) (command : AskCommand) (w : World) (t : Tenant) → IsServedAsk command →
-    Tells (IsTold (served_ask command)) (asked_in ns command w t)
-told_in ns (AskCommand.Register r) w t served =
+-- all of it is served
+pub is_served_ask : (command : AskCommand) → IsSome (served_ask command)
+is_served_ask (AskCommand.Register r) = refl
+is_served_ask (AskCommand.ReadJob id) = refl
+is_served_ask (AskCommand.Deregister id purge) = refl
+is_served_ask (AskCommand.ListJobs prefix) = refl
+is_served_ask (AskCommand.JobAllocations id) = refl
+is_served_ask (AskCommand.JobEvaluations id) = refl
+is_served_ask (AskCommand.ListEvaluations prefix) = refl
+is_served_ask (AskCommand.ReadEvaluation n) = refl
+is_served_ask (AskCommand.ListAllocations prefix) = refl
+is_served_ask (AskCommand.ReadAllocation n) = refl
+is_served_ask (AskCommand.StopAllocation n) = refl
+is_served_ask AskCommand.ReadNamespace = refl
+is_served_ask (AskCommand.QuotaUsage quota) = refl
+is_served_ask (AskCommand.Events index) = refl
+
+told_in : (ns : Name) (command : AskCommand) (w : World) (t : Tenant) → Tells (IsTold (served_ask command)) (asked_in ns command w t)
+told_in ns (AskCommand.Register r) w t =
     tells_refused _ (first_refusal w t r) (registered_with ns r w t (registered_job (t.index + 1) (document_of t r) (get t.jobs r.id))) tt
-told_in ns (AskCommand.ReadJob id) w t served = tells_found _ (get t.jobs id) _ (λ job. tt)
-told_in ns (AskCommand.Deregister id purge) w t served = tells_found _ (get t.jobs id) (deregister_job ns id purge w t) (λ job. tt)
-told_in ns (AskCommand.JobAllocations id) w t served = tt
-told_in ns (AskCommand.JobEvaluations id) w t served = tt
-told_in ns (AskCommand.ListEvaluations prefix) w t served = tt
-told_in ns (AskCommand.ReadEvaluation n) w t served = tells_found _ (get t.evaluations n) _ (λ e. tt)
-told_in ns (AskCommand.ListAllocations prefix) w t served = tt
-told_in ns (AskCommand.ReadAllocation n) w t served = tells_found _ (get t.allocations n) _ (λ a. tt)
-told_in ns (AskCommand.StopAllocation n) w t served = tells_found _ (get t.allocations n) _ (λ a. tells_unless _ _ _ _ tt)
-told_in ns (AskCommand.ListJobs prefix) w t served = tt
-told_in ns AskCommand.ReadNamespace w t served = tt
-told_in ns (AskCommand.QuotaUsage quota) w t served = by (names_quota quota t.namespace)
+told_in ns (AskCommand.ReadJob id) w t = tells_found _ (get t.jobs id) _ (λ job. tt)
+told_in ns (AskCommand.Deregister id purge) w t = tells_found _ (get t.jobs id) (deregister_job ns id purge w t) (λ job. tt)
+told_in ns (AskCommand.JobAllocations id) w t = tt
+told_in ns (AskCommand.JobEvaluations id) w t = tt
+told_in ns (AskCommand.ListEvaluations prefix) w t = tt
+told_in ns (AskCommand.ReadEvaluation n) w t = tells_found _ (get t.evaluations n) _ (λ e. tt)
+told_in ns (AskCommand.ListAllocations prefix) w t = tt
+told_in ns (AskCommand.ReadAllocation n) w t = tells_found _ (get t.allocations n) _ (λ a. tt)
+told_in ns (AskCommand.StopAllocation n) w t = tells_found _ (get t.allocations n) _ (λ a. tells_unless _ _ _ _ tt)
+told_in ns (AskCommand.ListJobs prefix) w t = tt
+told_in ns AskCommand.ReadNamespace w t = tt
+told_in ns (AskCommand.QuotaUsage quota) w t = by (names_quota quota t.namespace)
   where
     by : (b : Bool) → Tells (IsTold (Some Shape.Usage)) (cond b (Done (Content.Usage quota (quota_use w quota)) w) (Refused Refusal.NotFound))
     by true = tt
     by false = tt
-told_in ns (AskCommand.Events index) w t served = not_both served refl
+told_in ns (AskCommand.Events index) w t = tt
 
-told_ask : (ns : Name) (command : AskCommand) (w : World) → IsServedAsk command → Tells (IsTold (served_ask command)) (ask ns command w)
+told_ask : (ns : Name) (command : AskCommand) (w : World) → Tells (IsTold (served_ask command)) (ask ns command w)
 unfolding ask
-told_ask ns command w served = tells_found _ (get w.tenants ns) (asked_in ns command w) (λ t. told_in ns command w t served)
+told_ask ns command w = tells_found _ (get w.tenants ns) (asked_in ns command w) (λ t. told_in ns command w t)
 
 -- ---- what is told of a pool
 
@@ -175,7 +191,7 @@ told_node pool command w = tells_found _ (get w.pools pool) (asked_in_pool pool 
 
 told_by : (step : Step) (s : State) → IsServed step → Tells (IsToldBy step) (act step s)
 unfolding act
-told_by (Step.Ask ns secret command) s served = tells_lift _ (with_world s.acl) (ask ns command s.world) (told_ask ns command s.world served)
+told_by (Step.Ask ns secret command) s served = tells_lift _ (with_world s.acl) (ask ns command s.world) (told_ask ns command s.world)
 told_by (Step.Admin secret command) s served = told_of secret command s
 told_by (Step.Node pool secret command) s served = tells_lift _ (with_world s.acl) (ask_pool pool command s.world) (told_node pool command s.world)
 told_by _ s served = not_both served refl
@@ -224,30 +240,30 @@ rests_lift whole a NotEnabled h = tt
 rests_lift whole a (Refused refusal) h = h
 rests_lift whole a (Done content x) h = ap whole h
 
-rests_in : (ns : Name) (command : AskCommand) (w : World) (t : Tenant) → IsServedAsk command → only_reads (served_ask command) ≡ true →
+rests_in : (ns : Name) (command : AskCommand) (w : World) (t : Tenant) → only_reads (served_ask command) ≡ true →
     Rests w (asked_in ns command w t)
-rests_in ns (AskCommand.ReadJob id) w t served only = rests_found w (get t.jobs id) _ (λ job. refl)
-rests_in ns (AskCommand.ListJobs prefix) w t served only = refl
-rests_in ns (AskCommand.JobAllocations id) w t served only = refl
-rests_in ns (AskCommand.JobEvaluations id) w t served only = refl
-rests_in ns (AskCommand.ListEvaluations prefix) w t served only = refl
-rests_in ns (AskCommand.ReadEvaluation n) w t served only = rests_found w (get t.evaluations n) _ (λ e. refl)
-rests_in ns (AskCommand.ListAllocations prefix) w t served only = refl
-rests_in ns (AskCommand.ReadAllocation n) w t served only = rests_found w (get t.allocations n) _ (λ a. refl)
-rests_in ns AskCommand.ReadNamespace w t served only = refl
-rests_in ns (AskCommand.QuotaUsage quota) w t served only = by (names_quota quota t.namespace)
+rests_in ns (AskCommand.ReadJob id) w t only = rests_found w (get t.jobs id) _ (λ job. refl)
+rests_in ns (AskCommand.ListJobs prefix) w t only = refl
+rests_in ns (AskCommand.JobAllocations id) w t only = refl
+rests_in ns (AskCommand.JobEvaluations id) w t only = refl
+rests_in ns (AskCommand.ListEvaluations prefix) w t only = refl
+rests_in ns (AskCommand.ReadEvaluation n) w t only = rests_found w (get t.evaluations n) _ (λ e. refl)
+rests_in ns (AskCommand.ListAllocations prefix) w t only = refl
+rests_in ns (AskCommand.ReadAllocation n) w t only = rests_found w (get t.allocations n) _ (λ a. refl)
+rests_in ns AskCommand.ReadNamespace w t only = refl
+rests_in ns (AskCommand.QuotaUsage quota) w t only = by (names_quota quota t.namespace)
   where
     by : (b : Bool) → Rests w (cond b (Done (Content.Usage quota (quota_use w quota)) w) (Refused Refusal.NotFound))
     by true = refl
     by false = refl
-rests_in ns (AskCommand.Register r) w t served only = not_both only refl
-rests_in ns (AskCommand.Deregister id purge) w t served only = not_both only refl
-rests_in ns (AskCommand.StopAllocation n) w t served only = not_both only refl
-rests_in ns (AskCommand.Events index) w t served only = not_both served refl
+rests_in ns (AskCommand.Register r) w t only = not_both only refl
+rests_in ns (AskCommand.Deregister id purge) w t only = not_both only refl
+rests_in ns (AskCommand.StopAllocation n) w t only = not_both only refl
+rests_in ns (AskCommand.Events index) w t only = refl
 
-rests_ask : (ns : Name) (command : AskCommand) (w : World) → IsServedAsk command → only_reads (served_ask command) ≡ true → Rests w (ask ns command w)
+rests_ask : (ns : Name) (command : AskCommand) (w : World) → only_reads (served_ask command) ≡ true → Rests w (ask ns command w)
 unfolding ask
-rests_ask ns command w served only = rests_found w (get w.tenants ns) (asked_in ns command w) (λ t. rests_in ns command w t served only)
+rests_ask ns command w only = rests_found w (get w.tenants ns) (asked_in ns command w) (λ t. rests_in ns command w t only)
 
 rests_records : (secret : Option Name) (command : AdminCommand) (s : State) → only_reads (served_admin command) ≡ true → Rests s (administer secret command s)
 unfolding administer
@@ -273,7 +289,7 @@ rests_node pool command w only = rests_found w (get w.pools pool) (asked_in_pool
 
 pub rests_by : (step : Step) (s : State) → IsServed step → is_reading step ≡ true → Rests s (act step s)
 unfolding act
-rests_by (Step.Ask ns secret command) s served only = rests_lift (with_world s.acl) s.world (ask ns command s.world) (rests_ask ns command s.world served only)
+rests_by (Step.Ask ns secret command) s served only = rests_lift (with_world s.acl) s.world (ask ns command s.world) (rests_ask ns command s.world only)
 rests_by (Step.Admin secret command) s served only = rests_records secret command s only
 rests_by (Step.Node pool secret command) s served only =
     rests_lift (with_world s.acl) s.world (ask_pool pool command s.world) (rests_node pool command s.world only)

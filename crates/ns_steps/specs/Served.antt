@@ -1,4 +1,4 @@
--- The steps that are served so far: one table, of what the reply to each of them holds.
+-- The steps that are served: one table, of what the reply to each of them holds.
 use Rattle.std.specs.Prelude.{Bool, false, not, Option, Some, None, IsSome, IsSomeAnd}
 use Rattle.std.specs.Option.{option_map_or}
 use Rattle.ns_types.specs.declared.reply.Content.{Content}
@@ -8,7 +8,7 @@ use Rattle.ns_types.specs.declared.step.NodeCommand.{NodeCommand}
 use Rattle.ns_types.specs.declared.step.Step.{Step}
 use Rattle.ns_steps.specs.Told.{Shape, Holds, is_of_write}
 
--- ---- the table: none for a command that is not served
+-- ---- the table: all that requests ask, and no worker's step
 
 abbrev pub served_ask : AskCommand → Option Shape
 served_ask (AskCommand.Register r) = Some Shape.Registered
@@ -24,7 +24,7 @@ served_ask (AskCommand.ReadAllocation n) = Some Shape.Allocation
 served_ask (AskCommand.StopAllocation n) = Some Shape.Stopped
 served_ask AskCommand.ReadNamespace = Some Shape.Namespace
 served_ask (AskCommand.QuotaUsage quota) = Some Shape.Usage
-served_ask (AskCommand.Events index) = None
+served_ask (AskCommand.Events index) = Some Shape.Events
 
 abbrev pub served_admin : AdminCommand → Option Shape
 served_admin AdminCommand.ListNamespaces = Some Shape.Namespaces
@@ -59,9 +59,6 @@ served (Step.Node pool secret command) = served_node command
 served _ = None
 
 -- ---- what follows from it
-
-abbrev pub IsServedAsk : AskCommand → Type 0
-IsServedAsk command = IsSome (served_ask command)
 
 abbrev pub IsServed : Step → Type 0
 IsServed step = IsSome (served step)

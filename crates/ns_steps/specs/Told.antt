@@ -1,4 +1,4 @@
--- What the replies to the steps that are served so far hold.
+-- What the replies to the steps that are served hold.
 use Rattle.std.specs.Prelude.{◌≡◌, Bool, true, false}
 use Rattle.ns_types.specs.declared.reply.Content.{Content}
 use Rattle.ns_types.specs.declared.step.NewToken.{NewToken}
@@ -20,6 +20,7 @@ pub data Shape : Type 0 where
   Pools : Shape
   Nodes : Shape
   Policy : Shape
+  Events : Shape
   -- the numbers that a registration or a deregistration tells
   Registered : Shape
   -- those that a stop of an allocation tells
@@ -53,6 +54,7 @@ Holds Shape.Pool (Content.Pool pool) = Unit {0}
 Holds Shape.Pools (Content.Pools pools) = Unit {0}
 Holds Shape.Nodes (Content.Nodes nodes) = Unit {0}
 Holds Shape.Policy (Content.Policy policy) = Unit {0}
+Holds Shape.Events (Content.Events ns events) = Unit {0}
 Holds Shape.Registered (Content.Registered evaluation index modified) = Unit {0}
 Holds Shape.Stopped (Content.Stopped evaluation index) = Unit {0}
 Holds Shape.Written Content.Written = Unit {0}

@@ -7,8 +7,8 @@ use Rattle.ns_core.specs.Viewed.{state_of}
 use Rattle.ns_core.proofs.Keeping.{keeps}
 use Rattle.ns_core.proofs.server.Core.ask.Goals as goal
 
-pub ask-requires-clause-valid : goal.ask-requires-clause-valid
-ask-requires-clause-valid c = c.self.invariant.valid
+pub ask-requires : goal.ask-requires
+ask-requires c = c.self.invariant.valid
 
 pub invariant_of-self : goal.invariant_of-self
 invariant_of-self c = record {
