@@ -1,4 +1,4 @@
--- What is built, and what is not.
+-- What is asked, and what is not.
 use Rattle.std.proofs.Common.{◌≡◌, List, ℕ, true, false, is_some, refl}
 use Rattle.std.specs.Prelude.{Option, Some, None}
 use Rattle.ns_types.proofs.Lists.{not_both}
@@ -12,7 +12,7 @@ pub unparsed : (o : Option (List ℕ)) → is_some o ≡ true → ((u : List ℕ
 unparsed None e refused = not_both e refl
 unparsed (Some u) e refused = not_both (refused (u, refl)) refl
 
--- ---- what is not built
+-- ---- what no path asks by a method
 
 pub read_elsewhere : (endpoint : Endpoint) (a : Asked)
     → (endpoint ≡ Endpoint.Jobs → ⊥)
@@ -28,30 +28,32 @@ pub read_elsewhere : (endpoint : Endpoint) (a : Asked)
     → (endpoint ≡ Endpoint.Quotas → ⊥)
     → (endpoint ≡ Endpoint.Quota → ⊥)
     → (endpoint ≡ Endpoint.QuotaUsage → ⊥)
+    → (endpoint ≡ Endpoint.EventStream → ⊥)
     → (endpoint ≡ Endpoint.Pools → ⊥)
     → (endpoint ≡ Endpoint.Pool → ⊥)
     → (endpoint ≡ Endpoint.PoolNodes → ⊥)
     → (endpoint ≡ Endpoint.Policy → ⊥)
     → asked_of endpoint Method.Get a ≡ not_served
 unfolding asked_of
-read_elsewhere Endpoint.Jobs a f _ _ _ _ _ _ _ _ _ _ _ _ _ _ _ _ = absurd (f refl)
-read_elsewhere Endpoint.Job a _ f _ _ _ _ _ _ _ _ _ _ _ _ _ _ _ = absurd (f refl)
-read_elsewhere Endpoint.JobAllocations a _ _ f _ _ _ _ _ _ _ _ _ _ _ _ _ _ = absurd (f refl)
-read_elsewhere Endpoint.JobEvaluations a _ _ _ f _ _ _ _ _ _ _ _ _ _ _ _ _ = absurd (f refl)
-read_elsewhere Endpoint.Evaluations a _ _ _ _ f _ _ _ _ _ _ _ _ _ _ _ _ = absurd (f refl)
-read_elsewhere Endpoint.Evaluation a _ _ _ _ _ f _ _ _ _ _ _ _ _ _ _ _ = absurd (f refl)
-read_elsewhere Endpoint.Allocations a _ _ _ _ _ _ f _ _ _ _ _ _ _ _ _ _ = absurd (f refl)
-read_elsewhere Endpoint.Allocation a _ _ _ _ _ _ _ f _ _ _ _ _ _ _ _ _ = absurd (f refl)
-read_elsewhere Endpoint.Namespaces a _ _ _ _ _ _ _ _ f _ _ _ _ _ _ _ _ = absurd (f refl)
-read_elsewhere Endpoint.Namespace a _ _ _ _ _ _ _ _ _ f _ _ _ _ _ _ _ = absurd (f refl)
-read_elsewhere Endpoint.Quotas a _ _ _ _ _ _ _ _ _ _ f _ _ _ _ _ _ = absurd (f refl)
-read_elsewhere Endpoint.Quota a _ _ _ _ _ _ _ _ _ _ _ f _ _ _ _ _ = absurd (f refl)
-read_elsewhere Endpoint.QuotaUsage a _ _ _ _ _ _ _ _ _ _ _ _ f _ _ _ _ = absurd (f refl)
-read_elsewhere Endpoint.Pools a _ _ _ _ _ _ _ _ _ _ _ _ _ f _ _ _ = absurd (f refl)
-read_elsewhere Endpoint.Pool a _ _ _ _ _ _ _ _ _ _ _ _ _ _ f _ _ = absurd (f refl)
-read_elsewhere Endpoint.PoolNodes a _ _ _ _ _ _ _ _ _ _ _ _ _ _ _ f _ = absurd (f refl)
-read_elsewhere Endpoint.Policy a _ _ _ _ _ _ _ _ _ _ _ _ _ _ _ _ f = absurd (f refl)
-read_elsewhere _ a _ _ _ _ _ _ _ _ _ _ _ _ _ _ _ _ _ = refl
+read_elsewhere Endpoint.Jobs a f _ _ _ _ _ _ _ _ _ _ _ _ _ _ _ _ _ = absurd (f refl)
+read_elsewhere Endpoint.Job a _ f _ _ _ _ _ _ _ _ _ _ _ _ _ _ _ _ = absurd (f refl)
+read_elsewhere Endpoint.JobAllocations a _ _ f _ _ _ _ _ _ _ _ _ _ _ _ _ _ _ = absurd (f refl)
+read_elsewhere Endpoint.JobEvaluations a _ _ _ f _ _ _ _ _ _ _ _ _ _ _ _ _ _ = absurd (f refl)
+read_elsewhere Endpoint.Evaluations a _ _ _ _ f _ _ _ _ _ _ _ _ _ _ _ _ _ = absurd (f refl)
+read_elsewhere Endpoint.Evaluation a _ _ _ _ _ f _ _ _ _ _ _ _ _ _ _ _ _ = absurd (f refl)
+read_elsewhere Endpoint.Allocations a _ _ _ _ _ _ f _ _ _ _ _ _ _ _ _ _ _ = absurd (f refl)
+read_elsewhere Endpoint.Allocation a _ _ _ _ _ _ _ f _ _ _ _ _ _ _ _ _ _ = absurd (f refl)
+read_elsewhere Endpoint.Namespaces a _ _ _ _ _ _ _ _ f _ _ _ _ _ _ _ _ _ = absurd (f refl)
+read_elsewhere Endpoint.Namespace a _ _ _ _ _ _ _ _ _ f _ _ _ _ _ _ _ _ = absurd (f refl)
+read_elsewhere Endpoint.Quotas a _ _ _ _ _ _ _ _ _ _ f _ _ _ _ _ _ _ = absurd (f refl)
+read_elsewhere Endpoint.Quota a _ _ _ _ _ _ _ _ _ _ _ f _ _ _ _ _ _ = absurd (f refl)
+read_elsewhere Endpoint.QuotaUsage a _ _ _ _ _ _ _ _ _ _ _ _ f _ _ _ _ _ = absurd (f refl)
+read_elsewhere Endpoint.EventStream a _ _ _ _ _ _ _ _ _ _ _ _ _ f _ _ _ _ = absurd (f refl)
+read_elsewhere Endpoint.Pools a _ _ _ _ _ _ _ _ _ _ _ _ _ _ f _ _ _ = absurd (f refl)
+read_elsewhere Endpoint.Pool a _ _ _ _ _ _ _ _ _ _ _ _ _ _ _ f _ _ = absurd (f refl)
+read_elsewhere Endpoint.PoolNodes a _ _ _ _ _ _ _ _ _ _ _ _ _ _ _ _ f _ = absurd (f refl)
+read_elsewhere Endpoint.Policy a _ _ _ _ _ _ _ _ _ _ _ _ _ _ _ _ _ f = absurd (f refl)
+read_elsewhere _ a _ _ _ _ _ _ _ _ _ _ _ _ _ _ _ _ _ _ = refl
 
 pub write_elsewhere : (endpoint : Endpoint) (a : Asked)
     → (endpoint ≡ Endpoint.Jobs → ⊥)

@@ -18,7 +18,7 @@ use Rattle.ns_json.specs.Registration.{registration_in}
 use Rattle.ns_request.specs.declared.endpoint.Endpoint.{Endpoint}
 use Rattle.ns_request.specs.declared.method.Method.{Method}
 use Rattle.ns_request.specs.Finding.{found}
-use Rattle.ns_request.specs.Queries.{namespace_in, purge_in}
+use Rattle.ns_request.specs.Queries.{index_in, namespace_in, purge_in}
 use Rattle.ns_request.specs.Secrets.{secret_of}
 use Rattle.ns_request.specs.Targets.{query_in}
 use Rattle.ns_api.specs.Parts.{bearer_in, fourth_part, namespace_of, number_in, prefix_in, third_part}
@@ -40,13 +40,19 @@ admin_of command a = do
 abbrev pub canonical : Name → Name
 canonical text = unwrap_or (option_map (hyphenated_text lower) (parsed text)) []
 
--- ---- a deregistration; a fault of the namespace comes first
+-- ---- a deregistration, and the stream of events; a fault of the namespace comes first
 
 unfoldable pub deregistration_asked : Asked → Result Step Refusal
 deregistration_asked a = do
   parameter ← namespace_in (query_in a.target)
   purge ← purge_in (query_in a.target)
   Ok (Step.Ask (namespace_of parameter None) (secret_of a.token) (AskCommand.Deregister (third_part a) purge))
+
+unfoldable pub events_asked : Asked → Result Step Refusal
+events_asked a = do
+  parameter ← namespace_in (query_in a.target)
+  index ← index_in (query_in a.target)
+  Ok (Step.Ask (namespace_of parameter None) (secret_of a.token) (AskCommand.Events index))
 
 -- ---- documents; their faults come before the parameter's
 
@@ -95,8 +101,9 @@ pool_read a = do
   secret ← bearer_in a
   Ok (Step.Node (fourth_part a) secret NodeCommand.ReadPool)
 
--- ---- what is built
+-- ---- the table
 
+-- of a method that the path does not have, which is refused before
 abbrev pub not_served : Result Step Refusal
 not_served = Err Refusal.NotServed
 
@@ -135,6 +142,7 @@ asked_of Endpoint.Quota method a = by_kind method (admin_of (AdminCommand.ReadQu
     (quota_put (Some (third_part a)) a) (admin_of (AdminCommand.DeleteQuota (third_part a)) a)
 asked_of Endpoint.QuotaUsage method a = by_kind method (ask_of (AskCommand.QuotaUsage (fourth_part a)) a)
     not_served not_served
+asked_of Endpoint.EventStream method a = by_kind method (events_asked a) not_served not_served
 asked_of Endpoint.Pools method a = by_kind method (admin_of AdminCommand.ListPools a) (pool_put None a) not_served
 asked_of Endpoint.Pool method a = by_kind method (pool_read a) (pool_put (Some (fourth_part a)) a)
     (admin_of (AdminCommand.DeletePool (fourth_part a)) a)
@@ -148,7 +156,6 @@ asked_of Endpoint.Policy method a = by_kind method (admin_of (AdminCommand.ReadP
 asked_of Endpoint.NewToken method a = by_kind method not_served (token_asked a) not_served
 asked_of Endpoint.Token method a = by_kind method not_served not_served
     (admin_of (AdminCommand.DeleteToken (canonical (fourth_part a))) a)
-asked_of Endpoint.EventStream method a = not_served
 
 unfoldable pub asked : Asked → Result Step Refusal
 asked a = do

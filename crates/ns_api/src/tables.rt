@@ -5,7 +5,7 @@ ghost use Rattle.uuid.specs.Text.{parsed};
 ghost use Rattle.ns_request.specs.declared.method.Method.TheVariants as Method;
 ghost use Rattle.ns_json.specs.Ids.{id_of};
 ghost use Rattle.ns_http.specs.Head.{asked};
-ghost use Rattle.ns_api.specs.Asking.{asked_of, canonical, deregistration_asked};
+ghost use Rattle.ns_api.specs.Asking.{asked_of, canonical, deregistration_asked, events_asked};
 ghost use Rattle.ns_api.specs.Parts.{prefix_in, third_part};
 ghost use Rattle.ns_api.specs.Wanted.{IsServedWanted, Wants};
 
@@ -63,6 +63,18 @@ fn deregister(alloc: Global, target: &Target<'_>) -> Result<Wanted, Refusal>
     Ok(asks(AskCommand::Deregister(target.name.clone()?, purge)))
 }
 
+/// The events of a namespace, from the index that the query says.
+#[tactic(auto, unfolding(crate::specs::Asking::events_asked, crate::specs::Wanted::step_of))]
+fn stream(alloc: Global, target: &Target<'_>) -> Result<Wanted, Refusal>
+    ensures wanted { Wants target.now.request result events_asked }
+    ensures served { IfOk result IsServedWanted }
+{
+    // A fault of the namespace comes before that of the index.
+    drop(target.query.namespace(alloc)?);
+    let index = target.query.index()?;
+    Ok(asks(AskCommand::Events(index)))
+}
+
 #[tactic(auto, unfolding(crate::specs::Asking::asked_of, crate::specs::Asking::ask_of, crate::specs::Asking::admin_of, crate::specs::Parts::bearer_in, crate::specs::Asking::namespace_read, crate::specs::Asking::pool_read, crate::specs::Telling::node_of, crate::specs::Wanted::step_of))]
 fn read(alloc: Global, target: &Target<'_>) -> Result<Wanted, Refusal>
     ensures wanted { Wants target.now.request result (asked_of target.now.endpoint Method.Get) }
@@ -88,6 +100,7 @@ fn read(alloc: Global, target: &Target<'_>) -> Result<Wanted, Refusal>
         Endpoint::Quotas => Ok(administers(AdminCommand::ListQuotas)),
         Endpoint::Quota => Ok(administers(AdminCommand::ReadQuota(target.name.clone()?))),
         Endpoint::QuotaUsage => Ok(asks(AskCommand::QuotaUsage(target.name.clone()?))),
+        Endpoint::EventStream => stream(alloc, target),
         Endpoint::Pools => Ok(administers(AdminCommand::ListPools)),
         Endpoint::Pool => Ok(tells(target.name.clone()?, NodeCommand::ReadPool)),
         Endpoint::PoolNodes => Ok(tells(target.name.clone()?, NodeCommand::ListNodes)),

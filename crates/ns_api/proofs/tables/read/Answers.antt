@@ -12,7 +12,8 @@ returns-in_default-clause-wanted c =
     let h = c.in_default in
     let endpoint = c.args.target.now.endpoint in
     read_elsewhere endpoint _ h.not-Jobs h.not-Job h.not-JobAllocations h.not-JobEvaluations h.not-Evaluations h.not-Evaluation h.not-Allocations
-    h.not-Allocation h.not-Namespaces h.not-Namespace h.not-Quotas h.not-Quota h.not-QuotaUsage h.not-Pools h.not-Pool h.not-PoolNodes h.not-Policy
+    h.not-Allocation h.not-Namespaces h.not-Namespace h.not-Quotas h.not-Quota h.not-QuotaUsage h.not-EventStream h.not-Pools h.not-Pool
+    h.not-PoolNodes h.not-Policy
 
 pub number-requires : goal.number-requires
 number-requires c =
