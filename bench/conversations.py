@@ -6,6 +6,7 @@ before, and what the conversation shows. Then come its exchanges:
     > METHOD TARGET [TOKEN]         a request, with its body, if it has one, on the next line
     + HEADER: VALUE                 headers of its own, which it then has in place of `Content-Length: 0`
     < STATUS [@INDEX] [close]       the reply, with its body on the next line
+    < STATUS @INDEX lines           the same with a line feed behind each line of its body
 
 Replies are written down by hand, from docs/API.md, and never taken from the program. Lengths are counted here.
 """
@@ -61,7 +62,9 @@ def exchange(head, lines):
     asked, answered = lines[:place], lines[place + 1 :]
     headers = [line[2:] for line in asked if line.startswith("+ ")]
     body = "".join(line for line in asked if not line.startswith("+ "))
-    return request(head.split(), headers, body), reply(lines[place][2:].split(), "".join(answered))
+    words = lines[place][2:].split()
+    ended = "\n" if "lines" in words else ""
+    return request(head.split(), headers, body), reply(words, "".join(line + ended for line in answered if line))
 
 
 def assembled(paths):
