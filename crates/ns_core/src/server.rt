@@ -3,7 +3,8 @@
 ghost use Rattle.std.specs.Prelude.{◌≡◌, IfOk, Some, option_copied, option_map};
 ghost use Rattle.ns_types.specs.declared.step.Step.TheVariants as Step;
 ghost use Rattle.ns_types.specs.Steps.{Makes, opening};
-ghost use Rattle.ns_types.specs.Working.Looks.{first_plan, row_of, served_ready};
+ghost use Rattle.ns_types.specs.Validity.{IsValid};
+ghost use Rattle.ns_types.specs.Working.Looks.{first_plan, row_of, served_ready, worker_at};
 ghost use Rattle.ns_broker.specs.Looking.{busy_of, busy_told};
 ghost use Rattle.ns_broker.specs.Snapping.{kept_at};
 ghost use Rattle.ns_drive.specs.Calls.{FinishesBy, HandsIn, snapped};
@@ -19,6 +20,7 @@ use ns_types::reply::Reply;
 use ns_types::shared::Shared;
 use ns_types::snapshot::Snapshot;
 use ns_types::text::Text;
+use ns_types::worker::Worker;
 use std::alloc::{AllocError, Global};
 use std::marker::Model;
 
@@ -188,5 +190,19 @@ impl Core {
             ≡ option_map busy_of (row_of self.now.world worker) }
     {
         ns_broker::phase(&self.parts.tables, worker)
+    }
+
+    /// The worker's row in that namespace. It has the snapshot that the worker took last, and from Submit on the plan of it.
+    pub fn worker_at(&self, worker: u64, namespace: &Text) -> Option<&Worker>
+        ensures { option_copied result ≡ worker_at self.now.world worker namespace.now }
+    {
+        ns_broker::worker_at(&self.parts.tables, worker, namespace)
+    }
+
+    /// Says that the state is valid, as that of every core is. It does nothing.
+    pub fn is_valid(&self)
+        ensures { IsValid self.now }
+    {
+        let _parts = &self.parts;
     }
 }

@@ -32,7 +32,7 @@ fn job_id(alloc: Global, text: &str) -> Result<Text, AllocError>
 }
 
 /// A job whose id is the number.
-fn registration(alloc: Global, number: u64) -> Result<GoodAsk, AllocError> {
+pub(crate) fn registration(alloc: Global, number: u64) -> Result<GoodAsk, AllocError> {
     let number = format!(in alloc; "{number}")?;
     Ok(GoodAsk::new(AskCommand::Register(Registration {
         id: job_id(alloc, number.as_str())?,

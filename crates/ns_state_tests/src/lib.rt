@@ -18,6 +18,8 @@ mod plans;
 #[cfg(test)]
 mod quota;
 #[cfg(test)]
+mod runs;
+#[cfg(test)]
 mod server;
 #[cfg(test)]
 mod sharing;

@@ -1,0 +1,3 @@
+mod Answered
+mod Planning
+mod Runs

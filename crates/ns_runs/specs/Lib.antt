@@ -1,0 +1,3 @@
+pub mod Making
+pub mod Planned
+pub mod Running

@@ -1,0 +1,27 @@
+-- What a call that makes any step of the model answers and leaves.
+use Rattle.std.specs.Prelude.{◌≡◌, ◌⊎◌, ℕ, true, Some, None, Ok, Err}
+use Rattle.ns_types.specs.declared.refusal.Refusal.{Refusal}
+use Rattle.ns_types.specs.declared.snapshot.Snapshot.{Snapshot}
+use Rattle.ns_types.specs.declared.step.Step.{Step}
+use Rattle.ns_types.specs.State.Names.{Name}
+use Rattle.ns_types.specs.State.Rows.{State, World}
+use Rattle.ns_types.specs.Steps.{Answer, after, is_made, said}
+use Rattle.ns_types.specs.Working.Looks.{InEnding, InTurn}
+use Rattle.ns_types.specs.Working.Worker.{Worker}
+
+-- The worker hands in the plan of the snapshot that it keeps, or finishes by it, and is at that. The plan takes memory
+-- before it is known whether it does anything.
+pub data NeedsPlan (w : World) : Step → Type 0 where
+  submit : (number : ℕ) (ns : Name) (worker : Worker) (kept : Snapshot) → InTurn w number ns worker →
+      worker.kept ≡ Some kept → NeedsPlan w (Step.Submit number ns)
+  finish : (number : ℕ) (ns : Name) (worker : Worker) (kept : Snapshot) → InEnding w number ns worker →
+      worker.kept ≡ Some kept → NeedsPlan w (Step.Finish number ns)
+
+-- A reply is the model's, and so is the new state. Want of memory is no step, and comes only where the step would have
+-- been made, or where it needs a plan. Neither is a call out of turn. Any other refusal is the model's answer, which never
+-- says Foreign. A refusal leaves the state as it is.
+abbrev pub MakesAny : Step → State → Answer → State → Type 0
+MakesAny step s (Ok reply) s' = after step s ≡ said (Ok reply) s'
+MakesAny step s (Err Refusal.Memory) s' = ((is_made (after step s) ≡ true) ⊎ NeedsPlan s.world step) × (s' ≡ s)
+MakesAny step s (Err Refusal.NotEnabled) s' = (after step s ≡ None) × (s' ≡ s)
+MakesAny step s (Err refusal) s' = (after step s ≡ said (Err refusal) s) × (s' ≡ s)
