@@ -1,5 +1,5 @@
 -- The plan that a worker's step needs, and what the step is without it.
-use Rattle.std.specs.Prelude.{◌≡◌, ◌≢◌, ℕ, true, false, if◌then◌else◌, Bool, Option, Some, None, Result, Ok, Err, IsOkUnless, IfOk}
+use Rattle.std.specs.Prelude.{◌≡◌, ℕ, true, false, if◌then◌else◌, Bool, Option, Some, None, Result, Ok, Err, IsOkUnless, IfOk}
 use Rattle.std.proofs.Common.{inl, inr, refl, ap, sym, subst, ◌∙◌}
 use Rattle.std.specs.FinMap.{get}
 use Rattle.std.specs.Option.{option_and_then, option_map_or}
@@ -10,7 +10,7 @@ use Rattle.ns_types.specs.declared.worker.Phase.{Phase}
 use Rattle.ns_types.specs.Asking.Policies.{with_world}
 use Rattle.ns_types.specs.Settling.Outcome.{NotEnabled, lift}
 use Rattle.ns_types.specs.State.Names.{Name}
-use Rattle.ns_types.specs.State.Rows.{State, Tenant, World}
+use Rattle.ns_types.specs.State.Rows.{State, Tenant}
 use Rattle.ns_types.specs.Steps.{Answer, act, after, concluded}
 use Rattle.ns_types.specs.Validity.{IsValid}
 use Rattle.ns_types.specs.Working.Looks.{RefusesFinish, RefusesPlan, is_ending, worker_at}

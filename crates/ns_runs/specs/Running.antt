@@ -1,5 +1,5 @@
 -- What a run over a list of steps answers and leaves.
-use Rattle.std.specs.Prelude.{◌≡◌, ℕ, Bool, true, false, List, [], length, take, Option, Some, None, Err, Result, slice_get}
+use Rattle.std.specs.Prelude.{◌≡◌, ℕ, Bool, true, false, List, length, take, Option, Some, None, Err, slice_get}
 use Rattle.ns_types.specs.declared.refusal.Refusal.{Refusal}
 use Rattle.ns_types.specs.declared.step.Step.{Step}
 use Rattle.ns_types.specs.State.Rows.{State}

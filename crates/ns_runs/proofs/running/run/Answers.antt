@@ -1,7 +1,5 @@
 use Rattle.std.proofs.Common.{◌+◌, ◌∙◌, arith, ap, subst, sym}
-use Rattle.std.specs.Prelude.{IfErr, false}
 use Rattle.ns_runs.specs.Making.{MakesAny}
-use Rattle.ns_runs.specs.Running.{is_no_step}
 use Rattle.ns_runs.proofs.Runs.{HasRun, all_made, none_made, runs_more, stops}
 use Rattle.ns_runs.proofs.running.run.Goals as goal
 
