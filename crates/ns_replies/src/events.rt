@@ -2,16 +2,18 @@
 
 ghost use Rattle.std.specs.Prelude.{◌≡◌, IfOk, OnOk, string_bytes};
 ghost use Rattle.std.specs.List.{flat_map};
+ghost use Rattle.serde_json.specs.Data.{string};
 ghost use Rattle.serde_json.specs.Written.{compact_text};
 ghost use Rattle.ns_json.specs.Part.{Follows, tokens_of};
 ghost use Rattle.ns_json.specs.Replies.{event_line, key_text, topic_word, type_word};
 ghost use Rattle.ns_replies.specs.Events.{shown_json};
 
-use crate::shown::written_text;
+use crate::shown::{Shown, written_text};
+use crate::work::write_id;
 use json::Writer;
 use ns_json::part::{Part, write_parts};
 use ns_types::event::{Event, Topic};
-use ns_types::id::{IdKind, id_str};
+use ns_types::id::IdKind;
 use ns_types::rows::Rows;
 use ns_types::text::Text;
 use std::alloc::{AllocError, Global};
@@ -38,26 +40,20 @@ fn type_word<'a>(topic: &Topic) -> &'a str
 }
 
 /// The id of the row that changed.
-fn key_text<'a>(topic: &'a Topic, buffer: &'a mut [u8; 36]) -> &'a str
-    ensures { result.now ≡ key_text topic.now }
+fn write_key(out: &mut Writer, topic: &Topic) -> Result<(), AllocError>
+    ensures { OnOk result (Follows out.old out.new (tokens_of (string (key_text topic.now)))) }
 {
     match topic {
-        Topic::JobRegistered(id) | Topic::JobDeregistered(id) => id.as_str(),
-        Topic::EvaluationUpdated(number) => id_str(IdKind::Evaluation, *number, buffer),
-        Topic::AllocationUpdated(number) => id_str(IdKind::Allocation, *number, buffer),
+        Topic::JobRegistered(id) | Topic::JobDeregistered(id) => id.write_json(out),
+        Topic::EvaluationUpdated(number) => write_id(out, IdKind::Evaluation, *number),
+        Topic::AllocationUpdated(number) => write_id(out, IdKind::Allocation, *number),
     }
 }
 
-fn write_event<'a>(
-    out: &mut Writer,
-    namespace: &'a Text,
-    event: &'a Event,
-) -> Result<(), AllocError>
+fn write_event(out: &mut Writer, namespace: &Text, event: &Event) -> Result<(), AllocError>
     ensures { OnOk result (Follows out.old out.new
         (tokens_of (shown_json namespace.now event.now))) }
 {
-    let mut buffer = [0; 36];
-    let key = key_text(&event.topic, &mut buffer);
     write_parts(
         out,
         &[
@@ -68,7 +64,12 @@ fn write_event<'a>(
             Part::Key("Index"),
             Part::Number(event.index),
             Part::Key("Key"),
-            Part::Text(key),
+        ],
+    )?;
+    write_key(out, &event.topic)?;
+    write_parts(
+        out,
+        &[
             Part::Key("Namespace"),
             Part::Text(namespace.as_str()),
             Part::Key("Topic"),

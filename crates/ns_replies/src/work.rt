@@ -16,7 +16,7 @@ use ns_types::id::{IdKind, id_str};
 use ns_types::reply::{AllocationShown, EvaluationShown};
 use std::alloc::AllocError;
 
-fn write_id(out: &mut Writer, kind: IdKind, number: u64) -> Result<(), AllocError>
+pub fn write_id(out: &mut Writer, kind: IdKind, number: u64) -> Result<(), AllocError>
     ensures { OnOk result (Follows out.old out.new (string (id_text kind number) ∷ [])) }
 {
     let mut buffer = [0; 36];

@@ -5,4 +5,4 @@ use Rattle.ns_json.specs.Replies.{event_line}
 use Rattle.ns_replies.proofs.events.events_text.Given as goal
 
 abbrev pub invariant-loop-event : goal.invariant-loop-event
-invariant-loop-event l = string_bytes l.lines ≡ flat_map (event_line l.namespace) (take l.event-index l.items)
+invariant-loop-event l = string_bytes l.lines ≡ flat_map (event_line l.namespace) (take l.event-index l.event-items)
