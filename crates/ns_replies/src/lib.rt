@@ -4,12 +4,12 @@
 mod access;
 mod events;
 mod job;
-mod node;
-mod records;
+pub mod node;
+pub mod records;
 mod reply;
 mod room;
-mod shown;
-mod words;
+pub mod shown;
+pub mod words;
 mod work;
 
 pub use reply::render;

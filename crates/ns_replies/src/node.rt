@@ -37,7 +37,7 @@ fn write_attribute(out: &mut Writer, attribute: &Attribute) -> Result<(), AllocE
     )
 }
 
-fn write_attributes(out: &mut Writer, attributes: &[Attribute]) -> Result<(), AllocError>
+pub fn write_attributes(out: &mut Writer, attributes: &[Attribute]) -> Result<(), AllocError>
     ensures { OnOk result (Follows out.old out.new (tokens_of (attributes_json attributes.now))) }
 {
     write_parts(out, &[Part::BeginObject])?;

@@ -44,7 +44,7 @@ fn write_allowed(out: &mut Writer, allowed: &Option<Rows<Text>>) -> Result<(), A
     }
 }
 
-fn write_pools(out: &mut Writer, namespace: &Namespace) -> Result<(), AllocError>
+pub fn write_pools(out: &mut Writer, namespace: &Namespace) -> Result<(), AllocError>
     ensures { OnOk result (Follows out.old out.new (tokens_of (pools_json namespace.now))) }
 {
     write_parts(out, &[Part::BeginObject, Part::Key("Allowed")])?;
@@ -99,7 +99,7 @@ fn limit_part<'a>(limit: Limit) -> Part<'a>
 }
 
 /// A list of one entry, or of none.
-fn write_limits(out: &mut Writer, limits: &Option<Limits>) -> Result<(), AllocError>
+pub fn write_limits(out: &mut Writer, limits: &Option<Limits>) -> Result<(), AllocError>
     ensures { OnOk result (Follows out.old out.new (tokens_of (limits_json limits.now))) }
 {
     let Some(limits) = limits else {
