@@ -5,6 +5,7 @@ use Rattle.ns_replies.proofs.events.events_text.Goals as goal
 
 pub loop-event-preserved : goal.loop-event-preserved
 loop-event-preserved c =
-    let added : string_bytes c.push_str-2.new.self ≡ (string_bytes c.loop-event.lines ++ string_bytes c.in_ok-text.text) ++ 10 ∷ [] = search rules in
-    lines_more c.args.namespace.now _ c.loop-event.event-index c.item-event.result _ _ _ c.loop-event-test.true c.item-event.is
+    let added : string_bytes c.push_str-in-loop-event.new.self ≡ (string_bytes c.loop-event.lines ++ string_bytes c.in_ok-text.text) ++ 10 ∷ [] =
+    search rules in
+    lines_more c.args.namespace.now _ c.loop-event.event-index c.event-item.result _ _ _ c.loop-event-test.true c.event-item.is
     c.loop-event.invariant c.in_ok-text.ensures added
