@@ -1,0 +1,100 @@
+//! Entries of a log, and their lines.
+
+ghost use Rattle.std.specs.Prelude.{◌≡◌, ◌∷◌, [], IfOk, OnOk, string_bytes};
+ghost use Rattle.serde_json.specs.Written.{compact_text};
+ghost use Rattle.ns_json.specs.Logs.{entry_json, line_of, number_or_null};
+ghost use Rattle.ns_json.specs.Part.{Follows, token_of, tokens_of};
+
+use crate::step::write_step;
+use json::Writer;
+use ns_json::part::{Part, write_parts};
+use ns_replies::shown::written_text;
+use ns_types::reply::Rendered;
+use ns_types::step::Step;
+use std::alloc::{AllocError, Global};
+use std::marker::Model;
+
+/// A step with its answer as bytes. Contracts see the pair.
+#[derive(Drop)]
+pub struct Entry {
+    step: Step,
+    rendered: Rendered,
+}
+
+impl Model for Entry {
+    ghost use Rattle.ns_types.specs.declared.reply.Rendered.{Rendered};
+    ghost use Rattle.ns_types.specs.declared.step.Step.{Step};
+
+    ghost Value = { Step × Rendered };
+
+    ghost view = { λ e. (e.step, e.rendered) };
+}
+
+impl Entry {
+    pub fn new(step: Step, rendered: Rendered) -> Entry
+        ensures { result ≡ (step, rendered) }
+    {
+        Entry { step, rendered }
+    }
+
+    pub fn step(&self) -> &Step
+        ensures { result.now ≡ self.now.0 }
+    {
+        &self.step
+    }
+
+    pub fn rendered(&self) -> &Rendered
+        ensures { result.now ≡ self.now.1 }
+    {
+        &self.rendered
+    }
+}
+
+/// The number, or null where there is none.
+fn number_part<'a>(number: Option<u64>) -> Part<'a>
+    ensures { tokens_of (number_or_null number) ≡ token_of result ∷ [] }
+{
+    match number {
+        Some(number) => Part::Number(number),
+        None => Part::Null,
+    }
+}
+
+#[tactic(auto, unfolding(ns_json::specs::Logs::entry_json))]
+fn write_entry(
+    out: &mut Writer,
+    alloc: Global,
+    step: &Step,
+    rendered: &Rendered,
+) -> Result<(), AllocError>
+    ensures { OnOk result (Follows out.old out.new
+        (tokens_of (entry_json (step.now, rendered.now)))) }
+{
+    write_parts(
+        out,
+        &[
+            Part::BeginObject,
+            Part::Key("Body"),
+            Part::Text(rendered.body.as_str()),
+            Part::Key("Index"),
+            number_part(rendered.index),
+            Part::Key("Status"),
+            Part::Number(u64::from(rendered.status)),
+            Part::Key("Step"),
+        ],
+    )?;
+    write_step(out, alloc, step)?;
+    write_parts(out, &[Part::EndObject])
+}
+
+/// The line of a step and its answer, with its line feed.
+pub fn entry_line(alloc: Global, step: &Step, rendered: &Rendered) -> Result<String, AllocError>
+    ensures { IfOk result (λ line.
+        string_bytes line ≡ line_of (compact_text (entry_json (step.now, rendered.now)))) }
+{
+    let mut out = Writer::new(Vec::new(alloc));
+    write_entry(&mut out, alloc, step, rendered)?;
+    let mut line = written_text(out);
+    line.push_str("\n")?;
+    Ok(line)
+}

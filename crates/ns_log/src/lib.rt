@@ -1,0 +1,14 @@
+//! The text of a log: a line with the bootstrap secret, then one line for each step and its answer.
+#![tactic(auto)]
+
+mod call;
+mod document;
+mod entry;
+mod job;
+mod log;
+mod member;
+mod registration;
+mod step;
+
+pub use entry::{Entry, entry_line};
+pub use log::log_text;
