@@ -140,17 +140,27 @@ fn team(alloc: Global, root: &Text) -> Result<Step, AllocError> {
     Ok(Step::Admin(Some(root.clone()?), command))
 }
 
+/// The rounds of the script, which go to the two namespaces in turn.
+fn push_rounds(
+    steps: &mut Vec<Step>,
+    alloc: Global,
+    root: &Text,
+    first: &Text,
+    second: &Text,
+) -> Result<(), AllocError> {
+    for pair in 0..ROUNDS / 2 {
+        push_round(steps, alloc, root, first, pair * 2)?;
+        push_round(steps, alloc, root, second, pair * 2 + 1)?;
+    }
+    Ok(())
+}
+
 fn script(alloc: Global, root: &Text) -> Result<Vec<Step>, AllocError> {
-    let (first, second) = (
-        Text::from_str(alloc, "default")?,
-        Text::from_str(alloc, "team")?,
-    );
     let mut steps = Vec::new(alloc);
     push(&mut steps, team(alloc, root))?;
-    for round in 0..ROUNDS {
-        let namespace = if round % 2 == 0 { &first } else { &second };
-        push_round(&mut steps, alloc, root, namespace, round)?;
-    }
+    let first = Text::from_str(alloc, "default")?;
+    let second = Text::from_str(alloc, "team")?;
+    push_rounds(&mut steps, alloc, root, &first, &second)?;
     Ok(steps)
 }
 

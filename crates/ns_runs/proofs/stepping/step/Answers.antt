@@ -23,8 +23,8 @@ returns-in-Node c =
     (c.in-Node.is ∙ ap (λ (secret : Option Name). Step.Node c.in-Node.pool secret c.in-Node.command) (sym c.as_ref-in-Node.ensures.value)) c.node.ensures
 
 pub returns-in-Dequeue : goal.returns-in-Dequeue
-returns-in-Dequeue c = any_so c.args.step.now (Step.Dequeue c.in-Dequeue.worker c.in-Dequeue.namespace c.in-Dequeue.evaluation) c.args.core.now c.dequeue.result c.dequeue.new.self
-    c.in-Dequeue.is c.dequeue.ensures
+returns-in-Dequeue c = any_so c.args.step.now (Step.Dequeue c.in-Dequeue.worker c.in-Dequeue.namespace c.in-Dequeue.evaluation)
+    c.args.core.now c.dequeue.result c.dequeue.new.self c.in-Dequeue.is c.dequeue.ensures
 
 pub returns-in-Snap : goal.returns-in-Snap
 returns-in-Snap c = any_so c.args.step.now (Step.Snap c.in-Snap.worker c.in-Snap.namespace) c.args.core.now c.snap.result c.snap.new.core
