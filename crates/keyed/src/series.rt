@@ -1,8 +1,6 @@
 // Rows in their order.
-ghost use Rattle.std.specs.Prelude.{◌≡◌, ◌+◌, ◌<◌, ◌≤◌, ◌++◌, ◌∷◌, [], OnErr, OnOk, length};
-ghost use Rattle.ns_types.specs.State.Lists.{last};
+ghost use Rattle.std.specs.Prelude.{◌≡◌, ◌+◌, ◌<◌, ◌≤◌, ◌++◌, ◌∷◌, [], OnErr, OnOk};
 
-use ns_types::rows::Rows;
 use std::alloc::{AllocError, Global};
 use std::marker::Model;
 
@@ -58,16 +56,6 @@ impl<T: Drop> Series<T> {
         self.rows.push_reserved(row);
     }
 
-    /// Puts those rows at the end. It takes no memory.
-    pub fn append(&mut self, rows: Rows<T>)
-        requires { length rows ≤ self.old.room }
-        ensures { self.new.items ≡ self.old.items ++ rows }
-    {
-        for row in rows.into_vec() {
-            self.push(row);
-        }
-    }
-
     /// Only the rows stay for which the closure answers true, in their order. It takes no memory.
     pub fn retain<F: FnMut(&T) -> bool>(&mut self, keeps: F)
         requires { F.IsAlwaysCallable keeps }
@@ -75,16 +63,5 @@ impl<T: Drop> Series<T> {
         ensures room { self.old.room ≤ self.new.room }
     {
         self.rows.retain(keeps);
-    }
-
-    /// Only the last `count` rows stay.
-    pub fn keep_last(&mut self, count: usize)
-        ensures items { self.new.items ≡ last count self.old.items }
-        ensures room { self.old.room ≤ self.new.room }
-    {
-        if self.rows.len() > count {
-            let others = self.rows.len() - count;
-            self.rows.drain(..others);
-        }
     }
 }

@@ -26,7 +26,7 @@ fn opening_tenant(alloc: Global) -> Result<TenantRows, AllocError>
         allowed: None,
         denied: Rows::new(alloc),
     };
-    Ok(new_tenant(alloc, namespace))
+    new_tenant(alloc, namespace)
 }
 
 fn opening_pool(alloc: Global) -> Result<PoolRows, AllocError>

@@ -1,6 +1,6 @@
 //! What administrators ask of namespaces.
 
-ghost use Rattle.std.specs.Prelude.{◌≡◌};
+ghost use Rattle.std.specs.Prelude.{◌≡◌, IfOk};
 ghost use Rattle.std.specs.List.{list_all};
 ghost use Rattle.std.specs.FinMap.{contains_key};
 ghost use Rattle.ns_types.specs.Asking.Admins.{delete_namespace, lacks_allowed, lacks_quota, new_tenant, put_namespace};
@@ -11,12 +11,13 @@ ghost use Rattle.ns_world.specs.World.{tenant_of, world_of};
 use crate::held::{forbids_put, has_work};
 use crate::looking::{has_pool, is_default, is_full};
 use crate::record::RecordChange;
-use keyed::{NameTable, NumberTable, Series};
+use keyed::{NameTable, NumberTable};
+use ns_events::Events;
 use ns_types::records::Namespace;
 use ns_types::refusal::{Member, Refusal};
 use ns_types::text::Text;
 use ns_world::{EvaluationTable, Tables, TenantRows};
-use std::alloc::Global;
+use std::alloc::{AllocError, Global};
 
 /// Whether the namespace names a quota that is not there.
 fn lacks_quota(tables: &Tables, namespace: &Namespace) -> bool
@@ -54,11 +55,12 @@ fn forbids_in(tables: &Tables, name: &Text, namespace: &Namespace) -> bool
     }
 }
 
-/// A namespace that has nothing. It takes no memory.
-pub(crate) fn new_tenant(alloc: Global, namespace: Namespace) -> TenantRows
-    ensures { tenant_of result ≡ new_tenant namespace }
+/// A namespace that has nothing, with room for its events.
+pub(crate) fn new_tenant(alloc: Global, namespace: Namespace) -> Result<TenantRows, AllocError>
+    ensures { IfOk result (λ tenant. tenant_of tenant ≡ new_tenant namespace) }
 {
-    TenantRows {
+    let events = Events::new(alloc)?;
+    Ok(TenantRows {
         namespace,
         index: 0,
         evaluation_number: 0,
@@ -67,8 +69,8 @@ pub(crate) fn new_tenant(alloc: Global, namespace: Namespace) -> TenantRows
         evaluations: EvaluationTable::new(alloc),
         allocations: NumberTable::new(alloc),
         workers: NumberTable::new(alloc),
-        events: Series::new(alloc),
-    }
+        events,
+    })
 }
 
 /// A namespace is to be made, or its record to be written in place of the old one.

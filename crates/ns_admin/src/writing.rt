@@ -21,10 +21,9 @@ fn write_namespace(tables: &mut Tables, name: &Text, namespace: Namespace) -> Re
         tenant.namespace = namespace;
         return Ok(());
     }
+    let tenant = new_tenant(tables.alloc, namespace)?;
     tables.tenants.reserve(name)?;
-    tables
-        .tenants
-        .set(name, new_tenant(tables.alloc, namespace));
+    tables.tenants.set(name, tenant);
     Ok(())
 }
 

@@ -39,7 +39,7 @@ type EvaluationSlot = (u64, Option<Evaluation>);
 type TenantSlot = (Text, Option<TenantChange>);
 
 /// Whether a counter can not rise any more.
-pub(crate) fn is_at_bound(count: u64) -> bool
+pub fn is_at_bound(count: u64) -> bool
     ensures { result ≡ is_at_bound count }
 {
     count == u64::MAX

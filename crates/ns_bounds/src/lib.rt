@@ -9,5 +9,5 @@ mod awake;
 mod full;
 mod given;
 
-pub use full::is_past_bound;
+pub use full::{is_at_bound, is_past_bound};
 pub use given::{given_limits_pass, given_room_passes};

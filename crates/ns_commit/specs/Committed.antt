@@ -2,7 +2,6 @@
 use Rattle.std.specs.Prelude.{◌≡◌, ℕ, ◌+◌, ◌<◌, ◌≤◌, ◌^◌, Bool, true, false, if◌then◌else◌, List, [], ◌∷◌, Option, Some}
 use Rattle.std.specs.Prelude.{IsTrue, fold, is_some, length, option_map}
 use Rattle.std.specs.declared.cmp.Ordering.{Ordering}
-use Rattle.std.specs.Option.{option_map_or}
 use Rattle.std.specs.List.{list_any}
 use Rattle.std.specs.FinMap.{FinMap, insert}
 use Rattle.keyed.specs.Over.{HasRoomFor}
@@ -42,10 +41,9 @@ pub record HasRowRoom (x : TenantChange) (t : TenantRows) : Type 0 where
 abbrev pub CanTell : SettledTenant → TenantRows → Type 0
 CanTell x t = is_some x.events ≡ true → t.index + 1 < 2 ^ 64
 
--- and a place for each event
+-- a slot for each changed row, and where there are events, an index that can rise
 pub record HasTenantRoom (x : SettledTenant) (t : TenantRows) : Type 0 where
   pub rows : HasRowRoom x.rows t
-  pub events : option_map_or length x.events 0 ≤ t.events.room
   pub index : CanTell x t
 
 -- ---- room that is given back

@@ -1,7 +1,7 @@
 //! What changes of a namespace: its rows, and where events are told its index.
 
 ghost use Rattle.std.proofs.Common.{subst, sym};
-ghost use Rattle.std.specs.Prelude.{◌≡◌, ◌+◌, ◌<◌, ◌≤◌, ◌^◌, length, OnOk};
+ghost use Rattle.std.specs.Prelude.{◌≡◌, ◌+◌, ◌<◌, ◌^◌, OnOk};
 ghost use Rattle.ns_change.specs.Changed.{changed_tenant};
 ghost use Rattle.ns_change.specs.Settled.{settled_tenant, tell};
 ghost use Rattle.ns_types.specs.State.Rows.{Tenant};
@@ -15,9 +15,6 @@ use ns_types::event::Event;
 use ns_types::rows::Rows;
 use ns_world::TenantRows;
 use std::alloc::AllocError;
-
-/// How many events of a namespace are kept.
-const KEPT: usize = 100;
 
 /// Makes room for each changed row of a namespace.
 fn reserve_rows(tenant: &mut TenantRows, change: &TenantChange) -> Result<(), AllocError>
@@ -56,13 +53,11 @@ fn commit_rows(tenant: &mut TenantRows, change: TenantChange)
 
 /// The namespace has one index more, and those events. It takes no memory.
 fn tell(tenant: &mut TenantRows, events: Rows<Event>)
-    requires room { length events ≤ tenant.old.events.room }
     requires index { tenant.old.index + 1 < 2 ^ 64 }
     ensures { tenant_of tenant.new ≡ tell (tenant_of tenant.old) events }
 {
     tenant.index += 1;
     tenant.events.append(events);
-    tenant.events.keep_last(KEPT);
 }
 
 impl Owner<SettledTenant> for TenantRows {
@@ -79,11 +74,7 @@ impl Owner<SettledTenant> for TenantRows {
     ghost IsCleared = { IsTenantCleared };
 
     fn reserve(&mut self, settled: &SettledTenant) -> Result<(), AllocError> {
-        reserve_rows(self, &settled.rows)?;
-        if let Some(events) = &settled.events {
-            self.events.reserve(events.as_slice().len())?;
-        }
-        Ok(())
+        reserve_rows(self, &settled.rows)
     }
 
     fn clear(&mut self, settled: &SettledTenant) {

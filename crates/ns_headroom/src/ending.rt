@@ -6,7 +6,7 @@ ghost use Rattle.ns_types.specs.declared.node.Class.{Class};
 ghost use Rattle.ns_types.specs.State.Rows.{allocation_at, node_at, offered_class};
 ghost use Rattle.ns_types.specs.Steps.{greatest};
 ghost use Rattle.ns_types.specs.Working.Commit.{quota_named};
-ghost use Rattle.ns_bounds.specs.Bounds.{is_at_bound, quota_passes, room_passes};
+ghost use Rattle.ns_bounds.specs.Bounds.{quota_passes, room_passes};
 ghost use Rattle.ns_bounds.specs.Given.{given_limits_pass, given_room_passes};
 ghost use Rattle.ns_headroom.specs.Applying.{is_last_index};
 ghost use Rattle.ns_headroom.specs.Judging.{allocations_pass, any_last_index, eviction_passes, node_passes};
@@ -15,7 +15,7 @@ ghost use Rattle.ns_headroom.specs.Releasing.{lives_at};
 ghost use Rattle.ns_world.specs.World.{world_of};
 
 use ns_alike::is_free;
-use ns_bounds::{given_limits_pass, given_room_passes};
+use ns_bounds::{given_limits_pass, given_room_passes, is_at_bound};
 use ns_types::allocation::Allocation;
 use ns_types::key::EvalKey;
 use ns_types::node::{Node, Offer};
@@ -23,13 +23,6 @@ use ns_types::plan::Eviction;
 use ns_types::text::Text;
 use ns_world::Tables;
 use std::marker::Model;
-
-/// Whether a counter can not rise any more.
-fn is_at_bound(count: u64) -> bool
-    ensures { result ≡ is_at_bound count }
-{
-    count == u64::MAX
-}
 
 /// Whether a counter passes its bound by so much more.
 fn is_past(count: u64, more: u64) -> bool

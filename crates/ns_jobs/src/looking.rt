@@ -45,13 +45,17 @@ pub fn node<'a>(tables: &'a Tables, pool: &Text, name: &Text) -> Option<&'a Node
     }
 }
 
+fn text_begins(prefix: &Text, text: &str) -> bool
+    ensures { result ≡ begins_with prefix.now text.now }
+{
+    text.as_bytes().starts_with(prefix.as_str().as_bytes())
+}
+
 /// Whether the id of a job begins so.
 pub(crate) fn begins(prefix: &Text, id: &Text) -> bool
     ensures { result ≡ begins_with prefix.now id.now }
 {
-    id.as_str()
-        .as_bytes()
-        .starts_with(prefix.as_str().as_bytes())
+    text_begins(prefix, id.as_str())
 }
 
 /// Whether the id of that kind and number begins so.
@@ -59,7 +63,5 @@ pub(crate) fn id_begins(prefix: &Text, kind: IdKind, number: u64) -> bool
     ensures { result ≡ begins_with prefix.now (id_text kind number) }
 {
     let mut buffer = [0; 36];
-    id_str(kind, number, &mut buffer)
-        .as_bytes()
-        .starts_with(prefix.as_str().as_bytes())
+    text_begins(prefix, id_str(kind, number, &mut buffer))
 }

@@ -1,6 +1,6 @@
 //! What is read in a namespace.
 
-ghost use Rattle.std.specs.Prelude.{◌≡◌, IfOk, IsTrue, filter, nat_le};
+ghost use Rattle.std.specs.Prelude.{◌≡◌, IfOk, IsTrue};
 ghost use Rattle.ns_types.specs.declared.step.AskCommand.TheVariants as AskCommand;
 ghost use Rattle.ns_types.specs.Asking.Reads.{events_from};
 ghost use Rattle.ns_jobs.specs.Read.{Reads, ReadsIn, SaysIn, UsageFits, only_reads};
@@ -10,10 +10,8 @@ use crate::allocations::{list_allocations, read_allocation};
 use crate::evaluations::{list_evaluations, read_evaluation};
 use crate::jobs::{list_jobs, read_job};
 use crate::usage::quota_usage;
-use ns_types::event::{Event, Topic};
 use ns_types::refusal::Refusal;
 use ns_types::reply::{Content, NamespaceShown};
-use ns_types::rows::Rows;
 use ns_types::step::AskCommand;
 use ns_types::text::Text;
 use ns_world::{Tables, TenantRows};
@@ -29,39 +27,6 @@ fn read_namespace(namespace: &Text, tenant: &TenantRows) -> Result<Content, Refu
     }))
 }
 
-fn copied_topic(topic: &Topic) -> Result<Topic, AllocError>
-    ensures { IfOk result (λ copy. copy ≡ topic.now) }
-{
-    match topic {
-        Topic::JobRegistered(id) => Ok(Topic::JobRegistered(id.clone()?)),
-        Topic::JobDeregistered(id) => Ok(Topic::JobDeregistered(id.clone()?)),
-        Topic::EvaluationUpdated(number) => Ok(Topic::EvaluationUpdated(*number)),
-        Topic::AllocationUpdated(number) => Ok(Topic::AllocationUpdated(*number)),
-    }
-}
-
-fn copied(event: &Event) -> Result<Event, AllocError>
-    ensures { IfOk result (λ copy. copy ≡ event.now) }
-{
-    Ok(Event {
-        index: event.index,
-        topic: copied_topic(&event.topic)?,
-    })
-}
-
-/// Those whose index is at least that one, the newest last.
-fn events_since(alloc: Global, index: u64, events: &[Event]) -> Result<Rows<Event>, AllocError>
-    ensures { IfOk result (λ kept. kept ≡ filter (λ e. nat_le index e.index) events.now) }
-{
-    let mut kept = Rows::new(alloc);
-    for event in events {
-        if index <= event.index {
-            kept.push(copied(event)?)?;
-        }
-    }
-    Ok(kept)
-}
-
 /// What the read of events says.
 fn events_from(
     alloc: Global,
@@ -73,7 +38,7 @@ fn events_from(
         (λ said. said ≡ events_from namespace.now index (tenant_of tenant.now)) }
 {
     let name = namespace.clone()?;
-    let kept = events_since(alloc, index, tenant.events.as_slice())?;
+    let kept = tenant.events.from_index(alloc, index)?;
     Ok(Content::Events(name, kept))
 }
 

@@ -31,18 +31,18 @@ head = begin_object ∷ key (codes "Constraints") ∷ begin_array ∷ []
 abbrev tail : JobShown → List ℕ → List Token
 tail j kind = end_array ∷ key (codes "Type") ∷ string kind ∷ key (codes "Version") ∷ number (decimal j.row.version) ∷ end_object ∷ []
 
-abbrev constraint_tokens : List Constraint → List Token
+abbrev pub constraint_tokens : List Constraint → List Token
 constraint_tokens = flat_map (λ c. tokens_of (constraint_json c))
 
-abbrev group_tokens : List Group → List Token
+abbrev pub group_tokens : List Group → List Token
 group_tokens = flat_map (λ g. tokens_of (group_json g))
 
 -- two lists between three runs of tokens
-regroup : (a c m g t : List Token) → (((a ++ c) ++ m) ++ g) ++ t ≡ a ++ (c ++ (m ++ (g ++ t)))
+pub regroup : (a c m g t : List Token) → (((a ++ c) ++ m) ++ g) ++ t ≡ a ++ (c ++ (m ++ (g ++ t)))
 regroup a c m g t = simp append_assoc
 
 -- a list, its closing bracket, and what comes after
-list_then : {X : Type 0} (json : X → Data) (xs : List X) (rest : List Token) → flat_map (λ x. tokens_of (json x)) xs ++
+pub list_then : {X : Type 0} (json : X → Data) (xs : List X) (rest : List Token) → flat_map (λ x. tokens_of (json x)) xs ++
     end_array ∷ rest ≡ items_tokens (items_outline (items_of (map json xs))) ++ rest
 list_then json xs rest = sym (append_assoc (flat_map (λ x. tokens_of (json x)) xs) (end_array ∷ []) rest) ∙ ap (λ t. t ++ rest) (sym (list_tokens json xs))
 

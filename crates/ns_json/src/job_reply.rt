@@ -88,7 +88,8 @@ fn write_constraint(
     )
 }
 
-fn write_constraints(
+/// Constraints, one after the other.
+pub fn write_constraints(
     out: &mut Writer,
     alloc: Global,
     constraints: &[Constraint],
@@ -154,7 +155,8 @@ fn write_group(out: &mut Writer, group: &Group) -> Result<(), AllocError>
     write_parts(out, &[Part::EndArray, Part::EndObject])
 }
 
-fn write_groups(out: &mut Writer, groups: &[Group]) -> Result<(), AllocError>
+/// Groups, one after the other.
+pub fn write_groups(out: &mut Writer, groups: &[Group]) -> Result<(), AllocError>
     ensures { OnOk result (Follows out.old out.new
         (flat_map (λ g. tokens_of (group_json g)) groups.now)) }
 {

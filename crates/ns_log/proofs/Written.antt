@@ -21,7 +21,7 @@ use Rattle.ns_json.specs.Part.{tokens_of}
 use Rattle.ns_json.specs.Rendering.{object_of, constraint_json, group_json}
 use Rattle.ns_json.specs.Logs.{Call, call_members, registration_json, entry_json, line_of}
 use Rattle.ns_json.specs.Replies.{Entry}
-use Rattle.ns_json.proofs.Parts.{list_tokens}
+use Rattle.ns_json.proofs.JobReplies.{constraint_tokens, group_tokens, list_then, regroup}
 use Rattle.ns_log.specs.declared.member.Member.{Member}
 use Rattle.ns_log.specs.Members.{member_of, member_tokens, end_tokens, call_tokens}
 
@@ -38,22 +38,6 @@ pub step_tokens : (call : Call) (others : List (Name × Data)) → begin_object 
     (object_of (call_members call others))
 step_tokens call others = ap (λ ts. begin_object ∷ key (codes "Args") ∷ ts)
     (append_assoc (tokens_of (object_of call.1)) (key (codes "Do") ∷ string call.0 ∷ []) (end_tokens others))
-
-abbrev constraint_tokens : List Constraint → List Token
-constraint_tokens = flat_map (λ c. tokens_of (constraint_json c))
-
-abbrev group_tokens : List Group → List Token
-group_tokens = flat_map (λ g. tokens_of (group_json g))
-
--- two lists between three runs of tokens
-regroup : (a c m g t : List Token) → (((a ++ c) ++ m) ++ g) ++ t ≡ a ++ (c ++ (m ++ (g ++ t)))
-regroup a c m g t = simp append_assoc
-
--- a list, its closing bracket, and what comes after
-list_then : {X : Type 0} (json : X → Data) (xs : List X) (rest : List Token) → flat_map (λ x. tokens_of (json x)) xs ++
-    end_array ∷ rest ≡ items_tokens (items_outline (items_of (map json xs))) ++ rest
-list_then json xs rest = sym (append_assoc (flat_map (λ x. tokens_of (json x)) xs) (end_array ∷ []) rest) ∙
-    ap (λ t. t ++ rest) (sym (list_tokens json xs))
 
 abbrev head : List Token
 head = begin_object ∷ key (codes "Constraints") ∷ begin_array ∷ []

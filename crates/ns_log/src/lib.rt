@@ -4,7 +4,6 @@
 mod call;
 mod document;
 mod entry;
-mod job;
 mod log;
 mod member;
 mod registration;

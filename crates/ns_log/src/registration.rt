@@ -5,9 +5,8 @@ ghost use Rattle.json.specs.Token.{end_array, end_object, key, string};
 ghost use Rattle.ns_json.specs.Logs.{registration_json};
 ghost use Rattle.ns_json.specs.Part.{Adds, Follows, tokens_of};
 
-use crate::job::{write_constraints, write_groups};
 use json::Writer;
-use ns_json::job_reply::kind_text;
+use ns_json::job_reply::{kind_text, write_constraints, write_groups};
 use ns_json::part::{Part, write_parts};
 use ns_replies::words::text_or_empty;
 use ns_types::job::Registration;

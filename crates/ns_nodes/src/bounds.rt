@@ -16,7 +16,7 @@ use crate::losing::{NumberSlot, numbers_pass_at};
 use crate::removed::is_ready;
 use keyed::NumberTable;
 use ns_alike::{is_free, same_offer};
-use ns_bounds::{given_limits_pass, given_room_passes};
+use ns_bounds::{given_limits_pass, given_room_passes, is_at_bound};
 use ns_change::is_live_on;
 use ns_live::Live;
 use ns_types::node::{Node, NodeStatus, Offer};
@@ -66,13 +66,6 @@ pub(crate) fn freed_passes(
 }
 
 // ---- allocations that are lost
-
-/// Whether a count can not rise any more.
-fn is_at_bound(count: u64) -> bool
-    ensures { result ≡ is_at_bound count }
-{
-    count == u64::MAX
-}
 
 fn is_live_at(pool: &Text, node: &Text, tenant: &TenantRows, slot: &NumberSlot) -> bool
     ensures { result ≡ is_live_at pool.now node.now (tenant_of tenant.now) slot.now }

@@ -2,21 +2,14 @@
 //! anything that does.
 
 ghost use Rattle.std.specs.Prelude.{◌≡◌};
-ghost use Rattle.ns_bounds.specs.Bounds.{is_at_bound};
 ghost use Rattle.ns_report.specs.Reporting.{number_passes, release_passes, report_passes};
 ghost use Rattle.ns_world.specs.World.{tenant_of, world_of};
 
 use crate::statuses::{calls_for_one, ends};
+use ns_bounds::is_at_bound;
 use ns_jobs::ending_passes;
 use ns_types::allocation::{Allocation, ClientStatus};
 use ns_world::{Tables, TenantRows};
-
-/// Whether a count can not rise any more.
-fn is_at_bound(count: u64) -> bool
-    ensures { result ≡ is_at_bound count }
-{
-    count == u64::MAX
-}
 
 fn number_passes(tenant: &TenantRows, row: &Allocation, client: ClientStatus) -> bool
     ensures { result ≡ number_passes (tenant_of tenant.now) row.now client }

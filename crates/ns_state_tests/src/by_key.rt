@@ -3,7 +3,7 @@ ghost use Rattle.std.specs.FinMap.{insert};
 ghost use Rattle.keyed.specs.Table.{row_at};
 
 use crate::owned::holds;
-use keyed::{NameTable, NumberTable, Series};
+use keyed::{NameTable, NumberTable};
 use ns_types::text::Text;
 use std::alloc::{AllocError, Global};
 use std::test::Fail;
@@ -105,29 +105,5 @@ fn keeps_numbers(table: &mut NumberTable<char>) -> Result<bool, AllocError> {
 fn keeps_rows_by_number(rt: HostRuntime) -> Result<(), Fail> {
     let table = NumberTable::new(rt.alloc());
     assert!(rt; holds(Ok(table), keeps_numbers)?);
-    Ok(())
-}
-
-/// Adds the number, and keeps the last hundred.
-fn add_number(series: &mut Series<u64>, number: u64) -> Result<(), AllocError> {
-    series.reserve(1)?;
-    series.push(number);
-    series.keep_last(100);
-    Ok(())
-}
-
-/// Whether the oldest of 101 numbers is gone, and no other.
-fn keeps_last_hundred(series: &mut Series<u64>) -> Result<bool, AllocError> {
-    for number in 1..102 {
-        add_number(series, number)?;
-    }
-    let kept = series.as_slice();
-    Ok((kept.len() == 100) & (kept.first() == Some(&2)) & (kept.last() == Some(&101)))
-}
-
-#[test]
-fn keeps_a_hundred_rows(rt: HostRuntime) -> Result<(), Fail> {
-    let series = Series::new(rt.alloc());
-    assert!(rt; holds(Ok(series), keeps_last_hundred)?);
     Ok(())
 }

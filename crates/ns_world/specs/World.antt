@@ -19,7 +19,7 @@ tenant_of t = record {
   evaluations = rows t.evaluations.slots;
   allocations = rows t.allocations;
   workers = rows t.workers;
-  events = t.events.items;
+  events = t.events;
 }
 
 abbrev pub pool_of : StoredPool → PoolRows

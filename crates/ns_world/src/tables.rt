@@ -7,9 +7,9 @@ ghost use Rattle.ns_world.specs.World.{world_of};
 
 use crate::evaluations::EvaluationTable;
 use keyed::{KeyQueue, NameTable, NumberTable, Series};
+use ns_events::Events;
 use ns_types::allocation::Allocation;
 use ns_types::evaluation::Evaluation;
-use ns_types::event::Event;
 use ns_types::job::Job;
 use ns_types::node::{Class, Node};
 use ns_types::records::{Namespace, Pool, Quota};
@@ -30,8 +30,7 @@ pub struct TenantRows {
     pub allocations: NumberTable<Allocation>,
     /// Those that are busy for it.
     pub workers: NumberTable<Worker>,
-    /// The last hundred, the newest last.
-    pub events: Series<Event>,
+    pub events: Events,
 }
 
 /// What a pool owns.
