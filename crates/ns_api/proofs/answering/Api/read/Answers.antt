@@ -1,4 +1,5 @@
-use Rattle.ns_api.proofs.Answered.{answers_read, shows}
+use Rattle.ns_api.proofs.Answered.{answers_read}
+use Rattle.ns_rooms.proofs.Fitting.{shows}
 use Rattle.ns_api.proofs.answering.Api.read.Goals as goal
 
 pub shown-response-requires : goal.shown-response-requires
