@@ -3,10 +3,11 @@
 A conversation begins by `=== SECRET STEP NAME`: the bootstrap secret, by how much each draw is greater than the one
 before, and what the conversation shows. Then come its exchanges:
 
-    > METHOD TARGET [TOKEN]         a request, with its body, if it has one, on the next line
-    + HEADER: VALUE                 headers of its own, which it then has in place of `Content-Length: 0`
-    < STATUS [@INDEX] [close]       the reply, with its body on the next line
-    < STATUS @INDEX lines           the same with a line feed behind each line of its body
+    > METHOD TARGET [TOKEN] [HTTP/1.0]  a request, with its body, if it has one, on the next line
+    + HEADER: VALUE                     headers of its own, which it then has in place of `Content-Length: 0`; `+` alone: none
+    < STATUS [@INDEX] [close]           the reply, with its body on the next line
+    < STATUS @INDEX lines               the same with a line feed behind each line of its body
+    & read fault                        at the end: a line feed follows the last request, and no other one
 
 Replies are written down by hand, from docs/API.md, and never taken from the program. Lengths are counted here.
 """
@@ -24,16 +25,20 @@ PHRASES = {
     "405": "Method Not Allowed",
     "409": "Conflict",
     "411": "Length Required",
+    "413": "Content Too Large",
     "501": "Not Implemented",
 }
 
 
+ENDS_INSIDE = "& read fault"
+
+
 def request(words, headers, body):
-    method, target = words[:2]
-    lines = [f"{method} {target} HTTP/1.1"]
-    if len(words) > 2:
-        lines.append(f"X-Nomad-Token: {words[2]}")
-    lines += headers
+    versions = [word for word in words if word.startswith("HTTP/")] or ["HTTP/1.1"]
+    method, target, *tokens = [word for word in words if not word.startswith("HTTP/")]
+    lines = [f"{method} {target} {versions[0]}"]
+    lines += [f"X-Nomad-Token: {token}" for token in tokens]
+    lines += filter(None, headers)
     if body or not headers:
         lines.append(f"Content-Length: {len(body.encode())}")
     return "\r\n".join(lines) + "\r\n\r\n" + body
@@ -58,30 +63,42 @@ def blocks(text, mark):
 
 
 def exchange(head, lines):
+    """The words, headers and body of a request, and the words and body of its reply."""
     place = next(at for at, line in enumerate(lines) if line.startswith("< "))
     asked, answered = lines[:place], lines[place + 1 :]
-    headers = [line[2:] for line in asked if line.startswith("+ ")]
-    body = "".join(line for line in asked if not line.startswith("+ "))
+    headers = [line[2:] for line in asked if line.startswith("+")]
+    body = "".join(line for line in asked if not line.startswith("+"))
     words = lines[place][2:].split()
     ended = "\n" if "lines" in words else ""
-    return request(head.split(), headers, body), reply(words, "".join(line + ended for line in answered if line))
+    told = "".join(line + ended for line in answered if line and line != ENDS_INSIDE)
+    return (head.split(), headers, body), (words, told)
 
 
-def assembled(paths):
-    given, taken = [], []
+def conversations(paths):
+    """Of each conversation its first line, what is sent, what is answered, and whether it ends inside a request."""
     for path in paths:
         with open(path, encoding="utf-8") as file:
             text = file.read()
         for name, lines in blocks(text, "==="):
             pairs = [exchange(head, rest) for head, rest in blocks("\n".join(lines), ">")]
-            given.append(f"=== {name}\n" + "".join(asked for asked, _ in pairs))
-            taken.append(f"=== {name}\n" + "".join(answered for _, answered in pairs) + "\nstatus 0\n")
+            yield name, pairs, ENDS_INSIDE in lines
+
+
+def assembled(paths):
+    given, taken = [], []
+    for name, pairs, is_cut in conversations(paths):
+        end, status = ("\n", "3\nread fault") if is_cut else ("", "0")
+        given.append(f"=== {name}\n" + "".join(request(*asked) for asked, _ in pairs) + end)
+        taken.append(f"=== {name}\n" + "".join(reply(*told) for _, told in pairs) + f"\nstatus {status}\n")
     return {"stdin": "\n".join(given), "stdout": "".join(taken)}
 
 
+def stored():
+    return sorted(glob.glob(os.path.join(TOP, "bench", "conversations", "*.txt")))
+
+
 def main():
-    paths = sorted(glob.glob(os.path.join(TOP, "bench", "conversations", "*.txt")))
-    for name, text in assembled(paths).items():
+    for name, text in assembled(stored()).items():
         with open(os.path.join(TOP, "crates", "conversations", name), "w", encoding="utf-8", newline="") as file:
             file.write(text)
     return 0
