@@ -3,6 +3,7 @@ pub mod Telling
 pub mod Asking
 pub mod Wanted
 pub mod Drawing
+pub mod Rooms
 pub mod Following
 pub mod Answering
 pub mod Serving

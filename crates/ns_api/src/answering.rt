@@ -8,6 +8,7 @@ ghost use Rattle.ns_steps.specs.Served.{IsServed, is_reading};
 ghost use Rattle.ns_json.specs.Replies.{rendered};
 ghost use Rattle.ns_replies.specs.Rendered.{HasRoom, IsRendered};
 ghost use Rattle.ns_api.specs.Answering.{AnswersAsked, AnswersOrWants, AnswersRequest, ShowsOrWants};
+ghost use Rattle.ns_api.specs.Rooms.{room_of};
 ghost use Rattle.ns_api.specs.Serving.{held};
 ghost use Rattle.ns_api.specs.Wanted.{draft_step, IsServedDraft};
 
@@ -18,10 +19,9 @@ use crate::wanted::Draft;
 use ns_http::{Answer, Request};
 use ns_replies::{Room, render};
 use ns_request::Routes;
-use ns_rooms::{is_read, room_for};
 use ns_types::refusal::Refusal;
 use ns_types::reply::{Reply, Response};
-use ns_types::step::Step;
+use ns_types::step::{AdminCommand, AskCommand, NodeCommand, Step};
 use std::alloc::{AllocError, Global};
 
 /// What takes steps.
@@ -45,6 +45,48 @@ pub struct Api<T, D, F> {
     follower: F,
     routes: Routes,
     alloc: Global,
+}
+
+/// Whether the step only reads.
+fn is_read(step: &Step) -> bool
+    ensures { result ≡ is_reading step.now }
+{
+    match step {
+        Step::Ask(_, _, command) => !matches!(
+            command.get(),
+            AskCommand::Register(_) | AskCommand::Deregister(_, _) | AskCommand::StopAllocation(_)
+        ),
+        Step::Admin(_, command) => matches!(
+            command.get(),
+            AdminCommand::ListNamespaces
+                | AdminCommand::ListQuotas
+                | AdminCommand::ReadQuota(_)
+                | AdminCommand::ListPools
+                | AdminCommand::ReadPolicy(_)
+        ),
+        Step::Node(_, _, command) => !matches!(
+            command.get(),
+            NodeCommand::PutNode(_, _)
+                | NodeCommand::DeleteNode(_)
+                | NodeCommand::SetStatus(_, _)
+                | NodeCommand::SetEligible(_, _)
+                | NodeCommand::Report(_, _)
+        ),
+        _ => true,
+    }
+}
+
+/// Room for the reply to a write.
+fn room_for(alloc: Global, step: &Step) -> Result<Room, AllocError>
+    ensures { IfOk result (λ room. room ≡ room_of step.now) }
+{
+    let Step::Admin(_, command) = step else {
+        return Room::new(alloc);
+    };
+    match command.get() {
+        AdminCommand::CreateToken(new) => Room::for_token(alloc, new),
+        _ => Room::new(alloc),
+    }
 }
 
 /// The response to a read. Its reply may still be refused for want of memory.

@@ -1,9 +1,9 @@
 //! A worker finishes its evaluation.
 
-ghost use Rattle.std.specs.Prelude.{◌≡◌, IfOk, MatchResult, None, Some, false};
+ghost use Rattle.std.specs.Prelude.{◌≡◌, ◌+◌, IfOk, MatchResult, None, Some, false, nat_lt};
 ghost use Rattle.ns_types.specs.declared.reply.Content.TheVariants as Content;
 ghost use Rattle.ns_types.specs.Settling.Outcome.{Done};
-ghost use Rattle.ns_types.specs.Steps.{is_past_bound};
+ghost use Rattle.ns_types.specs.Steps.{greatest, is_past_bound};
 ghost use Rattle.ns_types.specs.Working.Looks.{RefusesFinish, is_ending};
 ghost use Rattle.ns_types.specs.Working.Work.{end_of, has_failed, may_finish, needs_follower};
 ghost use Rattle.ns_broker.specs.Submitting.{HasWork};
@@ -17,7 +17,6 @@ ghost use Rattle.ns_world.specs.World.{tenant_of, world_of};
 use crate::ending::{Ending, end_alone, end_followed};
 use crate::following::follower;
 use crate::missing::missed;
-use ns_bounds::is_at_bound;
 use ns_broker::{keeps, worker_at};
 use ns_change::{Change, Prepared, prepare};
 use ns_types::evaluation::{Evaluation, Status};
@@ -102,6 +101,13 @@ fn needs_follower(worker: &Worker, planned: &Planned) -> bool
     ensures { result ≡ needs_follower worker.now planned.now }
 {
     has_failed(worker) || planned.is_short()
+}
+
+/// Whether a count can not rise any more.
+fn is_at_bound(count: u64) -> bool
+    ensures { result ≡ nat_lt greatest (count + 1) }
+{
+    count == u64::MAX
 }
 
 /// Whether the namespace has no index left, or no number for a follower that is made.

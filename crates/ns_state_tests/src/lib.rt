@@ -4,8 +4,6 @@
 #[cfg(test)]
 mod by_key;
 #[cfg(test)]
-mod events;
-#[cfg(test)]
 mod full_pool;
 #[cfg(test)]
 mod jobs;

@@ -9,9 +9,9 @@ returns c = λ i. record {
   index = 0;
   evaluation_number = 0;
   allocation_number = 0;
-  jobs = (ap (λ m. rows m) c.new.ensures ∙ rows-empty) i;
-  evaluations = (ap (λ m. rows m) c.new-2.ensures ∙ rows-empty) i;
-  allocations = (ap (λ m. rows m) c.new-3.ensures ∙ rows-empty) i;
-  workers = (ap (λ m. rows m) c.new-4.ensures ∙ rows-empty) i;
-  events = c.new-5.ensures i;
+  jobs = (ap (λ m. rows m) c.new-2.ensures ∙ rows-empty) i;
+  evaluations = (ap (λ m. rows m) c.new-3.ensures ∙ rows-empty) i;
+  allocations = (ap (λ m. rows m) c.new-4.ensures ∙ rows-empty) i;
+  workers = (ap (λ m. rows m) c.new-5.ensures ∙ rows-empty) i;
+  events = c.in_ok-events.ensures i;
 }

@@ -13,5 +13,5 @@ returns-in-Some-clause-written c = tenant_over c.args.tables.now c.args.name.now
     (sym c.get_mut.ensures.value ∙ ap option_copied_mut c.in-Some.is) refl
 
 pub returns-clause-written : goal.returns-clause-written
-returns-clause-written c = tenant_new c.args.tables.now c.args.name.now c.reserve.new.self c.set.new.self c.args.namespace c.new_tenant.result
-    (sym c.get_mut.ensures.value ∙ ap option_copied_mut c.in_default.is) c.new_tenant.ensures c.in_ok-reserve.ensures.ok c.set.ensures
+returns-clause-written c = tenant_new c.args.tables.now c.args.name.now c.reserve.new.self c.set.new.self c.args.namespace c.in_ok-tenant.tenant
+    (sym c.get_mut.ensures.value ∙ ap option_copied_mut c.in_default.is) c.in_ok-tenant.ensures c.in_ok-reserve.ensures.ok c.set.ensures

@@ -1,5 +1,4 @@
-use Rattle.ns_api.proofs.Answered.{answers_read}
-use Rattle.ns_rooms.proofs.Fitting.{shows}
+use Rattle.ns_api.proofs.Answered.{answers_read, shows}
 use Rattle.ns_api.proofs.answering.Api.read.Goals as goal
 
 pub shown-response-requires : goal.shown-response-requires

@@ -1,5 +1,4 @@
-use Rattle.ns_api.proofs.Answered.{answers_write}
-use Rattle.ns_rooms.proofs.Fitting.{fits}
+use Rattle.ns_api.proofs.Answered.{answers_write, fits}
 use Rattle.ns_api.proofs.answering.Api.write.Goals as goal
 
 pub shown_in-response-requires : goal.shown_in-response-requires
