@@ -9,6 +9,8 @@ before, and what the conversation shows. Then come its exchanges:
     < STATUS @INDEX lines               the same with a line feed behind each line of its body
     & read fault                        at the end: a line feed follows the last request, and no other one
 
+Where `spaces N` stands before NAME, N spaces follow the last request and belong to its body. They are not stored.
+
 Replies are written down by hand, from docs/API.md, and never taken from the program. Lengths are counted here.
 """
 
@@ -33,14 +35,14 @@ PHRASES = {
 ENDS_INSIDE = "& read fault"
 
 
-def request(words, headers, body):
+def request(words, headers, body, spaces=0):
     versions = [word for word in words if word.startswith("HTTP/")] or ["HTTP/1.1"]
     method, target, *tokens = [word for word in words if not word.startswith("HTTP/")]
     lines = [f"{method} {target} {versions[0]}"]
     lines += [f"X-Nomad-Token: {token}" for token in tokens]
     lines += filter(None, headers)
     if body or not headers:
-        lines.append(f"Content-Length: {len(body.encode())}")
+        lines.append(f"Content-Length: {len(body.encode()) + spaces}")
     return "\r\n".join(lines) + "\r\n\r\n" + body
 
 
@@ -84,11 +86,23 @@ def conversations(paths):
             yield name, pairs, ENDS_INSIDE in lines
 
 
+def spaces_of(name):
+    """How many spaces follow the last request."""
+    words = name.split(" ")
+    return int(words[3]) if words[2] == "spaces" else 0
+
+
+def sent(name, pairs):
+    """The requests, without the spaces that follow the last."""
+    *firsts, last = [asked for asked, _ in pairs]
+    return "".join(request(*asked) for asked in firsts) + request(*last, spaces_of(name))
+
+
 def assembled(paths):
     given, taken = [], []
     for name, pairs, is_cut in conversations(paths):
         end, status = ("\n", "3\nread fault") if is_cut else ("", "0")
-        given.append(f"=== {name}\n" + "".join(request(*asked) for asked, _ in pairs) + end)
+        given.append(f"=== {name}\n" + sent(name, pairs) + end)
         taken.append(f"=== {name}\n" + "".join(reply(*told) for _, told in pairs) + f"\nstatus {status}\n")
     return {"stdin": "\n".join(given), "stdout": "".join(taken)}
 

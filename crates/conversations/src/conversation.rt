@@ -19,18 +19,32 @@ pub struct Conversation<'a> {
     step: u8,
     /// Whom the server drives after each request.
     driven: Driven,
-    input: &'a str,
+    input: String,
 }
 
 const BAD_HEAD: &str = "a bad first line";
 
+/// The text with the spaces that the name begins with: `spaces`, how many, and the rest of the name.
+fn spaced(alloc: Global, text: &str, name: &str) -> anyhow::Result<String> {
+    let mut input = String::from_str(alloc, text)?;
+    if let Some(rest) = name.strip_prefix("spaces ") {
+        let (count, _) = rest.split_once(' ').context(BAD_HEAD)?;
+        let count: u64 = count.parse().ok().context(BAD_HEAD)?;
+        for _ in 0..count {
+            input.push_str(" ")?;
+        }
+    }
+    Ok(input)
+}
+
 impl<'a> Conversation<'a> {
-    /// Its first line holds the bootstrap secret, the step of the draws, `driven` where a worker is driven, and a name. All that
-    /// follows is the input.
+    /// Its first line holds the bootstrap secret, the step of the draws, and a name, before which stands `driven` where a worker
+    /// is driven, or `spaces` with a number where so many spaces follow. All behind that line is the input, and then these spaces.
     pub fn read(alloc: Global, text: &'a str) -> anyhow::Result<Conversation<'a>> {
         let (head, input) = text.split_once('\n').context(BAD_HEAD)?;
         let (secret, rest) = head.split_once(' ').context(BAD_HEAD)?;
         let (step, name) = rest.split_once(' ').context(BAD_HEAD)?;
+        let input = spaced(alloc, input, name)?;
         Ok(Conversation {
             head,
             bootstrap: Secret::read(alloc, secret)?.context(BAD_HEAD)?,
