@@ -1,0 +1,108 @@
+//! Laws of steps, one for each kind: of a namespace that shares no pool and no quota, in a state that has what isolation
+//! rests on, and of a state of the server that holds it alone.
+
+ghost use Rattle.ns_isolation.specs.Kinds.{
+  OtherAdmin,
+  OtherApply,
+  OtherAsk,
+  OtherDequeue,
+  OtherFinish,
+  OtherNack,
+  OtherNode,
+  OtherSnap,
+  OtherSubmit,
+  OwnApply,
+  OwnAsk,
+  OwnDequeue,
+  OwnFinish,
+  OwnNack,
+  OwnNode,
+  OwnSnap,
+  OwnSubmit,
+};
+
+/// What is asked in the namespace with a right there is answered alike by the server that holds it alone, index included, and
+/// the states agree again.
+pub fn own_ask()
+    ensures { OwnAsk }
+{}
+
+/// What is asked of a pool of it, and is no report of another's allocation, is answered alike, and the states agree again.
+pub fn own_node()
+    ensures { OwnNode }
+{}
+
+/// A worker that takes an evaluation of it is answered alike, and the states agree again.
+pub fn own_dequeue()
+    ensures { OwnDequeue }
+{}
+
+/// A worker that looks for it is answered alike and keeps the same snapshot, and the states agree again.
+pub fn own_snap()
+    ensures { OwnSnap }
+{}
+
+/// A worker that hands in a plan for it is answered alike, and the states agree again.
+pub fn own_submit()
+    ensures { OwnSubmit }
+{}
+
+/// A plan for it is applied alike, with the same allocations made and the same nodes dropped, and the states agree again.
+pub fn own_apply()
+    ensures { OwnApply }
+{}
+
+/// A worker that finishes an evaluation of it is answered alike, with the same follower, and the states agree again.
+pub fn own_finish()
+    ensures { OwnFinish }
+{}
+
+/// A worker that gives an evaluation of it back is answered alike, and the states agree again.
+pub fn own_nack()
+    ensures { OwnNack }
+{}
+
+/// What is asked in another namespace, or with no right in it, changes nothing that it has.
+pub fn other_ask()
+    ensures { OtherAsk }
+{}
+
+/// What an administrator asks that leaves its tables alone changes nothing that it has.
+pub fn other_admin()
+    ensures { OtherAdmin }
+{}
+
+/// What is asked of a pool that is not one of it, or reports another's allocation, changes nothing that it has.
+pub fn other_node()
+    ensures { OtherNode }
+{}
+
+/// A worker that takes another namespace's evaluation changes nothing that it has.
+pub fn other_dequeue()
+    ensures { OtherDequeue }
+{}
+
+/// A worker that looks for another namespace changes nothing that it has.
+pub fn other_snap()
+    ensures { OtherSnap }
+{}
+
+/// A worker that hands in a plan for another namespace changes nothing that it has.
+pub fn other_submit()
+    ensures { OtherSubmit }
+{}
+
+/// A plan for another namespace that is applied changes nothing that it has, whatever it evicts.
+pub fn other_apply()
+    ensures { OtherApply }
+{}
+
+/// A worker that finishes another namespace's evaluation changes nothing that it has.
+pub fn other_finish()
+    ensures { OtherFinish }
+{}
+
+/// A worker that gives another namespace's evaluation back changes nothing that it has.
+pub fn other_nack()
+    ensures { OtherNack }
+{}
