@@ -6,12 +6,12 @@ use Rattle.ns_types.specs.declared.step.AskCommand.{AskCommand}
 use Rattle.ns_types.specs.declared.step.NodeCommand.{NodeCommand}
 use Rattle.ns_types.specs.declared.step.Step.{Step}
 use Rattle.ns_types.specs.Access.Rights.{rights_of, has_any}
-use Rattle.ns_types.specs.Isolation.{has_pool, concerns, is_own, Keeps}
+use Rattle.ns_types.specs.Isolation.{has_pool, concerns, is_own, Keeps, alone}
 use Rattle.ns_types.specs.State.Names.{Name, same_name}
 use Rattle.ns_types.specs.State.Rows.{State}
 use Rattle.ns_types.proofs.Named.{same_name_is, same_name_refl}
-use Rattle.ns_audit.proofs.Alone.Heading.{own_step, other_step}
-use Rattle.ns_isolation.specs.Kinds.{IsBeside, GoesAlike, LeavesIt, ReportsIts, ReportsAnother, OwnAsk, OtherAsk, OtherAdmin, OwnNode, OtherNode}
+use Rattle.ns_audit.proofs.Alone.Heading.{from_part, own_step, other_step}
+use Rattle.ns_isolation.specs.Kinds.{AloneIsBeside, IsBeside, GoesAlike, LeavesIt, ReportsIts, ReportsAnother, OwnAsk, OtherAsk, OtherAdmin, OwnNode, OtherNode}
 use Rattle.ns_isolation.specs.Kinds.{OwnDequeue, OtherDequeue, OwnSnap, OtherSnap, OwnSubmit, OtherSubmit, OwnApply, OtherApply, OwnFinish, OtherFinish}
 use Rattle.ns_isolation.specs.Kinds.{OwnNack, OtherNack}
 
@@ -60,6 +60,21 @@ module _ (ns : Name) (s0 : State) (secret : Option Name) where
       and-false (has_pool s0.world ns pool)
 
 -- ---- the laws
+
+pub alone_is_beside : AloneIsBeside
+unfolding alone
+alone_is_beside ns s steady unshared = record {
+  steady = steady;
+  unshared = unshared;
+  tables = record {
+    namespace = refl;
+    quota = λ quota own. refl;
+    pool = λ pool own. refl;
+    rights = λ secret. refl;
+    pool_rights = λ secret pool own. refl;
+  };
+  agree = from_part ns s (alone ns s) (record { world = refl; rights = record { spaces = λ secret k own. refl; pools = λ secret pool own. refl } });
+}
 
 module _ (ns : Name) (s0 s t : State) (b : IsBeside ns s0 s t) (step : Step) where
   alike : is_own ns s0 step ≡ true → GoesAlike ns s t step

@@ -1,1 +1,3 @@
 pub mod Beside
+pub mod Held
+pub mod Unshared

@@ -8,7 +8,7 @@ use Rattle.ns_types.specs.declared.step.Report.{Report}
 use Rattle.ns_types.specs.declared.step.Step.{Step}
 use Rattle.ns_types.specs.Access.Rights.{rights_of, has_any}
 use Rattle.ns_types.specs.Access.Sharing.{is_unshared}
-use Rattle.ns_types.specs.Isolation.{has_pool, Agree, SameTables}
+use Rattle.ns_types.specs.Isolation.{has_pool, Agree, SameTables, alone}
 use Rattle.ns_types.specs.State.Names.{Name}
 use Rattle.ns_types.specs.State.Rows.{State}
 use Rattle.ns_types.specs.Steps.{Answer, said, after}
@@ -16,8 +16,8 @@ use Rattle.ns_audit.specs.Orderly.{IsSteady}
 
 -- ---- what all of them rest on, and what they say
 
--- in s, whose state has what isolation rests on, the namespace shares nothing, and its tables are those of the first
--- state s0; t holds exactly what it has in s
+-- s has what isolation rests on, the namespace is unshared there, and its tables and the rights on them are those of
+-- the first state s0; t holds exactly what it has in s
 pub record IsBeside (ns : Name) (s0 s t : State) : Type 0 where
   pub steady : IsSteady s
   pub unshared : is_unshared s.world ns ≡ true
@@ -32,6 +32,10 @@ GoesAlike ns s t step = (s' : State) (answer : Answer) → after step s ≡ said
 -- t holds what the namespace has after the step, too
 abbrev pub LeavesIt : Name → State → State → Step → Type 0
 LeavesIt ns s t step = (s' : State) (answer : Answer) → after step s ≡ said answer s' → Agree ns s' t
+
+-- of each such state the server that holds the namespace alone has exactly that
+abbrev pub AloneIsBeside : Type 0
+AloneIsBeside = (ns : Name) (s : State) → IsSteady s → is_unshared s.world ns ≡ true → IsBeside ns s s (alone ns s)
 
 -- ---- what is asked in a namespace
 

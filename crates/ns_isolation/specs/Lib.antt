@@ -1,1 +1,2 @@
 pub mod Kinds
+pub mod Staying

@@ -2,6 +2,7 @@
 //! rests on, and of a state of the server that holds it alone.
 
 ghost use Rattle.ns_isolation.specs.Kinds.{
+  AloneIsBeside,
   OtherAdmin,
   OtherApply,
   OtherAsk,
@@ -20,6 +21,12 @@ ghost use Rattle.ns_isolation.specs.Kinds.{
   OwnSnap,
   OwnSubmit,
 };
+
+/// What all these laws rest on is so at first: a state that has what isolation rests on, where the namespace is unshared, and
+/// the state of the server that holds it alone.
+pub fn alone_is_beside()
+    ensures { AloneIsBeside }
+{}
 
 /// What is asked in the namespace with a right there is answered alike by the server that holds it alone, index included, and
 /// the states agree again.
