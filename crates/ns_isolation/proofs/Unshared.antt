@@ -19,8 +19,8 @@ use Rattle.ns_types.proofs.Tables.{any_row-none}
 use Rattle.ns_audit.specs.Orderly.{IsOrderlyTenant, IsOrderly}
 use Rattle.ns_audit.proofs.Alone.Heading.{reaches}
 use Rattle.ns_audit.proofs.Alone.Owning.{fit_of, pools_are}
-use Rattle.ns_audit.proofs.Alone.Running.{steady_step}
-use Rattle.ns_isolation.specs.Staying.{UnsharedStep, SharesNothing, StaysUnshared}
+use Rattle.ns_audit.proofs.Alone.Running.{steady_step, struck_run, valid_is_steady}
+use Rattle.ns_isolation.specs.Staying.{UnsharedStep, SharesNothing, StaysUnshared, StruckFromUnshared}
 use Rattle.ns_isolation.proofs.Held.Rows.{Holds}
 use Rattle.ns_isolation.proofs.Held.Steps.{after_holds}
 
@@ -101,3 +101,7 @@ stays_unshared ns s s1 (step ∷ steps) (answer ∷ answers) steady unshared run
       run.3,
       stays_unshared ns run.0 s1 steps answers (steady_step s run.0 step answer steady run.2) next run.4,
     )
+
+pub struck_from_unshared : StruckFromUnshared
+struck_from_unshared ns s0 s1 steps answers valid unshared run =
+    struck_run ns s0 s1 steps answers valid (stays_unshared ns s0 s1 steps answers (valid_is_steady s0 valid) unshared run)

@@ -3,10 +3,11 @@ use Rattle.std.specs.Prelude.{◌≡◌, true, false, List, [], ◌∷◌, Some}
 use Rattle.ns_types.specs.declared.allocation.Allocation.{Allocation}
 use Rattle.ns_types.specs.declared.step.Step.{Step}
 use Rattle.ns_types.specs.Access.Sharing.{shares, is_unshared}
-use Rattle.ns_types.specs.Isolation.{Keeps, IsIsolated}
+use Rattle.ns_types.specs.Isolation.{Agree, Keeps, IsIsolated, alone, struck, struck_answers}
 use Rattle.ns_types.specs.State.Names.{Name, Key}
 use Rattle.ns_types.specs.State.Rows.{State, World, is_held, is_live, allocation_at}
-use Rattle.ns_types.specs.Steps.{Answer, said, after}
+use Rattle.ns_types.specs.Steps.{Answer, said, after, Run}
+use Rattle.ns_types.specs.Validity.{IsValid}
 use Rattle.ns_audit.specs.Orderly.{IsSteady}
 
 -- an allocation that its client has not ended
@@ -37,3 +38,10 @@ SharesNothing ns s (step ∷ steps) [] s' = ⊥
 abbrev pub StaysUnshared : Type 0
 StaysUnshared = (ns : Name) (s0 s1 : State) (steps : List Step) (answers : List Answer) → IsSteady s0 →
     is_unshared s0.world ns ≡ true → SharesNothing ns s0 steps answers s1 → IsIsolated ns s0 steps answers s1
+
+-- So the headline holds where the namespace keeps nothing elsewhere at first, shares nothing at any state and administrators
+-- leave its tables alone: the steps that are not its own can be struck out.
+abbrev pub StruckFromUnshared : Type 0
+StruckFromUnshared = (ns : Name) (s0 s1 : State) (steps : List Step) (answers : List Answer) → IsValid s0 →
+    is_unshared s0.world ns ≡ true → SharesNothing ns s0 steps answers s1
+    → (t1 : State) × Run (alone ns s0) (struck ns s0 steps) (struck_answers ns s0 steps answers) t1 × Agree ns s1 t1
