@@ -1,0 +1,3 @@
+pub mod LawLemmas
+pub mod Marking
+pub mod Seating

@@ -1,0 +1,4 @@
+pub mod Faults
+pub mod Laws
+pub mod Marks
+pub mod Settling

@@ -1,0 +1,11 @@
+//! What callers were answered, settled against a log: each entry was answered to one of them, and nothing else was.
+#![tactic(auto)]
+
+mod agreement;
+mod fault;
+pub mod laws;
+mod receipt;
+
+pub use agreement::settle;
+pub use fault::SettleFault;
+pub use receipt::Receipt;
