@@ -39,7 +39,7 @@ fn evaluation_strays(slot: &EvaluationSlot, namespace: &Namespace) -> bool
     ensures { result ≡ at_slot (evaluation_strays namespace.now) slot.now }
 {
     match &slot.1 {
-        Some(evaluation) => { is_open(evaluation.status) && !permits(namespace, &evaluation.pool) }
+        Some(evaluation) => is_open(evaluation.status) && !permits(namespace, &evaluation.pool),
         None => false,
     }
 }
