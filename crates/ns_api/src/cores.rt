@@ -18,14 +18,7 @@ impl Takes for Core {
     ghost state = { λ core. core };
 
     fn take(&mut self, step: &Step) -> Result<Reply, Refusal> {
-        match step {
-            Step::Ask(namespace, secret, command) => {
-                self.ask(namespace, secret.as_ref(), command)
-            }
-            Step::Admin(secret, command) => self.admin(secret.as_ref(), command),
-            Step::Node(pool, secret, command) => self.node(pool, secret.as_ref(), command),
-            _ => unreachable!(),
-        }
+        self.take(step)
     }
 }
 

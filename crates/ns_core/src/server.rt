@@ -2,15 +2,20 @@
 
 ghost use Rattle.std.specs.Prelude.{◌≡◌, IfOk, Some, option_copied, option_map};
 ghost use Rattle.ns_types.specs.declared.step.Step.TheVariants as Step;
+ghost use Rattle.ns_types.specs.Access.Rights.{pool_rights_of, rights_of};
+ghost use Rattle.ns_types.specs.Access.Sharing.{is_unshared, shares};
+ghost use Rattle.ns_types.specs.Isolation.{has_pool};
 ghost use Rattle.ns_types.specs.Steps.{Makes, opening};
 ghost use Rattle.ns_types.specs.Validity.{IsValid};
 ghost use Rattle.ns_types.specs.Working.Looks.{first_plan, row_of, served_ready, worker_at};
 ghost use Rattle.ns_broker.specs.Looking.{busy_of, busy_told};
 ghost use Rattle.ns_broker.specs.Snapping.{kept_at};
 ghost use Rattle.ns_drive.specs.Calls.{FinishesBy, HandsIn, snapped};
+ghost use Rattle.ns_steps.specs.Served.{IsServed};
 
 use crate::parts::Parts;
 use ns_broker::Busy;
+use ns_types::acl::{PoolRights, Rights};
 use ns_types::good::{GoodAdmin, GoodAsk, GoodTelling};
 use ns_types::key::EvalKey;
 use ns_types::name::Secret;
@@ -19,6 +24,7 @@ use ns_types::refusal::Refusal;
 use ns_types::reply::Reply;
 use ns_types::shared::Shared;
 use ns_types::snapshot::Snapshot;
+use ns_types::step::Step;
 use ns_types::text::Text;
 use ns_types::worker::Worker;
 use std::alloc::{AllocError, Global};
@@ -91,6 +97,21 @@ impl Core {
     {
         let parts = &mut self.parts;
         parts.node(pool, secret, command.get())
+    }
+
+    /// Makes the step that a request asks for.
+    pub fn take(&mut self, step: &Step) -> Result<Reply, Refusal>
+        requires { IsServed step.now }
+        ensures { Makes step.now self.old result self.new }
+    {
+        match step {
+            Step::Ask(namespace, secret, command) => {
+                self.ask(namespace, secret.as_ref(), command)
+            }
+            Step::Admin(secret, command) => self.admin(secret.as_ref(), command),
+            Step::Node(pool, secret, command) => self.node(pool, secret.as_ref(), command),
+            _ => unreachable!(),
+        }
     }
 
     /// Makes the step in which a worker takes the evaluation of that number in the namespace, which is served next. The
@@ -197,6 +218,42 @@ impl Core {
         ensures { option_copied result ≡ worker_at self.now.world worker namespace.now }
     {
         ns_broker::worker_at(&self.parts.tables, worker, namespace)
+    }
+
+    /// What the secret may do in the namespace.
+    pub fn rights(&self, secret: Option<&Text>, namespace: &Text) -> Rights
+        ensures { result ≡ rights_of self.now.acl (option_copied secret.entry) namespace.now }
+    {
+        self.parts.acl.rights(secret, namespace)
+    }
+
+    /// What the secret may do with the pool and its nodes.
+    pub fn pool_rights(&self, secret: Option<&Text>, pool: &Text) -> PoolRights
+        ensures { result ≡ pool_rights_of self.now.acl (option_copied secret.entry) pool.now }
+    {
+        self.parts.acl.pool_rights(secret, pool)
+    }
+
+    /// Whether the namespace is there and may use the pool, which need not exist.
+    pub fn permits(&self, namespace: &Text, pool: &Text) -> bool
+        ensures { result ≡ has_pool self.now.world namespace.now pool.now }
+    {
+        ns_sharing::permits(&self.parts.tables, namespace, pool)
+    }
+
+    /// Whether another namespace may use a pool of the namespace, or has its quota. One that is not confined to a list of
+    /// pools, or that is not there, keeps nothing to itself.
+    pub fn shares(&self, namespace: &Text) -> bool
+        ensures { result ≡ shares self.now.world namespace.now }
+    {
+        ns_admin::shares(&self.parts.tables, namespace)
+    }
+
+    /// Whether the namespace has its pools and its quota to itself, and nothing in a pool that it may not use.
+    pub fn unshared(&self, namespace: &Text) -> bool
+        ensures { result ≡ is_unshared self.now.world namespace.now }
+    {
+        ns_sharing::unshared(&self.parts.tables, namespace)
     }
 
     /// Says that the state is valid, as that of every core is. It does nothing.
