@@ -1,3 +1,3 @@
 mod Answered
 mod Planning
-mod Runs
+pub mod Runs

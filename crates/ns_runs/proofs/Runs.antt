@@ -11,7 +11,7 @@ use Rattle.ns_types.proofs.Lists.{not_both}
 use Rattle.ns_runs.specs.Making.{MakesAny}
 use Rattle.ns_runs.specs.Running.{Ends, RunsOver, is_no_step}
 
-run_then : (s mid s' : State) (steps : List Step) (answers : List Answer) (step : Step) (answer : Answer) → Run s steps answers mid →
+pub run_then : (s mid s' : State) (steps : List Step) (answers : List Answer) (step : Step) (answer : Answer) → Run s steps answers mid →
     after step mid ≡ said answer s' → Run s (steps ++ step ∷ []) (answers ++ answer ∷ []) s'
 run_then s mid s' [] [] step answer is made = (s', ap (after step) (sym is) ∙ made, refl)
 run_then s mid s' (first ∷ steps) (told ∷ answers) step answer run made =
