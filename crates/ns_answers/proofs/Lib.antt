@@ -1,0 +1,5 @@
+pub mod Writing
+pub mod Brief
+pub mod Summing
+pub mod Applying
+pub mod Made

@@ -1,0 +1,11 @@
+//! The answers of all steps as bytes, and room for them that is taken before a step.
+#![tactic(auto)]
+
+mod body;
+pub mod laws;
+mod rendering;
+mod room;
+mod sizes;
+
+pub use rendering::{refused, render};
+pub use room::Room;

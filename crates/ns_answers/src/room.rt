@@ -1,0 +1,110 @@
+//! Room for the answer of a step, which is taken before the step.
+
+ghost use Rattle.std.specs.Prelude.{◌≡◌, IfOk, Ok, option_copied, option_map, string_bytes};
+ghost use Rattle.ns_types.specs.Wire.Refused.{refused};
+ghost use Rattle.ns_json.specs.Replies.{rendered};
+ghost use Rattle.ns_answers.specs.Rooms.{HasRoom, room_of, token_body};
+
+use crate::body::body_text;
+use crate::rendering::done;
+use crate::sizes::step_bytes;
+use ns_replies::shown::text_of;
+use ns_types::refusal::Refusal;
+use ns_types::reply::{Content, Rendered, Reply};
+use ns_types::step::{AdminCommand, Step};
+use ns_types::text::Text;
+use ns_types::worker::Worker;
+use std::alloc::{AllocError, Global};
+use std::marker::Model;
+
+/// Room for the answer of a step, which is taken before the step. Contracts see how many bytes a body or the text of a refusal
+/// may have, and the body that is to answer a new token.
+#[derive(Debug, Drop)]
+pub struct Room {
+    text: String,
+    token: Option<String>,
+}
+
+impl Model for Room {
+    ghost use Rattle.std.specs.Prelude.{◌≡◌, ◌≤◌, [], option_map};
+    ghost use Rattle.std.specs.String.{string_bytes, string_capacity};
+    ghost use Rattle.ns_answers.specs.Rooms as Rooms;
+
+    ghost Value = { Rooms.Room };
+
+    ghost view = { λ room. record {
+      bytes = string_capacity room.text;
+      token = option_map string_bytes room.token;
+    } };
+
+    ghost invariant = { λ room. (string_bytes room.text ≡ [])
+        × (Rooms.refusal_bytes ≤ string_capacity room.text) };
+}
+
+/// The body that is to answer the step, if it makes a token.
+#[tactic(auto, unfolding(ns_json::specs::Replies::body_of))]
+fn token_body(alloc: Global, step: &Step) -> Result<Option<String>, AllocError>
+    ensures { IfOk result (λ body. option_map string_bytes body ≡ token_body step.now) }
+{
+    let Step::Admin(_, command) = step else {
+        return Ok(None);
+    };
+    match command.get() {
+        AdminCommand::CreateToken(new) => {
+            let mut body = text_of(alloc, new)?;
+            body.shrink_to_fit();
+            Ok(Some(body))
+        }
+        _ => Ok(None),
+    }
+}
+
+impl Room {
+    /// Room for the answer of the step. Of a worker's step the row is the worker's as it is before.
+    pub fn for_step(alloc: Global, step: &Step, row: Option<&Worker>) -> Result<Room, AllocError>
+        ensures { IfOk result (λ room. room ≡ room_of step.now (option_copied row.entry)) }
+    {
+        let Some(bytes) = step_bytes(step, row) else {
+            return Err(AllocError);
+        };
+        let token = token_body(alloc, step)?;
+        let text = String::with_capacity(alloc, bytes)?;
+        Ok(Room { text, token })
+    }
+
+    /// What the step was answered. It takes no memory.
+    #[tactic(auto, unfolding(ns_json::specs::Replies::rendered))]
+    pub fn render(self, reply: &Reply) -> Rendered
+        requires { HasRoom self reply.now.content }
+        ensures { result ≡ rendered (Ok reply.now) }
+    {
+        let Room { text, token } = self;
+        match &reply.content {
+            Content::Token(_) => {
+                let Some(body) = token else { unreachable!() };
+                done(reply.index, body)
+            }
+            content => {
+                let Ok(body) = body_text(text.into_bytes(), content) else {
+                    unreachable!()
+                };
+                done(reply.index, body)
+            }
+        }
+    }
+
+    /// What the step was answered where it was refused. It takes no memory.
+    pub fn refuse(self, refusal: Refusal) -> Rendered
+        ensures { result ≡ refused refusal }
+    {
+        let Room { mut text, token } = self;
+        drop(token);
+        let pushed = text.push_str(refusal.text());
+        prove!(pushed.is_ok());
+        Rendered {
+            status: refusal.status(),
+            index: None,
+            body: Text::from_string(text),
+        }
+    }
+}
