@@ -44,8 +44,8 @@ module _ (kept : Snapshot) where
   unfolding decide
   one_dropped ps c k = by _ _ _ refl refl
     where
-      by : (b : Bool) (x y : Commit) → x.dropped ≡ c.dropped → y.dropped ≡ c.dropped ++ k ∷ [] → sum_by node_bytes (cond b x y).dropped ≤ sum_by node_bytes c.dropped
-          + node_bytes k
+      by : (b : Bool) (x y : Commit) → x.dropped ≡ c.dropped → y.dropped ≡ c.dropped ++ k ∷ [] →
+          sum_by node_bytes (cond b x y).dropped ≤ sum_by node_bytes c.dropped + node_bytes k
       by true x y p q = omega (arith, ap (sum_by node_bytes) p)
       by false x y p q = omega (arith, ap (sum_by node_bytes) q, sum_by_push node_bytes c.dropped k)
 

@@ -25,8 +25,9 @@ use Rattle.ns_types.specs.Steps.{Answer, act, after, concluded, is_allowed, is_p
 use Rattle.ns_types.specs.Working.Commit.{applied, apply, apply_for, commit}
 use Rattle.ns_types.specs.Working.Looks.{worker_at}
 use Rattle.ns_types.specs.Working.Queue.{is_served}
-use Rattle.ns_types.specs.Working.Work.{at_work, dequeue, dequeue_in, finish, finish_for, finished, is_idle, is_submitted, may_finish, may_snap, may_submit, nack}
-use Rattle.ns_types.specs.Working.Work.{nack_for, needs_follower, planned_of, snap, snap_for, submit, submit_for, submitted, taken, workers_end}
+use Rattle.ns_types.specs.Working.Work.{at_work, dequeue, dequeue_in, finish, finish_for, finished, is_idle, is_submitted, may_finish, may_snap}
+use Rattle.ns_types.specs.Working.Work.{may_submit, nack, nack_for, needs_follower, planned_of, snap, snap_for, submit, submit_for}
+use Rattle.ns_types.specs.Working.Work.{submitted, taken, workers_end}
 use Rattle.ns_types.specs.Working.Worker.{Worker}
 use Rattle.ns_types.proofs.Lists.{not_both}
 use Rattle.ns_types.proofs.Tests.{same_Some}
@@ -53,8 +54,8 @@ fits_written : (room : Room) (content : Content) → nothing_bytes ≤ room.byte
 fits_written room Content.Written fits h = fits
 fits_written room _ fits h = absurd h
 
-fits_token : (room : Room) (content : Content) (new : NewToken) → room.token ≡ Some (body_of (Content.Token (made_token new))) → Holds (Shape.TokenOf new) content →
-    HasRoom room content
+fits_token : (room : Room) (content : Content) (new : NewToken) → room.token ≡ Some (body_of (Content.Token (made_token new))) →
+    Holds (Shape.TokenOf new) content → HasRoom room content
 fits_token room content new is h = subst (HasRoom room) (sym h) is
 
 abbrev IsTold : Option Shape → Content → Type 0
@@ -63,7 +64,8 @@ IsTold shape content = IsSomeAnd shape (λ s. Holds s content)
 abbrev IsWrite : Option Shape → Type 0
 IsWrite shape = option_map_or is_of_write shape true ≡ true
 
-asked_fits : (ns : Name) (secret : Option Name) (command : AskCommand) (content : Content) → IsWrite (served_ask command) → IsTold (served_ask command) content →
+asked_fits : (ns : Name) (secret : Option Name) (command : AskCommand) (content : Content) → IsWrite (served_ask command) →
+    IsTold (served_ask command) content →
     HasRoom (room_of (Step.Ask ns secret command) None) content
 asked_fits ns secret (AskCommand.Register r) content write h = fits_registered _ content (omega arith) h
 asked_fits ns secret (AskCommand.Deregister id purge) content write h = fits_registered _ content (omega arith) h
@@ -87,7 +89,8 @@ is_served_admin (AdminCommand.DeletePolicy name) = refl
 is_served_admin (AdminCommand.CreateToken new) = refl
 is_served_admin (AdminCommand.DeleteToken accessor) = refl
 
-administered_fits : (secret : Option Name) (command : AdminCommand) (content : Content) → IsWrite (served_admin command) → IsTold (served_admin command) content →
+administered_fits : (secret : Option Name) (command : AdminCommand) (content : Content) → IsWrite (served_admin command) →
+    IsTold (served_admin command) content →
     HasRoom (room_of (Step.Admin secret command) None) content
 administered_fits secret (AdminCommand.PutNamespace name namespace) content write h = fits_written _ content (omega arith) h
 administered_fits secret (AdminCommand.DeleteNamespace name) content write h = fits_written _ content (omega arith) h
@@ -101,7 +104,8 @@ administered_fits secret (AdminCommand.CreateToken new) content write h = fits_t
 administered_fits secret (AdminCommand.DeleteToken accessor) content write h = fits_written _ content (omega arith) h
 administered_fits secret _ content write h = not_both write refl
 
-told_fits : (pool : Name) (secret : Option Name) (command : NodeCommand) (content : Content) → IsWrite (served_node command) → IsTold (served_node command) content →
+told_fits : (pool : Name) (secret : Option Name) (command : NodeCommand) (content : Content) → IsWrite (served_node command) →
+    IsTold (served_node command) content →
     HasRoom (room_of (Step.Node pool secret command) None) content
 told_fits pool secret NodeCommand.ReadPool content write h = not_both write refl
 told_fits pool secret NodeCommand.ListNodes content write h = not_both write refl
@@ -145,7 +149,8 @@ module _ (P : Content → Type 0) where
   says_at_work number ns w f h = says_or (get w.tenants ns) _ (λ t is. says_or (get t.workers number) _ (λ worker has. says_or
       (get t.evaluations worker.evaluation) _ (λ e _. h t worker e (ap (option_and_then (λ x. get x.workers number)) is ∙ has))))
 
-  says_concluded : (step : Step) (s : State) (o : Outcome State) (reply : Reply) (s' : State) → Says P o → concluded step s o ≡ said (Ok reply) s' → P reply.content
+  says_concluded : (step : Step) (s : State) (o : Outcome State) (reply : Reply) (s' : State) → Says P o → concluded step s o ≡ said (Ok reply) s' →
+      P reply.content
   says_concluded step s NotEnabled reply s' h e = not_both refl (sym (ap is_some e))
   says_concluded step s (Refused refusal) reply s' h e = not_both refl (ap (λ x. is_ok x.0) (sym (same_Some _ _ e)))
   says_concluded step s (Done content x) reply s' h e = by (is_past_bound (settle s.world x.world)) e

@@ -49,7 +49,8 @@ module _ (f : Name → ℕ) where
   sum_put k v [] = omega (arith, sum_by-cons of_key (k, v) [])
   sum_put k v (e ∷ es) = by (name_cmp k e.0) (sum_put k v es)
     where
-      by : (o : Ordering) → sum_by of_key (put name_cmp k v es) ≤ f k + sum_by of_key es → sum_by of_key (by_order o ((k, v) ∷ e ∷ es) ((e.0, v) ∷ es) (e ∷ put name_cmp k v es)) ≤ f k + sum_by of_key (e ∷ es)
+      by : (o : Ordering) → sum_by of_key (put name_cmp k v es) ≤ f k + sum_by of_key es →
+          sum_by of_key (by_order o ((k, v) ∷ e ∷ es) ((e.0, v) ∷ es) (e ∷ put name_cmp k v es)) ≤ f k + sum_by of_key (e ∷ es)
       by Ordering.Less rest = omega (arith, sum_by-cons of_key (k, v) (e ∷ es))
       by Ordering.Equal rest = omega (arith, sum_by-cons of_key (e.0, v) es, sum_by-cons of_key e es)
       by Ordering.Greater rest = omega (arith, sum_by-cons of_key e (put name_cmp k v es), sum_by-cons of_key e es, rest)

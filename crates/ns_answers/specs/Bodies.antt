@@ -1,6 +1,6 @@
 -- The bodies of answers that show no rows, and the bytes in which they are written.
-use Rattle.std.specs.Prelude.{ℕ, ◌+◌, ◌*◌, ◌<◌, List, [], ◌∷◌, Option, Some, None, IsSome, IsSomeAnd, Result, OnOk, OnErr}
-use Rattle.std.specs.Prelude.{codes, flat_map, length, sum_by}
+use Rattle.std.specs.Prelude.{ℕ, ◌+◌, ◌*◌, ◌<◌, List, [], ◌∷◌, Option, Some, None, IsSome, IsSomeAnd, Result}
+use Rattle.std.specs.Prelude.{OnOk, OnErr, codes, flat_map, length, sum_by}
 use Rattle.json.specs.Print.{quoted}
 use Rattle.json.specs.Token.{Token}
 use Rattle.json.specs.Written.{Written}
@@ -86,7 +86,8 @@ abbrev pub IsBrief : Content → Type 0
 IsBrief content = IsSome (body_bytes content)
 
 -- The tokens come after those before. It fails only where there was less room than so many bytes.
-pub record WritesIn {E : Type 0} (bytes : ℕ) (r : Result (Unit {0}) E) (old new : Written) (ts : List Token) : Type 0 where
+pub record WritesIn {E : Type 0} (bytes : ℕ) (r : Result (Unit {0}) E) (old new : Written)
+    (ts : List Token) : Type 0 where
   pub follows : OnOk r (Follows old new ts)
   pub room : OnErr r (old.spare < bytes)
 

@@ -27,5 +27,5 @@ row_of _ w = None
 
 -- the room of a step that may change something is enough for the body of its reply
 abbrev pub MadeHasRoom : Type 0
-MadeHasRoom = (step : Step) (s s' : State) (reply : Reply) → may_change step ≡ true → after step s ≡ said (Ok reply) s' →
-    HasRoom (room_of step (row_of step s.world)) reply.content
+MadeHasRoom = (step : Step) (s s' : State) (reply : Reply) → may_change step ≡ true →
+    after step s ≡ said (Ok reply) s' → HasRoom (room_of step (row_of step s.world)) reply.content

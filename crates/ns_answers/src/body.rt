@@ -232,8 +232,8 @@ fn write_body(out: &mut Writer, content: &Content) -> Result<(), AllocError>
     }
 }
 
-/// The body of a content that shows no rows, in a buffer that has nothing in it. It fails only where the buffer is too small
-/// and no memory is left.
+/// The body of a content that shows no rows, in a buffer that holds nothing. It takes memory only where the buffer
+/// is too small.
 pub(crate) fn body_text(bytes: Vec<u8>, content: &Content) -> Result<String, AllocError>
     requires brief { IsBrief content.now }
     requires empty { bytes.items ≡ [] }

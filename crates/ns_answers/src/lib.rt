@@ -2,10 +2,12 @@
 #![tactic(auto)]
 
 mod body;
+mod changing;
 pub mod laws;
 mod rendering;
 mod room;
 mod sizes;
 
+pub use changing::may_change;
 pub use rendering::{refused, render};
 pub use room::Room;

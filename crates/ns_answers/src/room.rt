@@ -17,8 +17,8 @@ use ns_types::worker::Worker;
 use std::alloc::{AllocError, Global};
 use std::marker::Model;
 
-/// Room for the answer of a step, which is taken before the step. Contracts see how many bytes a body or the text of a refusal
-/// may have, and the body that is to answer a new token.
+/// Room for the answer of a step, which is taken before the step. Contracts see in how many bytes a body or the text
+/// of a refusal may be written, and the body that is to answer a new token.
 #[derive(Debug, Drop)]
 pub struct Room {
     text: String,
@@ -60,7 +60,7 @@ fn token_body(alloc: Global, step: &Step) -> Result<Option<String>, AllocError>
 }
 
 impl Room {
-    /// Room for the answer of the step. Of a worker's step the row is the worker's as it is before.
+    /// Room for the answer of the step. The row is the worker's before the step, if it is a worker's step.
     pub fn for_step(alloc: Global, step: &Step, row: Option<&Worker>) -> Result<Room, AllocError>
         ensures { IfOk result (λ room. room ≡ room_of step.now (option_copied row.entry)) }
     {
