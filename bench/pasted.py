@@ -24,7 +24,7 @@ sys.dont_write_bytecode = True
 
 from conversations import TOP, conversations, reply, request, stored
 
-PAGES = ["README.md", "docs/API.md", "docs/MODEL.md"]
+PAGES = ["README.md", "docs/API.md", "docs/ISOLATION.md", "docs/MODEL.md"]
 KEEPER = '#!/bin/sh\nprintf "%s\\n" "$*" >> "$KEPT/words"\ncat > "$KEPT/$(wc -l < "$KEPT/words")"\n'
 NOT_REACHED = {"full", "out of memory"}
 DRAWN = re.compile(r"[0-9a-f]{8}-[0-9a-f]{4}-4[0-9a-f]{3}-[89ab][0-9a-f]{3}-[0-9a-f]{12}")
