@@ -1,12 +1,11 @@
 ghost use Rattle.std.specs.Prelude.{◌≡◌, IsTrue, is_some, Some};
 ghost use Rattle.std.specs.FinMap.{insert};
-ghost use Rattle.keyed.specs.Table.{row_at};
+ghost use Rattle.keyed.specs.Table.{row_at, with_slot};
 
-use crate::owned::holds;
+use crate::made::text;
 use keyed::{NameTable, NumberTable};
 use ns_types::text::Text;
-use std::alloc::{AllocError, Global};
-use std::test::Fail;
+use std::process::Abort;
 
 /// Whether the first key has a row and the second one a slot, and nothing else is there.
 fn has_first(table: &NameTable<u64>, web: &Text, api: &Text) -> bool {
@@ -16,42 +15,44 @@ fn has_first(table: &NameTable<u64>, web: &Text, api: &Text) -> bool {
         && table.as_slice().len() == 2
 }
 
+fn reserve_name(rt: &impl Abort, table: &mut NameTable<u64>, name: &Text)
+    ensures { table.new ≡ with_slot table.old name.now }
+{
+    table.reserve(name).expect(rt, "memory");
+}
+
 /// Whether the rows are those that were written last.
-fn writes_names(table: &mut NameTable<u64>, web: &Text, api: &Text) -> Result<bool, AllocError> {
-    table.reserve(web)?;
+fn writes_names(rt: &impl Abort, table: &mut NameTable<u64>, web: &Text, api: &Text) -> bool {
+    reserve_name(rt, table, web);
     table.set(web, 7);
-    table.reserve(api)?;
+    reserve_name(rt, table, api);
     let has_first = has_first(table, web, api);
     table.set(api, 8);
     if let Some(row) = table.get_mut(web) {
         *row = 9;
     }
-    Ok(has_first && table.take(web) == Some(9))
+    has_first && table.take(web) == Some(9)
 }
 
 /// Whether vacant slots go and rows stay, until they are removed.
-fn clears_names(table: &mut NameTable<u64>, web: &Text, api: &Text) -> Result<bool, AllocError> {
+fn clears_names(rt: &impl Abort, table: &mut NameTable<u64>, web: &Text, api: &Text) -> bool {
     table.clear_slot(api);
     table.clear_slot(web);
     let keeps_row = table.as_slice().len() == 1;
     table.remove(api);
-    table.reserve(web)?;
+    reserve_name(rt, table, web);
     table.clear_room();
-    Ok(keeps_row && table.as_slice().is_empty())
-}
-
-fn keeps_names(table: &mut NameTable<u64>, alloc: Global) -> Result<bool, AllocError> {
-    let web = Text::from_str(alloc, "web")?;
-    let api = Text::from_str(alloc, "api")?;
-    Ok(writes_names(table, &web, &api)? & clears_names(table, &web, &api)?)
+    keeps_row && table.as_slice().is_empty()
 }
 
 #[test]
-fn keeps_rows_by_name(rt: HostRuntime) -> Result<(), Fail> {
+fn keeps_rows_by_name(rt: HostRuntime) {
     let alloc = rt.alloc();
-    let table = NameTable::new(alloc);
-    assert!(rt; holds(Ok(table), |table| keeps_names(table, alloc))?);
-    Ok(())
+    let web = text(&rt, alloc, "web");
+    let api = text(&rt, alloc, "api");
+    let mut table = NameTable::new(alloc);
+    assert!(rt; writes_names(&rt, &mut table, &web, &api));
+    assert!(rt; clears_names(&rt, &mut table, &web, &api));
 }
 
 // What a caller of `get_mut` learns.
@@ -64,18 +65,23 @@ fn write_seven(table: &mut NumberTable<u64>, number: u64)
     }
 }
 
+fn reserve_number(rt: &impl Abort, table: &mut NumberTable<char>, number: u64)
+    ensures { table.new ≡ with_slot table.old number }
+{
+    table.reserve(number).expect(rt, "memory");
+}
+
 /// Slots 1, 4, 6 and 15, of which 1 and 6 have rows.
-fn write_numbers(table: &mut NumberTable<char>) -> Result<(), AllocError> {
-    table.reserve(15)?;
-    table.reserve(4)?;
-    table.reserve(6)?;
+fn write_numbers(rt: &impl Abort, table: &mut NumberTable<char>) {
+    reserve_number(rt, table, 15);
+    reserve_number(rt, table, 4);
+    reserve_number(rt, table, 6);
     table.set(6, 'f');
-    table.reserve(1)?;
+    reserve_number(rt, table, 1);
     table.set(1, 'a');
     if let Some(row) = table.get_mut(6) {
         *row = 'g';
     }
-    Ok(())
 }
 
 fn has_numbers(table: &NumberTable<char>) -> bool {
@@ -96,14 +102,11 @@ fn removes_number(table: &mut NumberTable<char>) -> bool {
     table.len() == 0
 }
 
-fn keeps_numbers(table: &mut NumberTable<char>) -> Result<bool, AllocError> {
-    write_numbers(table)?;
-    Ok(has_numbers(table) & clears_numbers(table) & removes_number(table))
-}
-
 #[test]
-fn keeps_rows_by_number(rt: HostRuntime) -> Result<(), Fail> {
-    let table = NumberTable::new(rt.alloc());
-    assert!(rt; holds(Ok(table), keeps_numbers)?);
-    Ok(())
+fn keeps_rows_by_number(rt: HostRuntime) {
+    let mut table = NumberTable::new(rt.alloc());
+    write_numbers(&rt, &mut table);
+    assert!(rt; has_numbers(&table));
+    assert!(rt; clears_numbers(&mut table));
+    assert!(rt; removes_number(&mut table));
 }

@@ -1,153 +1,136 @@
 // One namespace with ample memory and as many jobs as it may have: one more is refused as too many, and changes nothing.
-ghost use Rattle.std.specs.Prelude.{IfOk, IsTrue};
-ghost use Rattle.ns_types.specs.declared.name.NameKind.TheVariants as NameKind;
-ghost use Rattle.ns_types.specs.State.Name.{is_name};
-
-use crate::owned::{holds, seen};
-use crate::server::{asked, groups, is_refused, is_registered, root};
+use crate::made::{numbered, text};
+use crate::owned::{seen, with};
+use crate::server::{asked, groups, refusal, registered, root};
 use ns_core::Core;
 use ns_types::good::GoodAsk;
 use ns_types::job::{JobKind, Registration};
-use ns_types::name::{Name, NameKind};
+use ns_types::name::NameKind;
 use ns_types::refusal::Refusal;
 use ns_types::reply::{Content, Reply};
 use ns_types::rows::Rows;
 use ns_types::step::AskCommand;
 use ns_types::text::Text;
-use std::alloc::{AllocError, Global};
-use std::rt::HostRuntime;
-use std::test::Fail;
+use std::alloc::Global;
+use std::process::Abort;
 
 /// The number after that of the last job that has room.
 const END: u64 = 1001;
 
-/// The text as a job's id, or `none` where it can't be one.
-fn job_id(alloc: Global, text: &str) -> Result<Text, AllocError>
-    ensures { IfOk result (λ id. IsTrue (is_name NameKind.Job id)) }
-{
-    match Name::read(NameKind::Job, text) {
-        Some(id) => Text::from_str(alloc, id.as_str()),
-        None => Text::from_str(alloc, "none"),
-    }
-}
-
 /// A job whose id is the number.
-pub(crate) fn registration(alloc: Global, number: u64) -> Result<GoodAsk, AllocError> {
-    let number = format!(in alloc; "{number}")?;
-    Ok(GoodAsk::new(AskCommand::Register(Registration {
-        id: job_id(alloc, number.as_str())?,
+pub(crate) fn registration(rt: &impl Abort, alloc: Global, number: u64) -> GoodAsk {
+    let registration = Registration {
+        id: numbered(rt, alloc, NameKind::Job, number),
         kind: JobKind::Batch,
         priority: 50,
         pool: None,
         constraints: Rows::new(alloc),
-        groups: groups(alloc)?,
+        groups: groups(rt, alloc),
         enforced: None,
-    })))
+    };
+    GoodAsk::new(AskCommand::Register(registration))
+}
+
+/// All jobs of a namespace.
+pub(crate) fn list(rt: &impl Abort, alloc: Global) -> GoodAsk {
+    GoodAsk::new(AskCommand::ListJobs(text(rt, alloc, "")))
 }
 
 /// Whether the job whose id is the number is registered with these numbers: the evaluation's, its index, the job's.
 pub(crate) fn registers(
-    core: &mut Core,
+    rt: &impl Abort,
     alloc: Global,
+    core: &mut Core,
     root: &Text,
     namespace: &Text,
     number: u64,
     wanted: (u64, u64, u64),
-) -> Result<bool, AllocError> {
-    let job = registration(alloc, number)?;
-    let right = is_registered(core, root, namespace, &job, wanted);
+) -> bool {
+    let job = registration(rt, alloc, number);
+    let numbers = registered(core, root, namespace, &job);
     drop(job);
-    Ok(right)
+    numbers == Some(wanted)
 }
 
-/// Whether each job that has room is registered, with one evaluation and at one index.
-fn fills(
-    core: &mut Core,
+/// Whether each of the first jobs is registered, with one evaluation and at one index.
+pub(crate) fn registers_all(
+    rt: &impl Abort,
     alloc: Global,
+    core: &mut Core,
     root: &Text,
     namespace: &Text,
-) -> Result<bool, AllocError> {
+    end: u64,
+) -> bool {
     let mut right = true;
-    for number in 1..END {
-        right &= registers(
-            core,
-            alloc,
-            root,
-            namespace,
-            number,
-            (number, number, number),
-        )?;
+    for number in 1..end {
+        let wanted = (number, number, number);
+        right &= registers(rt, alloc, core, root, namespace, number, wanted);
     }
-    Ok(right)
+    right
 }
 
-fn is_list(answer: &Result<Reply, Refusal>, count: usize, index: u64) -> bool {
+fn is_list(answer: &Result<Reply, Refusal>, index: u64) -> bool {
     match answer {
         Ok(reply) => match &reply.content {
-            Content::Jobs(jobs) => { reply.index == Some(index) && jobs.as_slice().len() == count }
+            Content::Jobs(jobs) => reply.index == Some(index) && jobs.as_slice().len() == 1000,
             _ => false,
         },
         Err(_) => false,
     }
 }
 
+/// Whether a thousand jobs are listed, at that index.
 fn lists(
-    core: &mut Core,
+    rt: &impl Abort,
     alloc: Global,
+    core: &mut Core,
     root: &Text,
     namespace: &Text,
     index: u64,
-) -> Result<bool, AllocError> {
-    let list = GoodAsk::new(AskCommand::ListJobs(Text::from_str(alloc, "")?));
+) -> bool {
+    let list = list(rt, alloc);
     let right = seen(asked(core, Some(root), namespace, &list), |answer| {
-        is_list(answer, 1000, index)
+        is_list(answer, index)
     });
     drop(list);
-    Ok(right)
+    right
 }
 
-/// Whether one job more is refused and changes nothing.
-fn refuses_more(
-    core: &mut Core,
+/// What refuses one job more.
+fn refusal_of_more(
+    rt: &impl Abort,
     alloc: Global,
+    core: &mut Core,
     root: &Text,
     namespace: &Text,
-) -> Result<bool, AllocError> {
-    let more = registration(alloc, END)?;
-    let right = is_refused(core, Some(root), namespace, &more, Refusal::Full);
+) -> Option<Refusal> {
+    let more = registration(rt, alloc, END);
+    let refusal = refusal(core, root, namespace, &more);
     drop(more);
-    Ok(right & lists(core, alloc, root, namespace, 1000)?)
+    refusal
 }
 
-/// Whether the first job may still be registered again, and is no job more.
-fn serves_known(
-    core: &mut Core,
-    alloc: Global,
-    root: &Text,
-    namespace: &Text,
-) -> Result<bool, AllocError> {
-    let right = registers(core, alloc, root, namespace, 1, (END, END, 1))?;
-    Ok(right & lists(core, alloc, root, namespace, END)?)
-}
-
-fn has_a_thousand_jobs(core: &mut Core, alloc: Global, root: &Text) -> Result<bool, AllocError> {
-    let namespace = Text::from_str(alloc, "default")?;
-    let mut right = fills(core, alloc, root, &namespace)?;
-    right &= lists(core, alloc, root, &namespace, 1000)?;
-    right &= refuses_more(core, alloc, root, &namespace)?;
-    right &= serves_known(core, alloc, root, &namespace)?;
-    Ok(right)
+/// The first job may still be registered again, and is no job more.
+fn has_a_thousand_jobs(rt: &impl Abort, alloc: Global, core: &mut Core, root: &Text) -> bool {
+    let namespace = text(rt, alloc, "default");
+    let mut right = registers_all(rt, alloc, core, root, &namespace, END);
+    right &= lists(rt, alloc, core, root, &namespace, 1000);
+    right &= refusal_of_more(rt, alloc, core, root, &namespace) == Some(Refusal::Full);
+    right &= lists(rt, alloc, core, root, &namespace, 1000);
+    right &= registers(rt, alloc, core, root, &namespace, 1, (END, END, 1));
+    right & lists(rt, alloc, core, root, &namespace, END)
 }
 
 #[test]
-fn fills_jobs(rt: HostRuntime) -> Result<(), Fail> {
+fn fills_jobs(rt: HostRuntime) {
     let alloc = rt.alloc();
-    let root = root(alloc)?;
+    let root = root(&rt, alloc);
+    let core = Core::new(alloc, &root);
     assert!(rt;
-        holds(
-            Core::new(alloc, &root),
-            |core| has_a_thousand_jobs(core, alloc, root.get())
-        )?
+        with(
+            &rt,
+            core,
+            |core| has_a_thousand_jobs(&rt, alloc, core, root.get())
+        )
     );
-    Ok(())
 }

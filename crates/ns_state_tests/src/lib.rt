@@ -10,6 +10,8 @@ mod jobs;
 #[cfg(test)]
 mod limits;
 #[cfg(test)]
+mod made;
+#[cfg(test)]
 mod nodes;
 #[cfg(test)]
 mod owned;

@@ -1,20 +1,18 @@
 // Tables with ample memory, filled to their limits: one row more is refused as too many, and not for want of memory.
 
-use crate::owned::{holds, seen};
+use crate::made::{digits, text};
+use crate::owned::with;
 use ns_acl::Acl;
-use ns_admin::{
-    RecordChange, opening as opening_tables, put_namespace, put_pool, put_quota, write,
-};
+use ns_admin::{RecordChange, opening, put_namespace, put_pool, put_quota, write};
 use ns_types::acl::{Policy, TokenKind};
 use ns_types::records::{Namespace, Pool, Quota};
 use ns_types::refusal::Refusal;
-use ns_types::reply::Content;
 use ns_types::rows::Rows;
 use ns_types::step::NewToken;
 use ns_types::text::Text;
 use ns_world::Tables;
 use std::alloc::{AllocError, Global};
-use std::test::Fail;
+use std::process::Abort;
 
 /// The numbers of which names are made, more than a table has room for. Names of as many digits rise with them.
 const FIRST: u64 = 10_000;
@@ -24,164 +22,153 @@ const LAST: u64 = 21_000;
 /// The first number whose row was refused, and why.
 type Refused = Option<(u64, Refusal)>;
 
-fn name_of(alloc: Global, number: u64) -> Result<Text, AllocError> {
-    Ok(Text::from_string(format!(in alloc; "{number}")?))
-}
-
-fn described(alloc: Global) -> Result<Text, AllocError> {
-    Text::from_str(alloc, "")
-}
-
-fn refusal(answer: &Result<Content, Refusal>) -> Option<Refusal> {
-    match answer {
-        Ok(_) => None,
-        Err(refusal) => Some(*refusal),
-    }
-}
-
-/// Writes what was prepared.
-fn written(
-    tables: &mut Tables,
-    prepared: Result<RecordChange, Refusal>,
-) -> Result<Content, Refusal> {
-    let change = prepared?;
-    write(tables, change)?;
-    Ok(Content::Written)
-}
-
 /// Puts a row of each name in turn, until one is refused.
-fn fill<T, F: Fn(&mut T, &Text) -> Result<Content, Refusal>>(
-    state: &mut T,
+fn fill<T, F: Fn(&mut T, &Text) -> Option<Refusal>>(
+    rt: &impl Abort,
     alloc: Global,
+    state: &mut T,
     put: F,
-) -> Result<Refused, AllocError>
+) -> Refused
     requires { F.IsAlwaysCallable put }
 {
     for number in FIRST..LAST {
-        let name = name_of(alloc, number)?;
-        if let Some(refused) = seen(put(state, &name), refusal) {
-            return Ok(Some((number, refused)));
+        let name = digits(rt, alloc, number);
+        let refusal = put(state, &name);
+        drop(name);
+        if let Some(refusal) = refusal {
+            return Some((number, refusal));
         }
     }
-    Ok(None)
+    None
 }
 
-/// The namespace `default` is there, so 9,999 more have room.
-fn has_ten_thousand_namespaces(tables: &mut Tables) -> Result<bool, AllocError> {
-    let alloc = tables.alloc;
-    let namespace = Namespace {
-        description: described(alloc)?,
+/// Makes the change that was prepared, and says what refuses it.
+fn changed<S, T, W: FnOnce(&mut S, T) -> Result<(), AllocError>>(
+    state: &mut S,
+    prepared: Result<T, Refusal>,
+    write: W,
+) -> Option<Refusal>
+    requires { W.IsAlwaysCallable write }
+{
+    match prepared {
+        Ok(change) => match write(state, change) {
+            Ok(()) => None,
+            Err(_) => Some(Refusal::Memory),
+        },
+        Err(refusal) => Some(refusal),
+    }
+}
+
+/// Writes what was prepared, and says what refuses it.
+fn written(tables: &mut Tables, prepared: Result<RecordChange, Refusal>) -> Option<Refusal> {
+    changed(tables, prepared, |tables, change| write(tables, change))
+}
+
+fn namespace(rt: &impl Abort, alloc: Global) -> Namespace {
+    Namespace {
+        description: text(rt, alloc, ""),
         quota: None,
-        default_pool: Text::from_str(alloc, "default")?,
+        default_pool: text(rt, alloc, "default"),
         allowed: None,
         denied: Rows::new(alloc),
-    };
-    let refused = fill(tables, alloc, |tables, name| {
+    }
+}
+
+fn fill_namespaces(rt: &impl Abort, tables: &mut Tables) -> Refused {
+    let alloc = tables.alloc;
+    let namespace = namespace(rt, alloc);
+    fill(rt, alloc, tables, |tables, name| {
         let prepared = put_namespace(tables, name, &namespace);
         written(tables, prepared)
-    });
-    drop(namespace);
-    Ok(refused? == Some((19_999, Refusal::Full)))
-}
-
-#[test]
-fn fills_namespaces(rt: HostRuntime) -> Result<(), Fail> {
-    assert!(rt; holds(opening_tables(rt.alloc()), has_ten_thousand_namespaces)?);
-    Ok(())
-}
-
-/// The pool `default` is there, so 9,999 more have room.
-fn has_ten_thousand_pools(tables: &mut Tables) -> Result<bool, AllocError> {
-    let alloc = tables.alloc;
-    let pool = Pool {
-        description: described(alloc)?,
-    };
-    let refused = fill(tables, alloc, |tables, name| {
-        let prepared = put_pool(tables, name, &pool);
-        written(tables, prepared)
-    });
-    Ok(refused? == Some((19_999, Refusal::Full)))
-}
-
-#[test]
-fn fills_pools(rt: HostRuntime) -> Result<(), Fail> {
-    assert!(rt; holds(opening_tables(rt.alloc()), has_ten_thousand_pools)?);
-    Ok(())
-}
-
-fn has_ten_thousand_quotas(tables: &mut Tables) -> Result<bool, AllocError> {
-    let alloc = tables.alloc;
-    let quota = Quota {
-        description: described(alloc)?,
-        limits: None,
-    };
-    let refused = fill(tables, alloc, |tables, name| {
-        let prepared = put_quota(tables, name, &quota);
-        written(tables, prepared)
-    });
-    Ok(refused? == Some((20_000, Refusal::Full)))
-}
-
-#[test]
-fn fills_quotas(rt: HostRuntime) -> Result<(), Fail> {
-    assert!(rt; holds(opening_tables(rt.alloc()), has_ten_thousand_quotas)?);
-    Ok(())
-}
-
-fn has_ten_thousand_policies(acl: &mut Acl, alloc: Global) -> Result<bool, AllocError> {
-    let policy = Policy {
-        description: described(alloc)?,
-        text: described(alloc)?,
-        rules: Rows::new(alloc),
-    };
-    let refused = fill(acl, alloc, |acl, name| acl.put_policy(name, &policy));
-    drop(policy);
-    Ok(refused? == Some((20_000, Refusal::Full)))
-}
-
-fn opening(alloc: Global) -> Result<Acl, AllocError> {
-    let root = Text::from_str(alloc, "root")?;
-    Acl::new(alloc, &root)
-}
-
-#[test]
-fn fills_policies(rt: HostRuntime) -> Result<(), Fail> {
-    let alloc = rt.alloc();
-    assert!(rt; holds(opening(alloc), |acl| has_ten_thousand_policies(acl, alloc))?);
-    Ok(())
-}
-
-/// A client's token whose accessor is its secret.
-fn numbered_token(alloc: Global, number: u64) -> Result<NewToken, AllocError> {
-    Ok(NewToken {
-        accessor: name_of(alloc, number)?,
-        secret: name_of(alloc, number)?,
-        name: described(alloc)?,
-        kind: TokenKind::Client,
-        policies: Rows::new(alloc),
     })
 }
 
-fn fill_tokens(acl: &mut Acl, alloc: Global) -> Result<Refused, AllocError> {
-    for number in FIRST..LAST {
-        let new = numbered_token(alloc, number)?;
-        let answer = seen(acl.create_token(&new), refusal);
-        drop(new);
-        if let Some(refused) = answer {
-            return Ok(Some((number, refused)));
-        }
-    }
-    Ok(None)
+fn fill_pools(rt: &impl Abort, tables: &mut Tables) -> Refused {
+    let alloc = tables.alloc;
+    let pool = Pool {
+        description: text(rt, alloc, ""),
+    };
+    fill(rt, alloc, tables, |tables, name| {
+        let prepared = put_pool(tables, name, &pool);
+        written(tables, prepared)
+    })
 }
 
-/// The bootstrap token is there, so 9,999 more have room.
-fn has_ten_thousand_tokens(acl: &mut Acl, alloc: Global) -> Result<bool, AllocError> {
-    Ok(fill_tokens(acl, alloc)? == Some((19_999, Refusal::Full)))
+fn fill_quotas(rt: &impl Abort, tables: &mut Tables) -> Refused {
+    let alloc = tables.alloc;
+    let quota = Quota {
+        description: text(rt, alloc, ""),
+        limits: None,
+    };
+    fill(rt, alloc, tables, |tables, name| {
+        let prepared = put_quota(tables, name, &quota);
+        written(tables, prepared)
+    })
+}
+
+/// The namespace `default` and the pool `default` are there, so 9,999 more of each have room.
+fn has_full_tables(rt: &impl Abort, tables: &mut Tables) -> bool {
+    let namespaces = fill_namespaces(rt, tables) == Some((19_999, Refusal::Full));
+    let pools = fill_pools(rt, tables) == Some((19_999, Refusal::Full));
+    let quotas = fill_quotas(rt, tables) == Some((20_000, Refusal::Full));
+    namespaces && pools && quotas
 }
 
 #[test]
-fn fills_tokens(rt: HostRuntime) -> Result<(), Fail> {
+fn fills_tables(rt: HostRuntime) {
+    let tables = opening(rt.alloc());
+    assert!(rt; with(&rt, tables, |tables| has_full_tables(&rt, tables)));
+}
+
+fn fill_policies(rt: &impl Abort, alloc: Global, acl: &mut Acl) -> Refused {
+    let policy = Policy {
+        description: text(rt, alloc, ""),
+        text: text(rt, alloc, ""),
+        rules: Rows::new(alloc),
+    };
+    fill(
+        rt,
+        alloc,
+        acl,
+        |acl, name| acl.put_policy(name, &policy).err(),
+    )
+}
+
+/// A client's token whose accessor is its secret.
+fn token(rt: &impl Abort, alloc: Global, number: u64) -> NewToken {
+    NewToken {
+        accessor: digits(rt, alloc, number),
+        secret: digits(rt, alloc, number),
+        name: text(rt, alloc, ""),
+        kind: TokenKind::Client,
+        policies: Rows::new(alloc),
+    }
+}
+
+fn fill_tokens(rt: &impl Abort, alloc: Global, acl: &mut Acl) -> Refused {
+    for number in FIRST..LAST {
+        let new = token(rt, alloc, number);
+        let refusal = acl.create_token(&new).err();
+        drop(new);
+        if let Some(refusal) = refusal {
+            return Some((number, refusal));
+        }
+    }
+    None
+}
+
+/// The bootstrap token is there, so 9,999 more have room.
+fn has_full_rights(rt: &impl Abort, alloc: Global, acl: &mut Acl) -> bool {
+    let policies = fill_policies(rt, alloc, acl) == Some((20_000, Refusal::Full));
+    let tokens = fill_tokens(rt, alloc, acl) == Some((19_999, Refusal::Full));
+    policies && tokens
+}
+
+#[test]
+fn fills_rights(rt: HostRuntime) {
     let alloc = rt.alloc();
-    assert!(rt; holds(opening(alloc), |acl| has_ten_thousand_tokens(acl, alloc))?);
-    Ok(())
+    let root = text(&rt, alloc, "root");
+    let acl = Acl::new(alloc, &root);
+    drop(root);
+    assert!(rt; with(&rt, acl, |acl| has_full_rights(&rt, alloc, acl)));
 }

@@ -4,6 +4,7 @@ ghost use Rattle.ns_types.specs.declared.name.NameKind.TheVariants as NameKind;
 ghost use Rattle.ns_types.specs.State.Limits.{is_amount};
 ghost use Rattle.ns_types.specs.State.Name.{is_name};
 
+use crate::made::{copied, text};
 use crate::owned::seen;
 use ns_core::Core;
 use ns_types::good::GoodTelling;
@@ -14,42 +15,43 @@ use ns_types::resources::Resources;
 use ns_types::rows::Rows;
 use ns_types::step::NodeCommand;
 use ns_types::text::Text;
-use std::alloc::{AllocError, Global};
+use std::alloc::Global;
+use std::process::Abort;
 
 pub(crate) fn registration(
+    rt: &impl Abort,
     alloc: Global,
     node: &Text,
     capacity: Resources,
-) -> Result<GoodTelling, AllocError>
+) -> GoodTelling
     requires name { IsTrue (is_name NameKind.Node node.now) }
     requires capacity { IsTrue (is_amount capacity) }
 {
     let offer = Offer {
-        class: Text::from_str(alloc, "linux")?,
+        class: text(rt, alloc, "linux"),
         attributes: Rows::new(alloc),
         capacity,
     };
-    Ok(GoodTelling::new(NodeCommand::PutNode(node.clone()?, offer)))
+    GoodTelling::new(NodeCommand::PutNode(copied(rt, node), offer))
 }
 
-pub(crate) fn eligibility(node: &Text, eligible: bool) -> Result<GoodTelling, AllocError> {
-    Ok(GoodTelling::new(NodeCommand::SetEligible(node.clone()?, eligible)))
+pub(crate) fn eligibility(rt: &impl Abort, node: &Text, eligible: bool) -> GoodTelling {
+    GoodTelling::new(NodeCommand::SetEligible(copied(rt, node), eligible))
 }
 
 pub(crate) fn told(
     core: &mut Core,
-    secret: Option<&Text>,
+    secret: &Text,
     pool: &Text,
     command: &GoodTelling,
 ) -> Result<Reply, Refusal> {
-    match core.node(pool, secret, command) {
-        Err(Refusal::Memory) => core.node(pool, secret, command),
+    match core.node(pool, Some(secret), command) {
+        Err(Refusal::Memory) => core.node(pool, Some(secret), command),
         answer => answer,
     }
 }
 
-/// What refuses the command; nothing, where it is written.
-fn refusal(answer: &Result<Reply, Refusal>) -> Option<Refusal> {
+fn refused(answer: &Result<Reply, Refusal>) -> Option<Refusal> {
     match answer {
         Ok(reply) => match &reply.content {
             Content::Written => None,
@@ -59,13 +61,12 @@ fn refusal(answer: &Result<Reply, Refusal>) -> Option<Refusal> {
     }
 }
 
-pub(crate) fn answer(
+/// What refuses the command; nothing, where it is written.
+pub(crate) fn refusal(
     core: &mut Core,
-    secret: Option<&Text>,
+    secret: &Text,
     pool: &Text,
-    command: GoodTelling,
+    command: &GoodTelling,
 ) -> Option<Refusal> {
-    let answer = told(core, secret, pool, &command);
-    drop(command);
-    seen(answer, refusal)
+    seen(told(core, secret, pool, command), refused)
 }

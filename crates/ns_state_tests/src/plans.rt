@@ -1,8 +1,6 @@
 // That plans stop, place and evict as the rules of reconciling, of placement and of preemption tell it.
 
-ghost use Rattle.std.specs.Prelude.{◌≡◌, IfOk};
-
-use crate::owned::{repeated, seen};
+use crate::made::{both, only, text};
 use ns_schedule::plan;
 use ns_types::allocation::{Allocation, ClientStatus, DesiredStatus};
 use ns_types::evaluation::{Evaluation, Status, Trigger};
@@ -15,97 +13,70 @@ use ns_types::resources::{Limit, Limits, Resources};
 use ns_types::rows::Rows;
 use ns_types::shared::Shared;
 use ns_types::snapshot::{LiveAllocation, OwnAllocation, PoolNode, QuotaSeen, Snapshot};
-use ns_types::text::Text;
-use std::alloc::{AllocError, Global};
-use std::test::Fail;
+use std::alloc::Global;
+use std::process::Abort;
 
-fn size(cpu: u64, memory: u64) -> Resources
-    ensures { result ≡ record { cpu = cpu; memory = memory } }
-{
+/// What `ta`'s job is planned from.
+#[derive(Clone, Copy)]
+struct Case<'a> {
+    /// The counts of its groups `g` and `h`, and how much CPU each of theirs takes.
+    counts: [u64; 2],
+    cpus: [u64; 2],
+    /// The numbers of the live allocations of `g`.
+    live: &'a [u64],
+    /// How much CPU each node has. Of it one allocation of `tb` takes 500 where a priority is given.
+    nodes: &'a [(u64, Option<u64>)],
+    /// How much CPU of the quota is in use, where there is one.
+    used: Option<u64>,
+}
+
+fn size(cpu: u64, memory: u64) -> Resources {
     Resources { cpu, memory }
 }
 
-/// A ready and eligible node of the class `large`, whose attribute `os` is `linux`.
-fn linux(alloc: Global) -> Result<Node, AllocError> {
-    let mut attributes = Rows::new(alloc);
-    attributes.push(Attribute {
-        key: Text::from_str(alloc, "os")?,
-        value: Text::from_str(alloc, "linux")?,
-    })?;
-    Ok(Node {
-        offer: Offer {
-            class: Text::from_str(alloc, "large")?,
-            attributes,
-            capacity: size(1000, 1024),
-        },
-        status: NodeStatus::Ready,
-        eligible: true,
-        places: 0,
-    })
+/// A group of one task.
+fn group(rt: &impl Abort, alloc: Global, name: &str, count: u64, cpu: u64) -> Group {
+    let task = Task {
+        name: text(rt, alloc, name),
+        resources: size(cpu, 100),
+    };
+    Group {
+        name: text(rt, alloc, name),
+        count,
+        tasks: only(rt, alloc, task),
+    }
 }
 
-/// A live allocation of CPU 500 and memory 256.
-fn live(alloc: Global, number: u64, priority: u64) -> Result<LiveAllocation, AllocError>
-    ensures { IfOk result (λ a. a.size ≡ record { cpu = 500; memory = 256 }) }
-{
-    Ok(LiveAllocation {
-        namespace: Text::from_str(alloc, "tb")?,
-        number,
-        priority,
-        size: size(500, 256),
-    })
-}
-
-fn job(alloc: Global, pool: &str) -> Result<Job, AllocError> {
+/// A service of priority 50.
+fn service(rt: &impl Abort, alloc: Global, groups: Rows<Group>) -> Job {
     let document = Document {
         kind: JobKind::Service,
         priority: 50,
-        pool: Text::from_str(alloc, pool)?,
+        pool: text(rt, alloc, "default"),
         constraints: Rows::new(alloc),
-        groups: Rows::new(alloc),
+        groups,
     };
-    Ok(Job {
+    Job {
         document,
         stop: false,
         version: 0,
         create_index: 1,
         modify_index: 1,
-    })
+    }
 }
 
-fn text(alloc: Global, word: &str) -> Result<Text, AllocError> {
-    Text::from_str(alloc, word)
+fn job(rt: &impl Abort, alloc: Global, counts: [u64; 2], cpus: [u64; 2]) -> Job {
+    let g = group(rt, alloc, "g", counts[0], cpus[0]);
+    let h = group(rt, alloc, "h", counts[1], cpus[1]);
+    service(rt, alloc, both(rt, alloc, g, h))
 }
 
-fn allocation(
-    alloc: Global,
-    job: &str,
-    node: &str,
-    priority: u64,
-) -> Result<Allocation, AllocError> {
-    Ok(Allocation {
-        job: text(alloc, job)?,
-        group: text(alloc, "g")?,
-        evaluation: 1,
-        pool: text(alloc, "p")?,
-        node: text(alloc, node)?,
-        place: 1,
-        size: Resources { cpu: 1, memory: 1 },
-        priority,
-        job_modify_index: 1,
-        desired: DesiredStatus::Run,
-        client: ClientStatus::Running,
-        create_index: 1,
-        modify_index: 1,
-    })
-}
-
-fn evaluation(alloc: Global) -> Result<Evaluation, AllocError> {
-    Ok(Evaluation {
-        job: Text::from_str(alloc, "web")?,
+fn evaluation(rt: &impl Abort, alloc: Global) -> Evaluation {
+    Evaluation {
+        job: text(rt, alloc, "web"),
         kind: JobKind::Service,
         priority: 50,
-        pool: Text::from_str(alloc, "default")?,
+        pool: text(rt, alloc, "default"),
         trigger: Trigger::JobRegister,
         status: Status::Pending,
         previous: None,
@@ -116,98 +87,126 @@ fn evaluation(alloc: Global) -> Result<Evaluation, AllocError> {
         nacks: 0,
         create_index: 1,
         modify_index: 1,
-    })
+    }
 }
 
-/// A service of priority 50, whose groups `g` and `h` have such counts and take so much CPU.
-fn service(alloc: Global, counts: [u64; 2], cpus: [u64; 2]) -> Result<Job, AllocError> {
-    let mut service = job(alloc, "default")?;
-    for i in 0..2 {
-        let name = Text::from_str(alloc, ["g", "h"][i])?;
-        let mut tasks = Rows::new(alloc);
-        let resources = size(cpus[i], 100);
-        tasks.push(Task {
-            name: name.clone()?,
-            resources,
-        })?;
-        let count = counts[i];
-        service.document.groups.push(Group { name, count, tasks })?;
+fn allocation(rt: &impl Abort, alloc: Global) -> Allocation {
+    Allocation {
+        job: text(rt, alloc, "web"),
+        group: text(rt, alloc, "g"),
+        evaluation: 1,
+        pool: text(rt, alloc, "p"),
+        node: text(rt, alloc, "n"),
+        place: 1,
+        size: size(1, 1),
+        priority: 50,
+        job_modify_index: 1,
+        desired: DesiredStatus::Run,
+        client: ClientStatus::Running,
+        create_index: 1,
+        modify_index: 1,
     }
-    Ok(service)
 }
 
-/// A node with so much CPU, of which one allocation of `tb` takes 500 where a priority is given.
-fn node(alloc: Global, cpu: u64, priority: Option<u64>) -> Result<Shared<PoolNode>, AllocError> {
-    let name = Text::from_str(alloc, "n")?;
-    let mut row = linux(alloc)?;
-    row.offer.capacity.cpu = cpu;
-    let mut rows = Rows::new(alloc);
-    if let Some(priority) = priority {
-        rows.push(live(alloc, 1, priority)?)?;
+fn own(rt: &impl Abort, alloc: Global, numbers: &[u64]) -> Rows<OwnAllocation> {
+    let mut own = Rows::new(alloc);
+    for number in numbers {
+        let row = allocation(rt, alloc);
+        let number = *number;
+        own.push(OwnAllocation { number, row }).expect(rt, "memory");
     }
-    Shared::new(
-        alloc,
-        PoolNode {
-            name,
-            row,
-            live: rows,
+    own
+}
+
+/// A ready and eligible node of the class `large`, whose attribute `os` is `linux`.
+fn linux(rt: &impl Abort, alloc: Global, cpu: u64) -> Node {
+    let os = Attribute {
+        key: text(rt, alloc, "os"),
+        value: text(rt, alloc, "linux"),
+    };
+    Node {
+        offer: Offer {
+            class: text(rt, alloc, "large"),
+            attributes: only(rt, alloc, os),
+            capacity: size(cpu, 1024),
         },
-    )
+        status: NodeStatus::Ready,
+        eligible: true,
+        places: 0,
+    }
+}
+
+/// A live allocation of CPU 500 and memory 256.
+fn live(rt: &impl Abort, alloc: Global, priority: u64) -> LiveAllocation {
+    LiveAllocation {
+        namespace: text(rt, alloc, "tb"),
+        number: 1,
+        priority,
+        size: size(500, 256),
+    }
+}
+
+fn node(rt: &impl Abort, alloc: Global, cpu: u64, priority: Option<u64>) -> Shared<PoolNode> {
+    let node = PoolNode {
+        name: text(rt, alloc, "n"),
+        row: linux(rt, alloc, cpu),
+        live: match priority {
+            Some(priority) => only(rt, alloc, live(rt, alloc, priority)),
+            None => Rows::new(alloc),
+        },
+    };
+    Shared::new(alloc, node).expect(rt, "memory")
+}
+
+fn nodes(rt: &impl Abort, alloc: Global, nodes: &[(u64, Option<u64>)]) -> Rows<Shared<PoolNode>> {
+    let mut rows = Rows::new(alloc);
+    for (cpu, priority) in nodes {
+        rows.push(node(rt, alloc, *cpu, *priority))
+            .expect(rt, "memory");
+    }
+    rows
 }
 
 /// Of `ta` and `tb`, with at most 1000 CPU.
-fn quota(alloc: Global, cpu: u64) -> Result<Option<QuotaSeen>, AllocError> {
-    let mut namespaces = Rows::new(alloc);
-    namespaces.push(Text::from_str(alloc, "ta")?)?;
-    namespaces.push(Text::from_str(alloc, "tb")?)?;
-    let most = Limit::AtMost(1000);
+fn quota(rt: &impl Abort, alloc: Global, cpu: u64) -> QuotaSeen {
     let limits = Limits {
-        cpu: most,
+        cpu: Limit::AtMost(1000),
         memory: Limit::Unlimited,
     };
-    let name = Text::from_str(alloc, "q")?;
-    let used = size(cpu, 256);
-    Ok(Some(QuotaSeen {
-        name,
+    QuotaSeen {
+        name: text(rt, alloc, "q"),
         limits,
-        used,
+        used: size(cpu, 256),
         release: 0,
-        namespaces,
-    }))
+        namespaces: both(rt, alloc, text(rt, alloc, "ta"), text(rt, alloc, "tb")),
+    }
 }
 
-/// What `ta`'s job is planned from, of whose group `g` allocations of these numbers are live.
-fn snapshot(
-    alloc: Global,
-    job: Job,
-    numbers: &[u64],
-    nodes: &[(u64, Option<u64>)],
-    quota: Option<QuotaSeen>,
-) -> Result<Shared<Snapshot>, AllocError> {
-    let mut own = Rows::new(alloc);
-    for number in numbers {
-        let row = allocation(alloc, "web", "n", 50)?;
-        own.push(OwnAllocation {
-            number: *number,
-            row,
-        })?;
-    }
-    let mut rows = Rows::new(alloc);
-    for (cpu, priority) in nodes {
-        rows.push(node(alloc, *cpu, *priority)?)?;
-    }
+fn snapshot(rt: &impl Abort, alloc: Global, case: &Case) -> Shared<Snapshot> {
     let snapshot = Snapshot {
-        namespace: Text::from_str(alloc, "ta")?,
+        namespace: text(rt, alloc, "ta"),
         number: 1,
-        evaluation: evaluation(alloc)?,
-        job: Some(job),
-        own,
-        pool: Text::from_str(alloc, "default")?,
-        nodes: rows,
+        evaluation: evaluation(rt, alloc),
+        job: Some(job(rt, alloc, case.counts, case.cpus)),
+        own: own(rt, alloc, case.live),
+        pool: text(rt, alloc, "default"),
+        nodes: nodes(rt, alloc, case.nodes),
         release: 0,
-        quota,
+        quota: match case.used {
+            Some(cpu) => Some(quota(rt, alloc, cpu)),
+            None => None,
+        },
     };
-    Shared::new(alloc, snapshot)
+    Shared::new(alloc, snapshot).expect(rt, "memory")
+}
+
+/// The plan with ample memory: a call that was refused for memory is made again.
+fn planned(rt: &impl Abort, alloc: Global, kept: &Shared<Snapshot>) -> Planned {
+    let answer = match plan(alloc, kept.share().expect(rt, "memory")) {
+        Err(Refusal::Memory) => plan(alloc, kept.share().expect(rt, "memory")),
+        answer => answer,
+    };
+    answer.expect(rt, "a plan")
 }
 
 /// The group, the node and how many give way.
@@ -219,10 +218,7 @@ fn place(placement: &Placement) -> (u64, u64, usize) {
 /// A plan's stops and places, and whether it is short.
 type Wanted<'a> = (&'a [u64], &'a [(u64, u64, usize)], bool);
 
-fn says(answer: &Result<Planned, Refusal>, (stops, places, short): Wanted) -> bool {
-    let Ok(planned) = answer else {
-        return false;
-    };
+fn says(planned: &Planned, (stops, places, short): Wanted) -> bool {
     let placements = planned.plan().placing.placements.as_slice();
     planned.plan().stops.as_slice() == stops
         && placements.len() == places.len()
@@ -234,40 +230,54 @@ fn says(answer: &Result<Planned, Refusal>, (stops, places, short): Wanted) -> bo
         && planned.does_nothing() == (stops.is_empty() && places.is_empty())
 }
 
-fn plans(alloc: Global, mut snapshot: Shared<Snapshot>, wanted: Wanted) -> bool {
-    let answer = repeated(&mut snapshot, |snapshot| plan(alloc, snapshot.share()?));
-    seen(answer, |answer| says(answer, wanted))
+fn plans(rt: &impl Abort, alloc: Global, case: &Case, wanted: Wanted) -> bool {
+    let kept = snapshot(rt, alloc, case);
+    let planned = planned(rt, alloc, &kept);
+    drop(kept);
+    says(&planned, wanted)
 }
 
 #[test]
-fn missing_ones_are_placed_and_the_greatest_numbers_stop(rt: HostRuntime) -> Result<(), Fail> {
+fn missing_ones_are_placed_and_the_greatest_numbers_stop(rt: HostRuntime) {
     let alloc = rt.alloc();
-    let job = service(alloc, [2, 1], [300, 500])?;
-    let kept = snapshot(alloc, job, &[], &[(1000, None), (900, None)], None)?;
-    assert!(rt;
-        plans(
-            alloc,
-            kept,
-            (&[], &[(0, 1, 0), (0, 1, 0), (1, 0, 0)], false)
-        )
-    );
+    let missing = Case {
+        counts: [2, 1],
+        cpus: [300, 500],
+        live: &[],
+        nodes: &[(1000, None), (900, None)],
+        used: None,
+    };
+    let placed = [(0, 1, 0), (0, 1, 0), (1, 0, 0)];
+    assert!(rt; plans(&rt, alloc, &missing, (&[], &placed, false)));
     for (count, stops) in [(1, [5, 8].as_slice()), (3, [].as_slice())] {
-        let job = service(alloc, [count, 0], [300, 1])?;
-        let kept = snapshot(alloc, job, &[3, 5, 8], &[(1000, None)], None)?;
-        assert!(rt; plans(alloc, kept, (stops, &[], false)));
+        let more = Case {
+            counts: [count, 0],
+            cpus: [300, 1],
+            live: &[3, 5, 8],
+            nodes: &[(1000, None)],
+            used: None,
+        };
+        assert!(rt; plans(&rt, alloc, &more, (stops, &[], false)));
     }
-    Ok(())
 }
 
 #[test]
-fn a_quota_ends_placing_and_gets_back_what_gives_way(rt: HostRuntime) -> Result<(), Fail> {
+fn a_quota_ends_placing_and_gets_back_what_gives_way(rt: HostRuntime) {
     let alloc = rt.alloc();
-    let job = service(alloc, [2, 1], [300, 1])?;
-    let kept = snapshot(alloc, job, &[], &[(1000, None)], quota(alloc, 401)?)?;
-    assert!(rt; plans(alloc, kept, (&[], &[(0, 0, 0)], true)));
-    let job = service(alloc, [3, 0], [500, 1])?;
-    let nodes = [(500, Some(41)), (500, Some(40)), (500, Some(40))];
-    let kept = snapshot(alloc, job, &[], &nodes, quota(alloc, 500)?)?;
-    assert!(rt; plans(alloc, kept, (&[], &[(0, 1, 1), (0, 2, 1)], true)));
-    Ok(())
+    let ends = Case {
+        counts: [2, 1],
+        cpus: [300, 1],
+        live: &[],
+        nodes: &[(1000, None)],
+        used: Some(401),
+    };
+    assert!(rt; plans(&rt, alloc, &ends, (&[], &[(0, 0, 0)], true)));
+    let gets_back = Case {
+        counts: [3, 0],
+        cpus: [500, 1],
+        live: &[],
+        nodes: &[(500, Some(41)), (500, Some(40)), (500, Some(40))],
+        used: Some(500),
+    };
+    assert!(rt; plans(&rt, alloc, &gets_back, (&[], &[(0, 1, 1), (0, 2, 1)], true)));
 }

@@ -1,22 +1,23 @@
 // Two thousand steps of two namespaces, made by runs and one by one: with ample memory both answer the same, and leave two cores
 // that look the same.
 
-use crate::owned::seen;
+use crate::made::{copied, text};
+use crate::owned::{push, seen, with};
 use crate::server::root;
 use crate::{jobs, nodes};
 use ns_core::Core;
 use ns_runs::{Ran, run, step};
-use ns_types::good::{GoodAdmin, GoodAsk};
+use ns_types::good::{GoodAdmin, GoodAsk, GoodTelling};
 use ns_types::name::Secret;
 use ns_types::records::Namespace;
 use ns_types::refusal::Refusal;
 use ns_types::reply::{Content, Reply};
 use ns_types::resources::Resources;
 use ns_types::rows::Rows;
-use ns_types::step::{AdminCommand, AskCommand, Step};
+use ns_types::step::{AdminCommand, Step};
 use ns_types::text::Text;
-use std::alloc::{AllocError, Global};
-use std::test::Fail;
+use std::alloc::Global;
+use std::process::Abort;
 
 /// How many rounds the script has, of ten steps each, of which two are out of turn.
 const ROUNDS: u64 = 200;
@@ -63,144 +64,138 @@ fn told(answer: &Result<Reply, Refusal>) -> Told {
 
 // ---- the script
 
-fn node(alloc: Global, root: &Text, round: u64) -> Result<Step, AllocError> {
-    let pool = Text::from_str(alloc, "default")?;
-    let name = Text::from_str(alloc, "n1")?;
-    let command = if round == 0 {
-        let capacity = Resources {
-            cpu: 20_000,
-            memory: 60_000,
-        };
-        nodes::registration(alloc, &name, capacity)?
-    } else {
-        nodes::eligibility(&name, true)?
+/// What is told of the only node: in the first round that it is there, and later that it is eligible.
+fn telling(rt: &impl Abort, alloc: Global, round: u64) -> GoodTelling {
+    let name = text(rt, alloc, "n1");
+    if round > 0 {
+        return nodes::eligibility(rt, &name, true);
+    }
+    let capacity = Resources {
+        cpu: 20_000,
+        memory: 60_000,
     };
-    Ok(Step::Node(pool, Some(root.clone()?), command))
+    nodes::registration(rt, alloc, &name, capacity)
 }
 
-fn ask(namespace: &Text, root: &Text, command: GoodAsk) -> Result<Step, AllocError> {
-    Ok(Step::Ask(namespace.clone()?, Some(root.clone()?), command))
+fn tell(rt: &impl Abort, alloc: Global, root: &Text, round: u64) -> Step {
+    let command = telling(rt, alloc, round);
+    Step::Node(text(rt, alloc, "default"), Some(copied(rt, root)), command)
 }
 
-fn list(alloc: Global) -> Result<GoodAsk, AllocError> {
-    Ok(GoodAsk::new(AskCommand::ListJobs(Text::from_str(alloc, "")?)))
+fn ask(rt: &impl Abort, namespace: &Text, root: &Text, command: GoodAsk) -> Step {
+    Step::Ask(copied(rt, namespace), Some(copied(rt, root)), command)
+}
+
+/// A step of a worker, by its place in a round.
+fn work(rt: &impl Abort, namespace: &Text, round: u64, place: u64) -> Step {
+    let (worker, namespace) = (round % 4, copied(rt, namespace));
+    match place {
+        3 | 9 => Step::Dequeue(worker, namespace, round / 2 + 1),
+        4 | 6 => Step::Snap(worker, namespace),
+        5 => Step::Submit(worker, namespace),
+        7 => Step::Apply(worker, namespace),
+        _ => Step::Finish(worker, namespace),
+    }
 }
 
 /// The step at that place of a round: a job of the namespace is registered, and a worker takes its evaluation, which is the one
 /// of that number, looks, and looks once too often, has its plan applied and finishes. Then it takes it once too often.
 fn step_at(
+    rt: &impl Abort,
     alloc: Global,
     root: &Text,
     namespace: &Text,
     round: u64,
     place: u64,
-) -> Result<Step, AllocError> {
-    let (worker, number) = (round % 4, round / 2 + 1);
+) -> Step {
     match place {
-        0 => node(alloc, root, round),
-        1 => ask(namespace, root, jobs::registration(alloc, round)?),
-        2 => ask(namespace, root, list(alloc)?),
-        3 | 9 => Ok(Step::Dequeue(worker, namespace.clone()?, number)),
-        4 | 6 => Ok(Step::Snap(worker, namespace.clone()?)),
-        5 => Ok(Step::Submit(worker, namespace.clone()?)),
-        7 => Ok(Step::Apply(worker, namespace.clone()?)),
-        _ => Ok(Step::Finish(worker, namespace.clone()?)),
+        0 => tell(rt, alloc, root, round),
+        1 => ask(rt, namespace, root, jobs::registration(rt, alloc, round)),
+        2 => ask(rt, namespace, root, jobs::list(rt, alloc)),
+        _ => work(rt, namespace, round, place),
     }
-}
-
-fn push(steps: &mut Vec<Step>, step: Result<Step, AllocError>) -> Result<(), AllocError> {
-    steps.push(step?)?;
-    Ok(())
 }
 
 fn push_round(
-    steps: &mut Vec<Step>,
+    rt: &impl Abort,
     alloc: Global,
+    steps: &mut Vec<Step>,
     root: &Text,
     namespace: &Text,
     round: u64,
-) -> Result<(), AllocError> {
+) {
     for place in 0..10 {
-        push(steps, step_at(alloc, root, namespace, round, place))?;
+        push(rt, steps, step_at(rt, alloc, root, namespace, round, place));
     }
-    Ok(())
 }
 
 /// The namespace beside `default` is put.
-fn team(alloc: Global, root: &Text) -> Result<Step, AllocError> {
+fn team(rt: &impl Abort, alloc: Global, root: &Text) -> Step {
     let record = Namespace {
-        description: Text::from_str(alloc, "")?,
+        description: text(rt, alloc, ""),
         quota: None,
-        default_pool: Text::from_str(alloc, "default")?,
+        default_pool: text(rt, alloc, "default"),
         allowed: None,
         denied: Rows::new(alloc),
     };
-    let name = Text::from_str(alloc, "team")?;
-    let command = GoodAdmin::new(AdminCommand::PutNamespace(name, record));
-    Ok(Step::Admin(Some(root.clone()?), command))
+    let command = AdminCommand::PutNamespace(text(rt, alloc, "team"), record);
+    Step::Admin(Some(copied(rt, root)), GoodAdmin::new(command))
 }
 
 /// The rounds of the script, which go to the two namespaces in turn.
-fn push_rounds(
-    steps: &mut Vec<Step>,
-    alloc: Global,
-    root: &Text,
-    first: &Text,
-    second: &Text,
-) -> Result<(), AllocError> {
+fn push_rounds(rt: &impl Abort, alloc: Global, steps: &mut Vec<Step>, root: &Text) {
+    let first = text(rt, alloc, "default");
+    let second = text(rt, alloc, "team");
     for pair in 0..ROUNDS / 2 {
-        push_round(steps, alloc, root, first, pair * 2)?;
-        push_round(steps, alloc, root, second, pair * 2 + 1)?;
+        push_round(rt, alloc, steps, root, &first, pair * 2);
+        push_round(rt, alloc, steps, root, &second, pair * 2 + 1);
     }
-    Ok(())
 }
 
-fn script(alloc: Global, root: &Text) -> Result<Vec<Step>, AllocError> {
+fn script(rt: &impl Abort, alloc: Global, root: &Text) -> Vec<Step> {
     let mut steps = Vec::new(alloc);
-    push(&mut steps, team(alloc, root))?;
-    let first = Text::from_str(alloc, "default")?;
-    let second = Text::from_str(alloc, "team")?;
-    push_rounds(&mut steps, alloc, root, &first, &second)?;
-    Ok(steps)
+    push(rt, &mut steps, team(rt, alloc, root));
+    push_rounds(rt, alloc, &mut steps, root);
+    steps
 }
 
 // ---- the two ways
 
-fn one_by_one(core: &mut Core, alloc: Global, steps: &[Step]) -> Result<Vec<Told>, AllocError> {
+fn one_by_one(rt: &impl Abort, alloc: Global, core: &mut Core, steps: &[Step]) -> Vec<Told> {
     let mut all = Vec::new(alloc);
     for wanted in steps {
-        all.push(seen(step(alloc, core, wanted), told))?;
+        push(rt, &mut all, seen(step(alloc, core, wanted), told));
     }
-    Ok(all)
+    all
 }
 
 /// Adds what a run was answered, and says how many steps of the list that leaves behind it.
-fn push_run(all: &mut Vec<Told>, ran: &Ran) -> Result<usize, AllocError> {
+fn push_run(rt: &impl Abort, all: &mut Vec<Told>, ran: &Ran) -> usize {
     for answer in ran.answers.as_slice() {
-        all.push(told(answer))?;
+        push(rt, all, told(answer));
     }
     let Some(refusal) = ran.stop else {
-        return Ok(ran.answers.len());
+        return ran.answers.len();
     };
-    all.push(told_refusal(refusal))?;
-    Ok(ran.answers.len().saturating_add(1))
+    push(rt, all, told_refusal(refusal));
+    ran.answers.len().saturating_add(1)
 }
 
 /// By runs, each of which goes on behind the step at which the last one stopped.
-fn by_runs(core: &mut Core, alloc: Global, steps: &[Step]) -> Result<Vec<Told>, AllocError> {
+fn by_runs(rt: &impl Abort, alloc: Global, core: &mut Core, steps: &[Step]) -> Vec<Told> {
     let mut all = Vec::new(alloc);
     let mut rest = steps;
     for _ in 0..steps.len() {
         let ran = run(alloc, core, rest);
-        let behind = push_run(&mut all, &ran);
+        let behind = push_run(rt, &mut all, &ran);
         drop(ran);
-        let (_, left) = rest.split_at(behind?.min(rest.len()));
+        let (_, left) = rest.split_at(behind.min(rest.len()));
         rest = left;
         if rest.is_empty() {
             break;
         }
     }
-    Ok(all)
+    all
 }
 
 /// Whether nothing is ready or planned any more, and the workers are idle.
@@ -227,43 +222,42 @@ fn is_as_wanted(all: &[Told]) -> bool {
     right
 }
 
-/// What the steps are answered by a new core, which rests in the end.
+/// What the steps are answered by the core, which rests in the end.
 fn all_told(
+    rt: &impl Abort,
+    alloc: Global,
+    core: &mut Core,
+    steps: &[Step],
+    joined: bool,
+) -> Vec<Told> {
+    let all = if joined {
+        by_runs(rt, alloc, core, steps)
+    } else {
+        one_by_one(rt, alloc, core, steps)
+    };
+    assert!(rt; rests(core));
+    all
+}
+
+/// What the steps are answered by a new core.
+fn told_anew(
+    rt: &impl Abort,
     alloc: Global,
     root: &Secret,
     steps: &[Step],
     joined: bool,
-) -> Result<Option<Vec<Told>>, AllocError> {
-    let mut core = Core::new(alloc, root)?;
-    let all = if joined {
-        by_runs(&mut core, alloc, steps)
-    } else {
-        one_by_one(&mut core, alloc, steps)
-    };
-    let ends = rests(&core);
-    drop(core);
-    let all = all?;
-    Ok(if ends { Some(all) } else { None })
-}
-
-fn is_told_alike(alloc: Global, root: &Secret) -> Result<bool, AllocError> {
-    let steps = script(alloc, root.get())?;
-    let singly = all_told(alloc, root, steps.as_slice(), false);
-    let joined = all_told(alloc, root, steps.as_slice(), true);
-    drop(steps);
-    match (singly?, joined?) {
-        (Some(singly), Some(joined)) => {
-            let (singly, joined) = (singly.as_slice(), joined.as_slice());
-            Ok(is_as_wanted(singly) && singly == joined)
-        }
-        _ => Ok(false),
-    }
+) -> Vec<Told> {
+    let core = Core::new(alloc, root);
+    with(rt, core, |core| all_told(rt, alloc, core, steps, joined))
 }
 
 #[test]
-fn runs_are_steps_one_by_one(rt: HostRuntime) -> Result<(), Fail> {
+fn runs_are_steps_one_by_one(rt: HostRuntime) {
     let alloc = rt.alloc();
-    let root = root(alloc)?;
-    assert!(rt; is_told_alike(alloc, &root)?);
-    Ok(())
+    let root = root(&rt, alloc);
+    let steps = script(&rt, alloc, root.get());
+    let singly = told_anew(&rt, alloc, &root, steps.as_slice(), false);
+    let joined = told_anew(&rt, alloc, &root, steps.as_slice(), true);
+    assert!(rt; is_as_wanted(singly.as_slice()));
+    assert!(rt; singly.as_slice() == joined.as_slice());
 }

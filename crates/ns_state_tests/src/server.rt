@@ -1,6 +1,7 @@
 // What is asked in a namespace, with ample memory: a call that was refused for memory is made again.
-ghost use Rattle.std.specs.Prelude.{◌≡◌, ◌∷◌, [], IfOk, codes};
+ghost use Rattle.std.specs.Prelude.{◌≡◌, ◌∷◌, [], codes};
 
+use crate::made::{only, text};
 use crate::owned::seen;
 use ns_core::Core;
 use ns_types::good::GoodAsk;
@@ -11,46 +12,34 @@ use ns_types::reply::{Content, Reply};
 use ns_types::resources::Resources;
 use ns_types::rows::Rows;
 use ns_types::text::Text;
-use std::alloc::{AllocError, Global};
+use std::alloc::Global;
+use std::process::Abort;
 
 /// The secret of the first token.
-pub(crate) fn root(alloc: Global) -> Result<Secret, AllocError> {
-    match Secret::read(alloc, "root")? {
-        Some(root) => Ok(root),
-        None => unreachable!(),
-    }
-}
-
-fn tasks(alloc: Global) -> Result<Rows<Task>, AllocError>
-    ensures { let size : Resources = record { cpu = 100; memory = 300 } in
-        let task : Task = record { name = codes "t"; resources = size } in
-        IfOk result (λ tasks. tasks ≡ task ∷ []) }
-{
-    let mut tasks = Rows::new(alloc);
-    tasks.push(Task {
-        name: Text::from_str(alloc, "t")?,
-        resources: Resources {
-            cpu: 100,
-            memory: 300,
-        },
-    })?;
-    Ok(tasks)
+pub(crate) fn root(rt: &impl Abort, alloc: Global) -> Secret {
+    let root = Secret::read(alloc, "root").expect(rt, "memory");
+    root.expect(rt, "a secret")
 }
 
 /// One group of one task.
-pub(crate) fn groups(alloc: Global) -> Result<Rows<Group>, AllocError>
+pub(crate) fn groups(rt: &impl Abort, alloc: Global) -> Rows<Group>
     ensures { let size : Resources = record { cpu = 100; memory = 300 } in
         let task : Task = record { name = codes "t"; resources = size } in
         let group : Group = record { name = codes "g"; count = 1; tasks = task ∷ [] } in
-        IfOk result (λ groups. groups ≡ group ∷ []) }
+        result ≡ group ∷ [] }
 {
-    let mut groups = Rows::new(alloc);
-    groups.push(Group {
-        name: Text::from_str(alloc, "g")?,
+    let resources = Resources {
+        cpu: 100,
+        memory: 300,
+    };
+    let name = text(rt, alloc, "t");
+    let tasks = only(rt, alloc, Task { name, resources });
+    let group = Group {
+        name: text(rt, alloc, "g"),
         count: 1,
-        tasks: tasks(alloc)?,
-    })?;
-    Ok(groups)
+        tasks,
+    };
+    only(rt, alloc, group)
 }
 
 pub(crate) fn asked(
@@ -77,29 +66,22 @@ fn numbers(answer: &Result<Reply, Refusal>) -> Option<(u64, u64, u64)> {
     }
 }
 
-fn refusal(answer: &Result<Reply, Refusal>) -> Option<Refusal> {
-    match answer {
-        Ok(_) => None,
-        Err(refusal) => Some(*refusal),
-    }
-}
-
-pub(crate) fn is_refused(
-    core: &mut Core,
-    secret: Option<&Text>,
-    namespace: &Text,
-    command: &GoodAsk,
-    wanted: Refusal,
-) -> bool {
-    seen(asked(core, secret, namespace, command), refusal) == Some(wanted)
-}
-
-pub(crate) fn is_registered(
+/// What refuses the command; nothing, where it is served.
+pub(crate) fn refusal(
     core: &mut Core,
     secret: &Text,
     namespace: &Text,
     command: &GoodAsk,
-    wanted: (u64, u64, u64),
-) -> bool {
-    seen(asked(core, Some(secret), namespace, command), numbers) == Some(wanted)
+) -> Option<Refusal> {
+    asked(core, Some(secret), namespace, command).err()
+}
+
+/// The numbers that a registration is answered: the evaluation's, its index, the job's.
+pub(crate) fn registered(
+    core: &mut Core,
+    secret: &Text,
+    namespace: &Text,
+    command: &GoodAsk,
+) -> Option<(u64, u64, u64)> {
+    seen(asked(core, Some(secret), namespace, command), numbers)
 }

@@ -1,27 +1,28 @@
 // Workers that look one after the other share the nodes that did not change. A node that changed is made anew, and what holds
 // it as it was keeps it so.
 
-use crate::jobs::registers;
-use crate::nodes::{answer, eligibility, registration};
-use crate::owned::holds;
+ghost use Rattle.std.specs.Prelude.{IsTrue};
+ghost use Rattle.ns_types.specs.declared.name.NameKind.TheVariants as NameKind;
+ghost use Rattle.ns_types.specs.State.Name.{is_name};
+
+use crate::jobs::registers_all;
+use crate::made::text;
+use crate::nodes::{eligibility, refusal, registration};
+use crate::owned::with;
 use crate::server::root;
 use crate::workers::{look, take};
 use ns_core::Core;
 use ns_types::good::GoodTelling;
-use ns_types::refusal::Refusal;
 use ns_types::resources::Resources;
 use ns_types::shared::Shared;
 use ns_types::snapshot::Snapshot;
 use ns_types::text::Text;
-use std::alloc::{AllocError, Global};
-use std::test::Fail;
+use std::alloc::Global;
+use std::process::Abort;
 
 /// How many own the only node that is seen, and whether it is eligible. None: not one node is seen.
-fn only_node(seen: &Result<Shared<Snapshot>, Refusal>) -> Option<(usize, bool)> {
-    let Ok(shared) = seen else {
-        return None;
-    };
-    match shared.get().nodes.as_slice() {
+fn only_node(seen: &Shared<Snapshot>) -> Option<(usize, bool)> {
+    match seen.get().nodes.as_slice() {
         [node] => Some((node.owners(), node.get().row.eligible)),
         _ => None,
     }
@@ -29,70 +30,66 @@ fn only_node(seen: &Result<Shared<Snapshot>, Refusal>) -> Option<(usize, bool)> 
 
 /// What the worker sees that takes the evaluation of that number.
 fn sees(
+    rt: &impl Abort,
     core: &mut Core,
     worker: u64,
     namespace: &Text,
     number: u64,
-) -> Result<Shared<Snapshot>, Refusal> {
-    if take(core, worker, namespace, number) != Ok(Some(number)) {
-        return Err(Refusal::NotEnabled);
-    }
-    look(core, worker, namespace)
-}
-
-/// Three jobs, each with an evaluation of its number.
-fn registers_three(
-    core: &mut Core,
-    alloc: Global,
-    root: &Text,
-    default: &Text,
-) -> Result<bool, AllocError> {
-    let mut right = true;
-    for number in 1..4 {
-        right &= registers(core, alloc, root, default, number, (number, number, number))?;
-    }
-    Ok(right)
+) -> Shared<Snapshot> {
+    assert!(rt; take(core, worker, namespace, number) == Ok(Some(number)));
+    look(core, worker, namespace).expect(rt, "a snapshot")
 }
 
 /// Whether three workers that look one after the other share the node until `shut` makes it ineligible.
-fn looks_share(core: &mut Core, root: &Text, default: &Text, shut: GoodTelling) -> bool {
-    let first = sees(core, 0, default, 1);
+fn looks_share(
+    rt: &impl Abort,
+    core: &mut Core,
+    root: &Text,
+    default: &Text,
+    shut: &GoodTelling,
+) -> bool {
+    let first = sees(rt, core, 0, default, 1);
     let mut right = only_node(&first) == Some((2, true));
-    let second = sees(core, 1, default, 2);
+    let second = sees(rt, core, 1, default, 2);
     right &= only_node(&first) == Some((3, true)) && only_node(&second) == Some((3, true));
-    right &= answer(core, Some(root), default, shut).is_none();
-    let third = sees(core, 2, default, 3);
-    right &= only_node(&first) == Some((2, true)) && only_node(&third) == Some((2, false));
-    drop(first);
-    drop(second);
-    drop(third);
-    right
+    right &= refusal(core, root, default, shut).is_none();
+    let third = sees(rt, core, 2, default, 3);
+    right && only_node(&first) == Some((2, true)) && only_node(&third) == Some((2, false))
 }
 
-fn shares(core: &mut Core, alloc: Global, root: &Text) -> Result<bool, AllocError> {
-    let default = Text::from_str(alloc, "default")?;
-    let node = Text::from_str(alloc, "n1")?;
+/// Whether a node is registered, and three jobs, each with an evaluation of its number.
+fn registers(
+    rt: &impl Abort,
+    alloc: Global,
+    core: &mut Core,
+    root: &Text,
+    default: &Text,
+    node: &Text,
+) -> bool
+    requires { IsTrue (is_name NameKind.Node node.now) }
+{
     let capacity = Resources {
         cpu: 400,
         memory: 500,
     };
-    let offer = registration(alloc, &node, capacity)?;
-    let mut right = answer(core, Some(root), &default, offer).is_none();
-    right &= registers_three(core, alloc, root, &default)?;
-    let shut = eligibility(&node, false)?;
-    right &= looks_share(core, root, &default, shut);
-    Ok(right)
+    let offer = registration(rt, alloc, node, capacity);
+    let refusal = refusal(core, root, default, &offer);
+    drop(offer);
+    refusal.is_none() && registers_all(rt, alloc, core, root, default, 4)
+}
+
+fn shares(rt: &impl Abort, alloc: Global, core: &mut Core, root: &Text) -> bool {
+    let default = text(rt, alloc, "default");
+    let node = text(rt, alloc, "n1");
+    let registers = registers(rt, alloc, core, root, &default, &node);
+    let shut = eligibility(rt, &node, false);
+    registers && looks_share(rt, core, root, &default, &shut)
 }
 
 #[test]
-fn snapshots_share_what_did_not_change(rt: HostRuntime) -> Result<(), Fail> {
+fn snapshots_share_what_did_not_change(rt: HostRuntime) {
     let alloc = rt.alloc();
-    let root = root(alloc)?;
-    assert!(rt;
-        holds(
-            Core::new(alloc, &root),
-            |core| shares(core, alloc, root.get())
-        )?
-    );
-    Ok(())
+    let root = root(&rt, alloc);
+    let core = Core::new(alloc, &root);
+    assert!(rt; with(&rt, core, |core| shares(&rt, alloc, core, root.get())));
 }

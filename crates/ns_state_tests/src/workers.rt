@@ -10,7 +10,6 @@ use ns_types::shared::Shared;
 use ns_types::snapshot::Snapshot;
 use ns_types::text::Text;
 
-/// The evaluation that was taken, or why none was.
 fn taken(answer: &Result<Reply, Refusal>) -> Result<Option<u64>, Refusal> {
     match answer {
         Ok(reply) => match &reply.content {
@@ -21,6 +20,7 @@ fn taken(answer: &Result<Reply, Refusal>) -> Result<Option<u64>, Refusal> {
     }
 }
 
+/// The evaluation that was taken, or why none was.
 pub(crate) fn take(
     core: &mut Core,
     worker: u64,

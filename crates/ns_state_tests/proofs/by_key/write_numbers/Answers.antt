@@ -5,7 +5,7 @@ use Rattle.keyed.proofs.Tables.{has_slot-with_slot_here}
 use Rattle.ns_state_tests.proofs.by_key.write_numbers.Goals as goal
 
 pub set-requires : goal.set-requires
-set-requires c = subst (λ m. IsTrue (has_slot m 6)) (sym c.in_ok-reserve-3.ensures.ok) (has_slot-with_slot_here numbers _ _)
+set-requires g c = subst (λ m. IsTrue (has_slot m 6)) (sym c.reserve_number-3.ensures) (has_slot-with_slot_here numbers _ _)
 
 pub set-requires-2 : goal.set-requires-2
-set-requires-2 c = subst (λ m. IsTrue (has_slot m 1)) (sym c.in_ok-reserve-4.ensures.ok) (has_slot-with_slot_here numbers _ _)
+set-requires-2 g c = subst (λ m. IsTrue (has_slot m 1)) (sym c.reserve_number-4.ensures) (has_slot-with_slot_here numbers _ _)

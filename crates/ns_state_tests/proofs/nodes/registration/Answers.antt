@@ -21,9 +21,9 @@ good : (size : Resources) (node : Name) → IsTrue (is_name NameKind.Node node) 
 good size node named amount = (both_true {s = is_name NameKind.Node node} {t = is_amount size} named amount, entries_empty names one_name)
 
 pub new-requires-2 : goal.new-requires-2
-new-requires-2 c =
+new-requires-2 g c =
     let size = c.args.capacity in
-    subst (λ (node : Name). IsGood size node c.in_ok-from_str.field-0 c.new.result) (sym c.in_ok-clone.ensures.cases)
-    (subst (λ (class : Name). IsGood size c.args.node.now class c.new.result) (sym c.in_ok-from_str.ensures)
+    subst (λ (node : Name). IsGood size node c.text.result c.new.result) (sym c.copied.ensures)
+    (subst (λ (class : Name). IsGood size c.args.node.now class c.new.result) (sym c.text.ensures)
     (subst (λ (attributes : List Attribute). IsGood size c.args.node.now (codes "linux") attributes) (sym c.new.ensures)
     (good size c.args.node.now c.requires.name c.requires.capacity)))
