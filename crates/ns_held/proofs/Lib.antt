@@ -1,0 +1,4 @@
+mod Logged
+mod Planned
+mod Reading
+mod Rooms

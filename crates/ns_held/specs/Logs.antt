@@ -1,0 +1,39 @@
+-- A server with the log of what it did since a first state.
+use Rattle.std.specs.Prelude.{◌≡◌, ◌<◌, ◌≤◌, ℕ, List, [], ◌∷◌, ◌++◌, length, None, Err}
+use Rattle.ns_types.specs.declared.refusal.Refusal.{Refusal}
+use Rattle.ns_types.specs.declared.step.Step.{Step}
+use Rattle.ns_types.specs.State.Rows.{State}
+use Rattle.ns_types.specs.Steps.{Answer, after, said}
+use Rattle.ns_json.specs.Replies.{Entry, IsKept, rendered}
+
+-- where it began, what it did since, with each answer as bytes, and where it is; and how many entries it keeps
+pub record History : Type 0 where
+  pub base : State
+  pub log : List Entry
+  pub state : State
+  pub limit : ℕ
+
+-- the log's steps and rendered answers are a run from the base to the state, and are no more than the limit
+abbrev pub Stands : History → Type 0
+Stands h = IsKept h.base h.log h.state × (length h.log ≤ h.limit)
+
+abbrev pub IsFull : History → Type 0
+IsFull h = length h.log ≡ h.limit
+
+abbrev pub HasPlace : History → Type 0
+HasPlace h = length h.log < h.limit
+
+-- the step was made with that answer, and one entry was added: that step with the rendering of its answer
+pub record IsLogged (step : Step) (old : History) (answer : Answer) (new : History) : Type 0 where
+  pub made : after step old.state ≡ said answer new.state
+  pub entry : new.log ≡ old.log ++ (step, rendered answer) ∷ []
+  pub base : new.base ≡ old.base
+  pub limit : new.limit ≡ old.limit
+
+-- What a call for a step does, by its answer. That the log is full comes before all else, and want of memory may come
+-- next. These, and a call out of turn, are no steps, and change nothing. Every other answer is the step's, and is logged.
+abbrev pub Logs : Step → History → Answer → History → Type 0
+Logs step old (Err Refusal.LogFull) new = IsFull old × (new ≡ old)
+Logs step old (Err Refusal.Memory) new = HasPlace old × (new ≡ old)
+Logs step old (Err Refusal.NotEnabled) new = HasPlace old × (after step old.state ≡ None) × (new ≡ old)
+Logs step old answer new = HasPlace old × IsLogged step old answer new

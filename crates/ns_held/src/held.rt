@@ -1,0 +1,75 @@
+//! A server with the log of what it did.
+
+ghost use Rattle.std.specs.Prelude.{◌≡◌, ◌↔◌, [], IsTrue};
+ghost use Rattle.ns_json.specs.Replies.{IsKept};
+ghost use Rattle.ns_held.specs.Logs.{IsFull};
+
+use ns_core::Core;
+use ns_log::Entry;
+use std::alloc::Global;
+use std::marker::Model;
+use std::snapshot::Snapshot;
+
+/// A server, with an entry for each step that it made since its log began. Contracts see it as a history, whose log is a run
+/// from where it began to where it is.
+#[derive(Drop)]
+pub struct Held {
+    /// Where the log begins.
+    pub(crate) base: Snapshot<Core>,
+    pub(crate) core: Core,
+    pub(crate) log: Vec<Entry>,
+    /// How many entries the log has at most.
+    pub(crate) limit: u64,
+}
+
+impl Model for Held {
+    ghost use Rattle.std.specs.Coded.{codes};
+    ghost use Rattle.std.specs.FinMap.{code};
+    ghost use Rattle.std.specs.Prelude.{◌≤◌, length};
+    ghost use Rattle.ns_json.specs.Replies.{IsKept};
+    ghost use Rattle.ns_held.specs.Logs.{History};
+
+    ghost Value = { History };
+
+    ghost coded = { Prim.hlevel (codes, code) };
+
+    ghost view = { λ h. record { base = h.base.value; log = h.log.items; state = h.core; limit = h.limit } };
+
+    ghost invariant = { λ h. IsKept h.base.value h.log.items h.core × (length h.log.items ≤ h.limit) };
+}
+
+impl Held {
+    /// Begins the log of a server, which has at most so many entries.
+    pub fn new(alloc: Global, core: Core, limit: u64) -> Held
+        ensures { result ≡ record { base = core; log = []; state = core; limit = limit } }
+    {
+        Held {
+            base: Snapshot::of(&core),
+            core,
+            log: Vec::new(alloc),
+            limit,
+        }
+    }
+
+    /// The server, to be looked at.
+    pub fn core(&self) -> &Core
+        ensures { result.now ≡ self.now.state }
+    {
+        &self.core
+    }
+
+    /// The entries, in the order of their steps.
+    pub fn log(&self) -> &[Entry]
+        ensures entries { result.now ≡ self.now.log }
+        ensures run { IsKept self.now.base self.now.log self.now.state }
+    {
+        self.log.as_slice()
+    }
+
+    /// Whether the log takes no more entries.
+    pub fn is_full(&self) -> bool
+        ensures { IsTrue result ↔ IsFull self.now }
+    {
+        self.log.len() as u64 == self.limit
+    }
+}

@@ -1,0 +1,9 @@
+//! A server with the log of what it did: each step with its answer as bytes.
+#![tactic(auto)]
+
+mod held;
+mod noting;
+mod requests;
+mod work;
+
+pub use held::Held;
