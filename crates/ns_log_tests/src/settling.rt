@@ -1,0 +1,102 @@
+// Receipts of two callers, settled against the log of a server.
+use crate::keeping::kept;
+use crate::steps::{job_is_registered, pool_is_put, text};
+use ns_held::Held;
+use ns_receipts::{Receipt, SettleFault, settle};
+use ns_types::reply::Rendered;
+use ns_types::step::Step;
+use std::alloc::Global;
+use std::process::Abort;
+
+const REGISTERED: &str =
+    "{\"EvalCreateIndex\":1,\"EvalID\":\"00000000-0000-0001-0000-000000000001\",\"JobModifyIndex\":1}";
+
+const TOOK: &str = "{\"Took\":\"00000000-0000-0001-0000-000000000001\"}";
+
+fn rendered(rt: &impl Abort, alloc: Global, index: Option<u64>, body: &str) -> Rendered {
+    Rendered {
+        status: 200,
+        index,
+        body: text(rt, alloc, body),
+    }
+}
+
+fn of_pool(rt: &impl Abort, alloc: Global) -> Receipt {
+    Receipt {
+        place: 0,
+        step: pool_is_put(rt, alloc),
+        rendered: rendered(rt, alloc, None, "{}"),
+    }
+}
+
+fn of_job(rt: &impl Abort, alloc: Global, body: &str) -> Receipt {
+    Receipt {
+        place: 1,
+        step: job_is_registered(rt, alloc),
+        rendered: rendered(rt, alloc, Some(1), body),
+    }
+}
+
+fn of_worker(rt: &impl Abort, alloc: Global) -> Receipt {
+    Receipt {
+        place: 2,
+        step: Step::Dequeue(0, text(rt, alloc, "default"), 1),
+        rendered: rendered(rt, alloc, None, TOOK),
+    }
+}
+
+fn push(rt: &impl Abort, seat: &mut Vec<Receipt>, receipt: Receipt) {
+    seat.push(receipt).expect(rt, "memory");
+}
+
+/// The receipts of a caller that put the pool and, if it says so, of the worker's step.
+fn first(rt: &impl Abort, alloc: Global, worked: bool) -> Vec<Receipt> {
+    let mut seat = Vec::new(alloc);
+    push(rt, &mut seat, of_pool(rt, alloc));
+    if worked {
+        push(rt, &mut seat, of_worker(rt, alloc));
+    }
+    seat
+}
+
+/// The receipts of a caller that registered the job and, if it says so, of the worker's step.
+fn second(rt: &impl Abort, alloc: Global, body: &str, worked: bool) -> Vec<Receipt> {
+    let mut seat = Vec::new(alloc);
+    push(rt, &mut seat, of_job(rt, alloc, body));
+    if worked {
+        push(rt, &mut seat, of_worker(rt, alloc));
+    }
+    seat
+}
+
+/// What becomes of the receipts of both.
+fn settled(
+    rt: &impl Abort,
+    alloc: Global,
+    held: &Held,
+    first: Vec<Receipt>,
+    second: Vec<Receipt>,
+) -> Result<(), SettleFault> {
+    let mut seats = Vec::new(alloc);
+    seats.push(first).expect(rt, "memory");
+    seats.push(second).expect(rt, "memory");
+    settle(alloc, held.log(), seats.as_slice())
+}
+
+#[test]
+fn receipts_settle_or_differ_at_the_first_fault(rt: HostRuntime) {
+    let alloc = rt.alloc();
+    let held = kept(&rt, alloc);
+    let with = |worked: bool, body: &str, again: bool| {
+        let first = first(&rt, alloc, worked);
+        let second = second(&rt, alloc, body, again);
+        settled(&rt, alloc, &held, first, second)
+    };
+    let at = |seat: u64, place: u64| Err(SettleFault::Mismatch { seat, place });
+    assert!(rt; with(true, REGISTERED, false) == Ok(()));
+    assert!(rt; with(false, REGISTERED, true) == Ok(()));
+    assert!(rt; with(true, REGISTERED, true) == at(1, 2));
+    assert!(rt; with(false, REGISTERED, false) == at(2, 2));
+    assert!(rt; with(true, "{}", false) == at(1, 1));
+    drop(held);
+}
