@@ -1,0 +1,14 @@
+pub mod Spelled
+pub mod Feeds
+pub mod Lists
+pub mod Values
+pub mod Jobs
+pub mod Documents
+pub mod Bodies
+pub mod Steps
+pub mod Entries
+pub mod Lines
+pub mod Calls
+pub mod Lasts
+pub mod Loops
+pub mod LawLemmas

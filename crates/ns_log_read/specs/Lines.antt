@@ -1,0 +1,120 @@
+-- Which texts are logs, and which line of another text is the first bad one.
+use Rattle.std.specs.Prelude.{◌≡◌, ◌≢◌, ◌⊎◌, ℕ, ◌+◌, ◌^◌, ◌&&◌, nat_lt, Bool, true, List, [], ◌++◌, length, Option, Ok}
+use Rattle.std.specs.Prelude.{codes, IsTrue, IsUtf8}
+use Rattle.std.specs.Option.{option_map_or}
+use Rattle.serde_json.specs.Written.{compact_text}
+use Rattle.ns_types.specs.declared.name.NameKind.TheVariants as NameKind
+use Rattle.ns_types.specs.declared.reply.Rendered.{Rendered}
+use Rattle.ns_types.specs.declared.step.AdminCommand.{AdminCommand}
+use Rattle.ns_types.specs.declared.step.AskCommand.{AskCommand}
+use Rattle.ns_types.specs.declared.step.NodeCommand.{NodeCommand}
+use Rattle.ns_types.specs.declared.step.Step.{Step}
+use Rattle.ns_types.specs.State.Lists.{Each}
+use Rattle.ns_types.specs.State.Name.{is_name}
+use Rattle.ns_types.specs.State.Names.{Name}
+use Rattle.ns_types.specs.Within.{IsGoodStep}
+use Rattle.ns_policy.specs.Json.{rules_of}
+use Rattle.ns_json.specs.Logs.{entry_json, line_of, log_text}
+use Rattle.ns_json.specs.Replies.{Entry}
+
+-- ---- entries
+
+-- the first line of a log, and the line of an entry, without the line feed
+abbrev pub first_text : Name → Name
+first_text secret = codes "nsd-log 1 " ++ secret
+
+abbrev pub entry_text : Entry → Name
+entry_text e = compact_text (entry_json e)
+
+abbrev pub fits : ℕ → Bool
+fits n = nat_lt n (2 ^ 64)
+
+abbrev pub fits_if_any : Option ℕ → Bool
+fits_if_any n = option_map_or fits n true
+
+abbrev pub ask_fits : AskCommand → Bool
+ask_fits (AskCommand.Register r) = fits_if_any r.enforced
+ask_fits (AskCommand.ReadEvaluation n) = fits n
+ask_fits (AskCommand.ReadAllocation n) = fits n
+ask_fits (AskCommand.StopAllocation n) = fits n
+ask_fits (AskCommand.Events n) = fits n
+ask_fits _ = true
+
+abbrev pub telling_fits : NodeCommand → Bool
+telling_fits (NodeCommand.Report name report) = fits report.number
+telling_fits _ = true
+
+-- the numbers that no limit of a step bounds fit 64 bits
+abbrev pub step_fits : Step → Bool
+step_fits (Step.Ask ns secret command) = ask_fits command
+step_fits (Step.Admin secret command) = true
+step_fits (Step.Node pool secret command) = telling_fits command
+step_fits (Step.Dequeue worker ns n) = fits worker && fits n
+step_fits (Step.Snap worker ns) = fits worker
+step_fits (Step.Submit worker ns) = fits worker
+step_fits (Step.Apply worker ns) = fits worker
+step_fits (Step.Finish worker ns) = fits worker
+step_fits (Step.Nack worker ns) = fits worker
+
+abbrev pub answer_fits : Rendered → Bool
+answer_fits r = nat_lt r.status (2 ^ 16) && fits_if_any r.index
+
+-- a policy has the rules that its text says
+abbrev pub HasReadRules : AdminCommand → Type 0
+HasReadRules (AdminCommand.PutPolicy name policy) = rules_of policy.text ≡ Ok policy.rules
+HasReadRules _ = Unit {0}
+
+abbrev pub IsAsRead : Step → Type 0
+IsAsRead (Step.Admin secret command) = HasReadRules command
+IsAsRead _ = Unit {0}
+
+-- Its step is within the limits of every step, and its numbers are those of values that a program holds.
+pub record IsWithin (e : Entry) : Type 0 where
+  pub good : IsGoodStep e.0
+  pub as_read : IsAsRead e.0
+  pub step : IsTrue (step_fits e.0)
+  pub answer : IsTrue (answer_fits e.1)
+
+-- A log may hold the entry.
+pub record IsWritable (e : Entry) : Type 0 where
+  pub within : IsWithin e
+  -- so are its texts
+  pub text : IsUtf8 (entry_text e)
+
+-- ---- logs
+
+-- the text is that of the secret and of the entries
+pub record IsLogOf (text secret : Name) (entries : List Entry) : Type 0 where
+  pub is_secret : IsTrue (is_name NameKind.Secret secret)
+  pub writable : Each IsWritable entries
+  pub is_text : text ≡ log_text secret entries
+
+-- ---- the first bad line
+
+-- the first line of the text is this one, line feed included; it has no other line feed
+abbrev pub BeginsWith : Name → Name → Type 0
+BeginsWith text line = (rest : Name) × (text ≡ line_of line ++ rest)
+
+-- the text begins with the first line of no log
+abbrev pub HasBadHead : Name → Type 0
+HasBadHead text = (secret : Name) → IsTrue (is_name NameKind.Secret secret) → BeginsWith text (first_text secret) → ⊥
+
+-- the text begins with the line of no entry
+abbrev pub HasBadEntry : Name → Type 0
+HasBadEntry text = (e : Entry) → IsWritable e → BeginsWith text (entry_text e) → ⊥
+
+-- The lines before the n-th are a log's text. Something comes after them, and its first line is no entry's.
+pub record IsBadAfter (text : Name) (n : ℕ) : Type 0 where
+  pub secret : Name
+  pub entries : List Entry
+  pub before : Name
+  pub rest : Name
+  pub is_log : IsLogOf before secret entries
+  pub is_text : text ≡ before ++ rest
+  pub is_number : n ≡ length entries + 2
+  pub is_more : rest ≢ []
+  pub is_bad : HasBadEntry rest
+
+-- lines are counted from 1
+abbrev pub IsFault : Name → ℕ → Type 0
+IsFault text n = ((n ≡ 1) × HasBadHead text) ⊎ IsBadAfter text n

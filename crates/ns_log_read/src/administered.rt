@@ -1,0 +1,135 @@
+//! What administrators ask.
+
+ghost use Rattle.std.specs.Prelude.{◌≤◌, IfOk, IsTrue};
+ghost use Rattle.serde_json.specs.Data.{depth};
+ghost use Rattle.serde_json.specs.Read.{max_depth};
+ghost use Rattle.serde_json.specs.View.{view};
+ghost use Rattle.ns_types.specs.Asking.Good.{is_good_admin};
+ghost use Rattle.ns_log_read.specs.Lines.{HasReadRules};
+ghost use Rattle.ns_log_read.specs.Reading.{Gives, same, put_policy_in, new_token_in, put_in, with_name, listing, administered_in};
+
+use crate::document;
+use crate::fault::LineFault;
+use crate::member::{has, member, name, text};
+use ns_types::name::NameKind;
+use ns_types::step::{AdminCommand, NewToken};
+use ns_types::text::Text;
+use serde_json::Value;
+use std::alloc::Global;
+
+#[tactic(auto, unfolding(crate::specs::Reading::put_policy_in))]
+fn put_policy(alloc: Global, value: &Value) -> Result<AdminCommand, LineFault>
+    requires { depth (view value.now) ≤ max_depth }
+    ensures value { Gives same result (put_policy_in (view value.now)) }
+    ensures good { IfOk result (λ c. IsTrue (is_good_admin c)) }
+    ensures rules { IfOk result HasReadRules }
+{
+    let name = name(alloc, value, "Name", NameKind::Policy)?;
+    let policy = document::policy(alloc, value)?;
+    Ok(AdminCommand::PutPolicy(name, policy))
+}
+
+#[tactic(auto, unfolding(crate::specs::Reading::new_token_in))]
+fn new_token(alloc: Global, value: &Value) -> Result<AdminCommand, LineFault>
+    requires { depth (view value.now) ≤ max_depth }
+    ensures value { Gives same result (new_token_in (view value.now)) }
+    ensures good { IfOk result (λ c. IsTrue (is_good_admin c)) }
+    ensures rules { IfOk result HasReadRules }
+{
+    let accessor = text(alloc, value, "AccessorID")?;
+    let secret = name(alloc, value, "SecretID", NameKind::Secret)?;
+    let token = document::token(alloc, value)?;
+    Ok(AdminCommand::CreateToken(NewToken {
+        accessor,
+        secret,
+        name: token.name,
+        kind: token.kind,
+        policies: token.policies,
+    }))
+}
+
+/// A document that is put.
+#[tactic(auto, unfolding(crate::specs::Reading::put_in))]
+fn put(alloc: Global, word: &str, value: &Value) -> Result<AdminCommand, LineFault>
+    requires { depth (view value.now) ≤ max_depth }
+    ensures value { Gives same result (put_in word.now (view value.now)) }
+    ensures good { IfOk result (λ c. IsTrue (is_good_admin c)) }
+    ensures rules { IfOk result HasReadRules }
+{
+    if word == "PutNamespace" {
+        let put = document::namespace(alloc, value)?;
+        Ok(AdminCommand::PutNamespace(put.name, put.namespace))
+    } else if word == "PutQuota" {
+        let put = document::quota(alloc, value)?;
+        Ok(AdminCommand::PutQuota(put.name, put.quota))
+    } else if word == "PutPool" {
+        let put = document::pool(alloc, value)?;
+        Ok(AdminCommand::PutPool(put.name, put.pool))
+    } else if word == "PutPolicy" {
+        put_policy(alloc, value)
+    } else if word == "CreateToken" {
+        new_token(alloc, value)
+    } else {
+        Err(LineFault::Bad)
+    }
+}
+
+/// What is done to the row of a name.
+#[tactic(auto, unfolding(crate::specs::Reading::with_name))]
+fn with_name(word: &str, name: Text) -> Result<AdminCommand, LineFault>
+    ensures value { Gives same result (with_name word.now name) }
+    ensures good { IfOk result (λ c. IsTrue (is_good_admin c)) }
+    ensures rules { IfOk result HasReadRules }
+{
+    if word == "DeleteNamespace" {
+        Ok(AdminCommand::DeleteNamespace(name))
+    } else if word == "ReadQuota" {
+        Ok(AdminCommand::ReadQuota(name))
+    } else if word == "DeleteQuota" {
+        Ok(AdminCommand::DeleteQuota(name))
+    } else if word == "DeletePool" {
+        Ok(AdminCommand::DeletePool(name))
+    } else if word == "ReadPolicy" {
+        Ok(AdminCommand::ReadPolicy(name))
+    } else if word == "DeletePolicy" {
+        Ok(AdminCommand::DeletePolicy(name))
+    } else {
+        Err(LineFault::Bad)
+    }
+}
+
+#[tactic(auto, unfolding(crate::specs::Reading::listing))]
+fn listing(word: &str) -> Result<AdminCommand, LineFault>
+    ensures value { Gives same result (listing word.now) }
+    ensures good { IfOk result (λ c. IsTrue (is_good_admin c)) }
+    ensures rules { IfOk result HasReadRules }
+{
+    if word == "ListNamespaces" {
+        Ok(AdminCommand::ListNamespaces)
+    } else if word == "ListQuotas" {
+        Ok(AdminCommand::ListQuotas)
+    } else if word == "ListPools" {
+        Ok(AdminCommand::ListPools)
+    } else {
+        Err(LineFault::Bad)
+    }
+}
+
+/// The command of that name. The arguments tell which it can be.
+#[tactic(auto, unfolding(crate::specs::Reading::administered_in))]
+pub fn administered(alloc: Global, word: &str, arguments: &Value) -> Result<AdminCommand, LineFault>
+    requires { depth (view arguments.now) ≤ max_depth }
+    ensures value { Gives same result (administered_in word.now (view arguments.now)) }
+    ensures good { IfOk result (λ c. IsTrue (is_good_admin c)) }
+    ensures rules { IfOk result HasReadRules }
+{
+    if has(arguments, "Doc") {
+        put(alloc, word, member(arguments, "Doc")?)
+    } else if has(arguments, "Name") {
+        with_name(word, text(alloc, arguments, "Name")?)
+    } else if has(arguments, "AccessorID") {
+        Ok(AdminCommand::DeleteToken(text(alloc, arguments, "AccessorID")?))
+    } else {
+        listing(word)
+    }
+}

@@ -1,0 +1,18 @@
+//! A log's text, read back: its secret and its entries, or the first bad line.
+#![tactic(auto)]
+
+mod administered;
+mod asked;
+mod document;
+mod entry;
+mod fault;
+mod head;
+pub mod laws;
+mod line;
+mod log;
+mod member;
+mod step;
+mod told;
+
+pub use fault::LogFault;
+pub use log::{Log, log_read};
