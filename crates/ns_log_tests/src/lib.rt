@@ -4,6 +4,8 @@
 #[cfg(test)]
 mod keeping;
 #[cfg(test)]
+mod reading;
+#[cfg(test)]
 mod settling;
 #[cfg(test)]
 mod steps;
