@@ -1,0 +1,8 @@
+//! Steps made one after the other by a server whose value stands for a state of the model and may keep more than that, such
+//! as a log.
+#![tactic(auto)]
+
+pub mod laws;
+mod server;
+
+pub use server::Server;
