@@ -1,3 +1,4 @@
+pub mod Attempting
 pub mod Calls
 pub mod Driving
 pub mod Working

@@ -19,8 +19,8 @@ const MOST_STEPS: u64 = 10_000;
 /// step cannot be made. What it saw last is kept for the next round, which goes on where this one stopped.
 pub fn drive<W: Works>(alloc: Global, works: &mut W, kept: &mut Kept) -> Stop
     ensures { (steps : List Step) × (answers : List Answer)
-        × Drives (W.state works.old) (seen_of kept.old) steps answers
-        (W.state works.new) (seen_of kept.new) result }
+        × Drives W.state W.notes W.lacks works.old (seen_of kept.old) steps answers
+        works.new (seen_of kept.new) result }
 {
     for _ in 0..MOST_STEPS {
         if let Err(stop) = turn(alloc, works, kept) {

@@ -5,7 +5,7 @@ ghost use Rattle.ns_types.specs.declared.snapshot.Snapshot.{Snapshot};
 ghost use Rattle.ns_drive.specs.declared.due.Due.TheVariants as Due;
 ghost use Rattle.ns_drive.specs.Driving.{MakesOne};
 ghost use Rattle.ns_drive.specs.Kept.{seen_of};
-ghost use Rattle.ns_drive.specs.Working.{IsAtEnd, IsDue, StopsSo};
+ghost use Rattle.ns_drive.specs.Working.{Ends, IsAtEnd, IsDue};
 
 use crate::due::{Due, WORKER, next};
 use crate::kept::Kept;
@@ -16,31 +16,37 @@ use ns_types::planned::Planned;
 use ns_types::text::Text;
 use std::alloc::Global;
 
-fn take<W: Works>(works: &mut W, key: &EvalKey) -> Result<(), Stop>
+fn take<W: Works>(alloc: Global, works: &mut W, key: &EvalKey) -> Result<(), Stop>
     requires { IsDue (W.state works.old).world (Due.Take key.now) }
     ensures made { OnOk result ((has : Option Snapshot) →
-        MakesOne (W.state works.old) has (W.state works.new) has) }
-    ensures stops { IfErr result (λ stop. (has : Option Snapshot) →
-        StopsSo (W.state works.old) has stop (W.state works.new)) }
+        MakesOne W.state W.notes W.lacks works.old has works.new has) }
+    ensures ends { IfErr result (λ stop. (has : Option Snapshot) →
+        Ends W.state W.notes W.lacks works.old has stop works.new) }
 {
-    let _reply = works.dequeue(WORKER, key.namespace(), key.number())?;
+    let _reply = works.dequeue(alloc, WORKER, key.namespace(), key.number())?;
     Ok(())
 }
 
-fn look<W: Works>(works: &mut W, kept: &mut Kept, namespace: &Text) -> Result<(), Stop>
+fn look<W: Works>(
+    alloc: Global,
+    works: &mut W,
+    kept: &mut Kept,
+    namespace: &Text,
+) -> Result<(), Stop>
     requires { IsDue (W.state works.old).world (Due.Look namespace.now) }
-    ensures made { OnOk result (MakesOne
-        (W.state works.old) (seen_of kept.old) (W.state works.new) (seen_of kept.new)) }
-    ensures stops { IfErr result (λ stop.
-        StopsSo (W.state works.old) (seen_of kept.new) stop (W.state works.new)) }
+    ensures made { OnOk result (MakesOne W.state W.notes W.lacks
+        works.old (seen_of kept.old) works.new (seen_of kept.new)) }
+    ensures ends { IfErr result (λ stop.
+        Ends W.state W.notes W.lacks works.old (seen_of kept.new) stop works.new) }
     ensures same { OnErr result (seen_of kept.new ≡ seen_of kept.old) }
 {
-    let seen = works.snap(WORKER, namespace)?;
+    let seen = works.snap(alloc, WORKER, namespace)?;
     *kept = Kept::Seen(seen);
     Ok(())
 }
 
 fn finish<W: Works>(
+    alloc: Global,
     works: &mut W,
     kept: &mut Kept,
     namespace: &Text,
@@ -48,19 +54,20 @@ fn finish<W: Works>(
 ) -> Result<(), Stop>
     requires end { IsAtEnd (W.state works.old).world namespace.now planned.now }
     requires kept { seen_of kept.old ≡ Some planned.now }
-    ensures made { OnOk result (MakesOne
-        (W.state works.old) (seen_of kept.old) (W.state works.new) (seen_of kept.new)) }
-    ensures stops { IfErr result (λ stop.
-        StopsSo (W.state works.old) (seen_of kept.new) stop (W.state works.new)) }
+    ensures made { OnOk result (MakesOne W.state W.notes W.lacks
+        works.old (seen_of kept.old) works.new (seen_of kept.new)) }
+    ensures ends { IfErr result (λ stop.
+        Ends W.state W.notes W.lacks works.old (seen_of kept.new) stop works.new) }
     ensures same { OnErr result (seen_of kept.new ≡ seen_of kept.old) }
 {
-    let _reply = works.finish(WORKER, namespace, planned)?;
+    let _reply = works.finish(alloc, WORKER, namespace, planned)?;
     *kept = Kept::Nothing;
     Ok(())
 }
 
 /// Hands in the plan, or finishes where it does nothing.
 fn submit<W: Works>(
+    alloc: Global,
     works: &mut W,
     kept: &mut Kept,
     namespace: &Text,
@@ -68,18 +75,18 @@ fn submit<W: Works>(
 ) -> Result<(), Stop>
     requires due { IsDue (W.state works.old).world (Due.Plan namespace.now) }
     requires kept { seen_of kept.old ≡ Some planned }
-    ensures made { OnOk result (MakesOne
-        (W.state works.old) (seen_of kept.old) (W.state works.new) (seen_of kept.new)) }
-    ensures stops { IfErr result (λ stop.
-        StopsSo (W.state works.old) (seen_of kept.new) stop (W.state works.new)) }
+    ensures made { OnOk result (MakesOne W.state W.notes W.lacks
+        works.old (seen_of kept.old) works.new (seen_of kept.new)) }
+    ensures ends { IfErr result (λ stop.
+        Ends W.state W.notes W.lacks works.old (seen_of kept.new) stop works.new) }
     ensures same { OnErr result (seen_of kept.new ≡ seen_of kept.old) }
 {
     if planned.does_nothing() {
-        let ended = finish(works, kept, namespace, &planned);
+        let ended = finish(alloc, works, kept, namespace, &planned);
         drop(planned);
         return ended;
     }
-    let _reply = works.submit(WORKER, namespace, planned)?;
+    let _reply = works.submit(alloc, WORKER, namespace, planned)?;
     Ok(())
 }
 
@@ -91,14 +98,14 @@ fn place<W: Works>(
     namespace: &Text,
 ) -> Result<(), Stop>
     requires { IsDue (W.state works.old).world (Due.Plan namespace.now) }
-    ensures made { OnOk result (MakesOne
-        (W.state works.old) (seen_of kept.old) (W.state works.new) (seen_of kept.new)) }
-    ensures stops { IfErr result (λ stop.
-        StopsSo (W.state works.old) (seen_of kept.new) stop (W.state works.new)) }
+    ensures made { OnOk result (MakesOne W.state W.notes W.lacks
+        works.old (seen_of kept.old) works.new (seen_of kept.new)) }
+    ensures ends { IfErr result (λ stop.
+        Ends W.state W.notes W.lacks works.old (seen_of kept.new) stop works.new) }
     ensures same { OnErr result (seen_of kept.new ≡ seen_of kept.old) }
 {
     let planned = kept.planned(alloc)?;
-    submit(works, kept, namespace, planned)
+    submit(alloc, works, kept, namespace, planned)
 }
 
 /// Finishes with the plan that was handed in.
@@ -109,43 +116,43 @@ fn end<W: Works>(
     namespace: &Text,
 ) -> Result<(), Stop>
     requires { IsDue (W.state works.old).world (Due.End namespace.now) }
-    ensures made { OnOk result (MakesOne
-        (W.state works.old) (seen_of kept.old) (W.state works.new) (seen_of kept.new)) }
-    ensures stops { IfErr result (λ stop.
-        StopsSo (W.state works.old) (seen_of kept.new) stop (W.state works.new)) }
+    ensures made { OnOk result (MakesOne W.state W.notes W.lacks
+        works.old (seen_of kept.old) works.new (seen_of kept.new)) }
+    ensures ends { IfErr result (λ stop.
+        Ends W.state W.notes W.lacks works.old (seen_of kept.new) stop works.new) }
     ensures same { OnErr result (seen_of kept.new ≡ seen_of kept.old) }
 {
     let planned = kept.planned(alloc)?;
-    let ended = finish(works, kept, namespace, &planned);
+    let ended = finish(alloc, works, kept, namespace, &planned);
     drop(planned);
     ended
 }
 
-fn apply<W: Works>(works: &mut W, namespace: &Text) -> Result<(), Stop>
+fn apply<W: Works>(alloc: Global, works: &mut W, namespace: &Text) -> Result<(), Stop>
     requires { IsDue (W.state works.old).world (Due.Apply namespace.now) }
     ensures made { OnOk result ((has : Option Snapshot) →
-        MakesOne (W.state works.old) has (W.state works.new) has) }
-    ensures stops { IfErr result (λ stop. (has : Option Snapshot) →
-        StopsSo (W.state works.old) has stop (W.state works.new)) }
+        MakesOne W.state W.notes W.lacks works.old has works.new has) }
+    ensures ends { IfErr result (λ stop. (has : Option Snapshot) →
+        Ends W.state W.notes W.lacks works.old has stop works.new) }
 {
-    let _reply = works.apply(WORKER, namespace)?;
+    let _reply = works.apply(alloc, WORKER, namespace)?;
     Ok(())
 }
 
 /// Makes the step that is due, or says why there is none.
 pub(crate) fn turn<W: Works>(alloc: Global, works: &mut W, kept: &mut Kept) -> Result<(), Stop>
-    ensures made { OnOk result (MakesOne
-        (W.state works.old) (seen_of kept.old) (W.state works.new) (seen_of kept.new)) }
-    ensures stops { IfErr result (λ stop.
-        StopsSo (W.state works.old) (seen_of kept.new) stop (W.state works.new)) }
+    ensures made { OnOk result (MakesOne W.state W.notes W.lacks
+        works.old (seen_of kept.old) works.new (seen_of kept.new)) }
+    ensures ends { IfErr result (λ stop.
+        Ends W.state W.notes W.lacks works.old (seen_of kept.new) stop works.new) }
     ensures same { OnErr result (seen_of kept.new ≡ seen_of kept.old) }
 {
     match next(works)? {
         Due::Nothing => Err(Stop::Rests),
-        Due::Take(key) => take(works, &key),
-        Due::Look(namespace) => look(works, kept, &namespace),
+        Due::Take(key) => take(alloc, works, &key),
+        Due::Look(namespace) => look(alloc, works, kept, &namespace),
         Due::Plan(namespace) => place(alloc, works, kept, &namespace),
-        Due::Apply(namespace) => apply(works, &namespace),
+        Due::Apply(namespace) => apply(alloc, works, &namespace),
         Due::End(namespace) => end(alloc, works, kept, &namespace),
     }
 }

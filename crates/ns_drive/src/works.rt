@@ -2,13 +2,14 @@
 
 ghost use Rattle.std.specs.Prelude.{◌≡◌, IfOk, Some, option_copied, option_map};
 ghost use Rattle.ns_types.specs.declared.step.Step.TheVariants as Step;
-ghost use Rattle.ns_types.specs.Steps.{Makes};
 ghost use Rattle.ns_types.specs.Working.Looks.{row_of, served_ready};
 ghost use Rattle.ns_broker.specs.Looking.{busy_of, busy_told};
 ghost use Rattle.ns_broker.specs.Snapping.{kept_at};
-ghost use Rattle.ns_drive.specs.Calls.{FinishesBy, HandsIn, snapped};
+ghost use Rattle.ns_drive.specs.Attempting.{Attempts, AttemptsFinish, AttemptsSubmit};
+ghost use Rattle.ns_drive.specs.Calls.{snapped};
 
 use ns_broker::Busy;
+use ns_chains::Server;
 use ns_types::key::EvalKey;
 use ns_types::planned::Planned;
 use ns_types::refusal::Refusal;
@@ -16,46 +17,72 @@ use ns_types::reply::Reply;
 use ns_types::shared::Shared;
 use ns_types::snapshot::Snapshot;
 use ns_types::text::Text;
+use std::alloc::Global;
 
-/// A server whose workers make steps. A call that is refused changes nothing.
-pub trait Works {
-    ghost use Rattle.ns_types.specs.State.Rows.{State};
+/// A server whose workers make steps. A call that makes none changes nothing.
+pub trait Works: Server {
+    ghost use Rattle.ns_types.specs.declared.refusal.Refusal.{Refusal};
+    ghost use Rattle.ns_types.specs.declared.step.Step.{Step as AStep};
 
-    // The state that the value stands for.
-    ghost state: { Self → State };
+    // Why a call for that step makes none.
+    ghost lacks: { Self → AStep → Refusal → Type 0 };
 
     /// The evaluation that is served next.
     fn served(&self) -> Option<&EvalKey>
-        ensures { option_copied result ≡ served_ready (state self.now).world };
+        ensures { option_copied result ≡ served_ready (Self.state self.now).world };
 
     /// What the worker is busy with, and how far it is. None: it is idle.
     fn phase(&self, worker: u64) -> Option<Busy<'_>>
         ensures { option_map busy_told result
-            ≡ option_map busy_of (row_of (state self.now).world worker) };
+            ≡ option_map busy_of (row_of (Self.state self.now).world worker) };
 
     /// Makes the step in which a worker takes the evaluation of that number in the namespace.
-    fn dequeue(&mut self, worker: u64, namespace: &Text, evaluation: u64) -> Result<Reply, Refusal>
+    fn dequeue(
+        &mut self,
+        alloc: Global,
+        worker: u64,
+        namespace: &Text,
+        evaluation: u64,
+    ) -> Result<Reply, Refusal>
         ensures { let step = Step.Dequeue worker namespace.now evaluation in
-            Makes step (state self.old) result (state self.new) };
+            Attempts Self.state Self.notes lacks self.old step result self.new };
 
     /// Makes the step in which a worker takes a snapshot of its evaluation.
-    fn snap(&mut self, worker: u64, namespace: &Text) -> Result<Shared<Snapshot>, Refusal>
+    fn snap(
+        &mut self,
+        alloc: Global,
+        worker: u64,
+        namespace: &Text,
+    ) -> Result<Shared<Snapshot>, Refusal>
         ensures made { let step = Step.Snap worker namespace.now in
-            Makes step (state self.old) (snapped result) (state self.new) }
-        ensures kept { let w = (state self.new).world in
+            Attempts Self.state Self.notes lacks self.old step (snapped result) self.new }
+        ensures kept { let w = (Self.state self.new).world in
             IfOk result (λ seen. kept_at w worker namespace.now ≡ Some seen) };
 
     /// Makes the step in which a worker hands in the plan of its snapshot.
-    fn submit(&mut self, worker: u64, namespace: &Text, planned: Planned) -> Result<Reply, Refusal>
-        ensures { HandsIn worker namespace.now planned (state self.old) result (state self.new) };
+    fn submit(
+        &mut self,
+        alloc: Global,
+        worker: u64,
+        namespace: &Text,
+        planned: Planned,
+    ) -> Result<Reply, Refusal>
+        ensures { AttemptsSubmit Self.state Self.notes lacks worker namespace.now planned
+            self.old result self.new };
 
     /// Makes the step in which the plan that a worker handed in is applied.
-    fn apply(&mut self, worker: u64, namespace: &Text) -> Result<Reply, Refusal>
+    fn apply(&mut self, alloc: Global, worker: u64, namespace: &Text) -> Result<Reply, Refusal>
         ensures { let step = Step.Apply worker namespace.now in
-            Makes step (state self.old) result (state self.new) };
+            Attempts Self.state Self.notes lacks self.old step result self.new };
 
     /// Makes the step in which a worker finishes its evaluation, with the plan of the snapshot that it keeps.
-    fn finish(&mut self, worker: u64, namespace: &Text, planned: &Planned) -> Result<Reply, Refusal>
-        ensures { FinishesBy worker namespace.now planned.now
-            (state self.old) result (state self.new) };
+    fn finish(
+        &mut self,
+        alloc: Global,
+        worker: u64,
+        namespace: &Text,
+        planned: &Planned,
+    ) -> Result<Reply, Refusal>
+        ensures { AttemptsFinish Self.state Self.notes lacks worker namespace.now planned.now
+            self.old result self.new };
 }
