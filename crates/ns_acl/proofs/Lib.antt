@@ -1,4 +1,6 @@
+pub mod Agreeing
 pub mod Answering
+pub mod Copied
 pub mod Counting
 pub mod Slotted
 pub mod Standing

@@ -1,3 +1,4 @@
+pub mod Alike
 pub mod Bearers
 pub mod Gathered
 pub mod Tokens

@@ -9,6 +9,7 @@ ghost use Rattle.ns_acl.specs.Bearers.{bearer_of};
 ghost use Rattle.ns_acl.specs.Tokens.{is_taken};
 
 use crate::bearer::{Bearer, of_token};
+use crate::copying::{copied_policies, copied_tokens};
 use crate::gathering::Gathered;
 use crate::shown::policy_content;
 use crate::tables::{has_no_room, has_row, is_full, put, write_policy};
@@ -45,7 +46,7 @@ const ALL_RIGHTS: Rights = Rights {
 pub struct Acl {
     policies: NameTable<Policy>,
     /// By secret.
-    tokens: NameTable<Token>,
+    pub(crate) tokens: NameTable<Token>,
     /// The names of the policies that count where there is no secret.
     anonymous: Rows<Text>,
 }
@@ -90,6 +91,17 @@ impl Acl {
             policies: NameTable::new(alloc),
             tokens,
             anonymous,
+        })
+    }
+
+    /// A copy. Want of memory is the only error.
+    pub fn copy(&self, alloc: Global) -> Result<Acl, AllocError>
+        ensures { IfOk result (λ copy. copy ≡ self.now) }
+    {
+        Ok(Acl {
+            policies: copied_policies(alloc, &self.policies)?,
+            tokens: copied_tokens(alloc, &self.tokens)?,
+            anonymous: self.anonymous.clone()?,
         })
     }
 

@@ -2,7 +2,9 @@
 #![tactic(auto)]
 
 mod acl;
+mod alike;
 mod bearer;
+mod copying;
 mod gathering;
 mod shown;
 mod tables;

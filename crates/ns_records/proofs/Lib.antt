@@ -1,0 +1,3 @@
+pub mod Confined
+pub mod Finding
+pub mod Owning
