@@ -1,0 +1,161 @@
+-- The index of live allocations, made namespace by namespace.
+use Rattle.std.specs.Prelude.{◌≡◌, ℕ, Bool, true, false, cond, T, List, [], ◌∷◌, Option, Some, None, is_some, option_map, unwrap_or, if◌then◌else◌}
+use Rattle.std.proofs.Common.{refl, sym, ap, subst, ◌∙◌}
+use Rattle.std.specs.FinMap.{empty, entries, get, get-empty, get-entries}
+use Rattle.std.specs.FinMap.Entries.{find, is_sorted}
+use Rattle.std.specs.Option.{option_and_then, option_map_or}
+use Rattle.std.specs.Ordering.{nat_cmp}
+use Rattle.keyed.specs.Table.{flat, row_at}
+use Rattle.keyed.proofs.Ordered.{absent, below_tied}
+use Rattle.keyed.proofs.Tables.{get-rows}
+use Rattle.ns_types.specs.declared.allocation.Allocation.{Allocation}
+use Rattle.ns_types.specs.declared.snapshot.PoolNode.{PoolNode}
+use Rattle.ns_types.specs.State.Names.{ByNumber, Key, Name, name_cmp, same_name}
+use Rattle.ns_types.specs.State.Rows.{allocation_at, is_live_on}
+use Rattle.ns_types.proofs.Lists.{not_both}
+use Rattle.ns_types.proofs.Named.{names, numbers, same_name_refl}
+use Rattle.ns_types.proofs.Tables.{equal_by}
+use Rattle.ns_types.proofs.Tests.{first, not_Some, second}
+use Rattle.ns_live.specs.declared.live.Live.{Live}
+use Rattle.ns_live.specs.Index.{Indexes, IsEmpty, IsRight, KeepsKeys, with_changes}
+use Rattle.ns_live.specs.Shown.{KeepsShown, ShowsUnmoved, shown_at, shown_in}
+use Rattle.ns_world.specs.declared.tables.Tables.{Tables}
+use Rattle.ns_world.specs.declared.tables.TenantRows.{TenantRows}
+use Rattle.ns_world.specs.World.{tenant_of, world_of}
+use Rattle.ns_world.proofs.World.{tenant_at}
+
+abbrev Slots : Type 0
+Slots = List (Name × Option TenantRows)
+
+-- the allocation of a namespace's slot
+abbrev row_in : Option TenantRows → ℕ → Option Allocation
+row_in slot n = option_and_then (λ t. row_at t.allocations n) slot
+
+abbrev rows_in : Slots → Key → Option Allocation
+rows_in slots key = row_in (flat (find name_cmp key.0 slots)) key.1
+
+-- the rows of the namespaces that are not among those
+abbrev pub rows_but : Slots → Slots → Key → Option Allocation
+rows_but rest slots key = cond (is_some (find name_cmp key.0 rest)) None (rows_in slots key)
+
+pub record IsIndexing (live : Live) (rest slots : Slots) : Type 0 where
+  pub index : Indexes (rows_but rest slots) live
+  pub shown : (pool name : Name) → shown_at live pool name ≡ None
+  pub sorted : T (is_sorted name_cmp rest)
+  pub found : (k : Name) → is_some (find name_cmp k rest) ≡ true → find name_cmp k slots ≡ find name_cmp k rest
+
+pub none_indexed : (live : Live) (slots : Slots) → T (is_sorted name_cmp slots) → IsEmpty live → IsIndexing live slots slots
+none_indexed live slots sorted none = record {
+  index = λ pool node key. none.keys pool node key ∙ by pool node key.1 (find name_cmp key.0 slots);
+  shown = none.shown;
+  sorted = sorted;
+  found = λ k is. refl;
+}
+  where
+    by : (pool node : Name) (n : ℕ) (r : Option (Option TenantRows)) → false ≡ option_map_or (is_live_on pool node) (cond (is_some r) None (row_in (flat r) n)) false
+    by pool node n None = refl
+    by pool node n (Some slot) = refl
+
+module _ (x : Name × Option TenantRows) (rest left slots : Slots) (is : rest ≡ x ∷ left) (old : Live) (h : IsIndexing old rest slots) where
+  rises : T (is_sorted name_cmp (x ∷ left))
+  rises = subst (λ l. T (is_sorted name_cmp l)) is h.sorted
+
+  -- the namespace stands once
+  gone : (k : Name) → same_name k x.0 ≡ true → find name_cmp k left ≡ None
+  gone k e = (absent name_cmp names k left (below_tied name_cmp names k x.0 left (equal_by (name_cmp k x.0) e) (first _ _ rises))).0
+
+  before : (k : Name) → find name_cmp k rest ≡ cond (same_name k x.0) (Some x.1) (find name_cmp k left)
+  before k = ap (find name_cmp k) is
+
+  found_later : (k : Name) → is_some (find name_cmp k left) ≡ true → find name_cmp k slots ≡ find name_cmp k left
+  found_later k there = by (same_name k x.0) refl
+    where
+      by : (b : Bool) → same_name k x.0 ≡ b → find name_cmp k slots ≡ find name_cmp k left
+      by true e = not_both there (ap is_some (gone k e))
+      by false e =
+          let here = before k ∙ ap (λ b. cond b (Some x.1) (find name_cmp k left)) e in
+          h.found k (ap is_some here ∙ there) ∙ here
+
+  -- its rows are those of the slot
+  moved : (key : Key) → cond (same_name key.0 x.0) (row_in x.1 key.1) (rows_but rest slots key) ≡ rows_but left slots key
+  moved key = by (same_name key.0 x.0) refl
+    where
+      by : (b : Bool) → same_name key.0 x.0 ≡ b → cond b (row_in x.1 key.1) (rows_but rest slots key) ≡ rows_but left slots key
+      by true e =
+          let here = before key.0 ∙ ap (λ b. cond b (Some x.1) (find name_cmp key.0 left)) e in
+          sym (ap (λ r. cond (is_some r) None (rows_in slots key)) (gone key.0 e)
+          ∙ ap (λ r. row_in (flat r) key.1) (h.found key.0 (ap is_some here) ∙ here))
+      by false e = ap (λ r. cond (is_some r) None (rows_in slots key)) (before key.0 ∙ ap (λ b. cond b (Some x.1) (find name_cmp key.0 left)) e)
+
+  own_before : (n : ℕ) → rows_but rest slots (x.0, n) ≡ None
+  own_before n = ap (λ r. cond (is_some r) None (rows_in slots (x.0, n)))
+      (before x.0 ∙ ap (λ b. cond b (Some x.1) (find name_cmp x.0 left)) (same_name_refl x.0))
+
+  -- a vacant slot has no rows
+  pub slot_passed : (new : Live) → x.1 ≡ None → new ≡ old → IsIndexing new left slots
+  slot_passed new none same = subst (λ live. IsIndexing live left slots) (sym same) (record {
+    index = λ pool node key. h.index pool node key ∙ ap (λ r. option_map_or (is_live_on pool node) r false) (still key ∙ moved key);
+    shown = h.shown;
+    sorted = second _ _ rises;
+    found = found_later;
+  })
+    where
+      still : (key : Key) → rows_but rest slots key ≡ cond (same_name key.0 x.0) (row_in x.1 key.1) (rows_but rest slots key)
+      still key = by (same_name key.0 x.0) refl
+        where
+          by : (b : Bool) → same_name key.0 x.0 ≡ b → rows_but rest slots key ≡ cond b (row_in x.1 key.1) (rows_but rest slots key)
+          by true e = ap (λ r. cond (is_some r) None (rows_in slots key)) (before key.0 ∙ ap (λ b. cond b (Some x.1) (find name_cmp key.0 left)) e)
+              ∙ sym (ap (λ slot. row_in slot key.1) none)
+          by false e = refl
+
+  module _ (tenant : TenantRows) (at : x.1 ≡ Some tenant) (none : ByNumber (Option Allocation)) (no_rows : none ≡ empty) where
+    pub nothing_before : (n : ℕ) → rows_but rest slots (x.0, n) ≡ row_at none n
+    nothing_before n = own_before n ∙ sym (ap (λ m. row_at m n) no_rows ∙ ap flat (get-empty nat_cmp n))
+
+    put_there : (key : Key) → with_changes x.0 tenant.allocations (rows_but rest slots) key ≡ rows_but left slots key
+    put_there key = by (same_name key.0 x.0) refl ∙ moved key
+      where
+        own : same_name key.0 x.0 ≡ true → rows_but rest slots key ≡ None
+        own e = ap (λ r. cond (is_some r) None (rows_in slots key)) (before key.0 ∙ ap (λ b. cond b (Some x.1) (find name_cmp key.0 left)) e)
+
+        flatly : (r : Option (Option Allocation)) → unwrap_or r None ≡ flat r
+        flatly None = refl
+        flatly (Some r) = refl
+
+        by : (b : Bool) → same_name key.0 x.0 ≡ b →
+            (if b then unwrap_or (get tenant.allocations key.1) (rows_but rest slots key) else rows_but rest slots key)
+            ≡ cond b (row_in x.1 key.1) (rows_but rest slots key)
+        by true e = ap (unwrap_or (get tenant.allocations key.1)) (own e) ∙ flatly (get tenant.allocations key.1)
+            ∙ sym (ap (λ slot. row_in slot key.1) at)
+        by false e = refl
+
+    pub slot_indexed : (made new live : Live) → KeepsKeys old made → KeepsShown old made →
+        (Indexes (rows_but rest slots) made → Indexes (with_changes x.0 tenant.allocations (rows_but rest slots)) new) →
+        ShowsUnmoved (rows_but rest slots) (with_changes x.0 tenant.allocations (rows_but rest slots)) made new → live ≡ new → IsIndexing live left slots
+    slot_indexed made new live keys kept index shown same = subst (λ live. IsIndexing live left slots) (sym same) (record {
+      index = λ pool node key. index (λ p n k. keys p n k ∙ h.index p n k) pool node key
+          ∙ ap (λ r. option_map_or (is_live_on pool node) r false) (put_there key);
+      shown = λ pool name. by pool name (shown_at new pool name) refl;
+      sorted = second _ _ rises;
+      found = found_later;
+    })
+      where
+        by : (pool name : Name) (r : Option PoolNode) → shown_at new pool name ≡ r → shown_at new pool name ≡ None
+        by pool name None e = e
+        by pool name (Some node) e = absurd (not_Some node (sym (h.shown pool name) ∙ sym (ap (λ s. shown_in s pool name) kept) ∙ (shown pool name node e).0))
+
+pub all_indexed : (t : Tables) (live : Live) (rest slots : Slots) → slots ≡ entries t.tenants → rest ≡ [] → IsIndexing live rest slots →
+    IsRight (world_of t) live
+all_indexed t live rest slots is none h = record {
+  index = λ pool node key. h.index pool node key ∙ ap (λ r. option_map_or (is_live_on pool node) r false)
+      (ap (λ l. rows_but l slots key) none ∙ ap (λ l. rows_in l key) is ∙ sym (stored key));
+  shown = λ pool name node e. absurd (not_Some node (sym (h.shown pool name) ∙ e));
+}
+  where
+    by : (n : ℕ) (r : Option TenantRows) → option_and_then (λ t. get t.allocations n) (option_map tenant_of r) ≡ row_in r n
+    by n None = refl
+    by n (Some tenant) = get-rows numbers tenant.allocations n
+
+    stored : (key : Key) → allocation_at (world_of t) key ≡ rows_in (entries t.tenants) key
+    stored key = ap (option_and_then (λ t. get t.allocations key.1)) (tenant_at t key.0) ∙ by key.1 (row_at t.tenants key.0)
+        ∙ ap (λ r. row_in (flat r) key.1) (get-entries t.tenants key.0)

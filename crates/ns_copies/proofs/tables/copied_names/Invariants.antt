@@ -1,0 +1,7 @@
+use Rattle.std.proofs.Common.{drop}
+use Rattle.ns_copies.specs.Chosen.{is_chosen}
+use Rattle.ns_copies.proofs.Slotwise.{IsCopying}
+use Rattle.ns_copies.proofs.tables.copied_names.Given as goal
+
+abbrev pub invariant-loop-slot : goal.invariant-loop-slot
+invariant-loop-slot g l = IsCopying g.V.Copies.seen g.V.Copies.IsWhole (is_chosen l.chosen) l.slots.items (drop l.slot-index l.slot-items) l.slot-items

@@ -1,0 +1,25 @@
+//! The index of live allocations, made anew.
+
+ghost use Rattle.std.specs.Prelude.{IfOk};
+ghost use Rattle.ns_live.specs.Index.{IsRight};
+ghost use Rattle.ns_world.specs.World.{world_of};
+
+use keyed::NumberTable;
+use ns_live::Live;
+use ns_world::Tables;
+use std::alloc::{AllocError, Global};
+
+/// The index of the tables' live allocations. No node is shown. Want of memory is the only error.
+pub fn live_of(alloc: Global, tables: &Tables) -> Result<Live, AllocError>
+    ensures { IfOk result (IsRight (world_of tables.now)) }
+{
+    let none = NumberTable::new(alloc);
+    let mut live = Live::new(alloc);
+    for slot in tables.tenants.as_slice() {
+        if let Some(tenant) = &slot.1 {
+            live.reserve_all(&slot.0, &tenant.allocations)?;
+            live.put_all(&slot.0, &none, &tenant.allocations);
+        }
+    }
+    Ok(live)
+}

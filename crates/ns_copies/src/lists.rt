@@ -1,0 +1,30 @@
+//! Copies of the lists of keys.
+
+ghost use Rattle.std.specs.Prelude.{◌≡◌, IfOk, filter};
+ghost use Rattle.ns_copies.specs.Chosen.{is_chosen};
+
+use crate::choosing::Chosen;
+use keyed::KeyQueue;
+use ns_types::rows::Rows;
+use std::alloc::{AllocError, Global};
+
+/// The keys of the chosen namespaces, in their order.
+pub(crate) fn copied_keys(
+    alloc: Global,
+    queue: &KeyQueue,
+    spaces: Chosen<'_>,
+) -> Result<KeyQueue, AllocError>
+    ensures { IfOk result (λ copy.
+        copy.items ≡ filter (λ key. is_chosen spaces.entry key.0) queue.now.items) }
+{
+    let mut keys = Rows::new(alloc);
+    for key in queue.as_slice() {
+        if spaces.has(key.namespace()) {
+            keys.push(key.clone()?)?;
+        }
+    }
+    let mut copy = KeyQueue::new(alloc);
+    copy.reserve(keys.as_slice())?;
+    copy.append(keys);
+    Ok(copy)
+}

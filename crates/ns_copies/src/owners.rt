@@ -1,0 +1,105 @@
+//! Copies of what owners have.
+
+ghost use Rattle.std.specs.Prelude.{◌≡◌, ◌≤◌, IfOk, length};
+ghost use Rattle.keyed.specs.Table.{rows};
+ghost use Rattle.ns_types.specs.State.Rows as model;
+ghost use Rattle.ns_world.specs.World.{pool_of, quota_of, tenant_of};
+ghost use Rattle.ns_copies.specs.Whole.{IsWholeTenant};
+
+use crate::choosing::Chosen;
+use crate::copies::Copies;
+use crate::tables::{copied_names, copied_numbers};
+use keyed::Series;
+use ns_events::Events;
+use ns_types::node::Class;
+use ns_world::{EvaluationTable, PoolRows, QuotaRows, TenantRows};
+use std::alloc::{AllocError, Global};
+
+fn copied_events(alloc: Global, events: &Events) -> Result<Events, AllocError>
+    requires { length events.now ≤ 100 }
+    ensures { IfOk result (λ copy. copy ≡ events.now) }
+{
+    let all = events.from_index(alloc, 0)?;
+    let mut copy = Events::new(alloc)?;
+    copy.append(all);
+    Ok(copy)
+}
+
+fn copied_evaluations(alloc: Global, table: &EvaluationTable) -> Result<EvaluationTable, AllocError>
+    ensures { IfOk result (λ copy. rows copy.slots ≡ rows table.now.slots) }
+{
+    let all = copied_numbers(alloc, table.rows())?;
+    let mut copy = EvaluationTable::new(alloc);
+    copy.reserve_all(&all)?;
+    copy.apply(all);
+    Ok(copy)
+}
+
+fn copied_classes(
+    alloc: Global,
+    classes: &Series<(Class, u64)>,
+) -> Result<Series<(Class, u64)>, AllocError>
+    ensures { IfOk result (λ copy. copy.items ≡ classes.now.items) }
+{
+    let mut copy = Series::new(alloc);
+    for release in classes.as_slice() {
+        let class = release.0.clone()?;
+        copy.reserve(1)?;
+        copy.push((class, release.1));
+    }
+    Ok(copy)
+}
+
+impl Copies for TenantRows {
+    ghost Seen = { model.Tenant };
+
+    ghost seen = { tenant_of };
+
+    ghost IsWhole = { λ t. IsWholeTenant (tenant_of t) };
+
+    fn copied(&self, alloc: Global) -> Result<TenantRows, AllocError> {
+        Ok(TenantRows {
+            namespace: self.namespace.clone()?,
+            index: self.index,
+            evaluation_number: self.evaluation_number,
+            allocation_number: self.allocation_number,
+            jobs: copied_names(alloc, &self.jobs, Chosen::All)?,
+            evaluations: copied_evaluations(alloc, &self.evaluations)?,
+            allocations: copied_numbers(alloc, &self.allocations)?,
+            workers: copied_numbers(alloc, &self.workers)?,
+            events: copied_events(alloc, &self.events)?,
+        })
+    }
+}
+
+impl Copies for PoolRows {
+    ghost Seen = { model.PoolRows };
+
+    ghost seen = { pool_of };
+
+    ghost IsWhole = { λ _. Unit {0} };
+
+    fn copied(&self, alloc: Global) -> Result<PoolRows, AllocError> {
+        Ok(PoolRows {
+            pool: self.pool.clone()?,
+            release: self.release,
+            classes: copied_classes(alloc, &self.classes)?,
+            nodes: copied_names(alloc, &self.nodes, Chosen::All)?,
+        })
+    }
+}
+
+impl Copies for QuotaRows {
+    ghost Seen = { model.QuotaRows };
+
+    ghost seen = { quota_of };
+
+    ghost IsWhole = { λ _. Unit {0} };
+
+    fn copied(&self, _alloc: Global) -> Result<QuotaRows, AllocError> {
+        Ok(QuotaRows {
+            quota: self.quota.clone()?,
+            release: self.release,
+        })
+    }
+}
