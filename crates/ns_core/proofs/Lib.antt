@@ -1,5 +1,6 @@
 pub mod Opening
 pub mod Keeping
+pub mod Copying
 pub mod Counting
 pub mod Preparing
 pub mod Reading
@@ -7,3 +8,4 @@ pub mod Making
 pub mod Administering
 pub mod Telling
 pub mod Working
+pub mod Attempts

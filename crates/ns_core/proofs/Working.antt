@@ -10,7 +10,7 @@ use Rattle.ns_types.specs.State.Names.{Name}
 use Rattle.ns_types.specs.State.Rows.{State}
 use Rattle.ns_types.specs.Steps.{Answer, Makes, after, is_made, said}
 use Rattle.ns_types.specs.Working.Commit.{apply}
-use Rattle.ns_types.specs.Working.Work.{dequeue, nack, snap, submit}
+use Rattle.ns_types.specs.Working.Work.{dequeue, nack, snap}
 use Rattle.ns_change.specs.declared.change.Prepared.{Prepared}
 use Rattle.ns_change.specs.Changed.{view}
 use Rattle.ns_change.specs.Prepared.{Prepares, bounded}

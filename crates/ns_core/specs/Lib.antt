@@ -1,4 +1,5 @@
 pub mod Answering
 pub mod Held
+pub mod Lacking
 pub mod Viewed
 pub mod Working

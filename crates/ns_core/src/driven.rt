@@ -2,6 +2,7 @@
 
 use crate::server::Core;
 use ns_broker::Busy;
+use ns_chains::Server;
 use ns_drive::Works;
 use ns_types::key::EvalKey;
 use ns_types::planned::Planned;
@@ -10,9 +11,18 @@ use ns_types::reply::Reply;
 use ns_types::shared::Shared;
 use ns_types::snapshot::Snapshot;
 use ns_types::text::Text;
+use std::alloc::Global;
+
+impl Server for Core {
+    ghost state = { λ core. core };
+
+    ghost notes = { λ _ _ _ _. Unit {0} };
+}
 
 impl Works for Core {
-    ghost state = { λ core. core };
+    ghost use Rattle.ns_core.specs.Lacking.{CoreLacks};
+
+    ghost lacks = { CoreLacks };
 
     fn served(&self) -> Option<&EvalKey> {
         self.served()
@@ -24,6 +34,7 @@ impl Works for Core {
 
     fn dequeue(
         &mut self,
+        _alloc: Global,
         worker: u64,
         namespace: &Text,
         evaluation: u64,
@@ -31,12 +42,18 @@ impl Works for Core {
         self.dequeue(worker, namespace, evaluation)
     }
 
-    fn snap(&mut self, worker: u64, namespace: &Text) -> Result<Shared<Snapshot>, Refusal> {
+    fn snap(
+        &mut self,
+        _alloc: Global,
+        worker: u64,
+        namespace: &Text,
+    ) -> Result<Shared<Snapshot>, Refusal> {
         self.snap(worker, namespace)
     }
 
     fn submit(
         &mut self,
+        _alloc: Global,
         worker: u64,
         namespace: &Text,
         planned: Planned,
@@ -44,12 +61,13 @@ impl Works for Core {
         self.submit(worker, namespace, planned)
     }
 
-    fn apply(&mut self, worker: u64, namespace: &Text) -> Result<Reply, Refusal> {
+    fn apply(&mut self, _alloc: Global, worker: u64, namespace: &Text) -> Result<Reply, Refusal> {
         self.apply(worker, namespace)
     }
 
     fn finish(
         &mut self,
+        _alloc: Global,
         worker: u64,
         namespace: &Text,
         planned: &Planned,

@@ -3,11 +3,13 @@
 
 mod administration;
 mod asks;
+mod copies;
 mod driven;
 mod nodes;
 mod parts;
 mod rights;
 mod server;
+mod tables;
 mod workers;
 
 pub use server::Core;

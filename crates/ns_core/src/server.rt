@@ -33,7 +33,7 @@ use std::marker::Model;
 /// A scheduling server. Each call is one step of the model, or is refused and changes nothing.
 #[derive(Drop)]
 pub struct Core {
-    parts: Parts,
+    pub(crate) parts: Parts,
 }
 
 impl Model for Core {

@@ -1,3 +1,3 @@
 mod Answered
 mod Planning
-pub mod Runs
+mod Runs

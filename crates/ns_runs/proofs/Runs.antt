@@ -1,4 +1,4 @@
--- A run by one step more.
+-- A run by the first steps of a list.
 use Rattle.std.specs.Prelude.{◌≡◌, ℕ, ◌+◌, ◌<◌, true, false, List, [], ◌∷◌, ◌++◌, length, take, get_or, Some, None, Ok, Err, IfErr, slice_get}
 use Rattle.std.proofs.Common.{refl, ap, sym, subst, ◌∙◌}
 use Rattle.std.proofs.lemmas.List.{length-append, take_more}
@@ -8,16 +8,9 @@ use Rattle.ns_types.specs.declared.step.Step.{Step}
 use Rattle.ns_types.specs.State.Rows.{State}
 use Rattle.ns_types.specs.Steps.{Answer, Run, after, said}
 use Rattle.ns_types.proofs.Lists.{not_both}
+use Rattle.ns_chains.proofs.Runs.{run_then}
 use Rattle.ns_runs.specs.Making.{MakesAny}
 use Rattle.ns_runs.specs.Running.{Ends, RunsOver, is_no_step}
-
-pub run_then : (s mid s' : State) (steps : List Step) (answers : List Answer) (step : Step) (answer : Answer) → Run s steps answers mid →
-    after step mid ≡ said answer s' → Run s (steps ++ step ∷ []) (answers ++ answer ∷ []) s'
-run_then s mid s' [] [] step answer is made = (s', ap (after step) (sym is) ∙ made, refl)
-run_then s mid s' (first ∷ steps) (told ∷ answers) step answer run made =
-    (run.0, run.1, run_then run.0 mid s' steps answers step answer run.2 made)
-run_then s mid s' [] (told ∷ answers) step answer run made = absurd run
-run_then s mid s' (first ∷ steps) [] step answer run made = absurd run
 
 -- a call that was refused leaves the state as it is
 rests : (step : Step) (s s' : State) (refusal : Refusal) → MakesAny step s (Err refusal) s' → s' ≡ s

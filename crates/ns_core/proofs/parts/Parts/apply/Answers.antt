@@ -1,8 +1,6 @@
 use Rattle.std.proofs.Common.{refl}
 use Rattle.ns_types.specs.declared.step.Step.TheVariants as Step
-use Rattle.ns_core.proofs.Keeping.{within}
 use Rattle.ns_core.proofs.Working.{apply_prepares}
-use Rattle.ns_core.specs.Viewed.{state_of}
 use Rattle.ns_core.proofs.parts.Parts.apply.Goals as goal
 
 pub apply-prepared-requires-clause-sound : goal.apply-prepared-requires-clause-sound
