@@ -1,3 +1,4 @@
+mod Attempts
 mod Logged
 mod Planned
 mod Reading

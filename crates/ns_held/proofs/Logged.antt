@@ -12,7 +12,7 @@ use Rattle.ns_types.proofs.Lists.{not_both}
 use Rattle.ns_laws.specs.Refusals.{is_of_steps}
 use Rattle.ns_laws.proofs.RefusalLemmas.{steps_refuse_so}
 use Rattle.ns_json.specs.Replies.{Entry, IsKept, rendered}
-use Rattle.ns_runs.proofs.Runs.{run_then}
+use Rattle.ns_chains.proofs.Runs.{run_then}
 use Rattle.ns_held.specs.Logs.{History, HasPlace, IsLogged, Logs}
 use Rattle.ns_held.specs.Noting.{noted}
 
@@ -89,7 +89,7 @@ after_call old log s = record { base = old.base; log = log; state = s; limit = o
 
 pub logged : (old : History) (step : Step) (answer : Answer) (s' : State) → after step old.state ≡ said answer s' →
     IsLogged step old answer (after_call old (old.log ++ (step, rendered answer) ∷ []) s')
-logged old step answer s' made = record { made = made; entry = refl; base = refl; limit = refl }
+logged old step answer s' made = record { made = made; noted = record { entry = refl; base = refl; limit = refl } }
 
 pub unchanged : (old : History) (s' : State) → s' ≡ old.state → after_call old old.log s' ≡ old
 unchanged old s' same = ap (after_call old old.log) same

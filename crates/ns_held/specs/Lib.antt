@@ -1,3 +1,4 @@
+pub mod Lacking
 pub mod Logs
 pub mod Noting
 pub mod Planned

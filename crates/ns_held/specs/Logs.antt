@@ -1,9 +1,10 @@
 -- A server with the log of what it did since a first state.
-use Rattle.std.specs.Prelude.{◌≡◌, ◌<◌, ◌≤◌, ℕ, List, [], ◌∷◌, ◌++◌, length, None, Err}
+use Rattle.std.specs.Prelude.{◌≡◌, ◌<◌, ◌≤◌, ℕ, List, [], ◌∷◌, ◌++◌, length, map, zip, None, Err}
 use Rattle.ns_types.specs.declared.refusal.Refusal.{Refusal}
 use Rattle.ns_types.specs.declared.step.Step.{Step}
 use Rattle.ns_types.specs.State.Rows.{State}
-use Rattle.ns_types.specs.Steps.{Answer, after, said}
+use Rattle.ns_types.specs.Steps.{Answer, after}
+use Rattle.ns_chains.specs.Chains.{IsMade}
 use Rattle.ns_json.specs.Replies.{Entry, IsKept, rendered}
 
 -- where it began, what it did since, with each answer as bytes, and where it is; and how many entries it keeps
@@ -23,10 +24,19 @@ IsFull h = length h.log ≡ h.limit
 abbrev pub HasPlace : History → Type 0
 HasPlace h = length h.log < h.limit
 
--- the step was made with that answer, and one entry was added: that step with the rendering of its answer
-pub record IsLogged (step : Step) (old : History) (answer : Answer) (new : History) : Type 0 where
-  pub made : after step old.state ≡ said answer new.state
+-- one entry was added: that step with the rendering of its answer
+pub record IsNoted (old : History) (step : Step) (answer : Answer) (new : History) : Type 0 where
   pub entry : new.log ≡ old.log ++ (step, rendered answer) ∷ []
+  pub base : new.base ≡ old.base
+  pub limit : new.limit ≡ old.limit
+
+-- the step was made with that answer, and noted
+abbrev pub IsLogged : Step → History → Answer → History → Type 0
+IsLogged step old answer new = IsMade (λ h. h.state) IsNoted old step answer new
+
+-- these steps were added with the rendering of their answers, in their order, and nothing else
+pub record AreNoted (old : History) (steps : List Step) (answers : List Answer) (new : History) : Type 0 where
+  pub entries : new.log ≡ old.log ++ zip steps (map rendered answers)
   pub base : new.base ≡ old.base
   pub limit : new.limit ≡ old.limit
 

@@ -1,7 +1,9 @@
 //! A server with the log of what it did: each step with its answer as bytes.
 #![tactic(auto)]
 
+mod driven;
 mod held;
+pub mod laws;
 mod noting;
 mod requests;
 mod work;
