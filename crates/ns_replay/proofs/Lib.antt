@@ -1,0 +1,6 @@
+pub mod Abreast
+pub mod Premising
+pub mod Told
+pub mod Entering
+pub mod Replayed
+pub mod FaultLemmas

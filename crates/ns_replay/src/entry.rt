@@ -1,0 +1,71 @@
+//! One entry of a log, replayed by both servers.
+
+ghost use Rattle.std.specs.Prelude.{◌≡◌, IfErr, IfOk};
+ghost use Rattle.ns_types.specs.Isolation.{is_own};
+ghost use Rattle.ns_replay.specs.Abreast.{Advances, IsAbreast, IsDifference, IsFaultAt, Strikes};
+
+use crate::fault::ReplayFault;
+use crate::own::is_own;
+use crate::premises::step_whole;
+use crate::telling::{is_logged, tell};
+use ns_core::Core;
+use ns_log::Entry;
+use ns_types::reply::Rendered;
+use ns_types::text::Text;
+use std::alloc::Global;
+
+/// If the step is an own one, makes it on the server that holds the namespace alone, and says what it is answered there, if
+/// that is what is logged.
+fn step_alone(
+    alloc: Global,
+    base: &Core,
+    alone: &mut Core,
+    namespace: &Text,
+    place: u64,
+    entry: &Entry,
+) -> Result<Option<Rendered>, ReplayFault>
+    ensures strikes { IfOk result (λ reply. let own = is_own namespace.now base.now entry.now.0 in
+        Strikes own entry.now alone.old alone.new reply) }
+    ensures differs { IfErr result
+        (IsDifference namespace.now base.now entry.now alone.old place) }
+{
+    if !is_own(base, entry.step(), namespace) {
+        return Ok(None);
+    }
+    let told = tell(alloc, alone, entry.step())?;
+    if !is_logged(&told, entry.rendered()) {
+        return Err(ReplayFault::Differs(place));
+    }
+    Ok(told)
+}
+
+/// Makes the step of the entry on the whole server, and if it is an own one on the server that holds the namespace alone. Says
+/// what it is answered there. The faults come in this order: a premise, a difference, no step of the whole server.
+pub fn replay_entry(
+    alloc: Global,
+    base: &Core,
+    whole: &mut Core,
+    alone: &mut Core,
+    namespace: &Text,
+    place: u64,
+    entry: &Entry,
+) -> Result<Option<Rendered>, ReplayFault>
+    requires { IsAbreast namespace.now base.now whole.old alone.old }
+    ensures advances { IfOk result (λ reply. Advances namespace.now base.now entry.now
+        whole.old alone.old whole.new alone.new reply) }
+    ensures fault { IfErr result
+        (IsFaultAt namespace.now base.now entry.now whole.old alone.old place) }
+{
+    let told = match step_whole(alloc, whole, alone, namespace, place, entry.step()) {
+        Ok(told) => told,
+        Err(fault) => return Err(fault),
+    };
+    let reply = match step_alone(alloc, base, alone, namespace, place, entry) {
+        Ok(reply) => reply,
+        Err(fault) => return Err(fault),
+    };
+    if !is_logged(&told, entry.rendered()) {
+        return Err(ReplayFault::NotARun(place));
+    }
+    Ok(reply)
+}

@@ -1,0 +1,31 @@
+//! Why a log can't be replayed beside a namespace alone.
+
+ghost use Rattle.std.specs.Prelude.{◌≡◌};
+ghost use Rattle.ns_replay.specs.declared.fault.ReplayFault.TheVariants.{Memory};
+
+use std::alloc::AllocError;
+use thiserror::Error;
+
+/// The first fault of a log. Places count entries from 0.
+#[derive(Clone, Copy, Debug, PartialEq, Eq, Error)]
+pub enum ReplayFault {
+    /// The namespace shares a pool or its quota, or keeps something elsewhere, or an administrator changed its tables.
+    #[error("a premise fails at place {0}")]
+    Premise(u64),
+    /// The server that holds the namespace alone does not make the step, or answers otherwise than is logged.
+    #[error("the namespace alone differs from the log at place {0}")]
+    Differs(u64),
+    /// The whole server does not make the step, or answers otherwise than is logged.
+    #[error("the log is no run at place {0}")]
+    NotARun(u64),
+    #[error("out of memory")]
+    Memory,
+}
+
+impl From<AllocError> for ReplayFault {
+    ghost from_gives = { λ _ e. e ≡ Memory };
+
+    fn from(_error: AllocError) -> ReplayFault {
+        ReplayFault::Memory
+    }
+}

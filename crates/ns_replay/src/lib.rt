@@ -1,0 +1,16 @@
+//! A log replayed: all of it by the whole server, and beside that a namespace's own steps by the server that holds the
+//! namespace alone.
+#![tactic(auto)]
+
+mod entry;
+mod fault;
+pub mod laws;
+mod own;
+mod premises;
+mod replay;
+mod telling;
+
+pub use fault::ReplayFault;
+pub use own::is_own;
+pub use replay::replay_alone;
+pub use telling::fit;

@@ -1,0 +1,108 @@
+//! A whole log, replayed by both servers.
+
+ghost use Rattle.std.specs.Prelude.{◌≡◌, [], IfErr, IfOk, IsOk, OnOk, true};
+ghost use Rattle.ns_replay.specs.Abreast.{with_reply};
+ghost use Rattle.ns_replay.specs.Replay.{IsFault, IsReplayed, RepliesAlone, own_entries, replies_of};
+ghost use Rattle.ns_types.specs.Access.Sharing.{is_unshared};
+
+use crate::entry::replay_entry;
+use crate::fault::ReplayFault;
+use ns_core::Core;
+use ns_log::Entry;
+use ns_types::reply::Rendered;
+use ns_types::text::Text;
+use std::alloc::{AllocError, Global};
+
+/// Adds the reply, if there is one.
+fn push_reply(replies: &mut Vec<Rendered>, reply: Option<Rendered>) -> Result<(), AllocError>
+    ensures { OnOk result (replies.new.items ≡ with_reply replies.old.items reply) }
+{
+    if let Some(reply) = reply {
+        replies.push(reply)?;
+    }
+    Ok(())
+}
+
+/// Replays the entries in their order on the two servers, which are as at the beginning. Says what the server that holds the
+/// namespace alone answers to its own steps.
+fn replay_all(
+    alloc: Global,
+    base: &Core,
+    whole: &mut Core,
+    alone: &mut Core,
+    entries: &[Entry],
+    namespace: &Text,
+) -> Result<Vec<Rendered>, ReplayFault>
+    requires { IsReplayed namespace.now base.now [] whole.old alone.old }
+    ensures replayed { OnOk result
+        (IsReplayed namespace.now base.now entries.now whole.new alone.new) }
+    ensures logged { IfOk result (λ replies.
+        replies.items ≡ replies_of (own_entries namespace.now base.now entries.now)) }
+    ensures fault { IfErr result (IsFault namespace.now base.now entries.now) }
+{
+    base.is_valid();
+    let mut replies = Vec::new(alloc);
+    for (place, entry) in entries.iter().enumerate() {
+        let place = place as u64;
+        match replay_entry(alloc, base, whole, alone, namespace, place, entry) {
+            Ok(reply) => push_reply(&mut replies, reply)?,
+            Err(fault) => return Err(fault),
+        }
+    }
+    Ok(replies)
+}
+
+/// Replays the entries on a second server in the state of the base, and on one that holds the namespace alone.
+fn replay_on(
+    alloc: Global,
+    base: &Core,
+    mut whole: Core,
+    entries: &[Entry],
+    namespace: &Text,
+) -> Result<Vec<Rendered>, ReplayFault>
+    requires same { whole ≡ base.now }
+    requires unshared { is_unshared base.now.world namespace.now ≡ true }
+    ensures replies { IfOk result
+        (λ replies. RepliesAlone namespace.now base.now entries.now replies.items) }
+    ensures logged { IfOk result (λ replies.
+        replies.items ≡ replies_of (own_entries namespace.now base.now entries.now)) }
+    ensures fault { IfErr result (IsFault namespace.now base.now entries.now) }
+{
+    let Ok(mut alone) = base.alone(alloc, namespace) else {
+        drop(whole);
+        return Err(ReplayFault::Memory);
+    };
+    let replayed = replay_all(alloc, base, &mut whole, &mut alone, entries, namespace);
+    drop(whole);
+    drop(alone);
+    replayed
+}
+
+/// Makes the steps of the log on a copy of the base, and beside that the namespace's own steps on the server that holds the
+/// namespace alone. Says what these are answered there, which is what is logged. The first fault ends it: at a place a premise
+/// that fails, before a step of the namespace alone that differs, before an entry that is no step of the whole server. An empty
+/// log has no replies, and no fault.
+pub fn replay_alone(
+    alloc: Global,
+    base: &Core,
+    entries: &[Entry],
+    namespace: &Text,
+) -> Result<Vec<Rendered>, ReplayFault>
+    ensures empty { entries.now ≡ [] → IsOk result }
+    ensures replies { IfOk result
+        (λ replies. RepliesAlone namespace.now base.now entries.now replies.items) }
+    ensures logged { IfOk result (λ replies.
+        replies.items ≡ replies_of (own_entries namespace.now base.now entries.now)) }
+    ensures fault { IfErr result (IsFault namespace.now base.now entries.now) }
+{
+    if entries.is_empty() {
+        return Ok(Vec::new(alloc));
+    }
+    if !base.unshared(namespace) {
+        return Err(ReplayFault::Premise(0));
+    }
+    match base.copy(alloc) {
+        Ok(whole) => replay_on(alloc, base, whole, entries, namespace),
+        Err(_) => Err(ReplayFault::Memory),
+    }
+}
