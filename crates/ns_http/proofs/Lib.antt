@@ -7,3 +7,4 @@ pub mod HeadLemmas
 pub mod EngineLemmas
 pub mod Progress
 pub mod ServeLemmas
+pub mod WholeLemmas

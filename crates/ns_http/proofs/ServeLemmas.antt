@@ -42,7 +42,7 @@ progress_first answers s r c unread k w e = record {
   writer_keeps_open = λ o. o;
 }
 
-calls_more : (k i a b : ℕ) → (k + i ≤ a) ⊎ (a ≡ 2 ^ 64 - 1) → b ≡ min (a + 1) (2 ^ 64 - 1) → (k + (i + 1) ≤ b) ⊎ (b ≡ 2 ^ 64 - 1)
+pub calls_more : (k i a b : ℕ) → (k + i ≤ a) ⊎ (a ≡ 2 ^ 64 - 1) → b ≡ min (a + 1) (2 ^ 64 - 1) → (k + (i + 1) ≤ b) ⊎ (b ≡ 2 ^ 64 - 1)
 calls_more k i a b (inl least) e = elim (cases_lt a (2 ^ 64 - 1)) [ inl below ↦ inl (omega arith) | inr above ↦ inr (omega arith) ]
 calls_more k i a b (inr most) e = inr (omega arith)
 

@@ -8,9 +8,11 @@ mod header;
 mod input;
 mod output;
 mod response;
+mod whole;
 
 pub use crate::counting::{Counted, Counts};
 pub use crate::engine::{Answer, ConnFault, READ_LIMIT, serve};
 pub use crate::head::Request;
 pub use crate::input::READ_ROOM;
 pub use crate::output::{INTERRUPTION_LIMIT, WriteFault, write_all};
+pub use crate::whole::read_to_end;

@@ -1,0 +1,7 @@
+//! Faults of a program: its exit statuses, and their lines on standard error.
+#![tactic(auto)]
+
+mod lines;
+pub mod status;
+
+pub use lines::{say, tell, tell_no_random, tell_no_words};

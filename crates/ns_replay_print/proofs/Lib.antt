@@ -1,0 +1,2 @@
+mod Kept
+mod Outcomes

@@ -1,0 +1,78 @@
+-- What a log comes to for a namespace alone.
+use Rattle.std.specs.Prelude.{◌≡◌, ℕ, ◌+◌, min, List, [], ◌++◌, Option, Some, None, drop, length, slice_get, take}
+use Rattle.ns_types.specs.State.Names.{Name}
+use Rattle.ns_types.specs.State.Rows.{State}
+use Rattle.ns_types.specs.Steps.{opening}
+use Rattle.ns_json.specs.Replies.{Entry, IsKept}
+use Rattle.ns_log_read.specs.Lines as lines
+use Rattle.ns_log_read.specs.Lines.{IsLogOf}
+use Rattle.ns_replay.specs.declared.fault.ReplayFault.{ReplayFault}
+use Rattle.ns_replay.specs.declared.fault.ReplayFault.TheVariants as Fault
+use Rattle.ns_replay.specs.Replay.{FitsIn, IsFault, RepliesAlone, own_entries, replies_of}
+use Rattle.ns_replay_print.specs.declared.ending.Ending.{Ending}
+use Rattle.ns_replay_print.specs.Text.{last_line, own_lines, status_of}
+
+-- ---- the base
+
+-- how many entries make the base: so many, or all if there are fewer
+abbrev pub base_len : ℕ → List Entry → ℕ
+base_len from entries = min from (length entries)
+
+-- the entry at the place does not fit after those before it, which are a run from s
+pub record IsNoRunAt (s : State) (entries : List Entry) (place : ℕ) : Type 0 where
+  pub entry : Entry
+  pub state : State
+  pub is_entry : slice_get entries place ≡ Some entry
+  pub before : IsKept s (take place entries) state
+  pub unfit : FitsIn entry state → ⊥
+
+-- why entries make no base
+abbrev pub IsBaseFault : State → List Entry → ReplayFault → Type 0
+IsBaseFault s entries (Fault.NotARun place) = IsNoRunAt s entries place
+IsBaseFault s entries Fault.Memory = Unit {0}
+IsBaseFault s entries _ = ⊥
+
+-- ---- the replay after it
+
+-- where the entry of a fault stands among those replayed
+abbrev pub place_of : ReplayFault → ℕ
+place_of (Fault.Premise i) = i
+place_of (Fault.Differs i) = i
+place_of (Fault.NotARun i) = i
+place_of Fault.Memory = 0
+
+-- how a replay ends by its fault, where the first entry stands at the place `first`
+abbrev pub ending_of : ℕ → ReplayFault → Option Ending
+ending_of first (Fault.Premise i) = Some (Ending.PremiseFails (first + i))
+ending_of first (Fault.Differs i) = Some (Ending.Differs (first + i))
+ending_of first (Fault.NotARun i) = Some (Ending.NotARun (first + i))
+ending_of first Fault.Memory = None
+
+-- the lines and the ending of entries that are replayed from the base
+pub data ReplaysTo (ns : Name) (base : State) (first : ℕ) (entries : List Entry) : Name → Ending → Type 0 where
+  same : RepliesAlone ns base entries (replies_of (own_entries ns base entries)) →
+      ReplaysTo ns base first entries (own_lines ns base first entries) Ending.Same
+  fault : (fault : ReplayFault) (ending : Ending) → IsFault ns base entries fault →
+      ending_of first fault ≡ Some ending →
+      ReplaysTo ns base first entries (own_lines ns base first (take (place_of fault) entries)) ending
+
+-- ---- the whole
+
+-- the lines and the ending of a log, whose first entries, `from` or fewer, make the base
+pub data ComesTo (bytes : Name) (from : ℕ) (ns : Name) : Name → Ending → Type 0 where
+  bad_line : (line : ℕ) → lines.IsFault bytes line → ComesTo bytes from ns [] (Ending.BadLine line)
+  no_base : (secret : Name) (entries : List Entry) (place : ℕ) → IsLogOf bytes secret entries →
+      IsNoRunAt (opening secret) (take (base_len from entries) entries) place →
+      ComesTo bytes from ns [] (Ending.NotARun place)
+  replayed : (secret : Name) (entries : List Entry) (base : State) (lines : Name) (ending : Ending) →
+      IsLogOf bytes secret entries → IsKept (opening secret) (take (base_len from entries) entries) base →
+      ReplaysTo ns base (base_len from entries) (drop (base_len from entries) entries) lines ending →
+      ComesTo bytes from ns lines ending
+
+-- the text and the exit status that tell it
+pub record Tells (bytes : Name) (from : ℕ) (ns text : Name) (status : ℕ) : Type 0 where
+  pub lines : Name
+  pub ending : Ending
+  pub comes_to : ComesTo bytes from ns lines ending
+  pub is_text : text ≡ lines ++ last_line ending
+  pub is_status : status ≡ status_of ending

@@ -1,0 +1,12 @@
+//! What a log comes to for a namespace alone, as text: the log is read from an input, replayed, and
+//! told line by line.
+#![tactic(auto)]
+
+mod base;
+mod ending;
+mod lines;
+mod outcome;
+mod printing;
+
+pub use ending::Ending;
+pub use printing::print_replay;

@@ -1,0 +1,135 @@
+//! What a log comes to.
+
+ghost use Rattle.std.specs.Prelude.{◌≡◌, ◌+◌, ◌^◌, ◌<◌, IfOk, length, string_bytes};
+ghost use Rattle.ns_replay_print.specs.Outcome.{ComesTo, ReplaysTo, Tells, ending_of, place_of};
+
+use crate::base::base_of;
+use crate::ending::{Ending, push_ending};
+use crate::lines::own_lines;
+use ns_core::Core;
+use ns_log::Entry;
+use ns_log_read::{LogFault, log_read};
+use ns_replay::{ReplayFault, replay_alone};
+use ns_types::text::Text;
+use std::alloc::{AllocError, Global};
+
+/// The lines of the namespace's own entries up to the first fault, and how the replay ended.
+#[derive(Drop)]
+struct Outcome {
+    lines: String,
+    ending: Ending,
+}
+
+/// Where the entry of the fault stands among those replayed.
+fn place_of(fault: ReplayFault) -> u64
+    ensures { result ≡ place_of fault }
+{
+    match fault {
+        ReplayFault::Premise(place) | ReplayFault::Differs(place) | ReplayFault::NotARun(place) => {
+            place
+        }
+        ReplayFault::Memory => 0,
+    }
+}
+
+/// How a replay ends by its fault, where the first entry stands at the place `first`. None: memory
+/// is wanting.
+fn ending_of(first: u64, fault: ReplayFault) -> Option<Ending>
+    requires { first + place_of fault < 2 ^ 64 }
+    ensures { result ≡ ending_of first fault }
+{
+    match fault {
+        ReplayFault::Premise(place) => Some(Ending::PremiseFails(first + place)),
+        ReplayFault::Differs(place) => Some(Ending::Differs(first + place)),
+        ReplayFault::NotARun(place) => Some(Ending::NotARun(first + place)),
+        ReplayFault::Memory => None,
+    }
+}
+
+/// Replays the entries after those of the base. The first of them stands at the place `first`.
+fn replay_from(
+    alloc: Global,
+    base: &Core,
+    first: u64,
+    entries: &[Entry],
+    namespace: &Text,
+) -> Result<Outcome, AllocError>
+    requires { first + length entries.now < 2 ^ 64 }
+    ensures { IfOk result (λ o. let bytes = string_bytes o.lines in
+        ReplaysTo namespace.now base.now first entries.now bytes o.ending) }
+{
+    let (end, ending) = match replay_alone(alloc, base, entries, namespace) {
+        Ok(replies) => {
+            drop(replies);
+            (entries.len(), Ending::Same)
+        }
+        Err(fault) => match ending_of(first, fault) {
+            Some(ending) => (place_of(fault) as usize, ending),
+            None => return Err(AllocError),
+        },
+    };
+    let lines = own_lines(alloc, base, first, &entries[..end], namespace)?;
+    Ok(Outcome { lines, ending })
+}
+
+/// What the bytes come to.
+fn outcome_of(
+    alloc: Global,
+    bytes: &[u8],
+    from: u64,
+    namespace: &Text,
+) -> Result<Outcome, AllocError>
+    ensures { IfOk result (λ o.
+        ComesTo bytes.now from namespace.now (string_bytes o.lines) o.ending) }
+{
+    let lines = String::new(alloc);
+    let log = match log_read(alloc, bytes) {
+        Ok(log) => log,
+        Err(LogFault::Line(line)) => {
+            let ending = Ending::BadLine(line);
+            return Ok(Outcome { lines, ending });
+        }
+        Err(LogFault::Memory) => return Err(AllocError),
+    };
+    let entries = log.entries.as_slice();
+    let first = from.min(entries.len() as u64);
+    let (front, rest) = entries.split_at(first as usize);
+    match base_of(alloc, &log.secret, front) {
+        Ok(base) => replay_from(alloc, &base, first, rest, namespace),
+        Err(ReplayFault::NotARun(place)) => {
+            let ending = Ending::NotARun(place);
+            Ok(Outcome { lines, ending })
+        }
+        Err(_) => Err(AllocError),
+    }
+}
+
+/// A text, and the exit status that goes with it.
+#[derive(Drop)]
+pub struct Told {
+    pub text: String,
+    pub status: u8,
+}
+
+/// Tells what the bytes of a log come to for the namespace alone, where the first entries, `from`
+/// or all if there are fewer, make the base.
+pub fn tell_replay(
+    alloc: Global,
+    bytes: &[u8],
+    from: u64,
+    namespace: &Text,
+) -> Result<Told, AllocError>
+    ensures told { IfOk result (λ told.
+        Tells bytes.now from namespace.now (string_bytes told.text) told.status) }
+    ensures status { IfOk result (λ told. told.status < 3) }
+{
+    let Outcome {
+        lines: mut text,
+        ending,
+    } = outcome_of(alloc, bytes, from, namespace)?;
+    push_ending(&mut text, ending)?;
+    Ok(Told {
+        text,
+        status: ending.status(),
+    })
+}

@@ -1,0 +1,57 @@
+//! A replay from an input to an output.
+
+ghost use Rattle.std.specs.Prelude.{◌≡◌, ◌+◌, ◌<◌, ◌≤◌};
+ghost use Rattle.ns_http.specs.Whole.{FailsToRead};
+ghost use Rattle.ns_faults.specs.Lines.{Tells, line_of, status_of};
+ghost use Rattle.ns_replay_print.specs.Printing.{Prints, PrintsPart};
+
+use crate::outcome::tell_replay;
+use ns_faults::status::{OUT_OF_MEMORY, READ_FAULT, WRITE_FAULT};
+use ns_faults::tell;
+use ns_http::{ConnFault, Counted, READ_LIMIT, read_to_end, write_all};
+use ns_types::text::Text;
+use std::alloc::Global;
+use std::io::{Read, Write};
+
+/// Reads a log to the end of the input, replays it for the namespace alone, and writes what it
+/// comes to. Says the exit status. The first entries, `from` or all if there are fewer, make the
+/// base.
+///
+/// Nothing is written before all of the text is there: with a fault of the reader, or where memory
+/// is wanting, nothing at all.
+pub fn print_replay<R: Read, W: Write, E: Write>(
+    alloc: Global,
+    namespace: &Text,
+    from: u64,
+    reader: &mut Counted<R>,
+    writer: &mut Counted<W>,
+    errors: &mut Counted<E>,
+) -> u8
+    ensures status { result ≤ OUT_OF_MEMORY }
+    ensures printed { result < READ_FAULT → Prints R.remaining W.contents
+        namespace.now from reader.old reader.new writer.old writer.new result }
+    ensures read_fault { result ≡ READ_FAULT → FailsToRead reader.old.counts reader.new.counts }
+    ensures write_fault { result ≡ WRITE_FAULT → PrintsPart R.remaining W.contents
+        namespace.now from reader.old reader.new writer.old writer.new }
+
+    // With the other faults nothing is written.
+    ensures unread { result ≡ READ_FAULT → writer.new ≡ writer.old }
+    ensures out_of_memory { result ≡ OUT_OF_MEMORY → writer.new ≡ writer.old }
+
+    ensures silent { result < READ_FAULT → errors.new ≡ errors.old }
+    ensures told { (fault : ConnFault) → result ≡ status_of fault
+        → Tells E.contents errors.old errors.new (line_of fault) }
+    ensures reads { reader.new.counts.calls ≤ reader.old.counts.calls + READ_LIMIT }
+{
+    let bytes = match read_to_end(alloc, reader) {
+        Ok(bytes) => bytes,
+        Err(fault) => return tell(fault, errors),
+    };
+    let Ok(told) = tell_replay(alloc, bytes.as_slice(), from, namespace) else {
+        return tell(ConnFault::Memory, errors);
+    };
+    match write_all(writer, told.text.as_str().as_bytes()) {
+        Ok(()) => told.status,
+        Err(_) => tell(ConnFault::Write, errors),
+    }
+}
