@@ -1,9 +1,10 @@
 -- Answers of steps.
-use Rattle.std.proofs.Common.{◌≡◌, inl, inr, Option, Some, None, Ok, Err, true, false, refl, sym, subst, ◌∙◌, IfOk}
+use Rattle.std.proofs.Common.{◌≡◌, ◌⊎◌, inl, inr, Option, Some, None, Ok, Err, true, false, refl, ap, sym, subst, ◌∙◌, IfOk}
 use Rattle.std.specs.Prelude.{IsSomeAnd}
 use Rattle.ns_types.specs.declared.refusal.Refusal.{Refusal}
 use Rattle.ns_types.specs.declared.reply.Content.{Content}
 use Rattle.ns_types.specs.declared.reply.Rendered.{Rendered}
+use Rattle.ns_types.specs.declared.reply.Reply.{Reply}
 use Rattle.ns_types.specs.declared.step.AdminCommand.TheVariants as AdminCommand
 use Rattle.ns_types.specs.declared.step.AskCommand.TheVariants as AskCommand
 use Rattle.ns_types.specs.declared.step.NodeCommand.TheVariants as NodeCommand
@@ -11,61 +12,55 @@ use Rattle.ns_types.specs.declared.step.Step.{Step}
 use Rattle.ns_types.specs.State.Names.{Name}
 use Rattle.ns_types.specs.Wire.Refused.{refused}
 use Rattle.ns_types.specs.State.Rows.{State}
-use Rattle.ns_types.specs.Steps.{Answer, after, said, Makes}
+use Rattle.ns_types.specs.Steps.{Answer}
 use Rattle.ns_types.proofs.Lists.{not_both}
+use Rattle.ns_chains.specs.Chains.{IsMade, MakesOrLacks}
 use Rattle.ns_json.specs.Replies.{rendered}
 use Rattle.ns_replies.specs.Rendered.{HasRoom, IsRendered}
 use Rattle.ns_types.proofs.Tests.{is_no}
 use Rattle.ns_steps.specs.Served.{IsServed, IsToldBy, is_reading, only_reads, served}
 use Rattle.ns_steps.specs.Told.{Holds, Shape, is_of_write}
-use Rattle.ns_steps.proofs.Telling.{reading_rests, served_decides, served_tells}
-use Rattle.ns_api.specs.Answering.{AnswersOrWants, ShowsOrWants}
+use Rattle.ns_steps.proofs.Telling.{served_tells}
+use Rattle.ns_api.specs.Answering.{AnswersOrWants, IsWanting, ShowsOrWants}
 use Rattle.ns_api.specs.Rooms.{room_of}
-
--- ---- refusals
 
 rendered_refusal : (refusal : Refusal) → rendered (Err refusal) ≡ refused refusal
 unfolding rendered
 rendered_refusal refusal = refl
 
-refused_so : (step : Step) (s s' : State) (refusal : Refusal) → (after step s ≡ said (Err refusal) s) × (s' ≡ s) → AnswersOrWants step s (refused refusal) s'
-unfolding rendered
-refused_so step s s' refusal m = inl (Err refusal, subst (λ x. after step s ≡ said (Err refusal) x) (sym m.1) m.0, refl)
+-- ---- answers of calls
 
-refused_answer : (step : Step) (s s' : State) (refusal : Refusal) → (after step s ≡ None → ⊥) → Makes step s (Err refusal) s' →
-    AnswersOrWants step s (refused refusal) s'
-refused_answer step s s' Refusal.Memory enabled m = inr (refl, m.1)
-refused_answer step s s' Refusal.NotEnabled enabled m = absurd (enabled m.0)
-refused_answer step s s' (Refusal.BadField member) enabled m = refused_so step s s' (Refusal.BadField member) m
-refused_answer step s s' Refusal.BadHead enabled m = refused_so step s s' Refusal.BadHead m
-refused_answer step s s' Refusal.BadJson enabled m = refused_so step s s' Refusal.BadJson m
-refused_answer step s s' Refusal.Denied enabled m = refused_so step s s' Refusal.Denied m
-refused_answer step s s' Refusal.NotFound enabled m = refused_so step s s' Refusal.NotFound m
-refused_answer step s s' Refusal.BadMethod enabled m = refused_so step s s' Refusal.BadMethod m
-refused_answer step s s' Refusal.Conflict enabled m = refused_so step s s' Refusal.Conflict m
-refused_answer step s s' Refusal.PoolNotPermitted enabled m = refused_so step s s' Refusal.PoolNotPermitted m
-refused_answer step s s' Refusal.InUse enabled m = refused_so step s s' Refusal.InUse m
-refused_answer step s s' Refusal.Full enabled m = refused_so step s s' Refusal.Full m
-refused_answer step s s' Refusal.NeedLength enabled m = refused_so step s s' Refusal.NeedLength m
-refused_answer step s s' Refusal.TooLarge enabled m = refused_so step s s' Refusal.TooLarge m
-refused_answer step s s' Refusal.NotServed enabled m = refused_so step s s' Refusal.NotServed m
-refused_answer step s s' Refusal.LogFull enabled m = refused_so step s s' Refusal.LogFull m
-refused_answer step s s' Refusal.Foreign enabled m = refused_so step s s' Refusal.Foreign m
+module _ {S : Type 0} (state : S → State) (notes : S → Step → Answer → S → Type 0) (lacks : S → Refusal → Type 0) where
+  -- a read that finds no memory for its reply was not made, or the server may lack that
+  unshown : (step : Step) (s s' : S) (answer : Answer) (reply : Rendered) → is_reading step ≡ true → IsMade state notes s step answer s' →
+      reply ≡ refused Refusal.Memory → (s' ≡ s) ⊎ lacks s Refusal.Memory → AnswersOrWants state notes lacks step s reply s'
+  unshown step s s' answer reply reading made e (inl same) = inr (Refusal.Memory, inl refl, (e, same))
+  unshown step s s' answer reply reading made e (inr lack) = inl (answer, made, inr (reading, lack, e))
 
--- a step that was refused, or was not made for want of memory
-answers_refused : (step : Step) (s s' : State) (refusal : Refusal) (reply : Rendered) → IsServed step → Makes step s (Err refusal) s' →
-    reply ≡ refused refusal → AnswersOrWants step s reply s'
-answers_refused step s s' refusal reply served m e =
-    subst (λ r. AnswersOrWants step s r s') (sym e) (refused_answer step s s' refusal (served_decides step s served) m)
+  shown_read : (step : Step) (s s' : S) (answer : Answer) (reply : Rendered) → is_reading step ≡ true → IsMade state notes s step answer s' →
+      ShowsOrWants answer reply → (s' ≡ s) ⊎ lacks s Refusal.Memory → AnswersOrWants state notes lacks step s reply s'
+  shown_read step s s' (Ok told) reply reading made (inl e) rests = inl (Ok told, made, inl e)
+  shown_read step s s' (Ok told) reply reading made (inr e) rests = unshown step s s' (Ok told) reply reading made e rests
+  shown_read step s s' (Err refusal) reply reading made e rests =
+      inl (Err refusal, made, inl (e ∙ sym (rendered_refusal refusal)))
+
+  -- a read may find no memory for its reply
+  pub answers_read : (step : Step) (s s' : S) (answer : Answer) (reply : Rendered) → is_reading step ≡ true →
+      MakesOrLacks state notes (IsWanting lacks) s step answer s' → ((s' ≡ s) ⊎ lacks s Refusal.Memory) → ShowsOrWants answer reply →
+      AnswersOrWants state notes lacks step s reply s'
+  answers_read step s s' answer reply reading (inl made) rests e = shown_read step s s' answer reply reading made e rests
+  answers_read step s s' answer reply reading (inr l) rests e = inr (l.0, l.2, (subst (λ a. ShowsOrWants a reply) l.1 e, l.3))
+
+  pub answers_write : (step : Step) (s s' : S) (answer : Answer) (reply : Rendered) → MakesOrLacks state notes (IsWanting lacks) s step answer s' →
+      reply ≡ rendered answer → AnswersOrWants state notes lacks step s reply s'
+  answers_write step s s' answer reply (inl made) e = inl (answer, made, inl e)
+  answers_write step s s' answer reply (inr l) e = inr (l.0, l.2, (e ∙ ap rendered l.1 ∙ rendered_refusal l.0, l.3))
+
+  -- nothing changed, for want of memory
+  pub wants_memory : (step : Step) (s : S) → AnswersOrWants state notes lacks step s (refused Refusal.Memory) s
+  wants_memory step s = inr (Refusal.Memory, inl refl, (refl, refl))
 
 -- ---- reads
-
--- a read may find no memory for its reply
-pub answers_read : (step : Step) (s s' : State) (answer : Answer) (reply : Rendered) → IsServed step → is_reading step ≡ true → Makes step s answer s' →
-    ShowsOrWants answer reply → AnswersOrWants step s reply s'
-answers_read step s s' (Ok told) reply served reading m (inl e) = inl (Ok told, m, e)
-answers_read step s s' (Ok told) reply served reading m (inr e) = inr (e, reading_rests step s s' (Ok told) served reading m)
-answers_read step s s' (Err refusal) reply served reading m e = answers_refused step s s' refusal reply served m e
 
 -- what a read tells is rendered
 rendered_shape : (shape : Shape) (content : Content) → is_of_write shape ≡ false → Holds shape content → IsRendered content
@@ -110,11 +105,19 @@ read_rendered : (line : Option Shape) (content : Content) → only_reads line �
 read_rendered None content reads t = absurd t
 read_rendered (Some shape) content reads t = rendered_shape shape content (is_no (is_of_write shape) reads) t
 
+-- a reply is told by a step that was made
+told : {S : Type 0} (state : S → State) (notes : S → Step → Answer → S → Type 0) (lacks : S → Refusal → Type 0) (step : Step) (s s' : S)
+    (reply : Reply) → IsServed step → MakesOrLacks state notes lacks s step (Ok reply) s' → IsToldBy step reply.content
+told state notes lacks step s s' reply served (inl made) = served_tells step (state s) (state s') reply served made.made
+told state notes lacks step s s' reply served (inr l) = cc
+
 -- what a read answers can be rendered
-pub shows : (step : Step) (s s' : State) (answer : Answer) → IsServed step → is_reading step ≡ true → Makes step s answer s' →
+pub shows : {S : Type 0} (state : S → State) (notes : S → Step → Answer → S → Type 0) (lacks : S → Refusal → Type 0) (step : Step) (s s' : S)
+    (answer : Answer) → IsServed step → is_reading step ≡ true → MakesOrLacks state notes lacks s step answer s' →
     IfOk answer (λ reply. IsRendered reply.content)
-shows step s s' (Ok reply) is reading m = read_rendered (served step) reply.content reading (served_tells step s s' reply is m)
-shows step s s' (Err refusal) served reading m = tt
+shows state notes lacks step s s' (Ok reply) is reading m =
+    read_rendered (served step) reply.content reading (told state notes lacks step s s' reply is m)
+shows state notes lacks step s s' (Err refusal) is reading m = tt
 
 -- ---- writes
 
@@ -156,13 +159,10 @@ write_fits (Step.Node pool secret _) content served e t = not_both refl e
 write_fits _ content served e t = not_both refl e
 
 -- what a write answers fits in the room of its step
-pub fits : (step : Step) (s s' : State) (answer : Answer) (room : Option Name) → room ≡ room_of step → IsServed step → is_reading step ≡ false →
-    Makes step s answer s' → IfOk answer (λ reply. HasRoom room reply.content)
-fits step s s' (Ok reply) room is served writing m =
-    subst (λ r. HasRoom r reply.content) (sym is) (write_fits step reply.content served writing (served_tells step s s' reply served m))
-fits step s s' (Err refusal) room is served writing m = tt
-
-pub answers_write : (step : Step) (s s' : State) (answer : Answer) (reply : Rendered) → IsServed step → Makes step s answer s' → reply ≡ rendered answer →
-    AnswersOrWants step s reply s'
-answers_write step s s' (Ok told) reply served m e = inl (Ok told, m, e)
-answers_write step s s' (Err refusal) reply served m e = answers_refused step s s' refusal reply served m (e ∙ rendered_refusal refusal)
+pub fits : {S : Type 0} (state : S → State) (notes : S → Step → Answer → S → Type 0) (lacks : S → Refusal → Type 0) (step : Step) (s s' : S)
+    (answer : Answer) (room : Option Name) → room ≡ room_of step → IsServed step → is_reading step ≡ false →
+    MakesOrLacks state notes lacks s step answer s' → IfOk answer (λ reply. HasRoom room reply.content)
+fits state notes lacks step s s' (Ok reply) room is served writing m =
+    subst (λ r. HasRoom r reply.content) (sym is)
+    (write_fits step reply.content served writing (told state notes lacks step s s' reply served m))
+fits state notes lacks step s s' (Err refusal) room is served writing m = tt

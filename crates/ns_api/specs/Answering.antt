@@ -1,5 +1,5 @@
--- What a request is answered, what a server does of itself after it, and the run that a connection makes.
-use Rattle.std.specs.Prelude.{◌≡◌, ◌⊎◌, ℕ, List, [], ◌∷◌, ◌++◌, Result, Ok, Err}
+-- What a request is answered, what a server does of itself after it, and the steps that a connection makes.
+use Rattle.std.specs.Prelude.{◌≡◌, ◌⊎◌, ℕ, List, [], ◌∷◌, ◌++◌, true, Result, Ok, Err}
 use Rattle.ns_types.specs.declared.refusal.Refusal.{Refusal}
 use Rattle.ns_types.specs.declared.refusal.Refusal.TheVariants.{Memory}
 use Rattle.ns_types.specs.declared.reply.Rendered.{Rendered}
@@ -7,113 +7,134 @@ use Rattle.ns_types.specs.declared.step.Step.{Step}
 use Rattle.ns_types.specs.Wire.Http.{Asked, asked_by, Whole, Refused}
 use Rattle.ns_types.specs.Wire.Refused.{refused}
 use Rattle.ns_types.specs.State.Rows.{State}
-use Rattle.ns_types.specs.Steps.{Answer, after, said, Run}
+use Rattle.ns_types.specs.Steps.{Answer, Run}
 use Rattle.ns_types.specs.Wire.Responses.{Exchange, refusal_of}
+use Rattle.ns_chains.specs.Chains.{Chain, IsMade}
 use Rattle.ns_json.specs.Replies.{rendered}
+use Rattle.ns_steps.specs.Served.{is_reading}
 use Rattle.ns_api.specs.Asking.{asked}
 use Rattle.ns_api.specs.Drawing.{DrawsFor}
 
--- what is served: the state of the model, what draws random bits, and what is done after each request
-pub record Holding (D F : Type 0) : Type 0 where
-  pub state : State
+-- what is served: the server, what draws random bits, and what is done after each request
+pub record Holding (S D F : Type 0) : Type 0 where
+  pub server : S
   pub draws : D
   pub follower : F
 
--- ---- one request, over the state and what draws
-
--- the answer of the step, which leads to the next state
-abbrev pub AnswersStep : Step → State → Rendered → State → Type 0
-AnswersStep step s reply s' = (answer : Answer) × (after step s ≡ said answer s') × (reply ≡ rendered answer)
+-- ---- one request, over the server and what draws
 
 -- a refusal that changes nothing
 abbrev pub AnswersRefused : {S : Type 0} → Refusal → S → Rendered → S → Type 0
 AnswersRefused refusal old reply new = (reply ≡ refused refusal) × (new ≡ old)
 
--- want of memory changes nothing
-abbrev pub AnswersOrWants : Step → State → Rendered → State → Type 0
-AnswersOrWants step s reply s' = AnswersStep step s reply s' ⊎ AnswersRefused Memory s reply s'
-
--- the refusal that needs no state; or the answer of the step that is asked for, with what is drawn for it
-abbrev pub AnswersAsked : {D : Type 0} → (D → List ℕ → D → Type 0) → Result Step Refusal → State × D → Rendered →
-    State × D → Type 0
-AnswersAsked draws (Err refusal) old reply new = AnswersRefused refusal old reply new
-AnswersAsked draws (Ok step) old reply new =
-    (made : Step) × DrawsFor draws step old.1 made new.1 × AnswersOrWants made old.0 reply new.0
-
--- want of memory may also come before the step is known
-abbrev pub AnswersRequest : {D : Type 0} → (D → List ℕ → D → Type 0) → State × D → Asked → Rendered → State × D → Type 0
-AnswersRequest draws old a reply new = AnswersAsked draws (asked a) old reply new ⊎ AnswersRefused Memory old reply new
+-- what a call for a step may want: memory, or what the server lacks besides
+abbrev pub IsWanting : {S : Type 0} → (S → Refusal → Type 0) → S → Refusal → Type 0
+IsWanting lacks s refusal = (refusal ≡ Memory) ⊎ lacks s refusal
 
 -- the rendering of an answer, where that of a reply may be refused for want of memory
 abbrev pub ShowsOrWants : Answer → Rendered → Type 0
 ShowsOrWants (Ok told) reply = (reply ≡ rendered (Ok told)) ⊎ (reply ≡ refused Memory)
 ShowsOrWants (Err refusal) reply = reply ≡ refused refusal
 
--- ---- what a request made
+-- by the state for which a server stands, what a step notes besides, and what the server may lack
+module _ {S : Type 0} (state : S → State) (notes : S → Step → Answer → S → Type 0) (lacks : S → Refusal → Type 0) where
+  -- a read that was made finds no memory for its reply, where the server may lack that even then
+  abbrev pub IsUnshown : Step → S → Rendered → Type 0
+  IsUnshown step s reply = (is_reading step ≡ true) × lacks s Memory × (reply ≡ refused Memory)
 
--- a request that made no step: it was refused without the state, or for want of memory, before or after the draws
-abbrev pub MakesNone : {D : Type 0} → (D → List ℕ → D → Type 0) → Result Step Refusal → D → Rendered → D → Type 0
-MakesNone draws (Err refusal) old reply new = AnswersRefused refusal old reply new ⊎ AnswersRefused Memory old reply new
-MakesNone draws (Ok step) old reply new =
-    AnswersRefused Memory old reply new ⊎ ((made : Step) × DrawsFor draws step old made new × (reply ≡ refused Memory))
+  -- the rendering of the answer of a step
+  abbrev pub Shows : Step → S → Answer → Rendered → Type 0
+  Shows step s answer reply = (reply ≡ rendered answer) ⊎ IsUnshown step s reply
 
--- a request that made this step, whose answer it got
-pub record MakesOne {D : Type 0} (draws : D → List ℕ → D → Type 0) (asks : Result Step Refusal)
-    (old : D) (reply : Rendered) (new : D) (made : Step) (told : Answer) : Type 0 where
-  pub wanted : Step
-  pub asks_wanted : asks ≡ Ok wanted
-  pub draws_made : DrawsFor draws wanted old made new
-  pub shows_told : reply ≡ rendered told
+  -- the answer of the step, which was made
+  abbrev pub AnswersStep : Step → S → Rendered → S → Type 0
+  AnswersStep step s reply s' = (answer : Answer) × IsMade state notes s step answer s' × Shows step s answer reply
 
--- the step that a request made itself with its answer, if it made one
-abbrev pub MakesOwn : {D : Type 0} → (D → List ℕ → D → Type 0) → Result Step Refusal → D → Rendered → D → List Step →
-    List Answer → Type 0
-MakesOwn draws asks old reply new [] [] = MakesNone draws asks old reply new
-MakesOwn draws asks old reply new (made ∷ []) (told ∷ []) = MakesOne draws asks old reply new made told
-MakesOwn draws asks old reply new _ _ = ⊥
+  -- the step was not made, for want of something, which changes nothing
+  abbrev pub AnswersWant : S → Rendered → S → Type 0
+  AnswersWant s reply s' = (refusal : Refusal) × IsWanting lacks s refusal × AnswersRefused refusal s reply s'
 
--- ---- a server that does something of itself after each request
+  abbrev pub AnswersOrWants : Step → S → Rendered → S → Type 0
+  AnswersOrWants step s reply s' = AnswersStep step s reply s' ⊎ AnswersWant s reply s'
 
-module _ {D F : Type 0} (draws : D → List ℕ → D → Type 0)
-    (follows : F → State → List Step → List Answer → State → F → Type 0) where
-  -- a request is answered, and then the steps that follow are made, which is a run and draws nothing
-  pub record Answers (old : Holding D F) (a : Asked) (reply : Rendered) (new : Holding D F) : Type 0 where
-    pub between : State
-    pub answered : AnswersRequest draws (old.state, old.draws) a reply (between, new.draws)
-    pub steps : List Step
-    pub answers : List Answer
-    pub followed : follows old.follower between steps answers new.state new.follower
-    pub run : Run between steps answers new.state
+  module _ {D : Type 0} (draws : D → List ℕ → D → Type 0) where
+    -- the refusal that needs no state; or the answer of the step that is asked for, with what is drawn for it
+    abbrev pub AnswersAsked : Result Step Refusal → S × D → Rendered → S × D → Type 0
+    AnswersAsked (Err refusal) old reply new = AnswersRefused refusal old reply new
+    AnswersAsked (Ok step) old reply new =
+        (made : Step) × DrawsFor draws step old.1 made new.1 × AnswersOrWants made old.0 reply new.0
 
-  -- A request made the first of these steps: its own, if it made one, and then those that followed. The rest is left.
-  pub record MakesFirst (asks : Result Step Refusal) (old : Holding D F) (reply : Rendered) (new : Holding D F)
-      (steps : List Step) (answers : List Answer) (steps' : List Step) (answers' : List Answer) : Type 0 where
-    pub between : State
-    pub own : List Step
-    pub told : List Answer
-    pub own_run : Run old.state own told between
-    pub makes_own : MakesOwn draws asks old.draws reply new.draws own told
-    pub following : List Step
-    pub answered : List Answer
-    pub followed : follows old.follower between following answered new.state new.follower
-    pub run : Run between following answered new.state
-    pub are_steps : steps ≡ own ++ following ++ steps'
-    pub are_answers : answers ≡ told ++ answered ++ answers'
+    -- want of memory may also come before the step is known
+    abbrev pub AnswersRequest : S × D → Asked → Rendered → S × D → Type 0
+    AnswersRequest old a reply new = AnswersAsked (asked a) old reply new ⊎ AnswersRefused Memory old reply new
 
-  -- The requests, in their order, made these steps, in their order, each with what followed it, and no others, and drew
-  -- for them in this order. A request that was refused by its head is followed by nothing.
-  abbrev pub Made : Holding D F → List Exchange → List Step → List Answer → Holding D F → Type 0
-  Made old [] steps answers new = (steps ≡ []) × (answers ≡ []) × (new ≡ old)
-  Made old ((Refused fault, reply) ∷ exchanges) steps answers new =
-      (reply ≡ refusal_of fault) × Made old exchanges steps answers new
-  Made old ((Whole m, reply) ∷ exchanges) steps answers new = (next : Holding D F) ×
-      (steps' : List Step) × (answers' : List Answer) ×
-      MakesFirst (asked (asked_by m)) old reply next steps answers steps' answers' ×
-      Made next exchanges steps' answers' new
+    -- ---- what a request made
 
-  -- what the requests of a connection made, with all that followed them, is one run
-  pub record RunsAs (old : Holding D F) (exchanges : List Exchange) (new : Holding D F) : Type 0 where
-    pub steps : List Step
-    pub answers : List Answer
-    pub run : Run old.state steps answers new.state
-    pub made : Made old exchanges steps answers new
+    -- a request that made no step: it was refused without the state, or for want of memory before the draws, or for
+    -- want of something after them
+    abbrev pub MakesNone : Result Step Refusal → S → D → Rendered → D → Type 0
+    MakesNone (Err refusal) s old reply new =
+        AnswersRefused refusal old reply new ⊎ AnswersRefused Memory old reply new
+    MakesNone (Ok step) s old reply new = AnswersRefused Memory old reply new ⊎ ((made : Step) ×
+        DrawsFor draws step old made new × (refusal : Refusal) × IsWanting lacks s refusal × (reply ≡ refused refusal))
+
+    -- a request that made this step, whose answer it got
+    pub record MakesOne (asks : Result Step Refusal) (s : S) (old : D) (reply : Rendered) (new : D) (made : Step)
+        (told : Answer) : Type 0 where
+      pub wanted : Step
+      pub asks_wanted : asks ≡ Ok wanted
+      pub draws_made : DrawsFor draws wanted old made new
+      pub shows_told : Shows made s told reply
+
+    -- the step that a request made itself with its answer, if it made one
+    abbrev pub MakesOwn : Result Step Refusal → S → D → Rendered → D → List Step → List Answer → Type 0
+    MakesOwn asks s old reply new [] [] = MakesNone asks s old reply new
+    MakesOwn asks s old reply new (made ∷ []) (told ∷ []) = MakesOne asks s old reply new made told
+    MakesOwn asks s old reply new _ _ = ⊥
+
+    -- ---- a server that does something of itself after each request
+
+    module _ {F : Type 0} (follows : F → S → List Step → List Answer → S → F → Type 0) where
+      -- a request is answered, and then the steps that follow are made, which draws nothing
+      pub record Answers (old : Holding S D F) (a : Asked) (reply : Rendered) (new : Holding S D F) : Type 0 where
+        pub between : S
+        pub answered : AnswersRequest (old.server, old.draws) a reply (between, new.draws)
+        pub steps : List Step
+        pub answers : List Answer
+        pub followed : follows old.follower between steps answers new.server new.follower
+        pub chain : Chain state notes between steps answers new.server
+
+      -- A request made the first of these steps: its own, if it made one, and then those that followed. The rest is
+      -- left.
+      pub record MakesFirst (asks : Result Step Refusal) (old : Holding S D F) (reply : Rendered) (new : Holding S D F)
+          (steps : List Step) (answers : List Answer) (steps' : List Step) (answers' : List Answer) : Type 0 where
+        pub between : S
+        pub own : List Step
+        pub told : List Answer
+        pub own_chain : Chain state notes old.server own told between
+        pub makes_own : MakesOwn asks old.server old.draws reply new.draws own told
+        pub following : List Step
+        pub answered : List Answer
+        pub followed : follows old.follower between following answered new.server new.follower
+        pub chain : Chain state notes between following answered new.server
+        pub are_steps : steps ≡ own ++ following ++ steps'
+        pub are_answers : answers ≡ told ++ answered ++ answers'
+
+      -- The requests, in their order, made these steps, in their order, each with what followed it, and no others, and
+      -- drew for them in this order. A request that was refused by its head is followed by nothing.
+      abbrev pub Made : Holding S D F → List Exchange → List Step → List Answer → Holding S D F → Type 0
+      Made old [] steps answers new = (steps ≡ []) × (answers ≡ []) × (new ≡ old)
+      Made old ((Refused fault, reply) ∷ exchanges) steps answers new =
+          (reply ≡ refusal_of fault) × Made old exchanges steps answers new
+      Made old ((Whole m, reply) ∷ exchanges) steps answers new = (next : Holding S D F) ×
+          (steps' : List Step) × (answers' : List Answer) ×
+          MakesFirst (asked (asked_by m)) old reply next steps answers steps' answers' ×
+          Made next exchanges steps' answers' new
+
+      -- what the requests of a connection made, with all that followed them, is one chain, and so one run of the model
+      pub record RunsAs (old : Holding S D F) (exchanges : List Exchange) (new : Holding S D F) : Type 0 where
+        pub steps : List Step
+        pub answers : List Answer
+        pub chain : Chain state notes old.server steps answers new.server
+        pub run : Run (state old.server) steps answers (state new.server)
+        pub made : Made old exchanges steps answers new

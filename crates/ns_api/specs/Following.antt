@@ -1,5 +1,6 @@
 -- What a server does of itself after a request.
 use Rattle.std.specs.Prelude.{◌≡◌, List, []}
+use Rattle.ns_types.specs.declared.refusal.Refusal.{Refusal}
 use Rattle.ns_types.specs.declared.step.Step.{Step}
 use Rattle.ns_types.specs.State.Rows.{State}
 use Rattle.ns_types.specs.Steps.{Answer}
@@ -10,16 +11,18 @@ use Rattle.ns_drive.specs.Kept.{seen_of}
 use Rattle.ns_api.specs.declared.following.Driven.{Driven}
 use Rattle.ns_api.specs.declared.following.Driver.{Driver}
 
--- no step, and the state stays
-abbrev pub FollowsNothing : State → List Step → List Answer → State → Type 0
+-- no step, and the server stays
+abbrev pub FollowsNothing : {S : Type 0} → S → List Step → List Answer → S → Type 0
 FollowsNothing s steps answers s' = (steps ≡ []) × (answers ≡ []) × (s' ≡ s)
 
 -- nothing, where nobody is driven; else the steps of the driven worker, until it stops
-abbrev pub FollowsBy : Driver → State → List Step → List Answer → State → Driver → Type 0
-FollowsBy Driver.Nobody s steps answers s' driver' = FollowsNothing s steps answers s' × (driver' ≡ Driver.Nobody)
-FollowsBy (Driver.Worker kept) s steps answers s' (Driver.Worker kept') =
-    (stop : Stop) × Drives s (seen_of kept) steps answers s' (seen_of kept') stop
-FollowsBy (Driver.Worker kept) s steps answers s' Driver.Nobody = ⊥
+abbrev pub FollowsBy : {S : Type 0} → (S → State) → (S → Step → Answer → S → Type 0) → (S → Step → Refusal → Type 0) →
+    Driver → S → List Step → List Answer → S → Driver → Type 0
+FollowsBy state notes lacks Driver.Nobody s steps answers s' driver' =
+    FollowsNothing s steps answers s' × (driver' ≡ Driver.Nobody)
+FollowsBy state notes lacks (Driver.Worker kept) s steps answers s' (Driver.Worker kept') =
+    (stop : Stop) × Drives state notes lacks s (seen_of kept) steps answers s' (seen_of kept') stop
+FollowsBy state notes lacks (Driver.Worker kept) s steps answers s' Driver.Nobody = ⊥
 
 -- at first the driven worker has seen nothing
 abbrev pub driver_of : Driven → Driver

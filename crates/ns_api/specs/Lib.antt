@@ -4,6 +4,8 @@ pub mod Asking
 pub mod Wanted
 pub mod Drawing
 pub mod Rooms
+pub mod Lacking
 pub mod Following
 pub mod Answering
 pub mod Serving
+pub mod Cores

@@ -1,5 +1,6 @@
 -- What a connection was served.
 use Rattle.std.specs.Prelude.{ℕ, List}
+use Rattle.ns_types.specs.declared.refusal.Refusal.{Refusal}
 use Rattle.ns_types.specs.declared.step.Step.{Step}
 use Rattle.ns_types.specs.State.Rows.{State}
 use Rattle.ns_types.specs.Steps.{Answer}
@@ -8,22 +9,24 @@ use Rattle.ns_http.specs.Conversation.{Conversation, CutShort, Streams}
 use Rattle.ns_api.specs.declared.answering.Api.{Api}
 use Rattle.ns_api.specs.Answering.{Answers, Holding, RunsAs}
 
--- the state that is served, and what draws
-abbrev pub held : {T D F : Type 0} → (T → State) → Api T D F → State × D
-held state api = (state api.taker, api.draws)
+-- the server, and what draws
+abbrev pub held : {S D F : Type 0} → Api S D F → S × D
+held api = (api.taker, api.draws)
 
 -- and with them what does what follows
-abbrev pub holding : {T D F : Type 0} → (T → State) → Api T D F → Holding D F
-holding state api = record { state = state api.taker; draws = api.draws; follower = api.follower }
+abbrev pub holding : {S D F : Type 0} → Api S D F → Holding S D F
+holding api = record { server = api.taker; draws = api.draws; follower = api.follower }
 
-module _ {D F : Type 0} (draws : D → List ℕ → D → Type 0)
-    (follows : F → State → List Step → List Answer → State → F → Type 0) where
-  -- the bytes of the connection, and the run that its requests made, with all that followed them
-  pub record Served (old new : Holding D F) (streams : Streams) (end : End) : Type 0 where
-    pub conversation : Conversation (Answers draws follows) old new streams end
-    pub run : RunsAs draws follows old conversation.exchanges new
+-- by the state for which a server stands, what a step notes besides, what the server may lack, what is drawn, and what
+-- follows a request
+module _ {S D F : Type 0} (state : S → State) (notes : S → Step → Answer → S → Type 0) (lacks : S → Refusal → Type 0)
+    (draws : D → List ℕ → D → Type 0) (follows : F → S → List Step → List Answer → S → F → Type 0) where
+  -- the bytes of the connection, and what its requests made, with all that followed them
+  pub record Served (old new : Holding S D F) (streams : Streams) (end : End) : Type 0 where
+    pub conversation : Conversation (Answers state notes lacks draws follows) old new streams end
+    pub run : RunsAs state notes lacks draws follows old conversation.exchanges new
 
   -- the same where the writer failed
-  pub record ServedInPart (old new : Holding D F) (streams : Streams) : Type 0 where
-    pub conversation : CutShort (Answers draws follows) old new streams
-    pub run : RunsAs draws follows old conversation.exchanges new
+  pub record ServedInPart (old new : Holding S D F) (streams : Streams) : Type 0 where
+    pub conversation : CutShort (Answers state notes lacks draws follows) old new streams
+    pub run : RunsAs state notes lacks draws follows old conversation.exchanges new

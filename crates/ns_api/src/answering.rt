@@ -1,13 +1,13 @@
 //! Answers requests, over anything that takes the steps which they ask for, and does what follows them.
 
-ghost use Rattle.std.specs.Prelude.{◌≡◌, Ok, IfOk, true, false};
-ghost use Rattle.ns_types.specs.Steps.{Makes};
+ghost use Rattle.std.specs.Prelude.{◌≡◌, ◌⊎◌, Ok, IfOk, true, false};
 ghost use Rattle.ns_types.specs.Wire.Responses.{rendered_of};
+ghost use Rattle.ns_chains.specs.Chains.{MakesOrLacks};
 ghost use Rattle.ns_http.specs.Head;
 ghost use Rattle.ns_steps.specs.Served.{IsServed, is_reading};
 ghost use Rattle.ns_json.specs.Replies.{rendered};
 ghost use Rattle.ns_replies.specs.Rendered.{HasRoom, IsRendered};
-ghost use Rattle.ns_api.specs.Answering.{AnswersAsked, AnswersOrWants, AnswersRequest, ShowsOrWants};
+ghost use Rattle.ns_api.specs.Answering.{AnswersAsked, AnswersOrWants, AnswersRequest, IsWanting, ShowsOrWants};
 ghost use Rattle.ns_api.specs.Rooms.{room_of};
 ghost use Rattle.ns_api.specs.Serving.{held};
 ghost use Rattle.ns_api.specs.Wanted.{draft_step, IsServedDraft};
@@ -16,6 +16,7 @@ use crate::asking::asked;
 use crate::drawing::{Draws, drawn};
 use crate::following::Follows;
 use crate::wanted::Draft;
+use ns_chains::Server;
 use ns_http::{Answer, Request};
 use ns_replies::{Room, render};
 use ns_request::Routes;
@@ -25,16 +26,19 @@ use ns_types::step::{AdminCommand, AskCommand, NodeCommand, Step};
 use std::alloc::{AllocError, Global};
 
 /// What takes steps.
-pub trait Takes {
-    ghost use Rattle.ns_types.specs.State.Rows.{State};
+pub trait Takes: Server {
+    ghost use Rattle.ns_types.specs.declared.refusal.Refusal.{Refusal as ARefusal};
+    ghost use Rattle.ns_types.specs.declared.refusal.Refusal.TheVariants.{Memory};
 
-    // The state that the value stands for.
-    ghost state: { Self → State };
+    // What it may lack besides memory; and memory, where a read changes it.
+    ghost lacks: { Self → ARefusal → Type 0 };
 
-    /// Makes the step. A refusal leaves the state as it is.
-    fn take(&mut self, step: &Step) -> Result<Reply, Refusal>
-        requires { IsServed step.now }
-        ensures { Makes step.now (state self.old) result (state self.new) };
+    /// Makes the step, and says what it is answered. Else it wants something, and nothing changes.
+    fn take(&mut self, alloc: Global, step: Step) -> Result<Reply, Refusal>
+        requires { IsServed step }
+        ensures made { MakesOrLacks Self.state Self.notes (IsWanting lacks)
+            self.old step result self.new }
+        ensures rests { is_reading step ≡ true → (self.new ≡ self.old) ⊎ lacks self.old Memory };
 }
 
 /// Answers requests over what takes their steps, with the random bits that new tokens need, and does after each what follows.
@@ -136,48 +140,56 @@ impl<T: Takes, D: Draws, F> Api<T, D, F> {
         })
     }
 
+    /// What takes the steps.
+    pub fn taker(&self) -> &T
+        ensures { result.now ≡ self.now.taker }
+    {
+        &self.taker
+    }
+
     /// The room of the reply is taken before the step, so a write that was made is answered.
-    fn write(&mut self, step: &Step) -> Response
-        requires served { IsServed step.now }
-        requires writes { is_reading step.now ≡ false }
-        ensures answered { AnswersOrWants step.now
-            (T.state self.old.taker) (rendered_of result) (T.state self.new.taker) }
+    fn write(&mut self, step: Step) -> Response
+        requires served { IsServed step }
+        requires writes { is_reading step ≡ false }
+        ensures answered { AnswersOrWants T.state T.notes T.lacks step
+            self.old.taker (rendered_of result) self.new.taker }
         ensures draws_none { self.new.draws ≡ self.old.draws }
         ensures not_yet { self.new.follower ≡ self.old.follower }
     {
-        let Ok(room) = room_for(self.alloc, step) else {
+        let Ok(room) = room_for(self.alloc, &step) else {
+            drop(step);
             return Response::Refused(Refusal::Memory);
         };
-        let answer = self.taker.take(step);
+        let answer = self.taker.take(self.alloc, step);
         let response = shown_in(room, &answer);
         drop(answer);
         response
     }
 
-    /// A read changes nothing, so its reply may still be refused for want of memory.
-    fn read(&mut self, step: &Step) -> Response
-        requires served { IsServed step.now }
-        requires reads { is_reading step.now ≡ true }
-        ensures answered { AnswersOrWants step.now
-            (T.state self.old.taker) (rendered_of result) (T.state self.new.taker) }
+    /// A read leaves the state as it is, so its reply may still be refused for want of memory.
+    fn read(&mut self, step: Step) -> Response
+        requires served { IsServed step }
+        requires reads { is_reading step ≡ true }
+        ensures answered { AnswersOrWants T.state T.notes T.lacks step
+            self.old.taker (rendered_of result) self.new.taker }
         ensures draws_none { self.new.draws ≡ self.old.draws }
         ensures not_yet { self.new.follower ≡ self.old.follower }
     {
-        let answer = self.taker.take(step);
+        let answer = self.taker.take(self.alloc, step);
         let response = shown(self.alloc, &answer);
         drop(answer);
         response
     }
 
     /// Takes the step, by the way that it needs.
-    fn step(&mut self, step: &Step) -> Response
-        requires { IsServed step.now }
-        ensures answered { AnswersOrWants step.now
-            (T.state self.old.taker) (rendered_of result) (T.state self.new.taker) }
+    fn step(&mut self, step: Step) -> Response
+        requires { IsServed step }
+        ensures answered { AnswersOrWants T.state T.notes T.lacks step
+            self.old.taker (rendered_of result) self.new.taker }
         ensures draws_none { self.new.draws ≡ self.old.draws }
         ensures not_yet { self.new.follower ≡ self.old.follower }
     {
-        if is_read(step) {
+        if is_read(&step) {
             self.read(step)
         } else {
             self.write(step)
@@ -187,24 +199,20 @@ impl<T: Takes, D: Draws, F> Api<T, D, F> {
     /// Draws what the step lacks, and takes it.
     fn make(&mut self, draft: Draft) -> Response
         requires { IsServedDraft draft }
-        ensures answered { AnswersAsked D.draws (Ok (draft_step draft))
-            (held T.state self.old) (rendered_of result) (held T.state self.new) }
+        ensures answered { AnswersAsked T.state T.notes T.lacks D.draws (Ok (draft_step draft))
+            (held self.old) (rendered_of result) (held self.new) }
         ensures not_yet { self.new.follower ≡ self.old.follower }
     {
         match drawn(self.alloc, &mut self.draws, draft) {
-            Ok(step) => {
-                let response = self.step(&step);
-                drop(step);
-                response
-            }
+            Ok(step) => self.step(step),
             Err(_) => Response::Refused(Refusal::Memory),
         }
     }
 
     /// Answers a request, and does nothing that follows it.
     fn request(&mut self, request: &Request<'_>) -> Response
-        ensures answered { AnswersRequest D.draws (held T.state self.old)
-            (Head.asked request.now) (rendered_of result) (held T.state self.new) }
+        ensures answered { AnswersRequest T.state T.notes T.lacks D.draws (held self.old)
+            (Head.asked request.now) (rendered_of result) (held self.new) }
         ensures not_yet { self.new.follower ≡ self.old.follower }
     {
         match asked(self.alloc, &self.routes, request) {
@@ -219,7 +227,7 @@ impl<T: Takes, D: Draws, F: Follows<T>> Answer for Api<T, D, F> {
     ghost use Rattle.ns_api.specs.Serving.{holding};
 
     ghost answers = { λ old a reply new.
-        Answers D.draws F.follows (holding T.state old) a reply (holding T.state new) };
+        Answers T.state T.notes T.lacks D.draws F.follows (holding old) a reply (holding new) };
 
     type A = Global;
 

@@ -1,13 +1,15 @@
-//! A server takes steps itself.
+//! Servers take steps themselves, without a log and with one.
 
 ghost use Rattle.std.specs.Prelude.{◌≡◌, IfOk};
 ghost use Rattle.ns_types.specs.Steps.{opening};
+ghost use Rattle.ns_api.specs.Cores.{history_of};
 ghost use Rattle.ns_api.specs.Following.{driver_of};
 
 use crate::answering::{Api, Takes};
 use crate::drawing::Draws;
 use crate::following::{Driven, Driver};
 use ns_core::Core;
+use ns_held::Held;
 use ns_types::name::Secret;
 use ns_types::refusal::Refusal;
 use ns_types::reply::Reply;
@@ -15,10 +17,24 @@ use ns_types::step::Step;
 use std::alloc::{AllocError, Global};
 
 impl Takes for Core {
-    ghost state = { λ core. core };
+    ghost use Rattle.ns_api.specs.Lacking.{LacksNothing};
 
-    fn take(&mut self, step: &Step) -> Result<Reply, Refusal> {
-        self.take(step)
+    ghost lacks = { LacksNothing };
+
+    fn take(&mut self, _alloc: Global, step: Step) -> Result<Reply, Refusal> {
+        let answer = self.take(&step);
+        drop(step);
+        answer
+    }
+}
+
+impl Takes for Held {
+    ghost use Rattle.ns_api.specs.Lacking.{LacksRoom};
+
+    ghost lacks = { LacksRoom };
+
+    fn take(&mut self, alloc: Global, step: Step) -> Result<Reply, Refusal> {
+        self.take(alloc, step)
     }
 }
 
@@ -39,5 +55,26 @@ pub fn open<D: Draws + Drop>(
 
 /// Lets a server go. Its value is large, so its end is proved here and not by each caller.
 pub fn close<D: Draws + Drop>(api: Api<Core, D, Driver>) {
+    drop(api);
+}
+
+/// The same, with a log that has at most so many entries.
+pub fn open_held<D: Draws + Drop>(
+    alloc: Global,
+    bootstrap: &Secret,
+    draws: D,
+    driven: Driven,
+    limit: u64,
+) -> Result<Api<Held, D, Driver>, AllocError>
+    ensures taker { IfOk result (λ api. api.taker ≡ history_of bootstrap.now limit) }
+    ensures drawer { IfOk result (λ api. api.draws ≡ draws) }
+    ensures follower { IfOk result (λ api. api.follower ≡ driver_of driven) }
+{
+    let held = Held::new(alloc, Core::new(alloc, bootstrap)?, limit);
+    Api::new(alloc, held, draws, Driver::new(driven))
+}
+
+/// Lets a server with its log go.
+pub fn close_held<D: Draws + Drop>(api: Api<Held, D, Driver>) {
     drop(api);
 }

@@ -2,33 +2,31 @@
 
 ghost use Rattle.std.specs.Prelude.{◌≡◌, List};
 ghost use Rattle.ns_types.specs.declared.step.Step.{Step};
-ghost use Rattle.ns_types.specs.Steps.{Answer, Run};
+ghost use Rattle.ns_types.specs.Steps.{Answer};
+ghost use Rattle.ns_chains.specs.Chains.{Chain};
 ghost use Rattle.ns_api.specs.Following.{driver_of};
 
-use crate::answering::Takes;
-use ns_core::Core;
-use ns_drive::{Kept, drive};
+use ns_chains::Server;
+use ns_drive::{Kept, Works, drive};
 use std::alloc::Global;
 
 /// What follows each request, over what took its step.
-pub trait Follows<T: Takes> {
-    ghost use Rattle.ns_types.specs.State.Rows.{State};
+pub trait Follows<T: Server> {
+    // These steps, with these answers, lead from the first server and follower to the second.
+    ghost follows: { Self → T → List Step → List Answer → T → Self → Type 0 };
 
-    // These steps, with these answers, lead from the first state and follower to the second.
-    ghost follows: { Self → State → List Step → List Answer → State → Self → Type 0 };
-
-    /// Makes the steps that follow a request. They are a run.
+    /// Makes the steps that follow a request, one after the other.
     fn follow(&mut self, alloc: Global, taker: &mut T)
         ensures { (steps : List Step) × (answers : List Answer)
-            × follows self.old (T.state taker.old) steps answers (T.state taker.new) self.new
-            × Run (T.state taker.old) steps answers (T.state taker.new) };
+            × follows self.old taker.old steps answers taker.new self.new
+            × Chain T.state T.notes taker.old steps answers taker.new };
 }
 
 /// Nothing follows.
 #[derive(Drop)]
 pub struct NoFollower;
 
-impl<T: Takes> Follows<T> for NoFollower {
+impl<T: Server> Follows<T> for NoFollower {
     ghost use Rattle.ns_api.specs.Following.{FollowsNothing};
 
     ghost follows = { λ old s steps answers s' new. FollowsNothing s steps answers s' };
@@ -64,13 +62,13 @@ impl Driver {
     }
 }
 
-impl Follows<Core> for Driver {
+impl<T: Works> Follows<T> for Driver {
     ghost use Rattle.ns_api.specs.Following.{FollowsBy};
 
-    ghost follows = { FollowsBy };
+    ghost follows = { FollowsBy T.state T.notes T.lacks };
 
     /// A worker that is left busy goes on after the next request.
-    fn follow(&mut self, alloc: Global, taker: &mut Core) {
+    fn follow(&mut self, alloc: Global, taker: &mut T) {
         if let Driver::Worker(kept) = self {
             let _stop = drive(alloc, taker, kept);
         }

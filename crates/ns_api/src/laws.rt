@@ -8,11 +8,11 @@ use crate::answering::Takes;
 use crate::drawing::Draws;
 use crate::following::Follows;
 
-/// What a connection was answered, one request after the other, is a run of the model: the steps that its
-/// requests ask for, in their order, but for those that were refused without a step, and after each those that followed it.
-/// What is drawn is drawn in this order.
+/// What a connection was answered, one request after the other, is a chain of steps, and so a run of the model: the steps
+/// that its requests ask for, in their order, but for those that were refused without a step, and after each those that
+/// followed it. What is drawn is drawn in this order.
 pub fn answers_are_a_run<T: Takes, D: Draws, F: Follows<T>>()
-    ensures { (old new : Holding D F) (exchanges : List Exchange) →
-        Responses.Answers (Answers D.draws F.follows) old exchanges new →
-        RunsAs D.draws F.follows old exchanges new }
+    ensures { (old new : Holding T D F) (exchanges : List Exchange) →
+        Responses.Answers (Answers T.state T.notes T.lacks D.draws F.follows) old exchanges new →
+        RunsAs T.state T.notes T.lacks D.draws F.follows old exchanges new }
 {}

@@ -15,7 +15,7 @@ mod wanted;
 
 pub use answering::{Api, Takes};
 pub use asking::asked;
-pub use cores::{close, open};
+pub use cores::{close, close_held, open, open_held};
 pub use drawing::Draws;
 pub use following::{Driven, Driver, Follows, NoFollower};
 pub use serving::serve;

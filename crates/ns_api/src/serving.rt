@@ -14,7 +14,7 @@ use std::alloc::Allocator;
 use std::io::{Read, Write};
 
 /// Answers the requests of a connection, one after the other, each with what follows it, and says how many there were. What
-/// they made is a run.
+/// they made is a chain of steps, and so a run.
 pub fn serve<A: Allocator + Copy, R: Read, W: Write, T: Takes, D: Draws, F: Follows<T>>(
     alloc: A,
     reader: &mut Counted<R>,
@@ -22,16 +22,17 @@ pub fn serve<A: Allocator + Copy, R: Read, W: Write, T: Takes, D: Draws, F: Foll
     api: &mut Api<T, D, F>,
 ) -> Result<u64, ConnFault>
     ensures ok { IfOk result (λ count. (end : End)
-        × (c : Served D.draws F.follows (holding T.state api.old) (holding T.state api.new)
+        × (c : Served T.state T.notes T.lacks D.draws F.follows (holding api.old) (holding api.new)
         (streams_between R.remaining W.contents reader.old reader.new writer.old writer.new) end)
         × EndsWell end (R.remaining reader.new.inner) reader.new.counts
         × (count ≡ length c.conversation.exchanges)) }
     ensures read { IsErrOf result ConnFault.Read → (end : End)
-        × Served D.draws F.follows (holding T.state api.old) (holding T.state api.new)
+        × Served T.state T.notes T.lacks D.draws F.follows (holding api.old) (holding api.new)
         (streams_between R.remaining W.contents reader.old reader.new writer.old writer.new) end
         × IsReadFault end (R.remaining reader.new.inner) reader.old.counts reader.new.counts }
     ensures write { IsErrOf result ConnFault.Write
-        → ServedInPart D.draws F.follows (holding T.state api.old) (holding T.state api.new)
+        → ServedInPart T.state T.notes T.lacks D.draws F.follows
+        (holding api.old) (holding api.new)
         (streams_between R.remaining W.contents reader.old reader.new writer.old writer.new)
         × IsWriteFault writer.old.counts writer.new.counts }
     ensures memory { IsErrOf result ConnFault.Memory

@@ -1,0 +1,51 @@
+-- What a core, and a server with its log, do at a call for a step.
+use Rattle.std.proofs.Common.{◌≡◌, ◌∙◌, inl, inr, true, None, Ok, Err, refl, ap, sym}
+use Rattle.ns_types.specs.declared.refusal.Refusal.{Refusal}
+use Rattle.ns_types.specs.declared.step.Step.{Step}
+use Rattle.ns_types.specs.State.Rows.{State}
+use Rattle.ns_types.specs.Steps.{Answer, Makes, after, said}
+use Rattle.ns_chains.specs.Chains.{MakesOrLacks}
+use Rattle.ns_held.specs.Logs.{History, IsNoted, Logs}
+use Rattle.ns_steps.specs.Served.{IsServed, is_reading}
+use Rattle.ns_steps.proofs.Telling.{reading_rests, served_decides}
+use Rattle.ns_api.specs.Answering.{IsWanting}
+use Rattle.ns_api.specs.Lacking.{LacksNothing, LacksRoom}
+
+-- ---- what is no more than a core
+
+module _ {S : Type 0} (state : S → State) where
+  abbrev Nothing : S → Step → Answer → S → Type 0
+  Nothing s step answer s' = Unit {0}
+
+  abbrev CoreTakes : S → Step → Answer → S → Type 0
+  CoreTakes = MakesOrLacks state Nothing (IsWanting LacksNothing)
+
+  core_refused : (step : Step) (s s' : S) (refusal : Refusal) →
+      (after step (state s) ≡ said (Err refusal) (state s)) × (state s' ≡ state s) → CoreTakes s step (Err refusal) s'
+  core_refused step s s' refusal m = inl (record { made = m.0 ∙ ap (said (Err refusal)) (sym m.1); noted = tt })
+
+  pub core_takes : (step : Step) (s s' : S) (answer : Answer) → IsServed step → (state s' ≡ state s → s' ≡ s) →
+      Makes step (state s) answer (state s') → CoreTakes s step answer s'
+  core_takes step s s' (Ok reply) served same m = inl (record { made = m; noted = tt })
+  core_takes step s s' (Err Refusal.Memory) served same m = inr (Refusal.Memory, refl, inl refl, same m.1)
+  core_takes step s s' (Err Refusal.NotEnabled) served same m = absurd (served_decides step (state s) served m.0)
+  core_takes step s s' (Err refusal) served same m = core_refused step s s' refusal m
+
+  -- a read leaves it as it is
+  pub core_rests : (step : Step) (s s' : S) (answer : Answer) → IsServed step → is_reading step ≡ true → (state s' ≡ state s → s' ≡ s) →
+      Makes step (state s) answer (state s') → s' ≡ s
+  core_rests step s s' (Ok reply) served reading same m = same (reading_rests step (state s) (state s') (Ok reply) served reading m)
+  core_rests step s s' (Err Refusal.Memory) served reading same m = same m.1
+  core_rests step s s' (Err Refusal.NotEnabled) served reading same m = same m.1
+  core_rests step s s' (Err refusal) served reading same m = same m.1
+
+-- ---- a server with its log
+
+abbrev HeldTakes : History → Step → Answer → History → Type 0
+HeldTakes = MakesOrLacks (λ h. h.state) IsNoted (IsWanting LacksRoom)
+
+pub held_takes : (step : Step) (old new : History) (answer : Answer) → IsServed step → Logs step old answer new → HeldTakes old step answer new
+held_takes step old new (Err Refusal.LogFull) served l = inr (Refusal.LogFull, refl, inr (inl (refl, l.0)), l.1)
+held_takes step old new (Err Refusal.Memory) served l = inr (Refusal.Memory, refl, inl refl, l.1)
+held_takes step old new (Err Refusal.NotEnabled) served l = absurd (served_decides step old.state served l.1)
+held_takes step old new answer served l = inl l.1

@@ -1,0 +1,44 @@
+-- What connections with a server are served, where it keeps no log and where it keeps one.
+use Rattle.std.specs.Prelude.{ℕ, List, []}
+use Rattle.ns_types.specs.declared.step.Step.{Step}
+use Rattle.ns_types.specs.State.Names.{Name}
+use Rattle.ns_types.specs.State.Rows.{State}
+use Rattle.ns_types.specs.Steps.{Answer, opening}
+use Rattle.ns_types.specs.Wire.Http.{End}
+use Rattle.ns_core.specs.Lacking.{CoreLacks}
+use Rattle.ns_held.specs.Lacking.{HeldLacks}
+use Rattle.ns_held.specs.Logs.{History, IsNoted}
+use Rattle.ns_http.specs.Conversation.{Streams}
+use Rattle.ns_api.specs.declared.following.Driver.{Driver}
+use Rattle.ns_api.specs.Answering.{Holding}
+use Rattle.ns_api.specs.Following.{FollowsBy}
+use Rattle.ns_api.specs.Lacking.{LacksNothing, LacksRoom}
+use Rattle.ns_api.specs.Serving.{Served, ServedInPart}
+
+-- a new server with a log
+abbrev pub history_of : Name → ℕ → History
+history_of secret limit = record { base = opening secret; log = []; state = opening secret; limit = limit }
+
+-- ---- without a log
+
+abbrev pub itself : State → State
+itself s = s
+
+abbrev pub NotesNothing : State → Step → Answer → State → Type 0
+NotesNothing s step answer s' = Unit {0}
+
+module _ {D : Type 0} (draws : D → List ℕ → D → Type 0) where
+  abbrev pub ServedByCore : Holding State D Driver → Holding State D Driver → Streams → End → Type 0
+  ServedByCore = Served itself NotesNothing LacksNothing draws (FollowsBy itself NotesNothing CoreLacks)
+
+  abbrev pub ServedByCoreInPart : Holding State D Driver → Holding State D Driver → Streams → Type 0
+  ServedByCoreInPart = ServedInPart itself NotesNothing LacksNothing draws (FollowsBy itself NotesNothing CoreLacks)
+
+-- ---- with a log
+
+abbrev pub state_of : History → State
+state_of h = h.state
+
+module _ {D : Type 0} (draws : D → List ℕ → D → Type 0) where
+  abbrev pub ServedByHeld : Holding History D Driver → Holding History D Driver → Streams → End → Type 0
+  ServedByHeld = Served state_of IsNoted LacksRoom draws (FollowsBy state_of IsNoted HeldLacks)
