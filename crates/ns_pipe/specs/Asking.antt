@@ -1,17 +1,38 @@
 -- What the words come to, and its texts.
-use Rattle.std.specs.Prelude.{◌≡◌, ℕ, List, string_bytes}
+use Rattle.std.specs.Prelude.{◌≡◌, ◌≢◌, ℕ, List, string_bytes}
+use Rattle.ns_api.specs.declared.following.Driven.{Driven}
 use Rattle.ns_pipe.specs.declared.asked.Asked.{Asked}
+use Rattle.ns_pipe.specs.declared.printed.Printed.{Printed}
+
+-- no connection is to be served
+abbrev pub IsNoConnection : Asked → Type 0
+IsNoConnection asked =
+    (secret : List ℕ) (driven : Driven) (printed : Printed) → asked ≢ Asked.Pipe secret driven printed
+
+-- no log is to be replayed
+abbrev pub IsNoReplay : Asked → Type 0
+IsNoReplay asked = (namespace : List ℕ) (from : ℕ) → asked ≢ Asked.Alone namespace from
 
 -- to show this help
 abbrev pub IsHelp : Asked → List ℕ → Type 0
-IsHelp (Asked.Pipe secret driven) text = ⊥
+IsHelp (Asked.Pipe secret driven printed) text = ⊥
+IsHelp (Asked.Alone namespace from) text = ⊥
 IsHelp (Asked.Help help) text = string_bytes help ≡ text
 IsHelp (Asked.Mistake reason) text = ⊥
 IsHelp Asked.NoMemory text = ⊥
 
 -- nothing that can be done, for this reason
 abbrev pub IsMistake : Asked → List ℕ → Type 0
-IsMistake (Asked.Pipe secret driven) text = ⊥
+IsMistake (Asked.Pipe secret driven printed) text = ⊥
+IsMistake (Asked.Alone namespace from) text = ⊥
 IsMistake (Asked.Help help) text = ⊥
 IsMistake (Asked.Mistake reason) text = string_bytes reason ≡ text
 IsMistake Asked.NoMemory text = ⊥
+
+-- to replay a part of a log
+abbrev pub IsReplay : Asked → Type 0
+IsReplay (Asked.Pipe secret driven printed) = ⊥
+IsReplay (Asked.Alone namespace from) = Unit {0}
+IsReplay (Asked.Help help) = ⊥
+IsReplay (Asked.Mistake reason) = ⊥
+IsReplay Asked.NoMemory = ⊥

@@ -1,17 +1,18 @@
 -- How a connection ended, over what its reader has left and what its writer holds.
 use Rattle.std.specs.Prelude.{◌≡◌, ◌⊎◌, ℕ, List, Option}
 use Rattle.ns_types.specs.State.Names.{Name}
+use Rattle.ns_types.specs.State.Rows.{State}
 use Rattle.ns_types.specs.Steps.{opening}
 use Rattle.ns_types.specs.Wire.Http.{End}
 use Rattle.ns_http.specs.Conversation.{EndsWell, IsReadFault, streams_between}
 use Rattle.ns_http.specs.Counts.{IsWriteFault, no_counts}
 use Rattle.ns_http.specs.declared.counting.Counted.{Counted}
 use Rattle.ns_api.specs.Answering.{Holding}
-use Rattle.ns_api.specs.Following.{FollowsBy, driver_of}
-use Rattle.ns_api.specs.Serving.{Served, ServedInPart}
+use Rattle.ns_api.specs.Cores.{ServedByCore, ServedByCoreInPart}
+use Rattle.ns_api.specs.Following.{driver_of}
 use Rattle.ns_api.specs.declared.following.Driven.{Driven}
 use Rattle.ns_api.specs.declared.following.Driver.{Driver}
-use Rattle.ns_pipe.specs.declared.status.TheConstants.{SERVED, READ_FAULT, WRITE_FAULT, OUT_OF_MEMORY}
+use Rattle.ns_faults.specs.declared.status.TheConstants.{SERVED, READ_FAULT, WRITE_FAULT, OUT_OF_MEMORY}
 
 -- the exit status of a connection
 abbrev pub IsEnd : ℕ → Type 0
@@ -22,32 +23,32 @@ abbrev pub uncounted : {T : Type 0} → T → Counted T
 uncounted inner = record { inner = inner; counts = no_counts }
 
 -- a new server, which drives whom it is told
-abbrev pub opened : {D : Type 0} → Name → D → Driven → Holding D Driver
-opened secret draws driven = record { state = opening secret; draws = draws; follower = driver_of driven }
+abbrev pub opened : {D : Type 0} → Name → D → Driven → Holding State D Driver
+opened secret draws driven = record { server = opening secret; draws = draws; follower = driver_of driven }
 
 module _ {D R W : Type 0} (draws : D → List ℕ → D → Type 0) (remaining : R → Option (List ℕ))
     (contents : W → Option (List ℕ)) where
   -- served to the end, from what was held at first
-  abbrev pub EndsServed : Holding D Driver → Counted R → Counted R → Counted W → Counted W → Type 0
-  EndsServed old reader reader' writer writer' = (end : End) × (last : Holding D Driver)
-      × Served draws FollowsBy old last (streams_between remaining contents reader reader' writer writer') end
+  abbrev pub EndsServed : Holding State D Driver → Counted R → Counted R → Counted W → Counted W → Type 0
+  EndsServed old reader reader' writer writer' = (end : End) × (last : Holding State D Driver)
+      × ServedByCore draws old last (streams_between remaining contents reader reader' writer writer') end
       × EndsWell end (remaining reader'.inner) reader'.counts
 
   -- served up to a fault of the reader
-  abbrev pub EndsByReader : Holding D Driver → Counted R → Counted R → Counted W → Counted W → Type 0
-  EndsByReader old reader reader' writer writer' = (end : End) × (last : Holding D Driver)
-      × Served draws FollowsBy old last (streams_between remaining contents reader reader' writer writer') end
+  abbrev pub EndsByReader : Holding State D Driver → Counted R → Counted R → Counted W → Counted W → Type 0
+  EndsByReader old reader reader' writer writer' = (end : End) × (last : Holding State D Driver)
+      × ServedByCore draws old last (streams_between remaining contents reader reader' writer writer') end
       × IsReadFault end (remaining reader'.inner) reader.counts reader'.counts
 
   -- served up to a fault of the writer, which failed or was interrupted too often
-  abbrev pub EndsByWriter : Holding D Driver → Counted R → Counted R → Counted W → Counted W → Type 0
-  EndsByWriter old reader reader' writer writer' = (last : Holding D Driver)
-      × ServedInPart draws FollowsBy old last (streams_between remaining contents reader reader' writer writer')
+  abbrev pub EndsByWriter : Holding State D Driver → Counted R → Counted R → Counted W → Counted W → Type 0
+  EndsByWriter old reader reader' writer writer' = (last : Holding State D Driver)
+      × ServedByCoreInPart draws old last (streams_between remaining contents reader reader' writer writer')
       × IsWriteFault writer.counts writer'.counts
 
   -- a connection ended with this status
-  pub record Ends
-      (old : Holding D Driver) (status : ℕ) (reader reader' : Counted R) (writer writer' : Counted W) : Type 0 where
+  pub record Ends (old : Holding State D Driver) (status : ℕ) (reader reader' : Counted R)
+      (writer writer' : Counted W) : Type 0 where
     pub is_end : IsEnd status
     pub served : status ≡ SERVED → EndsServed old reader reader' writer writer'
     pub read_fault : status ≡ READ_FAULT → EndsByReader old reader reader' writer writer'

@@ -1,3 +1,4 @@
 pub mod Asking
-pub mod Lines
 pub mod Ending
+pub mod Logging
+pub mod Printing

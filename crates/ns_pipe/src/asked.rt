@@ -1,13 +1,18 @@
 //! What the program is asked to do.
 
+use crate::printed::Printed;
 use ns_api::Driven;
 use ns_types::name::Secret;
+use ns_types::text::Text;
 
 /// What the words come to.
 #[derive(Drop)]
 pub enum Asked {
-    /// To serve one connection, with that secret as the bootstrap token, and to drive whom it says after each request.
-    Pipe(Secret, Driven),
+    /// To serve one connection, with that secret as the bootstrap token, to drive whom it says after each request, and to
+    /// print what it says.
+    Pipe(Secret, Driven, Printed),
+    /// To replay that namespace's own part of a log alone, from this index on.
+    Alone(Text, u64),
     /// To show this help.
     Help(String),
     /// Nothing that can be done, for this reason.

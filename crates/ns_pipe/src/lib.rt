@@ -1,14 +1,16 @@
-//! What the program does once its words are read: one connection over a reader and a writer, with the exit status
-//! and the line of each fault.
+//! What the program does once its words are read: one connection over a reader and a writer.
 #![tactic(auto)]
 
 mod asked;
 mod connection;
-mod lines;
+mod logging;
+mod nowhere;
+mod printed;
 mod running;
-pub mod status;
 
 pub use asked::Asked;
 pub use connection::pipe;
-pub use lines::{tell, tell_no_random, tell_no_words};
+pub use logging::{LOG_LIMIT, pipe_log};
+pub use nowhere::Nowhere;
+pub use printed::Printed;
 pub use running::{Ended, run};

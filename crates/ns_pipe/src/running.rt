@@ -1,28 +1,38 @@
 //! What the program does, by what it is asked.
 
-ghost use Rattle.std.specs.Prelude.{◌≡◌, ◌≢◌, ℕ, List, ◌⊎◌};
+ghost use Rattle.std.specs.Prelude.{◌≡◌, ℕ, List, ◌⊎◌};
 ghost use Rattle.ns_http.specs.Output.{WritesAll};
 ghost use Rattle.ns_types.specs.State.Names.{Name};
 ghost use Rattle.ns_api.specs.declared.following.Driven.{Driven};
-ghost use Rattle.ns_pipe.specs.Asking.{IsHelp, IsMistake};
-ghost use Rattle.ns_pipe.specs.Ending.{Ends, opened, uncounted};
-ghost use Rattle.ns_pipe.specs.Lines.{Tells, FailsToWrite, status_of, line_of};
+ghost use Rattle.ns_pipe.specs.Asking.{IsHelp, IsMistake, IsNoConnection, IsNoReplay};
+ghost use Rattle.ns_pipe.specs.declared.printed.Printed.{Printed};
+ghost use Rattle.ns_pipe.specs.Ending.{uncounted};
+ghost use Rattle.ns_faults.specs.Lines.{Tells, FailsToWrite, status_of, line_of};
+ghost use Rattle.ns_pipe.specs.Printing.{EndsPrinted};
+ghost use Rattle.ns_replay_print.specs.Printing.{EndsAlone};
 
 use crate::asked::Asked;
 use crate::connection::pipe;
-use crate::lines::{say, tell};
-use crate::status::{BAD_WORDS, OUT_OF_MEMORY, SERVED, WRITE_FAULT};
-use ns_api::Draws;
+use crate::logging::pipe_log;
+use crate::nowhere::Nowhere;
+use crate::printed::Printed;
+use ns_api::{Draws, Driven};
+use ns_faults::status::{BAD_WORDS, OUT_OF_MEMORY, SERVED, WRITE_FAULT};
+use ns_faults::{say, tell};
 use ns_http::{ConnFault, Counted, write_all};
+use ns_replay_print::print_replay;
+use ns_types::name::Secret;
+use ns_types::text::Text;
 use std::alloc::Global;
 use std::io::{Read, Write};
 
-/// How a run ended, with its reader and its writer.
+/// How a run ended, with its reader, its writer, and what took the replies that are not printed.
 #[derive(Drop)]
 pub struct Ended<R, W> {
     pub status: u8,
     pub reader: Counted<R>,
     pub writer: Counted<W>,
+    pub unprinted: Counted<Nowhere>,
 }
 
 /// Writes the help, and says the exit status.
@@ -41,7 +51,93 @@ fn show<W: Write, E: Write>(help: &str, writer: &mut Counted<W>, errors: &mut Co
     }
 }
 
-/// Does what the words ask for, and says how that ended. Only a connection reads input.
+/// Serves one connection, and prints what it says.
+fn converse<D: Draws + Drop, R: Read + Drop, W: Write + Drop, E: Write>(
+    alloc: Global,
+    secret: &Secret,
+    draws: D,
+    driven: Driven,
+    printed: Printed,
+    reader: R,
+    writer: W,
+    errors: &mut Counted<E>,
+) -> Ended<R, W>
+    ensures ended { EndsPrinted D.draws R.remaining W.contents
+        printed secret.now draws driven result.status
+        (uncounted reader) result.reader result.unprinted (uncounted writer) result.writer }
+    ensures silent { result.status ≡ SERVED → errors.new ≡ errors.old }
+    ensures told { (fault : ConnFault) → result.status ≡ status_of fault
+        → Tells E.contents errors.old errors.new (line_of fault) }
+{
+    let mut reader = Counted::new(reader);
+    let mut writer = Counted::new(writer);
+    let mut unprinted = Counted::new(Nowhere);
+    match printed {
+        Printed::Replies => {
+            let status = pipe(
+                alloc,
+                secret,
+                draws,
+                driven,
+                &mut reader,
+                &mut writer,
+                errors,
+            );
+            Ended {
+                status,
+                reader,
+                writer,
+                unprinted,
+            }
+        }
+        Printed::Log => {
+            let status = pipe_log(
+                alloc,
+                secret,
+                draws,
+                driven,
+                &mut reader,
+                &mut unprinted,
+                &mut writer,
+                errors,
+            );
+            Ended {
+                status,
+                reader,
+                writer,
+                unprinted,
+            }
+        }
+    }
+}
+
+/// Reads a log, and replays what the namespace did alone.
+fn replay<R: Read + Drop, W: Write + Drop, E: Write>(
+    alloc: Global,
+    namespace: &Text,
+    from: u64,
+    reader: R,
+    writer: W,
+    errors: &mut Counted<E>,
+) -> Ended<R, W>
+    ensures ended { EndsAlone R.remaining W.contents namespace.now from result.status
+        (uncounted reader) result.reader (uncounted writer) result.writer }
+    ensures silent { result.status ≡ SERVED → errors.new ≡ errors.old }
+    ensures told { (fault : ConnFault) → result.status ≡ status_of fault
+        → Tells E.contents errors.old errors.new (line_of fault) }
+{
+    let mut reader = Counted::new(reader);
+    let mut writer = Counted::new(writer);
+    let status = print_replay(alloc, namespace, from, &mut reader, &mut writer, errors);
+    Ended {
+        status,
+        reader,
+        writer,
+        unprinted: Counted::new(Nowhere),
+    }
+}
+
+/// Does what the words ask for, and says how that ended. Only a connection and a replay read input.
 pub fn run<D: Draws + Drop, R: Read + Drop, W: Write + Drop, E: Write>(
     alloc: Global,
     asked: &Asked,
@@ -50,9 +146,10 @@ pub fn run<D: Draws + Drop, R: Read + Drop, W: Write + Drop, E: Write>(
     writer: W,
     errors: &mut Counted<E>,
 ) -> Ended<R, W>
-    ensures pipe { (secret : Name) (driven : Driven) → asked.now ≡ Asked.Pipe secret driven
-        → Ends D.draws R.remaining W.contents (opened secret draws driven) result.status
-        (uncounted reader) result.reader (uncounted writer) result.writer }
+    ensures pipe { (secret : Name) (driven : Driven) (printed : Printed)
+        → asked.now ≡ Asked.Pipe secret driven printed
+        → EndsPrinted D.draws R.remaining W.contents printed secret draws driven result.status
+        (uncounted reader) result.reader result.unprinted (uncounted writer) result.writer }
     ensures help { (text : List ℕ) → IsHelp asked.now text
         → (result.status ≡ SERVED) ⊎ (result.status ≡ WRITE_FAULT) }
     ensures shown { (text : List ℕ) → IsHelp asked.now text → result.status ≡ SERVED
@@ -62,9 +159,12 @@ pub fn run<D: Draws + Drop, R: Read + Drop, W: Write + Drop, E: Write>(
     ensures mistake { (text : List ℕ) → IsMistake asked.now text
         → (result.status ≡ BAD_WORDS) × (result.writer ≡ uncounted writer)
         × Tells E.contents errors.old errors.new text }
+    ensures alone { (namespace : Name) (from : ℕ) → asked.now ≡ Asked.Alone namespace from
+        → EndsAlone R.remaining W.contents namespace from result.status
+        (uncounted reader) result.reader (uncounted writer) result.writer }
     ensures no_memory { asked.now ≡ Asked.NoMemory
         → (result.status ≡ OUT_OF_MEMORY) × (result.writer ≡ uncounted writer) }
-    ensures unread { ((secret : Name) (driven : Driven) → asked.now ≢ Asked.Pipe secret driven)
+    ensures unread { IsNoConnection asked.now → IsNoReplay asked.now
         → result.reader ≡ uncounted reader }
 
     // What is written on the errors goes by the status.
@@ -72,35 +172,29 @@ pub fn run<D: Draws + Drop, R: Read + Drop, W: Write + Drop, E: Write>(
     ensures told { (fault : ConnFault) → result.status ≡ status_of fault
         → Tells E.contents errors.old errors.new (line_of fault) }
 {
-    let mut reader = Counted::new(reader);
-    let mut writer = Counted::new(writer);
+    let mut output = Counted::new(writer);
     let status = match asked {
-        Asked::Pipe(secret, driven) => {
-            let status = pipe(
-                alloc,
-                secret,
-                draws,
-                *driven,
-                &mut reader,
-                &mut writer,
-                errors,
+        Asked::Pipe(secret, driven, printed) => {
+            let writer = output.into_inner();
+            return converse(
+                alloc, secret, draws, *driven, *printed, reader, writer, errors,
             );
-            return Ended {
-                status,
-                reader,
-                writer,
-            };
         }
-        Asked::Help(text) => show(text.as_str(), &mut writer, errors),
+        Asked::Help(text) => show(text.as_str(), &mut output, errors),
         Asked::Mistake(text) => {
             say(errors, text.as_str().as_bytes());
             BAD_WORDS
+        }
+        Asked::Alone(namespace, from) => {
+            let writer = output.into_inner();
+            return replay(alloc, namespace, *from, reader, writer, errors);
         }
         Asked::NoMemory => tell(ConnFault::Memory, errors),
     };
     Ended {
         status,
-        reader,
-        writer,
+        reader: Counted::new(reader),
+        writer: output,
+        unprinted: Counted::new(Nowhere),
     }
 }

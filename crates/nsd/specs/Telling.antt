@@ -3,8 +3,8 @@ use Rattle.std.specs.Prelude.{◌≡◌, ◌⊎◌, ℕ, List, Option}
 use Rattle.ns_http.specs.Output.{WritesAll}
 use Rattle.ns_http.specs.declared.counting.Counted.{Counted}
 use Rattle.ns_pipe.specs.Ending.{uncounted}
-use Rattle.ns_pipe.specs.Lines.{FailsToWrite, Tells}
-use Rattle.ns_pipe.specs.declared.status.TheConstants.{SERVED, BAD_WORDS, WRITE_FAULT, OUT_OF_MEMORY}
+use Rattle.ns_faults.specs.Lines.{FailsToWrite, Tells}
+use Rattle.ns_faults.specs.declared.status.TheConstants.{SERVED, BAD_WORDS, WRITE_FAULT, OUT_OF_MEMORY}
 
 module _ {W E : Type 0} (output : W → Option (List ℕ)) (told : E → Option (List ℕ)) where
   -- help was written, or the output failed

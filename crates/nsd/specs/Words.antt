@@ -1,11 +1,16 @@
 -- The words that the program takes, as `clap` reads them.
-use Rattle.std.specs.Prelude.{◌≡◌, List, Option, Some, None, codes, true, option_and_then, if◌then◌else◌}
+use Rattle.std.specs.Prelude.{◌≡◌, ◌⊎◌, ℕ, List, Option, Some, None, codes, true, option_and_then, if◌then◌else◌}
 use Rattle.std.specs.Str.{bytes_eq}
+use Rattle.std.specs.Str.Parse.{digits_value}
 use Rattle.clap.specs.Simple.{on_top}
 use Rattle.clap.specs.Words.{App, Row, Rule, Text}
-use Rattle.clap.specs.Words.{first_of, new_app, new_rule, subcommand_of, takes, with_rule, with_subcommand}
+use Rattle.clap.specs.Words.{first_of, kind_of, new_app, new_rule, subcommand_of, takes, with_rule, with_subcommand}
 use Rattle.clap.specs.declared.builder.action.ArgAction.TheVariants.{SetTrue}
+use Rattle.clap.specs.declared.error.Error.{Error}
+use Rattle.clap.specs.declared.error.kind.ErrorKind.{ErrorKind}
 use Rattle.ns_api.specs.declared.following.Driven.{Driven}
+use Rattle.ns_pipe.specs.declared.printed.Printed.{Printed}
+use Rattle.ns_request.specs.Queries.{is_number}
 use Rattle.ns_types.specs.declared.name.NameKind.TheVariants as NameKind
 use Rattle.ns_types.specs.State.Name.{is_name}
 
@@ -18,30 +23,98 @@ bootstrap_rule =
 abbrev pub drive_rule : Rule
 drive_rule = record (new_rule (codes "drive")) { long = Some (codes "drive"); action = Some SetTrue }
 
+-- `--print WHAT`
+abbrev pub print_rule : Rule
+print_rule = record (new_rule (codes "print")) { long = Some (codes "print"); value_names = 1 }
+
 abbrev pub pipe_words : App
-pipe_words = with_rule (with_rule (new_app (codes "pipe")) bootstrap_rule) drive_rule
+pipe_words = with_rule (with_rule (with_rule (new_app (codes "pipe")) bootstrap_rule) drive_rule) print_rule
+
+-- the namespace, which has to be there
+abbrev pub namespace_rule : Rule
+namespace_rule = record (new_rule (codes "namespace")) { value_names = 1; required = true }
+
+-- `--from COUNT`
+abbrev pub from_rule : Rule
+from_rule = record (new_rule (codes "from")) { long = Some (codes "from"); value_names = 1 }
+
+abbrev pub alone_words : App
+alone_words = with_rule (with_rule (new_app (codes "alone")) namespace_rule) from_rule
+
+-- without its subcommands, of which one has to be there
+abbrev pub bare_words : App
+bare_words = on_top (λ top. record top { subcommand_required = true }) (new_app (codes "nsd"))
 
 abbrev pub program_words : App
-program_words =
-    with_subcommand (on_top (λ top. record top { subcommand_required = true }) (new_app (codes "nsd"))) pipe_words.top
+program_words = with_subcommand (with_subcommand bare_words pipe_words.top) alone_words.top
 
--- what is given for this argument of `pipe`, among what is given to the subcommand that the words name
-abbrev pub given_for : Text → Option (Text × List Row) → Option Text
-given_for id named =
-    option_and_then (λ p. if bytes_eq p.0 (codes "pipe") then first_of id p.1 else None) named
+-- the subcommand that the words name, and what is given to it
+abbrev pub Named : Type 0
+Named = Option (Text × List Row)
+
+-- what is given for this argument of that subcommand, where it is the one that the words name
+abbrev pub given_for : Text → Text → Named → Option Text
+given_for command id named =
+    option_and_then (λ p. if bytes_eq p.0 command then first_of id p.1 else None) named
+
+-- ---- `pipe`
 
 -- a flag that is there is given as `true`
 abbrev pub driven_by : Option Text → Driven
 driven_by None = Driven.Nobody
 driven_by (Some text) = if bytes_eq text (codes "true") then Driven.Worker else Driven.Nobody
 
--- the words give this secret, which is one by its rule, and say whom to drive
-pub record Gives (words : List Text) (secret : Text) (driven : Driven) : Type 0 where
-  pub given : given_for (codes "bootstrap") (subcommand_of program_words words) ≡ Some secret
-  pub is_secret : is_name NameKind.Secret secret ≡ true
-  pub drives : driven_by (given_for (codes "drive") (subcommand_of program_words words)) ≡ driven
+-- the replies, where nothing is said
+abbrev pub printed_by : Option Text → Option Printed
+printed_by None = Some Printed.Replies
+printed_by (Some text) =
+    if bytes_eq text (codes "replies") then Some Printed.Replies
+    else if bytes_eq text (codes "log") then Some Printed.Log else None
 
--- good words: `clap` takes them, and they give this secret and say whom to drive
-pub record Asks (words : List Text) (secret : Text) (driven : Driven) : Type 0 where
+-- `pipe` is given this secret, which is one by its rule, and told whom to drive and what to print
+pub record IsPipe (named : Named) (secret : Text) (driven : Driven) (printed : Printed) : Type 0 where
+  pub given : given_for (codes "pipe") (codes "bootstrap") named ≡ Some secret
+  pub is_secret : is_name NameKind.Secret secret ≡ true
+  pub drives : driven_by (given_for (codes "pipe") (codes "drive") named) ≡ driven
+  pub prints : printed_by (given_for (codes "pipe") (codes "print") named) ≡ Some printed
+
+abbrev pub Gives : List Text → Text → Driven → Printed → Type 0
+Gives words = IsPipe (subcommand_of program_words words)
+
+-- good words: `clap` takes them, and they give this secret and say whom to drive and what to print
+pub record Asks (words : List Text) (secret : Text) (driven : Driven) (printed : Printed) : Type 0 where
   pub taken : takes program_words words ≡ true
-  pub gives : Gives words secret driven
+  pub gives : Gives words secret driven printed
+
+-- ---- `alone`
+
+-- how many entries come before: none, where nothing is said
+abbrev pub count_by : Option Text → Option ℕ
+count_by None = Some 0
+count_by (Some text) = if is_number text then Some (digits_value 10 text) else None
+
+-- `alone` is given this namespace, whose name is one by its rule, and this count
+pub record IsAlone (named : Named) (namespace : Text) (from : ℕ) : Type 0 where
+  pub given : given_for (codes "alone") (codes "namespace") named ≡ Some namespace
+  pub is_namespace : is_name NameKind.Namespace namespace ≡ true
+  pub begins : count_by (given_for (codes "alone") (codes "from") named) ≡ Some from
+
+abbrev pub GivesAlone : List Text → Text → ℕ → Type 0
+GivesAlone words = IsAlone (subcommand_of program_words words)
+
+-- good words: `clap` takes them, and they give this namespace and this count
+pub record AsksAlone (words : List Text) (namespace : Text) (from : ℕ) : Type 0 where
+  pub taken : takes program_words words ≡ true
+  pub gives : GivesAlone words namespace from
+
+-- ---- bad values
+
+-- `clap` takes the words, and a value among them is not what it has to be
+pub record IsMisgiven (words : List Text) : Type 0 where
+  pub taken : takes program_words words ≡ true
+  pub no_pipe : (secret : Text) (driven : Driven) (printed : Printed) → Gives words secret driven printed → ⊥
+  pub no_alone : (namespace : Text) (from : ℕ) → GivesAlone words namespace from → ⊥
+
+-- a value is refused, or there was no memory to say so
+abbrev pub IsRefusal : Error → Type 0
+IsRefusal error = (kind_of error ≡ ErrorKind.ValueValidation) ⊎ (kind_of error ≡ ErrorKind.OutOfMemory)

@@ -1,6 +1,7 @@
 //! The program `nsd`.
 #![tactic(auto)]
 
+mod command;
 mod random;
 mod run;
 #[cfg(test)]
@@ -9,8 +10,8 @@ mod words;
 
 use crate::random::Random;
 use crate::run::run_words;
+use ns_faults::{tell, tell_no_random, tell_no_words};
 use ns_http::{ConnFault, Counted};
-use ns_pipe::{tell, tell_no_random, tell_no_words};
 use rand::make_rng;
 use rand::rngs::StdRng;
 use std::alloc::{AllocError, Global};

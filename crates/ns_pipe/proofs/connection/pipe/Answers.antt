@@ -5,25 +5,27 @@ use Rattle.ns_types.specs.Wire.Http.{End}
 use Rattle.ns_types.specs.State.Rows.{State}
 use Rattle.ns_api.specs.declared.following.Driver.{Driver}
 use Rattle.ns_api.specs.Answering.{Holding}
-use Rattle.ns_api.specs.Following.{FollowsBy}
-use Rattle.ns_api.specs.Serving.{Served, ServedInPart}
-use Rattle.ns_pipe.specs.Lines.{status_of}
+use Rattle.ns_api.specs.Cores.{ServedByCore, ServedByCoreInPart}
+use Rattle.ns_api.specs.Serving.{holding}
+use Rattle.ns_faults.specs.Lines.{status_of}
 use Rattle.ns_pipe.proofs.connection.pipe.Goals as goal
 
-same_parts : {D : Type 0} {old new : Holding D Driver} → old.state ≡ new.state → old.draws ≡ new.draws → old.follower ≡ new.follower → old ≡ new
+same_parts : {D : Type 0} {old new : Holding State D Driver} → old.server ≡ new.server → old.draws ≡ new.draws → old.follower ≡ new.follower → old ≡ new
 same_parts {D} {old} {new} p q v =
-    let make : State → D → Driver → Holding D Driver = λ s d f. record { state = s; draws = d; follower = f } in
-    subst (λ f. old ≡ make new.state new.draws f) v (ap₂ (λ s d. make s d old.follower) p q)
+    let make : State → D → Driver → Holding State D Driver = λ s d f. record { server = s; draws = d; follower = f } in
+    subst (λ f. old ≡ make new.server new.draws f) v (ap₂ (λ s d. make s d old.follower) p q)
 
 module _ {D : Type 0} (draws : D → List ℕ → D → Type 0) where
   -- from what was opened
-  from : {streams : Streams} {end : End} (old new last : Holding D Driver) → old.state ≡ new.state → old.draws ≡ new.draws → old.follower ≡ new.follower →
-      Served draws FollowsBy old last streams end → Served draws FollowsBy new last streams end
-  from {streams} {end} old new last p q v h = subst (λ x. Served draws FollowsBy x last streams end) (same_parts p q v) h
+  from : {streams : Streams} {end : End} (old new last : Holding State D Driver) → old.server ≡ new.server → old.draws ≡ new.draws →
+      old.follower ≡ new.follower →
+      ServedByCore draws old last streams end → ServedByCore draws new last streams end
+  from {streams} {end} old new last p q v h = subst (λ x. ServedByCore draws x last streams end) (same_parts p q v) h
 
-  from_in_part : {streams : Streams} (old new last : Holding D Driver) → old.state ≡ new.state → old.draws ≡ new.draws → old.follower ≡ new.follower →
-      ServedInPart draws FollowsBy old last streams → ServedInPart draws FollowsBy new last streams
-  from_in_part {streams} old new last p q v h = subst (λ x. ServedInPart draws FollowsBy x last streams) (same_parts p q v) h
+  from_in_part : {streams : Streams} (old new last : Holding State D Driver) → old.server ≡ new.server → old.draws ≡ new.draws →
+      old.follower ≡ new.follower →
+      ServedByCoreInPart draws old last streams → ServedByCoreInPart draws new last streams
+  from_in_part {streams} old new last p q v h = subst (λ x. ServedByCoreInPart draws x last streams) (same_parts p q v) h
 
 -- a status tells its fault
 read_fault : (fault : ConnFault) → status_of fault ≡ 3 → fault ≡ ConnFault.Read
@@ -39,7 +41,7 @@ write_fault ConnFault.Memory e = absurd (omega arith)
 pub returns-in-Ok-ended-clause-served : goal.returns-in-Ok-ended-clause-served
 returns-in-Ok-ended-clause-served g c = λ _. let h = c.in-Ok-ended.ensures.ok in (
   h.0,
-  record { state = c.serve-ended.new.api.taker; draws = c.serve-ended.new.api.draws; follower = c.serve-ended.new.api.follower },
+  holding c.serve-ended.new.api,
   from g.D.Draws.draws _ _ _ c.in-Ok.ensures.taker c.in-Ok.ensures.drawer c.in-Ok.ensures.follower h.1,
   h.2,
 )
@@ -49,7 +51,7 @@ returns-in-Err-clause-read_fault g c = λ e.
     let is = read_fault c.in-Err.fault (sym c.tell-in-Err.ensures.status ∙ e) in
     let h = c.in-Err.ensures.read (ap Err is) in (
       h.0,
-      record { state = c.serve-ended.new.api.taker; draws = c.serve-ended.new.api.draws; follower = c.serve-ended.new.api.follower },
+      holding c.serve-ended.new.api,
       from g.D.Draws.draws _ _ _ c.in-Ok.ensures.taker c.in-Ok.ensures.drawer c.in-Ok.ensures.follower h.1,
       h.2,
     )
@@ -58,7 +60,7 @@ pub returns-in-Err-clause-write_fault : goal.returns-in-Err-clause-write_fault
 returns-in-Err-clause-write_fault g c = λ e.
     let is = write_fault c.in-Err.fault (sym c.tell-in-Err.ensures.status ∙ e) in
     let h = c.in-Err.ensures.write (ap Err is) in (
-      record { state = c.serve-ended.new.api.taker; draws = c.serve-ended.new.api.draws; follower = c.serve-ended.new.api.follower },
+      holding c.serve-ended.new.api,
       from_in_part g.D.Draws.draws _ _ _ c.in-Ok.ensures.taker c.in-Ok.ensures.drawer c.in-Ok.ensures.follower h.0,
       h.1,
     )

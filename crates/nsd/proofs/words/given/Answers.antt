@@ -1,9 +1,9 @@
-use Rattle.std.proofs.Common.{◌≡◌, ◌∙◌, ap, sym, refl, codes, List, Option, Some, None, option_map, Bool, true, false, if◌then◌else◌}
+use Rattle.std.proofs.Common.{◌≡◌, ◌∙◌, ap, sym, refl, List, Option, Some, None, option_map, Bool, true, false, if◌then◌else◌}
 use Rattle.std.proofs.lemmas.Slice.Eq.{bytes_eq-Decides}
 use Rattle.std.specs.Str.{bytes_eq}
 use Rattle.clap.specs.Words.{Row, Text, first_of, found_of, subcommand_name_of, subcommand_rows_of}
 use Rattle.clap.proofs.WalkLemmas.{first_value-rows}
-use Rattle.nsd.specs.Words.{given_for}
+use Rattle.nsd.specs.Words.{Named, given_for}
 use Rattle.nsd.proofs.words.given.Goals as goal
 
 composed : {A B C : Type 0} (f : A → B) (g : B → C) (o : Option A) → option_map g (option_map f o) ≡ option_map (λ x. g (f x)) o
@@ -14,19 +14,19 @@ chosen : (b : Bool) (x : Option Text) → b ≡ true → (if b then x else None)
 chosen true x e = refl
 chosen false x e = cc
 
--- it is the first value of the rows of `pipe`
-among : (id : Text) (given : Option (Text × List Row)) (name : Option Text) (rows : List Row) → option_map (λ p. p.0) given ≡ name → name
-    ≡ Some (codes "pipe") →
-    option_map (λ p. p.1) given ≡ Some rows → given_for id given ≡ first_of id rows
-among id None name rows e f g = cc
-among id (Some p) name rows e f g =
-    let named : p.0 ≡ codes "pipe" = cc in
+-- it is the first value of the rows of that subcommand
+among : (command id : Text) (named : Named) (name : Option Text) (rows : List Row) → option_map (λ p. p.0) named ≡ name → name ≡ Some command →
+    option_map (λ p. p.1) named ≡ Some rows → given_for command id named ≡ first_of id rows
+among command id None name rows e f g = cc
+among command id (Some p) name rows e f g =
+    let is : p.0 ≡ command = cc in
     let same : p.1 ≡ rows = cc in
-    chosen (bytes_eq p.0 (codes "pipe")) _ ((bytes_eq-Decides p.0 (codes "pipe")).1 named) ∙ ap (first_of id) same
+    chosen (bytes_eq p.0 command) _ ((bytes_eq-Decides p.0 command).1 is) ∙ ap (first_of id) same
 
 pub returns : goal.returns
 returns c =
     let name_is : option_map (λ (p : Text × List Row). p.0) (subcommand_rows_of c.args.matches.now) ≡ subcommand_name_of c.args.matches.now =
     composed _ _ _ in
-    let rows = among c.args.id.now (subcommand_rows_of c.args.matches.now) _ _ name_is (c.in_ok-pipe.ensures.found.0 refl) c.in_ok-pipe.ensures.rows in
-    c.get_str.ensures ∙ (first_value-rows (found_of c.in_ok-pipe.pipe.now) c.args.id.now ∙ sym rows)
+    let rows = among c.args.command.now c.args.id.now (subcommand_rows_of c.args.matches.now) _ _ name_is
+    (c.in_ok-matches.ensures.found.0 refl) c.in_ok-matches.ensures.rows in
+    c.get_str.ensures ∙ (first_value-rows (found_of c.in_ok-matches.matches.now) c.args.id.now ∙ sym rows)

@@ -1,0 +1,92 @@
+use Rattle.std.proofs.Common.{◌≡◌, ℕ, List, Option, Result, Ok, Err, inl, subst, ap}
+use Rattle.std.specs.Prelude.{IsErrAnd, OnOk}
+use Rattle.ns_types.specs.Steps.{Answer}
+use Rattle.ns_types.specs.Wire.Http.{End}
+use Rattle.ns_types.specs.declared.step.Step.{Step}
+use Rattle.ns_json.specs.Logs.{log_text}
+use Rattle.ns_chains.specs.Chains.{Chain}
+use Rattle.ns_held.specs.Logs.{AreNoted, History, IsNoted}
+use Rattle.ns_http.specs.Conversation.{streams_between}
+use Rattle.ns_http.specs.Output.{WritesAll}
+use Rattle.ns_http.specs.declared.counting.Counted.{Counted}
+use Rattle.ns_http.specs.declared.engine.ConnFault.{ConnFault}
+use Rattle.ns_api.specs.Answering.{Holding}
+use Rattle.ns_api.specs.Cores.{ServedByHeld, state_of}
+use Rattle.ns_api.specs.Serving.{holding}
+use Rattle.ns_api.specs.declared.following.Driver.{Driver}
+use Rattle.ns_faults.specs.Lines.{FailsToWrite}
+use Rattle.ns_pipe.specs.Logging.{IsLogged}
+use Rattle.ns_pipe.proofs.logging.serve_and_log.Goals as goal
+
+-- what was served stands in the log, since a chain of steps does
+logged : {D R W V : Type 0} (draws : D → List ℕ → D → Type 0) (remaining : R → Option (List ℕ)) (contents : W → Option (List ℕ))
+    (replied : V → Option (List ℕ)) (old last : Holding History D Driver) (reader reader' : Counted R) (replies replies' : Counted V) (end : End) →
+    ((old new : History) (steps : List Step) (answers : List Answer) → Chain state_of IsNoted old steps answers new → AreNoted old steps answers new) →
+    ServedByHeld draws old last (streams_between remaining replied reader reader' replies replies') end →
+    IsLogged draws remaining contents replied old last reader reader' replies replies' end
+logged draws remaining contents replied old last reader reader' replies replies' end law served =
+    record { served = served; noted = law old.server last.server served.run.steps served.run.answers served.run.chain }
+
+on_ok : {T E : Type 0} (r : Result T E) (P Q : Type 0) → (P → Q) → OnOk r P → OnOk r Q
+on_ok (Ok x) P Q f p = f p
+on_ok (Err e) P Q f p = tt
+
+same_fault : {T : Type 0} (r : Result T ConnFault) (fault other : ConnFault) → IsErrAnd r (λ y. y ≡ fault) → r ≡ Err other → fault ≡ other
+same_fault (Ok x) fault other is e = absurd is
+same_fault (Err y) fault other is e = cc
+
+-- of the log that the server has
+written : {W : Type 0} (contents : W → Option (List ℕ)) (writer writer' : Counted W) (secret : List ℕ) (h t : History) → h ≡ t →
+    WritesAll contents writer writer' (log_text secret h.log) → WritesAll contents writer writer' (log_text secret t.log)
+written contents writer writer' secret h t same w = subst (λ (x : History). WritesAll contents writer writer' (log_text secret x.log)) same w
+
+failed : {W : Type 0} (contents : W → Option (List ℕ)) (writer writer' : Counted W) (secret : List ℕ) (h t : History) → h ≡ t →
+    FailsToWrite contents writer writer' (log_text secret h.log) → FailsToWrite contents writer writer' (log_text secret t.log)
+failed contents writer writer' secret h t same w = subst (λ (x : History). FailsToWrite contents writer writer' (log_text secret x.log)) same w
+
+pub returns-in-Ok-clause-served : goal.returns-in-Ok-clause-served
+returns-in-Ok-clause-served g c =
+    let h = c.in-Ok.ensures.ok in
+    on_ok c.write_log.result _ _ (λ w. (
+      h.0,
+      holding c.serve.new.api,
+      logged g.D.Draws.draws g.R.Read.remaining g.W.Write.contents g.V.Write.contents (holding c.args.api.now) (holding c.serve.new.api)
+          c.args.reader.now c.serve.new.reader c.args.replies.now c.serve.new.writer h.0 c.chain_is_noted.ensures h.1,
+      h.2,
+      written g.W.Write.contents c.args.writer.now c.write_log.new.writer c.args.bootstrap.now _ _ c.taker.ensures w,
+    )) c.write_log.ensures.written
+
+pub returns-in-Ok-clause-write : goal.returns-in-Ok-clause-write
+returns-in-Ok-clause-write g c = λ e.
+    let h = c.in-Ok.ensures.ok in
+    inl (
+      h.0,
+      holding c.serve.new.api,
+      logged g.D.Draws.draws g.R.Read.remaining g.W.Write.contents g.V.Write.contents (holding c.args.api.now) (holding c.serve.new.api)
+          c.args.reader.now c.serve.new.reader c.args.replies.now c.serve.new.writer h.0 c.chain_is_noted.ensures h.1,
+      failed g.W.Write.contents c.args.writer.now c.write_log.new.writer c.args.bootstrap.now _ _ c.taker.ensures (c.write_log.ensures.failed e),
+    )
+
+pub returns-in_ok-write_log-in-Err-Read-clause-read : goal.returns-in_ok-write_log-in-Err-Read-clause-read
+returns-in_ok-write_log-in-Err-Read-clause-read g c = λ _.
+    let h = c.in-Err-Read.ensures.read (ap Err c.in-Err-Read.field-0-is) in (
+      h.0,
+      holding c.serve.new.api,
+      logged g.D.Draws.draws g.R.Read.remaining g.W.Write.contents g.V.Write.contents (holding c.args.api.now) (holding c.serve.new.api)
+          c.args.reader.now c.serve.new.reader c.args.replies.now c.serve.new.writer h.0 c.chain_is_noted.ensures h.1,
+      h.2,
+      written g.W.Write.contents c.args.writer.now c.write_log-in-Err-Read.new.writer c.args.bootstrap.now _ _ c.taker-in-Err-Read.ensures
+          c.in_ok-write_log-in-Err-Read.ensures.written,
+    )
+
+pub returns-in_err-write_log-in-Err-Read-clause-write : goal.returns-in_err-write_log-in-Err-Read-clause-write
+returns-in_err-write_log-in-Err-Read-clause-write g c = λ e.
+    let h = c.in-Err-Read.ensures.read (ap Err c.in-Err-Read.field-0-is) in
+    inl (
+      h.0,
+      holding c.serve.new.api,
+      logged g.D.Draws.draws g.R.Read.remaining g.W.Write.contents g.V.Write.contents (holding c.args.api.now) (holding c.serve.new.api)
+          c.args.reader.now c.serve.new.reader c.args.replies.now c.serve.new.writer h.0 c.chain_is_noted.ensures h.1,
+      failed g.W.Write.contents c.args.writer.now c.write_log-in-Err-Read.new.writer c.args.bootstrap.now _ _ c.taker-in-Err-Read.ensures
+          (c.in_err-write_log-in-Err-Read.ensures.failed (ap Err (same_fault c.from_residual.result _ _ c.from_residual.ensures.1 e))),
+    )

@@ -1,0 +1,10 @@
+//! What is printed of a connection.
+
+/// What standard output gets.
+#[derive(Clone, Copy, Debug, PartialEq, Eq)]
+pub enum Printed {
+    /// The replies, as HTTP.
+    Replies,
+    /// In their place the log of all that the server did.
+    Log,
+}
