@@ -1,0 +1,482 @@
+"""Writes the stored input and output of `crates/replays`, and `examples/two-lists.log`.
+
+A part begins by one of these lines:
+
+    === log NAME                 requests over one connection, and the log that is printed of them; no worker is driven
+    === driven NAME              the same where a worker is driven after each request
+    === alone NS FROM NAME       a log, and what `nsd alone NS --from FROM` prints of it
+    === rounds NS FROM TIMES NAME    requests, then `--- again` and requests that are made TIMES times, a worker driven;
+                                 of their log, what `nsd alone` prints last and how many lines there are
+
+Logs and what is printed are written here by the rules of docs/ISOLATION.md and docs/MODEL.md, and never taken from the program.
+Replies to the requests of `examples/neighbours.http` are those of `bench/conversations/isolation.txt`, which are written by hand.
+"""
+
+import json
+import os
+import sys
+
+sys.dont_write_bytecode = True
+
+from conversations import TOP, conversations
+
+HEAD = "nsd-log 1 root"
+UUID = "0a0a0a0a-0a0a-4a0a-8a0a-0a0a0a0a0a0"
+
+
+def compact(value):
+    return json.dumps(value, separators=(",", ":"), sort_keys=True)
+
+
+def log_of(lines):
+    return "\n".join([HEAD, *lines]) + "\n"
+
+
+# ---- entries
+
+
+def entry(step, body="{}", index=None, status=200):
+    return compact({"Body": body, "Index": index, "Status": status, "Step": step})
+
+
+def admin(do, args):
+    return {"Args": args, "Do": do, "Kind": "Admin", "Secret": "root"}
+
+
+def ask(ns, do, args, secret="root"):
+    return {"Args": args, "Do": do, "Kind": "Ask", "Ns": ns, "Secret": secret}
+
+
+def node(pool, do, args):
+    return {"Args": args, "Do": do, "Kind": "Node", "Pool": pool, "Secret": "root"}
+
+
+def work(kind, ns, worker, **more):
+    return {"Kind": kind, "Ns": ns, "Worker": worker, **more}
+
+
+def ident(kind, number):
+    return "00000000-0000-%04d-0000-%012d" % (kind, number)
+
+
+def put_pool(name, description=""):
+    return admin("PutPool", {"Doc": {"Description": description, "Name": name}})
+
+
+def put_quota(name, cpu, memory):
+    limit = {"Region": "global", "RegionLimit": {"CPU": cpu, "MemoryMB": memory}}
+    return admin("PutQuota", {"Doc": {"Description": "", "Limits": [limit], "Name": name}})
+
+
+def put_namespace(name, default, allowed, quota="", description=""):
+    pools = {"Allowed": allowed, "Default": default, "Denied": []}
+    doc = {"Description": description, "Name": name, "NodePoolConfiguration": pools, "Quota": quota}
+    return admin("PutNamespace", {"Doc": doc})
+
+
+def put_node(pool, name, cpu=1000, memory=1024):
+    doc = {"Attributes": {}, "CPU": cpu, "MemoryMB": memory, "NodeClass": ""}
+    return node(pool, "PutNode", {"Doc": doc, "Name": name})
+
+
+def put_policy(name, rules):
+    return admin("PutPolicy", {"Doc": {"Description": "", "Name": name, "Rules": rules}})
+
+
+def token_given(policies):
+    doc = {"AccessorID": UUID + "8", "Name": "", "Policies": policies, "SecretID": UUID + "1", "Type": "client"}
+    return entry(admin("CreateToken", {"Doc": doc}), compact(doc))
+
+
+def groups(count, cpu, memory):
+    task = {"Name": "t", "Resources": {"CPU": cpu, "MemoryMB": memory}}
+    return [{"Count": count, "Name": "g", "Tasks": [task]}]
+
+
+def register(ns, job, count, cpu, memory):
+    doc = {"Constraints": [], "ID": job, "NodePool": "", "Priority": 50, "TaskGroups": groups(count, cpu, memory), "Type": "service"}
+    return ask(ns, "Register", {"Doc": doc, "Enforce": None})
+
+
+def registered(index, number):
+    return compact({"EvalCreateIndex": index, "EvalID": ident(1, number), "JobModifyIndex": index})
+
+
+def list_jobs(ns, secret="root"):
+    return ask(ns, "ListJobs", {"Prefix": ""}, secret)
+
+
+def took(ns, worker, number):
+    return entry(work("Dequeue", ns, worker, Eval=number), compact({"Took": ident(1, number)}))
+
+
+def looked(ns, worker, number):
+    return entry(work("Snap", ns, worker), compact({"Snapped": ident(1, number)}))
+
+
+def handed_in(ns, worker, number):
+    return entry(work("Submit", ns, worker), compact({"Queued": ident(1, number)}))
+
+
+def applied(ns, worker, allocations):
+    made = compact({"Committed": [ident(2, number) for number in allocations], "Dropped": []})
+    return entry(work("Apply", ns, worker), made)
+
+
+def finished(ns, worker, follower=""):
+    return entry(work("Finish", ns, worker), compact({"Follower": follower, "Status": "complete"}))
+
+
+def driven(ns, number, allocations, follower=""):
+    """What the driven worker does for an evaluation: with no allocations it hands nothing in."""
+    plan = [handed_in(ns, 0, number), applied(ns, 0, allocations)] if allocations else []
+    return [took(ns, 0, number), looked(ns, 0, number), *plan, finished(ns, 0, follower)]
+
+
+def changed(log, place, **members):
+    """The log with other members of the answer at that place."""
+    return [*log[:place], compact({**json.loads(log[place]), **members}), *log[place + 1 :]]
+
+
+def step_changed(log, place, **members):
+    """The log with other members of the step at that place."""
+    return changed(log, place, Step={**json.loads(log[place])["Step"], **members})
+
+
+# ---- what is stored
+
+
+class Parts:
+    def __init__(self):
+        self.given, self.printed = [], []
+
+    def add(self, head, given, printed, status, errors=""):
+        self.given.append(f"=== {head}\n{given}")
+        self.printed.append(f"=== {head}\n{printed}\nstatus {status}\n{errors}")
+
+    def alone(self, name, log, printed, status, ns="ta", first=8):
+        text = log if isinstance(log, str) else log_of(log)
+        self.add(f"alone {ns} {first} {name}", text, printed, status)
+
+    def fault(self, name, log, own, fault, ns="ta", first=8):
+        """The lines of the own entries at these places, and then the fault."""
+        self.alone(name, log, lines_of(log, own) + fault + "\n", 1, ns, first)
+
+    def same(self, name, log, own, ns="ta", first=8):
+        self.alone(name, log, lines_of(log, own) + "same\n", 0, ns, first)
+
+    def bad(self, name, text, line):
+        self.alone(name, text, f"bad log line {line}\n", 2)
+
+    def logged(self, name, requests, log, status=0, errors=""):
+        self.add(f"log {name}", requests, log_of(log), status, errors)
+
+
+def lines_of(log, places):
+    answers = [(place, json.loads(log[place])) for place in places]
+    return "".join(f"{place} {told['Status']} {told['Body']}\n" for place, told in answers)
+
+
+SETUP = [
+    entry(step)
+    for step in [
+        put_pool("east"),
+        put_pool("west"),
+        put_quota("qa", 1000, 1024),
+        put_namespace("default", "default", ["default"]),
+        put_namespace("ta", "east", ["east"], "qa"),
+        put_namespace("tb", "west", ["west"]),
+        put_node("east", "n1"),
+        put_node("west", "n1"),
+    ]
+]
+LISTED = entry(list_jobs("ta"), "[]", 0)
+LISTS = [*SETUP, LISTED, entry(register("tb", "x", 1, 400, 256), registered(1, 1), 1), LISTED]
+ROUNDS = [
+    *SETUP,
+    entry(register("tb", "x", 1, 400, 256), registered(1, 1), 1),
+    entry(register("ta", "web", 1, 400, 256), registered(1, 1), 1),
+    took("tb", 1, 1),
+    took("ta", 0, 1),
+    looked("ta", 0, 1),
+    looked("tb", 1, 1),
+    handed_in("tb", 1, 1),
+    handed_in("ta", 0, 1),
+    applied("tb", 1, [1]),
+    applied("ta", 0, [1]),
+    finished("ta", 0),
+    finished("tb", 1),
+    entry(ask("ta", "QuotaUsage", {"Name": "qa"}), compact({"Name": "qa", "Used": {"CPU": 400, "MemoryMB": 256}}), 3),
+]
+OWN = [9, 11, 12, 15, 17, 18, 20]
+
+
+def before(place):
+    return [own for own in OWN if own < place]
+
+
+def lists(parts):
+    """Two lists of jobs, and a stranger's registration between them."""
+    parts.same("a_tenant_alone", LISTS, [8, 10])
+    parts.fault("an_altered_reply", changed(LISTS, 10, Body="[1]"), [8], "differs at 10")
+    parts.fault("before_it_is_there", LISTS, [], "premise fails at 0", first=0)
+    parts.same("nothing_after_the_base", LISTS, [], first=11)
+    parts.same("a_base_of_all", LISTS, [], first=99)
+    parts.same("the_other_tenant", LISTS, [9], ns="tb")
+    parts.fault("a_namespace_that_is_not_there", LISTS, [], "premise fails at 8", ns="nobody")
+    parts.same("the_first_namespace", LISTS, [], ns="default")
+
+
+def answers(parts):
+    """A round of each of two tenants, and each member of each answer altered."""
+    parts.same("a_round_of_each", ROUNDS, OWN)
+    parts.same("the_same_for_the_other", ROUNDS, [8, 10, 13, 14, 16, 19], ns="tb")
+    for place in range(8, 21):
+        told = json.loads(ROUNDS[place])
+        fault = f"differs at {place}" if place in OWN else f"not a run at {place}"
+        index = 7 if told["Index"] is None else told["Index"] + 1
+        for name, members in [("body", {"Body": told["Body"] + " "}), ("index", {"Index": index}), ("status", {"Status": 400})]:
+            log = changed(ROUNDS[: place + 2], place, **members)
+            parts.fault(f"altered_{name}_at_{place}", log, before(place), fault)
+    for place in (0, 4, 7):
+        log = changed(ROUNDS[:9], place, Body="[]")
+        parts.fault(f"altered_body_at_{place}_of_the_base", log, [], f"not a run at {place}")
+
+
+def steps(parts):
+    """Each member of a step altered; steps that are left out, doubled or too early."""
+
+    def altered(name, place, own, fault, **members):
+        parts.fault(name, step_changed(ROUNDS, place, **members), own, fault)
+
+    altered("asked_by_nobody", 9, [], "not a run at 9", Secret=None)
+    altered("asked_by_a_stranger", 9, [], "not a run at 9", Secret="stranger")
+    altered("asked_with_an_empty_secret", 9, [], "not a run at 9", Secret="")
+    altered("asked_elsewhere", 9, [], "not a run at 9", Ns="tb")
+    altered("asked_in_no_namespace", 9, [], "not a run at 9", Ns="")
+    altered("taken_by_another_worker", 11, [9, 11], "differs at 12", Worker=2)
+    altered("taken_by_a_worker_too_many", 11, [9], "differs at 11", Worker=64)
+    altered("another_evaluation_taken", 11, [9], "differs at 11", Eval=2)
+    altered("looked_for_another_namespace", 12, [9, 11], "not a run at 12", Ns="tb")
+    altered("another_quota_asked", 20, before(20), "differs at 20", Args={"Name": "qb"})
+    parts.fault("in_turn_alone_only", [*ROUNDS[:10], ROUNDS[11]], [9], "not a run at 10")
+    parts.fault("an_own_step_left_out", [*ROUNDS[:12], *ROUNDS[13:]], [9, 11], "differs at 14")
+    parts.fault("a_step_of_another_left_out", [*ROUNDS[:10], *ROUNDS[11:]], [9], "not a run at 10")
+    parts.fault("a_step_twice", [*ROUNDS[:13], ROUNDS[12]], [9, 11, 12], "differs at 13")
+
+
+def without(members, name):
+    return {other: value for other, value in members.items() if other != name}
+
+
+def bad_lines(parts):
+    """Lines that no server writes: cut, in other bytes, with members that are missing or of another kind."""
+    lines = [HEAD, *ROUNDS]
+    for place, line in enumerate(lines):
+        parts.bad(f"cut_in_line_{place + 1}", "\n".join([*lines[:place], line[: len(line) // 2]]) + "\n", place + 1)
+    parts.bad("no_line_feed_at_the_end", log_of(LISTS)[:-1], 12)
+    parts.bad("an_empty_line", log_of(LISTS) + "\n", 13)
+    parts.bad("no_line_at_all", "", 1)
+    parts.bad("another_version", log_of(LISTS).replace("nsd-log 1 ", "nsd-log 2 "), 1)
+    told = json.loads(ROUNDS[9])
+    step = told["Step"]
+
+    def bad(name, line):
+        parts.bad(name, log_of([*ROUNDS[:9], line]), 11)
+
+    for member in ("Body", "Index", "Status", "Step"):
+        bad(f"no_{member}".lower(), compact(without(told, member)))
+    for member in ("Args", "Do", "Kind", "Ns", "Secret"):
+        bad(f"no_{member}_of_the_step".lower(), compact({**told, "Step": without(step, member)}))
+    for member in ("Constraints", "ID", "NodePool", "Priority", "TaskGroups", "Type"):
+        args = {"Doc": without(step["Args"]["Doc"], member), "Enforce": None}
+        bad(f"no_{member}_of_the_job".lower(), compact({**told, "Step": {**step, "Args": args}}))
+    kinds = [("Kind", "Admin"), ("Kind", "Nap"), ("Do", "Registers"), ("Do", "Finish"), ("Secret", 1), ("Ns", 1), ("Args", None), ("Args", [])]
+    for member, value in kinds:
+        bad(f"{member}_that_is_{value}".lower(), compact({**told, "Step": {**step, member: value}}))
+    for member, value in [("Status", "200"), ("Status", 65536), ("Index", "1"), ("Index", -1), ("Body", None)]:
+        bad(f"{member}_that_is_{value!r}".lower(), compact({**told, member: value}))
+    order = {member: told[member] for member in ("Index", "Body", "Status", "Step")}
+    bad("members_in_another_order", json.dumps(order, separators=(",", ":")))
+    bad("a_space_between", json.dumps(told, sort_keys=True))
+
+
+def administrators(parts):
+    """What administrators may do beside a tenant, and what fails a premise."""
+
+    def after(name, between, fault=None):
+        log = [*SETUP, *between, LISTED]
+        if fault is None:
+            parts.same(name, log, [8 + len(between)])
+        else:
+            parts.fault(name, log, [], f"premise fails at {fault}")
+
+    read = 'namespace "%s" { policy = "read" }'
+    after("a_quota_of_another", [entry(put_quota("qb", 5, 5))])
+    after("its_quota_raised", [entry(put_quota("qa", 2000, 1024))], 8)
+    after("its_quota_put_as_it_was", [entry(put_quota("qa", 1000, 1024))])
+    after("its_quota_shared", [entry(put_namespace("tb", "west", ["west"], "qa"))], 8)
+    after("its_pool_shared", [entry(put_namespace("tb", "west", ["west", "east"]))], 8)
+    after("a_namespace_of_every_pool", [entry(put_namespace("tc", "west", None))], 8)
+    after("a_namespace_of_other_pools", [entry(put_namespace("tc", "west", []))])
+    after("its_record_put_as_it_was", [entry(put_namespace("ta", "east", ["east"], "qa"))])
+    after("its_description_changed", [entry(put_namespace("ta", "east", ["east"], "qa", "a"))], 8)
+    after("its_pool_described", [entry(put_pool("east", "a"))], 8)
+    after("a_pool_of_another_described", [entry(put_pool("west", "a"))])
+    after("a_policy_of_nobody", [entry(put_policy("p", read % "ta"))])
+    after("a_policy_for_those_without_a_token", [entry(put_policy("anonymous", read % "ta"))], 8)
+    after("a_token_with_a_right_there", [entry(put_policy("p", read % "t*")), token_given(["p"])], 9)
+    after("a_policy_that_a_token_has", [token_given(["p"]), entry(put_policy("p", read % "ta"))], 9)
+    after("a_token_with_a_right_elsewhere", [entry(put_policy("p", read % "tb")), token_given(["p"])])
+    pool_rule = 'node_pool "east" { policy = "read" }'
+    after("a_token_with_a_right_on_its_pool", [entry(put_policy("p", pool_rule)), token_given(["p"])], 9)
+    after("a_stranger_is_refused", [entry(list_jobs("ta", "stranger"), "Permission denied", None, 403)])
+    given = [*SETUP, entry(put_policy("p", read % "ta")), token_given(["p"]), LISTED]
+    taken = [*given, entry(admin("DeletePolicy", {"Name": "p"})), LISTED]
+    parts.fault("a_right_of_the_base_taken_away", taken, [10], "premise fails at 11", first=10)
+    with_token = [*given[:10], entry(list_jobs("ta", UUID + "1"), "[]", 0)]
+    parts.same("asked_with_a_token_of_the_base", with_token, [10], first=10)
+    shared = entry(put_namespace("tb", "west", ["west"], "qa"), "[]")
+    parts.fault("shared_and_logged_otherwise", [*SETUP, shared], [], "premise fails at 8")
+
+
+def sharing(parts):
+    """A tenant that shares its quota for a while."""
+    share = entry(put_namespace("tb", "west", ["west"], "qa"))
+    log = [*SETUP, LISTED, share, LISTED, entry(put_namespace("tb", "west", ["west"])), LISTED]
+    parts.fault("shares_its_quota_for_a_while", log, [8], "premise fails at 9")
+    parts.fault("when_it_begins_to_share", log, [], "premise fails at 9", first=9)
+    parts.fault("while_it_shares", log, [], "premise fails at 11", first=11)
+    parts.same("alone_again", log, [12], first=12)
+
+
+def connections(parts):
+    """The logs of connections."""
+    [pairs] = [
+        pairs
+        for name, pairs, _ in conversations([os.path.join(TOP, "bench", "conversations", "isolation.txt")])
+        if name == "root 1 driven a_tenant_beside_a_neighbour"
+    ]
+    told = [(body, int(next(word for word in words if word.startswith("@"))[1:])) if any(word.startswith("@") for word in words) else (body, None) for _, (words, body) in pairs]
+    setup = [
+        put_pool("east"),
+        put_pool("west"),
+        put_quota("qa", 500, 512),
+        put_namespace("default", "default", []),
+        put_namespace("ta", "east", [], "qa"),
+        put_namespace("tb", "west", []),
+        put_node("east", "e1", 2000, 4096),
+        put_node("west", "w1", 2000, 4096),
+    ]
+    log = [
+        *(entry(step) for step in setup),
+        entry(register("tb", "api", 1, 100, 300), *told[8]),
+        *driven("tb", 1, [1]),
+        entry(register("ta", "web", 3, 200, 128), *told[9]),
+        *driven("ta", 1, [1, 2], ident(1, 2)),
+        entry(node("west", "SetStatus", {"Name": "w1", "Status": "down"})),
+        *driven("tb", 2, [], ident(1, 3)),
+        entry(list_jobs("tb"), *told[11]),
+        entry(ask("ta", "JobAllocations", {"ID": "web"}), *told[12]),
+        entry(ask("ta", "JobEvaluations", {"ID": "web"}), *told[13]),
+        entry(ask("ta", "Events", {"From": 0}), *told[14]),
+        entry(ask("ta", "QuotaUsage", {"Name": "qa"}), *told[15]),
+    ]
+    with open(os.path.join(TOP, "examples", "neighbours.http"), encoding="utf-8", newline="") as file:
+        parts.add("driven a_tenant_beside_a_neighbour", file.read(), log_of(log), 0)
+    parts.same("a_tenant_beside_a_neighbour_alone", log, [*range(14, 20), *range(25, 29)])
+    parts.same("the_neighbour_alone", log, [*range(8, 14), *range(20, 25)], ns="tb")
+    document = compact({"Job": {"ID": "web", "TaskGroups": [{"Name": "g", "Tasks": [{"Name": "t"}]}]}})
+    post = request("POST", "/v1/jobs", document)
+    last = "GET /v1/job/web HTTP/1.1\nX-Nomad-Token: root\nConnection: close\n\n"
+    job = {
+        **{"Constraints": [], "CreateIndex": 1, "ID": "web", "JobModifyIndex": 1, "Namespace": "default"},
+        **{"NodePool": "default", "Priority": 50, "Status": "pending", "Stop": False},
+        **{"TaskGroups": groups(1, 100, 300), "Type": "service", "Version": 0},
+    }
+    read = ask("default", "ReadJob", {"ID": "web"})
+    two = [entry(register("default", "web", 1, 100, 300), registered(1, 1), 1), entry(read, compact(job), 1)]
+    parts.logged("a_job_registered_and_read", post + last, two)
+    parts.logged("the_last_request_cut_short", post + post[:-1], two[:1], 3, "read fault\n")
+    parts.logged("no_request", "", [])
+    refused = "GET /v1/nothing HTTP/1.1\n\nGET /v1/job/web HTTP/1.1\n\n" + request("GET", "/v1/job/api") + last
+    denied = entry(ask("default", "ReadJob", {"ID": "web"}, None), "Permission denied", None, 403)
+    missed = entry(ask("default", "ReadJob", {"ID": "api"}), "not found", None, 404)
+    parts.logged("refused_without_the_state_and_by_it", refused, [denied, missed, entry(read, "not found", None, 404)])
+
+
+def request(method, path, body=None):
+    head = f"{method} {path} HTTP/1.1\nX-Nomad-Token: root\n"
+    return head + ("\n" if body is None else f"Content-Length: {len(body)}\n\n{body}")
+
+
+def put(path, document):
+    return request("PUT", path, json.dumps(document, separators=(",", ":")))
+
+
+def rounds(parts):
+    """Ten thousand steps of three tenants: each registers a job, which is placed, reads it, and deregisters it, which stops it."""
+    tenants = [("ta", "east"), ("tb", "west"), ("tc", "north")]
+
+    def confined(pool):
+        return {"NodePoolConfiguration": {"Default": pool, "Allowed": []}}
+
+    once = [put(f"/v1/node/pool/{pool}", {}) for _, pool in tenants]
+    once += [put("/v1/namespace/default", confined("default"))]
+    once += [put(f"/v1/namespace/{ns}", confined(pool)) for ns, pool in tenants]
+    once += [put(f"/v1/node/pool/{pool}/node/n1", {"CPU": 1000, "MemoryMB": 1024}) for _, pool in tenants]
+    document = json.dumps({"Job": {"ID": "web", "TaskGroups": [{"Name": "g", "Tasks": [{"Name": "t"}]}]}}, separators=(",", ":"))
+    again = []
+    for ns, _ in tenants:
+        again += [request("POST", f"/v1/jobs?namespace={ns}", document), request("GET", f"/v1/job/web?namespace={ns}")]
+        again += [request("DELETE", f"/v1/job/web?namespace={ns}")]
+    eligibility = "/v1/node/pool/west/node/n1/eligibility"
+    again += [put(eligibility, {"Eligibility": "ineligible"}), put(eligibility, {"Eligibility": "eligible"})]
+    times = 250
+    # Of a round, steps of each tenant: a registration and five of the worker, a read, a deregistration and five of the worker. The
+    # two of the node are own steps of tb.
+    for ns, own in [("ta", 13), ("tb", 15), ("tc", 13)]:
+        given = "".join(once) + "\n--- again\n" + "".join(again)
+        printed = f"{own * times + 1} lines, the last: same"
+        parts.add(f"rounds {ns} {len(once)} {times} of_three_tenants", given, printed, 0)
+
+
+TWO_LISTS = [
+    entry(put_pool("east")),
+    entry(put_namespace("default", "default", [])),
+    entry(put_namespace("ta", "east", [])),
+    LISTED,
+    entry(register("default", "x", 1, 100, 300), registered(1, 1), 1),
+    LISTED,
+]
+
+
+def pasted(parts):
+    """The log that docs/ISOLATION.md shows."""
+    parts.same("the_log_to_paste", TWO_LISTS, [3, 5], first=3)
+    parts.fault("the_log_to_paste_altered", changed(TWO_LISTS, 5, Body="[1]"), [3], "differs at 5", first=3)
+    parts.fault("the_log_to_paste_from_its_beginning", TWO_LISTS, [], "premise fails at 0", first=0)
+
+
+def write(path, text):
+    with open(os.path.join(TOP, path), "w", encoding="utf-8", newline="") as file:
+        file.write(text)
+
+
+def stored_parts():
+    parts = Parts()
+    for add in (lists, answers, steps, bad_lines, administrators, sharing, connections, rounds, pasted):
+        add(parts)
+    return parts
+
+
+def main():
+    parts = stored_parts()
+    write("crates/replays/stdin", "\n".join(parts.given))
+    write("crates/replays/stdout", "".join(parts.printed))
+    write("examples/two-lists.log", log_of(TWO_LISTS))
+    return 0
+
+
+if __name__ == "__main__":
+    sys.exit(main())
