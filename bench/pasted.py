@@ -3,7 +3,8 @@
     python3 bench/pasted.py
 
 - Each block of a page that runs `./nsd` is run by a shell, with a program in its place that keeps what it is given. That has to
-  be the input of a stored conversation, with the same secret, and driven where the block says so.
+  be the input of a stored conversation, with the same secret, and driven where the block says so; or a stored log, or the requests
+  of one that is shown.
 - Each other block, and each short text, that is JSON or rules has to be a body, a line of one, or the rules of a policy, in a
   stored conversation; of a line that begins with a quote, the parts between ` .. `. Texts of tokens are drawn, so any will do.
 - Each response that is shown has to be one of theirs.
@@ -23,6 +24,7 @@ import tempfile
 sys.dont_write_bytecode = True
 
 from conversations import TOP, conversations, reply, request, stored
+from logs import stored_parts
 
 PAGES = ["README.md", "docs/API.md", "docs/ISOLATION.md", "docs/MODEL.md"]
 KEEPER = '#!/bin/sh\nprintf "%s\\n" "$*" >> "$KEPT/words"\ncat > "$KEPT/$(wc -l < "$KEPT/words")"\n'
@@ -66,6 +68,11 @@ class Stored:
             for asked, told in pairs:
                 self.add(asked, told)
 
+        for part in stored_parts().given:
+            head, given = part.split("\n", 1)
+            self.inputs.add((words_of(head.split(" ")[1:]), given))
+            self.texts |= set(given.split("\n"))
+
     def add(self, asked, told):
         (method, target, *_), _, body = asked
         (status, *_), said = told
@@ -76,6 +83,13 @@ class Stored:
     def add_scripts(self, text):
         for method, target, status in re.findall(r"^([A-Z]+) (\S+).*\n(\d{3}) ", text, re.M):
             self.answers.add((method, target, status, ""))
+
+
+def words_of(head):
+    """The words with which the program would do what a stored log is for."""
+    if head[0] == "alone":
+        return f"alone {head[1]} --from {head[2]}"
+    return "pipe --bootstrap root" + (" --drive" if head[0] == "driven" else "") + " --print log"
 
 
 def rules_in(body):
@@ -106,10 +120,12 @@ def pasted(block, before):
 def shell_faults(page, blocks, functions, known):
     for block in blocks:
         # What runs the tests, and what waits for a reply, is left out.
-        if "./nsd pipe" not in block or "coproc" in block or "socat" in block or re.search(r"^rt ", block, re.M):
+        if "./nsd " not in block or "coproc" in block or "socat" in block or re.search(r"^rt ", block, re.M):
             continue
         for words, given in pasted(block, functions):
-            if (words, given) not in known.inputs:
+            # A log that another line of the block would have written is not there.
+            is_unwritten = words.startswith("alone ") and given == ""
+            if not is_unwritten and (words, given) not in known.inputs:
                 yield f"{page}: no stored conversation is nsd {words} over\n{given}"
 
 

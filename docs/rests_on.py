@@ -64,19 +64,21 @@ def used_names(text, keyword):
 
 @lru_cache(maxsize=None)
 def antt_source(file):
-    """The items begin at the margin, or two columns in where they stand in a `module` or in a `mutual`."""
+    """The items begin at the margin, or two columns in for each `module` or `mutual` in which they stand."""
     source, text = Source(), without_comments(file.read_text(), "--")
     source.length = text.count("\n")
     for path, name, local in used_names(text, "use"):
         source.aliases[local] = (path, name)
-    margin, current = "", None
+    margins, current = [""], None
     uses = r"(?m)^use [^\n{]*(?:\{[^}]*\}[^\n]*)?$"
     lines = re.sub(uses, lambda use: "\n" * use[0].count("\n"), text).split("\n")
     for number, line in enumerate(lines, 1):
-        if re.match(r"module |(?:\w+ )?mutual$", line):
-            margin, current = "  ", None
+        indent = re.match(" *", line)[0]
+        if re.match(r"\s*module |(?:\w+ )?mutual$", line):
+            margins, current = [margin for margin in margins if margin <= indent] + [indent + "  "], None
         elif line.strip() and not re.match("pub mod |infix", line):
-            margin = margin if line[0].isspace() else ""
+            margins = [margin for margin in margins if margin <= indent]
+            margin = margins[-1]
             if line.startswith(margin) and not line[len(margin)].isspace():
                 head = ANTT_HEAD.match(line[len(margin):])
                 if head and (current is None or head[1] != current.name):
