@@ -350,6 +350,11 @@ def sharing(parts):
     parts.same("alone_again", log, [12], first=12)
 
 
+def index_in(words):
+    """The index that a reply shows, if it shows one."""
+    return next((int(word[1:]) for word in words if word.startswith("@")), None)
+
+
 def connections(parts):
     """The logs of connections."""
     [pairs] = [
@@ -357,7 +362,7 @@ def connections(parts):
         for name, pairs, _ in conversations([os.path.join(TOP, "bench", "conversations", "isolation.txt")])
         if name == "root 1 driven a_tenant_beside_a_neighbour"
     ]
-    told = [(body, int(next(word for word in words if word.startswith("@"))[1:])) if any(word.startswith("@") for word in words) else (body, None) for _, (words, body) in pairs]
+    told = [(body, index_in(words)) for _, (words, body) in pairs]
     setup = [
         put_pool("east"),
         put_pool("west"),
