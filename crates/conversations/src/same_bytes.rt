@@ -1,6 +1,6 @@
 //! Draws that are known beforehand.
 
-use ns_api::Draws;
+use ns_asked::Draws;
 
 /// Draws sixteen times the same byte, at first 1, and `step` more each time.
 #[derive(Drop)]

@@ -1,8 +1,3 @@
-pub mod Parts
-pub mod Telling
-pub mod Asking
-pub mod Wanted
-pub mod Drawing
 pub mod Rooms
 pub mod Lacking
 pub mod Following

@@ -10,12 +10,10 @@ ghost use Rattle.ns_replies.specs.Rendered.{HasRoom, IsRendered};
 ghost use Rattle.ns_api.specs.Answering.{AnswersAsked, AnswersOrWants, AnswersRequest, IsWanting, ShowsOrWants};
 ghost use Rattle.ns_api.specs.Rooms.{room_of};
 ghost use Rattle.ns_api.specs.Serving.{held};
-ghost use Rattle.ns_api.specs.Wanted.{draft_step, IsServedDraft};
+ghost use Rattle.ns_asked.specs.Wanted.{draft_step, IsServedDraft};
 
-use crate::asking::asked;
-use crate::drawing::{Draws, drawn};
 use crate::following::Follows;
-use crate::wanted::Draft;
+use ns_asked::{Draft, Draws, asked, drawn};
 use ns_chains::Server;
 use ns_http::{Answer, Request};
 use ns_replies::{Room, render};

@@ -6,8 +6,8 @@ ghost use Rattle.ns_api.specs.Cores.{history_of};
 ghost use Rattle.ns_api.specs.Following.{driver_of};
 
 use crate::answering::{Api, Takes};
-use crate::drawing::Draws;
 use crate::following::{Driven, Driver};
+use ns_asked::Draws;
 use ns_core::Core;
 use ns_held::Held;
 use ns_types::name::Secret;

@@ -5,8 +5,8 @@ ghost use Rattle.ns_types.specs.Wire.Responses.{Exchange};
 ghost use Rattle.ns_api.specs.Answering.{Answers, Holding, RunsAs};
 
 use crate::answering::Takes;
-use crate::drawing::Draws;
 use crate::following::Follows;
+use ns_asked::Draws;
 
 /// What a connection was answered, one request after the other, is a chain of steps, and so a run of the model: the steps
 /// that its requests ask for, in their order, but for those that were refused without a step, and after each those that

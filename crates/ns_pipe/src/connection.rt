@@ -4,7 +4,8 @@ ghost use Rattle.std.specs.Prelude.{◌≡◌};
 ghost use Rattle.ns_pipe.specs.Ending.{IsEnd, EndsServed, EndsByReader, EndsByWriter, opened};
 ghost use Rattle.ns_faults.specs.Lines.{Tells, status_of, line_of};
 
-use ns_api::{Draws, Driven, close, open, serve};
+use ns_api::{Driven, close, open, serve};
+use ns_asked::Draws;
 use ns_faults::status::{OUT_OF_MEMORY, READ_FAULT, SERVED, WRITE_FAULT};
 use ns_faults::tell;
 use ns_http::{ConnFault, Counted};

@@ -8,7 +8,8 @@ ghost use Rattle.ns_pipe.specs.Ending.{IsEnd};
 ghost use Rattle.ns_faults.specs.Lines.{FailsToWrite, Tells, status_of, line_of};
 ghost use Rattle.ns_pipe.specs.Logging.{LogsInPart, LogsNothing, LogsServed, LogsToReadFault, opened_log};
 
-use ns_api::{Api, Draws, Driven, Driver, close_held, open_held, serve};
+use ns_api::{Api, Driven, Driver, close_held, open_held, serve};
+use ns_asked::Draws;
 use ns_faults::status::{OUT_OF_MEMORY, READ_FAULT, SERVED, WRITE_FAULT};
 use ns_faults::tell;
 use ns_held::Held;

@@ -1,6 +1,6 @@
 //! Random bits for new tokens.
 
-use ns_api::Draws;
+use ns_asked::Draws;
 use rand::Rng;
 
 /// Bits from a generator.

@@ -13,7 +13,7 @@ ghost use Rattle.nsd.specs.Telling.{IsTold};
 ghost use Rattle.nsd.specs.Words.{Asks, AsksAlone, Gives, GivesAlone, IsMisgiven};
 
 use crate::words::read;
-use ns_api::Draws;
+use ns_asked::Draws;
 use ns_faults::status::SERVED;
 use ns_http::{ConnFault, Counted};
 use ns_pipe::{Ended, run};

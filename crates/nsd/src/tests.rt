@@ -5,7 +5,7 @@ mod faults;
 mod texts;
 
 use crate::random::Random;
-use ns_api::Draws;
+use ns_asked::Draws;
 use rand::SeedableRng;
 use rand::rngs::StdRng;
 use std::rt::HostRuntime;

@@ -1,6 +1,6 @@
 //! Draws that are known beforehand.
 
-use ns_api::Draws;
+use ns_asked::Draws;
 
 /// Draws the same sixteen bytes each time.
 #[derive(Drop)]

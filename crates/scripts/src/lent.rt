@@ -1,6 +1,7 @@
 //! What a server lends for one request: its core, and the draws that are known beforehand.
 
-use ns_api::{Draws, Takes};
+use ns_api::Takes;
+use ns_asked::Draws;
 use ns_chains::Server;
 use ns_core::Core;
 use ns_types::refusal::Refusal;

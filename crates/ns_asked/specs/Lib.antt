@@ -1,0 +1,5 @@
+pub mod Parts
+pub mod Telling
+pub mod Asking
+pub mod Wanted
+pub mod Drawing

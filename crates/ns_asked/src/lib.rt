@@ -1,0 +1,13 @@
+//! From a request to the step that it asks for.
+#![tactic(auto)]
+
+mod asking;
+mod documents;
+mod drawing;
+mod tables;
+mod telling;
+mod wanted;
+
+pub use asking::asked;
+pub use drawing::{Draws, drawn, random_id};
+pub use wanted::{Draft, GoodToken};
