@@ -15,6 +15,9 @@ line_of ConnFault.Read = codes "read fault\n"
 line_of ConnFault.Write = codes "write fault\n"
 line_of ConnFault.Memory = codes "out of memory\n"
 
+abbrev pub mismatch_line : List ℕ
+mismatch_line = codes "mismatch\n"
+
 abbrev pub no_text_line : List ℕ
 no_text_line = codes "error: a word is no text\n"
 

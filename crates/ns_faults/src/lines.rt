@@ -2,9 +2,9 @@
 
 ghost use Rattle.std.specs.Prelude.{◌≡◌, ◌≢◌};
 ghost use Rattle.std.specs.IoError.{error_kind};
-ghost use Rattle.ns_faults.specs.Lines.{Tells, status_of, line_of, no_text_line};
+ghost use Rattle.ns_faults.specs.Lines.{Tells, line_of, mismatch_line, no_text_line, status_of};
 
-use crate::status::{BAD_WORDS, OUT_OF_MEMORY, READ_FAULT, WRITE_FAULT};
+use crate::status::{BAD_WORDS, MISMATCH, OUT_OF_MEMORY, READ_FAULT, WRITE_FAULT};
 use ns_http::{ConnFault, Counted, write_all};
 use std::io::{self, ErrorKind, Write};
 
@@ -34,6 +34,15 @@ pub fn tell<E: Write>(fault: ConnFault, errors: &mut Counted<E>) -> u8
             OUT_OF_MEMORY
         }
     }
+}
+
+/// Tells that what the threads of a server were answered and its log differ, and says the exit status.
+pub fn tell_mismatch<E: Write>(errors: &mut Counted<E>) -> u8
+    ensures status { result ≡ MISMATCH }
+    ensures line { Tells E.contents errors.old errors.new mismatch_line }
+{
+    say(errors, b"mismatch\n");
+    MISMATCH
 }
 
 /// Tells that the system gave no random bits, which ends the program as a read fault.

@@ -2,6 +2,8 @@
 
 /// Served to the end, or help was shown.
 pub const SERVED: u8 = 0;
+/// What the threads of a server were answered and its log differ.
+pub const MISMATCH: u8 = 1;
 /// The words are bad.
 pub const BAD_WORDS: u8 = 2;
 /// The input failed or ended inside a request, or the system gave no random bits.
