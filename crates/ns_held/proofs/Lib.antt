@@ -1,4 +1,6 @@
+pub mod Adding
 mod Attempts
+mod Given
 mod Logged
 mod Planned
 mod Reading

@@ -16,14 +16,14 @@ use Rattle.ns_held.proofs.Logged.{IsKeptWithin, kept_by, within_same}
 
 -- ---- a plan that is refused is no step
 
-submit_is_none : (w : World) (worker : ℕ) (ns : Name) (planned : Snapshot) (refusal : Refusal) → RefusesPlan w worker ns planned refusal →
+pub submit_is_none : (w : World) (worker : ℕ) (ns : Name) (planned : Snapshot) (refusal : Refusal) → RefusesPlan w worker ns planned refusal →
     is_of_steps refusal ≡ false
 submit_is_none w worker ns planned _ (RefusesPlan.idle none) = refl
 submit_is_none w worker ns planned _ (RefusesPlan.out_of_turn row at late) = refl
 submit_is_none w worker ns planned _ (RefusesPlan.foreign row turn other) = refl
 submit_is_none w worker ns planned _ (RefusesPlan.empty row turn same nothing) = refl
 
-finish_is_none : (w : World) (worker : ℕ) (ns : Name) (planned : Snapshot) (refusal : Refusal) → RefusesFinish w worker ns planned refusal →
+pub finish_is_none : (w : World) (worker : ℕ) (ns : Name) (planned : Snapshot) (refusal : Refusal) → RefusesFinish w worker ns planned refusal →
     is_of_steps refusal ≡ false
 finish_is_none w worker ns planned _ (RefusesFinish.idle none) = refl
 finish_is_none w worker ns planned _ (RefusesFinish.out_of_turn row at late) = refl

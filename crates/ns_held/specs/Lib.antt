@@ -2,3 +2,4 @@ pub mod Lacking
 pub mod Logs
 pub mod Noting
 pub mod Planned
+pub mod Rendered

@@ -1,8 +1,8 @@
 //! A server with the log of what it did.
 
-ghost use Rattle.std.specs.Prelude.{◌≡◌, ◌↔◌, [], IsTrue};
+ghost use Rattle.std.specs.Prelude.{◌≡◌, ◌↔◌, [], IsFalse, IsTrue};
 ghost use Rattle.ns_json.specs.Replies.{IsKept};
-ghost use Rattle.ns_held.specs.Logs.{IsFull};
+ghost use Rattle.ns_held.specs.Logs.{HasPlace, IsFull};
 
 use ns_core::Core;
 use ns_log::Entry;
@@ -68,7 +68,8 @@ impl Held {
 
     /// Whether the log takes no more entries.
     pub fn is_full(&self) -> bool
-        ensures { IsTrue result ↔ IsFull self.now }
+        ensures full { IsTrue result ↔ IsFull self.now }
+        ensures place { IsFalse result → HasPlace self.now }
     {
         self.log.len() as u64 == self.limit
     }

@@ -5,7 +5,11 @@ mod driven;
 mod held;
 pub mod laws;
 mod noting;
+mod rendered;
+mod rendering;
 mod requests;
 mod work;
 
 pub use held::Held;
+pub use rendering::rendered_in;
+pub use work::snapped;

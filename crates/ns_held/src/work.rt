@@ -23,7 +23,7 @@ use ns_types::text::Text;
 use std::alloc::Global;
 
 /// What a worker that looks is answered.
-fn snapped(seen: &Result<Shared<Snapshot>, Refusal>) -> Result<Reply, Refusal>
+pub fn snapped(seen: &Result<Shared<Snapshot>, Refusal>) -> Result<Reply, Refusal>
     ensures { result ≡ snapped seen.now }
 {
     match seen {

@@ -1,0 +1,139 @@
+//! The steps that requests ask for, whose answers are handed out as bytes.
+
+ghost use Rattle.std.specs.Prelude.{◌≡◌, ◌<◌, IfErr, IfOk, None, OnErr, OnOk, false, true, vec_len, vec_capacity};
+ghost use Rattle.ns_types.specs.declared.refusal.Refusal.TheVariants as Refusal;
+ghost use Rattle.ns_steps.specs.Served.{IsServed};
+ghost use Rattle.ns_answers.specs.Laws.{may_change};
+ghost use Rattle.ns_answers.specs.Rooms.{room_of};
+ghost use Rattle.ns_held.specs.Noting.{is_answer, noted};
+ghost use Rattle.ns_held.specs.Rendered.{IsGiven, LogsRendered};
+
+use crate::held::Held;
+use crate::noting::{begin, note, with_room};
+use crate::rendering::{given_again, given_in, rendered_anew};
+use ns_answers::{Room, may_change};
+use ns_log::Entry;
+use ns_types::refusal::Refusal;
+use ns_types::reply::{Rendered, Reply, Response};
+use ns_types::step::Step;
+use std::alloc::Global;
+
+/// Room for the answer of a step that a request asks for, in the log, for a receipt and as the response.
+#[derive(Drop)]
+struct Rooms {
+    entry: Room,
+    receipt: Room,
+    response: Room,
+}
+
+/// The step, with rooms for its answer.
+fn with_rooms(alloc: Global, step: Step) -> Result<(Step, Rooms), Refusal>
+    ensures step { IfOk result (λ made. made.0 ≡ step) }
+    ensures entry { IfOk result (λ made. made.1.entry ≡ room_of step None) }
+    ensures receipt { IfOk result (λ made. made.1.receipt ≡ room_of step None) }
+    ensures response { IfOk result (λ made. made.1.response ≡ room_of step None) }
+    ensures memory { IfErr result (λ refusal. refusal ≡ Refusal.Memory) }
+{
+    let (step, entry) = with_room(alloc, step, None)?;
+    let (step, receipt) = with_room(alloc, step, None)?;
+    let (step, response) = with_room(alloc, step, None)?;
+    Ok((
+        step,
+        Rooms {
+            entry,
+            receipt,
+            response,
+        },
+    ))
+}
+
+/// Adds the step with its answer in new memory, and hands the answer out, if it is the answer of a step.
+fn give(
+    log: &mut Vec<Entry>,
+    alloc: Global,
+    step: Step,
+    answer: &Result<Reply, Refusal>,
+) -> Result<(Rendered, Response), Refusal>
+    requires { vec_len log.old < vec_capacity log.old }
+    ensures answer { OnOk result (is_answer answer.now ≡ true) }
+    ensures given { IfOk result (λ given. IsGiven answer.now given) }
+    ensures noted { OnOk result (log.new.items ≡ noted step answer.now log.old.items) }
+    ensures same { OnErr result (log.new.items ≡ log.old.items) }
+    ensures memory { IfErr result (λ refusal. refusal ≡ Refusal.Memory) }
+{
+    let shown = rendered_anew(alloc, answer)?;
+    let given = given_again(answer, &shown)?;
+    log.push_reserved(Entry::new(step, shown));
+    Ok(given)
+}
+
+impl Held {
+    /// The rooms of the answer are taken before the step, so a step that was made is answered.
+    fn write_rendered(&mut self, alloc: Global, step: Step) -> Result<(Rendered, Response), Refusal>
+        requires served { IsServed step }
+        requires writes { may_change step ≡ true }
+        ensures { LogsRendered step self.old result self.new }
+    {
+        let Held {
+            core,
+            log,
+            limit,
+            ..
+        } = self;
+        if let Err(refusal) = begin(log, *limit) {
+            drop(step);
+            return Err(refusal);
+        }
+        let (step, rooms) = with_rooms(alloc, step)?;
+        let Rooms {
+            entry,
+            receipt,
+            response,
+        } = rooms;
+        let answer = core.take(&step);
+        note(log, step, entry, &answer);
+        let given = given_in(receipt, response, &answer);
+        drop(answer);
+        given
+    }
+
+    /// A read changes nothing, so there may still be no memory for its answer. Then it was not made.
+    fn read_rendered(&mut self, alloc: Global, step: Step) -> Result<(Rendered, Response), Refusal>
+        requires served { IsServed step }
+        requires reads { may_change step ≡ false }
+        ensures { LogsRendered step self.old result self.new }
+    {
+        let Held {
+            core,
+            log,
+            limit,
+            ..
+        } = self;
+        if let Err(refusal) = begin(log, *limit) {
+            drop(step);
+            return Err(refusal);
+        }
+        let answer = core.take(&step);
+        let given = give(log, alloc, step, &answer);
+        drop(answer);
+        given
+    }
+
+    /// Makes the step that a request asks for, and hands out its answer twice as bytes: for a receipt, and as the response.
+    /// Both are made before a read has its entry, and their room is taken before any other step; so a step that was made is
+    /// answered. At `Err` none was made.
+    pub fn take_rendered(
+        &mut self,
+        alloc: Global,
+        step: Step,
+    ) -> Result<(Rendered, Response), Refusal>
+        requires { IsServed step }
+        ensures { LogsRendered step self.old result self.new }
+    {
+        if may_change(&step) {
+            self.write_rendered(alloc, step)
+        } else {
+            self.read_rendered(alloc, step)
+        }
+    }
+}
