@@ -1,0 +1,96 @@
+-- A call that makes a step adds one entry, for whose answer there was room, and any other adds none.
+use Rattle.std.specs.Prelude.{◌≡◌, ◌+◌, ◌<◌, ℕ, Bool, true, false, if◌then◌else◌, length, List, Option, Result, Some, None, Ok, Err, IfOk}
+use Rattle.std.proofs.Common.{refl, ap, sym, subst, ◌∙◌, arith, inl, inr, length-append, [], ◌∷◌, ◌++◌}
+use Rattle.ns_types.specs.declared.refusal.Refusal.{Refusal}
+use Rattle.ns_types.specs.declared.reply.Rendered.{Rendered}
+use Rattle.ns_types.specs.declared.reply.Response.{Response}
+use Rattle.ns_types.specs.declared.step.Step.{Step}
+use Rattle.ns_types.specs.Steps.{Answer}
+use Rattle.ns_types.specs.Wire.Responses.{rendered_of}
+use Rattle.ns_types.proofs.Lists.{not_both}
+use Rattle.ns_json.specs.Replies.{rendered}
+use Rattle.ns_answers.specs.Laws.{may_change, row_of}
+use Rattle.ns_answers.specs.Rooms.{HasRoom, Room, room_of}
+use Rattle.ns_answers.proofs.Made.{made_has_room}
+use Rattle.ns_receipts.specs.declared.receipt.Receipt.{Receipt}
+use Rattle.ns_held.specs.Logs.{History}
+use Rattle.ns_held.specs.Noting.{Begins, is_answer}
+use Rattle.ns_held.specs.Rendered.{LogsRendered, rendered_step}
+use Rattle.ns_held.proofs.Adding.{Adds}
+use Rattle.ns_shared.specs.Receiving.{Asks, LogsAsked, answered, count, receipt, receipt_of, received, response_of}
+
+-- ---- one entry more, where one receipt is added
+
+counts : (answer : Answer) (b : Bool) → is_answer answer ≡ b → count (rendered_step answer) ≡ (if b then 1 else 0)
+counts answer true is = ap (λ (x : Bool). count (if x then Some (rendered answer) else None)) is
+counts answer false is = ap (λ (x : Bool). count (if x then Some (rendered answer) else None)) is
+
+pub adds_count : (step : Step) (old : History) (answer : Answer) (new : History) → Adds step old answer new →
+    length new.log ≡ length old.log + count (rendered_step answer)
+adds_count step old answer new (inl a) =
+    let more = ap length a.1.noted.entry in
+    omega (arith, more, length-append old.log ((step, rendered answer) ∷ []), counts answer true a.0)
+adds_count step old answer new (inr a) = let same = ap (λ (h : History). length h.log) a.1 in omega (arith, same, counts answer false a.0)
+
+-- ---- and room for its answer
+
+pub adds_room : (step : Step) (old : History) (answer : Answer) (new : History) (room : Room) → may_change step ≡ true →
+    room ≡ room_of step (row_of step old.state.world) → Adds step old answer new → IfOk answer (λ reply. HasRoom room reply.content)
+adds_room step old (Ok reply) new room may is (inl a) =
+    subst (λ (r : Room). HasRoom r reply.content) (sym is) (made_has_room step old.state new.state reply may a.1.made)
+adds_room step old (Ok reply) new room may is (inr a) = not_both refl a.0
+adds_room step old (Err refusal) new room may is a = tt
+
+-- ---- a step that a request asks for
+
+pub asked_count : {A : Type 0} (step : Step) (old : History) (result : Result (Response A) Refusal) (new : History) →
+    LogsAsked step old result new → length new.log ≡ length old.log + count (answered result)
+asked_count step old (Ok response) new l =
+    let more = ap length l.1.1.noted.entry in
+    omega (arith, more, length-append old.log ((step, rendered l.1.0) ∷ []))
+asked_count step old (Err Refusal.LogFull) new l = let same = ap (λ (h : History). length h.log) l.1 in omega (arith, same)
+asked_count step old (Err Refusal.Memory) new l = let same = ap (λ (h : History). length h.log) l.1 in omega (arith, same)
+asked_count step old (Err refusal) new l = absurd l
+
+pub refused_asked : (A : Type 0) (step : Step) (old : History) (refusal : Refusal) (new : History) →
+    LogsRendered {A = A} step old (Err refusal) new → LogsAsked {A = A} step old (Err refusal) new
+refused_asked A step old Refusal.LogFull new l = l
+refused_asked A step old Refusal.Memory new l = l
+refused_asked A step old refusal new l = absurd l
+
+pub given_asked : {A : Type 0} (step : Step) (old : History) (given : Result (Rendered × Response A) Refusal) (new : History) →
+    LogsRendered step old given new → LogsAsked step old (response_of given) new
+given_asked step old (Ok given) new l = (l.0, (l.1.0, l.1.1, l.1.2.1))
+given_asked {A = A} step old (Err refusal) new l = refused_asked A step old refusal new l
+
+-- the receipt and the response are the same bytes
+pub given_same : {A : Type 0} (step : Step) (old : History) (given : Result (Rendered × Response A) Refusal) (new : History) →
+    LogsRendered step old given new → receipt_of given ≡ answered (response_of given)
+given_same step old (Ok given) new l = ap Some (l.1.2.0 ∙ sym l.1.2.1)
+given_same step old (Err refusal) new l = refl
+
+pub received_length : (place : ℕ) (step : Step) (rendered : Option Rendered) (receipts : List Receipt) →
+    length (received place step rendered receipts) ≡ length receipts + count rendered
+received_length place step None receipts = omega arith
+received_length place step (Some rendered) receipts =
+    let more = length-append receipts (receipt place step rendered ∷ []) in omega (arith, more)
+
+pub received_same : (place place' : ℕ) (step step' : Step) (r r' : Option Rendered) (receipts receipts' : List Receipt) →
+    place ≡ place' → step ≡ step' → r ≡ r' → receipts ≡ receipts' → received place step r receipts ≡ received place' step' r' receipts'
+received_same place place' step step' r r' receipts receipts' p s q l =
+    ap (λ x. received x step r receipts) p ∙ ap (λ x. received place' x r receipts) s ∙ ap (λ x. received place' step' x receipts) q
+    ∙ ap (received place' step' r') l
+
+-- before the step
+pub begin_asked : (A X : Type 0) (step : Step) (old : History) (refusal : Refusal) → Begins {X = X} (length old.log) old.limit (Err refusal) →
+    LogsAsked {A = A} step old (Err refusal) old
+begin_asked A X step old Refusal.LogFull b = (b, refl)
+begin_asked A X step old Refusal.Memory b = (b, refl)
+begin_asked A X step old refusal b = absurd b
+
+pub asks : {A : Type 0} (step : Step) (place : ℕ) (old new : History) (result : Result (Response A) Refusal) (seat seat' : List Receipt) →
+    LogsAsked step old result new → seat' ≡ received place step (answered result) seat → Asks step seat result seat'
+asks step place old new (Ok response) seat seat' l same = (place, same)
+asks step place old new (Err Refusal.LogFull) seat seat' l same = (same, inr refl)
+asks step place old new (Err Refusal.Memory) seat seat' l same = (same, inl refl)
+asks step place old new (Err refusal) seat seat' l same = absurd l

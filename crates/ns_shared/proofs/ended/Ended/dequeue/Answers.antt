@@ -1,0 +1,21 @@
+use Rattle.std.proofs.Common.{refl, ap, arith}
+use Rattle.ns_types.specs.declared.step.Step.TheVariants as Step
+use Rattle.ns_shared.specs.Receiving.{count}
+use Rattle.ns_held.proofs.Adding.{logs_adds}
+use Rattle.ns_shared.proofs.Adding.{adds_count, adds_room}
+use Rattle.ns_shared.proofs.ended.Ended.dequeue.Goals as goal
+
+pub rendered_in-rendered-requires : goal.rendered_in-rendered-requires
+rendered_in-rendered-requires g c = adds_room (Step.Dequeue c.args.worker c.args.namespace.now c.args.evaluation) c.args.self.now.held c.dequeue-answer.result c.dequeue-answer.new.self c.in_ok-step.room refl
+    (ap (λ m. m.1) c.in_ok-step.ensures.made)
+    (logs_adds (Step.Dequeue c.args.worker c.args.namespace.now c.args.evaluation) c.args.self.now.held c.dequeue-answer.result c.dequeue-answer.new.self c.dequeue-answer.ensures)
+
+pub invariant_of-self-2-clause-counted : goal.invariant_of-self-2-clause-counted
+invariant_of-self-2-clause-counted g c = omega (
+  arith,
+  c.args.self.now.counted,
+  c.receive.ensures.total,
+  ap count c.rendered_in-rendered.ensures,
+  adds_count (Step.Dequeue c.args.worker c.args.namespace.now c.args.evaluation) c.args.self.now.held c.dequeue-answer.result c.dequeue-answer.new.self
+      (logs_adds (Step.Dequeue c.args.worker c.args.namespace.now c.args.evaluation) c.args.self.now.held c.dequeue-answer.result c.dequeue-answer.new.self c.dequeue-answer.ensures),
+)

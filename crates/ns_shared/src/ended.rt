@@ -1,0 +1,90 @@
+//! A server with its log, and the book that counts the entries.
+
+ghost use Rattle.std.specs.Prelude.{◌≡◌, ◌+◌, [], IfSome, length};
+ghost use Rattle.ns_steps.specs.Served.{IsServed};
+ghost use Rattle.ns_shared.specs.Receiving.{LogsAsked, answered, received};
+
+use crate::seat::{Seat, prepare_copy, receive_given};
+use ns_held::Held;
+use ns_types::refusal::Refusal;
+use ns_types::reply::Response;
+use ns_types::step::Step;
+use std::alloc::Global;
+use std::sync::ledger::{Blank, Book, Ledger, Share};
+
+/// The parts of the ledger: one for each seat.
+pub const PARTS: u64 = u64::MAX;
+
+/// A server with its log, the book that counts the log's entries, and the parts that no seat has.
+#[derive(Drop)]
+pub struct Ended<L: Ledger> {
+    pub held: Held,
+    /// How many seats were made.
+    pub seats: u64,
+    pub(crate) book: Book<L>,
+    pub(crate) rest: Share<L>,
+    ghost counted: { book.total ≡ length held.log },
+    ghost parted: { rest.parts + seats ≡ 18446744073709551615 },
+    ghost unused: { rest.amount ≡ 0 },
+}
+
+impl<L: Ledger> Ended<L> {
+    /// With no seats yet.
+    pub(crate) fn new(held: Held, blank: Blank) -> Ended<L>
+        requires empty { held.log ≡ [] }
+        requires name { blank.name ≡ L.name }
+        requires parts { (blank.parts ≡ L.parts) × (L.parts ≡ 18446744073709551615) }
+    {
+        let (book, rest) = blank.open::<L>();
+        Ended {
+            held,
+            seats: 0,
+            book,
+            rest,
+        }
+    }
+
+    /// A seat with no receipts, unless no part is left for it.
+    pub(crate) fn seat(&mut self, alloc: Global) -> Option<Seat<L>>
+        ensures seat { IfSome result (λ seat. seat ≡ []) }
+        ensures held { self.new.held ≡ self.old.held }
+    {
+        if self.seats == PARTS {
+            return None;
+        }
+        let Ended { seats, rest, .. } = self;
+        *seats += 1;
+        let share = rest.split_off(1, 0);
+        Some(Seat {
+            receipts: Vec::new(alloc),
+            share,
+        })
+    }
+
+    /// Makes the step that a request asks for, and adds its receipt.
+    #[tactic(none)]
+    pub(crate) fn take(
+        &mut self,
+        alloc: Global,
+        seat: &mut Seat<L>,
+        step: Step,
+    ) -> Result<Response, Refusal>
+        requires { IsServed step }
+        ensures logged { LogsAsked step self.old.held result self.new.held }
+        ensures received { let place = length self.old.held.log in
+            seat.new ≡ received place step (answered result) seat.old }
+    {
+        let Ended { held, book, .. } = self;
+        let Seat { receipts, share } = seat;
+        let copy = match prepare_copy(held, receipts, &step) {
+            Ok(copy) => copy,
+            Err(refusal) => {
+                drop(step);
+                return Err(refusal);
+            }
+        };
+        let place = held.log().len() as u64;
+        let given = held.take_rendered(alloc, step);
+        receive_given(receipts, share, book, place, copy, given)
+    }
+}

@@ -1,0 +1,15 @@
+//! A server that threads share, with its log. Each caller has a seat, which keeps what it was answered.
+#![tactic(auto)]
+
+mod changes;
+mod ended;
+mod looking;
+mod seat;
+mod settling;
+mod shared;
+mod work;
+
+pub use changes::{Busy, Moment, Planner, Role};
+pub use ended::{Ended, PARTS};
+pub use seat::Seat;
+pub use shared::Shared;

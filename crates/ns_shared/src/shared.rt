@@ -1,0 +1,304 @@
+//! A server that threads share.
+
+ghost use Rattle.std.specs.Prelude.{◌≡◌, [], IfSome};
+ghost use Rattle.ns_types.specs.declared.step.Step.TheVariants as Step;
+ghost use Rattle.ns_drive.specs.Calls.{snapped};
+ghost use Rattle.ns_steps.specs.Served.{IsServed};
+ghost use Rattle.ns_shared.specs.Receiving.{Asks, Receives};
+
+use crate::changes::{Busy, Moment, Planner, Role, Stage, Wakes};
+use crate::ended::Ended;
+use crate::looking;
+use crate::seat::Seat;
+use ns_answers::may_change;
+use ns_held::Held;
+use ns_types::key::EvalKey;
+use ns_types::planned::Planned;
+use ns_types::refusal::Refusal;
+use ns_types::reply::{Reply, Response};
+use ns_types::shared;
+use ns_types::snapshot::Snapshot;
+use ns_types::step::Step;
+use ns_types::text::Text;
+use std::alloc::{AllocError, Global};
+use std::sync::ledger::{Blank, Ledger};
+use std::sync::{Condvar, Mutex, Wait};
+
+/// What lies under the lock.
+#[derive(Drop)]
+struct Desk<L: Ledger> {
+    kept: Ended<L>,
+    changes: u64,
+    is_closed: bool,
+    workers: u64,
+    applier: Stage,
+}
+
+impl<L: Ledger> Desk<L> {
+    fn moment(&self) -> Moment {
+        Moment {
+            changes: self.changes,
+            is_closed: self.is_closed,
+            workers: self.workers,
+            applier_left: self.applier == Stage::Left,
+        }
+    }
+
+    /// Whether there is something to do for those whom the call wakes.
+    fn is_stirred(&self, wakes: Wakes) -> bool {
+        match wakes {
+            Wakes::Nobody => false,
+            Wakes::WhereServed => self.has_served(),
+            Wakes::WhereServedOrClosed => self.is_closed || self.has_served(),
+            Wakes::All => true,
+        }
+    }
+
+    fn has_served(&self) -> bool {
+        self.kept.held.core().served().is_some()
+    }
+}
+
+/// A server with its log, which threads share. Each call for a step makes at most that step, and adds its receipt to the
+/// caller's seat.
+#[derive(Drop)]
+pub struct Shared<L: Ledger> {
+    desk: Mutex<Desk<L>>,
+    changed: Condvar,
+}
+
+impl<L: Ledger> Shared<L> {
+    /// Shares a server whose log begins, counted by this ledger.
+    pub fn new(held: Held, blank: Blank) -> Shared<L>
+        requires empty { held.log ≡ [] }
+        requires name { blank.name ≡ L.name }
+        requires parts { (blank.parts ≡ L.parts) × (L.parts ≡ 18446744073709551615) }
+    {
+        let kept = Ended::new(held, blank);
+        let desk = Mutex::new(Desk {
+            kept,
+            changes: 0,
+            is_closed: false,
+            workers: 0,
+            applier: Stage::Awaited,
+        });
+        Shared {
+            desk,
+            changed: Condvar::new(),
+        }
+    }
+
+    /// A seat with no receipts, unless 2^64 - 1 seats were made.
+    pub fn seat<R: Wait>(&self, rt: &R, alloc: Global) -> Option<Seat<L>>
+        ensures { IfSome result (λ seat. seat ≡ []) }
+    {
+        self.desk.lock(rt).kept.seat(alloc)
+    }
+
+    /// Wakes those who wait, if there is something to do for them. Changes are counted exactly where it does.
+    fn wake(&self, desk: &mut Desk<L>, wakes: Wakes)
+        ensures { desk.new.kept ≡ desk.old.kept }
+    {
+        if desk.is_stirred(wakes) {
+            desk.changes = desk.changes.wrapping_add(1);
+            self.changed.notify_all();
+        }
+    }
+
+    /// Makes the step that a request asks for.
+    pub fn take<R: Wait>(
+        &self,
+        rt: &R,
+        alloc: Global,
+        seat: &mut Seat<L>,
+        step: Step,
+    ) -> Result<Response, Refusal>
+        requires { IsServed step }
+        ensures { Asks step seat.old result seat.new }
+    {
+        let wakes = if may_change(&step) {
+            Wakes::WhereServed
+        } else {
+            Wakes::Nobody
+        };
+        let mut desk = self.desk.lock(rt);
+        let answer = desk.kept.take(alloc, seat, step);
+        self.wake(&mut desk, wakes);
+        answer
+    }
+
+    /// Makes the step in which a worker takes the evaluation of that number in the namespace, which is served next.
+    pub fn dequeue<R: Wait>(
+        &self,
+        rt: &R,
+        alloc: Global,
+        seat: &mut Seat<L>,
+        worker: u64,
+        namespace: &Text,
+        evaluation: u64,
+    ) -> Result<Reply, Refusal>
+        ensures { let step = Step.Dequeue worker namespace.now evaluation in
+            Receives step seat.old result seat.new }
+    {
+        let mut desk = self.desk.lock(rt);
+        let answer = desk
+            .kept
+            .dequeue(alloc, seat, worker, namespace, evaluation);
+        answer
+    }
+
+    /// Makes the step in which a worker takes a snapshot of its evaluation: one value, which its row keeps and the caller
+    /// reads.
+    pub fn snap<R: Wait>(
+        &self,
+        rt: &R,
+        alloc: Global,
+        seat: &mut Seat<L>,
+        worker: u64,
+        namespace: &Text,
+    ) -> Result<shared::Shared<Snapshot>, Refusal>
+        ensures { let step = Step.Snap worker namespace.now in
+            Receives step seat.old (snapped result) seat.new }
+    {
+        let mut desk = self.desk.lock(rt);
+        let seen = desk.kept.snap(alloc, seat, worker, namespace);
+        seen
+    }
+
+    /// Makes the step in which a worker hands in the plan of its snapshot.
+    pub fn submit<R: Wait>(
+        &self,
+        rt: &R,
+        alloc: Global,
+        seat: &mut Seat<L>,
+        worker: u64,
+        namespace: &Text,
+        planned: Planned,
+    ) -> Result<Reply, Refusal>
+        ensures { let step = Step.Submit worker namespace.now in
+            Receives step seat.old result seat.new }
+    {
+        let mut desk = self.desk.lock(rt);
+        let answer = desk.kept.submit(alloc, seat, worker, namespace, planned);
+        self.wake(&mut desk, Wakes::All);
+        answer
+    }
+
+    /// Makes the step in which the plan that a worker handed in is applied.
+    pub fn apply<R: Wait>(
+        &self,
+        rt: &R,
+        alloc: Global,
+        seat: &mut Seat<L>,
+        worker: u64,
+        namespace: &Text,
+    ) -> Result<Reply, Refusal>
+        ensures { let step = Step.Apply worker namespace.now in
+            Receives step seat.old result seat.new }
+    {
+        let mut desk = self.desk.lock(rt);
+        let answer = desk.kept.apply(alloc, seat, worker, namespace);
+        self.wake(&mut desk, Wakes::All);
+        answer
+    }
+
+    /// Makes the step in which a worker finishes its evaluation, by the plan of its snapshot.
+    pub fn finish<R: Wait>(
+        &self,
+        rt: &R,
+        alloc: Global,
+        seat: &mut Seat<L>,
+        worker: u64,
+        namespace: &Text,
+        planned: &Planned,
+    ) -> Result<Reply, Refusal>
+        ensures { let step = Step.Finish worker namespace.now in
+            Receives step seat.old result seat.new }
+    {
+        let mut desk = self.desk.lock(rt);
+        let answer = desk.kept.finish(alloc, seat, worker, namespace, planned);
+        self.wake(&mut desk, Wakes::WhereServedOrClosed);
+        answer
+    }
+
+    /// Makes the step in which a worker gives its evaluation of the namespace back.
+    pub fn nack<R: Wait>(
+        &self,
+        rt: &R,
+        alloc: Global,
+        seat: &mut Seat<L>,
+        worker: u64,
+        namespace: &Text,
+    ) -> Result<Reply, Refusal>
+        ensures { let step = Step.Nack worker namespace.now in
+            Receives step seat.old result seat.new }
+    {
+        let mut desk = self.desk.lock(rt);
+        let answer = desk.kept.nack(alloc, seat, worker, namespace);
+        self.wake(&mut desk, Wakes::WhereServedOrClosed);
+        answer
+    }
+
+    /// The evaluation that is served next.
+    pub fn served<R: Wait>(&self, rt: &R) -> Result<Option<EvalKey>, AllocError> {
+        looking::served(self.desk.lock(rt).kept.held.core())
+    }
+
+    /// What the worker is busy with. None: it is idle.
+    pub fn busy<R: Wait>(&self, rt: &R, worker: u64) -> Result<Option<Busy>, AllocError> {
+        looking::busy(self.desk.lock(rt).kept.held.core(), worker)
+    }
+
+    /// The worker whose plan is served next.
+    pub fn first_plan<R: Wait>(&self, rt: &R) -> Result<Option<Planner>, AllocError> {
+        looking::planner(self.desk.lock(rt).kept.held.core())
+    }
+
+    /// Taken before a look, it is what a wait for a change needs to miss none after the look.
+    pub fn now<R: Wait>(&self, rt: &R) -> Moment {
+        self.desk.lock(rt).moment()
+    }
+
+    /// Waits for a change after this moment.
+    pub fn wait_past<R: Wait>(&self, rt: &R, seen: Moment) -> Moment {
+        let desk = self.changed.wait_while(rt, self.desk.lock(rt), |desk| {
+            desk.changes == seen.changes
+        });
+        desk.moment()
+    }
+
+    pub fn enter<R: Wait>(&self, rt: &R, role: Role) {
+        let mut desk = self.desk.lock(rt);
+        match role {
+            Role::Worker => desk.workers = desk.workers.wrapping_add(1),
+            Role::Applier => desk.applier = Stage::Running,
+        }
+    }
+
+    pub fn leave<R: Wait>(&self, rt: &R, role: Role) {
+        let mut desk = self.desk.lock(rt);
+        match role {
+            Role::Worker => desk.workers = desk.workers.wrapping_sub(1),
+            Role::Applier => desk.applier = Stage::Left,
+        }
+        self.wake(&mut desk, Wakes::All);
+    }
+
+    /// Lets workers end once they are idle, and the applier once they ended.
+    pub fn close<R: Wait>(&self, rt: &R) {
+        let mut desk = self.desk.lock(rt);
+        desk.is_closed = true;
+        self.wake(&mut desk, Wakes::All);
+    }
+
+    pub fn is_closed<R: Wait>(&self, rt: &R) -> bool {
+        self.desk.lock(rt).is_closed
+    }
+
+    /// The server with its log and the book, out of the lock.
+    pub fn end(self) -> Ended<L> {
+        let Shared { desk, changed: _ } = self;
+        let Desk { kept, .. } = desk.into_inner();
+        kept
+    }
+}
