@@ -1,0 +1,12 @@
+//! Connections with a server that threads share.
+#![tactic(auto)]
+
+mod chair;
+mod client;
+mod seated;
+mod serving;
+
+pub use chair::Chair;
+pub use client::Client;
+pub use seated::Seated;
+pub use serving::serve;
