@@ -1,0 +1,24 @@
+-- What becomes of the receipts of a thread that works.
+use Rattle.std.specs.Prelude.{◌≡◌, ℕ, List, ◌++◌, All}
+use Rattle.ns_types.specs.declared.step.Step.{Step}
+use Rattle.ns_receipts.specs.declared.receipt.Receipt.{Receipt}
+
+-- a step of the worker of that number
+abbrev pub IsOfWorker : ℕ → Step → Type 0
+IsOfWorker number (Step.Dequeue worker ns n) = worker ≡ number
+IsOfWorker number (Step.Snap worker ns) = worker ≡ number
+IsOfWorker number (Step.Submit worker ns) = worker ≡ number
+IsOfWorker number (Step.Finish worker ns) = worker ≡ number
+IsOfWorker number (Step.Nack worker ns) = worker ≡ number
+IsOfWorker number _ = ⊥
+
+-- the applier's step
+abbrev pub IsApply : Step → Type 0
+IsApply (Step.Apply worker ns) = Unit {0}
+IsApply _ = ⊥
+
+-- The receipts stay, in their order, and behind them come those of such steps.
+pub record Grows (IsOwn : Step → Type 0) (old new : List Receipt) : Type 0 where
+  pub more : List Receipt
+  pub is_grown : new ≡ old ++ more
+  pub are_own : All (λ receipt. IsOwn receipt.step) more

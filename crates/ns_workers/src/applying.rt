@@ -1,0 +1,85 @@
+//! The applier.
+
+ghost use Rattle.ns_workers.specs.Growing.{Grows, IsApply};
+
+use crate::pausing::pause;
+use ns_shared::{Moment, Planner, Role, Seat, Shared};
+use ns_types::refusal::Refusal;
+use std::alloc::Global;
+use std::rt::Clock;
+use std::sync::Wait;
+use std::sync::ledger::Ledger;
+
+/// Applies the plan. Whether the applier goes on.
+fn apply<L: Ledger, R: Wait + Clock>(
+    rt: &R,
+    alloc: Global,
+    shared: &Shared<L>,
+    seat: &mut Seat<L>,
+    planner: &Planner,
+) -> bool
+    ensures { Grows IsApply seat.old seat.new }
+{
+    match shared.apply(rt, alloc, seat, planner.worker, &planner.namespace) {
+        Ok(_) | Err(Refusal::NotEnabled) => true,
+        Err(Refusal::Memory) => {
+            pause(rt);
+            true
+        }
+        Err(_) => {
+            shared.close(rt);
+            false
+        }
+    }
+}
+
+/// Waits for a plan. Whether one may still come: a worker that enters once the server is closed hands none in.
+fn await_plan<L: Ledger, R: Wait>(rt: &R, shared: &Shared<L>, seen: Moment) -> bool {
+    if seen.is_closed && seen.workers == 0 {
+        return false;
+    }
+    shared.wait_past(rt, seen);
+    true
+}
+
+/// Applies the plan that is served next, or waits. Whether the applier goes on. The count of changes is taken before it
+/// looks, so no change is missed.
+fn step<L: Ledger, R: Wait + Clock>(
+    rt: &R,
+    alloc: Global,
+    shared: &Shared<L>,
+    seat: &mut Seat<L>,
+) -> bool
+    ensures { Grows IsApply seat.old seat.new }
+{
+    let seen = shared.now(rt);
+    match shared.first_plan(rt) {
+        Ok(Some(planner)) => apply(rt, alloc, shared, seat, &planner),
+        Ok(None) => await_plan(rt, shared, seen),
+        Err(_) => {
+            pause(rt);
+            true
+        }
+    }
+}
+
+/// Applies one plan after another. For want of memory it tries again after a pause. Where a counter or the log is full it
+/// closes the server and ends; it ends as well once the server is closed, no plan waits and no worker is left.
+///
+/// It has to run beside the workers: one whose plan waits goes on only once it was applied, or the applier has ended.
+pub fn applier<L: Ledger, R: Wait + Clock>(
+    rt: &R,
+    alloc: Global,
+    shared: &Shared<L>,
+    seat: &mut Seat<L>,
+)
+    ensures { Grows IsApply seat.old seat.new }
+{
+    shared.enter(rt, Role::Applier);
+    for _ in rt.forever() {
+        if !step(rt, alloc, shared, seat) {
+            break;
+        }
+    }
+    shared.leave(rt, Role::Applier);
+}

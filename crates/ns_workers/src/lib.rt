@@ -1,0 +1,13 @@
+//! Workers that plan side by side, and the one that applies their plans: loops over the calls of a shared server.
+#![tactic(auto)]
+
+mod applying;
+mod gate;
+mod halt;
+mod pausing;
+mod turn;
+mod working;
+
+pub use applying::applier;
+pub use gate::{Gate, Open, Point};
+pub use working::worker;

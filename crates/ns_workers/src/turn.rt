@@ -1,0 +1,170 @@
+//! One turn of a worker: a step, or a wait.
+
+ghost use Rattle.ns_workers.specs.Growing.{Grows, IsOfWorker};
+
+use crate::gate::{Gate, Point};
+use crate::halt::Halt;
+use ns_drive::Kept;
+use ns_shared::{Busy, Moment, Seat, Shared};
+use ns_types::planned::Planned;
+use ns_types::text::Text;
+use ns_types::worker::Phase;
+use std::alloc::Global;
+use std::sync::Wait;
+use std::sync::ledger::Ledger;
+
+/// Past the numbers of workers.
+const WORKERS_END: u64 = 64;
+
+/// A worker's number, and what it works with.
+#[derive(Drop)]
+pub struct Post<'a, L: Ledger, G: Gate, R: Wait> {
+    pub rt: &'a R,
+    pub alloc: Global,
+    pub shared: &'a Shared<L>,
+    pub gate: &'a G,
+    pub number: u64,
+}
+
+impl<'a, L: Ledger, G: Gate, R: Wait> Post<'a, L, G, R> {
+    /// Goes on after the step of that name, if the gate lets the worker.
+    fn pass(&self, point: Point) -> Result<(), Halt> {
+        if self.gate.pass(self.number, point) {
+            Ok(())
+        } else {
+            Err(Halt::Leaves)
+        }
+    }
+
+    /// Takes what is served, or waits for it until the server is closed.
+    fn take(&self, seat: &mut Seat<L>, seen: Moment) -> Result<(), Halt>
+        ensures { Grows (IsOfWorker self.now.number) seat.old seat.new }
+    {
+        if seen.is_closed || self.number >= WORKERS_END {
+            return Err(Halt::Ends);
+        }
+        let Some(key) = self.shared.served(self.rt)? else {
+            self.shared.wait_past(self.rt, seen);
+            return Ok(());
+        };
+        let (namespace, evaluation) = (key.namespace(), key.number());
+        let _reply = self.shared.dequeue(
+            self.rt,
+            self.alloc,
+            seat,
+            self.number,
+            namespace,
+            evaluation,
+        )?;
+        self.pass(Point::Took)
+    }
+
+    /// Takes a snapshot of the worker's evaluation.
+    fn look(&self, seat: &mut Seat<L>, kept: &mut Kept, namespace: &Text) -> Result<(), Halt>
+        ensures { Grows (IsOfWorker self.now.number) seat.old seat.new }
+    {
+        let seen = self
+            .shared
+            .snap(self.rt, self.alloc, seat, self.number, namespace)?;
+        *kept = Kept::Seen(seen);
+        self.pass(Point::Snapped)
+    }
+
+    /// The plan of the snapshot that was taken last. No lock is held while it is made.
+    fn planned(&self, kept: &mut Kept) -> Result<Planned, Halt> {
+        let planned = match kept {
+            Kept::Nothing => return Err(Halt::Leaves),
+            Kept::Seen(seen) => self.gate.plan(self.alloc, self.number, seen.share()?)?,
+            Kept::Planned(planned) => return Ok(planned.share()?),
+        };
+        *kept = Kept::Planned(planned.share()?);
+        Ok(planned)
+    }
+
+    /// Ends the evaluation by the plan that was made last.
+    fn finish(&self, seat: &mut Seat<L>, kept: &mut Kept, namespace: &Text) -> Result<(), Halt>
+        ensures { Grows (IsOfWorker self.now.number) seat.old seat.new }
+    {
+        let planned = self.planned(kept)?;
+        let _reply = self.shared.finish(
+            self.rt,
+            self.alloc,
+            seat,
+            self.number,
+            namespace,
+            &planned,
+        )?;
+        *kept = Kept::Nothing;
+        self.pass(Point::Finished)
+    }
+
+    /// Hands in the plan, or finishes where it does nothing.
+    fn place(&self, seat: &mut Seat<L>, kept: &mut Kept, namespace: &Text) -> Result<(), Halt>
+        ensures { Grows (IsOfWorker self.now.number) seat.old seat.new }
+    {
+        let planned = self.planned(kept)?;
+        if planned.does_nothing() {
+            return self.finish(seat, kept, namespace);
+        }
+        let _reply = self
+            .shared
+            .submit(self.rt, self.alloc, seat, self.number, namespace, planned)?;
+        self.pass(Point::Queued)
+    }
+
+    /// Waits for the plan to be applied, unless the applier has ended.
+    fn await_applied(&self, seen: Moment) -> Result<(), Halt> {
+        if seen.applier_left {
+            return Err(Halt::Ends);
+        }
+        self.shared.wait_past(self.rt, seen);
+        Ok(())
+    }
+
+    /// Makes the step that the worker's phase asks for.
+    fn work(
+        &self,
+        seat: &mut Seat<L>,
+        kept: &mut Kept,
+        busy: &Busy,
+        seen: Moment,
+    ) -> Result<(), Halt>
+        ensures { Grows (IsOfWorker self.now.number) seat.old seat.new }
+    {
+        let namespace = &busy.namespace;
+        match busy.phase {
+            Phase::Took => self.look(seat, kept, namespace),
+            Phase::Snapped => self.place(seat, kept, namespace),
+            Phase::Submitted => self.await_applied(seen),
+            Phase::Applied => self.finish(seat, kept, namespace),
+            Phase::Dropped if busy.tries == 0 => self.finish(seat, kept, namespace),
+            Phase::Dropped => self.look(seat, kept, namespace),
+        }
+    }
+
+    /// Makes the step that is due, or waits. The count of changes is taken before it looks, so no change is missed.
+    pub fn turn(&self, seat: &mut Seat<L>, kept: &mut Kept) -> Result<(), Halt>
+        ensures { Grows (IsOfWorker self.now.number) seat.old seat.new }
+    {
+        let seen = self.shared.now(self.rt);
+        match self.shared.busy(self.rt, self.number)? {
+            Some(busy) => self.work(seat, kept, &busy, seen),
+            None => self.take(seat, seen),
+        }
+    }
+
+    /// Gives the worker's evaluation back, if it has one.
+    pub fn give_back(&self, seat: &mut Seat<L>, kept: &mut Kept) -> Result<(), Halt>
+        ensures { Grows (IsOfWorker self.now.number) seat.old seat.new }
+    {
+        let Some(busy) = self.shared.busy(self.rt, self.number)? else {
+            return Ok(());
+        };
+        let namespace = &busy.namespace;
+        let _reply = self
+            .shared
+            .nack(self.rt, self.alloc, seat, self.number, namespace)?;
+        *kept = Kept::Nothing;
+        Ok(())
+    }
+}

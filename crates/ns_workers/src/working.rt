@@ -1,0 +1,97 @@
+//! Workers.
+
+ghost use Rattle.ns_workers.specs.Growing.{Grows, IsOfWorker};
+
+use crate::gate::Gate;
+use crate::halt::Halt;
+use crate::pausing::pause;
+use crate::turn::Post;
+use ns_drive::Kept;
+use ns_shared::{Role, Seat, Shared};
+use std::alloc::Global;
+use std::rt::Clock;
+use std::sync::Wait;
+use std::sync::ledger::Ledger;
+
+/// Gives the evaluation back, and pauses. Whether the worker goes on: not where a counter or the log is full.
+fn goes_on_later<L: Ledger, G: Gate, R: Wait + Clock>(
+    post: &Post<'_, L, G, R>,
+    seat: &mut Seat<L>,
+    kept: &mut Kept,
+) -> bool
+    ensures { Grows (IsOfWorker post.now.number) seat.old seat.new }
+{
+    if post.give_back(seat, kept) == Err(Halt::Ends) {
+        return false;
+    }
+    pause(post.rt);
+    true
+}
+
+/// Whether the worker goes on, after it gave its evaluation back where that is due.
+fn goes_on<L: Ledger, G: Gate, R: Wait + Clock>(
+    post: &Post<'_, L, G, R>,
+    seat: &mut Seat<L>,
+    kept: &mut Kept,
+    halt: Halt,
+) -> bool
+    ensures { Grows (IsOfWorker post.now.number) seat.old seat.new }
+{
+    match halt {
+        Halt::Late => true,
+        Halt::Memory => goes_on_later(post, seat, kept),
+        Halt::Leaves => {
+            // What may not be given back stays with the worker.
+            let _ = post.give_back(seat, kept);
+            false
+        }
+        Halt::Ends => false,
+    }
+}
+
+/// A turn. Whether the worker goes on.
+fn step<L: Ledger, G: Gate, R: Wait + Clock>(
+    post: &Post<'_, L, G, R>,
+    seat: &mut Seat<L>,
+    kept: &mut Kept,
+) -> bool
+    ensures { Grows (IsOfWorker post.now.number) seat.old seat.new }
+{
+    match post.turn(seat, kept) {
+        Ok(()) => true,
+        Err(halt) => goes_on(post, seat, kept, halt),
+    }
+}
+
+/// Takes what is ready, plans it with no lock held, and finishes it once its plan was applied. For want of memory it gives
+/// its evaluation back, and pauses before it tries again. It ends where a counter or the log is full, where the gate lets
+/// it go no further, where its plan waits and the applier has ended, and where it is idle once the server is closed.
+///
+/// Each worker has a number of its own, below 64: one with another number ends at once. One that enters once the server is
+/// closed takes nothing, so none need have entered before the applier may end.
+pub fn worker<L: Ledger, G: Gate, R: Wait + Clock>(
+    rt: &R,
+    alloc: Global,
+    shared: &Shared<L>,
+    gate: &G,
+    number: u64,
+    seat: &mut Seat<L>,
+)
+    ensures { Grows (IsOfWorker number) seat.old seat.new }
+{
+    let post = Post {
+        rt,
+        alloc,
+        shared,
+        gate,
+        number,
+    };
+    let mut kept = Kept::Nothing;
+    shared.enter(rt, Role::Worker);
+    for _ in rt.forever() {
+        if !step(&post, seat, &mut kept) {
+            break;
+        }
+    }
+    shared.leave(rt, Role::Worker);
+}
