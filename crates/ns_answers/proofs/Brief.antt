@@ -1,5 +1,5 @@
 -- Bodies that show no rows.
-use Rattle.std.proofs.Common.{◌≡◌, ℕ, ◌<◌, ◌≤◌, List, [], Option, Some, None, Ok, Err, true, is_some, refl, sym, ◌∙◌, arith}
+use Rattle.std.proofs.Common.{◌≡◌, ℕ, ◌<◌, ◌≤◌, List, [], ◌++◌, length, Option, Some, None, Ok, Err, true, false, is_some, refl, sym, ap, ◌∙◌, arith}
 use Rattle.std.specs.Prelude.{IsSomeAnd}
 use Rattle.std.specs.declared.alloc.AllocError.{AllocError}
 use Rattle.json.specs.Print.{print}
@@ -13,6 +13,7 @@ use Rattle.ns_json.specs.Replies.{body_of}
 use Rattle.ns_replies.proofs.Written.{text_written}
 use Rattle.ns_answers.specs.Bodies.{IsBrief, WritesBody, body_bytes, body_json}
 use Rattle.ns_answers.specs.Rooms.{HasRoom, Room}
+use Rattle.ns_answers.proofs.Writing.{length-print_from-le}
 
 pub some_then : {A B : Type 0} {P : A → Type 0} (o : Option A) → IsSomeAnd o P → ((x : A) → P x → B) → B
 some_then None h f = absurd h
@@ -45,6 +46,14 @@ pub text_of_body : (content : Content) (u : Unit {0}) (old new : Written) (items
 text_of_body content u old new items brief h none is =
     let written : Follows old new (tokens_of (body_json content)) = some_then (body_bytes content) h (λ n w. w.follows) in
     text_written old new (body_json content) items written none is ∙ sym (body_is content brief)
+
+-- and has no more bytes than that
+pub body_fits : (content : Content) (u : Unit {0}) (old new : Written) (items : List ℕ) → WritesBody {E = AllocError} content (Ok u) old new →
+    old.tokens ≡ [] → items ≡ print new.tokens → IsSomeAnd (body_bytes content) (λ n. length items ≤ n)
+body_fits content u old new items h none is =
+    some_map (body_bytes content) h (λ n w.
+    let all : new.tokens ≡ tokens_of (body_json content) = w.follows.tokens ∙ ap (λ ts. ts ++ tokens_of (body_json content)) none in
+    omega (arith, ap length (is ∙ ap print all), length-print_from-le false (tokens_of (body_json content)), w.fits))
 
 -- where it was not written, the room was less
 pub no_room : (content : Content) (e : AllocError) (old new : Written) (capacity : ℕ) → old.spare ≡ capacity → WritesBody content (Err e) old new →

@@ -1,5 +1,5 @@
 -- What parts of a body take, and what writing them one after the other leaves.
-use Rattle.std.proofs.Common.{◌≡◌, ℕ, ◌+◌, ◌*◌, ◌<◌, ◌≤◌, ◌^◌, List, [], ◌∷◌, ◌++◌, length, get_or, take, drop}
+use Rattle.std.proofs.Common.{◌≡◌, ℕ, ◌+◌, ◌*◌, ◌<◌, ◌≤◌, ◌^◌, Bool, true, false, cond, ◌&&◌, List, [], ◌∷◌, ◌++◌, length, get_or, take, drop}
 use Rattle.std.proofs.Common.{Result, Ok, Err, refl, sym, ap, subst, ◌∙◌, arith, codes, decimal, length-append}
 use Rattle.std.specs.declared.alloc.AllocError.{AllocError}
 use Rattle.std.specs.List.{flat_map}
@@ -8,7 +8,7 @@ use Rattle.std.specs.Prelude.{Option, None, Some, sum_by}
 use Rattle.std.proofs.lemmas.List.{append-nil, take_more, take-append-drop}
 use Rattle.std.proofs.lemmas.List.Concat.{flat_map-cons, flat_map-append}
 use Rattle.std.proofs.lemmas.List.Sums.{sum_by-cons}
-use Rattle.json.specs.Print.{escape, escape_byte, quoted}
+use Rattle.json.specs.Print.{begins, ends, escape, escape_byte, print_from, quoted, separator, token_text}
 use Rattle.json.specs.Token.{Token, begin_object, end_object, begin_array, end_array, key, string, number}
 use Rattle.json.specs.Tree.{room}
 use Rattle.json.specs.Written.{Written}
@@ -30,17 +30,21 @@ use Rattle.ns_answers.specs.Bodies.{WritesIn, id_tokens, text_bytes, text_tokens
 module _ {E : Type 0} (n : ℕ) where
   -- a single write
   pub writes_in : (r : Result (Unit {0}) E) (a b : Written) (ts us : List Token) → ts ≡ us → room ts ≤ n → Adds r a b ts → WritesIn n r a b us
-  writes_in (Ok u) a b ts us e small h = record { follows = record { tokens = h.ok ∙ ap (λ x. a.tokens ++ x) e; before = h.before }; room = tt }
-  writes_in (Err x) a b ts us e small h = record { follows = tt; room = omega (arith, h.room, small) }
+  writes_in (Ok u) a b ts us e small h = record {
+    follows = record { tokens = h.ok ∙ ap (λ x. a.tokens ++ x) e; before = h.before };
+    fits = subst (λ x. room x ≤ n) e small;
+    room = tt;
+  }
+  writes_in (Err x) a b ts us e small h = record { follows = tt; fits = tt; room = omega (arith, h.room, small) }
 
   -- the first of several writes fails
   pub writes_none : (e : E) (a b : Written) (ts all : List Token) → room ts ≤ n → Adds (Err e) a b ts → WritesIn n (Err e) a b all
-  writes_none e a b ts all small h = record { follows = tt; room = omega (arith, h.room, small) }
+  writes_none e a b ts all small h = record { follows = tt; fits = tt; room = omega (arith, h.room, small) }
 
 -- a write that fails after others
 pub writes_no_more : (n : ℕ) (e : AllocError) (a b c : Written) (ts us all : List Token) → room ts + room us ≤ n → Adds added a b ts → Adds (Err e) b c us →
     WritesIn n (Err e) a c all
-writes_no_more n e a b c ts us all small first second = record { follows = tt; room = omega (arith, small, first.room, second.room) }
+writes_no_more n e a b c ts us all small first second = record { follows = tt; fits = tt; room = omega (arith, small, first.room, second.room) }
 
 -- the last of several writes
 pub writes_last : {r : Result (Unit {0}) AllocError} (n : ℕ) (a b c : Written) (ts us all : List Token) → ts ++ us ≡ all → room ts + room us ≤ n →
@@ -80,6 +84,27 @@ module _ {X : Type 0} (f : X → List Token) where
   pub adds_no_item_at : (e : AllocError) (a b c : Written) (xs : List X) (i : ℕ) (x : X) → i < length xs → x ≡ get_or xs i x →
       Adds added a b (flat_map f (take i xs)) → Adds (Err e) b c (f x) → Adds (Err e) a c (flat_map f xs)
   adds_no_item_at e a b c xs i x lt is first second = adds_no_item e a b c xs i x lt first (subst (λ y. Adds (Err e) b c (f y)) is second)
+
+-- ---- tokens take their room at most
+
+length-separator-le : (after : Bool) (t : Token) → length (separator after t) ≤ 1
+length-separator-le after t = by (after && begins t)
+  where
+    by : (b : Bool) → length {A = ℕ} (cond b (44 ∷ []) []) ≤ 1
+    by true = omega arith
+    by false = omega arith
+
+pub length-print_from-le : (after : Bool) (ts : List Token) → length (print_from after ts) ≤ room ts
+unfolding print_from
+length-print_from-le after [] = omega arith
+length-print_from-le after (t ∷ ts) =
+    omega (
+      arith,
+      length-append (separator after t) (token_text t ++ print_from (ends t) ts),
+      length-append (token_text t) (print_from (ends t) ts),
+      length-separator-le after t,
+      length-print_from-le (ends t) ts,
+    )
 
 -- ---- the room of an id and of a status
 

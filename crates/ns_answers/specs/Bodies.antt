@@ -1,8 +1,9 @@
 -- The bodies of answers that show no rows, and the bytes in which they are written.
-use Rattle.std.specs.Prelude.{ℕ, ◌+◌, ◌*◌, ◌<◌, List, [], ◌∷◌, Option, Some, None, IsSome, IsSomeAnd, Result}
+use Rattle.std.specs.Prelude.{ℕ, ◌+◌, ◌*◌, ◌<◌, ◌≤◌, List, [], ◌∷◌, Option, Some, None, IsSome, IsSomeAnd, Result}
 use Rattle.std.specs.Prelude.{OnOk, OnErr, codes, flat_map, length, sum_by}
 use Rattle.json.specs.Print.{quoted}
 use Rattle.json.specs.Token.{Token}
+use Rattle.json.specs.Tree.{room}
 use Rattle.json.specs.Written.{Written}
 use Rattle.serde_json.specs.Data.{Data, string}
 use Rattle.ns_types.specs.declared.evaluation.Status.{Status}
@@ -85,10 +86,11 @@ text_tokens texts = flat_map (λ text. Token.string text ∷ []) texts
 abbrev pub IsBrief : Content → Type 0
 IsBrief content = IsSome (body_bytes content)
 
--- The tokens come after those before. It fails only where there was less room than so many bytes.
+-- The tokens come after those before, and take no more than so many bytes. It fails only where there was less room.
 pub record WritesIn {E : Type 0} (bytes : ℕ) (r : Result (Unit {0}) E) (old new : Written)
     (ts : List Token) : Type 0 where
   pub follows : OnOk r (Follows old new ts)
+  pub fits : OnOk r (room ts ≤ bytes)
   pub room : OnErr r (old.spare < bytes)
 
 -- the same of the body of a content that shows no rows

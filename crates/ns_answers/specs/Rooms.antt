@@ -1,6 +1,6 @@
 -- The room for the answer of a step, which is taken before the step.
-use Rattle.std.specs.Prelude.{◌≡◌, ℕ, ◌+◌, ◌≤◌, Option, Some, None, IsSomeAnd, sum_by}
-use Rattle.std.specs.Option.{option_and_then}
+use Rattle.std.specs.Prelude.{◌≡◌, ℕ, ◌+◌, ◌≤◌, max, Option, Some, None, IsSomeAnd, length, sum_by}
+use Rattle.std.specs.Option.{option_and_then, option_map_or}
 use Rattle.ns_types.specs.declared.plan.Placement.{Placement}
 use Rattle.ns_types.specs.declared.reply.Content.{Content}
 use Rattle.ns_types.specs.declared.snapshot.Snapshot.{Snapshot}
@@ -31,6 +31,14 @@ refusal_bytes = 32
 abbrev pub HasRoom : Room → Content → Type 0
 HasRoom room (Content.Token token) = room.token ≡ Some (body_of (Content.Token token))
 HasRoom room content = IsSomeAnd (body_bytes content) (λ bytes. bytes ≤ room.bytes)
+
+-- no answer that is written in it has more bytes
+abbrev pub answer_bytes : Room → ℕ
+answer_bytes room = max room.bytes (option_map_or length room.token 0)
+
+-- in which such an answer is copied
+abbrev pub copy_room : Room → Room
+copy_room room = record { bytes = answer_bytes room; token = None }
 
 -- ---- what a step needs
 

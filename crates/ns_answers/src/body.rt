@@ -238,6 +238,8 @@ pub(crate) fn body_text(bytes: Vec<u8>, content: &Content) -> Result<String, All
     requires brief { IsBrief content.now }
     requires empty { bytes.items ≡ [] }
     ensures text { IfOk result (λ text. string_bytes text ≡ body_of content.now) }
+    ensures fits { IfOk result
+        (λ text. IsSomeAnd (body_bytes content.now) (λ n. length (string_bytes text) ≤ n)) }
     ensures room { OnErr result (IsSomeAnd (body_bytes content.now) (λ n. vec_capacity bytes < n)) }
 {
     let mut out = Writer::new(bytes);

@@ -1,9 +1,9 @@
 //! Room for the answer of a step, which is taken before the step.
 
-ghost use Rattle.std.specs.Prelude.{◌≡◌, IfOk, Ok, option_copied, option_map, string_bytes};
+ghost use Rattle.std.specs.Prelude.{◌≡◌, ◌≤◌, IfOk, Ok, length, option_copied, option_map, string_bytes};
 ghost use Rattle.ns_types.specs.Wire.Refused.{refused};
 ghost use Rattle.ns_json.specs.Replies.{rendered};
-ghost use Rattle.ns_answers.specs.Rooms.{HasRoom, room_of, token_body};
+ghost use Rattle.ns_answers.specs.Rooms.{HasRoom, answer_bytes, copy_room, room_of, token_body};
 
 use crate::body::body_text;
 use crate::rendering::done;
@@ -72,11 +72,25 @@ impl Room {
         Ok(Room { text, token })
     }
 
+    /// Room for a copy of an answer that this one has room for.
+    pub fn for_copy(&self, alloc: Global) -> Result<Room, AllocError>
+        ensures { IfOk result (λ copy. copy ≡ copy_room self.now) }
+    {
+        let text_bytes = self.text.capacity();
+        let bytes = match &self.token {
+            Some(body) => text_bytes.max(body.len()),
+            None => text_bytes,
+        };
+        let text = String::with_capacity(alloc, bytes)?;
+        Ok(Room { text, token: None })
+    }
+
     /// What the step was answered. It takes no memory.
     #[tactic(auto, unfolding(ns_json::specs::Replies::rendered))]
     pub fn render(self, reply: &Reply) -> Rendered
         requires { HasRoom self reply.now.content }
-        ensures { result ≡ rendered (Ok reply.now) }
+        ensures shown { result ≡ rendered (Ok reply.now) }
+        ensures fits { length result.body ≤ answer_bytes self }
     {
         let Room { text, token } = self;
         match &reply.content {
@@ -95,7 +109,8 @@ impl Room {
 
     /// What the step was answered where it was refused. It takes no memory.
     pub fn refuse(self, refusal: Refusal) -> Rendered
-        ensures { result ≡ refused refusal }
+        ensures shown { result ≡ refused refusal }
+        ensures fits { length result.body ≤ answer_bytes self }
     {
         let Room { mut text, token } = self;
         drop(token);
@@ -104,6 +119,22 @@ impl Room {
         Rendered {
             status: refusal.status(),
             index: None,
+            body: Text::from_string(text),
+        }
+    }
+
+    /// A copy of an answer. It takes no memory.
+    pub fn repeat(self, shown: &Rendered) -> Rendered
+        requires { length shown.now.body ≤ self.bytes }
+        ensures { result ≡ shown.now }
+    {
+        let Room { mut text, token } = self;
+        drop(token);
+        let pushed = text.push_str(shown.body.as_str());
+        prove!(pushed.is_ok());
+        Rendered {
+            status: shown.status,
+            index: shown.index,
             body: Text::from_string(text),
         }
     }

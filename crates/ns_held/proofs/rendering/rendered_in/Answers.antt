@@ -3,4 +3,4 @@ use Rattle.ns_held.proofs.Given.{rendered_refusal}
 use Rattle.ns_held.proofs.rendering.rendered_in.Goals as goal
 
 pub returns-in-Err : goal.returns-in-Err
-returns-in-Err c = rendered_refusal c.args.answer.now c.in-Err.refusal c.refuse.result c.in-Err.is (sym c.if-is_of_steps.ensures) c.refuse.ensures
+returns-in-Err c = rendered_refusal c.args.answer.now c.in-Err.refusal c.refuse.result c.in-Err.is (sym c.if-is_of_steps.ensures) c.refuse.ensures.shown
