@@ -14,6 +14,6 @@ mod token;
 pub use endpoint::Endpoint;
 pub use finding::Target;
 pub use method::Method;
-pub use query::Query;
+pub use query::{Query, number_of};
 pub use routes::Routes;
 pub use token::secret;

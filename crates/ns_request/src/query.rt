@@ -126,8 +126,8 @@ fn has_digits_alone(text: &str) -> bool
     text.as_bytes().iter().all(|b| b.is_ascii_digit())
 }
 
-/// The number that the text is, where it is one. A sign makes it none, which `parse` would let pass.
-fn number_of(text: &str) -> Option<u64>
+/// The number that the text is in decimal digits, below 2^64. A sign makes it none, which `parse` would let pass.
+pub fn number_of(text: &str) -> Option<u64>
     ensures { result ≡ (if is_number text.now then Some (digits_value 10 text.now) else None) }
 {
     if !has_digits_alone(text) {
