@@ -4,13 +4,13 @@ ghost use Rattle.std.specs.Prelude.{◌≡◌, ◌<◌, IfErr, IfOk, None, OnErr
 ghost use Rattle.ns_types.specs.declared.refusal.Refusal.TheVariants as Refusal;
 ghost use Rattle.ns_steps.specs.Served.{IsServed};
 ghost use Rattle.ns_answers.specs.Laws.{may_change};
-ghost use Rattle.ns_answers.specs.Rooms.{room_of};
+ghost use Rattle.ns_answers.specs.Rooms.{HasRoom, copy_room, room_of};
 ghost use Rattle.ns_held.specs.Noting.{is_answer, noted};
 ghost use Rattle.ns_held.specs.Rendered.{IsGiven, LogsRendered};
 
 use crate::held::Held;
-use crate::noting::{begin, note, with_room};
-use crate::rendering::{given_again, given_in, rendered_anew};
+use crate::noting::{begin, with_room};
+use crate::rendering::{given_again, rendered_anew, rendered_in, response};
 use ns_answers::{Room, may_change};
 use ns_log::Entry;
 use ns_types::refusal::Refusal;
@@ -18,25 +18,25 @@ use ns_types::reply::{Rendered, Reply, Response};
 use ns_types::step::Step;
 use std::alloc::Global;
 
-/// Room for the answer of a step that a request asks for, in the log, for a receipt and as the response.
+/// Room for the answer of a step that a request asks for: in the log, and for its copies, a receipt's and the response's.
 #[derive(Drop)]
 struct Rooms {
     entry: Room,
     receipt: Room,
     response: Room,
+    ghost receipt_is: { receipt ≡ copy_room entry },
+    ghost response_is: { response ≡ copy_room entry },
 }
 
 /// The step, with rooms for its answer.
 fn with_rooms(alloc: Global, step: Step) -> Result<(Step, Rooms), Refusal>
     ensures step { IfOk result (λ made. made.0 ≡ step) }
     ensures entry { IfOk result (λ made. made.1.entry ≡ room_of step None) }
-    ensures receipt { IfOk result (λ made. made.1.receipt ≡ room_of step None) }
-    ensures response { IfOk result (λ made. made.1.response ≡ room_of step None) }
     ensures memory { IfErr result (λ refusal. refusal ≡ Refusal.Memory) }
 {
     let (step, entry) = with_room(alloc, step, None)?;
-    let (step, receipt) = with_room(alloc, step, None)?;
-    let (step, response) = with_room(alloc, step, None)?;
+    let receipt = entry.for_copy(alloc)?;
+    let response = entry.for_copy(alloc)?;
     Ok((
         step,
         Rooms {
@@ -45,6 +45,42 @@ fn with_rooms(alloc: Global, step: Step) -> Result<(Step, Rooms), Refusal>
             response,
         },
     ))
+}
+
+/// Adds the step with its answer, and hands the answer out, if it is the answer of a step. It takes no memory.
+fn note_given(
+    log: &mut Vec<Entry>,
+    step: Step,
+    rooms: Rooms,
+    answer: &Result<Reply, Refusal>,
+) -> Result<(Rendered, Response), Refusal>
+    requires place { vec_len log.old < vec_capacity log.old }
+    requires room { IfOk answer.now (λ reply. HasRoom rooms.entry reply.content) }
+    ensures answer { OnOk result (is_answer answer.now ≡ true) }
+    ensures given { IfOk result (λ given. IsGiven answer.now given) }
+    ensures none { OnErr result (is_answer answer.now ≡ false) }
+    ensures noted { log.new.items ≡ noted step answer.now log.old.items }
+    ensures memory { IfErr result (λ refusal. refusal ≡ Refusal.Memory) }
+{
+    let Rooms {
+        entry,
+        receipt,
+        response: again,
+    } = rooms;
+    match rendered_in(entry, answer) {
+        Some(shown) => {
+            let receipt = receipt.repeat(&shown);
+            let again = again.repeat(&shown);
+            log.push_reserved(Entry::new(step, shown));
+            Ok((receipt, response(answer, again)))
+        }
+        None => {
+            drop(step);
+            drop(receipt);
+            drop(again);
+            Err(Refusal::Memory)
+        }
+    }
 }
 
 /// Adds the step with its answer in new memory, and hands the answer out, if it is the answer of a step.
@@ -85,14 +121,8 @@ impl Held {
             return Err(refusal);
         }
         let (step, rooms) = with_rooms(alloc, step)?;
-        let Rooms {
-            entry,
-            receipt,
-            response,
-        } = rooms;
         let answer = core.take(&step);
-        note(log, step, entry, &answer);
-        let given = given_in(receipt, response, &answer);
+        let given = note_given(log, step, rooms, &answer);
         drop(answer);
         given
     }

@@ -1,10 +1,9 @@
 //! Answers of steps as bytes, for those who are answered.
 
-ghost use Rattle.std.specs.Prelude.{◌≡◌, IfErr, IfOk, OnErr, OnOk, false, true};
-ghost use Rattle.ns_types.specs.declared.refusal.Refusal.TheVariants as Refusal;
+ghost use Rattle.std.specs.Prelude.{◌≡◌, ◌≤◌, IfOk, IfSome, OnOk, length, true};
 ghost use Rattle.ns_types.specs.Wire.Responses.{rendered_of};
 ghost use Rattle.ns_json.specs.Replies.{rendered};
-ghost use Rattle.ns_answers.specs.Rooms.{HasRoom};
+ghost use Rattle.ns_answers.specs.Rooms.{HasRoom, answer_bytes};
 ghost use Rattle.ns_held.specs.Noting.{is_answer};
 ghost use Rattle.ns_held.specs.Rendered.{IsGiven, rendered_step};
 
@@ -18,7 +17,8 @@ use std::alloc::{AllocError, Global};
 /// The answer in the room that was taken for it, if it is the answer of a step. It takes no memory.
 pub fn rendered_in(room: Room, answer: &Result<Reply, Refusal>) -> Option<Rendered>
     requires { IfOk answer.now (λ reply. HasRoom room reply.content) }
-    ensures { result ≡ rendered_step answer.now }
+    ensures shown { result ≡ rendered_step answer.now }
+    ensures fits { IfSome result (λ shown. length shown.body ≤ answer_bytes room) }
 {
     match answer {
         Ok(reply) => Some(room.render(reply)),
@@ -46,7 +46,7 @@ pub(crate) fn rendered_anew(
 }
 
 /// The answer as the response, of these bytes.
-fn response(answer: &Result<Reply, Refusal>, shown: Rendered) -> Response
+pub(crate) fn response(answer: &Result<Reply, Refusal>, shown: Rendered) -> Response
     requires { shown ≡ rendered answer.now }
     ensures { rendered_of result ≡ rendered answer.now }
 {
@@ -58,38 +58,6 @@ fn response(answer: &Result<Reply, Refusal>, shown: Rendered) -> Response
         Err(refusal) => {
             drop(shown);
             Response::Refused(*refusal)
-        }
-    }
-}
-
-/// The answer for a receipt and as the response, in the rooms that were taken for them. What is no answer of a step fails
-/// as want of memory does.
-pub(crate) fn given_in(
-    for_receipt: Room,
-    for_response: Room,
-    answer: &Result<Reply, Refusal>,
-) -> Result<(Rendered, Response), Refusal>
-    requires receipt { IfOk answer.now (λ reply. HasRoom for_receipt reply.content) }
-    requires response { IfOk answer.now (λ reply. HasRoom for_response reply.content) }
-    ensures answer { OnOk result (is_answer answer.now ≡ true) }
-    ensures given { IfOk result (λ given. IsGiven answer.now given) }
-    ensures none { OnErr result (is_answer answer.now ≡ false) }
-    ensures memory { IfErr result (λ refusal. refusal ≡ Refusal.Memory) }
-{
-    match answer {
-        Ok(reply) => {
-            let receipt = for_receipt.render(reply);
-            let shown = for_response.render(reply);
-            Ok((receipt, response(answer, shown)))
-        }
-        Err(refusal) if is_of_steps(*refusal) => {
-            drop(for_response);
-            Ok((for_receipt.refuse(*refusal), Response::Refused(*refusal)))
-        }
-        Err(_) => {
-            drop(for_receipt);
-            drop(for_response);
-            Err(Refusal::Memory)
         }
     }
 }

@@ -7,34 +7,22 @@ use Rattle.ns_held.proofs.Logged.{call_keeps, history}
 use Rattle.ns_held.proofs.Rooms.{enough_made, row_none}
 use Rattle.ns_held.proofs.held.Held.write_rendered.Goals as goal
 
-pub note-requires-clause-room : goal.note-requires-clause-room
-note-requires-clause-room c = enough_made c.args.step c.self.inside.core c.take-answer.result c.take-answer.new.self c.in_ok-step.rooms.entry
+pub note_given-given-requires-clause-room : goal.note_given-given-requires-clause-room
+note_given-given-requires-clause-room c = enough_made c.args.step c.self.inside.core c.take-answer.result c.take-answer.new.self c.in_ok-step.rooms.entry
     c.requires.writes
     (c.in_ok-step.ensures.entry ∙ ap (room_of c.args.step) (sym (row_none c.args.step c.self.inside.core.world c.requires.served)))
     (subst (λ step. Makes step c.self.inside.core c.take-answer.result c.take-answer.new.self) c.in_ok-step.ensures.step c.take-answer.ensures)
 
-pub given_in-given-requires-clause-receipt : goal.given_in-given-requires-clause-receipt
-given_in-given-requires-clause-receipt c = enough_made c.args.step c.self.inside.core c.take-answer.result c.take-answer.new.self
-    c.in_ok-step.rooms.receipt c.requires.writes
-    (c.in_ok-step.ensures.receipt ∙ ap (room_of c.args.step) (sym (row_none c.args.step c.self.inside.core.world c.requires.served)))
-    (subst (λ step. Makes step c.self.inside.core c.take-answer.result c.take-answer.new.self) c.in_ok-step.ensures.step c.take-answer.ensures)
-
-pub given_in-given-requires-clause-response : goal.given_in-given-requires-clause-response
-given_in-given-requires-clause-response c = enough_made c.args.step c.self.inside.core c.take-answer.result c.take-answer.new.self
-    c.in_ok-step.rooms.response c.requires.writes
-    (c.in_ok-step.ensures.response ∙ ap (room_of c.args.step) (sym (row_none c.args.step c.self.inside.core.world c.requires.served)))
-    (subst (λ step. Makes step c.self.inside.core c.take-answer.result c.take-answer.new.self) c.in_ok-step.ensures.step c.take-answer.ensures)
-
 pub invariant_of-self-2 : goal.invariant_of-self-2
-invariant_of-self-2 c = call_keeps c.self.inside.base.value c.self.inside.limit c.self.inside.log.items c.note.new.log.items c.self.inside.core
+invariant_of-self-2 c = call_keeps c.self.inside.base.value c.self.inside.limit c.self.inside.log.items c.note_given-given.new.log.items c.self.inside.core
     c.args.step c.in_ok-step.step c.take-answer.result c.take-answer.new.self c.self.invariant.0 c.in_default.ensures.begins
     (subst (λ step. Makes step c.self.inside.core c.take-answer.result c.take-answer.new.self) c.in_ok-step.ensures.step c.take-answer.ensures)
-    c.in_ok-step.ensures.step (c.note.ensures ∙ ap (noted c.in_ok-step.step c.take-answer.result) c.in_default.ensures.same)
+    c.in_ok-step.ensures.step (c.note_given-given.ensures.noted ∙ ap (noted c.in_ok-step.step c.take-answer.result) c.in_default.ensures.same)
 
 pub returns : goal.returns
 returns c = call_gives (history c.self.inside.base.value c.self.inside.log.items c.self.inside.core c.self.inside.limit) c.args.self.now
-    c.note.new.log.items c.args.step c.in_ok-step.step c.take-answer.result c.take-answer.new.self c.given_in-given.result (sym c.self.view_is)
+    c.note_given-given.new.log.items c.args.step c.in_ok-step.step c.take-answer.result c.take-answer.new.self c.note_given-given.result (sym c.self.view_is)
     c.in_default.ensures.begins
     (subst (λ step. Makes step c.self.inside.core c.take-answer.result c.take-answer.new.self) c.in_ok-step.ensures.step c.take-answer.ensures)
-    c.in_ok-step.ensures.step (c.note.ensures ∙ ap (noted c.in_ok-step.step c.take-answer.result) c.in_default.ensures.same)
-    c.given_in-given.ensures.answer c.given_in-given.ensures.given c.given_in-given.ensures.none c.given_in-given.ensures.memory
+    c.in_ok-step.ensures.step (c.note_given-given.ensures.noted ∙ ap (noted c.in_ok-step.step c.take-answer.result) c.in_default.ensures.same)
+    c.note_given-given.ensures.answer c.note_given-given.ensures.given c.note_given-given.ensures.none c.note_given-given.ensures.memory
