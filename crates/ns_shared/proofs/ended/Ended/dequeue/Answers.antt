@@ -6,16 +6,19 @@ use Rattle.ns_shared.proofs.Adding.{adds_count, adds_room}
 use Rattle.ns_shared.proofs.ended.Ended.dequeue.Goals as goal
 
 pub rendered_in-rendered-requires : goal.rendered_in-rendered-requires
-rendered_in-rendered-requires g c = adds_room (Step.Dequeue c.args.worker c.args.namespace.now c.args.evaluation) c.args.self.now.held c.dequeue-answer.result c.dequeue-answer.new.self c.in_ok-step.room refl
+rendered_in-rendered-requires g c = adds_room (Step.Dequeue c.args.worker c.args.namespace.now c.args.evaluation) c.args.self.now.held
+    c.dequeue-answer.result c.dequeue-answer.new.self c.in_ok-step.room refl
     (ap (λ m. m.1) c.in_ok-step.ensures.made)
-    (logs_adds (Step.Dequeue c.args.worker c.args.namespace.now c.args.evaluation) c.args.self.now.held c.dequeue-answer.result c.dequeue-answer.new.self c.dequeue-answer.ensures)
+    (logs_adds (Step.Dequeue c.args.worker c.args.namespace.now c.args.evaluation) c.args.self.now.held c.dequeue-answer.result
+    c.dequeue-answer.new.self c.dequeue-answer.ensures)
 
 pub invariant_of-self-2-clause-counted : goal.invariant_of-self-2-clause-counted
 invariant_of-self-2-clause-counted g c = omega (
   arith,
   c.args.self.now.counted,
   c.receive.ensures.total,
-  ap count c.rendered_in-rendered.ensures,
+  ap count c.rendered_in-rendered.ensures.shown,
   adds_count (Step.Dequeue c.args.worker c.args.namespace.now c.args.evaluation) c.args.self.now.held c.dequeue-answer.result c.dequeue-answer.new.self
-      (logs_adds (Step.Dequeue c.args.worker c.args.namespace.now c.args.evaluation) c.args.self.now.held c.dequeue-answer.result c.dequeue-answer.new.self c.dequeue-answer.ensures),
+      (logs_adds (Step.Dequeue c.args.worker c.args.namespace.now c.args.evaluation) c.args.self.now.held c.dequeue-answer.result
+      c.dequeue-answer.new.self c.dequeue-answer.ensures),
 )

@@ -6,7 +6,8 @@ use Rattle.ns_shared.proofs.Adding.{adds_count, adds_room}
 use Rattle.ns_shared.proofs.ended.Ended.nack.Goals as goal
 
 pub rendered_in-rendered-requires : goal.rendered_in-rendered-requires
-rendered_in-rendered-requires g c = adds_room (Step.Nack c.args.worker c.args.namespace.now) c.args.self.now.held c.nack-answer.result c.nack-answer.new.self c.in_ok-step.room refl
+rendered_in-rendered-requires g c = adds_room (Step.Nack c.args.worker c.args.namespace.now) c.args.self.now.held c.nack-answer.result
+    c.nack-answer.new.self c.in_ok-step.room refl
     (ap (λ m. m.1) c.in_ok-step.ensures.made)
     (logs_adds (Step.Nack c.args.worker c.args.namespace.now) c.args.self.now.held c.nack-answer.result c.nack-answer.new.self c.nack-answer.ensures)
 
@@ -15,7 +16,7 @@ invariant_of-self-2-clause-counted g c = omega (
   arith,
   c.args.self.now.counted,
   c.receive.ensures.total,
-  ap count c.rendered_in-rendered.ensures,
+  ap count c.rendered_in-rendered.ensures.shown,
   adds_count (Step.Nack c.args.worker c.args.namespace.now) c.args.self.now.held c.nack-answer.result c.nack-answer.new.self
       (logs_adds (Step.Nack c.args.worker c.args.namespace.now) c.args.self.now.held c.nack-answer.result c.nack-answer.new.self c.nack-answer.ensures),
 )

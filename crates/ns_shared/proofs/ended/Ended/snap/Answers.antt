@@ -7,7 +7,8 @@ use Rattle.ns_shared.proofs.Adding.{adds_count, adds_room}
 use Rattle.ns_shared.proofs.ended.Ended.snap.Goals as goal
 
 pub rendered_snapped-rendered-requires : goal.rendered_snapped-rendered-requires
-rendered_snapped-rendered-requires g c = adds_room (Step.Snap c.args.worker c.args.namespace.now) c.args.self.now.held (snapped c.snap-seen.result) c.snap-seen.new.self c.in_ok-step.room refl
+rendered_snapped-rendered-requires g c = adds_room (Step.Snap c.args.worker c.args.namespace.now) c.args.self.now.held
+    (snapped c.snap-seen.result) c.snap-seen.new.self c.in_ok-step.room refl
     (ap (λ m. m.1) c.in_ok-step.ensures.made)
     (logs_adds (Step.Snap c.args.worker c.args.namespace.now) c.args.self.now.held (snapped c.snap-seen.result) c.snap-seen.new.self c.snap-seen.ensures.logged)
 
@@ -18,5 +19,6 @@ invariant_of-self-2-clause-counted g c = omega (
   c.receive.ensures.total,
   ap count c.rendered_snapped-rendered.ensures,
   adds_count (Step.Snap c.args.worker c.args.namespace.now) c.args.self.now.held (snapped c.snap-seen.result) c.snap-seen.new.self
-      (logs_adds (Step.Snap c.args.worker c.args.namespace.now) c.args.self.now.held (snapped c.snap-seen.result) c.snap-seen.new.self c.snap-seen.ensures.logged),
+      (logs_adds (Step.Snap c.args.worker c.args.namespace.now) c.args.self.now.held (snapped c.snap-seen.result) c.snap-seen.new.self
+      c.snap-seen.ensures.logged),
 )

@@ -6,7 +6,8 @@ use Rattle.ns_shared.proofs.Adding.{adds_count, adds_room}
 use Rattle.ns_shared.proofs.ended.Ended.submit.Goals as goal
 
 pub rendered_in-rendered-requires : goal.rendered_in-rendered-requires
-rendered_in-rendered-requires g c = adds_room (Step.Submit c.args.worker c.args.namespace.now) c.args.self.now.held c.submit-answer.result c.submit-answer.new.self c.in_ok-step.room refl
+rendered_in-rendered-requires g c = adds_room (Step.Submit c.args.worker c.args.namespace.now) c.args.self.now.held c.submit-answer.result
+    c.submit-answer.new.self c.in_ok-step.room refl
     (ap (λ m. m.1) c.in_ok-step.ensures.made)
     (submit_adds c.args.worker c.args.namespace.now c.args.planned c.args.self.now.held c.submit-answer.result c.submit-answer.new.self c.submit-answer.ensures)
 
@@ -15,7 +16,8 @@ invariant_of-self-2-clause-counted g c = omega (
   arith,
   c.args.self.now.counted,
   c.receive.ensures.total,
-  ap count c.rendered_in-rendered.ensures,
+  ap count c.rendered_in-rendered.ensures.shown,
   adds_count (Step.Submit c.args.worker c.args.namespace.now) c.args.self.now.held c.submit-answer.result c.submit-answer.new.self
-      (submit_adds c.args.worker c.args.namespace.now c.args.planned c.args.self.now.held c.submit-answer.result c.submit-answer.new.self c.submit-answer.ensures),
+      (submit_adds c.args.worker c.args.namespace.now c.args.planned c.args.self.now.held c.submit-answer.result c.submit-answer.new.self
+      c.submit-answer.ensures),
 )
