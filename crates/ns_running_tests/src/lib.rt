@@ -1,0 +1,13 @@
+//! Tests of the running server in one process: what callers write and read, and what their receipts say of the log.
+#![tactic(auto)]
+
+#[cfg(test)]
+mod ending;
+#[cfg(test)]
+mod filling;
+#[cfg(test)]
+mod guest;
+#[cfg(test)]
+mod reading;
+#[cfg(test)]
+mod server;

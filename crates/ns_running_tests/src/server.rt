@@ -1,0 +1,29 @@
+// A server that threads share, whose log is empty.
+ghost use Rattle.std.specs.Prelude.{◌≡◌};
+
+use ns_core::Core;
+use ns_held::Held;
+use ns_shared::Shared;
+use ns_types::name::Secret;
+use std::alloc::Global;
+use std::process::Abort;
+use std::sync::ledger::{Blank, Ledger};
+
+fn core(rt: &impl Abort, alloc: Global) -> Core {
+    let root = Secret::read(alloc, "root").expect(rt, "memory");
+    let root = root.expect(rt, "a secret");
+    Core::new(alloc, &root).expect(rt, "memory")
+}
+
+/// A new server, whose log takes so many entries.
+pub(crate) fn opened<L: Ledger, R: Abort>(
+    rt: &R,
+    alloc: Global,
+    limit: u64,
+    blank: Blank,
+) -> Shared<L>
+    requires name { blank.name ≡ L.name }
+    requires parts { (blank.parts ≡ L.parts) × (L.parts ≡ 18446744073709551615) }
+{
+    Shared::new(Held::new(alloc, core(rt, alloc), limit), blank)
+}
