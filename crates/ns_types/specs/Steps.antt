@@ -109,7 +109,7 @@ Makes step s (Err Refusal.Memory) s' = (is_made (after step s) ≡ true) × (s' 
 Makes step s (Err Refusal.NotEnabled) s' = (after step s ≡ None) × (s' ≡ s)
 Makes step s (Err refusal) s' = (after step s ≡ said (Err refusal) s) × (s' ≡ s)
 
--- Neither the headline nor the wire rests on `Makes` and `is_made`: this is the contract of the core.
+-- Neither the headline nor the wire rests on `Makes`: this is the contract of the core.
 
 -- ---- runs
 

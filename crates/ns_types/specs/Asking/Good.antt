@@ -1,4 +1,3 @@
--- Neither the headline nor the wire rests on this: it is the premise under which states stay valid.
 -- Commands whose names, members and lists are within the limits, as each is that a request asks for.
 use Rattle.std.specs.Prelude.{Bool, true, ◌&&◌, IsTrue}
 use Rattle.ns_types.specs.declared.name.NameKind.TheVariants as NameKind

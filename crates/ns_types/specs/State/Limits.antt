@@ -63,7 +63,6 @@ is_good_document d = is_between 1 100 d.priority && is_pool_name d.pool
     && is_between 1 16 (length d.groups) && list_all is_good_group d.groups
     && is_distinct same_name (map (λ g. g.name) d.groups)
 
--- Neither the headline nor the wire rests on this: it is for `Within`.
 -- a pool need not be named
 abbrev pub is_good_registration : Registration → Bool
 is_good_registration r = is_name NameKind.Job r.id && is_between 1 100 r.priority

@@ -28,6 +28,7 @@ same_resources a b = same_number a.cpu b.cpu && same_number a.memory b.memory
 abbrev pub total : {X : Type 0} → (X → Resources) → List X → Resources
 total size xs = record { cpu = sum_by (λ x. (size x).cpu) xs; memory = sum_by (λ x. (size x).memory) xs }
 
+-- Neither the headline nor the wire rests on this: it is for the code that counts.
 -- the amounts fit 64 bits: the program can count with them
 abbrev pub IsCounted : Resources → Type 0
 IsCounted r = (r.cpu < 2 ^ 64) × (r.memory < 2 ^ 64)

@@ -94,6 +94,7 @@ snap number ns w = at_work number ns w (snap_for number ns w)
 
 -- ---- Submit
 
+-- Neither the headline nor the wire rests on this and the next: the type of a worker's row keeps it.
 -- from Submit on a row has the plan of its snapshot, until it looks again
 abbrev pub planned_in : Phase → Option Snapshot → Option Snapshot
 planned_in Phase.Took kept = None
