@@ -1,5 +1,5 @@
 -- The room that was taken for a worker's step is enough for a copy of its entry's answer.
-use Rattle.std.proofs.Common.{◌≡◌, ℕ, ◌+◌, ◌≤◌, Bool, true, false, if◌then◌else◌, List, [], ◌∷◌, ◌++◌, Option, Some, None, length, codes}
+use Rattle.std.proofs.Common.{◌≡◌, ℕ, ◌+◌, ◌≤◌, Bool, true, false, if◌then◌else◌, List, [], ◌∷◌, ◌++◌, Some, None, Ok, Err, length, codes}
 use Rattle.std.proofs.Common.{ap, refl, sym, subst, ◌∙◌, arith, inl, inr, length-append}
 use Rattle.std.specs.Prelude.{◌*◌, option_map, slice_get, sum_by}
 use Rattle.std.specs.Option.{option_map_or}
@@ -13,10 +13,13 @@ use Rattle.serde_json.specs.Written.{compact_text}
 use Rattle.serde_json.proofs.Texts.{print-outline}
 use Rattle.ns_types.specs.declared.id.IdKind.TheVariants as IdKind
 use Rattle.ns_types.specs.declared.reply.Content.{Content}
+use Rattle.ns_types.specs.declared.refusal.Refusal.{Refusal}
 use Rattle.ns_types.specs.declared.reply.Rendered.{Rendered}
+use Rattle.ns_types.specs.declared.reply.Reply.{Reply}
 use Rattle.ns_types.specs.declared.step.Step.{Step}
 use Rattle.ns_types.specs.State.Id.{id_text}
 use Rattle.ns_types.specs.Steps.{Answer}
+use Rattle.ns_types.specs.Wire.Refused.{refused}
 use Rattle.ns_types.specs.Wire.Words.{status_text}
 use Rattle.ns_types.proofs.Lists.{not_both}
 use Rattle.ns_json.specs.Part.{tokens_of}
@@ -24,6 +27,7 @@ use Rattle.ns_json.specs.Replies.{Entry, applied_json, body_of, finished_json, o
 use Rattle.ns_json.proofs.Parts.{room-append}
 use Rattle.ns_json.proofs.Replies.{length-escaped_id}
 use Rattle.ns_answers.specs.Bodies.{id_tokens, nacked_json, text_bytes, text_tokens}
+use Rattle.ns_answers.specs.Rooms.{HasRoom, Room}
 use Rattle.ns_answers.proofs.Writing.{applied_tokens, escaped_follower, escaped_status, finished_room, first_tokens, last_tokens, length-print_from-le}
 use Rattle.ns_answers.proofs.Writing.{middle_tokens, nacked_room, one_id_room, room-first, room-ids, room-last, room-middle, room-texts}
 use Rattle.ns_held.specs.Logs.{History}
@@ -73,6 +77,25 @@ work_fits (Content.Finished status follower) h =
     json_fits (finished_json status follower) 76 (finished_room id (status_text status) (escaped_follower follower) (escaped_status status))
 work_fits (Content.Nacked status) h = json_fits (nacked_json status) 25 (nacked_room (status_text status) (escaped_status status))
 work_fits _ h = not_both h refl
+
+room_fits : (room : Room) (content : Content) → is_work content ≡ true → HasRoom room content → length (body_of content) ≤ room.bytes
+room_fits room (Content.Took n) is has = omega (arith, work_fits (Content.Took n) refl, has)
+room_fits room (Content.Snapped n) is has = omega (arith, work_fits (Content.Snapped n) refl, has)
+room_fits room (Content.Queued n) is has = omega (arith, work_fits (Content.Queued n) refl, has)
+room_fits room (Content.Applied made dropped) is has = omega (arith, work_fits (Content.Applied made dropped) refl, has)
+room_fits room (Content.Finished status follower) is has = omega (arith, work_fits (Content.Finished status follower) refl, has)
+room_fits room (Content.Nacked status) is has = omega (arith, work_fits (Content.Nacked status) refl, has)
+room_fits room _ is has = not_both is refl
+
+-- so the room is enough for a copy
+pub copy_fits : (room : Room) (reply : Reply) (shown : Rendered) → is_work reply.content ≡ true → HasRoom room reply.content →
+    shown ≡ rendered (Ok reply) → length shown.body ≤ room.bytes
+unfolding rendered
+copy_fits room reply shown is has same = omega (arith, ap (λ (r : Rendered). length r.body) same, room_fits room reply.content is has)
+
+pub refused_shown : (refusal : Refusal) (shown : Rendered) → shown ≡ rendered (Err refusal) → refused refusal ≡ shown
+unfolding rendered
+refused_shown refusal shown same = sym same
 
 -- ---- the entry of a step that was made
 

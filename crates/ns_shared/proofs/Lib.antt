@@ -1,4 +1,4 @@
 pub mod Adding
 pub mod Entries
 pub mod Refusing
-pub mod Settled
+pub mod SettledAlike

@@ -1,6 +1,6 @@
 -- A worker's call that made no step was refused by what is no step.
-use Rattle.std.specs.Prelude.{◌≡◌, ℕ, true, false, List, Option, Ok, Err}
-use Rattle.std.proofs.Common.{refl, ap, ◌∙◌}
+use Rattle.std.specs.Prelude.{◌≡◌, ℕ, false, List, Option, Ok, Err}
+use Rattle.std.proofs.Common.{refl, ◌∙◌}
 use Rattle.ns_types.specs.declared.refusal.Refusal.{Refusal}
 use Rattle.ns_types.specs.declared.reply.Rendered.{Rendered}
 use Rattle.ns_types.specs.declared.snapshot.Snapshot.{Snapshot}
@@ -48,7 +48,8 @@ module _ (worker : ℕ) (ns : Name) (planned : Snapshot) where
   plan_refused w _ (RefusesPlan.foreign row turn other) = tt
   plan_refused w _ (RefusesPlan.empty row turn same nothing) = tt
 
-  pub submit_refused : (old : History) (answer : Answer) (new : History) → LogsSubmit worker ns planned old answer new → IsRefused (Step.Submit worker ns) answer
+  pub submit_refused : (old : History) (answer : Answer) (new : History) → LogsSubmit worker ns planned old answer new →
+      IsRefused (Step.Submit worker ns) answer
   submit_refused old (Ok reply) new l none = not_both refl none
   submit_refused old (Err Refusal.LogFull) new l none = tt
   submit_refused old (Err Refusal.Memory) new l none = tt
@@ -60,7 +61,8 @@ module _ (worker : ℕ) (ns : Name) (planned : Snapshot) where
   end_refused w _ (RefusesFinish.foreign row turn other) = tt
   end_refused w _ (RefusesFinish.unplaced row turn same nothing) = tt
 
-  pub finish_refused : (old : History) (answer : Answer) (new : History) → LogsFinish worker ns planned old answer new → IsRefused (Step.Finish worker ns) answer
+  pub finish_refused : (old : History) (answer : Answer) (new : History) → LogsFinish worker ns planned old answer new →
+      IsRefused (Step.Finish worker ns) answer
   finish_refused old (Ok reply) new l none = not_both refl none
   finish_refused old (Err Refusal.LogFull) new l none = tt
   finish_refused old (Err Refusal.Memory) new l none = tt

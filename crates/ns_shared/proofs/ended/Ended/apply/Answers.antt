@@ -18,7 +18,8 @@ repeat_entry-rendered-requires-clause-room g c = adds_room (Step.Apply c.args.wo
     (logs_adds (Step.Apply c.args.worker c.args.namespace.now) c.args.self.now.held c.apply-answer.result c.apply-answer.new.self c.apply-answer.ensures)
 
 pub repeat_entry-rendered-requires-clause-entry : goal.repeat_entry-rendered-requires-clause-entry
-repeat_entry-rendered-requires-clause-entry g c = entry_behind (Step.Apply c.args.worker c.args.namespace.now) c.args.self.now.held c.apply-answer.result c.apply-answer.new.self
+repeat_entry-rendered-requires-clause-entry g c = entry_behind (Step.Apply c.args.worker c.args.namespace.now) c.args.self.now.held
+    c.apply-answer.result c.apply-answer.new.self
     c.log.result.now c.log-2.result.now
     (logs_adds (Step.Apply c.args.worker c.args.namespace.now) c.args.self.now.held c.apply-answer.result c.apply-answer.new.self c.apply-answer.ensures)
     c.log.ensures.entries c.log-2.ensures.entries
@@ -35,7 +36,8 @@ invariant_of-self-2-clause-counted g c = omega (
 
 pub returns-clause-seat : goal.returns-clause-seat
 returns-clause-seat g c = receives (Step.Apply c.args.worker c.args.namespace.now) c.in_ok-step.step (length c.log.result.now) c.apply-answer.result
-    c.repeat_entry-rendered.result c.args.seat.now c.prepare-step.new.receipts.items c.receive.new.receipts.items
-    (logs_refused (Step.Apply c.args.worker c.args.namespace.now) c.args.self.now.held c.apply-answer.result c.apply-answer.new.self c.apply-answer.ensures)
+    c.repeat_entry-rendered.result c.args.seat.now c.prepare.new.receipts.items c.receive.new.receipts.items
+    (logs_refused (Step.Apply c.args.worker c.args.namespace.now) c.args.self.now.held
+    c.apply-answer.result c.apply-answer.new.self c.apply-answer.ensures)
     c.receive.ensures.receipts (ap (λ m. m.0) c.in_ok-step.ensures.made ∙ ap (Step.Apply c.args.worker) c.in_ok-clone.ensures.cases)
     c.repeat_entry-rendered.ensures (c.in_ok-step.ensures.same ∙ c.seat.view_is)

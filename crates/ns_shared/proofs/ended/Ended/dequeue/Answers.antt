@@ -15,7 +15,8 @@ repeat_entry-rendered-requires-clause-room g c = adds_room (Step.Dequeue c.args.
     c.dequeue-answer.new.self c.dequeue-answer.ensures)
 
 pub repeat_entry-rendered-requires-clause-entry : goal.repeat_entry-rendered-requires-clause-entry
-repeat_entry-rendered-requires-clause-entry g c = entry_behind (Step.Dequeue c.args.worker c.args.namespace.now c.args.evaluation) c.args.self.now.held c.dequeue-answer.result c.dequeue-answer.new.self
+repeat_entry-rendered-requires-clause-entry g c = entry_behind (Step.Dequeue c.args.worker c.args.namespace.now c.args.evaluation) c.args.self.now.held
+    c.dequeue-answer.result c.dequeue-answer.new.self
     c.log.result.now c.log-2.result.now
     (logs_adds (Step.Dequeue c.args.worker c.args.namespace.now c.args.evaluation) c.args.self.now.held c.dequeue-answer.result
     c.dequeue-answer.new.self c.dequeue-answer.ensures)
@@ -33,8 +34,11 @@ invariant_of-self-2-clause-counted g c = omega (
 )
 
 pub returns-clause-seat : goal.returns-clause-seat
-returns-clause-seat g c = receives (Step.Dequeue c.args.worker c.args.namespace.now c.args.evaluation) c.in_ok-step.step (length c.log.result.now) c.dequeue-answer.result
-    c.repeat_entry-rendered.result c.args.seat.now c.prepare-step.new.receipts.items c.receive.new.receipts.items
-    (logs_refused (Step.Dequeue c.args.worker c.args.namespace.now c.args.evaluation) c.args.self.now.held c.dequeue-answer.result c.dequeue-answer.new.self c.dequeue-answer.ensures)
-    c.receive.ensures.receipts (ap (λ m. m.0) c.in_ok-step.ensures.made ∙ ap (λ ns. Step.Dequeue c.args.worker ns c.args.evaluation) c.in_ok-clone.ensures.cases)
+returns-clause-seat g c = receives (Step.Dequeue c.args.worker c.args.namespace.now c.args.evaluation) c.in_ok-step.step
+    (length c.log.result.now) c.dequeue-answer.result
+    c.repeat_entry-rendered.result c.args.seat.now c.prepare.new.receipts.items c.receive.new.receipts.items
+    (logs_refused (Step.Dequeue c.args.worker c.args.namespace.now c.args.evaluation) c.args.self.now.held
+    c.dequeue-answer.result c.dequeue-answer.new.self c.dequeue-answer.ensures)
+    c.receive.ensures.receipts (ap (λ m. m.0) c.in_ok-step.ensures.made
+    ∙ ap (λ ns. Step.Dequeue c.args.worker ns c.args.evaluation) c.in_ok-clone.ensures.cases)
     c.repeat_entry-rendered.ensures (c.in_ok-step.ensures.same ∙ c.seat.view_is)

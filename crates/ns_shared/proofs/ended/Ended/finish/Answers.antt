@@ -15,7 +15,8 @@ repeat_entry-rendered-requires-clause-room g c = adds_room (Step.Finish c.args.w
     c.finish-answer.ensures)
 
 pub repeat_entry-rendered-requires-clause-entry : goal.repeat_entry-rendered-requires-clause-entry
-repeat_entry-rendered-requires-clause-entry g c = entry_behind (Step.Finish c.args.worker c.args.namespace.now) c.args.self.now.held c.finish-answer.result c.finish-answer.new.self
+repeat_entry-rendered-requires-clause-entry g c = entry_behind (Step.Finish c.args.worker c.args.namespace.now) c.args.self.now.held
+    c.finish-answer.result c.finish-answer.new.self
     c.log.result.now c.log-2.result.now
     (finish_adds c.args.worker c.args.namespace.now c.args.planned.now c.args.self.now.held c.finish-answer.result c.finish-answer.new.self
     c.finish-answer.ensures)
@@ -34,7 +35,8 @@ invariant_of-self-2-clause-counted g c = omega (
 
 pub returns-clause-seat : goal.returns-clause-seat
 returns-clause-seat g c = receives (Step.Finish c.args.worker c.args.namespace.now) c.in_ok-step.step (length c.log.result.now) c.finish-answer.result
-    c.repeat_entry-rendered.result c.args.seat.now c.prepare-step.new.receipts.items c.receive.new.receipts.items
-    (finish_refused c.args.worker c.args.namespace.now c.args.planned.now c.args.self.now.held c.finish-answer.result c.finish-answer.new.self c.finish-answer.ensures)
+    c.repeat_entry-rendered.result c.args.seat.now c.prepare.new.receipts.items c.receive.new.receipts.items
+    (finish_refused c.args.worker c.args.namespace.now c.args.planned.now c.args.self.now.held
+    c.finish-answer.result c.finish-answer.new.self c.finish-answer.ensures)
     c.receive.ensures.receipts (ap (λ m. m.0) c.in_ok-step.ensures.made ∙ ap (Step.Finish c.args.worker) c.in_ok-clone.ensures.cases)
     c.repeat_entry-rendered.ensures (c.in_ok-step.ensures.same ∙ c.seat.view_is)

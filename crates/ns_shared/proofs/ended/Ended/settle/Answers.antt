@@ -1,7 +1,7 @@
 use Rattle.std.proofs.Common.{ap, map, refl, subst, vec_items, ◌∙◌}
 use Rattle.ns_held.specs.Logs.{History}
 use Rattle.ns_receipts.specs.Settling.{Settles}
-use Rattle.ns_shared.proofs.Settled.{fault_same, no_mismatch, same_fault, settles_back, settles_same}
+use Rattle.ns_shared.proofs.SettledAlike.{fault_same, no_mismatch, same_fault, settles_back, settles_same}
 use Rattle.ns_shared.proofs.ended.Ended.settle.Goals as goal
 
 pub hand_in-requires : goal.hand_in-requires

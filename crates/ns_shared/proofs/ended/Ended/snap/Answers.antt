@@ -15,7 +15,8 @@ repeat_snapped-rendered-requires-clause-room g c = adds_room (Step.Snap c.args.w
     (logs_adds (Step.Snap c.args.worker c.args.namespace.now) c.args.self.now.held (snapped c.snap-seen.result) c.snap-seen.new.self c.snap-seen.ensures.logged)
 
 pub repeat_snapped-rendered-requires-clause-entry : goal.repeat_snapped-rendered-requires-clause-entry
-repeat_snapped-rendered-requires-clause-entry g c = entry_behind (Step.Snap c.args.worker c.args.namespace.now) c.args.self.now.held (snapped c.snap-seen.result) c.snap-seen.new.self
+repeat_snapped-rendered-requires-clause-entry g c = entry_behind (Step.Snap c.args.worker c.args.namespace.now) c.args.self.now.held
+    (snapped c.snap-seen.result) c.snap-seen.new.self
     c.log.result.now c.log-2.result.now
     (logs_adds (Step.Snap c.args.worker c.args.namespace.now) c.args.self.now.held (snapped c.snap-seen.result) c.snap-seen.new.self c.snap-seen.ensures.logged)
     c.log.ensures.entries c.log-2.ensures.entries
@@ -32,8 +33,10 @@ invariant_of-self-2-clause-counted g c = omega (
 )
 
 pub returns-clause-seat : goal.returns-clause-seat
-returns-clause-seat g c = receives (Step.Snap c.args.worker c.args.namespace.now) c.in_ok-step.step (length c.log.result.now) (snapped c.snap-seen.result)
-    c.repeat_snapped-rendered.result c.args.seat.now c.prepare-step.new.receipts.items c.receive.new.receipts.items
-    (logs_refused (Step.Snap c.args.worker c.args.namespace.now) c.args.self.now.held (snapped c.snap-seen.result) c.snap-seen.new.self c.snap-seen.ensures.logged)
+returns-clause-seat g c = receives (Step.Snap c.args.worker c.args.namespace.now) c.in_ok-step.step
+    (length c.log.result.now) (snapped c.snap-seen.result)
+    c.repeat_snapped-rendered.result c.args.seat.now c.prepare.new.receipts.items c.receive.new.receipts.items
+    (logs_refused (Step.Snap c.args.worker c.args.namespace.now) c.args.self.now.held
+    (snapped c.snap-seen.result) c.snap-seen.new.self c.snap-seen.ensures.logged)
     c.receive.ensures.receipts (ap (λ m. m.0) c.in_ok-step.ensures.made ∙ ap (Step.Snap c.args.worker) c.in_ok-clone.ensures.cases)
     c.repeat_snapped-rendered.ensures (c.in_ok-step.ensures.same ∙ c.seat.view_is)

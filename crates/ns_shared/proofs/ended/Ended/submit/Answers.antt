@@ -14,7 +14,8 @@ repeat_entry-rendered-requires-clause-room g c = adds_room (Step.Submit c.args.w
     (submit_adds c.args.worker c.args.namespace.now c.args.planned c.args.self.now.held c.submit-answer.result c.submit-answer.new.self c.submit-answer.ensures)
 
 pub repeat_entry-rendered-requires-clause-entry : goal.repeat_entry-rendered-requires-clause-entry
-repeat_entry-rendered-requires-clause-entry g c = entry_behind (Step.Submit c.args.worker c.args.namespace.now) c.args.self.now.held c.submit-answer.result c.submit-answer.new.self
+repeat_entry-rendered-requires-clause-entry g c = entry_behind (Step.Submit c.args.worker c.args.namespace.now) c.args.self.now.held
+    c.submit-answer.result c.submit-answer.new.self
     c.log.result.now c.log-2.result.now
     (submit_adds c.args.worker c.args.namespace.now c.args.planned c.args.self.now.held c.submit-answer.result c.submit-answer.new.self c.submit-answer.ensures)
     c.log.ensures.entries c.log-2.ensures.entries
@@ -32,7 +33,8 @@ invariant_of-self-2-clause-counted g c = omega (
 
 pub returns-clause-seat : goal.returns-clause-seat
 returns-clause-seat g c = receives (Step.Submit c.args.worker c.args.namespace.now) c.in_ok-step.step (length c.log.result.now) c.submit-answer.result
-    c.repeat_entry-rendered.result c.args.seat.now c.prepare-step.new.receipts.items c.receive.new.receipts.items
-    (submit_refused c.args.worker c.args.namespace.now c.args.planned c.args.self.now.held c.submit-answer.result c.submit-answer.new.self c.submit-answer.ensures)
+    c.repeat_entry-rendered.result c.args.seat.now c.prepare.new.receipts.items c.receive.new.receipts.items
+    (submit_refused c.args.worker c.args.namespace.now c.args.planned c.args.self.now.held
+    c.submit-answer.result c.submit-answer.new.self c.submit-answer.ensures)
     c.receive.ensures.receipts (ap (λ m. m.0) c.in_ok-step.ensures.made ∙ ap (Step.Submit c.args.worker) c.in_ok-clone.ensures.cases)
     c.repeat_entry-rendered.ensures (c.in_ok-step.ensures.same ∙ c.seat.view_is)
