@@ -18,7 +18,7 @@ abbrev pub IsApply : Step → Type 0
 IsApply (Step.Apply worker ns) = Unit {0}
 IsApply _ = ⊥
 
--- and of the worker whose plan is served next
+-- that of the worker whose plan is served next
 abbrev pub IsApplyOf : Planner → Step → Type 0
 IsApplyOf planner step = step ≡ Step.Apply planner.worker planner.namespace
 

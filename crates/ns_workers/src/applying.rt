@@ -23,8 +23,8 @@ enum Course {
     Ends,
 }
 
-fn course_after(answer: &Result<Reply, Refusal>) -> Course
-    ensures { result ≡ course_of answer.now }
+fn course_after(answer: Result<Reply, Refusal>) -> Course
+    ensures { result ≡ course_of answer }
 {
     match answer {
         Ok(_) | Err(Refusal::NotEnabled) => Course::GoesOn,
@@ -44,7 +44,7 @@ fn apply<L: Ledger, R: Wait + Clock>(
     ensures { Grows (IsApplyOf planner.now) seat.old seat.new }
 {
     let answer = shared.apply(rt, alloc, seat, planner.worker, &planner.namespace);
-    match course_after(&answer) {
+    match course_after(answer) {
         Course::GoesOn => true,
         Course::Pauses => {
             pause(rt);
