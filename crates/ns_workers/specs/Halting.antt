@@ -1,5 +1,5 @@
 -- When threads that work go on, and when they end.
-use Rattle.std.specs.Prelude.{Bool, ◌&&◌, nat_eq, Result, Ok, Err}
+use Rattle.std.specs.Prelude.{Bool, ◌&&◌, nat_eq, Ok, Err}
 use Rattle.ns_types.specs.declared.refusal.Refusal.{Refusal}
 use Rattle.ns_types.specs.Steps.{Answer}
 use Rattle.ns_shared.specs.declared.changes.Moment.{Moment}
