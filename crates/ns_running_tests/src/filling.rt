@@ -30,7 +30,7 @@ fn fills<L: Ledger, R: Wait + Abort>(rt: &R, alloc: Global, blank: Blank) -> boo
     let shared = opened::<L, R>(rt, alloc, 1, blank);
     let answers = answers(rt, alloc, &shared);
     let ended = shared.end();
-    answers.as_str() == REPLIES && ended.held.log().len() == 1
+    answers.as_str() == REPLIES && ended.held().log().len() == 1
 }
 
 #[test]

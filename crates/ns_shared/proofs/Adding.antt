@@ -1,12 +1,11 @@
 -- A call that makes a step adds one entry, for whose answer there was room, and any other adds none.
-use Rattle.std.specs.Prelude.{◌≡◌, ◌+◌, ◌<◌, ℕ, Bool, true, false, if◌then◌else◌, length, List, Option, Result, Some, None, Ok, Err, IfOk}
-use Rattle.std.proofs.Common.{refl, ap, sym, subst, ◌∙◌, arith, inl, inr, length-append, [], ◌∷◌, ◌++◌}
+use Rattle.std.specs.Prelude.{◌≡◌, ◌+◌, ℕ, Bool, true, false, if◌then◌else◌, length, List, Option, Result, Some, None, Ok, Err, IfOk}
+use Rattle.std.proofs.Common.{refl, ap, sym, subst, ◌∙◌, arith, inl, inr, length-append, [], ◌∷◌}
 use Rattle.ns_types.specs.declared.refusal.Refusal.{Refusal}
 use Rattle.ns_types.specs.declared.reply.Rendered.{Rendered}
 use Rattle.ns_types.specs.declared.reply.Response.{Response}
 use Rattle.ns_types.specs.declared.step.Step.{Step}
 use Rattle.ns_types.specs.Steps.{Answer}
-use Rattle.ns_types.specs.Wire.Responses.{rendered_of}
 use Rattle.ns_types.proofs.Lists.{not_both}
 use Rattle.ns_json.specs.Replies.{rendered}
 use Rattle.ns_answers.specs.Laws.{may_change, row_of}

@@ -1,2 +1,4 @@
 pub mod Adding
-pub mod Settled
+pub mod Entries
+pub mod Refusing
+pub mod SettledAlike

@@ -9,7 +9,6 @@ use Rattle.ns_types.specs.Wire.Responses.{rendered_of}
 use Rattle.ns_json.specs.Replies.{rendered}
 use Rattle.ns_receipts.specs.declared.receipt.Receipt.{Receipt}
 use Rattle.ns_held.specs.Logs.{History, HasPlace, IsFull, IsLogged}
-use Rattle.ns_held.specs.Rendered.{rendered_step}
 
 abbrev pub receipt : ℕ → Step → Rendered → Receipt
 receipt place step rendered = record { place = place; step = step; rendered = rendered }
@@ -26,9 +25,21 @@ count (Some rendered) = 1
 
 -- ---- a worker's call
 
--- It adds one receipt: at some place that step, with the call's answer as bytes. A call that made no step adds none.
+-- a call for the step is handed a plan
+abbrev pub TakesPlan : Step → Type 0
+TakesPlan (Step.Submit worker ns) = Unit {0}
+TakesPlan (Step.Finish worker ns) = Unit {0}
+TakesPlan _ = ⊥
+
+-- For want of memory, where the log is full, where the step is out of turn, and where the plan that it is handed is of
+-- another snapshot, it made no step, and adds no receipt. Every other call adds one: at some place that step, with the
+-- answer as bytes.
 abbrev pub Receives : Step → List Receipt → Answer → List Receipt → Type 0
-Receives step old answer new = (place : ℕ) × (new ≡ received place step (rendered_step answer) old)
+Receives step old (Err Refusal.Memory) new = new ≡ old
+Receives step old (Err Refusal.LogFull) new = new ≡ old
+Receives step old (Err Refusal.NotEnabled) new = new ≡ old
+Receives step old (Err Refusal.Foreign) new = TakesPlan step × (new ≡ old)
+Receives step old answer new = (place : ℕ) × (new ≡ old ++ receipt place step (rendered answer) ∷ [])
 
 -- ---- a call for a step that a request asks for
 

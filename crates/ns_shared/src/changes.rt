@@ -1,5 +1,8 @@
 //! What callers that wait look at.
 
+ghost use Rattle.std.specs.Prelude.{◌≡◌};
+ghost use Rattle.ns_shared.specs.Moments.{is_left};
+
 use ns_types::text::Text;
 use ns_types::worker::Phase;
 
@@ -16,6 +19,14 @@ pub(crate) enum Stage {
     Awaited,
     Running,
     Left,
+}
+
+impl Stage {
+    pub(crate) fn is_left(self) -> bool
+        ensures { result ≡ is_left self }
+    {
+        matches!(self, Stage::Left)
+    }
 }
 
 /// Whom a call wakes of those who wait.

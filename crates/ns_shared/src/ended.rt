@@ -1,6 +1,6 @@
 //! A server with its log, and the book that counts the entries.
 
-ghost use Rattle.std.specs.Prelude.{◌≡◌, ◌+◌, [], IfSome, length};
+ghost use Rattle.std.specs.Prelude.{◌≡◌, ◌+◌, [], IfNone, IfSome, length};
 ghost use Rattle.ns_steps.specs.Served.{IsServed};
 ghost use Rattle.ns_shared.specs.Receiving.{LogsAsked, answered, received};
 
@@ -18,7 +18,7 @@ pub const PARTS: u64 = u64::MAX;
 /// A server with its log, the book that counts the log's entries, and the parts that no seat has.
 #[derive(Drop)]
 pub struct Ended<L: Ledger> {
-    pub held: Held,
+    pub(crate) held: Held,
     /// How many seats were made.
     pub seats: u64,
     pub(crate) book: Book<L>,
@@ -34,6 +34,8 @@ impl<L: Ledger> Ended<L> {
         requires empty { held.log ≡ [] }
         requires name { blank.name ≡ L.name }
         requires parts { (blank.parts ≡ L.parts) × (L.parts ≡ 18446744073709551615) }
+        ensures held { result.held ≡ held }
+        ensures seats { result.seats ≡ 0 }
     {
         let (book, rest) = blank.open::<L>();
         Ended {
@@ -47,6 +49,8 @@ impl<L: Ledger> Ended<L> {
     /// A seat with no receipts, unless no part is left for it.
     pub(crate) fn seat(&mut self, alloc: Global) -> Option<Seat<L>>
         ensures seat { IfSome result (λ seat. seat ≡ []) }
+        ensures counted { IfSome result (λ _. self.new.seats ≡ self.old.seats + 1) }
+        ensures none { IfNone result (self.old.seats ≡ 18446744073709551615) }
         ensures held { self.new.held ≡ self.old.held }
     {
         if self.seats == PARTS {

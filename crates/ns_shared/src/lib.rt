@@ -2,6 +2,8 @@
 #![tactic(auto)]
 
 mod changes;
+mod copying;
+mod desk;
 mod ended;
 mod looking;
 mod seat;
@@ -11,5 +13,7 @@ mod work;
 
 pub use changes::{Busy, Moment, Planner, Role};
 pub use ended::{Ended, PARTS};
+pub use looking::WORKERS_END;
 pub use seat::Seat;
+pub use settling::Settled;
 pub use shared::Shared;

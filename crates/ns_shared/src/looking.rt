@@ -1,17 +1,18 @@
 //! Looks at a server that give what its callers keep.
 
 ghost use Rattle.std.specs.Prelude.{◌≡◌, IfOk, option_map};
-ghost use Rattle.ns_types.specs.Working.Looks.{first_plan, row_of, served_ready};
+ghost use Rattle.ns_types.specs.Working.Looks.{row_of, served_ready};
 ghost use Rattle.ns_broker.specs.Looking.{busy_of};
-ghost use Rattle.ns_shared.specs.Looking.{told_of};
+ghost use Rattle.ns_shared.specs.Looking.{IsFirstAt, IsFirstPlanner, is_busy_with, told_of};
 
 use crate::changes::{Busy, Planner};
 use ns_core::Core;
 use ns_types::key::EvalKey;
+use ns_types::text::same_text;
 use std::alloc::AllocError;
 
 /// Past the numbers of workers.
-const WORKERS_END: u64 = 64;
+pub const WORKERS_END: u64 = 64;
 
 /// The evaluation that is served next.
 pub(crate) fn served(core: &Core) -> Result<Option<EvalKey>, AllocError>
@@ -39,28 +40,37 @@ pub(crate) fn busy(core: &Core, worker: u64) -> Result<Option<Busy>, AllocError>
     }
 }
 
-/// Whether the worker is busy with the evaluation whose plan is served next.
-fn hands_in_first(core: &Core, worker: u64) -> bool {
-    match (core.first_plan(), core.phase(worker)) {
-        (Some(key), Some(busy)) => {
-            busy.evaluation == key.number() && busy.namespace == key.namespace()
+/// Whether the worker is busy with this evaluation.
+fn is_busy_with(core: &Core, worker: u64, key: &EvalKey) -> bool
+    ensures { result ≡ is_busy_with core.now.world worker key.now }
+{
+    match core.phase(worker) {
+        Some(busy) => {
+            same_text(busy.namespace, key.namespace()) && busy.evaluation == key.number()
         }
-        _ => false,
+        None => false,
     }
 }
 
-/// The first worker that is busy with the evaluation whose plan is served next.
-pub(crate) fn planner(core: &Core) -> Result<Option<Planner>, AllocError> {
-    let Some(key) = core.first_plan() else {
-        return Ok(None);
-    };
+/// The first worker that is busy with this evaluation.
+fn first_at(core: &Core, key: &EvalKey) -> Result<Option<Planner>, AllocError>
+    ensures { IfOk result (λ found. IsFirstAt core.now.world key.now found) }
+{
     for worker in 0..WORKERS_END {
-        if hands_in_first(core, worker) {
-            return Ok(Some(Planner {
-                worker,
-                namespace: key.namespace().clone()?,
-            }));
+        if is_busy_with(core, worker, key) {
+            let namespace = key.namespace().clone()?;
+            return Ok(Some(Planner { worker, namespace }));
         }
     }
     Ok(None)
+}
+
+/// The first worker that is busy with the evaluation whose plan is served next.
+pub(crate) fn planner(core: &Core) -> Result<Option<Planner>, AllocError>
+    ensures { IfOk result (λ found. IsFirstPlanner core.now.world found) }
+{
+    match core.first_plan() {
+        Some(key) => first_at(core, key),
+        None => Ok(None),
+    }
 }

@@ -39,6 +39,7 @@ impl<L: Ledger> Model for Seat<L> {
 }
 
 impl<L: Ledger> Seat<L> {
+    /// The receipts so far, in the order of the calls.
     pub fn receipts(&self) -> &[Receipt]
         ensures { result.now ≡ self.now }
     {
@@ -140,7 +141,8 @@ pub(crate) fn receive_given<L: Ledger>(
     requires place { vec_len receipts.old < vec_capacity receipts.old }
     requires part { share.old.parts ≡ 1 }
     ensures response { result ≡ response_of given }
-    ensures receipts { receipts.new.items ≡ received place step (receipt_of given) receipts.old.items }
+    ensures receipts { let rendered = receipt_of given in
+        receipts.new.items ≡ received place step rendered receipts.old.items }
     ensures number { vec_len receipts.new ≡ vec_len receipts.old + count (receipt_of given) }
     ensures parts { share.new.parts ≡ 1 }
     ensures amount { share.new.amount ≡ share.old.amount + count (receipt_of given) }

@@ -4,13 +4,46 @@ ghost use Rattle.std.specs.Prelude.{◌≡◌, ℕ, IfOk, IsErrOf, IsOkUnless, O
 ghost use Rattle.std.specs.Prelude.{length, map, sum_by, vec_items, vec_len};
 ghost use Rattle.ns_receipts.specs.declared.fault.SettleFault.TheVariants as SettleFault;
 ghost use Rattle.ns_receipts.specs.Settling.{IsFault, Settles};
+ghost use Rattle.ns_shared.specs.Ending.{held_of};
 
 use crate::ended::Ended;
 use crate::seat::Seat;
 use ns_held::Held;
 use ns_receipts::{Receipt, SettleFault, settle};
 use std::alloc::{AllocError, Global};
+use std::marker::Model;
 use std::sync::ledger::Ledger;
+
+/// A server with its log, with which the receipts of seats have settled. `Ended::settle` alone makes one. Contracts see it
+/// as a history.
+#[derive(Drop)]
+pub struct Settled {
+    held: Held,
+}
+
+impl Model for Settled {
+    ghost use Rattle.std.specs.Coded.{codes};
+    ghost use Rattle.std.specs.FinMap.{code};
+    ghost use Rattle.ns_held.specs.Logs.{History};
+    ghost use Rattle.ns_shared.specs.Settling.{IsSettled};
+
+    ghost Value = { History };
+
+    ghost coded = { Prim.hlevel (codes, code) };
+
+    ghost view = { λ s. s.held };
+
+    ghost invariant = { λ s. IsSettled s.held.log };
+}
+
+impl Settled {
+    /// The server with its log, to be looked at.
+    pub fn held(&self) -> &Held
+        ensures { result.now ≡ self.now }
+    {
+        &self.held
+    }
+}
 
 /// Takes in the shares of the seats, and gives out their receipts, a list for each.
 fn hand_in<L: Ledger>(
@@ -41,26 +74,33 @@ fn hand_in<L: Ledger>(
 }
 
 impl<L: Ledger> Ended<L> {
+    /// The server with its log, to be looked at.
+    pub fn held(&self) -> &Held
+        ensures { result.now ≡ held_of self.now }
+    {
+        &self.held
+    }
+
     /// Hands out the server with its log, if the receipts of the seats settle with it: within each seat the places rise, all
     /// receipts together name each place of the log once, and each receipt tells of the entry at its place. Where all seats
     /// that were made are handed in, they have as many receipts as the log has entries.
     #[tactic(none)]
-    pub fn settle(self, alloc: Global, seats: Vec<Seat<L>>) -> Result<Held, SettleFault>
+    pub fn settle(self, alloc: Global, seats: Vec<Seat<L>>) -> Result<Settled, SettleFault>
         requires { L.parts ≡ 18446744073709551615 }
-        ensures same { IfOk result (λ held. held ≡ self.held) }
-        ensures ok { OnOk result (Settles self.held.log seats.items) }
-        ensures settled { Settles self.held.log seats.items
+        ensures same { IfOk result (λ settled. settled ≡ held_of self) }
+        ensures ok { OnOk result (Settles (held_of self).log seats.items) }
+        ensures settled { Settles (held_of self).log seats.items
             → IsOkUnless result SettleFault.Memory }
         ensures mismatch { (seat place : ℕ) → IsErrOf result (SettleFault.Mismatch seat place)
-            → IsFault self.held.log seats.items seat place }
+            → IsFault (held_of self).log seats.items seat place }
         ensures counts { (IsErrOf result SettleFault.Memory → ⊥) → vec_len seats ≡ self.seats
-            → length self.held.log ≡ sum_by (λ receipts. length receipts) seats.items }
+            → length (held_of self).log ≡ sum_by (λ receipts. length receipts) seats.items }
     {
         let Ok((held, lists)) = hand_in(alloc, self, seats) else {
             return Err(SettleFault::Memory);
         };
         match settle(alloc, held.log(), lists.as_slice()) {
-            Ok(()) => Ok(held),
+            Ok(()) => Ok(Settled { held }),
             Err(fault) => {
                 drop(held);
                 Err(fault)

@@ -1,12 +1,14 @@
 //! A server that threads share.
 
-ghost use Rattle.std.specs.Prelude.{◌≡◌, [], IfSome};
+ghost use Rattle.std.specs.Prelude.{◌≡◌, ◌≢◌, [], IfSome};
 ghost use Rattle.ns_types.specs.declared.step.Step.TheVariants as Step;
 ghost use Rattle.ns_drive.specs.Calls.{snapped};
 ghost use Rattle.ns_steps.specs.Served.{IsServed};
+ghost use Rattle.ns_shared.specs.Moments.{changes_after, is_stirred};
 ghost use Rattle.ns_shared.specs.Receiving.{Asks, Receives};
 
-use crate::changes::{Busy, Moment, Planner, Role, Stage, Wakes};
+use crate::changes::{Busy, Moment, Planner, Role, Wakes};
+use crate::desk::Desk;
 use crate::ended::Ended;
 use crate::looking;
 use crate::seat::Seat;
@@ -24,41 +26,6 @@ use std::alloc::{AllocError, Global};
 use std::sync::ledger::{Blank, Ledger};
 use std::sync::{Condvar, Mutex, Wait};
 
-/// What lies under the lock.
-#[derive(Drop)]
-struct Desk<L: Ledger> {
-    kept: Ended<L>,
-    changes: u64,
-    is_closed: bool,
-    workers: u64,
-    applier: Stage,
-}
-
-impl<L: Ledger> Desk<L> {
-    fn moment(&self) -> Moment {
-        Moment {
-            changes: self.changes,
-            is_closed: self.is_closed,
-            workers: self.workers,
-            applier_left: self.applier == Stage::Left,
-        }
-    }
-
-    /// Whether there is something to do for those whom the call wakes.
-    fn is_stirred(&self, wakes: Wakes) -> bool {
-        match wakes {
-            Wakes::Nobody => false,
-            Wakes::WhereServed => self.has_served(),
-            Wakes::WhereServedOrClosed => self.is_closed || self.has_served(),
-            Wakes::All => true,
-        }
-    }
-
-    fn has_served(&self) -> bool {
-        self.kept.held.core().served().is_some()
-    }
-}
-
 /// A server with its log, which threads share. Each call for a step makes at most that step, and adds its receipt to the
 /// caller's seat.
 #[derive(Drop)]
@@ -74,16 +41,9 @@ impl<L: Ledger> Shared<L> {
         requires name { blank.name ≡ L.name }
         requires parts { (blank.parts ≡ L.parts) × (L.parts ≡ 18446744073709551615) }
     {
-        let kept = Ended::new(held, blank);
-        let desk = Mutex::new(Desk {
-            kept,
-            changes: 0,
-            is_closed: false,
-            workers: 0,
-            applier: Stage::Awaited,
-        });
+        let desk = Desk::new(Ended::new(held, blank));
         Shared {
-            desk,
+            desk: Mutex::new(desk),
             changed: Condvar::new(),
         }
     }
@@ -97,10 +57,11 @@ impl<L: Ledger> Shared<L> {
 
     /// Wakes those who wait, if there is something to do for them. Changes are counted exactly where it does.
     fn wake(&self, desk: &mut Desk<L>, wakes: Wakes)
-        ensures { desk.new.kept ≡ desk.old.kept }
+        ensures { let world = desk.old.kept.held.state.world in
+            let stirred = is_stirred wakes desk.old.is_closed world in
+            desk.new ≡ record desk.old { changes = changes_after stirred desk.old.changes } }
     {
-        if desk.is_stirred(wakes) {
-            desk.changes = desk.changes.wrapping_add(1);
+        if desk.stir(wakes) {
             self.changed.notify_all();
         }
     }
@@ -260,37 +221,35 @@ impl<L: Ledger> Shared<L> {
     }
 
     /// Waits for a change after this moment.
-    pub fn wait_past<R: Wait>(&self, rt: &R, seen: Moment) -> Moment {
+    pub fn wait_past<R: Wait>(&self, rt: &R, seen: Moment) -> Moment
+        ensures { result.changes ≢ seen.changes }
+    {
         let desk = self.changed.wait_while(rt, self.desk.lock(rt), |desk| {
             desk.changes == seen.changes
         });
         desk.moment()
     }
 
+    /// Counts a worker that begins, or notes that the applier has begun.
     pub fn enter<R: Wait>(&self, rt: &R, role: Role) {
-        let mut desk = self.desk.lock(rt);
-        match role {
-            Role::Worker => desk.workers = desk.workers.wrapping_add(1),
-            Role::Applier => desk.applier = Stage::Running,
-        }
+        self.desk.lock(rt).enter(role);
     }
 
+    /// Takes back what `enter` noted, and wakes those who wait: workers for the applier, and the applier for workers.
     pub fn leave<R: Wait>(&self, rt: &R, role: Role) {
         let mut desk = self.desk.lock(rt);
-        match role {
-            Role::Worker => desk.workers = desk.workers.wrapping_sub(1),
-            Role::Applier => desk.applier = Stage::Left,
-        }
+        desk.leave(role);
         self.wake(&mut desk, Wakes::All);
     }
 
     /// Lets workers end once they are idle, and the applier once they ended.
     pub fn close<R: Wait>(&self, rt: &R) {
         let mut desk = self.desk.lock(rt);
-        desk.is_closed = true;
+        desk.close();
         self.wake(&mut desk, Wakes::All);
     }
 
+    /// Whether it was closed. It is never opened again.
     pub fn is_closed<R: Wait>(&self, rt: &R) -> bool {
         self.desk.lock(rt).is_closed
     }

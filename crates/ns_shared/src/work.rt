@@ -1,18 +1,22 @@
 //! The steps of workers, each with its receipt.
 
-ghost use Rattle.std.specs.Prelude.{◌≡◌, IfOk, length};
+ghost use Rattle.std.specs.Prelude.{◌≡◌, IfOk, Some, length, option_map, slice_get};
 ghost use Rattle.ns_types.specs.declared.step.Step.TheVariants as Step;
+ghost use Rattle.ns_broker.specs.Snapping.{kept_at};
 ghost use Rattle.ns_drive.specs.Calls.{snapped};
 ghost use Rattle.ns_answers.specs.Rooms.{HasRoom};
 ghost use Rattle.ns_held.specs.Logs.{Logs};
 ghost use Rattle.ns_held.specs.Planned.{LogsFinish, LogsSubmit};
 ghost use Rattle.ns_held.specs.Rendered.{rendered_step};
-ghost use Rattle.ns_shared.specs.Receiving.{received};
+ghost use Rattle.ns_shared.specs.Copying.{entry_answer};
+ghost use Rattle.ns_shared.specs.Receiving.{Receives, received};
 
+use crate::copying::repeat_entry;
 use crate::ended::Ended;
 use crate::seat::{Seat, begin, prepare, receive};
 use ns_answers::Room;
-use ns_held::{rendered_in, snapped};
+use ns_held::snapped;
+use ns_log::Entry;
 use ns_types::planned::Planned;
 use ns_types::refusal::Refusal;
 use ns_types::reply::{Rendered, Reply};
@@ -23,13 +27,20 @@ use ns_types::text::Text;
 use std::alloc::Global;
 use std::sync::ledger::Ledger;
 
-/// The answer as bytes to a worker that looks, in the room that was taken for it.
-fn rendered_snapped(room: Room, seen: &Result<Shared<Snapshot>, Refusal>) -> Option<Rendered>
-    requires { IfOk (snapped seen.now) (λ reply. HasRoom room reply.content) }
+/// The same of the answer to a worker that looks.
+fn repeat_snapped(
+    room: Room,
+    log: &[Entry],
+    place: u64,
+    seen: &Result<Shared<Snapshot>, Refusal>,
+) -> Option<Rendered>
+    requires room { IfOk (snapped seen.now) (λ reply. HasRoom room reply.content) }
+    requires entry { let made = option_map entry_answer (slice_get log.now place) in
+        made ≡ rendered_step (snapped seen.now) }
     ensures { result ≡ rendered_step (snapped seen.now) }
 {
     let answer = snapped(seen);
-    let rendered = rendered_in(room, &answer);
+    let rendered = repeat_entry(room, log, place, &answer);
     drop(answer);
     rendered
 }
@@ -48,6 +59,8 @@ impl<L: Ledger> Ended<L> {
         ensures received { let place = length self.old.held.log in
             let step = Step.Dequeue worker namespace.now evaluation in
             seat.new ≡ received place step (rendered_step result) seat.old }
+        ensures seat { let step = Step.Dequeue worker namespace.now evaluation in
+            Receives step seat.old result seat.new }
     {
         let Ended { held, book, .. } = self;
         let Seat { receipts, share } = seat;
@@ -56,7 +69,7 @@ impl<L: Ledger> Ended<L> {
         let (step, room) = prepare(alloc, receipts, step, None)?;
         let place = held.log().len() as u64;
         let answer = held.dequeue(alloc, worker, namespace, evaluation);
-        let rendered = rendered_in(room, &answer);
+        let rendered = repeat_entry(room, held.log(), place, &answer);
         receive(receipts, share, book, place, step, rendered);
         answer
     }
@@ -70,9 +83,13 @@ impl<L: Ledger> Ended<L> {
     ) -> Result<Shared<Snapshot>, Refusal>
         ensures logged { let step = Step.Snap worker namespace.now in
             Logs step self.old.held (snapped result) self.new.held }
+        ensures kept { let w = self.new.held.state.world in
+            IfOk result (λ seen. kept_at w worker namespace.now ≡ Some seen) }
         ensures received { let place = length self.old.held.log in
             let step = Step.Snap worker namespace.now in
             seat.new ≡ received place step (rendered_step (snapped result)) seat.old }
+        ensures seat { let step = Step.Snap worker namespace.now in
+            Receives step seat.old (snapped result) seat.new }
     {
         let Ended { held, book, .. } = self;
         let Seat { receipts, share } = seat;
@@ -81,7 +98,7 @@ impl<L: Ledger> Ended<L> {
         let (step, room) = prepare(alloc, receipts, step, None)?;
         let place = held.log().len() as u64;
         let seen = held.snap(alloc, worker, namespace);
-        let rendered = rendered_snapped(room, &seen);
+        let rendered = repeat_snapped(room, held.log(), place, &seen);
         receive(receipts, share, book, place, step, rendered);
         seen
     }
@@ -94,10 +111,13 @@ impl<L: Ledger> Ended<L> {
         namespace: &Text,
         planned: Planned,
     ) -> Result<Reply, Refusal>
-        ensures logged { LogsSubmit worker namespace.now planned self.old.held result self.new.held }
+        ensures logged { let held = self.old.held in
+            LogsSubmit worker namespace.now planned held result self.new.held }
         ensures received { let place = length self.old.held.log in
             let step = Step.Submit worker namespace.now in
             seat.new ≡ received place step (rendered_step result) seat.old }
+        ensures seat { let step = Step.Submit worker namespace.now in
+            Receives step seat.old result seat.new }
     {
         let Ended { held, book, .. } = self;
         let Seat { receipts, share } = seat;
@@ -106,7 +126,7 @@ impl<L: Ledger> Ended<L> {
         let (step, room) = prepare(alloc, receipts, step, None)?;
         let place = held.log().len() as u64;
         let answer = held.submit(alloc, worker, namespace, planned);
-        let rendered = rendered_in(room, &answer);
+        let rendered = repeat_entry(room, held.log(), place, &answer);
         receive(receipts, share, book, place, step, rendered);
         answer
     }
@@ -123,6 +143,8 @@ impl<L: Ledger> Ended<L> {
         ensures received { let place = length self.old.held.log in
             let step = Step.Apply worker namespace.now in
             seat.new ≡ received place step (rendered_step result) seat.old }
+        ensures seat { let step = Step.Apply worker namespace.now in
+            Receives step seat.old result seat.new }
     {
         let Ended { held, book, .. } = self;
         let Seat { receipts, share } = seat;
@@ -132,7 +154,7 @@ impl<L: Ledger> Ended<L> {
         let (step, room) = prepare(alloc, receipts, step, row)?;
         let place = held.log().len() as u64;
         let answer = held.apply(alloc, worker, namespace);
-        let rendered = rendered_in(room, &answer);
+        let rendered = repeat_entry(room, held.log(), place, &answer);
         receive(receipts, share, book, place, step, rendered);
         answer
     }
@@ -145,10 +167,13 @@ impl<L: Ledger> Ended<L> {
         namespace: &Text,
         planned: &Planned,
     ) -> Result<Reply, Refusal>
-        ensures logged { LogsFinish worker namespace.now planned.now self.old.held result self.new.held }
+        ensures logged { let held = self.old.held in
+            LogsFinish worker namespace.now planned.now held result self.new.held }
         ensures received { let place = length self.old.held.log in
             let step = Step.Finish worker namespace.now in
             seat.new ≡ received place step (rendered_step result) seat.old }
+        ensures seat { let step = Step.Finish worker namespace.now in
+            Receives step seat.old result seat.new }
     {
         let Ended { held, book, .. } = self;
         let Seat { receipts, share } = seat;
@@ -157,7 +182,7 @@ impl<L: Ledger> Ended<L> {
         let (step, room) = prepare(alloc, receipts, step, None)?;
         let place = held.log().len() as u64;
         let answer = held.finish(alloc, worker, namespace, planned);
-        let rendered = rendered_in(room, &answer);
+        let rendered = repeat_entry(room, held.log(), place, &answer);
         receive(receipts, share, book, place, step, rendered);
         answer
     }
@@ -174,6 +199,8 @@ impl<L: Ledger> Ended<L> {
         ensures received { let place = length self.old.held.log in
             let step = Step.Nack worker namespace.now in
             seat.new ≡ received place step (rendered_step result) seat.old }
+        ensures seat { let step = Step.Nack worker namespace.now in
+            Receives step seat.old result seat.new }
     {
         let Ended { held, book, .. } = self;
         let Seat { receipts, share } = seat;
@@ -182,7 +209,7 @@ impl<L: Ledger> Ended<L> {
         let (step, room) = prepare(alloc, receipts, step, None)?;
         let place = held.log().len() as u64;
         let answer = held.nack(alloc, worker, namespace);
-        let rendered = rendered_in(room, &answer);
+        let rendered = repeat_entry(room, held.log(), place, &answer);
         receive(receipts, share, book, place, step, rendered);
         answer
     }

@@ -1,13 +1,14 @@
 -- Receipts grow by each call for a step, and so by calls one after the other.
-use Rattle.std.specs.Prelude.{ℕ, List, [], ◌∷◌, ◌++◌, Option, Some, None}
-use Rattle.std.proofs.Common.{refl, sym, ap, ◌∙◌}
+use Rattle.std.specs.Prelude.{◌≡◌, ℕ, List, [], ◌∷◌, ◌++◌, Err}
+use Rattle.std.proofs.Common.{refl, sym, ap, subst, ◌∙◌}
 use Rattle.std.proofs.lemmas.List.{append_assoc, append-nil}
 use Rattle.std.proofs.lemmas.List.Elements.{All-append, All-nil, All-cons}
+use Rattle.ns_types.specs.declared.refusal.Refusal.{Refusal}
 use Rattle.ns_types.specs.declared.reply.Rendered.{Rendered}
 use Rattle.ns_types.specs.declared.step.Step.{Step}
 use Rattle.ns_types.specs.Steps.{Answer}
 use Rattle.ns_receipts.specs.declared.receipt.Receipt.{Receipt}
-use Rattle.ns_shared.specs.Receiving.{Receives, receipt, received}
+use Rattle.ns_shared.specs.Receiving.{Receives, receipt}
 use Rattle.ns_workers.specs.Growing.{Grows}
 
 pub grows_same : (IsOwn : Step → Type 0) (receipts : List Receipt) → Grows IsOwn receipts receipts
@@ -24,18 +25,22 @@ grows_then IsOwn old mid new first then = record {
   are_own = All-append (λ (receipt : Receipt). IsOwn receipt.step) first.more then.more first.are_own then.are_own;
 }
 
-received_grows : (IsOwn : Step → Type 0) (place : ℕ) (step : Step) (r : Option Rendered) (old : List Receipt) → IsOwn step →
-    Grows IsOwn old (received place step r old)
-received_grows IsOwn place step None old own = grows_same IsOwn old
-received_grows IsOwn place step (Some r) old own = record {
+gains : (IsOwn : Step → Type 0) (step : Step) (old : List Receipt) (r : Rendered) (place : ℕ) → IsOwn step →
+    Grows IsOwn old (old ++ receipt place step r ∷ [])
+gains IsOwn step old r place own = record {
   more = receipt place step r ∷ [];
   is_grown = refl;
   are_own = All-cons (λ (receipt : Receipt). IsOwn receipt.step) (receipt place step r) [] own (All-nil (λ (receipt : Receipt). IsOwn receipt.step));
 }
 
+same_grows : (IsOwn : Step → Type 0) (old new : List Receipt) → new ≡ old → Grows IsOwn old new
+same_grows IsOwn old new is = subst (Grows IsOwn old) (sym is) (grows_same IsOwn old)
+
 -- by one call
 pub grows_by : (IsOwn : Step → Type 0) (step : Step) (old : List Receipt) (answer : Answer) (new : List Receipt) → IsOwn step →
     Receives step old answer new → Grows IsOwn old new
-grows_by IsOwn step old answer new own (place, is) =
-    let grown = received_grows IsOwn place step _ old own in
-    record { more = grown.more; is_grown = is ∙ grown.is_grown; are_own = grown.are_own }
+grows_by IsOwn step old (Err Refusal.Memory) new own r = same_grows IsOwn old new r
+grows_by IsOwn step old (Err Refusal.LogFull) new own r = same_grows IsOwn old new r
+grows_by IsOwn step old (Err Refusal.NotEnabled) new own r = same_grows IsOwn old new r
+grows_by IsOwn step old (Err Refusal.Foreign) new own r = same_grows IsOwn old new r.1
+grows_by IsOwn step old answer new own r = subst (Grows IsOwn old) (sym r.1) (gains IsOwn step old _ r.0 own)

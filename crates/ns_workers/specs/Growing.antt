@@ -2,6 +2,7 @@
 use Rattle.std.specs.Prelude.{◌≡◌, ℕ, List, ◌++◌, All}
 use Rattle.ns_types.specs.declared.step.Step.{Step}
 use Rattle.ns_receipts.specs.declared.receipt.Receipt.{Receipt}
+use Rattle.ns_shared.specs.declared.changes.Planner.{Planner}
 
 -- a step of the worker of that number
 abbrev pub IsOfWorker : ℕ → Step → Type 0
@@ -16,6 +17,10 @@ IsOfWorker number _ = ⊥
 abbrev pub IsApply : Step → Type 0
 IsApply (Step.Apply worker ns) = Unit {0}
 IsApply _ = ⊥
+
+-- that of the worker whose plan is served next
+abbrev pub IsApplyOf : Planner → Step → Type 0
+IsApplyOf planner step = step ≡ Step.Apply planner.worker planner.namespace
 
 -- The receipts stay, in their order, and behind them come those of such steps.
 pub record Grows (IsOwn : Step → Type 0) (old new : List Receipt) : Type 0 where

@@ -1,14 +1,37 @@
 //! The applier.
 
-ghost use Rattle.ns_workers.specs.Growing.{Grows, IsApply};
+ghost use Rattle.std.specs.Prelude.{◌≡◌, IsFalse, IsTrue, false, true};
+ghost use Rattle.ns_workers.specs.Growing.{Grows, IsApply, IsApplyOf};
+ghost use Rattle.ns_workers.specs.Halting.{is_over, course_of};
 
 use crate::pausing::pause;
 use ns_shared::{Moment, Planner, Role, Seat, Shared};
 use ns_types::refusal::Refusal;
+use ns_types::reply::Reply;
 use std::alloc::Global;
 use std::rt::Clock;
 use std::sync::Wait;
 use std::sync::ledger::Ledger;
+
+/// What the applier does after it applied a plan.
+#[derive(Clone, Copy, Debug, PartialEq, Eq)]
+enum Course {
+    GoesOn,
+    /// It tries again after a pause.
+    Pauses,
+    /// It closes the server, and ends.
+    Ends,
+}
+
+fn course_after(answer: Result<Reply, Refusal>) -> Course
+    ensures { result ≡ course_of answer }
+{
+    match answer {
+        Ok(_) | Err(Refusal::NotEnabled) => Course::GoesOn,
+        Err(Refusal::Memory) => Course::Pauses,
+        Err(_) => Course::Ends,
+    }
+}
 
 /// Applies the plan. Whether the applier goes on.
 fn apply<L: Ledger, R: Wait + Clock>(
@@ -18,24 +41,35 @@ fn apply<L: Ledger, R: Wait + Clock>(
     seat: &mut Seat<L>,
     planner: &Planner,
 ) -> bool
-    ensures { Grows IsApply seat.old seat.new }
+    ensures { Grows (IsApplyOf planner.now) seat.old seat.new }
 {
-    match shared.apply(rt, alloc, seat, planner.worker, &planner.namespace) {
-        Ok(_) | Err(Refusal::NotEnabled) => true,
-        Err(Refusal::Memory) => {
+    let answer = shared.apply(rt, alloc, seat, planner.worker, &planner.namespace);
+    match course_after(answer) {
+        Course::GoesOn => true,
+        Course::Pauses => {
             pause(rt);
             true
         }
-        Err(_) => {
+        Course::Ends => {
             shared.close(rt);
             false
         }
     }
 }
 
-/// Waits for a plan. Whether one may still come: a worker that enters once the server is closed hands none in.
-fn await_plan<L: Ledger, R: Wait>(rt: &R, shared: &Shared<L>, seen: Moment) -> bool {
-    if seen.is_closed && seen.workers == 0 {
+/// Whether no plan comes any more: a worker that enters once the server is closed hands none in.
+fn is_over(seen: Moment) -> bool
+    ensures { result ≡ is_over seen }
+{
+    seen.is_closed && seen.workers == 0
+}
+
+/// Waits for a plan. Whether one may still come.
+fn await_plan<L: Ledger, R: Wait>(rt: &R, shared: &Shared<L>, seen: Moment) -> bool
+    ensures over { is_over seen ≡ true → IsFalse result }
+    ensures awaits { is_over seen ≡ false → IsTrue result }
+{
+    if is_over(seen) {
         return false;
     }
     shared.wait_past(rt, seen);

@@ -23,6 +23,9 @@ pub enum Point {
 
 /// What workers pass. Its calls come from several threads at once.
 pub trait Gate {
+    /// It lets every worker go on.
+    ghost opens: { Self → Type 0 } = { λ _. ⊥ };
+
     /// The plan of the snapshot, as `ns_schedule` makes it.
     fn plan(
         &self,
@@ -35,7 +38,8 @@ pub trait Gate {
         ensures err { IsOkUnless result (if fits snapshot then Memory else Full) };
 
     /// Whether the worker goes on after this step.
-    fn pass(&self, worker: u64, point: Point) -> bool;
+    fn pass(&self, worker: u64, point: Point) -> bool
+        ensures { opens self.now → IsTrue result };
 }
 
 /// Always open.
@@ -43,6 +47,8 @@ pub trait Gate {
 pub struct Open;
 
 impl Gate for Open {
+    ghost opens = { λ _. Unit {0} };
+
     fn plan(
         &self,
         alloc: Global,

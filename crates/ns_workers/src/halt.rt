@@ -1,5 +1,9 @@
 //! Why a worker's turn made no step.
 
+ghost use Rattle.std.specs.Prelude.{◌≡◌};
+ghost use Rattle.ns_workers.specs.declared.halt.Halt.TheVariants as Halt;
+ghost use Rattle.ns_workers.specs.Halting.{halt_of};
+
 use ns_types::refusal::Refusal;
 use std::alloc::AllocError;
 
@@ -16,12 +20,16 @@ pub enum Halt {
 }
 
 impl From<AllocError> for Halt {
+    ghost from_gives = { λ _ halt. halt ≡ Halt.Memory };
+
     fn from(_: AllocError) -> Halt {
         Halt::Memory
     }
 }
 
 impl From<Refusal> for Halt {
+    ghost from_gives = { λ refusal halt. halt ≡ halt_of refusal };
+
     fn from(refusal: Refusal) -> Halt {
         match refusal {
             Refusal::NotEnabled => Halt::Late,

@@ -1,20 +1,19 @@
 //! One turn of a worker: a step, or a wait.
 
+ghost use Rattle.std.specs.Prelude.{◌≡◌, ◌≤◌, IfErr, IsErrOf, IsFalse, IsOk, IsTrue};
+ghost use Rattle.ns_workers.specs.declared.halt.Halt.TheVariants as Halt;
 ghost use Rattle.ns_workers.specs.Growing.{Grows, IsOfWorker};
 
 use crate::gate::{Gate, Point};
 use crate::halt::Halt;
 use ns_drive::Kept;
-use ns_shared::{Busy, Moment, Seat, Shared};
+use ns_shared::{Busy, Moment, Seat, Shared, WORKERS_END};
 use ns_types::planned::Planned;
 use ns_types::text::Text;
 use ns_types::worker::Phase;
 use std::alloc::Global;
 use std::sync::Wait;
 use std::sync::ledger::Ledger;
-
-/// Past the numbers of workers.
-const WORKERS_END: u64 = 64;
 
 /// A worker's number, and what it works with.
 #[derive(Drop)]
@@ -28,7 +27,10 @@ pub struct Post<'a, L: Ledger, G: Gate, R: Wait> {
 
 impl<'a, L: Ledger, G: Gate, R: Wait> Post<'a, L, G, R> {
     /// Goes on after the step of that name, if the gate lets the worker.
-    fn pass(&self, point: Point) -> Result<(), Halt> {
+    fn pass(&self, point: Point) -> Result<(), Halt>
+        ensures open { G.opens self.now.gate.now → IsOk result }
+        ensures leaves { IfErr result (λ halt. halt ≡ Halt.Leaves) }
+    {
         if self.gate.pass(self.number, point) {
             Ok(())
         } else {
@@ -38,7 +40,9 @@ impl<'a, L: Ledger, G: Gate, R: Wait> Post<'a, L, G, R> {
 
     /// Takes what is served, or waits for it until the server is closed.
     fn take(&self, seat: &mut Seat<L>, seen: Moment) -> Result<(), Halt>
-        ensures { Grows (IsOfWorker self.now.number) seat.old seat.new }
+        ensures grows { Grows (IsOfWorker self.now.number) seat.old seat.new }
+        ensures closed { IsTrue seen.is_closed → IsErrOf result Halt.Ends }
+        ensures past { 64 ≤ self.now.number → IsErrOf result Halt.Ends }
     {
         if seen.is_closed || self.number >= WORKERS_END {
             return Err(Halt::Ends);
@@ -113,7 +117,10 @@ impl<'a, L: Ledger, G: Gate, R: Wait> Post<'a, L, G, R> {
     }
 
     /// Waits for the plan to be applied, unless the applier has ended.
-    fn await_applied(&self, seen: Moment) -> Result<(), Halt> {
+    fn await_applied(&self, seen: Moment) -> Result<(), Halt>
+        ensures left { IsTrue seen.applier_left → IsErrOf result Halt.Ends }
+        ensures awaits { IsFalse seen.applier_left → IsOk result }
+    {
         if seen.applier_left {
             return Err(Halt::Ends);
         }

@@ -1,5 +1,7 @@
 //! Workers.
 
+ghost use Rattle.std.specs.Prelude.{◌≡◌, IsFalse, IsTrue};
+ghost use Rattle.ns_workers.specs.declared.halt.Halt.TheVariants as Halt;
 ghost use Rattle.ns_workers.specs.Growing.{Grows, IsOfWorker};
 
 use crate::gate::Gate;
@@ -35,7 +37,10 @@ fn goes_on<L: Ledger, G: Gate, R: Wait + Clock>(
     kept: &mut Kept,
     halt: Halt,
 ) -> bool
-    ensures { Grows (IsOfWorker post.now.number) seat.old seat.new }
+    ensures grows { Grows (IsOfWorker post.now.number) seat.old seat.new }
+    ensures late { halt ≡ Halt.Late → IsTrue result }
+    ensures leaves { halt ≡ Halt.Leaves → IsFalse result }
+    ensures ends { halt ≡ Halt.Ends → IsFalse result }
 {
     match halt {
         Halt::Late => true,

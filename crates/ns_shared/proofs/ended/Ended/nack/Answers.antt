@@ -1,22 +1,39 @@
-use Rattle.std.proofs.Common.{refl, ap, arith}
+use Rattle.std.proofs.Common.{ap, arith, length, refl, ◌∙◌}
 use Rattle.ns_types.specs.declared.step.Step.TheVariants as Step
 use Rattle.ns_shared.specs.Receiving.{count}
 use Rattle.ns_held.proofs.Adding.{logs_adds}
 use Rattle.ns_shared.proofs.Adding.{adds_count, adds_room}
+use Rattle.ns_shared.proofs.Entries.{entry_behind}
+use Rattle.ns_shared.proofs.Refusing.{logs_refused, receives}
 use Rattle.ns_shared.proofs.ended.Ended.nack.Goals as goal
 
-pub rendered_in-rendered-requires : goal.rendered_in-rendered-requires
-rendered_in-rendered-requires g c = adds_room (Step.Nack c.args.worker c.args.namespace.now) c.args.self.now.held c.nack-answer.result
+pub repeat_entry-rendered-requires-clause-room : goal.repeat_entry-rendered-requires-clause-room
+repeat_entry-rendered-requires-clause-room g c = adds_room (Step.Nack c.args.worker c.args.namespace.now) c.args.self.now.held c.nack-answer.result
     c.nack-answer.new.self c.in_ok-step.room refl
     (ap (λ m. m.1) c.in_ok-step.ensures.made)
     (logs_adds (Step.Nack c.args.worker c.args.namespace.now) c.args.self.now.held c.nack-answer.result c.nack-answer.new.self c.nack-answer.ensures)
+
+pub repeat_entry-rendered-requires-clause-entry : goal.repeat_entry-rendered-requires-clause-entry
+repeat_entry-rendered-requires-clause-entry g c = entry_behind (Step.Nack c.args.worker c.args.namespace.now) c.args.self.now.held
+    c.nack-answer.result c.nack-answer.new.self
+    c.log.result.now c.log-2.result.now
+    (logs_adds (Step.Nack c.args.worker c.args.namespace.now) c.args.self.now.held c.nack-answer.result c.nack-answer.new.self c.nack-answer.ensures)
+    c.log.ensures.entries c.log-2.ensures.entries
 
 pub invariant_of-self-2-clause-counted : goal.invariant_of-self-2-clause-counted
 invariant_of-self-2-clause-counted g c = omega (
   arith,
   c.args.self.now.counted,
   c.receive.ensures.total,
-  ap count c.rendered_in-rendered.ensures.shown,
+  ap count c.repeat_entry-rendered.ensures,
   adds_count (Step.Nack c.args.worker c.args.namespace.now) c.args.self.now.held c.nack-answer.result c.nack-answer.new.self
       (logs_adds (Step.Nack c.args.worker c.args.namespace.now) c.args.self.now.held c.nack-answer.result c.nack-answer.new.self c.nack-answer.ensures),
 )
+
+pub returns-clause-seat : goal.returns-clause-seat
+returns-clause-seat g c = receives (Step.Nack c.args.worker c.args.namespace.now) c.in_ok-step.step (length c.log.result.now) c.nack-answer.result
+    c.repeat_entry-rendered.result c.args.seat.now c.prepare.new.receipts.items c.receive.new.receipts.items
+    (logs_refused (Step.Nack c.args.worker c.args.namespace.now) c.args.self.now.held
+    c.nack-answer.result c.nack-answer.new.self c.nack-answer.ensures)
+    c.receive.ensures.receipts (ap (λ m. m.0) c.in_ok-step.ensures.made ∙ ap (Step.Nack c.args.worker) c.in_ok-clone.ensures.cases)
+    c.repeat_entry-rendered.ensures (c.in_ok-step.ensures.same ∙ c.seat.view_is)

@@ -1,6 +1,7 @@
-use Rattle.std.proofs.Common.{ap, map, refl, vec_items, ◌∙◌}
+use Rattle.std.proofs.Common.{ap, map, refl, subst, vec_items, ◌∙◌}
 use Rattle.ns_held.specs.Logs.{History}
-use Rattle.ns_shared.proofs.Settled.{fault_same, no_mismatch, same_fault, settles_back, settles_same}
+use Rattle.ns_receipts.specs.Settling.{Settles}
+use Rattle.ns_shared.proofs.SettledAlike.{fault_same, no_mismatch, same_fault, settles_back, settles_same}
 use Rattle.ns_shared.proofs.ended.Ended.settle.Goals as goal
 
 pub hand_in-requires : goal.hand_in-requires
@@ -14,6 +15,12 @@ returns-in_default-clause-mismatch g c seat place is = no_mismatch _ seat place 
 
 pub returns-in_default-clause-counts : goal.returns-in_default-clause-counts
 returns-in_default-clause-counts g c never all = absurd (never refl)
+
+pub invariant_of-result : goal.invariant_of-result
+invariant_of-result g c = (
+  map vec_items c.as_slice.result.now,
+  subst (λ log. Settles log (map vec_items c.as_slice.result.now)) c.log.ensures.entries c.in-Ok-settle.ensures.ok,
+)
 
 pub returns-in-Ok-settle-clause-same : goal.returns-in-Ok-settle-clause-same
 returns-in-Ok-settle-clause-same g c = c.in-Ok.ensures.held

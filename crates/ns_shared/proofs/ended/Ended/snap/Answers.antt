@@ -1,24 +1,42 @@
-use Rattle.std.proofs.Common.{refl, ap, arith}
+use Rattle.std.proofs.Common.{ap, arith, length, refl, ◌∙◌}
 use Rattle.ns_types.specs.declared.step.Step.TheVariants as Step
 use Rattle.ns_drive.specs.Calls.{snapped}
 use Rattle.ns_shared.specs.Receiving.{count}
 use Rattle.ns_held.proofs.Adding.{logs_adds}
 use Rattle.ns_shared.proofs.Adding.{adds_count, adds_room}
+use Rattle.ns_shared.proofs.Entries.{entry_behind}
+use Rattle.ns_shared.proofs.Refusing.{logs_refused, receives}
 use Rattle.ns_shared.proofs.ended.Ended.snap.Goals as goal
 
-pub rendered_snapped-rendered-requires : goal.rendered_snapped-rendered-requires
-rendered_snapped-rendered-requires g c = adds_room (Step.Snap c.args.worker c.args.namespace.now) c.args.self.now.held
+pub repeat_snapped-rendered-requires-clause-room : goal.repeat_snapped-rendered-requires-clause-room
+repeat_snapped-rendered-requires-clause-room g c = adds_room (Step.Snap c.args.worker c.args.namespace.now) c.args.self.now.held
     (snapped c.snap-seen.result) c.snap-seen.new.self c.in_ok-step.room refl
     (ap (λ m. m.1) c.in_ok-step.ensures.made)
     (logs_adds (Step.Snap c.args.worker c.args.namespace.now) c.args.self.now.held (snapped c.snap-seen.result) c.snap-seen.new.self c.snap-seen.ensures.logged)
+
+pub repeat_snapped-rendered-requires-clause-entry : goal.repeat_snapped-rendered-requires-clause-entry
+repeat_snapped-rendered-requires-clause-entry g c = entry_behind (Step.Snap c.args.worker c.args.namespace.now) c.args.self.now.held
+    (snapped c.snap-seen.result) c.snap-seen.new.self
+    c.log.result.now c.log-2.result.now
+    (logs_adds (Step.Snap c.args.worker c.args.namespace.now) c.args.self.now.held (snapped c.snap-seen.result) c.snap-seen.new.self c.snap-seen.ensures.logged)
+    c.log.ensures.entries c.log-2.ensures.entries
 
 pub invariant_of-self-2-clause-counted : goal.invariant_of-self-2-clause-counted
 invariant_of-self-2-clause-counted g c = omega (
   arith,
   c.args.self.now.counted,
   c.receive.ensures.total,
-  ap count c.rendered_snapped-rendered.ensures,
+  ap count c.repeat_snapped-rendered.ensures,
   adds_count (Step.Snap c.args.worker c.args.namespace.now) c.args.self.now.held (snapped c.snap-seen.result) c.snap-seen.new.self
       (logs_adds (Step.Snap c.args.worker c.args.namespace.now) c.args.self.now.held (snapped c.snap-seen.result) c.snap-seen.new.self
       c.snap-seen.ensures.logged),
 )
+
+pub returns-clause-seat : goal.returns-clause-seat
+returns-clause-seat g c = receives (Step.Snap c.args.worker c.args.namespace.now) c.in_ok-step.step
+    (length c.log.result.now) (snapped c.snap-seen.result)
+    c.repeat_snapped-rendered.result c.args.seat.now c.prepare.new.receipts.items c.receive.new.receipts.items
+    (logs_refused (Step.Snap c.args.worker c.args.namespace.now) c.args.self.now.held
+    (snapped c.snap-seen.result) c.snap-seen.new.self c.snap-seen.ensures.logged)
+    c.receive.ensures.receipts (ap (λ m. m.0) c.in_ok-step.ensures.made ∙ ap (Step.Snap c.args.worker) c.in_ok-clone.ensures.cases)
+    c.repeat_snapped-rendered.ensures (c.in_ok-step.ensures.same ∙ c.seat.view_is)

@@ -1,23 +1,40 @@
-use Rattle.std.proofs.Common.{refl, ap, arith}
+use Rattle.std.proofs.Common.{ap, arith, length, refl, ◌∙◌}
 use Rattle.ns_types.specs.declared.step.Step.TheVariants as Step
 use Rattle.ns_shared.specs.Receiving.{count}
 use Rattle.ns_held.proofs.Adding.{submit_adds}
 use Rattle.ns_shared.proofs.Adding.{adds_count, adds_room}
+use Rattle.ns_shared.proofs.Entries.{entry_behind}
+use Rattle.ns_shared.proofs.Refusing.{submit_refused, receives}
 use Rattle.ns_shared.proofs.ended.Ended.submit.Goals as goal
 
-pub rendered_in-rendered-requires : goal.rendered_in-rendered-requires
-rendered_in-rendered-requires g c = adds_room (Step.Submit c.args.worker c.args.namespace.now) c.args.self.now.held c.submit-answer.result
+pub repeat_entry-rendered-requires-clause-room : goal.repeat_entry-rendered-requires-clause-room
+repeat_entry-rendered-requires-clause-room g c = adds_room (Step.Submit c.args.worker c.args.namespace.now) c.args.self.now.held c.submit-answer.result
     c.submit-answer.new.self c.in_ok-step.room refl
     (ap (λ m. m.1) c.in_ok-step.ensures.made)
     (submit_adds c.args.worker c.args.namespace.now c.args.planned c.args.self.now.held c.submit-answer.result c.submit-answer.new.self c.submit-answer.ensures)
+
+pub repeat_entry-rendered-requires-clause-entry : goal.repeat_entry-rendered-requires-clause-entry
+repeat_entry-rendered-requires-clause-entry g c = entry_behind (Step.Submit c.args.worker c.args.namespace.now) c.args.self.now.held
+    c.submit-answer.result c.submit-answer.new.self
+    c.log.result.now c.log-2.result.now
+    (submit_adds c.args.worker c.args.namespace.now c.args.planned c.args.self.now.held c.submit-answer.result c.submit-answer.new.self c.submit-answer.ensures)
+    c.log.ensures.entries c.log-2.ensures.entries
 
 pub invariant_of-self-2-clause-counted : goal.invariant_of-self-2-clause-counted
 invariant_of-self-2-clause-counted g c = omega (
   arith,
   c.args.self.now.counted,
   c.receive.ensures.total,
-  ap count c.rendered_in-rendered.ensures.shown,
+  ap count c.repeat_entry-rendered.ensures,
   adds_count (Step.Submit c.args.worker c.args.namespace.now) c.args.self.now.held c.submit-answer.result c.submit-answer.new.self
       (submit_adds c.args.worker c.args.namespace.now c.args.planned c.args.self.now.held c.submit-answer.result c.submit-answer.new.self
       c.submit-answer.ensures),
 )
+
+pub returns-clause-seat : goal.returns-clause-seat
+returns-clause-seat g c = receives (Step.Submit c.args.worker c.args.namespace.now) c.in_ok-step.step (length c.log.result.now) c.submit-answer.result
+    c.repeat_entry-rendered.result c.args.seat.now c.prepare.new.receipts.items c.receive.new.receipts.items
+    (submit_refused c.args.worker c.args.namespace.now c.args.planned c.args.self.now.held
+    c.submit-answer.result c.submit-answer.new.self c.submit-answer.ensures)
+    c.receive.ensures.receipts (ap (λ m. m.0) c.in_ok-step.ensures.made ∙ ap (Step.Submit c.args.worker) c.in_ok-clone.ensures.cases)
+    c.repeat_entry-rendered.ensures (c.in_ok-step.ensures.same ∙ c.seat.view_is)

@@ -1,7 +1,7 @@
 -- What was settled over equal logs and seats is settled.
 use Rattle.std.specs.Prelude.{◌≡◌, ℕ, Bool, true, false, List, Result, Ok, Err}
 use Rattle.std.specs.Result.{IsErrOf}
-use Rattle.std.proofs.Common.{ap, refl, sym, subst}
+use Rattle.std.proofs.Common.{ap, sym, subst}
 use Rattle.ns_json.specs.Replies.{Entry}
 use Rattle.ns_receipts.specs.declared.fault.SettleFault.{SettleFault}
 use Rattle.ns_receipts.specs.declared.receipt.Receipt.{Receipt}

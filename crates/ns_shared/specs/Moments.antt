@@ -1,0 +1,42 @@
+-- How it stands with those who share a server: whom a call wakes, and who entered and left.
+use Rattle.std.specs.Prelude.{ℕ, ◌+◌, ◌-◌, ◌%◌, ◌^◌, Bool, true, false, ◌||◌, if◌then◌else◌, is_some}
+use Rattle.ns_types.specs.State.Rows.{World}
+use Rattle.ns_types.specs.Working.Looks.{served_ready}
+use Rattle.ns_shared.specs.declared.changes.Role.{Role}
+use Rattle.ns_shared.specs.declared.changes.Stage.{Stage}
+use Rattle.ns_shared.specs.declared.changes.Wakes.{Wakes}
+
+-- ---- changes that others wait for
+
+-- whether there is something to do for those whom the call wakes
+abbrev pub is_stirred : Wakes → Bool → World → Bool
+is_stirred Wakes.Nobody is_closed w = false
+is_stirred Wakes.WhereServed is_closed w = is_some (served_ready w)
+is_stirred Wakes.WhereServedOrClosed is_closed w = is_closed || is_some (served_ready w)
+is_stirred Wakes.All is_closed w = true
+
+-- one change more, where there is; the number wraps
+abbrev pub changes_after : Bool → ℕ → ℕ
+changes_after stirred changes = if stirred then (changes + 1) % 2 ^ 64 else changes
+
+-- ---- who entered and left; the number of workers wraps
+
+abbrev pub workers_entered : Role → ℕ → ℕ
+workers_entered Role.Worker workers = (workers + 1) % 2 ^ 64
+workers_entered Role.Applier workers = workers
+
+abbrev pub stage_entered : Role → Stage → Stage
+stage_entered Role.Worker stage = stage
+stage_entered Role.Applier stage = Stage.Running
+
+abbrev pub workers_left : Role → ℕ → ℕ
+workers_left Role.Worker workers = (workers + (2 ^ 64 - 1)) % 2 ^ 64
+workers_left Role.Applier workers = workers
+
+abbrev pub stage_left : Role → Stage → Stage
+stage_left Role.Worker stage = stage
+stage_left Role.Applier stage = Stage.Left
+
+abbrev pub is_left : Stage → Bool
+is_left Stage.Left = true
+is_left _ = false

@@ -1,0 +1,127 @@
+//! What lies under the lock of a shared server.
+
+ghost use Rattle.std.specs.Prelude.{◌≡◌, false, is_some, true};
+ghost use Rattle.ns_types.specs.Working.Looks.{served_ready};
+ghost use Rattle.ns_shared.specs.declared.changes.Stage.TheVariants as Stage;
+ghost use Rattle.ns_shared.specs.Moments.{changes_after, is_left, is_stirred};
+ghost use Rattle.ns_shared.specs.Moments.{stage_entered, stage_left, workers_entered, workers_left};
+
+use crate::changes::{Moment, Role, Stage, Wakes};
+use crate::ended::Ended;
+use std::sync::ledger::Ledger;
+
+/// A server with its log, and how it stands with those who share it.
+#[derive(Drop)]
+pub(crate) struct Desk<L: Ledger> {
+    pub(crate) kept: Ended<L>,
+    /// How many changes there were that others wait for. It wraps.
+    pub(crate) changes: u64,
+    pub(crate) is_closed: bool,
+    /// How many workers entered and have not left.
+    pub(crate) workers: u64,
+    pub(crate) applier: Stage,
+}
+
+impl<L: Ledger> Desk<L> {
+    /// Nobody has entered yet.
+    pub(crate) fn new(kept: Ended<L>) -> Desk<L>
+        ensures { result ≡ record {
+          kept = kept;
+          changes = 0;
+          is_closed = false;
+          workers = 0;
+          applier = Stage.Awaited;
+        } }
+    {
+        Desk {
+            kept,
+            changes: 0,
+            is_closed: false,
+            workers: 0,
+            applier: Stage::Awaited,
+        }
+    }
+
+    /// How it stands now.
+    pub(crate) fn moment(&self) -> Moment
+        ensures { result ≡ record {
+          changes = self.now.changes;
+          is_closed = self.now.is_closed;
+          workers = self.now.workers;
+          applier_left = is_left self.now.applier;
+        } }
+    {
+        Moment {
+            changes: self.changes,
+            is_closed: self.is_closed,
+            workers: self.workers,
+            applier_left: self.applier.is_left(),
+        }
+    }
+
+    fn has_served(&self) -> bool
+        ensures { result ≡ is_some (served_ready self.now.kept.held.state.world) }
+    {
+        self.kept.held.core().served().is_some()
+    }
+
+    /// Whether there is something to do for those whom the call wakes.
+    fn is_stirred(&self, wakes: Wakes) -> bool
+        ensures { let world = self.now.kept.held.state.world in
+            result ≡ is_stirred wakes self.now.is_closed world }
+    {
+        match wakes {
+            Wakes::Nobody => false,
+            Wakes::WhereServed => self.has_served(),
+            Wakes::WhereServedOrClosed => self.is_closed || self.has_served(),
+            Wakes::All => true,
+        }
+    }
+
+    /// Counts a change, if there is something to do for those whom the call wakes. Whether there is.
+    pub(crate) fn stir(&mut self, wakes: Wakes) -> bool
+        ensures stirred { let world = self.old.kept.held.state.world in
+            result ≡ is_stirred wakes self.old.is_closed world }
+        ensures desk { let world = self.old.kept.held.state.world in
+            let stirred = is_stirred wakes self.old.is_closed world in
+            self.new ≡ record self.old { changes = changes_after stirred self.old.changes } }
+    {
+        if !self.is_stirred(wakes) {
+            return false;
+        }
+        self.changes = self.changes.wrapping_add(1);
+        true
+    }
+
+    /// Counts a worker that begins, or notes that the applier has begun.
+    pub(crate) fn enter(&mut self, role: Role)
+        ensures { self.new ≡ record self.old {
+          workers = workers_entered role self.old.workers;
+          applier = stage_entered role self.old.applier;
+        } }
+    {
+        match role {
+            Role::Worker => self.workers = self.workers.wrapping_add(1),
+            Role::Applier => self.applier = Stage::Running,
+        }
+    }
+
+    /// Takes a worker out of the count, or notes that the applier has left.
+    pub(crate) fn leave(&mut self, role: Role)
+        ensures { self.new ≡ record self.old {
+          workers = workers_left role self.old.workers;
+          applier = stage_left role self.old.applier;
+        } }
+    {
+        match role {
+            Role::Worker => self.workers = self.workers.wrapping_sub(1),
+            Role::Applier => self.applier = Stage::Left,
+        }
+    }
+
+    pub(crate) fn close(&mut self)
+        ensures { self.new ≡ record self.old { is_closed = true } }
+    {
+        self.is_closed = true;
+    }
+}

@@ -1,0 +1,29 @@
+-- When threads that work go on, and when they end.
+use Rattle.std.specs.Prelude.{Bool, ◌&&◌, nat_eq, Ok, Err}
+use Rattle.ns_types.specs.declared.refusal.Refusal.{Refusal}
+use Rattle.ns_types.specs.Steps.{Answer}
+use Rattle.ns_shared.specs.declared.changes.Moment.{Moment}
+use Rattle.ns_workers.specs.declared.halt.Halt.{Halt}
+use Rattle.ns_workers.specs.declared.applying.Course.{Course}
+
+-- ---- a worker
+
+-- why its turn made no step
+abbrev pub halt_of : Refusal → Halt
+halt_of Refusal.NotEnabled = Halt.Late
+halt_of Refusal.Memory = Halt.Memory
+halt_of Refusal.Foreign = Halt.Leaves
+halt_of _ = Halt.Ends
+
+-- ---- the applier
+
+-- what it does after an Apply that was answered so
+abbrev pub course_of : Answer → Course
+course_of (Ok reply) = Course.GoesOn
+course_of (Err Refusal.NotEnabled) = Course.GoesOn
+course_of (Err Refusal.Memory) = Course.Pauses
+course_of (Err _) = Course.Ends
+
+-- no plan comes any more
+abbrev pub is_over : Moment → Bool
+is_over seen = seen.is_closed && nat_eq seen.workers 0
