@@ -24,7 +24,6 @@ use Rattle.ns_shared.specs.contracts.changes.Stage as Stage
 use Rattle.ns_shared.specs.contracts.ended.Ended as Ended
 use Rattle.ns_shared.specs.contracts.desk.Desk as Desk
 use Rattle.ns_shared.specs.contracts.shared.Shared as Shared
-use Rattle.ns_running_tests.specs.contracts.meeting.Meeting as Meeting
 
 Held-send : IsSend Held.the_row
 Held-send = search (sendable, crosses, core.the_send, entry.the_send) depth 20
@@ -41,9 +40,6 @@ module _ (L : RattleType) (g : Ghosts L.Denot) where
 
   pub Shared-sync : IsSync (Shared.the_row L g)
   Shared-sync = search (sendable, crosses, Desk-send) depth 20
-
-pub Meeting-sync : IsSync Meeting.the_row
-Meeting-sync = search (sendable, crosses) depth 20
 
 pub Barrier-sync : IsSync Barrier.the_row
 Barrier-sync = search (sendable, crosses) depth 20
