@@ -138,15 +138,13 @@ const SET_UP: [(&str, &str); 8] = [
     ),
 ];
 
-/// The seat of the client that set the server up.
+/// Makes the writes of the set-up.
 pub(crate) fn set_up<L: Ledger, R: Wait + Abort>(
     rt: &R,
     alloc: Global,
-    shared: &Shared<L>,
-) -> Seat<L> {
-    let mut guest = guest(rt, alloc, shared);
+    guest: &mut Guest<'_, L, R>,
+) {
     for (path, document) in &SET_UP {
-        drop(write(rt, alloc, &mut guest, *path, *document));
+        drop(write(rt, alloc, guest, *path, *document));
     }
-    seat_of(guest)
 }

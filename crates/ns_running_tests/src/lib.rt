@@ -8,6 +8,14 @@ mod filling;
 #[cfg(test)]
 mod guest;
 #[cfg(test)]
+mod many;
+#[cfg(test)]
+mod meeting;
+#[cfg(test)]
 mod reading;
 #[cfg(test)]
+mod scheduling;
+#[cfg(test)]
 mod server;
+#[cfg(test)]
+mod stopping;

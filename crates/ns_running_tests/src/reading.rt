@@ -15,10 +15,10 @@ use std::sync::ledger::{Blank, Ledger};
 const JOB: &str =
     "{\"Constraints\":[],\"CreateIndex\":1,\"ID\":\"a\",\"JobModifyIndex\":1,\"Namespace\":\"tb\",\"NodePool\":\"west\",\"Priority\":50,\"Status\":\"pending\",\"Stop\":false,\"TaskGroups\":[{\"Count\":1,\"Name\":\"g\",\"Tasks\":[{\"Name\":\"t\",\"Resources\":{\"CPU\":100,\"MemoryMB\":100}}]}],\"Type\":\"service\",\"Version\":0}";
 
-/// Whether there are two receipts, and the second is of a later step, which showed the job.
+/// Whether the last receipt is of a later step than the one before, and showed the job.
 fn is_in_order(receipts: &[Receipt]) -> bool {
     match receipts {
-        [write, read] => write.place < read.place && read.rendered.body.as_str() == JOB,
+        [.., write, read] => write.place < read.place && read.rendered.body.as_str() == JOB,
         _ => false,
     }
 }
@@ -29,8 +29,8 @@ fn reads_what_it_wrote<L: Ledger, R: Wait + Abort>(rt: &R, alloc: Global, blank:
     requires parts { (blank.parts ≡ L.parts) × (L.parts ≡ 18446744073709551615) }
 {
     let shared = opened::<L, R>(rt, alloc, 100, blank);
-    drop(set_up(rt, alloc, &shared));
     let mut guest = guest(rt, alloc, &shared);
+    set_up(rt, alloc, &mut guest);
     drop(register(rt, alloc, &mut guest, "/v1/jobs?namespace=tb", "a"));
     let shown = look(rt, alloc, &mut guest, "/v1/job/a?namespace=tb");
     let seat = seat_of(guest);

@@ -1,0 +1,135 @@
+// Where a worker and the applier end: at a full log, at the gate, once the server is closed, and out of turn. No thread is started, so
+// one that goes on or waits in place of that never comes back.
+ghost use Rattle.std.specs.Prelude.{◌≡◌};
+
+use crate::guest::{guest, register, seat, write};
+use crate::server::opened;
+use ns_schedule::plan;
+use ns_shared::{PARTS, Shared};
+use ns_types::planned::Planned;
+use ns_types::refusal::Refusal;
+use ns_types::shared;
+use ns_types::snapshot::Snapshot;
+use ns_workers::{Gate, Open, Point, applier, worker};
+use std::alloc::Global;
+use std::marker::Brand;
+use std::process::Abort;
+use std::rt::Clock;
+use std::sync::Wait;
+use std::sync::ledger::{Blank, Ledger};
+
+/// Lets no worker go on from this point.
+#[derive(Clone, Copy)]
+struct Shut(Point);
+
+impl Gate for Shut {
+    fn plan(
+        &self,
+        alloc: Global,
+        _worker: u64,
+        snapshot: shared::Shared<Snapshot>,
+    ) -> Result<Planned, Refusal> {
+        plan(alloc, snapshot)
+    }
+
+    fn pass(&self, _worker: u64, point: Point) -> bool {
+        point != self.0
+    }
+}
+
+/// Registers a node, and a job that has a place on it: two entries.
+fn prepare<L: Ledger, R: Wait + Abort>(rt: &R, alloc: Global, shared: &Shared<L>) {
+    let mut guest = guest(rt, alloc, shared);
+    let capacity = "{\"CPU\":1000,\"MemoryMB\":1024}";
+    drop(write(
+        rt,
+        alloc,
+        &mut guest,
+        "/v1/node/pool/default/node/n1",
+        capacity,
+    ));
+    drop(register(rt, alloc, &mut guest, "/v1/jobs", "a"));
+}
+
+/// How many steps the worker of that number makes until it ends.
+fn works<L: Ledger, G: Gate, R: Wait + Clock + Abort>(
+    rt: &R,
+    alloc: Global,
+    shared: &Shared<L>,
+    gate: &G,
+    number: u64,
+) -> usize {
+    let mut seat = seat(rt, alloc, shared);
+    worker(rt, alloc, shared, gate, number, &mut seat);
+    seat.receipts().len()
+}
+
+/// How many steps the applier makes until it ends.
+fn applies<L: Ledger, R: Wait + Clock + Abort>(rt: &R, alloc: Global, shared: &Shared<L>) -> usize {
+    let mut seat = seat(rt, alloc, shared);
+    applier(rt, alloc, shared, &mut seat);
+    seat.receipts().len()
+}
+
+/// Whether a worker that has a snapshot ends where the log has no room for its plan.
+fn worker_ends<L: Ledger, R: Wait + Clock + Abort>(rt: &R, alloc: Global, blank: Blank) -> bool
+    requires name { blank.name ≡ L.name }
+    requires parts { (blank.parts ≡ L.parts) × (L.parts ≡ 18446744073709551615) }
+{
+    let shared = opened::<L, R>(rt, alloc, 4, blank);
+    prepare(rt, alloc, &shared);
+    let snaps = works(rt, alloc, &shared, &Open, 0) == 2;
+    let served = shared.served(rt).expect(rt, "memory");
+    snaps && served.is_none() && !shared.is_closed(rt)
+}
+
+#[test]
+fn a_full_log_ends_a_worker(rt: HostRuntime) {
+    let ends = worker_ends::<Brand, _>(&rt, rt.alloc(), Blank::new(PARTS));
+    assert!(rt; ends);
+}
+
+/// Whether the applier ends where the log has no room for a plan that waits, and closes the server. The worker whose plan it is ends
+/// at the gate before that, and ends after that since nobody applies the plan any more.
+fn applier_ends<L: Ledger, R: Wait + Clock + Abort>(rt: &R, alloc: Global, blank: Blank) -> bool
+    requires name { blank.name ≡ L.name }
+    requires parts { (blank.parts ≡ L.parts) × (L.parts ≡ 18446744073709551615) }
+{
+    let shared = opened::<L, R>(rt, alloc, 5, blank);
+    prepare(rt, alloc, &shared);
+    let submits = works(rt, alloc, &shared, &Shut(Point::Queued), 0) == 3;
+    let was_open = !shared.is_closed(rt);
+    let applies = applies(rt, alloc, &shared);
+    let closes = applies == 0 && shared.is_closed(rt);
+    submits && was_open && closes && works(rt, alloc, &shared, &Open, 0) == 0
+}
+
+#[test]
+fn a_full_log_ends_the_applier(rt: HostRuntime) {
+    let ends = applier_ends::<Brand, _>(&rt, rt.alloc(), Blank::new(PARTS));
+    assert!(rt; ends);
+}
+
+/// Whether those make no step that are not to: the worker behind the last number, a worker that is idle once the server is closed,
+/// and the applier then. A worker that leaves has given back what it took.
+fn stay_idle<L: Ledger, R: Wait + Clock + Abort>(rt: &R, alloc: Global, blank: Blank) -> bool
+    requires name { blank.name ≡ L.name }
+    requires parts { (blank.parts ≡ L.parts) × (L.parts ≡ 18446744073709551615) }
+{
+    let shared = opened::<L, R>(rt, alloc, 100, blank);
+    prepare(rt, alloc, &shared);
+    let opens = !shared.now(rt).applier_left;
+    let last = works(rt, alloc, &shared, &Open, 64);
+    let leaves = works(rt, alloc, &shared, &Shut(Point::Took), 63);
+    let served = shared.served(rt).expect(rt, "memory");
+    shared.close(rt);
+    let closed = works(rt, alloc, &shared, &Open, 0);
+    let applies = applies(rt, alloc, &shared);
+    opens && last == 0 && leaves == 2 && served.is_some() && closed == 0 && applies == 0
+}
+
+#[test]
+fn no_step_out_of_turn(rt: HostRuntime) {
+    let idle = stay_idle::<Brand, _>(&rt, rt.alloc(), Blank::new(PARTS));
+    assert!(rt; idle);
+}
