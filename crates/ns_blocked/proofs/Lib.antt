@@ -1,5 +1,6 @@
 pub mod ByKey
 pub mod Grouping
+pub mod Kept
 pub mod Listed
 pub mod OneKey
 pub mod Passing
