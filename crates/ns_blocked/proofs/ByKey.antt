@@ -65,6 +65,20 @@ module _ {K V : Type 0} {R : K → K → Ordering} (o : IsTotalOrder R) where
       by true = has_slot-insert o m k None q h
       by false = h
 
+cond_twice : {X : Type 0} (b : Bool) (x : Option X) → cond b None (cond b None x) ≡ cond b None x
+cond_twice true x = refl
+cond_twice false x = refl
+
+-- first the row goes, and then its slot
+module _ {K V : Type 0} {R : K → K → Ordering} (o : IsTotalOrder R) (m made new : FinMap R (Option V)) (k : K) (taken : made ≡ emptied m k)
+    (gone : new ≡ remove made k) where
+  pub row_popped : IsAntisymmetric R → (q : K) → row_at new q ≡ cond (eq_by_cmp R q k) None (row_at m q)
+  row_popped same q = row_removed o made new k gone q ∙ ap (cond (eq_by_cmp R q k) None) (row_emptied o same m made k taken q)
+      ∙ cond_twice (eq_by_cmp R q k) (row_at m q)
+
+  pub room_popped : (q : K) → eq_by_cmp R q k ≡ false → IsTrue (has_slot m q) → IsTrue (has_slot new q)
+  room_popped q apart h = room_removed o made new k gone q apart (room_emptied o m made k taken q h)
+
 pub room_set : {V : Type 0} (m new : ByNumber (Option V)) (k : ℕ) (x : Option V) → new ≡ insert m k x → (q : ℕ) → IsTrue (has_slot m q) →
     IsTrue (has_slot new q)
 room_set m new k x e q h = subst (λ m. IsTrue (has_slot m q)) (sym e) (has_slot-insert numbers m k x q h)

@@ -4,6 +4,7 @@ use Rattle.std.proofs.Common.{refl, sym, ap, subst, ◌∙◌}
 use Rattle.std.specs.Option.{option_map_or}
 use Rattle.std.specs.FinMap.{empty, get-empty}
 use Rattle.keyed.specs.Table.{flat, row_at}
+use Rattle.ns_blocked.specs.declared.entry.Waiting.{Waiting}
 use Rattle.ns_blocked.specs.declared.entry.Waits.{Waits}
 use Rattle.ns_blocked.specs.declared.entry.Waits.TheVariants.{Pool, Quota}
 use Rattle.ns_blocked.specs.declared.groups.Groups.{Groups}
@@ -48,19 +49,19 @@ module _ (old new : Groups) where
   room_kept quotas pools (Quota name) n = quotas (name, n)
   room_kept quotas pools (Pool name) n = pools (name, n)
 
-  pub quota_written : (waits : Waits) (name : Name) (place : ℕ) (key : Option (Name × ℕ)) → waits ≡ Quota name →
-      WritesRow (name, place) key old.quotas new.quotas → KeepsRows old.pools new.pools → WritesGroup waits place key old new
-  quota_written waits name place key is quotas pools = subst (λ waits. WritesGroup waits place key old new) (sym is) by
+  pub quota_written : (waits : Waits) (name : Name) (place : ℕ) (row : Option Waiting) → waits ≡ Quota name →
+      WritesRow (name, place) row old.quotas new.quotas → KeepsRows old.pools new.pools → WritesGroup waits place row old new
+  quota_written waits name place row is quotas pools = subst (λ waits. WritesGroup waits place row old new) (sym is) by
     where
-      by : WritesGroup (Quota name) place key old new
+      by : WritesGroup (Quota name) place row old new
       by (Quota other) n = quotas (other, n)
       by (Pool other) n = pools (other, n)
 
-  pub pool_written : (waits : Waits) (name : Name) (place : ℕ) (key : Option (Name × ℕ)) → waits ≡ Pool name →
-      WritesRow (name, place) key old.pools new.pools → KeepsRows old.quotas new.quotas → WritesGroup waits place key old new
-  pool_written waits name place key is pools quotas = subst (λ waits. WritesGroup waits place key old new) (sym is) by
+  pub pool_written : (waits : Waits) (name : Name) (place : ℕ) (row : Option Waiting) → waits ≡ Pool name →
+      WritesRow (name, place) row old.pools new.pools → KeepsRows old.quotas new.quotas → WritesGroup waits place row old new
+  pool_written waits name place row is pools quotas = subst (λ waits. WritesGroup waits place row old new) (sym is) by
     where
-      by : WritesGroup (Pool name) place key old new
+      by : WritesGroup (Pool name) place row old new
       by (Quota other) n = quotas (other, n)
       by (Pool other) n = pools (other, n)
 

@@ -1,6 +1,7 @@
 -- The entries by their places: what a look-up finds, what is chosen of them, and what one more or one less leaves.
-use Rattle.std.specs.Prelude.{◌≡◌, ℕ, ◌+◌, ◌<◌, Bool, true, false, cond, not, ◌&&◌, List, [], ◌∷◌, ◌++◌, map, filter, Option, Some, None, is_some, option_map}
-use Rattle.std.proofs.Common.{refl, sym, ap, ◌∙◌, arith, Greater}
+use Rattle.std.specs.Prelude.{◌≡◌, ℕ, ◌+◌, ◌<◌, Bool, true, false, cond, not, ◌&&◌, T, IsTrue, List, [], ◌∷◌, ◌++◌, map, filter}
+use Rattle.std.specs.Prelude.{Option, Some, None, is_some, option_map}
+use Rattle.std.proofs.Common.{refl, sym, ap, subst, ◌∙◌, arith, Greater}
 use Rattle.std.proofs.lemmas.List.{map-append}
 use Rattle.std.specs.Ordering.{nat_cmp}
 use Rattle.std.specs.Cmp.{nat_cmp_is}
@@ -20,11 +21,12 @@ use Rattle.ns_types.proofs.TableRows.{entries_empty, some_row}
 use Rattle.ns_types.proofs.Tables.{any_row-none, each_row, entries-table_of, get-table_of, tied}
 use Rattle.ns_types.proofs.Tests.{not_Some, same_Some}
 use Rattle.ns_blocked.specs.declared.entry.Entry.{Entry}
+use Rattle.ns_blocked.specs.declared.entry.Waiting.{Waiting}
 use Rattle.ns_blocked.specs.declared.entry.Waits.{Waits}
 use Rattle.ns_blocked.specs.declared.groups.Groups.{Groups}
 use Rattle.ns_blocked.specs.declared.index.Index.{Index}
 use Rattle.ns_blocked.specs.ByKey.{KeepsRows, row_in}
-use Rattle.ns_blocked.specs.Blocked.{IsIndexed, PutsEntry, SameIndex, TakesEntry, by_place, entry_at, entry_in, key_for}
+use Rattle.ns_blocked.specs.Blocked.{IsIndexed, PutsEntry, SameIndex, TakesEntry, by_place, entry_at, entry_in, entry_with, row_for, row_of}
 use Rattle.ns_blocked.specs.Groups.{KeepsGroups, WritesGroup, group_of, group_row, same_waits}
 use Rattle.ns_blocked.proofs.ByKey.{no_row}
 use Rattle.ns_blocked.proofs.Grouping.{group_slot, same_waits_refl}
@@ -61,27 +63,27 @@ chosen_filter p (e ∷ xs) = ap (with_row e.0 (cond (p e.1) (Some e.1) None)) (c
     by true = refl
     by false = refl
 
-chosen_keys : (waits : Waits) (xs : List (ℕ × Entry)) →
-    row_list (map (λ e. (e.0, key_for waits (Some e.1))) xs) ≡ map (λ e. (e.0, e.1.key)) (filter (λ e. same_waits waits e.1.waits) xs)
-chosen_keys waits [] = refl
-chosen_keys waits (e ∷ xs) = ap (with_row e.0 (key_for waits (Some e.1))) (chosen_keys waits xs) ∙ by (same_waits waits e.1.waits)
+chosen_rows : (waits : Waits) (xs : List (ℕ × Entry)) →
+    row_list (map (λ e. (e.0, row_for waits (Some e.1))) xs) ≡ map (λ e. (e.0, row_of e.1)) (filter (λ e. same_waits waits e.1.waits) xs)
+chosen_rows waits [] = refl
+chosen_rows waits (e ∷ xs) = ap (with_row e.0 (row_for waits (Some e.1))) (chosen_rows waits xs) ∙ by (same_waits waits e.1.waits)
   where
     rest : List (ℕ × Entry)
     rest = filter (λ e. same_waits waits e.1.waits) xs
 
-    by : (b : Bool) → with_row e.0 (cond b (Some e.1.key) None) (map (λ e. (e.0, e.1.key)) rest) ≡ map (λ e. (e.0, e.1.key)) (cond b (e ∷ rest) rest)
+    by : (b : Bool) → with_row e.0 (cond b (Some (row_of e.1)) None) (map (λ e. (e.0, row_of e.1)) rest) ≡ map (λ e. (e.0, row_of e.1)) (cond b (e ∷ rest) rest)
     by true = refl
     by false = refl
 
 -- a group is exactly those of the list that wait for it
 pub group_is : (b : Index) (next : ℕ) → IsIndexed b next → (waits : Waits) →
-    row_list (entries (group_of b.groups waits)) ≡ map (λ e. (e.0, e.1.key)) (filter (λ e. same_waits waits e.1.waits) (entries (by_place b)))
+    row_list (entries (group_of b.groups waits)) ≡ map (λ e. (e.0, row_of e.1)) (filter (λ e. same_waits waits e.1.waits) (entries (by_place b)))
 group_is b next h waits = sym (entries-rows (group_of b.groups waits))
-    ∙ chosen (rows (group_of b.groups waits)) (by_place b) (λ e. key_for waits (Some e)) (λ n. get-rows numbers (group_of b.groups waits) n
-    ∙ group_slot b.groups waits n ∙ h.grouped waits n ∙ ap (key_for waits) (sym (place_row b n)) ∙ by (get (by_place b) n))
-    ∙ chosen_keys waits (entries (by_place b))
+    ∙ chosen (rows (group_of b.groups waits)) (by_place b) (λ e. row_for waits (Some e)) (λ n. get-rows numbers (group_of b.groups waits) n
+    ∙ group_slot b.groups waits n ∙ h.grouped waits n ∙ ap (row_for waits) (sym (place_row b n)) ∙ by (get (by_place b) n))
+    ∙ chosen_rows waits (entries (by_place b))
   where
-    by : (r : Option Entry) → key_for waits r ≡ flat (option_map (λ e. key_for waits (Some e)) r)
+    by : (r : Option Entry) → row_for waits r ≡ flat (option_map (λ e. row_for waits (Some e)) r)
     by None = refl
     by (Some e) = refl
 
@@ -126,21 +128,21 @@ off : {A : Type 0} (b : Bool) (x y : A) → cond (b && false) x y ≡ y
 off true x y = refl
 off false x y = refl
 
-stays_in : (old new : Groups) (of : Waits) (k n : ℕ) (key : Option Key) → WritesGroup of k key old new → same_number n k ≡ false →
+stays_in : (old new : Groups) (of : Waits) (k n : ℕ) (row : Option Waiting) → WritesGroup of k row old new → same_number n k ≡ false →
     (r : Option Waits) → entry_in new n r ≡ entry_in old n r
-stays_in old new of k n key wrote t None = refl
-stays_in old new of k n key wrote t (Some waits) = ap (option_map (λ key. record { key = key; waits = waits }))
-    (wrote waits n ∙ (λ i. cond (same_waits waits of && t i) key (group_row old waits n)) ∙ off (same_waits waits of) key (group_row old waits n))
+stays_in old new of k n row wrote t None = refl
+stays_in old new of k n row wrote t (Some waits) = ap (option_map (entry_with waits))
+    (wrote waits n ∙ (λ i. cond (same_waits waits of && t i) row (group_row old waits n)) ∙ off (same_waits waits of) row (group_row old waits n))
 
 module _ (old new : Index) (k : ℕ) where
   pub entry_put : (e : Entry) → ((n : ℕ) → row_at new.waits n ≡ cond (same_number n k) (Some e.waits) (row_at old.waits n)) →
-      WritesGroup e.waits k (Some e.key) old.groups new.groups → (n : ℕ) → entry_at new n ≡ cond (same_number n k) (Some e) (entry_at old n)
+      WritesGroup e.waits k (Some (row_of e)) old.groups new.groups → (n : ℕ) → entry_at new n ≡ cond (same_number n k) (Some e) (entry_at old n)
   entry_put e waits wrote n = ap (entry_in new.groups n) (waits n) ∙ by (same_number n k) refl
     where
       by : (b : Bool) → same_number n k ≡ b → entry_in new.groups n (cond b (Some e.waits) (row_at old.waits n)) ≡ cond b (Some e) (entry_at old n)
-      by true t = ap (option_map (λ key. record { key = key; waits = e.waits }))
-          (wrote e.waits n ∙ (λ i. cond (same_waits_refl e.waits i && t i) (Some e.key) (group_row old.groups e.waits n)))
-      by false t = stays_in old.groups new.groups e.waits k n (Some e.key) wrote t (row_at old.waits n)
+      by true t = ap (option_map (entry_with e.waits))
+          (wrote e.waits n ∙ (λ i. cond (same_waits_refl e.waits i && t i) (Some (row_of e)) (group_row old.groups e.waits n)))
+      by false t = stays_in old.groups new.groups e.waits k n (Some (row_of e)) wrote t (row_at old.waits n)
 
   pub entry_taken : (of : Waits) → ((n : ℕ) → row_at new.waits n ≡ cond (same_number n k) None (row_at old.waits n)) →
       WritesGroup of k None old.groups new.groups → (n : ℕ) → entry_at new n ≡ cond (same_number n k) None (entry_at old n)
@@ -150,14 +152,6 @@ module _ (old new : Index) (k : ℕ) where
       by true t = refl
       by false t = stays_in old.groups new.groups of k n None wrote t (row_at old.waits n)
 
--- the same entry, by what waits at its place
-pub waits_there : (b : Index) (k : ℕ) (waits : Waits) (e : Entry) → row_at b.waits k ≡ Some waits → entry_at b k ≡ Some e → e.waits ≡ waits
-waits_there b k waits e is at = by (group_row b.groups waits k) (sym (ap (entry_in b.groups k) is) ∙ at)
-  where
-    by : (r : Option Key) → option_map (λ key. record { key = key; waits = waits }) r ≡ Some e → e.waits ≡ waits
-    by None none = absurd (not_Some e none)
-    by (Some key) same = ap (λ (e : Entry). e.waits) (sym (same_Some (record { key = key; waits = waits }) e same))
-
 -- the same waits at each place
 pub entry_same : (old new : Index) → ((n : ℕ) → row_at new.waits n ≡ row_at old.waits n) → KeepsGroups old.groups new.groups → (n : ℕ) →
     entry_at new n ≡ entry_at old n
@@ -165,7 +159,7 @@ entry_same old new waits groups n = ap (entry_in new.groups n) (waits n) ∙ by 
   where
     by : (r : Option Waits) → entry_in new.groups n r ≡ entry_in old.groups n r
     by None = refl
-    by (Some w) = ap (option_map (λ key. record { key = key; waits = w })) (groups w n)
+    by (Some w) = ap (option_map (entry_with w)) (groups w n)
 
 pub same_rows : {V : Type 0} (m new : ByNumber (Option V)) → rows new ≡ rows m → (n : ℕ) → row_at new n ≡ row_at m n
 same_rows m new e n = sym (get-rows numbers new n) ∙ ap (λ t. get t n) e ∙ get-rows numbers m n
@@ -182,7 +176,7 @@ key_parts name n key a b = λ i. (sym a i, sym b i)
 module _ (old new : Index) (next : ℕ) (h : IsIndexed old next) where
   pub still_indexed : SameIndex old new → IsIndexed new next
   still_indexed same = record {
-    grouped = λ waits n. same.groups waits n ∙ h.grouped waits n ∙ ap (key_for waits) (sym (same.entry n));
+    grouped = λ waits n. same.groups waits n ∙ h.grouped waits n ∙ ap (row_for waits) (sym (same.entry n));
     placed = λ n e at. same.places e.key ∙ h.placed n e (sym (same.entry n) ∙ at);
     there = λ key n at. ap (option_map (λ (e : Entry). e.key)) (same.entry n) ∙ h.there key n (sym (same.places key) ∙ at);
     before = λ n e at. h.before n e (sym (same.entry n) ∙ at);
@@ -197,21 +191,21 @@ module _ (old new : Index) (next : ℕ) (h : IsIndexed old next) where
 
   pub put_indexed : (e : Entry) → PutsEntry next e old new → row_in old.places e.key ≡ None → IsIndexed new (next + 1)
   put_indexed e puts none = record {
-    grouped = λ waits n. puts.groups waits n ∙ grouped waits n (same_number n next) refl ∙ ap (key_for waits) (sym (puts.entry n));
+    grouped = λ waits n. puts.groups waits n ∙ grouped waits n (same_number n next) refl ∙ ap (row_for waits) (sym (puts.entry n));
     placed = λ n x at. placed n x (same_number n next) refl (sym (puts.entry n) ∙ at);
     there = λ q n at. there q n (same_key q e.key) refl (sym (puts.places q) ∙ at);
     before = λ n x at. before n x (same_number n next) refl (sym (puts.entry n) ∙ at);
   }
     where
       here : (waits : Waits) (n : ℕ) → same_number n next ≡ true → (s : Bool) →
-          cond (s && true) (Some e.key) (group_row old.groups waits n) ≡ cond s (Some e.key) None
+          cond (s && true) (Some (row_of e)) (group_row old.groups waits n) ≡ cond s (Some (row_of e)) None
       here waits n t true = refl
-      here waits n t false = h.grouped waits n ∙ ap (key_for waits) (ap (entry_at old) (tied one_number n next t) ∙ none_next)
+      here waits n t false = h.grouped waits n ∙ ap (row_for waits) (ap (entry_at old) (tied one_number n next t) ∙ none_next)
 
       grouped : (waits : Waits) (n : ℕ) (b : Bool) → same_number n next ≡ b →
-          cond (same_waits waits e.waits && b) (Some e.key) (group_row old.groups waits n) ≡ key_for waits (cond b (Some e) (entry_at old n))
+          cond (same_waits waits e.waits && b) (Some (row_of e)) (group_row old.groups waits n) ≡ row_for waits (cond b (Some e) (entry_at old n))
       grouped waits n true t = here waits n t (same_waits waits e.waits)
-      grouped waits n false t = off (same_waits waits e.waits) (Some e.key) (group_row old.groups waits n) ∙ h.grouped waits n
+      grouped waits n false t = off (same_waits waits e.waits) (Some (row_of e)) (group_row old.groups waits n) ∙ h.grouped waits n
 
       other : (n : ℕ) (x : Entry) → entry_at old n ≡ Some x → (s : Bool) → same_key x.key e.key ≡ s → cond s (Some next) (row_in old.places x.key) ≡ Some n
       other n x is true s = absurd (not_Some n (sym none ∙ ap (row_in old.places) (sym (key_is x.key e.key s)) ∙ h.placed n x is))
@@ -241,7 +235,7 @@ module _ (old new : Index) (next : ℕ) (h : IsIndexed old next) where
 
   pub take_indexed : (k : ℕ) (e : Entry) → entry_at old k ≡ Some e → TakesEntry k e old new → IsIndexed new next
   take_indexed k e at_k takes = record {
-    grouped = λ waits n. takes.groups waits n ∙ grouped waits n (same_number n k) refl ∙ ap (key_for waits) (sym (takes.entry n));
+    grouped = λ waits n. takes.groups waits n ∙ grouped waits n (same_number n k) refl ∙ ap (row_for waits) (sym (takes.entry n));
     placed = λ n x at. placed n x (same_number n k) refl (sym (takes.entry n) ∙ at);
     there = λ q n at. there q n (same_key q e.key) refl (sym (takes.places q) ∙ at);
     before = λ n x at. before n x (same_number n k) refl (sym (takes.entry n) ∙ at);
@@ -250,10 +244,11 @@ module _ (old new : Index) (next : ℕ) (h : IsIndexed old next) where
       here : (waits : Waits) (n : ℕ) → same_number n k ≡ true → (s : Bool) → same_waits waits e.waits ≡ s →
           cond (s && true) None (group_row old.groups waits n) ≡ None
       here waits n t true s = refl
-      here waits n t false s = h.grouped waits n ∙ ap (key_for waits) (ap (entry_at old) (tied one_number n k t) ∙ at_k) ∙ ap (λ b. cond b (Some e.key) None) s
+      here waits n t false s = h.grouped waits n ∙ ap (row_for waits) (ap (entry_at old) (tied one_number n k t) ∙ at_k)
+          ∙ ap (λ b. cond b (Some (row_of e)) None) s
 
       grouped : (waits : Waits) (n : ℕ) (b : Bool) → same_number n k ≡ b →
-          cond (same_waits waits e.waits && b) None (group_row old.groups waits n) ≡ key_for waits (cond b None (entry_at old n))
+          cond (same_waits waits e.waits && b) None (group_row old.groups waits n) ≡ row_for waits (cond b None (entry_at old n))
       grouped waits n true t = here waits n t (same_waits waits e.waits) refl
       grouped waits n false t = off (same_waits waits e.waits) None (group_row old.groups waits n) ∙ h.grouped waits n
 
@@ -302,20 +297,20 @@ entries_pushed old new next e h put = ap (map (λ (e : ℕ × Entry). e.1))
     (each_row numbers one_number (λ n _. n < next) (by_place old) (λ n x at. h.before n x (sym (place_row old n) ∙ at))))
     ∙ map-append (λ (e : ℕ × Entry). e.1) (entries (by_place old)) ((next, e) ∷ [])
 
--- where the others stay and those with this key are gone
-entries_without : (old new : Index) (key : Key) →
-    ((n : ℕ) → entry_at new n ≡ flat (option_map (λ e. cond (not (same_key e.key key)) (Some e) None) (entry_at old n))) →
-    values (by_place new) ≡ filter (λ e. not (same_key e.key key)) (values (by_place old))
-entries_without old new key left = ap (map (λ (e : ℕ × Entry). e.1))
-    (chosen (by_place new) (by_place old) (λ e. cond (not (same_key e.key key)) (Some e) None) (λ n. place_row new n ∙ left n
-    ∙ ap (λ r. flat (option_map (λ e. cond (not (same_key e.key key)) (Some e) None) r)) (sym (place_row old n)))
-    ∙ chosen_filter (λ e. not (same_key e.key key)) (entries (by_place old)))
-    ∙ sym (filter_map (λ (e : Entry). not (same_key e.key key)) (λ (e : ℕ × Entry). e.1) (entries (by_place old)))
+-- where those stay that pass and the others are gone
+pub entries_kept : (old new : Index) (passes : Entry → Bool) →
+    ((n : ℕ) → entry_at new n ≡ flat (option_map (λ e. cond (passes e) (Some e) None) (entry_at old n))) →
+    values (by_place new) ≡ filter passes (values (by_place old))
+entries_kept old new passes left = ap (map (λ (e : ℕ × Entry). e.1))
+    (chosen (by_place new) (by_place old) (λ e. cond (passes e) (Some e) None) (λ n. place_row new n ∙ left n
+    ∙ ap (λ r. flat (option_map (λ e. cond (passes e) (Some e) None) r)) (sym (place_row old n)))
+    ∙ chosen_filter passes (entries (by_place old)))
+    ∙ sym (filter_map passes (λ (e : ℕ × Entry). e.1) (entries (by_place old)))
 
 pub entries_left : (old new : Index) (next k : ℕ) (e : Entry) → IsIndexed old next → entry_at old k ≡ Some e →
     ((n : ℕ) → entry_at new n ≡ cond (same_number n k) None (entry_at old n)) →
     values (by_place new) ≡ filter (λ x. not (same_key x.key e.key)) (values (by_place old))
-entries_left old new next k e h at_k taken = entries_without old new e.key (λ n. taken n ∙ by n (entry_at old n) refl)
+entries_left old new next k e h at_k taken = entries_kept old new (λ x. not (same_key x.key e.key)) (λ n. taken n ∙ by n (entry_at old n) refl)
   where
     which : (n : ℕ) (x : Entry) → entry_at old n ≡ Some x → (b : Bool) → same_number n k ≡ b → (s : Bool) → same_key x.key e.key ≡ s →
         cond b None (Some x) ≡ cond (not s) (Some x) None
@@ -336,7 +331,7 @@ entries_left old new next k e h at_k taken = entries_without old new e.key (λ n
 -- where no entry has the key
 pub entries_stay : (b : Index) (next : ℕ) (key : Key) → IsIndexed b next → row_in b.places key ≡ None →
     values (by_place b) ≡ filter (λ e. not (same_key e.key key)) (values (by_place b))
-entries_stay b next key h none = entries_without b b key (λ n. by n (entry_at b n) refl)
+entries_stay b next key h none = entries_kept b b (λ e. not (same_key e.key key)) (λ n. by n (entry_at b n) refl)
   where
     which : (n : ℕ) (x : Entry) → entry_at b n ≡ Some x → (s : Bool) → same_key x.key key ≡ s → Some x ≡ cond (not s) (Some x) None
     which n x is true s = absurd (not_Some n (sym none ∙ ap (row_in b.places) (sym (key_is x.key key s)) ∙ h.placed n x is))
@@ -354,7 +349,7 @@ module _ (index : Index) (none : index.waits ≡ empty) where
 
   pub nothing_indexed : ((waits : Waits) (n : ℕ) → group_row index.groups waits n ≡ None) → index.places ≡ empty → IsIndexed index 0
   nothing_indexed groups places = record {
-    grouped = λ waits n. groups waits n ∙ ap (key_for waits) (sym (nowhere n));
+    grouped = λ waits n. groups waits n ∙ ap (row_for waits) (sym (nowhere n));
     placed = λ n e at. absurd (not_Some e (sym (nowhere n) ∙ at));
     there = λ key n at. absurd (not_Some n (sym (no_key key) ∙ at));
     before = λ n e at. absurd (not_Some e (sym (nowhere n) ∙ at));
@@ -376,3 +371,12 @@ entry_there b next h key n is = by (entry_at b n) refl (h.there key n is)
     by : (r : Option Entry) → entry_at b n ≡ r → option_map (λ e. e.key) r ≡ Some key → (e : Entry) × ((entry_at b n ≡ Some e) × (e.key ≡ key))
     by None at same = absurd (not_Some key same)
     by (Some e) at same = (e, (at, same_Some e.key key same))
+
+pub some_entry : (r : Option Entry) → IsTrue (is_some r) → (e : Entry) × (r ≡ Some e)
+some_entry None there = absurd (subst T (sym there) tt)
+some_entry (Some e) there = (e, refl)
+
+-- the entry, by what waits at its place and is there among those that wait for the same
+pub row_there : (b : Index) (k : ℕ) (waits : Waits) (row : Option Waiting) → row_at b.waits k ≡ Some waits → row ≡ group_row b.groups waits k →
+    entry_at b k ≡ option_map (entry_with waits) row
+row_there b k waits row is has = ap (entry_in b.groups k) is ∙ ap (option_map (entry_with waits)) (sym has)

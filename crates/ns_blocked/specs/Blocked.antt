@@ -4,6 +4,7 @@ use Rattle.std.specs.Prelude.{[], ◌∷◌, ◌++◌, map, filter, Option, Some
 use Rattle.std.specs.FinMap.{entries, values}
 use Rattle.keyed.specs.Table.{has_slot, row_at, rows}
 use Rattle.ns_blocked.specs.declared.entry.Entry.{Entry}
+use Rattle.ns_blocked.specs.declared.entry.Waiting.{Waiting}
 use Rattle.ns_blocked.specs.declared.entry.Waits.{Waits}
 use Rattle.ns_blocked.specs.declared.groups.Groups.{Groups}
 use Rattle.ns_blocked.specs.declared.index.Index.{Index}
@@ -15,9 +16,16 @@ use Rattle.ns_types.specs.State.Tables.{table_of}
 
 -- ---- the entries
 
+-- the entry without what it waits for
+abbrev pub row_of : Entry → Waiting
+row_of e = record { key = e.key; escapes = e.escapes; infeasible = e.infeasible }
+
+abbrev pub entry_with : Waits → Waiting → Entry
+entry_with waits row = record { key = row.key; waits = waits; escapes = row.escapes; infeasible = row.infeasible }
+
 abbrev pub entry_in : Groups → ℕ → Option Waits → Option Entry
 entry_in groups place None = None
-entry_in groups place (Some waits) = option_map (λ key. record { key = key; waits = waits }) (group_row groups waits place)
+entry_in groups place (Some waits) = option_map (entry_with waits) (group_row groups waits place)
 
 abbrev pub entry_at : Index → ℕ → Option Entry
 entry_at index place = entry_in index.groups place (row_at index.waits place)
@@ -38,9 +46,9 @@ entries_of b = values (by_place b.index)
 abbrev pub keys_of : BlockedList → List Key
 keys_of b = map (λ e. e.key) (entries_of b)
 
--- the keys of those that wait for it, in their order, with their places
-abbrev pub waiting_for : Waits → BlockedList → List (ℕ × Key)
-waiting_for waits b = map (λ e. (e.0, e.1.key)) (filter (λ e. same_waits waits e.1.waits) (entries (by_place b.index)))
+-- those that wait for it, in their order, with their places
+abbrev pub waiting_for : Waits → BlockedList → List (ℕ × Waiting)
+waiting_for waits b = map (λ e. (e.0, row_of e.1)) (filter (λ e. same_waits waits e.1.waits) (entries (by_place b.index)))
 
 -- none of the entries' keys is among those, and none comes twice
 abbrev pub are_new : List Key → List Entry → Bool
@@ -65,14 +73,14 @@ CanAdd es b = HasRoomFrom b.next es b.index
 
 -- ---- what holds of every list
 
--- the entry's key, where it waits for that
-abbrev pub key_for : Waits → Option Entry → Option Key
-key_for waits None = None
-key_for waits (Some e) = cond (same_waits waits e.waits) (Some e.key) None
+-- the entry's row, where it waits for that
+abbrev pub row_for : Waits → Option Entry → Option Waiting
+row_for waits None = None
+row_for waits (Some e) = cond (same_waits waits e.waits) (Some (row_of e)) None
 
 pub record IsIndexed (index : Index) (next : ℕ) : Type 0 where
-  -- a group has the keys of those that wait for it, at their places
-  pub grouped : (waits : Waits) (n : ℕ) → group_row index.groups waits n ≡ key_for waits (entry_at index n)
+  -- a group has those that wait for it, at their places
+  pub grouped : (waits : Waits) (n : ℕ) → group_row index.groups waits n ≡ row_for waits (entry_at index n)
   -- each is found by its key, and no other key has a place
   pub placed : (n : ℕ) (e : Entry) → entry_at index n ≡ Some e → row_in index.places e.key ≡ Some n
   pub there : (key : Key) (n : ℕ) → row_in index.places key ≡ Some n → option_map (λ e. e.key) (entry_at index n) ≡ Some key
@@ -101,7 +109,7 @@ pub record KeepsRoomBut (at : ℕ) (old new : Index) : Type 0 where
 -- the entry is at this place afterwards
 pub record PutsEntry (at : ℕ) (e : Entry) (old new : Index) : Type 0 where
   pub entry : (n : ℕ) → entry_at new n ≡ cond (same_number n at) (Some e) (entry_at old n)
-  pub groups : WritesGroup e.waits at (Some e.key) old.groups new.groups
+  pub groups : WritesGroup e.waits at (Some (row_of e)) old.groups new.groups
   pub places : WritesRow e.key (Some at) old.places new.places
 
 -- the entry of this place is gone afterwards

@@ -1,10 +1,11 @@
 -- Which entries wait for the same quota or pool.
 use Rattle.std.specs.Prelude.{◌≡◌, ℕ, Bool, false, cond, ◌&&◌, IsTrue, Option}
+use Rattle.ns_blocked.specs.declared.entry.Waiting.{Waiting}
 use Rattle.ns_blocked.specs.declared.entry.Waits.{Waits}
 use Rattle.ns_blocked.specs.declared.entry.Waits.TheVariants.{Pool, Quota}
 use Rattle.ns_blocked.specs.declared.groups.Groups.{Groups}
 use Rattle.ns_blocked.specs.ByKey.{has_room, numbers_of, row_in}
-use Rattle.ns_types.specs.State.Names.{Key, ByNumber, same_name, same_number}
+use Rattle.ns_types.specs.State.Names.{ByNumber, same_name, same_number}
 
 -- the same quota, or the same pool
 abbrev pub same_waits : Waits → Waits → Bool
@@ -14,12 +15,12 @@ same_waits (Pool a) (Quota b) = false
 same_waits (Pool a) (Pool b) = same_name a b
 
 -- the slots of those that wait for it, by their places
-abbrev pub group_of : Groups → Waits → ByNumber (Option Key)
+abbrev pub group_of : Groups → Waits → ByNumber (Option Waiting)
 group_of groups (Quota name) = numbers_of groups.quotas name
 group_of groups (Pool name) = numbers_of groups.pools name
 
--- the key of the one at a place
-abbrev pub group_row : Groups → Waits → ℕ → Option Key
+-- the one at a place
+abbrev pub group_row : Groups → Waits → ℕ → Option Waiting
 group_row groups (Quota name) place = row_in groups.quotas (name, place)
 group_row groups (Pool name) place = row_in groups.pools (name, place)
 
@@ -39,7 +40,7 @@ abbrev pub KeepsOtherGroupRoom : ℕ → Groups → Groups → Type 0
 KeepsOtherGroupRoom at old new = (waits : Waits) (place : ℕ) → same_number place at ≡ false →
     IsTrue (group_room old waits place) → IsTrue (group_room new waits place)
 
--- this key is in that group at that place, or none, and all others stay
-abbrev pub WritesGroup : Waits → ℕ → Option Key → Groups → Groups → Type 0
-WritesGroup of at key old new = (waits : Waits) (place : ℕ) →
-    group_row new waits place ≡ cond (same_waits waits of && same_number place at) key (group_row old waits place)
+-- this one is in that group at that place, or none, and all others stay
+abbrev pub WritesGroup : Waits → ℕ → Option Waiting → Groups → Groups → Type 0
+WritesGroup of at row old new = (waits : Waits) (place : ℕ) →
+    group_row new waits place ≡ cond (same_waits waits of && same_number place at) row (group_row old waits place)

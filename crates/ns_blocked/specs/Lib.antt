@@ -1,3 +1,4 @@
 pub mod Blocked
 pub mod ByKey
 pub mod Groups
+pub mod Waking

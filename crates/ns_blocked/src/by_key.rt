@@ -85,17 +85,20 @@ pub(crate) fn vacate_row<V: Drop>(rows: &mut ByKey<V>, name: &Text, number: u64)
 }
 
 /// Takes the row at the key out with its room, and a table that has no slot left. It takes no memory.
-pub(crate) fn remove_row<V: Drop>(rows: &mut ByKey<V>, name: &Text, number: u64)
+pub(crate) fn remove_row<V: Drop>(rows: &mut ByKey<V>, name: &Text, number: u64) -> Option<V>
+    ensures row { result ≡ row_in rows.old (name.now, number) }
     ensures rows { WritesRow (name.now, number) None rows.old rows.new }
     ensures room { KeepsOtherRoom (name.now, number) rows.old rows.new }
 {
     let Some(numbers) = rows.get_mut(name) else {
-        return;
+        return None;
     };
+    let row = numbers.take(number);
     numbers.remove(number);
     if numbers.as_slice().is_empty() {
         rows.remove(name);
     }
+    row
 }
 
 /// Takes the room for a row at the key away again, unless the row is there.

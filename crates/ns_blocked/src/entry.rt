@@ -1,6 +1,8 @@
-//! An entry of the list, and what it waits for.
+//! An entry of the list, what it waits for, and which classes wake it.
 
 use ns_types::key::EvalKey;
+use ns_types::node::Class;
+use ns_types::rows::Rows;
 use ns_types::text::Text;
 
 /// What a blocked evaluation waits for: its quota, or else its pool.
@@ -10,9 +12,21 @@ pub enum Waits {
     Pool(Text),
 }
 
-/// A blocked evaluation, and what it waits for as long as it is blocked.
-#[derive(Debug, Drop)]
+/// A blocked evaluation, what it waits for as long as it is blocked, and which classes of its pool wake it.
+#[derive(Drop)]
 pub struct Entry {
     pub key: EvalKey,
     pub waits: Waits,
+    /// Each class wakes it.
+    pub escapes: bool,
+    /// These do not wake it, unless it escapes.
+    pub infeasible: Rows<Class>,
+}
+
+/// An entry among those that wait for the same.
+#[derive(Drop)]
+pub struct Waiting {
+    pub key: EvalKey,
+    pub escapes: bool,
+    pub infeasible: Rows<Class>,
 }

@@ -7,17 +7,16 @@ ghost use Rattle.ns_blocked.specs.Groups.{KeepsGroupRoom, KeepsGroups, KeepsOthe
 ghost use Rattle.ns_blocked.specs.Groups.{WritesGroup, group_of, group_room, group_row};
 
 use crate::by_key::{ByKey, clear_row, remove_row, reserve_row, set_row, slots_of};
-use crate::entry::Waits;
+use crate::entry::{Waiting, Waits};
 use keyed::NameTable;
-use ns_types::key::EvalKey;
 use ns_types::text::Text;
 use std::alloc::{AllocError, Global};
 
-/// The keys of the entries that wait for a quota, and of those that wait for a pool, by its name and then by their places.
+/// The entries that wait for a quota, and those that wait for a pool, by its name and then by their places.
 #[derive(Drop)]
 pub(crate) struct Groups {
-    quotas: ByKey<EvalKey>,
-    pools: ByKey<EvalKey>,
+    quotas: ByKey<Waiting>,
+    pools: ByKey<Waiting>,
 }
 
 impl Groups {
@@ -31,14 +30,14 @@ impl Groups {
     }
 
     /// The slots of those that wait for the quota, in the order of their places.
-    pub(crate) fn of_quota(&self, quota: &Text) -> &[(u64, Option<EvalKey>)]
+    pub(crate) fn of_quota(&self, quota: &Text) -> &[(u64, Option<Waiting>)]
         ensures { result.now ≡ entries (group_of self.now (Waits.Quota quota.now)) }
     {
         slots_of(&self.quotas, quota)
     }
 
     /// The slots of those that wait for the pool, in the order of their places.
-    pub(crate) fn of_pool(&self, pool: &Text) -> &[(u64, Option<EvalKey>)]
+    pub(crate) fn of_pool(&self, pool: &Text) -> &[(u64, Option<Waiting>)]
         ensures { result.now ≡ entries (group_of self.now (Waits.Pool pool.now)) }
     {
         slots_of(&self.pools, pool)
@@ -61,20 +60,21 @@ impl Groups {
         }
     }
 
-    /// The entry with this key waits at this place. It takes no memory.
-    pub(crate) fn set(&mut self, waits: &Waits, place: u64, key: EvalKey)
+    /// This one waits at this place. It takes no memory.
+    pub(crate) fn set(&mut self, waits: &Waits, place: u64, row: Waiting)
         requires { IsTrue (group_room self.old waits.now place) }
-        ensures rows { WritesGroup waits.now place (Some key) self.old self.new }
+        ensures rows { WritesGroup waits.now place (Some row) self.old self.new }
         ensures room { KeepsGroupRoom self.old self.new }
     {
         match waits {
-            Waits::Quota(name) => set_row(&mut self.quotas, name, place, key),
-            Waits::Pool(name) => set_row(&mut self.pools, name, place, key),
+            Waits::Quota(name) => set_row(&mut self.quotas, name, place, row),
+            Waits::Pool(name) => set_row(&mut self.pools, name, place, row),
         }
     }
 
-    /// The entry at this place waits no longer. It takes no memory.
-    pub(crate) fn remove(&mut self, waits: &Waits, place: u64)
+    /// Takes the one at this place out. It takes no memory.
+    pub(crate) fn remove(&mut self, waits: &Waits, place: u64) -> Option<Waiting>
+        ensures row { result ≡ group_row self.old waits.now place }
         ensures rows { WritesGroup waits.now place None self.old self.new }
         ensures room { KeepsOtherGroupRoom place self.old self.new }
     {

@@ -1,6 +1,6 @@
 //! The entries by their places, by what they wait for, and by their keys.
 
-ghost use Rattle.std.specs.Prelude.{◌≡◌, ℕ, None, OnOk, Some};
+ghost use Rattle.std.specs.Prelude.{◌≡◌, ℕ, None, OnOk, Some, option_map};
 ghost use Rattle.std.specs.FinMap.{empty};
 ghost use Rattle.ns_blocked.specs.Blocked.{HasRoomAt, KeepsIndexRoom, KeepsRoomBut};
 ghost use Rattle.ns_blocked.specs.Blocked.{PutsEntry, SameIndex, TakesEntry, entry_at};
@@ -9,13 +9,13 @@ ghost use Rattle.ns_blocked.specs.declared.entry.Waits.{Waits};
 ghost use Rattle.ns_blocked.specs.Groups.{group_row};
 
 use crate::by_key::{ByKey, clear_row, reserve_row, set_row, vacate_row};
-use crate::entry::{Entry, Waits};
+use crate::entry::{Entry, Waiting, Waits};
 use crate::groups::Groups;
 use keyed::{NameTable, NumberTable};
 use ns_types::key::EvalKey;
 use std::alloc::{AllocError, Global};
 
-/// What waits at each place, the keys of those that wait for the same, and the place of each key.
+/// What is waited for at each place, those that wait for the same, and the place of each key.
 #[derive(Drop)]
 pub(crate) struct Index {
     pub(crate) waits: NumberTable<Waits>,
@@ -60,23 +60,38 @@ impl Index {
         ensures put { PutsEntry place entry self.old self.new }
         ensures room { KeepsIndexRoom self.old self.new }
     {
-        let Entry { key, waits } = entry;
+        let Entry {
+            key,
+            waits,
+            escapes,
+            infeasible,
+        } = entry;
         set_row(&mut self.places, key.namespace(), key.number(), place);
-        self.groups.set(&waits, place, key);
+        let row = Waiting {
+            key,
+            escapes,
+            infeasible,
+        };
+        self.groups.set(&waits, place, row);
         self.waits.set(place, waits);
     }
 
-    /// Takes the entry with this key out of its place. It takes no memory.
-    pub(crate) fn take(&mut self, place: u64, key: &EvalKey)
-        ensures taken { (e : Entry) → entry_at self.old place ≡ Some e → e.key ≡ key.now →
+    /// Takes the entry at this place out, and answers its key. It takes no memory.
+    pub(crate) fn take(&mut self, place: u64) -> Option<EvalKey>
+        ensures key { result ≡ option_map (λ e. e.key) (entry_at self.old place) }
+        ensures taken { (e : Entry) → entry_at self.old place ≡ Some e →
             TakesEntry place e self.old self.new }
         ensures room { KeepsRoomBut place self.old self.new }
     {
         let Some(waits) = self.waits.take(place) else {
-            return;
+            return None;
         };
-        self.groups.remove(&waits, place);
+        let Some(row) = self.groups.remove(&waits, place) else {
+            return None;
+        };
+        let key = row.key;
         vacate_row(&mut self.places, key.namespace(), key.number());
+        Some(key)
     }
 
     /// Takes the room for the entry at this place away again, unless it is there.

@@ -3,10 +3,16 @@
 #![tactic(auto)]
 
 mod by_key;
+mod classes;
 mod entry;
+mod finding;
 mod groups;
 mod index;
+mod laws;
 mod list;
+mod releases;
 
-pub use entry::{Entry, Waits};
+pub use entry::{Entry, Waiting, Waits};
+pub use laws::{the_rest_is_the_models, wakes_are_the_models};
 pub use list::BlockedList;
+pub use releases::{ReleasedPool, Releases};

@@ -1,21 +1,23 @@
 //! The list of blocked evaluations.
 
-ghost use Rattle.std.specs.Prelude.{◌≡◌, ◌+◌, ◌<◌, ◌^◌, ◌++◌, ◌∷◌, []};
-ghost use Rattle.std.specs.Prelude.{false, IsTrue, List, OnOk, filter, not};
+ghost use Rattle.std.specs.Prelude.{◌≡◌, ℕ, ◌+◌, ◌<◌, ◌^◌, ◌++◌, ◌∷◌, [], cond, false};
+ghost use Rattle.std.specs.Prelude.{IsTrue, List, None, OnOk, filter, is_some, not, option_map};
 ghost use Rattle.keyed.specs.Table.{row_list};
 ghost use Rattle.ns_blocked.specs.Blocked.{CanAdd, HasRoomAt, KeepsIndexRoom, are_new};
-ghost use Rattle.ns_blocked.specs.Blocked.{entries_of, keys_of, waiting_for};
+ghost use Rattle.ns_blocked.specs.Blocked.{entries_of, entry_at, keys_of, waiting_for};
 ghost use Rattle.ns_blocked.specs.declared.entry.Entry.{Entry};
-ghost use Rattle.ns_types.specs.State.Names.{has_key, same_key};
+ghost use Rattle.ns_types.specs.State.Names.{has_key, same_key, same_number};
 
 use crate::by_key::get_row;
-use crate::entry::{Entry, Waits};
+use crate::entry::{Entry, Waiting, Waits};
 use crate::index::Index;
 use ns_types::key::EvalKey;
 use ns_types::rows::Rows;
 use ns_types::text::Text;
 use std::alloc::{AllocError, Global};
 use std::marker::Model;
+
+mod release;
 
 /// The blocked evaluations in their order, with room for more, which is made before it is needed. Each has a place, a
 /// number that rises along the list; those that wait for a quota or a pool are looked up.
@@ -62,15 +64,15 @@ impl BlockedList {
         }
     }
 
-    /// The keys of those that wait for the quota, in their order, with their places: a look-up. A vacant slot is none.
-    pub fn of_quota(&self, quota: &Text) -> &[(u64, Option<EvalKey>)]
+    /// Those that wait for the quota, in their order, with their places: a look-up. A vacant slot is none.
+    pub fn of_quota(&self, quota: &Text) -> &[(u64, Option<Waiting>)]
         ensures { row_list result.now ≡ waiting_for (Waits.Quota quota.now) self.now }
     {
         self.index.groups.of_quota(quota)
     }
 
-    /// The keys of those that wait for the pool, in their order, with their places: a look-up. A vacant slot is none.
-    pub fn of_pool(&self, pool: &Text) -> &[(u64, Option<EvalKey>)]
+    /// Those that wait for the pool, in their order, with their places: a look-up. A vacant slot is none.
+    pub fn of_pool(&self, pool: &Text) -> &[(u64, Option<Waiting>)]
         ensures { row_list result.now ≡ waiting_for (Waits.Pool pool.now) self.now }
     {
         self.index.groups.of_pool(pool)
@@ -124,6 +126,15 @@ impl BlockedList {
         self.next += 1;
     }
 
+    /// Puts one entry at the end. It takes no memory.
+    pub fn block(&mut self, entry: Entry)
+        requires room { CanAdd (entry ∷ []) self.old }
+        requires fresh { has_key (keys_of self.old) entry.key ≡ false }
+        ensures { entries_of self.new ≡ entries_of self.old ++ entry ∷ [] }
+    {
+        self.push(entry);
+    }
+
     /// Puts those entries at the end. It takes no memory.
     pub fn append(&mut self, entries: Rows<Entry>)
         requires room { CanAdd entries self.old }
@@ -135,8 +146,19 @@ impl BlockedList {
         }
     }
 
-    /// Takes the entry with that key out, if there is one. It takes no memory, and looks at no other.
-    fn take_one(&mut self, key: &EvalKey)
+    /// Takes the entry at this place out, and answers its key. It takes no memory, and looks at no other.
+    fn take_at(&mut self, place: u64) -> Option<EvalKey>
+        requires { IsTrue (is_some (entry_at self.old.index place)) }
+        ensures key { result ≡ option_map (λ e. e.key) (entry_at self.old.index place) }
+        ensures entry { (n : ℕ) → entry_at self.new.index n
+            ≡ cond (same_number n place) None (entry_at self.old.index n) }
+        ensures room { (es : List Entry) → CanAdd es self.old → CanAdd es self.new }
+    {
+        self.index.take(place)
+    }
+
+    /// Takes the entry with that key out, if there is one; room for others stays. It takes no memory, and looks at no other.
+    pub fn untrack(&mut self, key: &EvalKey)
         ensures entries { entries_of self.new ≡
             filter (λ e. not (same_key e.key key.now)) (entries_of self.old) }
         ensures room { (es : List Entry) → CanAdd es self.old → CanAdd es self.new }
@@ -145,7 +167,7 @@ impl BlockedList {
             return;
         };
         let place = *place;
-        self.index.take(place, key);
+        self.index.take(place);
     }
 
     /// Takes the entries with those keys out; room for others stays. It takes no memory, and looks at no other entry.
@@ -155,7 +177,7 @@ impl BlockedList {
         ensures room { (es : List Entry) → CanAdd es self.old → CanAdd es self.new }
     {
         for key in keys {
-            self.take_one(key);
+            self.untrack(key);
         }
     }
 

@@ -3,9 +3,9 @@ use Rattle.ns_blocked.proofs.list.BlockedList.take_out.Goals as goal
 
 pub loop-key-preserved : goal.loop-key-preserved
 loop-key-preserved c = (
-  taken_next c.args.keys.now c.loop-key.key-index c.key-item.result c.loop-key-test.true c.key-item.is _ _ _ c.take_one.ensures.entries
+  taken_next c.args.keys.now c.loop-key.key-index c.key-item.result c.loop-key-test.true c.key-item.is _ _ _ c.untrack.ensures.entries
       c.loop-key.invariant.0,
-  λ es h. c.take_one.ensures.room es (c.loop-key.invariant.1 es h),
+  λ es h. c.untrack.ensures.room es (c.loop-key.invariant.1 es h),
 )
 
 pub returns-clause-entries : goal.returns-clause-entries

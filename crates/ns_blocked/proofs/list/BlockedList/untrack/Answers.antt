@@ -8,7 +8,7 @@ use Rattle.ns_blocked.specs.ByKey.{row_in}
 use Rattle.ns_blocked.specs.Blocked.{BlockedList, CanAdd, by_place, entries_of}
 use Rattle.ns_blocked.proofs.Listed.{entries_left, entries_stay, entry_there, key_parts, take_indexed}
 use Rattle.ns_blocked.proofs.Rooms.{room_behind}
-use Rattle.ns_blocked.proofs.list.BlockedList.take_one.Goals as goal
+use Rattle.ns_blocked.proofs.list.BlockedList.untrack.Goals as goal
 
 pub returns-in_default-clause-entries : goal.returns-in_default-clause-entries
 returns-in_default-clause-entries c =
@@ -23,7 +23,7 @@ invariant_of-self c =
     (ap (row_in c.self.inside.index.places) (key_parts c.namespace.result.now c.number.result c.args.key.now c.namespace.ensures c.number.ensures)
     ∙ sym c.get_row.ensures ∙ ap option_copied c.in-Some.is) in
     take_indexed c.self.inside.index c.take.new.self c.self.inside.next c.self.invariant c.in-Some.place.now e.0 e.1.0
-    (c.take.ensures.taken e.0 e.1.0 e.1.1)
+    (c.take.ensures.taken e.0 e.1.0)
 
 pub returns-clause-entries : goal.returns-clause-entries
 returns-clause-entries c =
@@ -31,7 +31,7 @@ returns-clause-entries c =
     (ap (row_in c.self.inside.index.places) (key_parts c.namespace.result.now c.number.result c.args.key.now c.namespace.ensures c.number.ensures)
     ∙ sym c.get_row.ensures ∙ ap option_copied c.in-Some.is) in
     entries_left c.self.inside.index c.take.new.self c.self.inside.next c.in-Some.place.now e.0 c.self.invariant e.1.0
-    (c.take.ensures.taken e.0 e.1.0 e.1.1).entry
+    (c.take.ensures.taken e.0 e.1.0).entry
     ∙ ap (λ (key : Key). filter (λ (x : Entry). not (same_key x.key key)) (values (by_place c.self.inside.index))) e.1.1
     ∙ ap (λ b. filter (λ (x : Entry). not (same_key x.key c.args.key.now)) (entries_of b)) c.self.view_is
 

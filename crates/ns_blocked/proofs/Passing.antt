@@ -1,0 +1,215 @@
+-- The places of all entries that pass, and the list without them.
+use Rattle.std.specs.Prelude.{◌≡◌, ℕ, ◌<◌, Bool, true, false, cond, not, ◌&&◌, ◌||◌, T, IsTrue, List, [], ◌∷◌, ◌++◌, length, map, filter}
+use Rattle.std.specs.Prelude.{Option, Some, None, is_some, option_map, reverse, Result, Ok, Err, IfOk, OnOk}
+use Rattle.std.proofs.Common.{refl, sym, ap, subst, ◌∙◌, arith}
+use Rattle.std.proofs.lemmas.Map.Lookups.{btree_set_from_contains, exact_unsigned}
+use Rattle.std.specs.declared.cmp.Ordering.TheVariants.{Less}
+use Rattle.std.specs.FinMap.{entries, entries_sorted, values}
+use Rattle.std.specs.FinMap.Entries.{below_all, is_sorted}
+use Rattle.std.specs.List.{AllByRecursion, cons_option, list_any}
+use Rattle.std.specs.List.Sorted.{IsStrictlySortedBy}
+use Rattle.std.specs.Ordering.{nat_cmp}
+use Rattle.keyed.specs.Table.{flat}
+use Rattle.ns_types.specs.declared.node.Class.{Class}
+use Rattle.ns_types.specs.State.Lists.{Each}
+use Rattle.ns_types.specs.State.Names.{Key, Name, has_number, same_number}
+use Rattle.ns_types.proofs.Elements.{any_map, any_same, each_still, filter_map, map_map}
+use Rattle.ns_types.proofs.Named.{numbers, one_number, same_number_refl}
+use Rattle.ns_types.proofs.Tables.{each_row, less_by}
+use Rattle.ns_types.proofs.Tests as tests
+use Rattle.ns_blocked.specs.declared.entry.Entry.{Entry}
+use Rattle.ns_blocked.specs.declared.entry.Waiting.{Waiting}
+use Rattle.ns_blocked.specs.declared.entry.Waits.TheVariants.{Pool, Quota}
+use Rattle.ns_blocked.specs.declared.index.Index.{Index}
+use Rattle.ns_blocked.specs.declared.releases.ReleasedPool.{ReleasedPool}
+use Rattle.ns_blocked.specs.declared.releases.Releases.{Releases}
+use Rattle.ns_blocked.specs.Blocked.{BlockedList, IsIndexed, by_place, entry_at, row_for, row_of}
+use Rattle.ns_blocked.specs.Groups.{same_waits}
+use Rattle.ns_blocked.specs.Waking.{AddsPlaces, AreKeysAt, ArePassing, ArePresent, IsLeftWithout, can_use_any, is_of_pool, is_of_quota, is_usable}
+use Rattle.ns_blocked.specs.Waking.{is_woken, keys_of_passing, passes_at, wakes_of_pool, wakes_of_quota, without_passing}
+use Rattle.ns_blocked.proofs.Listed.{entries_kept, place_row}
+use Rattle.ns_blocked.proofs.OneKey.{any_row_at}
+use Rattle.ns_blocked.proofs.Places.{IsTaking, TakesPlaces, keys_at}
+
+-- ---- the places of all that pass
+
+kept_below : {X : Type 0} (passes : X → Bool) (x : ℕ) (es : List (ℕ × X)) → T (below_all nat_cmp x es) →
+    AllByRecursion (λ y. nat_cmp x y ≡ Less) (map (λ e. e.0) (filter (λ e. passes e.1) es))
+kept_below passes x [] h = tt
+kept_below {X = X} passes x (e ∷ es) h = by (passes e.1) (kept_below passes x es (tests.second _ _ h))
+  where
+    rest : List (ℕ × X)
+    rest = filter (λ e. passes e.1) es
+
+    by : (b : Bool) → AllByRecursion (λ y. nat_cmp x y ≡ Less) (map (λ e. e.0) rest) →
+        AllByRecursion (λ y. nat_cmp x y ≡ Less) (map (λ e. e.0) (cond b (e ∷ rest) rest))
+    by true above = (less_by (nat_cmp x e.0) (tests.first _ _ h), above)
+    by false above = above
+
+kept_sorted : {X : Type 0} (passes : X → Bool) (es : List (ℕ × X)) → T (is_sorted nat_cmp es) →
+    IsStrictlySortedBy nat_cmp (map (λ e. e.0) (filter (λ e. passes e.1) es))
+unfolding IsStrictlySortedBy
+kept_sorted passes [] h = tt
+kept_sorted {X = X} passes (e ∷ es) h = by (passes e.1) (kept_sorted passes es (tests.second _ _ h))
+  where
+    rest : List (ℕ × X)
+    rest = filter (λ e. passes e.1) es
+
+    by : (b : Bool) → IsStrictlySortedBy nat_cmp (map (λ e. e.0) rest) → IsStrictlySortedBy nat_cmp (map (λ e. e.0) (cond b (e ∷ rest) rest))
+    by true sorted = (kept_below passes e.0 es (tests.first _ _ h), sorted)
+    by false sorted = sorted
+
+pub and_true : (b : Bool) → (b && true) ≡ b
+and_true true = refl
+and_true false = refl
+
+pub and_false : (b : Bool) → (b && false) ≡ false
+and_false true = refl
+and_false false = refl
+
+pub any_kept : {A : Type 0} (p passes : A → Bool) (xs : List A) → list_any p (filter passes xs) ≡ list_any (λ x. p x && passes x) xs
+any_kept p passes [] = refl
+any_kept {A = A} p passes (x ∷ xs) = by (passes x) (any_kept p passes xs)
+  where
+    rest : List A
+    rest = filter passes xs
+
+    others : Bool
+    others = list_any (λ x. p x && passes x) xs
+
+    by : (b : Bool) → list_any p rest ≡ others → list_any p (cond b (x ∷ rest) rest) ≡ ((p x && b) || others)
+    by true same = λ i. sym (and_true (p x)) i || same i
+    by false same = same ∙ ap (λ b. b || others) (sym (and_false (p x)))
+
+module _ (index : Index) (passes : Entry → Bool) where
+  passing : List (ℕ × Entry)
+  passing = filter (λ e. passes e.1) (entries (by_place index))
+
+  has_passing : (n : ℕ) → has_number (map (λ e. e.0) passing) n ≡ passes_at passes (entry_at index n)
+  unfolding passing
+  has_passing n = any_map (same_number n) (λ (e : ℕ × Entry). e.0) passing
+      ∙ any_kept (λ (e : ℕ × Entry). same_number n e.0) (λ e. passes e.1) (entries (by_place index))
+      ∙ any_row_at numbers one_number (by_place index) n passes (same_number_refl n) ∙ ap (passes_at passes) (place_row index n)
+
+  listed_keys : (es : List (ℕ × Entry)) → Each (λ e. entry_at index e.0 ≡ Some e.1) es → keys_at index (map (λ e. e.0) es) ≡ map (λ e. e.1.key) es
+  listed_keys [] h = refl
+  listed_keys (e ∷ es) h = λ i. cons_option (option_map (λ (e : Entry). e.key) (h.0 i)) (listed_keys es h.1 i)
+
+  pub passing_keys : (places : List ℕ) → ArePassing passes index places → IsStrictlySortedBy nat_cmp places →
+      keys_at index places ≡ keys_of_passing passes (values (by_place index))
+  unfolding passing
+  passing_keys places are sorted = ap (keys_at index) (btree_set_from_contains numbers (record { keys = places })
+      (record { keys = map (λ e. e.0) passing }) sorted
+      (kept_sorted passes (entries (by_place index)) (entries_sorted (by_place index))) (λ n. are n ∙ sym (has_passing n)) exact_unsigned)
+      ∙ listed_keys passing (each_still (λ (e : ℕ × Entry). entry_at index e.0 ≡ Some e.1) (λ e. passes e.1) (entries (by_place index))
+      (each_row numbers one_number (λ n x. entry_at index n ≡ Some x) (by_place index) (λ n x at. sym (place_row index n) ∙ at)))
+      ∙ sym (map_map (λ (e : Entry). e.key) (λ (e : ℕ × Entry). e.1) passing)
+      ∙ ap (map (λ (e : Entry). e.key)) (sym (filter_map passes (λ (e : ℕ × Entry). e.1) (entries (by_place index))))
+
+  pub passing_gone : (new : Index) (places : List ℕ) → ArePassing passes index places → TakesPlaces places index new →
+      values (by_place new) ≡ without_passing passes (values (by_place index))
+  passing_gone new places are taken = entries_kept index new (λ e. not (passes e)) (λ n. taken n
+      ∙ ap (λ b. cond b None (entry_at index n)) (are n) ∙ by (entry_at index n))
+    where
+      which : (e : Entry) (b : Bool) → cond b None (Some e) ≡ cond (not b) (Some e) None
+      which e true = refl
+      which e false = refl
+
+      by : (r : Option Entry) → cond (passes_at passes r) None r ≡ flat (option_map (λ e. cond (not (passes e)) (Some e) None) r)
+      by None = refl
+      by (Some e) = which e (passes e)
+
+-- ---- all that pass are taken out
+
+-- where an entry passes, it is there
+pub passing_there : (index : Index) (passes : Entry → Bool) (places : List ℕ) → ArePassing passes index places → ArePresent places index
+passing_there index passes places are n among = by (entry_at index n) (sym (are n) ∙ among)
+  where
+    by : (r : Option Entry) → passes_at passes r ≡ true → IsTrue (is_some r)
+    by None t = absurd (subst T (sym t) tt)
+    by (Some e) t = refl
+
+pub nothing_left : (places : List ℕ) → (0 < length places → false ≡ true) → places ≡ []
+nothing_left [] none = refl
+nothing_left (n ∷ ns) none = absurd (subst T (sym (none (omega arith))) tt)
+
+module _ (start now : BlockedList) (all left : List ℕ) (keys : List Key) (h : IsTaking start now all left keys) (none : left ≡ []) where
+  pub all_keys : IsStrictlySortedBy nat_cmp all → AreKeysAt all start (reverse keys)
+  all_keys sorted passes are = sym (ap (λ l. keys_at now.index l ++ reverse keys) none) ∙ h.out
+      ∙ passing_keys start.index passes all are sorted
+
+  pub all_gone : IsLeftWithout all start now
+  all_gone passes are = passing_gone start.index passes now.index all are
+      (λ n. sym (ap (λ l. cond (has_number l n) None (entry_at now.index n)) none) ∙ h.gone n)
+
+-- ---- an answer that is not refused
+
+pub if_ok : {A E : Type 0} {P Q : A → Type 0} (r : Result A E) → ((x : A) → P x → Q x) → IfOk r P → IfOk r Q
+if_ok (Ok x) f h = f x h
+if_ok (Err e) f h = h
+
+pub on_ok : {A E P Q : Type 0} (r : Result A E) → (P → Q) → OnOk r P → OnOk r Q
+on_ok (Ok x) f h = f h
+on_ok (Err e) f h = h
+
+-- ---- what a group says of the entries
+
+pub none_of : {A : Type 0} (xs : List A) → list_any (λ _. false) xs ≡ false
+none_of [] = refl
+none_of (x ∷ xs) = none_of xs
+
+module _ (index : Index) (next : ℕ) (h : IsIndexed index next) (n : ℕ) where
+  pub quota_at : (quota : Name) → is_of_quota index.groups n quota ≡ passes_at (wakes_of_quota quota) (entry_at index n)
+  quota_at quota = ap is_some (h.grouped (Quota quota) n) ∙ by (entry_at index n)
+    where
+      which : (row : Waiting) (b : Bool) → is_some (cond b (Some row) None) ≡ b
+      which row true = refl
+      which row false = refl
+
+      by : (r : Option Entry) → is_some (row_for (Quota quota) r) ≡ passes_at (wakes_of_quota quota) r
+      by None = refl
+      by (Some e) = which (row_of e) (same_waits (Quota quota) e.waits)
+
+  pub pool_at : (pool : Name) (classes : List Class) →
+      is_of_pool index.groups n pool classes ≡ passes_at (wakes_of_pool pool classes) (entry_at index n)
+  pool_at pool classes = ap (is_usable classes) (h.grouped (Pool pool) n) ∙ by (entry_at index n)
+    where
+      which : (row : Waiting) (b : Bool) → is_usable classes (cond b (Some row) None) ≡ (b && can_use_any classes row)
+      which row true = refl
+      which row false = refl
+
+      by : (r : Option Entry) → is_usable classes (row_for (Pool pool) r) ≡ passes_at (wakes_of_pool pool classes) r
+      by None = refl
+      by (Some e) = which (row_of e) (same_waits (Pool pool) e.waits)
+
+  pub woken_at : (r : Releases) → (list_any (is_of_quota index.groups n) r.quotas || list_any (λ p. is_of_pool index.groups n p.pool p.classes) r.pools)
+      ≡ passes_at (is_woken r) (entry_at index n)
+  woken_at r = (λ i. any_same (is_of_quota index.groups n) (λ quota. passes_at (wakes_of_quota quota) (entry_at index n)) quota_at r.quotas i
+      || any_same (λ (p : ReleasedPool). is_of_pool index.groups n p.pool p.classes) (λ p. passes_at (wakes_of_pool p.pool p.classes) (entry_at index n))
+      (λ p. pool_at p.pool p.classes) r.pools i) ∙ by (entry_at index n)
+    where
+      by : (x : Option Entry) → (list_any (λ quota. passes_at (wakes_of_quota quota) x) r.quotas
+          || list_any (λ p. passes_at (wakes_of_pool p.pool p.classes) x) r.pools) ≡ passes_at (is_woken r) x
+      by None = λ i. none_of r.quotas i || none_of r.pools i
+      by (Some e) = refl
+
+-- ---- the places that are found, where none were before
+
+module _ (index : Index) (next : ℕ) (h : IsIndexed index next) (none : List ℕ) (empty : none ≡ []) where
+  pub quota_found : (quota : Name) (found : List ℕ) → AddsPlaces (λ n. is_of_quota index.groups n quota) none found →
+      ArePassing (wakes_of_quota quota) index found
+  quota_found quota found adds n = adds n ∙ ap (λ ns. has_number ns n || is_of_quota index.groups n quota) empty ∙ quota_at index next h n quota
+
+  pub pool_found : (pool : Name) (classes : List Class) (found : List ℕ) → AddsPlaces (λ n. is_of_pool index.groups n pool classes) none found →
+      ArePassing (wakes_of_pool pool classes) index found
+  pool_found pool classes found adds n = adds n ∙ ap (λ ns. has_number ns n || is_of_pool index.groups n pool classes) empty
+      ∙ pool_at index next h n pool classes
+
+  pub woken_found : (r : Releases) (quotas : List Name) (pools : List ReleasedPool) (some found : List ℕ) → quotas ≡ r.quotas → pools ≡ r.pools →
+      AddsPlaces (λ n. list_any (is_of_quota index.groups n) quotas) none some →
+      AddsPlaces (λ n. list_any (λ p. is_of_pool index.groups n p.pool p.classes) pools) some found → ArePassing (is_woken r) index found
+  woken_found r quotas pools some found q p first second n = second n
+      ∙ ap (λ b. b || list_any (λ p. is_of_pool index.groups n p.pool p.classes) pools)
+      (first n ∙ ap (λ ns. has_number ns n || list_any (is_of_quota index.groups n) quotas) empty)
+      ∙ (λ i. list_any (is_of_quota index.groups n) (q i) || list_any (λ p. is_of_pool index.groups n p.pool p.classes) (p i))
+      ∙ woken_at index next h n r

@@ -1,0 +1,9 @@
+use Rattle.std.proofs.Common.{take}
+use Rattle.std.specs.List.{list_any}
+use Rattle.ns_blocked.specs.Waking.{AddsPlaces, is_usable}
+use Rattle.ns_blocked.proofs.Places.{stands_at}
+use Rattle.ns_blocked.proofs.finding.add_pool.Given as goal
+
+abbrev pub invariant-loop-slot : goal.invariant-loop-slot
+invariant-loop-slot l = AddsPlaces (λ n. list_any (λ slot. stands_at (is_usable l.classes) slot n) (take l.slot-index l.slot-items))
+    l.initial.places.keys l.places.keys

@@ -1,0 +1,123 @@
+-- Which entries a release wakes, and what a step releases, by comparing the rows before and after it.
+use Rattle.std.specs.Prelude.{◌≡◌, ℕ, Bool, false, not, ◌&&◌, ◌||◌, IsTrue, List, map, filter}
+use Rattle.std.specs.Prelude.{Option, is_some, option_map}
+use Rattle.std.specs.FinMap.{entries}
+use Rattle.std.specs.List.{filter_map, list_any}
+use Rattle.std.specs.Option.{option_map_or}
+use Rattle.ns_blocked.specs.declared.entry.Entry.{Entry}
+use Rattle.ns_blocked.specs.declared.entry.Waiting.{Waiting}
+use Rattle.ns_blocked.specs.declared.entry.Waits.{Waits}
+use Rattle.ns_blocked.specs.declared.entry.Waits.TheVariants.{Pool, Quota}
+use Rattle.ns_blocked.specs.declared.groups.Groups.{Groups}
+use Rattle.ns_blocked.specs.declared.index.Index.{Index}
+use Rattle.ns_blocked.specs.declared.releases.ReleasedPool.{ReleasedPool}
+use Rattle.ns_blocked.specs.declared.releases.Releases.{Releases}
+use Rattle.ns_blocked.specs.Blocked.{BlockedList, entries_of, entry_at, row_of}
+use Rattle.ns_blocked.specs.Groups.{group_row, same_waits}
+use Rattle.ns_types.specs.declared.evaluation.Evaluation.{Evaluation}
+use Rattle.ns_types.specs.declared.node.Class.{Class}
+use Rattle.ns_types.specs.Settling.Releases.{released_classes, releases_quota}
+use Rattle.ns_types.specs.State.Lists.{is_empty}
+use Rattle.ns_types.specs.State.Names.{Key, Name, has_class, has_key, has_number}
+use Rattle.ns_types.specs.State.Rows.{PoolRows, World, evaluation_at}
+
+-- ---- whom a release wakes
+
+-- it escapes classes, or did not find this one infeasible
+abbrev pub can_use : Waiting → Class → Bool
+can_use row class = row.escapes || not (has_class row.infeasible class)
+
+abbrev pub can_use_any : List Class → Waiting → Bool
+can_use_any classes row = list_any (can_use row) classes
+
+-- the same of a slot of those that wait
+abbrev pub is_usable : List Class → Option Waiting → Bool
+is_usable classes slot = option_map_or (can_use_any classes) slot false
+
+-- a released quota wakes all that wait for it
+abbrev pub wakes_of_quota : Name → Entry → Bool
+wakes_of_quota quota e = same_waits (Quota quota) e.waits
+
+-- a released pool wakes those that wait for it and can use one of its classes
+abbrev pub wakes_of_pool : Name → List Class → Entry → Bool
+wakes_of_pool pool classes e = same_waits (Pool pool) e.waits && can_use_any classes (row_of e)
+
+-- some released quota or pool wakes it
+abbrev pub is_woken : Releases → Entry → Bool
+is_woken r e = list_any (λ quota. wakes_of_quota quota e) r.quotas
+    || list_any (λ p. wakes_of_pool p.pool p.classes e) r.pools
+
+-- the keys of the entries that pass, in their order, and the other entries
+abbrev pub keys_of_passing : (Entry → Bool) → List Entry → List Key
+keys_of_passing passes es = map (λ e. e.key) (filter passes es)
+
+abbrev pub without_passing : (Entry → Bool) → List Entry → List Entry
+without_passing passes es = filter (λ e. not (passes e)) es
+
+-- those that the releases wake
+abbrev pub woken_by : Releases → List Entry → List Key
+woken_by r es = keys_of_passing (is_woken r) es
+
+-- ---- what a step releases
+
+abbrev pub released_pool : World → World → Name → PoolRows → ReleasedPool
+released_pool w w' name pool = record { pool = name; classes = released_classes w w' name pool }
+
+-- each pool that has a released class, with these, and the released quotas
+unfoldable pub released : World → World → Releases
+released w w' = record {
+  pools = filter (λ p. not (is_empty p.classes)) (map (λ e. released_pool w w' e.0 e.1) (entries w'.pools));
+  quotas = map (λ e. e.0) (filter (λ e. releases_quota w w' e.0 e.1) (entries w'.quotas));
+}
+
+-- ---- the entries of a world
+
+-- the quota that limits it, or else its pool
+abbrev pub waits_of : Evaluation → Waits
+waits_of e = option_map_or Quota e.quota (Pool e.pool)
+
+abbrev pub entry_of : Key → Evaluation → Entry
+entry_of key e = record { key = key; waits = waits_of e; escapes = e.escapes; infeasible = e.infeasible }
+
+-- the entries of `blocked`, in their order
+abbrev pub entries_in : World → List Entry
+entries_in w = filter_map (λ key. option_map (entry_of key) (evaluation_at w key)) w.blocked
+
+-- those that are there before the step and after its own change
+abbrev pub entries_still_in : World → World → List Entry
+entries_still_in w w' = filter (λ e. has_key w'.blocked e.key) (entries_in w)
+
+-- ---- places in the list
+
+abbrev pub passes_at : (Entry → Bool) → Option Entry → Bool
+passes_at passes e = option_map_or passes e false
+
+-- at exactly these places the entry passes
+abbrev pub ArePassing : (Entry → Bool) → Index → List ℕ → Type 0
+ArePassing passes index places = (n : ℕ) → has_number places n ≡ passes_at passes (entry_at index n)
+
+-- the keys of those that pass, where the places are theirs
+abbrev pub AreKeysAt : List ℕ → BlockedList → List Key → Type 0
+AreKeysAt places b keys = (passes : Entry → Bool) → ArePassing passes b.index places →
+    keys ≡ keys_of_passing passes (entries_of b)
+
+-- the list without those that pass, where the places are theirs
+abbrev pub IsLeftWithout : List ℕ → BlockedList → BlockedList → Type 0
+IsLeftWithout places old new = (passes : Entry → Bool) → ArePassing passes old.index places →
+    entries_of new ≡ without_passing passes (entries_of old)
+
+-- an entry is at each of the places
+abbrev pub ArePresent : List ℕ → Index → Type 0
+ArePresent places index = (n : ℕ) → IsTrue (has_number places n) → IsTrue (is_some (entry_at index n))
+
+-- the places that are among them before, and these as well
+abbrev pub AddsPlaces : (ℕ → Bool) → List ℕ → List ℕ → Type 0
+AddsPlaces more old new = (n : ℕ) → has_number new n ≡ (has_number old n || more n)
+
+-- at this place one waits for the quota
+abbrev pub is_of_quota : Groups → ℕ → Name → Bool
+is_of_quota groups n quota = is_some (group_row groups (Quota quota) n)
+
+-- at this place one waits for the pool that can use one of the classes
+abbrev pub is_of_pool : Groups → ℕ → Name → List Class → Bool
+is_of_pool groups n pool classes = is_usable classes (group_row groups (Pool pool) n)

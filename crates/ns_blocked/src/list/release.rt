@@ -1,0 +1,111 @@
+//! What a release takes out of the list.
+
+ghost use Rattle.std.specs.Prelude.{◌≡◌, IfOk, List, OnErr, OnOk};
+ghost use Rattle.ns_blocked.specs.Blocked.{CanAdd, entries_of};
+ghost use Rattle.ns_blocked.specs.declared.entry.Entry.{Entry};
+ghost use Rattle.ns_blocked.specs.Waking.{AreKeysAt, ArePassing, ArePresent, IsLeftWithout};
+ghost use Rattle.ns_blocked.specs.Waking.{is_woken, keys_of_passing, wakes_of_pool};
+ghost use Rattle.ns_blocked.specs.Waking.{wakes_of_quota, without_passing, woken_by};
+
+use super::BlockedList;
+use crate::finding::{add_pool, add_pools, add_quota, add_quotas};
+use crate::releases::Releases;
+use ns_types::key::EvalKey;
+use ns_types::node::Class;
+use ns_types::text::Text;
+use std::alloc::AllocError;
+use std::collections::BTreeSet;
+
+impl BlockedList {
+    /// Takes those out that the releases wake, and answers their keys in their order. Want of memory is the only error, and
+    /// then nothing is changed. It looks at those alone that wait for what is released; room for others stays, also for
+    /// these keys (`clear_keys`).
+    pub fn release(&mut self, releases: &Releases) -> Result<Vec<EvalKey>, AllocError>
+        ensures woken { IfOk result
+            (λ keys. keys.items ≡ woken_by releases.now (entries_of self.old)) }
+        ensures rest { OnOk result (entries_of self.new
+            ≡ without_passing (is_woken releases.now) (entries_of self.old)) }
+        ensures err { OnErr result (self.new ≡ self.old) }
+        ensures room { (es : List Entry) → CanAdd es self.old → CanAdd es self.new }
+    {
+        let places = self.find_woken(releases)?;
+        self.take_places(places)
+    }
+
+    /// The same for one pool.
+    pub fn release_pool(
+        &mut self,
+        pool: &Text,
+        classes: &[Class],
+    ) -> Result<Vec<EvalKey>, AllocError>
+        ensures woken { IfOk result (λ keys. keys.items
+            ≡ keys_of_passing (wakes_of_pool pool.now classes.now) (entries_of self.old)) }
+        ensures rest { OnOk result (entries_of self.new
+            ≡ without_passing (wakes_of_pool pool.now classes.now) (entries_of self.old)) }
+        ensures err { OnErr result (self.new ≡ self.old) }
+        ensures room { (es : List Entry) → CanAdd es self.old → CanAdd es self.new }
+    {
+        let places = self.find_in_pool(pool, classes)?;
+        self.take_places(places)
+    }
+
+    /// The same for one quota.
+    pub fn release_quota(&mut self, quota: &Text) -> Result<Vec<EvalKey>, AllocError>
+        ensures woken { IfOk result (λ keys. keys.items
+            ≡ keys_of_passing (wakes_of_quota quota.now) (entries_of self.old)) }
+        ensures rest { OnOk result (entries_of self.new
+            ≡ without_passing (wakes_of_quota quota.now) (entries_of self.old)) }
+        ensures err { OnErr result (self.new ≡ self.old) }
+        ensures room { (es : List Entry) → CanAdd es self.old → CanAdd es self.new }
+    {
+        let places = self.find_of_quota(quota)?;
+        self.take_places(places)
+    }
+
+    /// The places of those that the releases wake.
+    fn find_woken(&self, releases: &Releases) -> Result<BTreeSet<u64>, AllocError>
+        ensures { IfOk result (λ places.
+            ArePassing (is_woken releases.now) self.now.index places.keys) }
+    {
+        let mut places = BTreeSet::new(self.alloc);
+        add_quotas(&self.index.groups, releases.quotas.as_slice(), &mut places)?;
+        add_pools(&self.index.groups, releases.pools.as_slice(), &mut places)?;
+        Ok(places)
+    }
+
+    fn find_in_pool(&self, pool: &Text, classes: &[Class]) -> Result<BTreeSet<u64>, AllocError>
+        ensures { IfOk result (λ places.
+            ArePassing (wakes_of_pool pool.now classes.now) self.now.index places.keys) }
+    {
+        let mut places = BTreeSet::new(self.alloc);
+        add_pool(&self.index.groups, pool, classes, &mut places)?;
+        Ok(places)
+    }
+
+    fn find_of_quota(&self, quota: &Text) -> Result<BTreeSet<u64>, AllocError>
+        ensures { IfOk result (λ places.
+            ArePassing (wakes_of_quota quota.now) self.now.index places.keys) }
+    {
+        let mut places = BTreeSet::new(self.alloc);
+        add_quota(&self.index.groups, quota, &mut places)?;
+        Ok(places)
+    }
+
+    /// Takes the entries at these places out, from the last to the first, and answers their keys in their order.
+    fn take_places(&mut self, mut places: BTreeSet<u64>) -> Result<Vec<EvalKey>, AllocError>
+        requires { ArePresent places.keys self.old.index }
+        ensures woken { IfOk result (λ keys. AreKeysAt places.keys self.old keys.items) }
+        ensures rest { OnOk result (IsLeftWithout places.keys self.old self.new) }
+        ensures err { OnErr result (self.new ≡ self.old) }
+        ensures room { (es : List Entry) → CanAdd es self.old → CanAdd es self.new }
+    {
+        let mut keys = Vec::with_capacity(self.alloc, places.len())?;
+        while let Some(place) = places.pop_last() {
+            if let Some(key) = self.take_at(place) {
+                keys.push_reserved(key);
+            }
+        }
+        keys.reverse();
+        Ok(keys)
+    }
+}

@@ -1,0 +1,19 @@
+//! What is released: pools with their classes, and quotas.
+
+use ns_types::node::Class;
+use ns_types::rows::Rows;
+use ns_types::text::Text;
+
+/// A released pool, and the classes of its nodes that have room.
+#[derive(Drop)]
+pub struct ReleasedPool {
+    pub pool: Text,
+    pub classes: Rows<Class>,
+}
+
+/// What a step releases, in no order. What stands twice counts once.
+#[derive(Drop)]
+pub struct Releases {
+    pub pools: Rows<ReleasedPool>,
+    pub quotas: Rows<Text>,
+}
