@@ -1,0 +1,5 @@
+pub mod Duties
+pub mod Ending
+pub mod Faults
+pub mod Opening
+pub mod Printing

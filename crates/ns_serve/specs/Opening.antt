@@ -1,0 +1,40 @@
+-- How a server begins: by which secret it is opened, and what it tells before it serves.
+use Rattle.std.specs.Prelude.{◌≡◌, ℕ, List, [], ◌++◌, Option, Some, None, codes, length}
+use Rattle.std.specs.Net.Text.{socket_text}
+use Rattle.std.specs.declared.net.socket_addr.SocketAddr.{SocketAddr}
+use Rattle.ns_types.specs.State.Names.{Name}
+use Rattle.ns_types.specs.Steps.{opening}
+use Rattle.ns_held.specs.Logs.{History}
+use Rattle.ns_asked.specs.Drawing.{random_id}
+
+-- ---- the secret of the first management token
+
+-- it is made of 128 bits that were drawn
+abbrev pub IsDrawn : {D : Type 0} → (D → List ℕ → D → Type 0) → D → D → Name → Type 0
+IsDrawn draws old new secret =
+    (bits : List ℕ) × (length bits ≡ 16) × draws old bits new × (secret ≡ random_id bits)
+
+-- it is the one that was given; where none was, it was drawn
+abbrev pub IsSecret : {D : Type 0} → (D → List ℕ → D → Type 0) → Option Name → D → Name → Type 0
+IsSecret draws (Some given) drawer secret = secret ≡ given
+IsSecret {D} draws None drawer secret = (new : D) × IsDrawn draws drawer new secret
+
+-- ---- the server
+
+-- it is new, opened by that secret, and its log is empty and has at most so many entries
+abbrev pub begun_by : Name → ℕ → History
+begun_by secret limit =
+    record { base = opening secret; log = []; state = opening secret; limit = limit }
+
+-- ---- the first lines on standard error
+
+abbrev pub listening_line : SocketAddr → List ℕ
+listening_line address = codes "listening " ++ socket_text address ++ codes "\n"
+
+abbrev pub bootstrap_line : Name → List ℕ
+bootstrap_line secret = codes "bootstrap " ++ secret ++ codes "\n"
+
+-- where it listens; and then the secret, where it was drawn
+abbrev pub opening_lines : Option Name → SocketAddr → Name → List ℕ
+opening_lines (Some given) address secret = listening_line address
+opening_lines None address secret = listening_line address ++ bootstrap_line secret

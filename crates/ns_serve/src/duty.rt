@@ -1,0 +1,84 @@
+//! What each thread does.
+
+ghost use Rattle.std.specs.Prelude.{IfOk};
+ghost use Rattle.ns_workers.specs.Growing.{Grows};
+ghost use Rattle.ns_serve.specs.Duties.{IsDue, IsRequested};
+
+use crate::connections::{Guest, serve_connections};
+use crate::fault::HostFault;
+use crate::house::House;
+use ns_asked::Draws;
+use ns_clients::{Chair, Client};
+use ns_shared::Seat;
+use ns_workers::{Open, applier, worker};
+use std::alloc::Global;
+use std::rt::Clock;
+use std::sync::Wait;
+use std::sync::ledger::Ledger;
+
+/// What a thread does.
+#[derive(Drop)]
+pub enum Duty<D> {
+    /// It serves connections, and draws from here.
+    Connections(D),
+    /// It is the worker of that number.
+    Worker(u64),
+    Applier,
+}
+
+impl<D> Duty<D> {
+    pub fn is_of_connections(&self) -> bool {
+        matches!(self, Duty::Connections(_))
+    }
+}
+
+/// Serves connections, and gives the seat back.
+fn attend<L: Ledger, R: Wait, D: Draws + Drop>(
+    rt: &R,
+    alloc: Global,
+    house: &House<L>,
+    drawer: D,
+    seat: Seat<L>,
+) -> Result<Seat<L>, HostFault>
+    ensures { IfOk result (Grows (IsRequested D.draws) seat) }
+{
+    let shared = house.shared;
+    let mut guest = Client::new(alloc, Chair { rt, shared, seat }, drawer)?;
+    match serve_connections(rt, alloc, house, &mut guest) {
+        Ok(()) => Ok(guest.into_seated().seat),
+        Err(_) => Err(HostFault::Accept),
+    }
+}
+
+/// Does a thread's duty, once all threads are there, and gives its seat back. At a fault no thread accepts a connection any
+/// more.
+pub fn perform<L: Ledger, R: Wait + Clock, D: Draws + Drop>(
+    rt: &R,
+    alloc: Global,
+    house: &House<L>,
+    duty: Duty<D>,
+    mut seat: Seat<L>,
+) -> Result<Seat<L>, HostFault>
+    ensures { IfOk result (Grows (IsDue D.draws duty) seat) }
+{
+    if !house.start.wait(rt) {
+        return Ok(seat);
+    }
+    match duty {
+        Duty::Connections(drawer) => {
+            let ended = attend(rt, alloc, house, drawer, seat);
+            if ended.is_err() {
+                house.door.shut();
+            }
+            ended
+        }
+        Duty::Worker(number) => {
+            worker(rt, alloc, house.shared, &Open, number, &mut seat);
+            Ok(seat)
+        }
+        Duty::Applier => {
+            applier(rt, alloc, house.shared, &mut seat);
+            Ok(seat)
+        }
+    }
+}

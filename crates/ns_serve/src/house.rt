@@ -1,0 +1,15 @@
+//! What the threads of a server share.
+
+use crate::door::Door;
+use crate::start::Start;
+use crate::tickets::Tickets;
+use ns_shared::Shared;
+use std::sync::ledger::Ledger;
+
+#[derive(Drop)]
+pub struct House<'a, L: Ledger> {
+    pub shared: &'a Shared<L>,
+    pub door: &'a Door,
+    pub tickets: Tickets,
+    pub start: Start,
+}

@@ -1,0 +1,46 @@
+//! A seat for each thread.
+
+ghost use Rattle.std.specs.Prelude.{◌≡◌, [], IfOk, map};
+ghost use Rattle.ns_serve.specs.Duties.{duties_of};
+
+use crate::duty::Duty;
+use ns_shared::{Seat, Shared};
+use std::alloc::{AllocError, Global};
+use std::sync::Wait;
+use std::sync::ledger::Ledger;
+
+/// A thread's duty, with its seat.
+pub type Job<L, D> = (Duty<D>, Seat<L>);
+
+/// The duties: a thread for the connections for each drawer, then so many workers, and the applier.
+pub fn duties<D: Drop>(
+    alloc: Global,
+    workers: u64,
+    draws: Vec<D>,
+) -> Result<Vec<Duty<D>>, AllocError>
+    ensures { IfOk result (λ duties. duties.items ≡ duties_of draws.items workers) }
+{
+    let mut duties: Vec<Duty<D>> = draws.into_iter().map(Duty::Connections).collect(alloc)?;
+    for number in 0..workers {
+        duties.push(Duty::Worker(number))?;
+    }
+    duties.push(Duty::Applier)?;
+    Ok(duties)
+}
+
+/// Each duty with a seat that has no receipts.
+pub fn seated<L: Ledger, R: Wait, D: Drop>(
+    rt: &R,
+    alloc: Global,
+    shared: &Shared<L>,
+    duties: Vec<Duty<D>>,
+) -> Result<Vec<Job<L, D>>, AllocError>
+    ensures { IfOk result (λ jobs. jobs.items ≡ map (λ duty. (duty, [])) duties.items) }
+{
+    let mut jobs = Vec::new(alloc);
+    for duty in duties {
+        let seat = shared.seat(rt, alloc).ok_or(AllocError)?;
+        jobs.push((duty, seat))?;
+    }
+    Ok(jobs)
+}

@@ -1,0 +1,21 @@
+//! What a server is asked to be.
+
+use ns_types::name::Secret;
+use std::net::SocketAddr;
+
+/// What a server is asked to be.
+#[derive(Drop)]
+pub struct Service {
+    /// Where it listens.
+    pub address: SocketAddr,
+    /// The secret of the first management token. None: it is drawn, and told.
+    pub bootstrap: Option<Secret>,
+    /// How many workers it has: 1 to 63.
+    pub workers: u64,
+    /// How many connections are served at once: 1 to 64.
+    pub connections: u64,
+    /// After how many connections it ends, from 1 on. None: never.
+    pub accept: Option<u64>,
+    /// How many entries the log has at most, from 1 on.
+    pub log_limit: u64,
+}
