@@ -1,2 +1,7 @@
+pub mod Given
+pub mod Serve
 pub mod Words
-pub mod Telling
+pub mod Outcome
+pub mod Running
+pub mod Random
+pub mod Hosting

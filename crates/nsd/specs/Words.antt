@@ -1,18 +1,21 @@
 -- The words that the program takes, as `clap` reads them.
-use Rattle.std.specs.Prelude.{◌≡◌, ◌⊎◌, ℕ, List, Option, Some, None, codes, true, option_and_then, if◌then◌else◌}
+use Rattle.std.specs.Prelude.{◌≡◌, ◌⊎◌, ◌^◌, ◌-◌, ℕ, List, [], ◌∷◌, Option, Some, None, codes, true, if◌then◌else◌}
 use Rattle.std.specs.Str.{bytes_eq}
-use Rattle.std.specs.Str.Parse.{digits_value}
 use Rattle.clap.specs.Simple.{on_top}
-use Rattle.clap.specs.Words.{App, Row, Rule, Text}
-use Rattle.clap.specs.Words.{first_of, kind_of, new_app, new_rule, subcommand_of, takes, with_rule, with_subcommand}
+use Rattle.clap.specs.Words.{App, Rule, Text}
+use Rattle.clap.specs.Words.{IsAmong, fault_of, kind_of, new_app, new_rule, subcommand_of, with_rule, with_subcommand}
 use Rattle.clap.specs.declared.builder.action.ArgAction.TheVariants.{SetTrue}
 use Rattle.clap.specs.declared.error.Error.{Error}
 use Rattle.clap.specs.declared.error.kind.ErrorKind.{ErrorKind}
 use Rattle.ns_api.specs.declared.following.Driven.{Driven}
+use Rattle.ns_pipe.specs.declared.asked.Asked.{Asked}
 use Rattle.ns_pipe.specs.declared.printed.Printed.{Printed}
-use Rattle.ns_request.specs.Queries.{is_number}
+use Rattle.ns_serve.specs.declared.service.Service.{Service}
 use Rattle.ns_types.specs.declared.name.NameKind.TheVariants as NameKind
 use Rattle.ns_types.specs.State.Name.{is_name}
+use Rattle.nsd.specs.declared.wanted.Wanted.{Wanted}
+use Rattle.nsd.specs.Given.{Named, given_for, number_by}
+use Rattle.nsd.specs.Serve.{IsServe, serve_words}
 
 -- `--bootstrap SECRET`, which has to be there
 abbrev pub bootstrap_rule : Rule
@@ -46,16 +49,27 @@ abbrev pub bare_words : App
 bare_words = on_top (λ top. record top { subcommand_required = true }) (new_app (codes "nsd"))
 
 abbrev pub program_words : App
-program_words = with_subcommand (with_subcommand bare_words pipe_words.top) alone_words.top
+program_words =
+    with_subcommand (with_subcommand (with_subcommand bare_words pipe_words.top) serve_words.top) alone_words.top
 
--- the subcommand that the words name, and what is given to it
-abbrev pub Named : Type 0
-Named = Option (Text × List Row)
+-- ---- what `clap` finds in the words
 
--- what is given for this argument of that subcommand, where it is the one that the words name
-abbrev pub given_for : Text → Text → Named → Option Text
-given_for command id named =
-    option_and_then (λ p. if bytes_eq p.0 command then first_of id p.1 else None) named
+-- no fault
+abbrev pub AreTaken : List Text → Type 0
+AreTaken words = fault_of program_words words ≡ []
+
+-- the fault is that help, or the version, is asked for
+abbrev pub IsWish : ErrorKind → Type 0
+IsWish kind = (kind ≡ ErrorKind.DisplayHelp) ⊎ (kind ≡ ErrorKind.DisplayVersion)
+
+-- that help is asked for, and nothing else
+abbrev pub AskHelp : List Text → Type 0
+AskHelp words = fault_of program_words words ≡ ErrorKind.DisplayHelp ∷ []
+
+-- a fault, and none that is a wish
+pub record AreRefused (words : List Text) : Type 0 where
+  pub faulty : AreTaken words → ⊥
+  pub no_wish : (kind : ErrorKind) → IsAmong kind (fault_of program_words words) → IsWish kind → ⊥
 
 -- ---- `pipe`
 
@@ -83,15 +97,14 @@ Gives words = IsPipe (subcommand_of program_words words)
 
 -- good words: `clap` takes them, and they give this secret and say whom to drive and what to print
 pub record Asks (words : List Text) (secret : Text) (driven : Driven) (printed : Printed) : Type 0 where
-  pub taken : takes program_words words ≡ true
+  pub taken : AreTaken words
   pub gives : Gives words secret driven printed
 
 -- ---- `alone`
 
 -- how many entries come before: none, where nothing is said
 abbrev pub count_by : Option Text → Option ℕ
-count_by None = Some 0
-count_by (Some text) = if is_number text then Some (digits_value 10 text) else None
+count_by = number_by 0 0 (2 ^ 64 - 1)
 
 -- `alone` is given this namespace, whose name is one by its rule, and this count
 pub record IsAlone (named : Named) (namespace : Text) (from : ℕ) : Type 0 where
@@ -104,16 +117,42 @@ GivesAlone words = IsAlone (subcommand_of program_words words)
 
 -- good words: `clap` takes them, and they give this namespace and this count
 pub record AsksAlone (words : List Text) (namespace : Text) (from : ℕ) : Type 0 where
-  pub taken : takes program_words words ≡ true
+  pub taken : AreTaken words
   pub gives : GivesAlone words namespace from
 
--- ---- bad values
+-- ---- `serve`
+
+abbrev pub GivesServe : List Text → Service → Type 0
+GivesServe words = IsServe (subcommand_of program_words words)
+
+-- good words: `clap` takes them, and they give what this server is to be
+pub record AsksServe (words : List Text) (service : Service) : Type 0 where
+  pub taken : AreTaken words
+  pub gives : GivesServe words service
+
+-- ---- all of them
+
+-- this is what the subcommand that is named is given to do
+abbrev pub IsWanted : Named → Wanted → Type 0
+IsWanted named (Wanted.Serve service) = IsServe named service
+IsWanted named (Wanted.Run (Asked.Pipe secret driven printed)) = IsPipe named secret driven printed
+IsWanted named (Wanted.Run (Asked.Alone namespace from)) = IsAlone named namespace from
+IsWanted named (Wanted.Run (Asked.Help help)) = ⊥
+IsWanted named (Wanted.Run (Asked.Mistake reason)) = ⊥
+IsWanted named (Wanted.Run Asked.NoMemory) = ⊥
+
+-- ---- bad words
 
 -- `clap` takes the words, and a value among them is not what it has to be
 pub record IsMisgiven (words : List Text) : Type 0 where
-  pub taken : takes program_words words ≡ true
+  pub taken : AreTaken words
   pub no_pipe : (secret : Text) (driven : Driven) (printed : Printed) → Gives words secret driven printed → ⊥
   pub no_alone : (namespace : Text) (from : ℕ) → GivesAlone words namespace from → ⊥
+  pub no_serve : (service : Service) → GivesServe words service → ⊥
+
+-- `clap` refuses the words, or a value among them is bad
+abbrev pub AreBad : List Text → Type 0
+AreBad words = AreRefused words ⊎ IsMisgiven words
 
 -- a value is refused, or there was no memory to say so
 abbrev pub IsRefusal : Error → Type 0

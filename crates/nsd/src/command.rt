@@ -1,5 +1,7 @@
 //! The words that the program takes, for `clap`.
 
+mod serve;
+
 ghost use Rattle.std.specs.Prelude.{◌≡◌, IfOk, codes, false};
 ghost use Rattle.clap.specs.Words.{app_of, new_app, rule_of};
 ghost use Rattle.clap.specs.declared.builder.command.Command.TheViews.{out-Command};
@@ -12,12 +14,12 @@ const EXAMPLE: &str = "Example:
   nsd pipe --bootstrap root < examples/one-job.http";
 
 const STATUSES: &str = "Exit statuses:
-  0  pipe: served to the end; alone: same
-  1  alone: differs, a premise fails, or not a run
+  0  pipe: served to the end; serve: served and settled; alone: same
+  1  serve: mismatch; alone: differs, a premise fails, or not a run
   2  bad words; alone: or a bad log
-  3  the input failed; pipe: or ended inside a request
+  3  the input failed; pipe: or ended inside a request; serve: no address or no connection
   4  the output failed
-  5  out of memory";
+  5  out of memory; serve: or no thread could be made";
 
 const ALONE: &str = "\
 The log stands on standard input, as `pipe --print log` prints it. What was asked in the namespace
@@ -150,5 +152,6 @@ pub fn command<'a>(alloc: Global) -> Result<Command<'a>, AllocError>
     ensures { IfOk result (λ command. app_of command ≡ program_words) }
 {
     let command = bare(alloc).subcommand(pipe(alloc)?)?;
+    let command = command.subcommand(serve::serve(alloc)?)?;
     command.subcommand(alone(alloc)?)
 }

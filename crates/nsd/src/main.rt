@@ -2,12 +2,16 @@
 #![tactic(auto)]
 
 mod command;
+mod host;
+mod outcome;
 mod random;
 mod run;
 #[cfg(test)]
 mod tests;
+mod wanted;
 mod words;
 
+use crate::host::conclude;
 use crate::random::Random;
 use crate::run::run_words;
 use ns_faults::{tell, tell_no_random, tell_no_words};
@@ -40,7 +44,7 @@ fn main(rt: HostRuntime) -> ExitCode {
         Ok(generator) => generator,
         Err(_) => return ExitCode::from(tell_no_random(&mut errors)),
     };
-    let ended = run_words(
+    let outcome = run_words(
         rt.alloc(),
         texts.as_slice(),
         Random::new(generator),
@@ -48,5 +52,6 @@ fn main(rt: HostRuntime) -> ExitCode {
         rt.stdout(),
         &mut errors,
     );
+    let ended = conclude(&rt, rt.alloc(), outcome, &mut errors);
     ExitCode::from(ended.status)
 }

@@ -16,11 +16,10 @@ impl<R: Rng> Random<R> {
 }
 
 impl<R: Rng> Draws for Random<R> {
-    ghost use Rattle.std.specs.Prelude.{◌≡◌};
-    ghost use Rattle.rand_core.specs.Stream.{fill_bytes};
+    ghost use Rattle.nsd.specs.Random.{IsDrawn};
 
     // All bits of a draw come from the generator.
-    ghost draws = { λ old bytes new. (bytes, R.stream new.generator) ≡ fill_bytes 16 (R.stream old.generator) };
+    ghost draws = { λ old bytes new. IsDrawn R.stream old.generator bytes new.generator };
 
     fn draw(&mut self) -> [u8; 16] {
         let mut bytes = [0; 16];

@@ -2,13 +2,20 @@
 // Expected bytes are written from the formats, not from the program.
 mod asked;
 mod faults;
+mod serving;
 mod texts;
 
+use crate::host::generators;
 use crate::random::Random;
 use ns_asked::Draws;
+use ns_http::ConnFault;
 use rand::SeedableRng;
 use rand::rngs::StdRng;
+use std::cell::Cell;
+use std::io::{self, ErrorKind};
+use std::random::RandomSource;
 use std::rt::HostRuntime;
+use std::test::Fail;
 
 /// Draws the same bits again and again.
 #[derive(Clone, Copy)]
@@ -38,4 +45,39 @@ fn draws_are_the_bytes_of_the_generator(rt: HostRuntime) {
     let mut draws = Random::new(StdRng::from_seed([0; 32]));
     assert!(rt; draws.draw() == FIRST);
     assert!(rt; draws.draw() == SECOND);
+}
+
+/// Fills all bytes with how often it was called before, and has none from the third call on.
+#[derive(Drop)]
+struct Calls(Cell<u8>);
+
+impl RandomSource for Calls {
+    fn fill_bytes(&self, buf: &mut [u8]) -> io::Result<()> {
+        let before = self.0.get();
+        if before >= 2 {
+            return Err(io::Error::from(ErrorKind::Unsupported));
+        }
+        buf.fill(before);
+        self.0.set(before + 1);
+        Ok(())
+    }
+}
+
+/// Whether it draws as a generator does whose seed has these bytes alone.
+fn is_seeded_by(generator: Option<Random<StdRng>>, byte: u8) -> bool {
+    let mut seeded = Random::new(StdRng::from_seed([byte; 32]));
+    match generator {
+        Some(mut generator) => generator.draw() == seeded.draw(),
+        None => false,
+    }
+}
+
+#[test]
+fn generators_are_seeded_one_by_one(rt: HostRuntime) -> Result<(), Fail> {
+    let mut all = generators(&Calls(Cell::new(0)), rt.alloc(), 2)?;
+    assert!(rt; is_seeded_by(all.pop(), 1));
+    assert!(rt; is_seeded_by(all.pop(), 0));
+    let none = generators(&Calls(Cell::new(0)), rt.alloc(), 3);
+    assert!(rt; none.err() == Some(ConnFault::Read));
+    Ok(())
 }

@@ -1,5 +1,6 @@
 // Readers and writers that are slow or fail.
 use super::SameBits;
+use crate::outcome::Outcome;
 use crate::run::run_words;
 use ns_http::Counted;
 use std::alloc::Global;
@@ -75,10 +76,13 @@ fn run(alloc: Global, reader: Slow<'_>, room: usize) -> Left {
         taken: Vec::new(alloc),
         room,
     };
-    let ended = run_words(alloc, &WORDS, SameBits, reader, writer, &mut errors);
-    let written = ended.writer.into_inner().taken;
+    let outcome = run_words(alloc, &WORDS, SameBits, reader, writer, &mut errors);
+    let (status, written) = match outcome {
+        Outcome::Ended(ended) => (ended.status, ended.writer.into_inner().taken),
+        Outcome::Serve(..) => (u8::MAX, Vec::new(alloc)),
+    };
     Left {
-        status: ended.status,
+        status,
         written,
         errors: errors.into_inner(),
     }

@@ -1,5 +1,6 @@
 // What words that ask for nothing are answered, and the lines of faults.
-use super::SameBits;
+use super::{SameBits, serving};
+use crate::outcome::Outcome;
 use crate::run::run_words;
 use ns_faults::{tell, tell_no_random, tell_no_words};
 use ns_http::{ConnFault, Counted};
@@ -20,7 +21,7 @@ struct Told {
 
 fn telling(alloc: Global, words: &[&str]) -> Told {
     let mut errors = Counted::new(Vec::new(alloc));
-    let ended = run_words(
+    let outcome = run_words(
         alloc,
         words,
         SameBits,
@@ -28,28 +29,32 @@ fn telling(alloc: Global, words: &[&str]) -> Told {
         Vec::new(alloc),
         &mut errors,
     );
+    let (status, output) = match outcome {
+        Outcome::Ended(ended) => (ended.status, ended.writer.into_inner()),
+        Outcome::Serve(..) => (u8::MAX, Vec::new(alloc)),
+    };
     Told {
-        status: ended.status,
-        output: ended.writer.into_inner(),
+        status,
+        output,
         errors: errors.into_inner(),
     }
 }
 
 /// Whether the words are bad, for this reason.
-fn are_bad(alloc: Global, words: &[&str], text: &str) -> bool {
+pub fn are_bad(alloc: Global, words: &[&str], text: &str) -> bool {
     let told = telling(alloc, words);
     told.status == 2 && told.output.is_empty() && told.errors.as_slice() == text.as_bytes()
 }
 
 const NO_COMMAND: &str = "error: 'nsd' requires a subcommand but one was not provided
-  [subcommands: pipe, alone, help]
+  [subcommands: pipe, serve, alone, help]
 
 Usage: nsd <COMMAND>
 
 For more information, try '--help'.
 ";
 
-const OTHER_COMMAND: &str = "error: unrecognized subcommand 'serve'
+const OTHER_COMMAND: &str = "error: unrecognized subcommand 'agent'
 
 Usage: nsd <COMMAND>
 
@@ -109,7 +114,8 @@ For more information, try '--help'.
 fn bad_words(rt: HostRuntime) {
     let alloc = rt.alloc();
     assert!(rt; are_bad(alloc, &["nsd"], NO_COMMAND));
-    assert!(rt; are_bad(alloc, &["nsd", "serve"], OTHER_COMMAND));
+    assert!(rt; are_bad(alloc, &["nsd", "agent"], OTHER_COMMAND));
+    assert!(rt; are_bad(alloc, &["nsd", "help", "agent"], OTHER_COMMAND));
 }
 
 /// Whether `pipe` with these words after a good secret is bad, for this reason.
@@ -150,6 +156,7 @@ Usage: nsd <COMMAND>
 
 Commands:
   pipe   Serves standard input as one HTTP/1.1 connection, with the replies on standard output
+  serve  Serves HTTP/1.1 over TCP: many connections and many workers at once, on one log
   alone  Replays a namespace's own part of a log alone, and says whether all went the same
   help   Print this message or the help of the given subcommand(s)
 
@@ -157,12 +164,12 @@ Options:
   -h, --help  Print help
 
 Exit statuses:
-  0  pipe: served to the end; alone: same
-  1  alone: differs, a premise fails, or not a run
+  0  pipe: served to the end; serve: served and settled; alone: same
+  1  serve: mismatch; alone: differs, a premise fails, or not a run
   2  bad words; alone: or a bad log
-  3  the input failed; pipe: or ended inside a request
+  3  the input failed; pipe: or ended inside a request; serve: no address or no connection
   4  the output failed
-  5  out of memory
+  5  out of memory; serve: or no thread could be made
 ";
 
 const ALONE_HELP: &str =
@@ -212,6 +219,8 @@ fn help_goes_to_the_output(rt: HostRuntime) {
     let alloc = rt.alloc();
     assert!(rt; is_helped(alloc, &["nsd", "--help"], HELP));
     assert!(rt; is_helped(alloc, &["nsd", "alone", "--help"], ALONE_HELP));
+    assert!(rt; is_helped(alloc, &["nsd", "help", "alone"], ALONE_HELP));
+    assert!(rt; is_helped(alloc, &["nsd", "serve", "--help"], serving::HELP));
 }
 
 /// Whether what is told has this status and this line.
@@ -238,6 +247,19 @@ fn no_words(alloc: Global, kind: ErrorKind) -> (u8, Vec<u8>) {
     (status, errors.into_inner())
 }
 
+fn no_memory(alloc: Global) -> (u8, Vec<u8>) {
+    let mut errors = Counted::new(Vec::new(alloc));
+    let ended = run(
+        alloc,
+        &Asked::NoMemory,
+        SameBits,
+        NO_INPUT,
+        Vec::new(alloc),
+        &mut errors,
+    );
+    (ended.status, errors.into_inner())
+}
+
 #[test]
 fn lines_of_faults(rt: HostRuntime) {
     let alloc = rt.alloc();
@@ -245,6 +267,7 @@ fn lines_of_faults(rt: HostRuntime) {
     assert!(rt; is_line(fault(alloc, ConnFault::Write), 4, b"write fault\n"));
     assert!(rt; is_line(fault(alloc, ConnFault::Memory), 5, b"out of memory\n"));
     assert!(rt; is_line(no_random(alloc), 3, b"read fault\n"));
+    assert!(rt; is_line(no_memory(alloc), 5, b"out of memory\n"));
     assert!(rt;
         is_line(
             no_words(alloc, ErrorKind::OutOfMemory),
@@ -259,20 +282,4 @@ fn lines_of_faults(rt: HostRuntime) {
             b"error: a word is no text\n"
         )
     );
-}
-
-#[test]
-fn no_memory_for_the_words(rt: HostRuntime) {
-    let alloc = rt.alloc();
-    let mut errors = Counted::new(Vec::new(alloc));
-    let ended = run(
-        alloc,
-        &Asked::NoMemory,
-        SameBits,
-        NO_INPUT,
-        Vec::new(alloc),
-        &mut errors,
-    );
-    assert!(rt; ended.status == 5);
-    assert!(rt; errors.into_inner().as_slice() == b"out of memory\n".as_slice());
 }

@@ -1,22 +1,12 @@
-use Rattle.std.proofs.Common.{◌≡◌, ◌∙◌, ap, inr, sym, refl, subst, true, List, Result, Ok, Err}
-use Rattle.std.specs.Prelude.{IfErr, IfOk, IsErrAnd}
+use Rattle.std.proofs.Common.{◌≡◌, inr, sym, refl, subst, List}
+use Rattle.std.specs.Prelude.{IfOk}
 use Rattle.clap.specs.Walk.{texts}
-use Rattle.clap.specs.Words.{App, HasMatchesOf, Text, kind_of, subcommand_of, subcommand_rows_of, takes}
-use Rattle.clap.specs.declared.error.Error.{Error}
+use Rattle.clap.specs.Words.{App, HasKind, HasMatchesOf, Text, fault_of, kind_of, subcommand_of, subcommand_rows_of}
 use Rattle.clap.specs.declared.error.kind.ErrorKind.{ErrorKind}
 use Rattle.clap.specs.declared.parser.matches.ArgMatches.{ArgMatches}
-use Rattle.nsd.specs.Words.{IsAlone, IsPipe, IsRefusal, program_words}
+use Rattle.nsd.specs.Words.{IsRefusal, IsWanted, program_words}
+use Rattle.nsd.proofs.Errors.{any_ok, err_is, no_fault, none_is_ok, of_fault, only_memory}
 use Rattle.nsd.proofs.words.asked.Goals as goal
-
--- the same error, which is want of memory
-same_error : {T : Type 0} (wanted : T → Type 0) (r : Result T Error) (e : Error) → IsErrAnd r (λ y. y ≡ e) →
-    kind_of e ≡ ErrorKind.OutOfMemory → IfOk r wanted × IfErr r (λ error. kind_of error ≡ ErrorKind.OutOfMemory)
-same_error wanted (Ok x) e is k = absurd is
-same_error wanted (Err y) e is k = (tt, ap kind_of is ∙ k)
-
-no_memory : {T : Type 0} (r : Result T Error) (e : Error) → IsErrAnd r (λ y. y ≡ e) → kind_of e ≡ ErrorKind.OutOfMemory → IsErrAnd r IsRefusal
-no_memory (Ok x) e is k = is
-no_memory (Err y) e is k = inr (ap kind_of is ∙ k)
 
 -- the matches name a subcommand as the words do
 same_named : (app : App) (words : List Text) (matches : ArgMatches) → app ≡ program_words → HasMatchesOf app words matches →
@@ -24,42 +14,40 @@ same_named : (app : App) (words : List Text) (matches : ArgMatches) → app ≡ 
 same_named app words matches is fits = (subst (λ a. HasMatchesOf a words matches) is fits refl).1
 
 pub returns-in_err-matches-clause-good : goal.returns-in_err-matches-clause-good
-returns-in_err-matches-clause-good c = λ secret driven printed asks.
-    let taken = subst (λ app. takes app (texts c.args.words.now) ≡ true) (sym c.in_ok-command.ensures) asks.taken in
-    same_error _ c.from_residual-in_err-matches.result _ c.from_residual-in_err-matches.ensures.1 (c.in_err-matches.ensures.passes taken)
-
-pub returns-in_err-matches-clause-good_alone : goal.returns-in_err-matches-clause-good_alone
-returns-in_err-matches-clause-good_alone c = λ namespace from asks.
-    let taken = subst (λ app. takes app (texts c.args.words.now) ≡ true) (sym c.in_ok-command.ensures) asks.taken in
-    same_error _ c.from_residual-in_err-matches.result _ c.from_residual-in_err-matches.ensures.1 (c.in_err-matches.ensures.passes taken)
+returns-in_err-matches-clause-good c = λ wanted taken is.
+    let words = texts c.args.words.now in
+    let same = c.from_residual-in_err-matches.ensures.1 in (
+      none_is_ok _ c.from_residual-in_err-matches.result _ same,
+      err_is (λ error. kind_of error ≡ ErrorKind.OutOfMemory) c.from_residual-in_err-matches.result _ same
+          (only_memory words _ taken (of_fault _ words _ c.in_ok-command.ensures c.in_err-matches.ensures.kinds)),
+    )
 
 pub returns-in_err-matches-clause-bad : goal.returns-in_err-matches-clause-bad
-returns-in_err-matches-clause-bad c = λ bad.
-    let taken = subst (λ app. takes app (texts c.args.words.now) ≡ true) (sym c.in_ok-command.ensures) bad.taken in
-    no_memory c.from_residual-in_err-matches.result _ c.from_residual-in_err-matches.ensures.1 (c.in_err-matches.ensures.passes taken)
+returns-in_err-matches-clause-bad c = λ taken.
+    let words = texts c.args.words.now in
+    err_is IsRefusal c.from_residual-in_err-matches.result _ c.from_residual-in_err-matches.ensures.1
+    (inr (only_memory words _ taken (of_fault _ words _ c.in_ok-command.ensures c.in_err-matches.ensures.kinds)))
 
-pub returns-in_err-namespace-clause-good_alone : goal.returns-in_err-namespace-clause-good_alone
-returns-in_err-namespace-clause-good_alone c = λ namespace from asks.
-    let named = same_named _ (texts c.args.words.now) c.in_ok-matches.matches c.in_ok-command.ensures c.in_ok-matches.ensures.ok.2 in
-    let given = subst (λ n. IsAlone n namespace from) (sym named) asks.gives in
-    same_error _ c.from_residual-in_err-namespace.result _ c.from_residual-in_err-namespace.ensures.1
-    (c.in_err-namespace.ensures.good namespace from given)
+pub returns-in_err-matches-clause-faulty : goal.returns-in_err-matches-clause-faulty
+returns-in_err-matches-clause-faulty c = λ refused.
+    let words = texts c.args.words.now in
+    err_is (HasKind (fault_of program_words words)) c.from_residual-in_err-matches.result _ c.from_residual-in_err-matches.ensures.1
+    (of_fault _ words _ c.in_ok-command.ensures c.in_err-matches.ensures.kinds)
 
-pub returns-in_err-secret-clause-good : goal.returns-in_err-secret-clause-good
-returns-in_err-secret-clause-good c = λ secret driven printed asks.
-    let named = same_named _ (texts c.args.words.now) c.in_ok-matches.matches c.in_ok-command.ensures c.in_ok-matches.ensures.ok.2 in
-    let given = subst (λ n. IsPipe n secret driven printed) (sym named) asks.gives in
-    same_error _ c.from_residual-in_err-secret.result _ c.from_residual-in_err-secret.ensures.1
-    (c.in_err-secret.ensures.good secret driven printed given)
+pub returns-clause-taken : goal.returns-clause-taken
+returns-clause-taken c =
+    any_ok _ c.wanted.result (no_fault _ (texts c.args.words.now) c.in_ok-command.ensures c.in_ok-matches.ensures.kinds)
 
-pub returns-in-Some-clause-bad : goal.returns-in-Some-clause-bad
-returns-in-Some-clause-bad c = λ bad.
+pub returns-clause-gives : goal.returns-clause-gives
+returns-clause-gives c =
     let named = same_named _ (texts c.args.words.now) c.in_ok-matches.matches c.in_ok-command.ensures c.in_ok-matches.ensures.ok.2 in
-    bad.no_alone c.in_ok-namespace.namespace c.in_ok-namespace.from
-    (subst (λ n. IsAlone n c.in_ok-namespace.namespace c.in_ok-namespace.from) named c.in_ok-namespace.ensures.gives)
+    subst (λ n. IfOk c.wanted.result (IsWanted n)) named c.wanted.ensures.gives
 
-pub returns-clause-bad : goal.returns-clause-bad
-returns-clause-bad c = λ bad.
+pub returns-clause-good : goal.returns-clause-good
+returns-clause-good c = λ wanted taken is.
     let named = same_named _ (texts c.args.words.now) c.in_ok-matches.matches c.in_ok-command.ensures c.in_ok-matches.ensures.ok.2 in
-    bad.no_pipe c.in_ok-secret.secret c.in_ok-secret.driven c.in_ok-secret.printed
-    (subst (λ n. IsPipe n c.in_ok-secret.secret c.in_ok-secret.driven c.in_ok-secret.printed) named c.in_ok-secret.ensures.gives)
+    c.wanted.ensures.good wanted (subst (λ n. IsWanted n wanted) (sym named) is)
+
+pub returns-clause-faulty : goal.returns-clause-faulty
+returns-clause-faulty c = λ refused.
+    absurd (refused (no_fault _ (texts c.args.words.now) c.in_ok-command.ensures c.in_ok-matches.ensures.kinds))

@@ -3,8 +3,8 @@ use Rattle.std.proofs.lemmas.Slice.Eq.{bytes_eq-Decides}
 use Rattle.std.specs.Str.{bytes_eq}
 use Rattle.clap.specs.Words.{Row, Text, first_of, found_of, subcommand_name_of, subcommand_rows_of}
 use Rattle.clap.proofs.WalkLemmas.{first_value-rows}
-use Rattle.nsd.specs.Words.{Named, given_for}
-use Rattle.nsd.proofs.words.given.Goals as goal
+use Rattle.nsd.specs.Given.{Named, given_for}
+use Rattle.nsd.proofs.words.value.given.Goals as goal
 
 composed : {A B C : Type 0} (f : A → B) (g : B → C) (o : Option A) → option_map g (option_map f o) ≡ option_map (λ x. g (f x)) o
 composed f g None = refl

@@ -1,0 +1,3 @@
+pub mod Errors
+pub mod Serving
+pub mod Wanting

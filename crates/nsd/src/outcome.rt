@@ -1,0 +1,13 @@
+//! What a run of the words comes to.
+
+use ns_pipe::Ended;
+use ns_serve::Service;
+
+/// What a run of the words comes to.
+#[derive(Drop)]
+pub enum Outcome<R, W> {
+    /// It has ended.
+    Ended(Ended<R, W>),
+    /// This server is to be run. Nothing was read, written or told: here are the reader and the writer.
+    Serve(Service, R, W),
+}
