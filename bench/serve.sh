@@ -6,9 +6,10 @@
 #
 # PROGRAM is the built program: crates/nsd/out/nsd if none is given. Both are asked by wrk over 4 connections that stay open, on this
 # machine, in turn, three times for so many seconds each (5 if none are given). Both have 4 threads for connections: nginx 4 processes
-# of one thread. What is printed last is the median of each, and the quotient of the two.
-# The log grows all the while, by some 1.5 KB a request: 15 seconds at 100,000 a second take 2 to 3 GB. Its limit is one that no run
-# meets: 10,000,000 requests would take 15 GB.
+# of one thread. What is printed last is the median of each, the quotient of the two, and by how much each read let the memory of
+# `nsd serve` grow.
+# Each read is an entry of the log, of some 1.5 KB: 15 seconds at 100,000 a second take 2 to 3 GB. So the log's limit has to be more
+# than the requests of all three turns, or reads are answered 503 and nothing is measured. 10,000,000 entries would take 15 GB.
 # Packages of Debian: wrk, nginx-light, curl.
 set -eu
 root=$(CDPATH='' cd -- "$(dirname -- "$0")/.." && pwd)
@@ -81,25 +82,34 @@ CONF
     [ "$read" = "$body" ] || { echo "nginx answers $read" >&2; exit 1; }
 }
 
-# Requests in a second at that address; none may be refused.
+# Requests in a second at that address, and how many there were; none may be refused.
 ask() {
     wrk -t 2 -c 4 -d "$seconds" -H 'X-Nomad-Token: root' "http://$1/v1/job/web" > "$folder/said"
     if grep -E 'Non-2xx|Socket errors' "$folder/said" >&2; then
         echo "not every request was answered 200" >&2
         exit 1
     fi
-    awk '$1 == "Requests/sec:" { print $2 }' "$folder/said"
+    awk '$2 == "requests" && $3 == "in" { many = $1 } $1 == "Requests/sec:" { print $2, many }' "$folder/said"
 }
 
-median() { sort -n "$1" | sed -n 2p; }
+# The bytes of memory that the server has.
+memory() { awk '$1 == "VmRSS:" { printf "%d\n", $2 * 1024 }' "/proc/$server/status"; }
+
+median() { sort -n "$1" | sed -n 2p | cut -d ' ' -f 1; }
 
 echo "processors $(getconf _NPROCESSORS_ONLN), load before $(cut -d ' ' -f 1-3 /proc/loadavg)"
 start_server
 if command -v nginx > "$folder/which"; then start_nginx; fi
+before=$(memory)
 for _ in 1 2 3; do
-    ask "$address" | tee -a "$folder/ours" | sed 's/^/nsd serve, requests a second: /'
-    [ -z "$nginx" ] || ask "127.0.0.1:$beside" | tee -a "$folder/theirs" | sed 's/^/nginx, requests a second: /'
+    ask "$address" >> "$folder/ours"
+    echo "nsd serve, requests a second: $(tail -n 1 "$folder/ours" | cut -d ' ' -f 1)"
+    [ -n "$nginx" ] || continue
+    ask "127.0.0.1:$beside" >> "$folder/theirs"
+    echo "nginx, requests a second: $(tail -n 1 "$folder/theirs" | cut -d ' ' -f 1)"
 done
+awk -v grown="$(($(memory) - before))" '{ many += $2 }
+    END { printf "nsd serve took %d bytes of memory for each of %d entries of its log\n", grown / many, many }' "$folder/ours"
 ours=$(median "$folder/ours")
 if [ -z "$nginx" ]; then
     echo "median $ours; nginx is not installed, so it is compared with nothing"
