@@ -9,7 +9,8 @@ A part begins by one of these lines:
                                  of their log, what `nsd alone` prints last and how many lines there are
 
 Logs and what is printed are written here by the rules of docs/ISOLATION.md and docs/MODEL.md, and never taken from the program.
-Replies to the requests of `examples/neighbours.http` are those of `bench/conversations/isolation.txt`, which are written by hand.
+Replies to the requests of `examples/neighbours.http` are those of `bench/conversations/isolation.txt`, and those to the requests of
+docs/TUTORIAL.md are those of `bench/conversations/tutorial.txt`, which are written by hand.
 """
 
 import json
@@ -39,16 +40,16 @@ def entry(step, body="{}", index=None, status=200):
     return compact({"Body": body, "Index": index, "Status": status, "Step": step})
 
 
-def admin(do, args):
-    return {"Args": args, "Do": do, "Kind": "Admin", "Secret": "root"}
+def admin(do, args, secret="root"):
+    return {"Args": args, "Do": do, "Kind": "Admin", "Secret": secret}
 
 
 def ask(ns, do, args, secret="root"):
     return {"Args": args, "Do": do, "Kind": "Ask", "Ns": ns, "Secret": secret}
 
 
-def node(pool, do, args):
-    return {"Args": args, "Do": do, "Kind": "Node", "Pool": pool, "Secret": "root"}
+def node(pool, do, args, secret="root"):
+    return {"Args": args, "Do": do, "Kind": "Node", "Pool": pool, "Secret": secret}
 
 
 def work(kind, ns, worker, **more):
@@ -63,9 +64,9 @@ def put_pool(name, description=""):
     return admin("PutPool", {"Doc": {"Description": description, "Name": name}})
 
 
-def put_quota(name, cpu, memory):
+def put_quota(name, cpu, memory, secret="root"):
     limit = {"Region": "global", "RegionLimit": {"CPU": cpu, "MemoryMB": memory}}
-    return admin("PutQuota", {"Doc": {"Description": "", "Limits": [limit], "Name": name}})
+    return admin("PutQuota", {"Doc": {"Description": "", "Limits": [limit], "Name": name}}, secret)
 
 
 def put_namespace(name, default, allowed, quota="", description=""):
@@ -74,9 +75,9 @@ def put_namespace(name, default, allowed, quota="", description=""):
     return admin("PutNamespace", {"Doc": doc})
 
 
-def put_node(pool, name, cpu=1000, memory=1024):
+def put_node(pool, name, cpu=1000, memory=1024, secret="root"):
     doc = {"Attributes": {}, "CPU": cpu, "MemoryMB": memory, "NodeClass": ""}
-    return node(pool, "PutNode", {"Doc": doc, "Name": name})
+    return node(pool, "PutNode", {"Doc": doc, "Name": name}, secret)
 
 
 def put_policy(name, rules):
@@ -93,9 +94,9 @@ def groups(count, cpu, memory):
     return [{"Count": count, "Name": "g", "Tasks": [task]}]
 
 
-def register(ns, job, count, cpu, memory):
-    doc = {"Constraints": [], "ID": job, "NodePool": "", "Priority": 50, "TaskGroups": groups(count, cpu, memory), "Type": "service"}
-    return ask(ns, "Register", {"Doc": doc, "Enforce": None})
+def register(ns, job, count, cpu, memory, secret="root", pool=""):
+    doc = {"Constraints": [], "ID": job, "NodePool": pool, "Priority": 50, "TaskGroups": groups(count, cpu, memory), "Type": "service"}
+    return ask(ns, "Register", {"Doc": doc, "Enforce": None}, secret)
 
 
 def registered(index, number):
@@ -350,6 +351,9 @@ def sharing(parts):
     parts.same("alone_again", log, [12], first=12)
 
 
+TEAM_A, TEAM_B = ("02020202-0202-4202-8202-020202020202", "04040404-0404-4404-8404-040404040404")
+
+
 def index_in(words):
     """The index that a reply shows, if it shows one."""
     return next((int(word[1:]) for word in words if word.startswith("@")), None)
@@ -408,6 +412,84 @@ def connections(parts):
     denied = entry(ask("default", "ReadJob", {"ID": "web"}, None), "Permission denied", None, 403)
     missed = entry(ask("default", "ReadJob", {"ID": "api"}), "not found", None, 404)
     parts.logged("refused_without_the_state_and_by_it", refused, [denied, missed, entry(read, "not found", None, 404)])
+
+
+def tutorial_laid_out(told):
+    """The steps by which docs/TUTORIAL.md lays out its tenants, by what is told of them."""
+    rules = 'namespace "%s" { policy = "write" } node_pool "%s" { policy = "write" }'
+    return [
+        put_pool("east", "machines of ta"),
+        put_pool("west", "machines of tb"),
+        put_quota("qa", 500, 512),
+        put_quota("qb", 1000, 1024),
+        put_namespace("default", "default", ["default"]),
+        put_namespace("ta", "east", ["east"], "qa"),
+        put_namespace("tb", "west", ["west"], "qb"),
+        admin("ListNamespaces", {}),
+        put_policy("ta", rules % ("ta", "east")),
+        put_policy("tb", rules % ("tb", "west")),
+        admin("CreateToken", {"Doc": json.loads(told[10])}),
+        admin("CreateToken", {"Doc": json.loads(told[11])}),
+        put_node("east", "e1", 2000, 4096, TEAM_A),
+        put_node("west", "w1", 2000, 4096, TEAM_B),
+        node("east", "ListNodes", {}, TEAM_A),
+    ]
+
+
+def tutorial_worked():
+    """The steps that it then makes, those of workers left out."""
+    return [
+        register("ta", "web", 2, 200, 128, TEAM_A),
+        register("tb", "api", 1, 100, 300, TEAM_B),
+        ask("ta", "JobEvaluations", {"ID": "web"}, TEAM_A),
+        ask("ta", "JobAllocations", {"ID": "web"}, TEAM_A),
+        ask("ta", "QuotaUsage", {"Name": "qa"}, TEAM_A),
+        list_jobs("tb", TEAM_B),
+        register("ta", "mail", 1, 200, 128, TEAM_A),
+        ask("ta", "JobEvaluations", {"ID": "mail"}, TEAM_A),
+        ask("ta", "JobAllocations", {"ID": "mail"}, TEAM_A),
+        put_quota("qa", 1000, 1024, TEAM_A),
+        put_quota("qa", 1000, 1024),
+        ask("ta", "ReadEvaluation", {"Number": 3}, TEAM_A),
+        ask("ta", "JobAllocations", {"ID": "mail"}, TEAM_A),
+        ask("ta", "QuotaUsage", {"Name": "qa"}, TEAM_A),
+        node("east", "ListNodes", {}, TEAM_A),
+        list_jobs("ta", TEAM_B),
+        list_jobs("nowhere", TEAM_B),
+        list_jobs("ta", None),
+        node("east", "ListNodes", {}, TEAM_B),
+        admin("ListNamespaces", {}, TEAM_B),
+        admin("ListPools", {}, TEAM_B),
+        ask("tb", "QuotaUsage", {"Name": "qa"}, TEAM_B),
+        register("tb", "api", 1, 100, 300, TEAM_B, "east"),
+        register("tb", "api", 1, 100, 300, TEAM_B, "nowhere"),
+        ask("tb", "ListAllocations", {"Prefix": ""}, TEAM_B),
+    ]
+
+
+def tutorial(parts):
+    """The log of docs/TUTORIAL.md, of somebody who asks each thing once."""
+    [pairs] = [
+        pairs
+        for name, pairs, _ in conversations([os.path.join(TOP, "bench", "conversations", "tutorial.txt")])
+        if name == "root 1 driven two_tenants_from_nothing"
+    ]
+    steps = [*tutorial_laid_out([body for _, (_, body) in pairs]), *tutorial_worked()]
+    after = {15: driven("ta", 1, [1, 2]), 16: driven("tb", 1, [1]), 21: driven("ta", 2, [], ident(1, 3)), 25: driven("ta", 3, [3])}
+    log = []
+    for place, (step, (_, (words, body))) in enumerate(zip(steps, pairs, strict=True)):
+        log += [entry(step, body, index_in(words), int(words[0])), *after.get(place, [])]
+    own = [place for place, line in enumerate(log) if is_own(line, "tb", "west", TEAM_B)]
+    parts.same("the_tutorial_for_tb", log, [place for place in own if place > 14], ns="tb", first=15)
+    own = [place for place, line in enumerate(log) if is_own(line, "ta", "east", TEAM_A)]
+    parts.fault("the_tutorial_for_ta", log, [place for place in own if 14 < place < 38], "premise fails at 38", first=15)
+    parts.same("the_tutorial_for_ta_behind_its_raised_quota", log, [place for place in own if place > 38], first=39)
+
+
+def is_own(line, ns, pool, secret):
+    """Whether the step is own of the namespace that has that pool, where that secret alone has rights there."""
+    step = json.loads(line)["Step"]
+    return step.get("Pool") == pool or (step.get("Ns") == ns and step.get("Secret", secret) == secret)
 
 
 def request(method, path, body=None):
@@ -470,7 +552,7 @@ def write(path, text):
 
 def stored_parts():
     parts = Parts()
-    for add in (lists, answers, steps, bad_lines, administrators, sharing, connections, rounds, pasted):
+    for add in (lists, answers, steps, bad_lines, administrators, sharing, connections, tutorial, rounds, pasted):
         add(parts)
     return parts
 

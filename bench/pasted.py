@@ -8,6 +8,9 @@
 - Each other block, and each short text, that is JSON or rules has to be a body, a line of one, or the rules of a policy, in a
   stored conversation; of a line that begins with a quote, the parts between ` .. `. Texts of tokens are drawn, so any will do.
 - Each response that is shown has to be one of theirs.
+- The lines of `README.md` and `docs/TUTORIAL.md` that call curl are run by a shell, with a curl in its place that keeps what it is
+  given and answers what a stored conversation says. They have to be the requests of that conversation, in order, and what they
+  answer has to be what the page shows.
 - Each method of the table of paths has to be answered 200 there or in a script, and 403.
 - Each refusal of the table has to be one of theirs, but for those that nobody reaches by hand.
 
@@ -25,10 +28,21 @@ sys.dont_write_bytecode = True
 
 from conversations import TOP, conversations, reply, request, stored
 from logs import stored_parts
+from tutorial import Shell, blocks, needs_program
 
 PAGES = ["README.md", "docs/API.md", "docs/ISOLATION.md", "docs/MODEL.md"]
 KEEPER = '#!/bin/sh\nprintf "%s\\n" "$*" >> "$KEPT/words"\ncat > "$KEPT/$(wc -l < "$KEPT/words")"\n'
-NOT_REACHED = {"full", "out of memory"}
+CURLED = {"README.md": "root 1 driven the_first_screen", "docs/TUTORIAL.md": "root 1 driven two_tenants_from_nothing"}
+CURL = """#!/bin/sh
+count=$(ls "$KEPT" | grep -c ^asked)
+printf '%s\\n' "$@" > "$KEPT/asked-$count"
+cat "$KEPT/body-$count"
+case "$*" in
+*http_code*) cat "$KEPT/status-$count" ;;
+*-w*) echo ;;
+esac
+"""
+NOT_REACHED = {"full", "log full", "out of memory"}
 DRAWN = re.compile(r"[0-9a-f]{8}-[0-9a-f]{4}-4[0-9a-f]{3}-[89ab][0-9a-f]{3}-[0-9a-f]{12}")
 
 
@@ -119,8 +133,9 @@ def pasted(block, before):
 
 def shell_faults(page, blocks, functions, known):
     for block in blocks:
-        # What runs the tests, and what waits for a reply, is left out.
-        if "./nsd " not in block or "coproc" in block or "socat" in block or re.search(r"^rt ", block, re.M):
+        # What runs the tests, what waits for a reply, and a server with a port are left out.
+        left_out = ("coproc", "./nsd serve")
+        if "./nsd " not in block or any(word in block for word in left_out) or re.search(r"^rt ", block, re.M):
             continue
         for words, given in pasted(block, functions):
             # A log that another line of the block would have written is not there.
@@ -161,6 +176,51 @@ def response_faults(page, blocks, known):
             yield f"{page}: no stored conversation is answered\n{response[0]}"
 
 
+def curled(words):
+    """The request that curl makes where it is given these words: what precedes its headers, and its body."""
+    method, tokens, body, target = "GET", [], "", ""
+    words = iter(words)
+    for word in words:
+        if word == "-H":
+            tokens.append(next(words).removeprefix("X-Nomad-Token: "))
+        elif word == "-d":
+            method, body = "POST", next(words)
+        elif word == "-w":
+            next(words)
+        elif not word.startswith("-"):
+            target = "/" + word.split("/", 3)[3]
+    return [method, target, *tokens], body
+
+
+def curl_faults(page, title):
+    [pairs] = [pairs for name, pairs, _ in conversations(stored()) if name == title]
+    with tempfile.TemporaryDirectory() as folder:
+
+        def keep(name, text):
+            with open(os.path.join(folder, name), "w", encoding="utf-8") as file:
+                file.write(text)
+
+        keep("curl", CURL)
+        os.chmod(os.path.join(folder, "curl"), 0o755)
+        for number, (_, (words, body)) in enumerate(pairs):
+            keep(f"body-{number}", body)
+            keep(f"status-{number}", f" {words[0]}\n")
+        shell = Shell(folder, KEPT=folder, PATH=f"{folder}:{os.environ['PATH']}")
+        for block in blocks(read(page)):
+            for command in [] if needs_program(block) else block:
+                if not command.is_told(lines := shell.run(command)):
+                    yield f"{page}: {command.line}\nshows\n" + "\n".join([*command.told, "in place of", *lines])
+        shell.end()
+        count = len([name for name in os.listdir(folder) if name.startswith("asked-")])
+        if count != len(pairs):
+            yield f"{page}: calls curl {count} times, and {title} has {len(pairs)} requests"
+        for number, ((words, _, body), _) in enumerate(pairs[:count]):
+            with open(os.path.join(folder, f"asked-{number}"), encoding="utf-8") as file:
+                asked = curled(file.read().split("\n")[:-1])
+            if asked != (words, body):
+                yield f"{page}: call {number} of curl is {asked}, and {title} has {words, body}"
+
+
 def path_faults(text, known):
     for row in rows(text, "Path | Method | What | Right | Answers"):
         for path in re.findall(r"`([^`]*)`", cell(row, 0)):
@@ -188,6 +248,8 @@ def faults():
         yield from shell_faults(page, blocks, functions, known)
         yield from text_faults(page, text, blocks, known)
         yield from response_faults(page, blocks, known)
+    for page, title in CURLED.items():
+        yield from curl_faults(page, title)
     yield from path_faults(read("docs/API.md"), known)
     yield from refusal_faults(read("docs/API.md"), known)
 

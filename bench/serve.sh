@@ -1,0 +1,120 @@
+#!/bin/sh
+# How many reads of a job `nsd serve` answers in a second, each of them an entry of its log, and beside it how many times nginx
+# answers a body of the same length that it has in memory.
+#
+#     bench/serve.sh [PROGRAM [SECONDS]]
+#
+# PROGRAM is the built program: crates/nsd/out/nsd if none is given. Both are asked by wrk over 4 connections that stay open, on this
+# machine, in turn, three times for so many seconds each (5 if none are given). Both have 4 threads for connections: nginx 4 processes
+# of one thread. What is printed last is the median of each, the quotient of the two, and by how much each read let the memory of
+# `nsd serve` grow.
+# Each read is an entry of the log, of some 1.5 KB: 15 seconds at 100,000 a second take 2 to 3 GB. So the log's limit has to be more
+# than the requests of all three turns, or reads are answered 503 and nothing is measured. 10,000,000 entries would take 15 GB.
+# Packages of Debian: wrk, nginx-light, curl.
+set -eu
+root=$(CDPATH='' cd -- "$(dirname -- "$0")/.." && pwd)
+program=${1:-$root/crates/nsd/out/nsd}
+seconds=${2:-5}
+limit=10000000
+body='{"Constraints":[],"CreateIndex":1,"ID":"web","JobModifyIndex":1,"Namespace":"default","NodePool":"default","Priority":50,"Status":"pending","Stop":false,"TaskGroups":[{"Count":1,"Name":"g","Tasks":[{"Name":"t","Resources":{"CPU":100,"MemoryMB":300}}]}],"Type":"service","Version":0}'
+folder=$(mktemp -d)
+server='' nginx=''
+trap 'kill $server $nginx 2>/dev/null || true; wait; rm -rf "$folder"' EXIT
+trap 'exit 1' HUP INT TERM
+
+[ -x "$program" ] || { echo "there is no program $program: ./nsd --help builds it" >&2; exit 1; }
+for tool in wrk curl; do
+    command -v $tool > "$folder/which" || { echo "$tool is not installed" >&2; exit 1; }
+done
+
+# Waits a tenth of a second for what the process with that number is to do, a hundred times at most. Its errors are in that file.
+pause() {
+    tries=$((tries + 1))
+    if [ $tries -gt 100 ] || ! kill -0 "$1" 2>/dev/null; then
+        cat "$2" >&2
+        echo "$3 does not serve" >&2
+        exit 1
+    fi
+    sleep 0.1
+}
+
+# The address that a server says it listens at.
+start_server() {
+    : > "$folder/errors"
+    "$program" serve --listen 127.0.0.1:0 --bootstrap root --connections 4 --log-limit $limit 2>> "$folder/errors" > "$folder/log" &
+    server=$!
+    tries=0
+    until address=$(sed -n 's/^listening //p' "$folder/errors") && [ -n "$address" ]; do
+        pause $server "$folder/errors" "$program"
+    done
+    curl -sS -H 'X-Nomad-Token: root' -o "$folder/made" \
+        -d '{"Job":{"ID":"web","TaskGroups":[{"Name":"g","Tasks":[{"Name":"t"}]}]}}' "http://$address/v1/jobs"
+    read=$(curl -sS -H 'X-Nomad-Token: root' "http://$address/v1/job/web")
+    [ "$read" = "$body" ] || { echo "the job is read as $read" >&2; exit 1; }
+}
+
+# At a port that nobody has: nginx can't say which one it was given.
+start_nginx() {
+    beside=$((${address##*:} - 1))
+    cat > "$folder/nginx.conf" <<CONF
+daemon off;
+worker_processes 4;
+pid $folder/nginx.pid;
+error_log $folder/nginx.errors;
+events { worker_connections 64; }
+http {
+    access_log off;
+    keepalive_requests 1000000000;
+    client_body_temp_path $folder/a; proxy_temp_path $folder/b; fastcgi_temp_path $folder/c;
+    uwsgi_temp_path $folder/d; scgi_temp_path $folder/e;
+    server {
+        listen 127.0.0.1:$beside;
+        location / { default_type application/json; return 200 '$body'; }
+    }
+}
+CONF
+    nginx -p "$folder" -e "$folder/nginx.errors" -c "$folder/nginx.conf" &
+    nginx=$!
+    tries=0
+    until read=$(curl -s "http://127.0.0.1:$beside/"); do
+        pause $nginx "$folder/nginx.errors" nginx
+    done
+    [ "$read" = "$body" ] || { echo "nginx answers $read" >&2; exit 1; }
+}
+
+# Requests in a second at that address, and how many there were; none may be refused.
+ask() {
+    wrk -t 2 -c 4 -d "$seconds" -H 'X-Nomad-Token: root' "http://$1/v1/job/web" > "$folder/said"
+    if grep -E 'Non-2xx|Socket errors' "$folder/said" >&2; then
+        echo "not every request was answered 200" >&2
+        exit 1
+    fi
+    awk '$2 == "requests" && $3 == "in" { many = $1 } $1 == "Requests/sec:" { print $2, many }' "$folder/said"
+}
+
+# The bytes of memory that the server has.
+memory() { awk '$1 == "VmRSS:" { printf "%d\n", $2 * 1024 }' "/proc/$server/status"; }
+
+median() { sort -n "$1" | sed -n 2p | cut -d ' ' -f 1; }
+
+echo "processors $(getconf _NPROCESSORS_ONLN), load before $(cut -d ' ' -f 1-3 /proc/loadavg)"
+start_server
+if command -v nginx > "$folder/which"; then start_nginx; fi
+before=$(memory)
+for _ in 1 2 3; do
+    ask "$address" >> "$folder/ours"
+    echo "nsd serve, requests a second: $(tail -n 1 "$folder/ours" | cut -d ' ' -f 1)"
+    [ -n "$nginx" ] || continue
+    ask "127.0.0.1:$beside" >> "$folder/theirs"
+    echo "nginx, requests a second: $(tail -n 1 "$folder/theirs" | cut -d ' ' -f 1)"
+done
+awk -v grown="$(($(memory) - before))" '{ many += $2 }
+    END { printf "nsd serve took %d bytes of memory for each of %d entries of its log\n", grown / many, many }' "$folder/ours"
+ours=$(median "$folder/ours")
+if [ -z "$nginx" ]; then
+    echo "median $ours; nginx is not installed, so it is compared with nothing"
+else
+    theirs=$(median "$folder/theirs")
+    awk -v ours="$ours" -v theirs="$theirs" \
+        'BEGIN { printf "median %s of nsd, %s of nginx (a constant body of 282 bytes): the quotient is %.2f\n", ours, theirs, ours / theirs }'
+fi
