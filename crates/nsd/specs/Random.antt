@@ -3,5 +3,5 @@ use Rattle.std.specs.Prelude.{◌≡◌, ℕ, List}
 use Rattle.rand_core.specs.Stream.{Stream, fill_bytes}
 
 -- all 16 bytes come from the generator, which answers from there on
-abbrev pub IsDrawn : {G : Type 0} → (G → Stream) → G → List ℕ → G → Type 0
-IsDrawn stream old bytes new = (bytes, stream new) ≡ fill_bytes 16 (stream old)
+abbrev pub FillsBytes : {G : Type 0} → (G → Stream) → G → List ℕ → G → Type 0
+FillsBytes stream old bytes new = (bytes, stream new) ≡ fill_bytes 16 (stream old)

@@ -29,13 +29,13 @@ EndsReplayed remaining contents namespace from reader writer ended =
     (uncounted reader) ended.reader (uncounted writer) ended.writer
 
 -- nothing was read and nothing was written, for want of memory
-pub record IsUnserved {R W : Type 0} (reader : R) (writer : W) (ended : Ended R W) : Type 0 where
+pub record EndsUnserved {R W : Type 0} (reader : R) (writer : W) (ended : Ended R W) : Type 0 where
   pub status : ended.status ≡ OUT_OF_MEMORY
   pub unread : ended.reader ≡ uncounted reader
   pub unwritten : ended.writer ≡ uncounted writer
 
 -- the text of a mistake was told, and nothing was read or written
-pub record IsRefused {R W E : Type 0} (told : E → Option (List ℕ)) (reader : R) (writer : W)
+pub record EndsRefused {R W E : Type 0} (told : E → Option (List ℕ)) (reader : R) (writer : W)
     (errors errors' : Counted E) (ended : Ended R W) : Type 0 where
   pub text : Text
   pub status : ended.status ≡ BAD_WORDS
@@ -44,7 +44,7 @@ pub record IsRefused {R W E : Type 0} (told : E → Option (List ℕ)) (reader :
   pub tells : Tells told errors errors' text
 
 -- help was written, or a part of it, and then the output failed; nothing was read
-pub record IsHelped {R W : Type 0} (contents : W → Option (List ℕ)) (reader : R) (writer : W) (ended : Ended R W) : Type 0 where
+pub record EndsHelped {R W : Type 0} (contents : W → Option (List ℕ)) (reader : R) (writer : W) (ended : Ended R W) : Type 0 where
   pub help : Text
   pub unread : ended.reader ≡ uncounted reader
   pub written : ((ended.status ≡ SERVED) × WritesAll contents (uncounted writer) ended.writer help)
@@ -52,7 +52,7 @@ pub record IsHelped {R W : Type 0} (contents : W → Option (List ℕ)) (reader 
 
 -- so it ended, or there was no memory
 abbrev pub OrUnserved : {R W : Type 0} → R → W → (Ended R W → Type 0) → Ended R W → Type 0
-OrUnserved reader writer HasEnded ended = HasEnded ended ⊎ IsUnserved reader writer ended
+OrUnserved reader writer HasEnded ended = HasEnded ended ⊎ EndsUnserved reader writer ended
 
 module _ {D R W E : Type 0} (draws : D → List ℕ → D → Type 0) (remaining : R → Option (List ℕ))
     (contents : W → Option (List ℕ)) (told : E → Option (List ℕ)) (words : List Text) (drawer : D) (reader : R)
@@ -64,9 +64,9 @@ module _ {D R W E : Type 0} (draws : D → List ℕ → D → Type 0) (remaining
       × EndsPiped draws remaining contents secret driven printed drawer reader writer ended)
       ⊎ ((namespace : Text) × (from : ℕ) × AsksAlone words namespace from
       × EndsReplayed remaining contents namespace from reader writer ended)
-      ⊎ IsHelped contents reader writer ended
-      ⊎ IsRefused told reader writer errors errors' ended
-      ⊎ IsUnserved reader writer ended
+      ⊎ EndsHelped contents reader writer ended
+      ⊎ EndsRefused told reader writer errors errors' ended
+      ⊎ EndsUnserved reader writer ended
 
 -- the words ask for this server, and nothing was read, written or told
 pub record IsHandedOn {R W E : Type 0} (words : List Text) (reader : R) (writer : W) (errors errors' : Counted E)

@@ -16,10 +16,10 @@ impl<R: Rng> Random<R> {
 }
 
 impl<R: Rng> Draws for Random<R> {
-    ghost use Rattle.nsd.specs.Random.{IsDrawn};
+    ghost use Rattle.nsd.specs.Random.{FillsBytes};
 
     // All bits of a draw come from the generator.
-    ghost draws = { λ old bytes new. IsDrawn R.stream old.generator bytes new.generator };
+    ghost draws = { λ old bytes new. FillsBytes R.stream old.generator bytes new.generator };
 
     fn draw(&mut self) -> [u8; 16] {
         let mut bytes = [0; 16];

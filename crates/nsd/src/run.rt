@@ -8,7 +8,7 @@ ghost use Rattle.ns_faults.specs.Lines.{Tells, status_of, line_of};
 ghost use Rattle.ns_serve.specs.declared.service.Service.{Service};
 ghost use Rattle.nsd.specs.declared.outcome.Outcome.{Outcome};
 ghost use Rattle.nsd.specs.Outcome.{IfEnded, IsEnded, MatchOutcome};
-ghost use Rattle.nsd.specs.Running.{DoesAsked, EndsPiped, EndsReplayed, IsHandedOn, IsHelped, IsRefused, IsUnserved, OrUnserved};
+ghost use Rattle.nsd.specs.Running.{DoesAsked, EndsHelped, EndsPiped, EndsRefused, EndsReplayed, EndsUnserved, IsHandedOn, OrUnserved};
 ghost use Rattle.nsd.specs.Words.{AreBad, AskHelp, Asks, AsksAlone, AsksServe};
 
 use crate::outcome::Outcome;
@@ -47,13 +47,13 @@ pub fn run_words<D: Draws + Drop, R: Read + Drop, W: Write + Drop, E: Write>(
         (EndsReplayed R.remaining W.contents namespace from reader writer) }
     ensures to_serve { (service : Service) → AsksServe (texts words.entry.now) service
         → (result ≡ Outcome.Serve service reader writer)
-        ⊎ IsEnded result (IsUnserved reader writer) }
+        ⊎ IsEnded result (EndsUnserved reader writer) }
 
     // Bad words, and those that ask for help, are answered before any input is read.
     ensures bad { AreBad (texts words.entry.now) → IsEnded result (OrUnserved reader writer
-        (IsRefused E.contents reader writer errors.old errors.new)) }
+        (EndsRefused E.contents reader writer errors.old errors.new)) }
     ensures helped { AskHelp (texts words.entry.now) → IsEnded result (OrUnserved reader writer
-        (IsHelped W.contents reader writer)) }
+        (EndsHelped W.contents reader writer)) }
 
     ensures silent { IfEnded result (λ ended. ended.status ≡ SERVED → errors.new ≡ errors.old) }
     ensures told { IfEnded result (λ ended. (fault : ConnFault) → ended.status ≡ status_of fault
