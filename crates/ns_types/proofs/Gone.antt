@@ -233,7 +233,7 @@ pub evicted_are : (vs : List Eviction) (w : World) → evict_all w vs ≡ rows_g
 evicted_are vs w = fold_keys (row_gone evicted_row) victim_key vs w
 
 module _ {K X : Type 0} {R : K → K → Ordering} (o : IsTotalOrder R) (same : IsAntisymmetric R) where
-  insert_twice : (m : FinMap R X) (k : K) (u v : X) → insert (insert m k u) k v ≡ insert m k v
+  pub insert_twice : (m : FinMap R X) (k : K) (u v : X) → insert (insert m k u) k v ≡ insert m k v
   insert_twice m k u v = same_map o same _ _ (λ q. get-insert o (insert m k u) k v q ∙ ap (cond (eq_by_cmp R q k) (Some v)) (get-insert o m k u q) ∙
       by (eq_by_cmp R q k) (get m q) ∙ sym (get-insert o m k v q))
     where

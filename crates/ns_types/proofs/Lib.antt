@@ -1,4 +1,5 @@
 pub mod Alike
+pub mod Bounds
 pub mod Choosing
 pub mod Classes
 pub mod Decided
@@ -15,6 +16,7 @@ pub mod Outcomes
 pub mod Queue
 pub mod ReadingLemmas
 pub mod Registrations
+pub mod Results
 pub mod Settling
 pub mod Sums
 pub mod TableRows

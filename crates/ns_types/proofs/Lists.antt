@@ -1,8 +1,8 @@
 -- Lists of which a part is chosen.
-use Rattle.std.specs.Prelude.{◌≡◌, Bool, true, false, cond, T, List, [], ◌∷◌, ◌++◌, ◌||◌, filter, fold, flat_map}
+use Rattle.std.specs.Prelude.{◌≡◌, Bool, true, false, cond, T, List, [], ◌∷◌, ◌++◌, ◌||◌, not, filter, fold, flat_map}
 use Rattle.std.proofs.Common.{refl, sym, ap, subst, ◌∙◌}
 use Rattle.std.specs.List.{list_any}
-use Rattle.ns_types.specs.State.Lists.{Each}
+use Rattle.ns_types.specs.State.Lists.{Each, is_empty}
 
 pub cond_same : {A : Type 0} (b : Bool) (x : A) → cond b x x ≡ x
 cond_same true x = refl
@@ -18,6 +18,19 @@ left_none false b e = refl
 pub right_none : (a b : Bool) → (a || b) ≡ false → b ≡ false
 right_none true b e = absurd (subst T e tt)
 right_none false b e = e
+
+pub none_of : {A : Type 0} (xs : List A) → list_any (λ _. false) xs ≡ false
+none_of [] = refl
+none_of (x ∷ xs) = none_of xs
+
+-- a test finds one where the elements that pass it are some
+pub any_is : {A : Type 0} (p : A → Bool) (xs : List A) → list_any p xs ≡ not (is_empty (filter p xs))
+any_is p [] = refl
+any_is p (x ∷ xs) = by (p x) (any_is p xs)
+  where
+    by : (b : Bool) → list_any p xs ≡ not (is_empty (filter p xs)) → (b || list_any p xs) ≡ not (is_empty (cond b (x ∷ filter p xs) (filter p xs)))
+    by true later = refl
+    by false later = later
 
 module _ {A : Type 0} where
   pub filter-append : (p : A → Bool) (xs ys : List A) → filter p (xs ++ ys) ≡ filter p xs ++ filter p ys

@@ -2,11 +2,12 @@
 use Rattle.std.specs.Prelude.{◌≡◌, Bool, true, false, cond, not, T, List, [], ◌∷◌, ◌++◌, ◌&&◌, ◌||◌, filter}
 use Rattle.std.proofs.Common.{refl, sym, ap, subst, ◌∙◌}
 use Rattle.std.specs.Cmp.{eq_by_cmp_equiv}
+use Rattle.std.proofs.lemmas.Bool.{or_right}
 use Rattle.std.proofs.lemmas.List.{append-nil}
 use Rattle.ns_types.specs.State.Lists.{Each, first_each}
 use Rattle.ns_types.specs.State.Names.{Key, has_key, same_key, same_name}
 use Rattle.ns_types.proofs.Elements.{each_still}
-use Rattle.ns_types.proofs.Lists.{any_chosen, each, filter-append, not_both}
+use Rattle.ns_types.proofs.Lists.{any_chosen, each, each_map, filter-append, not_both}
 use Rattle.ns_types.proofs.Named.{names, one_name, numbers, one_number, first_of_both, second_of_both, same_key_refl}
 use Rattle.ns_types.proofs.Tables.{tied}
 
@@ -20,6 +21,12 @@ AllApart (key ∷ keys) = Each (λ k. same_key k key ≡ false) keys × AllApart
 
 pub key_is : (a b : Key) → same_key a b ≡ true → a ≡ b
 key_is a b e = λ i. (tied one_name a.0 b.0 (first_of_both (same_name a.0 b.0) _ e) i, tied one_number a.1 b.1 (second_of_both (same_name a.0 b.0) _ e) i)
+
+-- each key of a list is found in it
+pub each_member : (keys : List Key) → Each (λ key. has_key keys key ≡ true) keys
+each_member [] = tt
+each_member (key ∷ keys) =
+    (ap (λ b. b || has_key keys key) (same_key_refl key), each_map (λ other h. or_right (same_key other key) _ h) keys (each_member keys))
 
 pub once_has : (keys : List Key) (k : Key) → has_key (once keys) k ≡ has_key keys k
 once_has [] k = refl

@@ -16,6 +16,17 @@ pub both : (a b : Bool) → T a → T b → T (a && b)
 both true b p q = q
 both false b p q = p
 
+-- the second of three comes first
+pub and_turned : (a b c : Bool) → (a && (b && c)) ≡ (b && (a && c))
+and_turned true true c = refl
+and_turned true false c = refl
+and_turned false true c = refl
+and_turned false false c = refl
+
+pub and_yes : (b : Bool) → (b && true) ≡ false → b ≡ false
+and_yes true is = is
+and_yes false is = refl
+
 -- ---- either
 
 pub or_none : (b : Bool) → (b || false) ≡ b
@@ -25,6 +36,18 @@ or_none false = refl
 pub either_of : (a b : Bool) → (a || b) ≡ true → (a ≡ true) ⊎ (b ≡ true)
 either_of true b e = inl refl
 either_of false b e = inr e
+
+-- two of four change places
+pub swap_or : (a b c d : Bool) → ((a || b) || (c || d)) ≡ ((a || c) || (b || d))
+swap_or true b c d = refl
+swap_or false true true d = refl
+swap_or false true false d = refl
+swap_or false false c d = refl
+
+pub third_of_four : (a b c d : Bool) → c ≡ true → (a || b || c || d) ≡ true
+third_of_four true b c d is = refl
+third_of_four false true c d is = refl
+third_of_four false false c d is = ap (λ c. c || d) is
 
 -- ---- not
 
