@@ -13,12 +13,8 @@ use Rattle.keyed.proofs.Tables.{rows-set, rows-remove, rows-with_slot, has_slot-
 use Rattle.ns_types.specs.State.Lists.{Each}
 use Rattle.ns_types.proofs.Tables.{less_by, tied, each_row}
 use Rattle.ns_types.proofs.Lists.{each_map, not_both}
-use Rattle.ns_types.proofs.TableRows.{no_entries}
 use Rattle.keyed.specs.Over.{HasRoomFor, over, put_in}
 use Rattle.keyed.proofs.Over.{get-over}
-
-pub empty_by : {A : Type 0} (xs : List A) → length xs ≡ 0 → xs ≡ []
-empty_by = no_entries
 
 module _ {K X : Type 0} {R : K → K → Ordering} (o : IsTotalOrder R) (same : IsAntisymmetric R) where
   get-put_in : (m : FinMap R X) (e : K × Option X) (q : K) → get (put_in m e) q ≡ cond (eq_by_cmp R q e.0) e.1 (get m q)

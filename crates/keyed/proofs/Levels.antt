@@ -10,21 +10,22 @@ use Rattle.std.specs.FinMap.{FinMap, IsAntisymmetric, empty, empty_of_len, entri
 use Rattle.keyed.specs.Table.{emptied, flat, has_slot, row_at, with_slot}
 use Rattle.keyed.proofs.Tables.{has_slot-insert, has_slot-with_slot}
 use Rattle.ns_types.specs.State.Names.{Name, Key, ByName, ByNumber, name_cmp, same_key, same_name, same_number}
-use Rattle.ns_types.proofs.Named.{first_of_both, names, numbers, one_name, one_number, same_key_is, same_name_refl, second_of_both}
+use Rattle.ns_types.proofs.Named.{first_of_both, names, numbers, one_name, one_number, same_name_refl, second_of_both}
 use Rattle.ns_types.proofs.Tables.{tied}
 use Rattle.keyed.specs.Levels.{Adds, Drops, Keeps, Vacates, at_name, has_key_room, holds_key, holds_number, same_at}
 use Rattle.keyed.specs.declared.key_set.KeySet.{KeySet}
+use Rattle.ns_types.proofs.Once.{key_is}
 
 pub not_true : {A : Type 0} → IsTrue false → A
 not_true e = absurd (subst T (sym e) tt)
 
 -- ---- rows
 
-flat_one : {X : Type 0} (b : Bool) (x : Option X) (y : Option (Option X)) → flat (cond b (Some x) y) ≡ cond b x (flat y)
+pub flat_one : {X : Type 0} (b : Bool) (x : Option X) (y : Option (Option X)) → flat (cond b (Some x) y) ≡ cond b x (flat y)
 flat_one true x y = refl
 flat_one false x y = refl
 
-flat_none : {X : Type 0} (b : Bool) (y : Option (Option X)) → flat (cond b None y) ≡ cond b None (flat y)
+pub flat_none : {X : Type 0} (b : Bool) (y : Option (Option X)) → flat (cond b None y) ≡ cond b None (flat y)
 flat_none true y = refl
 flat_none false y = refl
 
@@ -300,9 +301,6 @@ module _ {I A : Type 0} (holds has_room : I → A → Bool) where
   keeps_same x y e = record { held = λ a. ap (λ s. holds s a) e; room = λ a h. subst (λ s. IsTrue (has_room s a)) (sym e) h }
 
 -- ---- a key that is not held
-
-pub key_is : (a b : Key) → same_key a b ≡ true → a ≡ b
-key_is a b e = λ i. ((same_key_is a b e).0 i, (same_key_is a b e).1 i)
 
 pub drops_nothing : (old new : KeySet) (key : Key) → Drops holds_key has_key_room same_key key old new → holds_key old key ≡ false →
     (q : Key) → holds_key new q ≡ holds_key old q

@@ -18,6 +18,7 @@ use Rattle.std.specs.List.{list_any}
 use Rattle.keyed.specs.Table.{at_slot}
 use Rattle.keyed.proofs.Tables.{any-at_slot}
 use Rattle.keyed.specs.Over.{over}
+use Rattle.ns_types.proofs.Tests.{swap_or}
 
 module _ {K X : Type 0} {R : K → K → Ordering} (o : IsTotalOrder R) (same : IsAntisymmetric R) where
   first_row : (a : Option (Option X)) (b : Option X) → flat (option_or a (option_map (λ x. Some x) b)) ≡ unwrap_or a b
@@ -193,13 +194,7 @@ or_cases false f = refl
 
 pub any_both : {A : Type 0} (f g : A → Bool) (xs : List A) → list_any (λ x. f x || g x) xs ≡ (list_any f xs || list_any g xs)
 any_both f g [] = refl
-any_both f g (x ∷ xs) = ap (λ b. (f x || g x) || b) (any_both f g xs) ∙ by (f x) (g x) (list_any f xs) (list_any g xs)
-  where
-    by : (a b c d : Bool) → ((a || b) || (c || d)) ≡ ((a || c) || (b || d))
-    by true b c d = refl
-    by false true true d = refl
-    by false true false d = refl
-    by false false c d = refl
+any_both f g (x ∷ xs) = ap (λ b. (f x || g x) || b) (any_both f g xs) ∙ swap_or (f x) (g x) (list_any f xs) (list_any g xs)
 
 module _ {K X : Type 0} {R : K → K → Ordering} (o : IsTotalOrder R) (same : IsAntisymmetric R) (f : K → X → Bool) (c : FinMap R (Option X)) where
   abbrev inside : K → X → Bool

@@ -3,14 +3,14 @@ use Rattle.std.specs.Prelude.{◌≡◌, ℕ, ◌+◌, ◌<◌, ◌≤◌, ◌==
 use Rattle.std.proofs.Common.{refl, sym, ap, subst, ◌∙◌, arith, append_assoc, get_or, drop, drop-cons, add-one}
 use Rattle.std.proofs.lemmas.Bool.{eqb-true}
 use Rattle.std.proofs.lemmas.List.Folds.{list_any-append}
-use Rattle.keyed.proofs.Applying.{empty_by}
-use Rattle.keyed.proofs.Levels.{key_is}
 use Rattle.keyed.specs.Levels.{Adds, Keeps, Vacates, holds_key, has_key_room}
 use Rattle.keyed.specs.Queue.{CanAdd, IsSetOf, KeyQueue}
 use Rattle.keyed.specs.declared.key_set.KeySet.{KeySet}
 use Rattle.ns_types.proofs.Lists.{each, filter_all, not_both}
 use Rattle.ns_types.proofs.Named.{same_key_refl}
 use Rattle.ns_types.specs.State.Names.{Key, has_key, same_key}
+use Rattle.ns_types.proofs.TableRows.{no_entries}
+use Rattle.ns_types.proofs.Once.{key_is}
 
 pub from_here : {A : Type 0} (xs : List A) (i : ℕ) (x : A) → i < length xs → x ≡ get_or xs i x → drop i xs ≡ x ∷ drop (i + 1) xs
 from_here xs i x lt is = drop-cons xs i x lt ∙ (λ j. sym is j ∷ drop (sym (add-one i) j) xs)
@@ -112,7 +112,7 @@ module _ (old held : KeySet) (keys items : List Key) (is : IsSetOf old items)
   set_taken q = out q ∙ ap (λ b. not (has_key keys q) && b) (is q) ∙ sym (has_filter (λ key. not (has_key keys key)) q items)
 
 pub taken_nothing : (keys items : List Key) → IsTrue (length keys == 0) → items ≡ filter (λ key. not (has_key keys key)) items
-taken_nothing keys items none = sym (ap (λ ks. filter (λ key. not (has_key ks key)) items) (empty_by keys (eqb-true (length keys) 0 none))
+taken_nothing keys items none = sym (ap (λ ks. filter (λ key. not (has_key ks key)) items) (no_entries keys (eqb-true (length keys) 0 none))
     ∙ filter_all (λ (key : Key). true) items (each (λ _. true ≡ true) (λ _. refl) items))
 
 -- ---- keys that are added, one after another

@@ -22,15 +22,16 @@ use Rattle.ns_change.specs.declared.change.PoolChange.{PoolChange}
 use Rattle.ns_change.specs.declared.change.TenantChange.{TenantChange}
 use Rattle.ns_change.specs.Changed.{changed}
 use Rattle.ns_change.proofs.Nothing.{nothing, nothing_changed}
-use Rattle.ns_change.proofs.Opening.{insert_twice}
 use Rattle.ns_world.specs.declared.tables.Tables.{Tables}
 use Rattle.ns_world.specs.World.{world_of}
 use Rattle.ns_release.specs.Released.{ended_of, ended_rows, is_woken, quota_left, quota_relimited, released_quotas, released_rooms, rooms_left, rooms_of_pool}
-use Rattle.ns_release.proofs.Rooms.{and_none, any_none}
+use Rattle.ns_release.proofs.Rooms.{any_none}
 use Rattle.ns_release.proofs.Woken.{wakes_nothing}
 use Rattle.ns_bounds.specs.Bounds.{is_at_bound, places_pass, quota_passes, room_passes, shows_awake, tenant_passes, waking_passes}
 use Rattle.ns_bounds.specs.Given.{given_waking_passes, given_waking_passes_in}
 use Rattle.ns_bounds.proofs.Indexes.{past_bound_is}
+use Rattle.ns_types.proofs.Gone.{insert_twice}
+use Rattle.std.proofs.Math.Bool.{and-false}
 
 pub one_entry : {X : Type 0} (name : Name) (x : X) → entries (insert {R = name_cmp} (with_slot empty name) name (Some x)) ≡ (name, Some x) ∷ []
 one_entry {X = X} name x = ap entries (by (has_slot (empty {X = Option X} {R = name_cmp}) name))
@@ -47,7 +48,7 @@ none_given_wakes w = any_alike (given_waking_passes w [] []) (λ _. false) w.blo
   where
     by : (key : Key) (t : Option Tenant) → option_map_or (given_waking_passes_in w [] [] key) t false ≡ false
     by key None = refl
-    by key (Some t) = ap (λ b. is_at_bound t.index && (b && shows_awake t key.1 (evaluation_at w key))) (wakes_nothing w key) ∙ and_none (is_at_bound t.index)
+    by key (Some t) = ap (λ b. is_at_bound t.index && (b && shows_awake t key.1 (evaluation_at w key))) (wakes_nothing w key) ∙ and-false (is_at_bound t.index)
 
 module _ (t : Tables) (pools : ByName (Option PoolChange)) (quotas : ByName (Option Quota)) where
   abbrev w : World

@@ -68,7 +68,7 @@ any_named {A = A} {X = X} name p m xs = any_swap (λ (e : Name × X) a. same_nam
     (each _ (λ e. ap (λ b. b && p a e.0 e.1) ((eq_by_cmp_equiv names).symm e.0 (name a))) (entries m)) ∙
     any_row-at names one_name (name a) (p a) m) xs)
 
-any_chosen : {A X : Type 0} (name : A → Name) (p : X → Bool) (m : ByName X) (xs : List A) →
+pub any_chosen : {A X : Type 0} (name : A → Name) (p : X → Bool) (m : ByName X) (xs : List A) →
     any_row (λ k x. list_any (λ a. same_name k (name a)) xs && p x) m ≡ list_any (λ a. option_map_or p (get m (name a)) false) xs
 any_chosen name p m xs = any_row-alike names one_name _ (λ k x. list_any (λ a. same_name k (name a) && p x) xs) m
     (λ k x _. any_with (λ a. same_name k (name a)) (p x) xs) ∙ any_named name (λ _ _ x. p x) m xs

@@ -18,10 +18,10 @@ use Rattle.ns_change.proofs.Recorded.{record_put}
 use Rattle.ns_world.specs.declared.tables.Tables.{Tables}
 use Rattle.ns_world.specs.World.{world_of}
 use Rattle.ns_release.specs.Released.{quota_relimited, released_quotas, released_rooms, rooms_of_pool}
-use Rattle.ns_release.proofs.Rooms.{or_none}
 use Rattle.ns_bounds.specs.Bounds.{places_pass, quota_passes}
 use Rattle.ns_bounds.specs.Given.{given_limits_pass, given_waking_passes}
 use Rattle.ns_bounds.proofs.Alone.{alone, alone_past, one_entry, quotas_alone, rooms_alone}
+use Rattle.ns_types.proofs.Tests.{or_none}
 
 module _ (t : Tables) (name : Name) (quota : Quota) (relimited : is_relimited name quota (world_of t) ≡ true) where
   abbrev w : World

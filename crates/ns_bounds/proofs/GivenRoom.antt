@@ -30,10 +30,10 @@ use Rattle.ns_world.specs.declared.tables.Tables.{Tables}
 use Rattle.ns_world.specs.World.{pool_of, world_of}
 use Rattle.ns_world.proofs.World.{pool_at}
 use Rattle.ns_release.specs.Released.{changed_classes, gives_itself, in_pool, quota_relimited, released_quotas, released_rooms, rooms_of_pool}
-use Rattle.ns_release.proofs.Rooms.{or_none}
 use Rattle.ns_bounds.specs.Bounds.{is_place_past, places_pass, room_passes}
 use Rattle.ns_bounds.specs.Given.{given_room_passes, given_waking_passes}
 use Rattle.ns_bounds.proofs.Alone.{alone, alone_past, none_given_wakes, one_entry, quotas_alone, rooms_alone}
+use Rattle.ns_types.proofs.Tests.{or_none}
 
 module _ (t : Tables) (pool name : Name) (row : Option Node) (f : PoolRows → PoolRows)
     (law : (base : PoolRows) → changed_pool base (record { nodes = insert empty name row }) ≡ f (changed_pool base (unchanged_pool base)))

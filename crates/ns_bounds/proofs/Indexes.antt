@@ -1,5 +1,5 @@
 -- Indexes and numbers of namespaces pass their bounds only where the change, or an evaluation that wakes, makes them.
-use Rattle.std.specs.Prelude.{◌≡◌, ℕ, ◌+◌, Bool, true, false, not, cond, if◌then◌else◌, List, [], ◌∷◌, Option, Some, None, ◌&&◌, ◌||◌, nat_lt}
+use Rattle.std.specs.Prelude.{◌≡◌, ℕ, ◌+◌, Bool, true, false, not, if◌then◌else◌, List, Option, Some, None, ◌&&◌, ◌||◌, nat_lt}
 use Rattle.std.specs.Prelude.{filter, option_map}
 use Rattle.std.proofs.Common.{refl, sym, ap, ◌∙◌}
 use Rattle.std.specs.Option.{option_and_then, option_map_or}
@@ -33,22 +33,14 @@ use Rattle.ns_bounds.specs.Bounds.{pools_pass, quotas_pass, touches_asleep, waki
 use Rattle.ns_release.specs.Shown.{changes_job_row}
 use Rattle.keyed.proofs.Over.{any_row-before, any_row-over}
 use Rattle.ns_bounds.proofs.Bounded.{any_named, any_row-either, any_row-mapped, any_with, no_slot, pools_within, quotas_within}
-use Rattle.ns_release.proofs.Rooms.{and_turned, any_and, any_row-at, any_swap}
+use Rattle.ns_release.proofs.Rooms.{any_and, any_row-at, any_swap}
 use Rattle.ns_types.proofs.Queue.{queues_keep}
 use Rattle.ns_release.proofs.Model.{woken_is}
 use Rattle.ns_release.proofs.Touched.{allocations_idle, jobs_touched}
 use Rattle.ns_release.proofs.Woken.{woken_tests}
-
-pub any_filtered : {A : Type 0} (f p : A → Bool) (xs : List A) → list_any f (filter p xs) ≡ list_any (λ x. p x && f x) xs
-any_filtered f p [] = refl
-any_filtered f p (x ∷ xs) = elim (p x) as (λ b. list_any f (cond b (x ∷ filter p xs) (filter p xs)) ≡ ((b && f x) || list_any (λ x. p x && f x) xs)) [
-  | true ↦ ap (λ b. f x || b) (any_filtered f p xs)
-  | false ↦ any_filtered f p xs
-]
-
-and_moved : (a b c : Bool) → ((a && b) && c) ≡ (a && (b && c))
-and_moved true b c = refl
-and_moved false b c = refl
+use Rattle.std.proofs.Math.Bool.{and_comm, and_assoc}
+use Rattle.ns_types.proofs.Tests.{and_turned}
+use Rattle.ns_change.proofs.Listed.{any_filter}
 
 -- ---- one namespace
 
@@ -63,7 +55,7 @@ module _ (ns : Name) (keys : List Key) where
     where
       one : (k : Key) → list_any (λ (e : ℕ × X). same_key (ns, e.0) k && r e.0 e.1) (entries m) ≡ (same_name ns k.0 && option_map_or (r k.1) (get m k.1) false)
       one k = any_alike _ (λ (e : ℕ × X). same_name ns k.0 && (same_number k.1 e.0 && r e.0 e.1)) (entries m)
-          (each _ (λ e. and_moved (same_name ns k.0) (same_number e.0 k.1) (r e.0 e.1) ∙
+          (each _ (λ e. and_assoc (same_name ns k.0) (same_number e.0 k.1) (r e.0 e.1) ∙
           ap (λ b. same_name ns k.0 && (b && r e.0 e.1)) ((eq_by_cmp_equiv numbers).symm e.0 k.1)) (entries m))
           ∙ sym (any_and (same_name ns k.0) (λ (e : ℕ × X). same_number k.1 e.0 && r e.0 e.1) (entries m))
           ∙ ap (λ b. same_name ns k.0 && b) (any_row-at numbers one_number k.1 r m)
@@ -202,8 +194,8 @@ module _ (w : World) (c : Change) where
   keys_are = woken_is w c ∙ sym (woken_tests w c (released_rooms w c) (released_quotas w c))
 
   waking_is : (key : Key) → has_key keys_now key ≡ is_waking w c key
-  waking_is key = ap (λ keys. has_key keys key) keys_are ∙ any_filtered (same_key key) (does_wake w c) w.blocked ∙
-      any_alike _ (λ k. same_key key k && does_wake w c k) w.blocked (each _ (λ k. and_turned (does_wake w c k) (same_key key k)) w.blocked)
+  waking_is key = ap (λ keys. has_key keys key) keys_are ∙ any_filter (same_key key) (does_wake w c) w.blocked ∙
+      any_alike _ (λ k. same_key key k && does_wake w c k) w.blocked (each _ (λ k. and_comm (does_wake w c k) (same_key key k)) w.blocked)
 
   asleep_is : (ns : Name) (t : Tenant) (x : TenantChange) → sleeps ns keys_now t x ≡ touches_asleep w c ns t x
   asleep_is ns t x = λ i. list_any (λ e. changes_job_row t e.0 e.1) (entries x.jobs)
@@ -219,11 +211,6 @@ module _ (w : World) (c : Change) where
   abbrev by_waking : Name → Tenant → Bool
   by_waking ns t = list_any (λ k. same_name ns k.0 && shown_at k ns t) keys_now
 
-  moved : (b s q : Bool) → (b && (s && q)) ≡ (s && (b && q))
-  moved true s q = refl
-  moved false true q = refl
-  moved false false q = refl
-
   one_past : (ns : Name) (t : Tenant) → is_tenant_past_bound t ≡ false →
       is_tenant_past_bound (stamp_tenant (Some t) (unblocked_in keys_now ns (perhaps changed_tenant (row_at c.tenants ns) t)))
       ≡ (by_change ns t || by_waking ns t)
@@ -235,7 +222,7 @@ module _ (w : World) (c : Change) where
 
       wakes : (is_at_bound t.index && waking_in ns keys_now t within (row_at c.tenants ns)) ≡ by_waking ns t
       wakes = any_and (is_at_bound t.index) (λ k. same_name ns k.0 && shown_after ns keys_now t within (row_at c.tenants ns) k) keys_now ∙
-          any_alike _ (λ k. same_name ns k.0 && shown_at k ns t) keys_now (each _ (λ k. moved (is_at_bound t.index) (same_name ns k.0) _) keys_now)
+          any_alike _ (λ k. same_name ns k.0 && shown_at k ns t) keys_now (each _ (λ k. and_turned (is_at_bound t.index) (same_name ns k.0) _) keys_now)
 
   changes_pass : any_row by_change w.tenants ≡ list_any (tenant_passes w c) (entries c.tenants)
   changes_pass = any_row-before names one_name by_change w.tenants c.tenants
@@ -254,7 +241,7 @@ module _ (w : World) (c : Change) where
   wakings_pass : any_row by_waking w.tenants ≡ list_any (waking_passes w c) w.blocked
   wakings_pass = any_named (λ k. k.0) shown_at w.tenants keys_now
       ∙ ap (list_any (λ k. option_map_or (shown_at k k.0) (get w.tenants k.0) false)) keys_are
-      ∙ any_filtered (λ k. option_map_or (shown_at k k.0) (get w.tenants k.0) false) (does_wake w c) w.blocked
+      ∙ any_filter (λ k. option_map_or (shown_at k k.0) (get w.tenants k.0) false) (does_wake w c) w.blocked
       ∙ any_alike _ (waking_passes w c) w.blocked (each _ (λ k. by k (get w.tenants k.0) refl) w.blocked)
     where
       none : (b : Bool) → (b && false) ≡ false
@@ -264,7 +251,7 @@ module _ (w : World) (c : Change) where
       by : (k : Key) (t : Option Tenant) → get w.tenants k.0 ≡ t → (does_wake w c k && option_map_or (shown_at k k.0) t false)
           ≡ option_map_or (waking_passes_in w c k) t false
       by k None is = none (does_wake w c k)
-      by k (Some t) is = moved (does_wake w c k) (is_at_bound t.index) _ ∙ ap (λ row. is_at_bound t.index && (does_wake w c k && shows_awake t k.1 row))
+      by k (Some t) is = and_turned (does_wake w c k) (is_at_bound t.index) _ ∙ ap (λ row. is_at_bound t.index && (does_wake w c k && shows_awake t k.1 row))
           (sym (ap (option_and_then (λ t. get t.evaluations k.1)) (tenant_after w c k.0 ∙ ap (option_map (perhaps changed_tenant (row_at c.tenants k.0))) is)))
 
   pub tenants_within : any_row (λ _ t. is_tenant_past_bound t) w.tenants ≡ false →

@@ -23,8 +23,9 @@ use Rattle.ns_world.specs.World.{pool_of, quota_of, tenant_of, world_of}
 use Rattle.ns_world.proofs.World.{pool_at, tenant_at}
 use Rattle.ns_release.specs.Released.{does_wake, is_woken, released_quotas, released_rooms, stays}
 use Rattle.ns_release.proofs.Released.{quota_at}
-use Rattle.ns_release.proofs.Rooms.{and_none, any_none}
+use Rattle.ns_release.proofs.Rooms.{any_none}
 use Rattle.ns_release.proofs.Woken.{wakes_nothing}
+use Rattle.std.proofs.Math.Bool.{and-false}
 
 -- a test of the namespace's row
 pub at_tenant : (t : Tables) (name : Name) (passes : Tenant → Bool) (r : Option TenantRows) → row_at t.tenants name ≡ r →
@@ -58,9 +59,9 @@ module _ (w : World) (c : Change) where
     where
       sleeps : (key : Key) → does_wake w c key ≡ false
       sleeps key = (λ i. is_woken w c.blocked (no_rooms i) (no_quotas i) key) ∙ ap (λ b. stays c.blocked key && b) (wakes_nothing w key) ∙
-          and_none (stays c.blocked key)
+          and-false (stays c.blocked key)
 
       by : (key : Key) (t : Option Tenant) → option_map_or (waking_passes_in w c key) t false ≡ false
       by key None = refl
       by key (Some t) = ap (λ b. is_at_bound t.index && (b && shows_awake t key.1 (evaluation_at (changed w c) key))) (sleeps key) ∙
-          and_none (is_at_bound t.index)
+          and-false (is_at_bound t.index)

@@ -6,7 +6,6 @@ use Rattle.std.specs.Option.{option_and_then, option_map_or}
 use Rattle.std.specs.Ordering.{nat_cmp}
 use Rattle.std.specs.FinMap.{entries, get, get-entries}
 use Rattle.std.specs.FinMap.Entries.{find}
-use Rattle.keyed.proofs.Levels.{key_is}
 use Rattle.keyed.proofs.Over.{get-over}
 use Rattle.keyed.proofs.Tables.{get-rows}
 use Rattle.keyed.specs.Table.{row_at, rows}
@@ -23,6 +22,8 @@ use Rattle.ns_change.specs.declared.change.Change.{Change}
 use Rattle.ns_change.specs.declared.change.TenantChange.{TenantChange}
 use Rattle.ns_world.specs.declared.tables.Tables.{Tables}
 use Rattle.ns_world.specs.declared.tables.TenantRows.{TenantRows}
+use Rattle.ns_types.proofs.Once.{key_is}
+use Rattle.std.proofs.lemmas.Bool.{or_right}
 
 -- ---- both true or both false
 
@@ -30,10 +31,6 @@ same_truth : (a b : Bool) → (a ≡ true → b ≡ true) → (b ≡ true → a 
 same_truth true b f g = sym (f refl)
 same_truth false true f g = g refl
 same_truth false false f g = refl
-
-or_right : (a b : Bool) → b ≡ true → (a || b) ≡ true
-or_right true b e = refl
-or_right false b e = e
 
 or_cases : {A : Type 0} (a b : Bool) → (a || b) ≡ true → (a ≡ true → A) → (b ≡ true → A) → A
 or_cases true b is f g = f refl

@@ -25,15 +25,15 @@ use Rattle.ns_change.specs.Changed.{DoesToList, changed, changed_list, with_key,
 use Rattle.ns_change.specs.Changed.{view}
 use Rattle.ns_world.specs.World.{world_of}
 use Rattle.std.proofs.lemmas.List.Folds.{list_any-append}
-use Rattle.keyed.proofs.Applying.{empty_by}
 use Rattle.keyed.proofs.Over.{any_row-both}
 use Rattle.keyed.proofs.Queues.{from_here}
 use Rattle.keyed.proofs.Viewing.{any_row-rows}
 use Rattle.ns_change.proofs.Waking.{unblock_one, wake_is, without_blocked_keys}
 use Rattle.ns_types.specs.Settling.Settle.{wake}
 use Rattle.ns_change.proofs.Seen.{changed_seen, kept_seen, none_seen}
+use Rattle.ns_types.proofs.TableRows.{no_entries}
 
-any_filter : {A : Type 0} (f p : A → Bool) (xs : List A) → list_any f (filter p xs) ≡ list_any (λ x. p x && f x) xs
+pub any_filter : {A : Type 0} (f p : A → Bool) (xs : List A) → list_any f (filter p xs) ≡ list_any (λ x. p x && f x) xs
 any_filter f p [] = refl
 any_filter f p (x ∷ xs) = elim (p x) as (λ b. list_any f (cond b (x ∷ filter p xs) (filter p xs)) ≡ ((b && f x) || list_any (λ x. p x && f x) xs)) [
   | true ↦ ap (λ b. f x || b) (any_filter f p xs)
@@ -160,7 +160,7 @@ taken_out keys old new taken added base = (λ i. filter (λ key. not (has_key (t
 
 -- nothing is left at the end of a loop
 pub at_end : (xs : List Key) (i : ℕ) → length xs ≤ i → drop i xs ≡ []
-at_end xs i le = empty_by (drop i xs) (simp length-drop (omega arith))
+at_end xs i le = no_entries (drop i xs) (simp length-drop (omega arith))
 
 module _ (t : Tables) (keys : List Key) where
   pub woken_all : (c pending awake : Change) (x : ListChange) (i j : ℕ) → length keys ≤ i → length keys ≤ j

@@ -28,6 +28,7 @@ use Rattle.ns_change.specs.Changed.{view}
 use Rattle.keyed.proofs.Over.{over-empty, over-put}
 use Rattle.ns_world.proofs.World.{tenant_at}
 use Rattle.ns_change.proofs.Seen.{tenant_seen}
+use Rattle.ns_types.proofs.Gone.{insert_twice}
 
 module _ {K X : Type 0} {R : K → K → Ordering} (o : IsTotalOrder R) (same : IsAntisymmetric R) where
   pub row_set : (m : FinMap R (Option X)) (k : K) (x : X) (q : K) → row_at (insert m k (Some x)) q ≡ cond (eq_by_cmp R q k) (Some x) (row_at m q)
@@ -98,15 +99,6 @@ module _ (t : Tables) (c left : Change) (ns : Name) (f : Tenant → Tenant) wher
 
   pub put_nowhere : Opened t c ns None left → view t left ≡ change_tenant ns f (view t c)
   put_nowhere is = ap (view t) is.1 ∙ sym (ap (λ o. option_map_or (λ z. put_tenant ns (f z) (view t c)) o (view t c)) is.0)
-
-module _ {K X : Type 0} {R : K → K → Ordering} (o : IsTotalOrder R) (same : IsAntisymmetric R) where
-  pub insert_twice : (m : FinMap R X) (k : K) (u v : X) → insert (insert m k u) k v ≡ insert m k v
-  insert_twice m k u v = same_map o same _ _ (λ q. get-insert o (insert m k u) k v q ∙ ap (cond (eq_by_cmp R q k) (Some v)) (get-insert o m k u q) ∙
-      by (eq_by_cmp R q k) (get m q) ∙ sym (get-insert o m k v q))
-    where
-      by : (b : Bool) (r : Option X) → cond b (Some v) (cond b (Some u) r) ≡ cond b (Some v) r
-      by true r = refl
-      by false r = refl
 
 module _ {K X : Type 0} {R : K → K → Ordering} (o : IsTotalOrder R) (same : IsAntisymmetric R) where
   -- a row put into a slot made for it

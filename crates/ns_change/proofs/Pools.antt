@@ -11,7 +11,6 @@ use Rattle.std.specs.FinMap.{IsAntisymmetric, remove}
 use Rattle.keyed.specs.Table.{emptied}
 use Rattle.keyed.proofs.Tables.{has_slot-with_slot_here}
 use Rattle.keyed.proofs.Over.{over-gone}
-use Rattle.ns_change.proofs.Opening.{insert_twice}
 use Rattle.ns_types.specs.declared.allocation.Allocation.{Allocation}
 use Rattle.ns_types.specs.Working.Commit.{with_allocation}
 use Rattle.ns_types.specs.Settling.Making.{change_tenant, put_pool}
@@ -35,6 +34,7 @@ use Rattle.ns_change.proofs.Opening.{over-slot, put_open, row_set}
 use Rattle.ns_change.proofs.Seen.{pool_seen, seen_as}
 use Rattle.ns_world.proofs.World.{pool_at}
 use Rattle.keyed.proofs.Over.{over-empty}
+use Rattle.ns_types.proofs.Gone.{insert_twice}
 
 pub pool_unchanged : (p : PoolRows) → changed_pool p (unchanged_pool p) ≡ p
 pool_unchanged p = λ i. record p { nodes = over-empty names one_name p.nodes i }

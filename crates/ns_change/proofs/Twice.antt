@@ -8,7 +8,7 @@ use Rattle.ns_types.specs.State.Names.{Name}
 use Rattle.ns_types.specs.State.Rows.{World, Tenant}
 use Rattle.ns_types.proofs.Named.{names, one_name}
 use Rattle.ns_types.proofs.TableRows.{get_put}
-use Rattle.ns_change.proofs.Opening.{insert_twice}
+use Rattle.ns_types.proofs.Gone.{insert_twice}
 
 pub changed_twice : (ns : Name) (f g : Tenant → Tenant) (w : World) →
     change_tenant ns f (change_tenant ns g w) ≡ change_tenant ns (λ t. f (g t)) w

@@ -1,7 +1,6 @@
 -- The world once all parts of a settled change are in.
-use Rattle.std.specs.Prelude.{◌≡◌, ℕ, ◌+◌, ◌<◌, ◌≤◌, ◌^◌, Bool, true, false, List, [], ◌∷◌, Option, Some, None, is_some, length, nat_lt, option_map}
-use Rattle.std.proofs.Common.{refl, sym, ap, ◌∙◌, subst, arith}
-use Rattle.std.proofs.lemmas.Bool.{ltb-false}
+use Rattle.std.specs.Prelude.{◌≡◌, ◌+◌, ◌<◌, ◌≤◌, ◌^◌, Bool, true, false, List, [], ◌∷◌, Option, Some, None, is_some, length, nat_lt, option_map}
+use Rattle.std.proofs.Common.{refl, sym, ap, ◌∙◌, subst}
 use Rattle.std.specs.FinMap.{FinMap, get, same_map}
 use Rattle.std.specs.Option.{option_and_then, unwrap_or}
 use Rattle.keyed.specs.Over.{HasRoomFor}
@@ -37,6 +36,7 @@ use Rattle.ns_world.specs.declared.tables.PoolRows.{PoolRows}
 use Rattle.ns_world.specs.declared.tables.QuotaRows.{QuotaRows}
 use Rattle.ns_world.specs.declared.tables.Tables.{Tables}
 use Rattle.ns_world.specs.World.{pool_of, quota_of, tenant_of, world_of}
+use Rattle.ns_types.proofs.Bounds.{within_bound}
 
 -- ---- quotas
 
@@ -222,9 +222,6 @@ index_stays old new before live same keys shown right = subst (λ w. IsRight w l
 
 -- ---- numbers within their bounds
 
-within : (n : ℕ) → nat_lt greatest n ≡ false → n < 2 ^ 64
-within n e = let le : n ≤ greatest = ltb-false greatest n e in omega arith
-
 told : (t : Rows.Tenant) (rows : SettledTenant) → is_some rows.events ≡ true → (settled_tenant t rows).index ≡ t.index + 1
 told t rows e = by rows.events e
   where
@@ -249,7 +246,7 @@ module _ (s : Settled) (t : Tables) (fits : Fits (world_of t) s) where
   quota_fits name row at = none_of_any one_name (λ _ q. nat_lt greatest q.release) _ name row (right_none _ _ fits) at
 
   pub can_tell : EachChanged CanTell s.tenants t.tenants
-  can_tell name x row at there some = subst (λ n. n < 2 ^ 64) (told (tenant_of row) x some) (within _ (left_none _ _ (left_none _ _
+  can_tell name x row at there some = subst (λ n. n < 2 ^ 64) (told (tenant_of row) x some) (within_bound _ (left_none _ _ (left_none _ _
       (tenant_fits name (settled_tenant (tenant_of row) x) (get-changed settled_tenant s.tenants (owners tenant_of t.tenants) name
       ∙ (λ i. option_map (perhaps settled_tenant (at i)) ((get-owners tenant_of t.tenants name ∙ ap (option_map tenant_of) there) i)))))))
 
@@ -260,7 +257,7 @@ module _ (s : Settled) (t : Tables) (fits : Fits (world_of t) s) where
       by [] e some = not_both some refl
       by (class ∷ classes) e some = subst (λ n. n < 2 ^ 64)
           (kept (row_at s.pools name))
-          (within _ (left_none _ _ (pool_fits name (after_release (class ∷ classes) (perhaps changed_pool (row_at s.pools name) (pool_of pool)))
+          (within_bound _ (left_none _ _ (pool_fits name (after_release (class ∷ classes) (perhaps changed_pool (row_at s.pools name) (pool_of pool)))
           (get-map_rows names one_name (λ name pool. after_release (classes_in name s.rooms) (perhaps changed_pool (row_at s.pools name) pool)) (owners
           pool_of t.pools) name
           ∙ (λ i. option_map (λ pool. after_release (e i) (perhaps changed_pool (row_at s.pools name) pool))
@@ -272,7 +269,7 @@ module _ (s : Settled) (t : Tables) (fits : Fits (world_of t) s) where
 
   pub quotas_rise : CanRise (λ quota. quota.release) (has_name s.released) t.quotas
   quotas_rise name quota at chosen = subst (λ n. n < 2 ^ 64) (kept (row_at s.quotas name))
-      (within _ (quota_fits name (after_quota_release true (perhaps changed_quota (row_at s.quotas name) (quota_of quota)))
+      (within_bound _ (quota_fits name (after_quota_release true (perhaps changed_quota (row_at s.quotas name) (quota_of quota)))
       (get-map_rows names one_name (λ name quota. after_quota_release (has_name s.released name) (perhaps changed_quota (row_at s.quotas name) quota))
       (owners quota_of t.quotas) name
       ∙ (λ i. option_map (λ quota. after_quota_release (chosen i) (perhaps changed_quota (row_at s.quotas name) quota))

@@ -13,7 +13,7 @@ use Rattle.ns_types.specs.State.Names.{has_number, same_number}
 use Rattle.ns_types.specs.State.Rows.{World, allocation_at, is_live_on}
 use Rattle.ns_types.specs.Working.Commit.{counts, evicted_rows, node_name, victim_at, victims_in}
 use Rattle.ns_types.proofs.Elements.{any_flat, any_same}
-use Rattle.ns_release.proofs.Rooms.{and_turned}
+use Rattle.std.proofs.Math.Bool.{and_comm}
 use Rattle.ns_bounds.proofs.Indexes.{any_filtered}
 use Rattle.ns_headroom.specs.Applying.{victim_passes}
 use Rattle.ns_headroom.specs.Judging.{eviction_passes, evictions_pass_at, placed_on}
@@ -31,7 +31,7 @@ module _ (w stopped : World) (kept : Snapshot) where
   counted_is : (k : ℕ) (e : Eviction) → (counts stopped kept.pool (node_name kept k) e && option_map_or (victim_passes w) (victim_at stopped e) false)
       ≡ (eviction_passes w e && counts stopped kept.pool (node_name kept k) e)
   unfolding counts
-  counted_is k e = by (allocation_at stopped (e.namespace, e.number)) ∙ and_turned _ (eviction_passes w e)
+  counted_is k e = by (allocation_at stopped (e.namespace, e.number)) ∙ and_comm _ (eviction_passes w e)
     where
       by : (o : Option Allocation) → (option_map_or (λ a. is_live_on kept.pool (node_name kept k) a && same_number a.priority e.priority) o false
           && option_map_or (victim_passes w) (option_map (λ a. (e.namespace, (e.number, a))) o) false)

@@ -1,5 +1,5 @@
 -- What changes of the shown nodes leave shown.
-use Rattle.std.specs.Prelude.{◌≡◌, Bool, true, false, cond, ◌&&◌, if◌then◌else◌, Option, Some, None, OnErr, Result, Ok, Err}
+use Rattle.std.specs.Prelude.{◌≡◌, Bool, true, false, cond, ◌&&◌, if◌then◌else◌, Option, Some, None}
 use Rattle.std.proofs.Common.{refl, sym, ap, ◌∙◌}
 use Rattle.std.specs.FinMap.{empty, get, get-empty, get-insert, get-remove, insert, remove}
 use Rattle.std.specs.Option.{option_and_then}
@@ -35,11 +35,6 @@ node_written its made now name node slot put n = ap (λ m. row_at m n) put ∙ r
 pub node_removed : (its now : Nodes) (name : Name) → now ≡ remove its name → (n : Name) →
     row_at now n ≡ (if same_name n name then None else row_at its n)
 node_removed its now name gone n = ap (λ m. row_at m n) gone ∙ row_removed its name n
-
--- what holds holds of each error
-pub on_error : {A E P : Type 0} (result : Result A E) → P → OnErr result P
-on_error (Ok a) h = tt
-on_error (Err e) h = h
 
 -- ---- a change after one that leaves all
 

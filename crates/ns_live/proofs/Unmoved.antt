@@ -7,7 +7,7 @@ use Rattle.std.specs.Option.{option_and_then, option_map_or}
 use Rattle.keyed.specs.Levels.{holds_key, holds_number}
 use Rattle.keyed.specs.Table.{row_at, with_row}
 use Rattle.keyed.specs.declared.key_set.KeySet.{KeySet}
-use Rattle.keyed.proofs.Levels.{key_is, says_nothing}
+use Rattle.keyed.proofs.Levels.{says_nothing}
 use Rattle.ns_types.specs.declared.allocation.Allocation.{Allocation}
 use Rattle.ns_types.specs.declared.snapshot.PoolNode.{PoolNode}
 use Rattle.ns_types.specs.State.Lists.{by_number}
@@ -24,6 +24,7 @@ use Rattle.ns_live.specs.Levels.{holds_on_node}
 use Rattle.ns_live.specs.Listed.{found_at, keys_in}
 use Rattle.ns_live.specs.Shown.{AreShown, ForgetsRow, KeepsShown, SameOn, ShowsSame, ShowsThere, ShowsUnmoved, live_row, node_seen, shown_at, shown_in}
 use Rattle.ns_live.proofs.Listing.{allocations_are, has_key-keys_in, shown}
+use Rattle.ns_types.proofs.Once.{key_is}
 
 -- ---- rows at keys
 

@@ -23,7 +23,7 @@ use Rattle.ns_types.proofs.Lists.{any_alike, each}
 use Rattle.ns_types.proofs.Tables.{get-map_rows}
 use Rattle.ns_types.proofs.Alike.{same_limits_refl}
 use Rattle.ns_types.proofs.Queue.{queues_keep}
-use Rattle.ns_types.proofs.Tests.{not_Some, same_Some}
+use Rattle.ns_types.proofs.Tests.{not_Some, same_Some, or_none}
 use Rattle.std.proofs.lemmas.List.Folds.{list_any-append}
 use Rattle.ns_change.proofs.Seen.{quota_after}
 use Rattle.ns_change.specs.declared.change.Change.{Change}
@@ -34,7 +34,8 @@ use Rattle.ns_release.specs.Released.{relimits, woken_by, woken_keys}
 use Rattle.ns_release.proofs.Classes.{release_alike}
 use Rattle.ns_types.proofs.Elements.{any_flat}
 use Rattle.ns_release.proofs.Ending.{ends_is}
-use Rattle.ns_release.proofs.Rooms.{and_turned, any_image, any_row-at, at_row, or_none, rooms_are}
+use Rattle.ns_release.proofs.Rooms.{any_image, any_row-at, at_row, rooms_are}
+use Rattle.std.proofs.Math.Bool.{and_comm}
 
 module _ {K X : Type 0} {R : K → K → Ordering} (o : IsTotalOrder R) (same : IsAntisymmetric R) where
   -- rows that are changed alike
@@ -84,7 +85,7 @@ module _ (w : World) (c : Change) where
   unfolding any_row
   relimited_here name old is = any_flat (same_name name) (quota_relimited w) (entries c.quotas)
       ∙ any_alike _ (λ e. same_name name e.0 && relimits w e) (entries c.quotas)
-      (each _ (λ e. at_row (relimits w e) (same_name name) e.0 ∙ and_turned (relimits w e) (same_name name e.0)) (entries c.quotas))
+      (each _ (λ e. at_row (relimits w e) (same_name name) e.0 ∙ and_comm (relimits w e) (same_name name e.0)) (entries c.quotas))
       ∙ any_row-at names one_name name (λ k x. relimits w (k, x)) c.quotas ∙ by (get c.quotas name)
     where
       stays : false ≡ changes_limits old old

@@ -31,22 +31,10 @@ use Rattle.keyed.proofs.Over.{any_row-before, any_row-over, passed}
 use Rattle.std.proofs.lemmas.List.Folds.{list_any-append}
 use Rattle.ns_types.proofs.Elements.{any_flat}
 use Rattle.ns_release.proofs.Ending.{ends_is}
+use Rattle.std.proofs.Math.Bool.{and-false, and_comm}
+use Rattle.ns_types.proofs.Tests.{or_none, swap_or}
 
 -- ---- tests of lists
-
-pub and_none : (b : Bool) → (b && false) ≡ false
-and_none true = refl
-and_none false = refl
-
-pub or_none : (b : Bool) → (b || false) ≡ b
-or_none true = refl
-or_none false = refl
-
-swap_or : (a b c d : Bool) → ((a || b) || (c || d)) ≡ ((a || c) || (b || d))
-swap_or true b c d = refl
-swap_or false true true d = refl
-swap_or false true false d = refl
-swap_or false false c d = refl
 
 and_or : (a b c : Bool) → (a && (b || c)) ≡ ((a && b) || (a && c))
 and_or true b c = refl
@@ -119,12 +107,6 @@ shared true false true p = refl
 shared true false false p = refl
 shared false a true p = refl
 shared false a false p = refl
-
-pub and_turned : (a b : Bool) → (a && b) ≡ (b && a)
-and_turned true true = refl
-and_turned true false = refl
-and_turned false true = refl
-and_turned false false = refl
 
 turn_in : (q s k : Bool) → (q && (s && k)) ≡ (k && (s && q))
 turn_in true true true = refl
@@ -248,7 +230,7 @@ module _ (w : World) (c : Change) (name : Name) (passes : Class → Bool) where
         (ended_rows w c)
     nodes_left = any_alike (λ (e : Name × Node). ended_on e.0 && passes_free e.1)
         (λ e. list_any (λ d. passes_free e.1 && at_ended (is_on name e.0) d) (ended_rows w c)) (entries pool_then.nodes)
-        (each _ (λ e. and_turned (ended_on e.0) (passes_free e.1) ∙ any_and (passes_free e.1) (at_ended (is_on name e.0)) (ended_rows w c))
+        (each _ (λ e. and_comm (ended_on e.0) (passes_free e.1) ∙ any_and (passes_free e.1) (at_ended (is_on name e.0)) (ended_rows w c))
         (entries pool_then.nodes))
         ∙ any_swap (λ (e : Name × Node) d. passes_free e.1 && at_ended (is_on name e.0) d) (entries pool_then.nodes) (ended_rows w c)
         ∙ any_alike _ _ (ended_rows w c) (each _ on_node (ended_rows w c))
@@ -279,7 +261,7 @@ module _ (w : World) (c : Change) (name : Name) (passes : Class → Bool) where
       no_nodes : get then_world.pools name ≡ None → list_any (ended_here (get then_world.pools name)) (ended_rows w c) ≡ false
       no_nodes is = any_alike (ended_here (get then_world.pools name)) (λ _. false) (ended_rows w c)
           (each _ (λ d. ap (λ q. same_name name d.1.pool && option_map_or passes_free (option_and_then (λ p. get p.nodes d.1.node) q) false) is ∙
-          and_none (same_name name d.1.pool)) (ended_rows w c))
+          and-false (same_name name d.1.pool)) (ended_rows w c))
           ∙ any_none (ended_rows w c)
 
       by : (p : Option PoolRows) → get w.pools name ≡ p

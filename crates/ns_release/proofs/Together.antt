@@ -11,6 +11,7 @@ use Rattle.ns_types.specs.State.Names.{Name, Key, has_name, same_name}
 use Rattle.ns_types.specs.State.Rows.{World, evaluation_at}
 use Rattle.ns_types.proofs.Tests.{or_none}
 use Rattle.ns_release.specs.Released.{at_room, releases_wake_at, woken_by}
+use Rattle.std.proofs.Math.Bool.{and-false}
 
 -- an evaluation is woken by rooms, or by quotas
 pub wakes_by_each : (w : World) (rooms : List (Name × Class)) (quotas : List Name) (key : Key) →
@@ -35,12 +36,8 @@ pub wakes_by_quotas : (w : World) (quotas : List Name) (key : Key) →
     releases_wake_at w [] quotas key ≡ list_any (λ q. releases_wake_at w [] (q ∷ []) key) quotas
 wakes_by_quotas w [] key = by (evaluation_at w key)
   where
-    none : (b : Bool) → (b && false) ≡ false
-    none true = refl
-    none false = refl
-
     of : (e : Evaluation) (q : Option Name) → woken_by w [] [] e q ≡ false
-    of e (Some q) = none (contains_key w.quotas q)
+    of e (Some q) = and-false (contains_key w.quotas q)
     of e None = refl
 
     by : (o : Option Evaluation) → option_map_or (λ e. woken_by w [] [] e e.quota) o false ≡ false

@@ -14,7 +14,7 @@ use Rattle.ns_types.proofs.Tables.{tied}
 use Rattle.ns_change.specs.declared.change.Change.{Change}
 use Rattle.ns_change.specs.Changed.{changed}
 use Rattle.ns_release.specs.Released.{is_woken, releases_wake_at, woken_by, woken_from}
-use Rattle.ns_release.proofs.Rooms.{and_none}
+use Rattle.std.proofs.Math.Bool.{and-false}
 use Rattle.ns_change.proofs.Listed.{any_listed}
 
 same_key_refl : (k : Key) → same_key k k ≡ true
@@ -77,7 +77,7 @@ pub wakes_nothing : (w : World) (key : Key) → releases_wake_at w [] [] key ≡
 wakes_nothing w key = by (evaluation_at w key)
   where
     of : (e : Evaluation) (q : Option Name) → woken_by w [] [] e q ≡ false
-    of e (Some q) = and_none (contains_key w.quotas q)
+    of e (Some q) = and-false (contains_key w.quotas q)
     of e None = refl
 
     by : (o : Option Evaluation) → option_map_or (λ e. woken_by w [] [] e e.quota) o false ≡ false
@@ -88,4 +88,4 @@ module _ (w : World) (c : Change) where
   pub woken_nothing : (rooms : List (Name × Class)) (quotas : List Name) → rooms ≡ [] → quotas ≡ [] → [] ≡ woken_from w c rooms quotas
   woken_nothing rooms quotas no_rooms no_quotas = sym ((λ i. woken_from w c (no_rooms i) (no_quotas i))
       ∙ filter_none (λ key. has_key (changed w c).blocked key && releases_wake_at w [] [] key) w.blocked
-      (each _ (λ key. ap (λ b. has_key (changed w c).blocked key && b) (wakes_nothing w key) ∙ and_none (has_key (changed w c).blocked key)) w.blocked))
+      (each _ (λ key. ap (λ b. has_key (changed w c).blocked key && b) (wakes_nothing w key) ∙ and-false (has_key (changed w c).blocked key)) w.blocked))

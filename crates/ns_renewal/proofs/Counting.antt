@@ -1,8 +1,7 @@
 -- How many jobs of a namespace lose allocations, victim by victim.
 use Rattle.std.specs.Prelude.{◌≡◌, ℕ, ◌+◌, ◌<◌, ◌≤◌, ◌^◌, Bool, true, false, cond, not, ◌&&◌, ◌||◌, List, [], ◌∷◌, Option, Some, None, filter}
 use Rattle.std.specs.Prelude.{length, min, nat_lt, option_map, suc, ◌-◌}
-use Rattle.std.proofs.Common.{inl, inr, refl, sym, ap, ◌∙◌, arith}
-use Rattle.std.proofs.lemmas.Bool.Decides.{leb_tells}
+use Rattle.std.proofs.Common.{refl, sym, ap, ◌∙◌, arith}
 use Rattle.std.specs.FinMap.{get}
 use Rattle.std.specs.List.{cons_option, list_any}
 use Rattle.std.specs.Option.{option_map_or}
@@ -21,6 +20,7 @@ use Rattle.ns_types.proofs.TableRows.{each_fails, some_row}
 use Rattle.ns_types.proofs.Tables.{any_row-none, none_of_any}
 use Rattle.ns_renewal.specs.Losing.{is_last_of_job, is_of_job, losing, losing_in, numbers_pass, numbers_pass_at, numbers_pass_in, victims_at}
 use Rattle.ns_renewal.proofs.Least.{same_turned}
+use Rattle.ns_types.proofs.Bounds.{past_bound, not_past}
 
 -- ---- the first of each kind, when one comes before
 
@@ -142,12 +142,6 @@ last_here ns later v own = ap (λ n. not (list_any (is_of_job n v.1.1.job) later
     ∙ sym (ap (λ b. b && not (list_any (same_victim_job v) later)) own)
 
 -- ---- bounds
-
-past_bound : (n : ℕ) → 2 ^ 64 ≤ n → nat_lt greatest n ≡ true
-past_bound n more = elim (leb_tells (2 ^ 64) n) [ inl past ↦ past.0 | inr less ↦ absurd (omega arith) ]
-
-not_past : (n : ℕ) → n < 2 ^ 64 → nat_lt greatest n ≡ false
-not_past n less = elim (leb_tells (2 ^ 64) n) [ inl past ↦ absurd (omega arith) | inr within ↦ within.0 ]
 
 numbers_within : (w : World) → is_past_bound w ≡ false → (ns : Name) (t : Tenant) → get w.tenants ns ≡ Some t →
     nat_lt greatest t.evaluation_number ≡ false

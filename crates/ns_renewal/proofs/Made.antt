@@ -16,9 +16,7 @@ use Rattle.ns_types.specs.State.Lists.{Each}
 use Rattle.ns_types.specs.State.Names.{Name, Key, same_name}
 use Rattle.ns_types.specs.State.Rows.{World, Tenant}
 use Rattle.ns_types.specs.Working.Commit.{Victim}
-use Rattle.ns_types.specs.Working.Queue.{queue}
 use Rattle.ns_types.proofs.Named.{names, numbers, one_name, same_name_refl}
-use Rattle.ns_types.proofs.Queue.{queue_keeps}
 use Rattle.ns_types.proofs.Tables.{tied}
 use Rattle.ns_types.proofs.Tests.{not_Some, same_Some}
 use Rattle.ns_change.specs.Changed.{HasEvaluationLeft}
@@ -27,11 +25,9 @@ use Rattle.ns_world.specs.declared.tables.Tables.{Tables}
 use Rattle.ns_world.specs.declared.tables.TenantRows.{TenantRows}
 use Rattle.ns_world.specs.World.{tenant_of, world_of}
 use Rattle.ns_world.proofs.World.{tenant_at}
+use Rattle.ns_change.proofs.Nothing.{queue_tenants}
 
 -- ---- one evaluation
-
-queue_tenants : (w : World) (key : Key) → (queue w key).tenants ≡ w.tenants
-queue_tenants = queue_keeps (λ w. w.tenants) (λ w keys. refl)
 
 -- its namespace has it, and the others stay
 abbrev pub made_at : Name → (Tenant → Evaluation) → Name → Tenant → Tenant

@@ -1,6 +1,6 @@
 -- Evaluations of the jobs that lose allocations by preemption, by the keys of their least victims.
 use Rattle.std.specs.Prelude.{◌≡◌, ℕ, ◌+◌, ◌<◌, ◌^◌, true, false, List, [], ◌∷◌, Option, Some, None, filter, find, fold}
-use Rattle.std.specs.Prelude.{length, map, min, nat_lt, option_map, suc, unwrap_or}
+use Rattle.std.specs.Prelude.{length, map, min, option_map, suc, unwrap_or}
 use Rattle.std.proofs.Common.{inl, inr, refl, sym, ap, subst, ◌∙◌, arith}
 use Rattle.std.proofs.lemmas.Bool.Decides.{eqb_tells, leb_tells}
 use Rattle.std.proofs.lemmas.List.{length-map}
@@ -19,10 +19,9 @@ use Rattle.ns_types.specs.declared.plan.Eviction.{Eviction}
 use Rattle.ns_types.specs.State.Lists.{Each}
 use Rattle.ns_types.specs.State.Names.{Name, Key, same_name}
 use Rattle.ns_types.specs.State.Rows.{World, Tenant}
-use Rattle.ns_types.specs.Steps.{greatest}
 use Rattle.ns_types.specs.Working.Commit.{Victim, least_of_job, make_up, same_victim_job, victim_at}
 use Rattle.ns_types.proofs.Elements.{each_first, each_found, each_kept, each_mapped, filter_map, map_map}
-use Rattle.ns_types.proofs.Lists.{each_map, not_both}
+use Rattle.ns_types.proofs.Lists.{each_map}
 use Rattle.ns_types.proofs.Named.{first_of_both, numbers, one_name, one_number, same_name_is}
 use Rattle.ns_types.proofs.TableRows.{entries_empty}
 use Rattle.ns_types.proofs.Tables.{each_row, none_of_any}
@@ -30,6 +29,7 @@ use Rattle.ns_types.proofs.Tests.{not_Some, same_Some}
 use Rattle.ns_renewal.specs.Losing.{CanMakeUp, least, least_key, lesser, losing, losing_in, losing_keys, numbers_pass, numbers_pass_in, victims_at}
 use Rattle.ns_renewal.specs.Renewing.{HasNumbers, SameJobs, SameNumbers, keys_in, renewed}
 use Rattle.ns_renewal.proofs.Made.{IsThere, all_renewed, renewal}
+use Rattle.ns_types.proofs.Bounds.{within_bound}
 
 -- ---- the first of a table of numbers
 
@@ -137,9 +137,6 @@ keys_counted ns victims = ap length (filter_map (λ (key : Key). same_name ns ke
 
 pub has_numbers : (victims : List Victim) (x : World) → CanMakeUp victims x → HasNumbers x (losing_keys victims)
 has_numbers victims x can ns t at = subst (λ n. t.evaluation_number + n < 2 ^ 64) (sym (keys_counted ns victims)) (can ns t at)
-
-within_bound : (n : ℕ) → nat_lt greatest n ≡ false → n < 2 ^ 64
-within_bound n none = elim (leb_tells (2 ^ 64) n) [ inl past ↦ not_both past.0 none | inr less ↦ less.1 ]
 
 -- where no number passes its bound, each of them can be given
 pub can_make_up : (victims : List Victim) (w x : World) → numbers_pass victims w ≡ false → SameNumbers w x → CanMakeUp victims x

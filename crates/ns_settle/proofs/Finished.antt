@@ -1,9 +1,8 @@
 -- The end of a step, as the program makes it.
-use Rattle.std.specs.Prelude.{◌≡◌, ℕ, ◌+◌, ◌<◌, ◌^◌, Bool, true, false, ◌&&◌, if◌then◌else◌, List, [], ◌∷◌, ◌++◌, nat_lt, Option, Some, None, map}
+use Rattle.std.specs.Prelude.{◌≡◌, ◌+◌, Bool, true, false, ◌&&◌, if◌then◌else◌, List, [], ◌∷◌, ◌++◌, nat_lt, Option, Some, None, map}
 use Rattle.std.specs.Prelude.{option_map}
-use Rattle.std.proofs.Common.{inl, inr, refl, sym, ap, ◌∙◌, append_assoc}
+use Rattle.std.proofs.Common.{refl, sym, ap, ◌∙◌, append_assoc}
 use Rattle.std.proofs.lemmas.List.{append-nil, map-append}
-use Rattle.std.proofs.lemmas.Bool.Decides.{leb_tells}
 use Rattle.std.specs.Option.{option_map_or}
 use Rattle.std.specs.List.{list_any}
 use Rattle.std.specs.FinMap.{get}
@@ -14,7 +13,7 @@ use Rattle.ns_types.specs.Settling.Settle.{settle, wake}
 use Rattle.ns_types.specs.Steps.{greatest, is_past_bound, is_tenant_past_bound}
 use Rattle.ns_types.specs.State.Tables.{any_row, map_rows}
 use Rattle.ns_types.proofs.Elements.{map_map}
-use Rattle.ns_types.proofs.Lists.{left_none, not_both, right_none}
+use Rattle.ns_types.proofs.Lists.{left_none, right_none}
 use Rattle.ns_types.proofs.Named.{names, one_name}
 use Rattle.ns_types.proofs.Tables.{any_row-none, get-map_rows, none_of_any}
 use Rattle.ns_change.specs.declared.change.Change.{Change}
@@ -117,7 +116,3 @@ module _ (w : World) where
   pub finished : (c awake : Change) (s : Settled) → changed w awake ≡ wake (woken_keys w c) (changed w c) → s ≡ settled_by w c awake →
       settled_world w s ≡ settle w (changed w c)
   finished c awake s woke is = ap (settled_world w) is ∙ sym (settled_is w c awake woke)
-
--- an index that does not pass the bound
-pub fits : (n : ℕ) → nat_lt greatest (n + 1) ≡ false → n + 1 < 2 ^ 64
-fits n none = elim (leb_tells (2 ^ 64) (n + 1)) [ inl more ↦ not_both more.0 none | inr less ↦ less.1 ]

@@ -1,9 +1,9 @@
 use Rattle.std.proofs.Common.{sym, subst, ◌∙◌, ◌≡◌}
-use Rattle.keyed.proofs.Applying.{empty_by}
 use Rattle.ns_commit.specs.Owners.{ChangesRow}
 use Rattle.ns_commit.proofs.Owned.{all_ahead, all_done, none_done, one_done, room_now}
 use Rattle.ns_commit.proofs.owners.commit_all.Goals as goal
 use Rattle.ns_commit.proofs.owners.commit_all.Goals.{in-Some-slot, in_default}
+use Rattle.ns_types.proofs.TableRows.{no_entries}
 
 pub loop-name-init : goal.loop-name-init
 loop-name-init g c = all_ahead g.Row.Owner.seen g.Row.Owner.changed g.Row.Owner.HasRoom c.args.changes c.args.table.now _
@@ -11,7 +11,7 @@ loop-name-init g c = all_ahead g.Row.Owner.seen g.Row.Owner.changed g.Row.Owner.
 
 pub returns : goal.returns
 returns g c = all_done g.Row.Owner.seen g.Row.Owner.changed g.Row.Owner.HasRoom c.loop-name.table _ _
-    (empty_by _ (sym c.loop-name.name-iterator.rest.ok.0 ∙ c.in-None.ensures.steps.0)) c.loop-name.invariant
+    (no_entries _ (sym c.loop-name.name-iterator.rest.ok.0 ∙ c.in-None.ensures.steps.0)) c.loop-name.invariant
 
 pub commit_one-requires : goal.commit_one-requires
 commit_one-requires g c = room_now g.Row.Owner.seen g.Row.Owner.changed g.Row.Owner.HasRoom c.loop-name.table c.loop-name.table c.in-Some.name c.in-Some.slot

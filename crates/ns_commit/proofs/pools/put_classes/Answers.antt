@@ -1,7 +1,7 @@
 use Rattle.std.proofs.Common.{sym, ◌∙◌}
-use Rattle.keyed.proofs.Applying.{empty_by}
 use Rattle.ns_commit.proofs.Numbered.{all_numbered, all_unnumbered, numbered, place}
 use Rattle.ns_commit.proofs.pools.put_classes.Goals as goal
+use Rattle.ns_types.proofs.TableRows.{no_entries}
 
 pub loop-name-init : goal.loop-name-init
 loop-name-init c = all_unnumbered c.args.table.now _ c.args.rooms
@@ -15,5 +15,5 @@ loop-name-preserved c = numbered c.loop-name.table c.put_class_in.new.table c.in
     c.loop-name.invariant c.put_class_in.ensures
 
 pub returns-clause-pools : goal.returns-clause-pools
-returns-clause-pools c = all_numbered c.loop-name.table _ _ _ (empty_by _ (sym c.loop-name.name-iterator.rest.ok.0 ∙ c.in-None.ensures.steps.0))
+returns-clause-pools c = all_numbered c.loop-name.table _ _ _ (no_entries _ (sym c.loop-name.name-iterator.rest.ok.0 ∙ c.in-None.ensures.steps.0))
     c.loop-name.invariant

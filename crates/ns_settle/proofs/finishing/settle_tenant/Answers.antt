@@ -2,8 +2,9 @@ use Rattle.std.proofs.Common.{◌≡◌, ap, sym, ◌∙◌, true, false, rules,
 use Rattle.std.specs.Option.{option_copied}
 use Rattle.std.specs.Prelude.{Some}
 use Rattle.ns_change.specs.declared.change.SettledTenant.{SettledTenant}
-use Rattle.ns_settle.proofs.Finished.{fits, rises, settled_nowhere, settled_there}
+use Rattle.ns_settle.proofs.Finished.{rises, settled_nowhere, settled_there}
 use Rattle.ns_settle.proofs.finishing.settle_tenant.Goals as goal
+use Rattle.ns_types.proofs.Bounds.{within_bound}
 
 pub returns-in_default : goal.returns-in_default
 returns-in_default c = sym (settled_nowhere c.args.tables.now c.args.namespace.now c.args.change (sym c.get.ensures ∙ ap option_copied c.in_default.is))
@@ -14,7 +15,7 @@ returns-then-not-touches c = sym (settled_there c.args.tables.now c.args.namespa
 
 pub overflow_add-index : goal.overflow_add-index
 overflow_add-index c = let less : c.in-Some.tenant.now.index + 1 < 2 ^ 64 =
-    fits c.in-Some.tenant.now.index (rises c.args.tables.now c.args.namespace.now c.args.change c.in-Some.tenant.now
+    within_bound (c.in-Some.tenant.now.index + 1) (rises c.args.tables.now c.args.namespace.now c.args.change c.in-Some.tenant.now
     (sym c.get.ensures ∙ ap option_copied c.in-Some.is) c.requires (sym c.touches.ensures ∙ c.if-not-touches.false)) in search rules
 
 pub returns : goal.returns

@@ -1,6 +1,5 @@
 use Rattle.std.proofs.Common.{ap, sym, ◌∙◌, ◌++◌, ◌∷◌, [], Option, map}
 use Rattle.std.specs.List.{list_any}
-use Rattle.keyed.proofs.Applying.{empty_by}
 use Rattle.keyed.proofs.Mapped.{built_rows, built_sorted}
 use Rattle.ns_types.specs.State.Names.{Name}
 use Rattle.ns_change.specs.declared.change.TenantChange.{TenantChange}
@@ -8,6 +7,7 @@ use Rattle.ns_settle.specs.Settles.{is_last, settled_slot}
 use Rattle.ns_settle.proofs.Finished.{all_there, next_none, one_more}
 use Rattle.ns_world.specs.World.{world_of}
 use Rattle.ns_settle.proofs.finishing.settle_tenants.Goals as goal
+use Rattle.ns_types.proofs.TableRows.{no_entries}
 
 pub loop-namespace-init : goal.loop-namespace-init
 loop-namespace-init c =
@@ -35,11 +35,11 @@ from_slots-requires c =
     let w = world_of c.args.tables.now in
     built_sorted (settled_slot w) c.args.tenants c.loop-namespace.rows.items
     (all_there (λ (e : Name × Option TenantChange). (e.0, settled_slot w e.0 e.1)) (λ (e : Name × Option TenantChange). is_last w e.0 e.1)
-    c.loop-namespace.rows.items _ _ (empty_by _ (sym c.loop-namespace.namespace-iterator.rest.ok.0 ∙ c.in-None.ensures.steps.0)) c.loop-namespace.invariant)
+    c.loop-namespace.rows.items _ _ (no_entries _ (sym c.loop-namespace.namespace-iterator.rest.ok.0 ∙ c.in-None.ensures.steps.0)) c.loop-namespace.invariant)
 
 pub returns : goal.returns
 returns c =
     let w = world_of c.args.tables.now in
     c.from_slots.ensures ∙ built_rows (settled_slot w) c.args.tenants c.loop-namespace.rows.items
     (all_there (λ (e : Name × Option TenantChange). (e.0, settled_slot w e.0 e.1)) (λ (e : Name × Option TenantChange). is_last w e.0 e.1)
-    c.loop-namespace.rows.items _ _ (empty_by _ (sym c.loop-namespace.namespace-iterator.rest.ok.0 ∙ c.in-None.ensures.steps.0)) c.loop-namespace.invariant)
+    c.loop-namespace.rows.items _ _ (no_entries _ (sym c.loop-namespace.namespace-iterator.rest.ok.0 ∙ c.in-None.ensures.steps.0)) c.loop-namespace.invariant)

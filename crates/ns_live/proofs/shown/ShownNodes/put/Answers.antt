@@ -3,8 +3,9 @@ use Rattle.std.proofs.Common.{ap, refl, sym, ◌∙◌}
 use Rattle.std.specs.Option.{option_copied_mut}
 use Rattle.keyed.proofs.Tables.{slot_made}
 use Rattle.ns_types.proofs.Named.{names}
-use Rattle.ns_live.proofs.Showing.{node_written, on_error, put_same, put_there, then_same, then_there}
+use Rattle.ns_live.proofs.Showing.{node_written, put_same, put_there, then_same, then_there}
 use Rattle.ns_live.proofs.shown.ShownNodes.put.Goals as goal
+use Rattle.ns_types.proofs.Results.{on_error}
 
 pub set-requires : goal.set-requires
 set-requires c = slot_made names _ _ _ c.in_ok-reserve.ensures.ok
