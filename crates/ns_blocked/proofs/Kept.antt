@@ -2,7 +2,6 @@
 use Rattle.std.specs.Prelude.{◌≡◌, Bool, true, false, cond, not, ◌&&◌, ◌||◌, List, [], ◌∷◌, map, filter, Option, Some, None, option_map}
 use Rattle.std.proofs.Common.{refl, sym, ap, ◌∙◌}
 use Rattle.std.specs.List.{cons_option, filter_map}
-use Rattle.keyed.proofs.Levels.{key_is}
 use Rattle.ns_types.specs.declared.evaluation.Evaluation.{Evaluation}
 use Rattle.ns_types.specs.Settling.Releases.{woken}
 use Rattle.ns_types.specs.State.Lists.{Each}
@@ -15,6 +14,7 @@ use Rattle.ns_blocked.specs.declared.entry.Entry.{Entry}
 use Rattle.ns_blocked.specs.Waking.{entries_in, entries_still_in, entry_of, is_woken, keys_of_passing, released, without_passing}
 use Rattle.ns_blocked.proofs.Passing.{and_false}
 use Rattle.ns_blocked.proofs.Released.{woken_is}
+use Rattle.ns_types.proofs.Once.{key_is}
 
 or_true : (b : Bool) → (b || true) ≡ true
 or_true true = refl

@@ -9,7 +9,6 @@ use Rattle.std.specs.Option.{option_map_or}
 use Rattle.std.specs.FinMap.{empty, entries, entries-insert, get, get-empty, get-insert, insert, same_map, values}
 use Rattle.std.specs.FinMap.Entries.{by_order, put}
 use Rattle.keyed.specs.Table.{flat, row_at, row_list, rows, with_row}
-use Rattle.keyed.proofs.Levels.{key_is}
 use Rattle.keyed.proofs.Tables.{entries-rows, get-rows}
 use Rattle.ns_types.specs.State.Lists.{Each}
 use Rattle.ns_types.specs.State.Names.{Key, Name, ByNumber, has_key, name_cmp, same_key, same_number}
@@ -30,6 +29,7 @@ use Rattle.ns_blocked.specs.Blocked.{IsIndexed, PutsEntry, SameIndex, TakesEntry
 use Rattle.ns_blocked.specs.Groups.{KeepsGroups, WritesGroup, group_of, group_row, same_waits}
 use Rattle.ns_blocked.proofs.ByKey.{no_row}
 use Rattle.ns_blocked.proofs.Grouping.{group_slot, same_waits_refl}
+use Rattle.ns_types.proofs.Once.{key_is}
 
 -- ---- look-ups
 

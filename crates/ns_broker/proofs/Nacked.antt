@@ -17,8 +17,8 @@ use Rattle.ns_types.specs.Working.Queue.{promote}
 use Rattle.ns_types.specs.Working.Work.{given_back, given_up, is_submitted, most_nacks, nack, nack_for, with_nack, without_worker}
 use Rattle.ns_broker.proofs.AtWork.{no_evaluation, no_worker, works}
 use Rattle.ns_broker.specs.Nacking.{failed, left, nacked, put_away, put_back}
-use Rattle.ns_change.proofs.Opening.{insert_twice}
 use Rattle.ns_change.specs.Changed.{put_evaluation, with_ready}
+use Rattle.ns_types.proofs.Gone.{insert_twice}
 
 module _ (number : ℕ) (ns : Name) (w : World) where
   module _ (worker : Worker) (e : Evaluation) (has : worker_at w number ns ≡ Some worker) (at : evaluation_at w (ns, worker.evaluation) ≡ Some e) where

@@ -10,7 +10,6 @@ use Rattle.ns_types.specs.Settling.Making.{change_tenant, put_tenant}
 use Rattle.ns_types.specs.Settling.Settle.{pending}
 use Rattle.ns_types.proofs.Named.{names, one_name}
 use Rattle.ns_types.proofs.TableRows.{get_put}
-use Rattle.ns_change.proofs.Opening.{insert_twice}
 use Rattle.ns_types.specs.Settling.Outcome.{Outcome, Done}
 use Rattle.ns_types.specs.Settling.Releases.{missed}
 use Rattle.ns_types.specs.State.Names.{Name}
@@ -22,6 +21,7 @@ use Rattle.ns_change.specs.Changed.{unlist_blocked, with_blocked_key}
 use Rattle.ns_finish.specs.Ending.{Ended, ended_alone, ended_as, ended_followed, ended_in, followed_as, listed_if}
 use Rattle.ns_finish.specs.Following.{made_follower}
 use Rattle.ns_finish.proofs.Numbered.{ended_stays, number_stays, tenants_stay}
+use Rattle.ns_types.proofs.Gone.{insert_twice}
 
 -- the end of that worker's evaluation
 abbrev pub end_by : ℕ → Name → Worker → Evaluation → Ended

@@ -20,7 +20,7 @@ use Rattle.ns_types.proofs.Lists.{left_none, right_none}
 use Rattle.ns_types.proofs.Named.{names, one_name}
 use Rattle.ns_types.proofs.TableRows.{any_row-alike}
 use Rattle.ns_types.proofs.Tables.{none_of_any}
-use Rattle.ns_release.proofs.Rooms.{and_none, any_row-at}
+use Rattle.ns_release.proofs.Rooms.{any_row-at}
 use Rattle.ns_bounds.specs.Bounds.{is_at_bound}
 use Rattle.ns_bounds.proofs.Bounded.{any_named, any_row-either, any_with}
 use Rattle.ns_headroom.specs.Applying.{Doing, PassesByApply, apply_raise, does_something, ended_keys, evaluations_pass, goes_to, is_last_index}
@@ -29,14 +29,15 @@ use Rattle.ns_headroom.specs.Passing.{end_passes}
 use Rattle.ns_headroom.specs.Raising.{places_pass, raises_pass}
 use Rattle.ns_headroom.proofs.Numbered.{any_owner}
 use Rattle.ns_headroom.proofs.Raised.{counts_pass}
+use Rattle.std.proofs.Math.Bool.{and-false}
 
 and_turned : (a b c : Bool) → (a && (b && c)) ≡ (b && (a && c))
 and_turned true b c = refl
-and_turned false b c = sym (and_none b)
+and_turned false b c = sym (and-false b)
 
 and_moved : (a b c : Bool) → ((a && b) && c) ≡ (b && (a && c))
 and_moved true b c = refl
-and_moved false b c = sym (and_none b)
+and_moved false b c = sym (and-false b)
 
 -- the row at a name, where it passes
 at_owner : {X : Type 0} (name : Name) (p : X → Bool) (m : ByName X) → any_row (λ q x. same_name q name && p x) m ≡ option_map_or p (get m name) false
@@ -157,7 +158,7 @@ module _ (w : World) (within : is_past_bound w ≡ false) (kept : Snapshot) (d :
       ∙ any_same _ _ (λ q. out (same_name pool kept.pool) (past_on pool (name_of q)) (get p.nodes (name_of q))) d.placed
     where
       out : (b : Bool) (f : Node → Bool) (o : Option Node) → option_map_or (λ node. b && f node) o false ≡ (b && option_map_or f o false)
-      out b f None = sym (and_none b)
+      out b f None = sym (and-false b)
       out b f (Some node) = refl
 
   nodes_are : places_pass w (places_on kept d.placed) ≡ list_any (place_passes w kept d.placed) d.placed

@@ -26,10 +26,11 @@ use Rattle.ns_types.proofs.TableRows.{any_row-alike}
 use Rattle.ns_types.proofs.Tables.{tied}
 use Rattle.ns_types.proofs.Tests.{or_none}
 use Rattle.ns_release.specs.Released.{at_room, quota_left, releases_wake, releases_wake_at, room_at, room_left, woken_by}
-use Rattle.ns_release.proofs.Rooms.{and_none, any_and, any_image, any_none, any_row-at, any_swap}
+use Rattle.ns_release.proofs.Rooms.{any_and, any_image, any_none, any_row-at, any_swap}
 use Rattle.ns_bounds.proofs.Bounded.{any_named, any_with}
 use Rattle.ns_headroom.specs.Releasing.{EndsAlone, lives_at}
 use Rattle.ns_headroom.proofs.Keys.{any_row-keys}
+use Rattle.std.proofs.Math.Bool.{and-false}
 
 -- the allocation at a key, with its namespace's record
 abbrev pub told_at : World → Key → Option (Namespace × Allocation)
@@ -72,7 +73,7 @@ module _ (w x : World) (keys : List Key) (only : EndsAlone w x keys) where
           and_true : (b : Bool) → (b && true) ≡ b
           and_true true = refl
           and_true false = refl
-      turned true false e = sym (and_none e)
+      turned true false e = sym (and-false e)
       turned false p e = refl
 
       lives : (ns : Name) (t : Tenant) (n : ℕ) (a : Allocation) → get w.tenants ns ≡ Some t → get t.allocations n ≡ Some a → lives_at w (ns, n) ≡ is_live a
@@ -176,7 +177,7 @@ module _ (w x : World) (keys : List Key) (only : EndsAlone w x keys) where
           by : (f o e g : Bool) → (f && o) ≡ false → ((f && (o || e)) && g) ≡ (e && (f && g))
           by true true e g none = not_both refl none
           by true false e g none = refl
-          by false o e g none = sym (and_none e)
+          by false o e g none = sym (and-false e)
 
       on_node : (e : Namespace × Allocation) → any_row (λ n node. is_on name n e.0 e.1 && serves node) p.nodes ≡ left_on (Some p) e
       on_node e = any_row-alike names one_name _ (λ n node. same_name e.1.node n && (same_name name e.1.pool && serves node)) p.nodes
@@ -187,7 +188,7 @@ module _ (w x : World) (keys : List Key) (only : EndsAlone w x keys) where
         where
           turned : (a b c : Bool) → ((a && b) && c) ≡ (b && (a && c))
           turned true b c = refl
-          turned false b c = sym (and_none b)
+          turned false b c = sym (and-false b)
 
           by : (b : Bool) (o : Option Node) → option_map_or (λ node. b && serves node) o false ≡ (b && option_map_or serves o false)
           by true o = refl
@@ -217,7 +218,7 @@ module _ (w x : World) (keys : List Key) (only : EndsAlone w x keys) where
       where
         none : (o : Option (Namespace × Allocation)) → option_map_or (left_on None) o false ≡ false
         none None = refl
-        none (Some e) = and_none (same_name name e.1.pool)
+        none (Some e) = and-false (same_name name e.1.pool)
 
         by : (o : Option PoolRows) → get x.pools name ≡ o →
             list_any passes (option_map_or (released_classes w x name) o []) ≡ list_any (at_room name passes) rooms

@@ -13,11 +13,12 @@ use Rattle.ns_types.specs.State.Rows.{World, Tenant, evaluation_at}
 use Rattle.ns_types.proofs.Elements.{any_same}
 use Rattle.ns_types.proofs.Tests.{or_none}
 use Rattle.ns_release.specs.Released.{at_room, releases_wake_at, woken_by}
-use Rattle.ns_release.proofs.Rooms.{and_none, any_and, any_none, any_swap}
+use Rattle.ns_release.proofs.Rooms.{any_and, any_none, any_swap}
 use Rattle.ns_release.proofs.Together.{wakes_by_each, wakes_by_quotas}
 use Rattle.ns_bounds.specs.Bounds.{is_at_bound, quota_passes, room_passes, shows_awake}
 use Rattle.ns_bounds.specs.Given.{given_limits_pass, given_room_passes, given_waking_passes, given_waking_passes_in}
 use Rattle.ns_bounds.proofs.Bounded.{any_with}
+use Rattle.std.proofs.Math.Bool.{and-false}
 
 module _ (w : World) where
   -- an evaluation is woken by one of the rooms
@@ -25,7 +26,7 @@ module _ (w : World) where
   wakes_by_rooms rooms key = by (evaluation_at w key)
     where
       of : (e : Evaluation) (q : Option Name) → woken_by w rooms [] e q ≡ list_any (λ r. woken_by w (r ∷ []) [] e q) rooms
-      of e (Some q) = and_none (contains_key w.quotas q) ∙ sym (any_same _ (λ _. false) (λ r. and_none (contains_key w.quotas q)) rooms ∙ any_none rooms)
+      of e (Some q) = and-false (contains_key w.quotas q) ∙ sym (any_same _ (λ _. false) (λ r. and-false (contains_key w.quotas q)) rooms ∙ any_none rooms)
       of e None = any_same _ _ (λ r. sym (or_none (at_room e.pool (can_use e) r))) rooms
 
       by : (o : Option Evaluation) → option_map_or (λ e. woken_by w rooms [] e e.quota) o false

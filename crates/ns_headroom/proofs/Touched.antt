@@ -22,7 +22,7 @@ use Rattle.ns_types.proofs.TableRows.{any_row-alike}
 use Rattle.ns_types.proofs.Tables.{none_of_any}
 use Rattle.ns_types.proofs.Tests.{or_none, same_Some}
 use Rattle.ns_release.specs.Released.{releases_wake_at}
-use Rattle.ns_release.proofs.Rooms.{and_none, any_and}
+use Rattle.ns_release.proofs.Rooms.{any_and}
 use Rattle.ns_bounds.specs.Bounds.{is_at_bound, shows_awake}
 use Rattle.ns_bounds.specs.Given.{given_waking_passes, given_waking_passes_in}
 use Rattle.ns_bounds.proofs.Bounded.{any_named, any_row-either, any_row-mapped}
@@ -32,6 +32,7 @@ use Rattle.ns_headroom.specs.Passing.{index_passes, indexes_pass, is_number_past
 use Rattle.ns_headroom.specs.Releasing.{EndsAlone}
 use Rattle.ns_headroom.proofs.Ended.{quotas, rooms, woken_are}
 use Rattle.ns_headroom.proofs.Keys.{any_members, any_row-keys}
+use Rattle.std.proofs.Math.Bool.{and-false}
 
 -- ---- one namespace
 
@@ -52,7 +53,7 @@ module _ (t u : Tenant) where
 
       same : (i n e a : Bool) → n ≡ false → (n || e || a) ≡ ((e || a) || (i && false))
       same i true e a is = not_both refl is
-      same i false e a is = sym (ap (λ b. (e || a) || b) (and_none i) ∙ or_none (e || a))
+      same i false e a is = sym (ap (λ b. (e || a) || b) (and-false i) ∙ or_none (e || a))
 
       by : (b : Bool) → is_tenant_past_bound (if b then stamped (t.index + 1) t u else u) ≡ (is_number_past u || (is_at_bound t.index && b))
       by true = next (is_at_bound t.index) (nat_lt greatest u.evaluation_number) (nat_lt greatest u.allocation_number)
@@ -153,7 +154,7 @@ module _ (w x : World) (keys : List Key) (only : EndsAlone w x keys) where
 
       by : (k : Key) (o : Option Tenant) → (wakes k && option_map_or (shown k) o false)
           ≡ option_map_or (given_waking_passes_in w (rooms w x keys only) (quotas w x keys only) k) o false
-      by k None = and_none (wakes k)
+      by k None = and-false (wakes k)
       by k (Some t) = moved (wakes k) (is_at_bound t.index) (shows_awake t k.1 (evaluation_at w k))
 
   -- ---- all of it

@@ -18,13 +18,13 @@ use Rattle.ns_types.proofs.Named.{names, one_name}
 use Rattle.ns_types.proofs.TableRows.{get_put}
 use Rattle.ns_types.proofs.Tests.{same_Some}
 use Rattle.ns_change.specs.Changed.{HasEvaluationLeft}
-use Rattle.ns_change.proofs.Opening.{insert_twice}
 use Rattle.ns_world.specs.declared.tables.Tables.{Tables}
 use Rattle.ns_world.specs.declared.tables.TenantRows.{TenantRows}
 use Rattle.ns_world.specs.World.{tenant_of, world_of}
 use Rattle.ns_world.proofs.World.{tenant_at}
 use Rattle.ns_jobs.specs.Counted.{passes_bound}
 use Rattle.ns_jobs.specs.Made.{with_made}
+use Rattle.ns_types.proofs.Gone.{insert_twice}
 
 -- ---- the namespace
 

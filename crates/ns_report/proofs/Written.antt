@@ -20,9 +20,9 @@ use Rattle.ns_types.proofs.Named.{names, one_name}
 use Rattle.ns_types.proofs.TableRows.{get_put}
 use Rattle.ns_types.proofs.Tests.{same_Some}
 use Rattle.ns_change.specs.Changed.{HasEvaluationLeft, put_allocation}
-use Rattle.ns_change.proofs.Opening.{insert_twice}
 use Rattle.ns_bounds.specs.Bounds.{is_at_bound}
 use Rattle.ns_report.specs.Reporting.{number_passes}
+use Rattle.ns_types.proofs.Gone.{insert_twice}
 
 module _ (w : World) (r : Report) (t : Tenant) (at : get w.tenants r.namespace ≡ Some t) (a : Allocation) where
   abbrev after : Tenant
