@@ -14,9 +14,9 @@ use Rattle.ns_types.specs.State.Rows.{World, allocation_at, is_live_on}
 use Rattle.ns_types.specs.Working.Commit.{counts, evicted_rows, node_name, victim_at, victims_in}
 use Rattle.ns_types.proofs.Elements.{any_flat, any_same}
 use Rattle.std.proofs.Math.Bool.{and_comm}
-use Rattle.ns_bounds.proofs.Indexes.{any_filtered}
 use Rattle.ns_headroom.specs.Applying.{victim_passes}
 use Rattle.ns_headroom.specs.Judging.{eviction_passes, evictions_pass_at, placed_on}
+use Rattle.ns_change.proofs.Listed.{any_filter}
 
 any_mapped : {A B : Type 0} (f : B → Bool) (h : A → Option B) (xs : List A) → list_any f (filter_map h xs) ≡ list_any (λ x. option_map_or f (h x) false) xs
 any_mapped f h [] = refl
@@ -43,7 +43,7 @@ module _ (w stopped : World) (kept : Snapshot) where
       ≡ list_any (λ p. evictions_pass_at w stopped kept p.node p.evictions) placed
   victims_are placed = any_mapped (victim_passes w) (victim_at stopped) _
       ∙ any_flat (λ e. option_map_or (victim_passes w) (victim_at stopped e) false) (victims_in stopped kept) placed
-      ∙ any_same _ _ (λ p. any_filtered
+      ∙ any_same _ _ (λ p. any_filter
       (λ e. option_map_or (victim_passes w) (victim_at stopped e) false) (counts stopped kept.pool (node_name kept p.node)) p.evictions
       ∙ any_same _ _ (counted_is p.node) p.evictions) placed
 
@@ -52,7 +52,7 @@ module _ (w stopped : World) (kept : Snapshot) where
       list_any (λ p. nat_lt p.node (length kept.nodes) && has_number committed p.node && evictions_pass_at w stopped kept p.node p.evictions) placements
       ≡ list_any (victim_passes w) (evicted_rows stopped kept (placed_on committed placements))
   inside_are committed placements inside = by placements inside
-      ∙ sym (any_filtered (λ p. evictions_pass_at w stopped kept p.node p.evictions) (λ p. has_number committed p.node) placements)
+      ∙ sym (any_filter (λ p. evictions_pass_at w stopped kept p.node p.evictions) (λ p. has_number committed p.node) placements)
       ∙ sym (victims_are (placed_on committed placements))
     where
       passes : Placement → Bool

@@ -26,13 +26,13 @@ use Rattle.ns_release.proofs.Rooms.{any_and}
 use Rattle.ns_bounds.specs.Bounds.{is_at_bound, shows_awake}
 use Rattle.ns_bounds.specs.Given.{given_waking_passes, given_waking_passes_in}
 use Rattle.ns_bounds.proofs.Bounded.{any_named, any_row-either, any_row-mapped}
-use Rattle.ns_bounds.proofs.Indexes.{any_filtered}
 use Rattle.keyed.proofs.Queues.{has_filter}
 use Rattle.ns_headroom.specs.Passing.{index_passes, indexes_pass, is_number_past, numbers_past}
 use Rattle.ns_headroom.specs.Releasing.{EndsAlone}
 use Rattle.ns_headroom.proofs.Ended.{quotas, rooms, woken_are}
 use Rattle.ns_headroom.proofs.Keys.{any_members, any_row-keys}
 use Rattle.std.proofs.Math.Bool.{and-false}
+use Rattle.ns_change.proofs.Listed.{any_filter}
 
 -- ---- one namespace
 
@@ -139,7 +139,7 @@ module _ (w x : World) (keys : List Key) (only : EndsAlone w x keys) where
   wakings_pass = any_named (λ k. k.0) shown_at x.tenants awake
       ∙ any_members _ (λ k. option_map_or (shown k) (get w.tenants k.0) false) awake (λ k is. at k is (get x.tenants k.0) refl)
       ∙ ap (list_any (λ k. option_map_or (shown k) (get w.tenants k.0) false)) (woken_are w x keys only)
-      ∙ any_filtered (λ k. option_map_or (shown k) (get w.tenants k.0) false) wakes w.blocked
+      ∙ any_filter (λ k. option_map_or (shown k) (get w.tenants k.0) false) wakes w.blocked
       ∙ any_same _ (given_waking_passes w (rooms w x keys only) (quotas w x keys only)) (λ k. by k (get w.tenants k.0)) w.blocked
     where
       none : (k : Key) (o : Option Tenant) → None ≡ option_map (λ (t : Tenant). t.index) o → false ≡ option_map_or (shown k) o false

@@ -1,13 +1,13 @@
 use Rattle.std.proofs.Common.{ap, sym, ◌∙◌, ◌&&◌}
 use Rattle.std.specs.List.{list_any}
-use Rattle.ns_bounds.proofs.Indexes.{any_filtered}
 use Rattle.ns_headroom.specs.Applying.{stop_passes}
 use Rattle.ns_headroom.specs.Releasing.{lives_at}
 use Rattle.ns_headroom.proofs.applying.stops_pass.Goals as goal
+use Rattle.ns_change.proofs.Listed.{any_filter}
 
 pub returns : goal.returns
 returns c =
     let w = c.args.headroom.now in
     let ns = c.args.snapshot.now.namespace in
     c.any_stop_passes.ensures ∙ ap (list_any (λ n. lives_at w (ns, n) && stop_passes w ns n)) c.as_slice.ensures
-    ∙ sym (any_filtered (stop_passes w ns) (λ n. lives_at w (ns, n)) c.args.plan.now.stops)
+    ∙ sym (any_filter (stop_passes w ns) (λ n. lives_at w (ns, n)) c.args.plan.now.stops)
