@@ -116,25 +116,9 @@ module _ (keys : List Key) where
   abbrev pub stays : Key → Bool
   stays key = not (has_key keys key)
 
-  pub filter_kept : (xs done : List Key) (i : ℕ) (x : Key) → i < length xs → x ≡ get_or xs i x → stays x ≡ true → (all : List Key) → done ++
-      filter stays (drop i xs) ≡ all → (done ++ x ∷ []) ++ filter stays (drop (i + 1) xs) ≡ all
-  filter_kept xs done i x lt is stay all h = append_assoc done (x ∷ []) (filter stays (drop (i + 1) xs)) ∙
-      ap (λ b. done ++ cond b (x ∷ filter stays (drop (i + 1) xs)) (filter stays (drop (i + 1) xs))) (sym stay)
-      ∙ ap (λ l. done ++ filter stays l) (sym (from_here xs i x lt is)) ∙ h
-
-  pub filter_gone : (xs done : List Key) (i : ℕ) (x : Key) → i < length xs → x ≡ get_or xs i x → stays x ≡ false → (all : List Key) → done ++
-      filter stays (drop i xs) ≡ all → done ++ filter stays (drop (i + 1) xs) ≡ all
-  filter_gone xs done i x lt is gone all h = ap (λ b. done ++ cond b (x ∷ filter stays (drop (i + 1) xs)) (filter stays (drop (i + 1) xs))) (sym gone)
-      ∙ ap (λ l. done ++ filter stays l) (sym (from_here xs i x lt is)) ∙ h
-
 pub fold_more : {S : Type 0} (f : S → Key → S) (xs : List Key) (i : ℕ) (x : Key) (s : S) (all : S) → i < length xs → x ≡ get_or xs i x →
     fold f s (drop i xs) ≡ all → fold f (f s x) (drop (i + 1) xs) ≡ all
 fold_more f xs i x s all lt is h = ap (fold f s) (sym (from_here xs i x lt is)) ∙ h
-
-pub taken_more : (xs done : List Key) (i : ℕ) (x : Key) (all : List Key) → i < length xs → x ≡ get_or xs i x → done ++ drop i xs ≡ all → (done ++ x ∷ []) ++
-    drop (i + 1) xs ≡ all
-taken_more xs done i x all lt is h = append_assoc done (x ∷ []) (drop (i + 1) xs) ∙
-    ap (λ l. done ++ l) (sym (from_here xs i x lt is)) ∙ h
 
 filter_twice : {A : Type 0} (p q r : A → Bool) (xs : List A) → ((x : A) → p x ≡ (r x && q x)) → filter p xs ≡ filter q (filter r xs)
 filter_twice p q r [] e = refl

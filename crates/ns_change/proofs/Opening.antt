@@ -97,9 +97,6 @@ module _ (t : Tables) (c left : Change) (ns : Name) (f : Tenant → Tenant) wher
   put_open x y is law = is.closes y ∙ ap (λ z. put_tenant ns z (view t c)) (law is.base) ∙
       sym (ap (λ o. option_map_or (λ z. put_tenant ns (f z) (view t c)) o (view t c)) is.seen)
 
-  pub put_nowhere : Opened t c ns None left → view t left ≡ change_tenant ns f (view t c)
-  put_nowhere is = ap (view t) is.1 ∙ sym (ap (λ o. option_map_or (λ z. put_tenant ns (f z) (view t c)) o (view t c)) is.0)
-
 module _ {K X : Type 0} {R : K → K → Ordering} (o : IsTotalOrder R) (same : IsAntisymmetric R) where
   -- a row put into a slot made for it
   pub over-slot : (m : FinMap R X) (c : FinMap R (Option X)) (k : K) (x : X) → over m (insert (with_slot c k) k (Some x)) ≡ insert (over m c) k x

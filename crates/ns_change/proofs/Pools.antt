@@ -72,9 +72,6 @@ module _ (t : Tables) (c left : Change) (name : Name) (f : PoolRows → PoolRows
   put_open_pool x y is law = is.closes y ∙ ap (λ z. put_pool name z (view t c)) (law is.base) ∙
       sym (ap (λ o. option_map_or (λ z. put_pool name (f z) (view t c)) o (view t c)) is.seen)
 
-  pub put_no_pool : OpenedPool t c name None left → view t left ≡ change_pool name f (view t c)
-  put_no_pool is = ap (view t) is.1 ∙ sym (ap (λ o. option_map_or (λ z. put_pool name (f z) (view t c)) o (view t c)) is.0)
-
 -- ---- a new allocation
 
 module _ (t : Tables) (c left : Change) (ns : Name) (x : TenantChange) (opened : Opened t c ns (Some x) left) where

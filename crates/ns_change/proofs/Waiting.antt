@@ -16,7 +16,7 @@ use Rattle.ns_types.specs.State.Lists.{Each}
 use Rattle.ns_types.specs.State.Names.{Name}
 use Rattle.ns_types.specs.Working.Queue.{first_waiting, is_busy, promote}
 use Rattle.ns_types.specs.Settling.Making.{change_tenant, put_tenant, with_status}
-use Rattle.ns_types.specs.State.Rows.{World, Tenant, is_blocked, is_pending}
+use Rattle.ns_types.specs.State.Rows.{World, Tenant, is_blocked}
 use Rattle.ns_types.specs.Working.Work.{blocked_of, cancel_blocked, without_blocked}
 use Rattle.ns_types.proofs.Lists.{not_both}
 use Rattle.ns_types.proofs.Named.{first_of_both, names, one_name, numbers, one_number, same_name_is}
@@ -190,10 +190,6 @@ module _ {X : Type 0} (p : ℕ → X → Bool) (m : FinMap nat_cmp X) (c : FinMa
   first_over s is = first_is p (over m c) (lesser (first p (rows c)) s)
       (lesser_first p (over m c) _ _ over_cases (first p (rows c)) s (changed_leads (first p (rows c)) (first_holds p (rows c))) is)
 
--- the model's two searches
-pub waiting_is : (job : Name) (t : Tenant) → first_waiting job t ≡ first (of_job is_pending job) t.evaluations
-waiting_is job t = refl
-
 pub blocked_is : (t : Tenant) (job : Name) → blocked_of t job ≡ first (of_job is_blocked job) t.evaluations
 blocked_is t job = refl
 
@@ -323,14 +319,6 @@ module _ (w : World) (ns job : Name) where
       by None at none = refl
       by (Some t) at none = (λ i. record w { tenants = sym (insert_same names one_name w.tenants ns t at) i }) ∙
           ap (λ o. put_tenant ns (option_map_or (λ n. with_status n Status.Canceled t) o t) w) (sym none)
-
-  pub cancel_one : (n : ℕ) → blocked (get w.tenants ns) ≡ Some n → change_tenant ns (with_status n Status.Canceled) w ≡ change_tenant ns (cancel_blocked job) w
-  cancel_one n some = by (get w.tenants ns) some
-    where
-      by : (o : Option Tenant) → option_and_then (λ t. blocked_of t job) o ≡ Some n →
-          option_map_or (λ t. put_tenant ns (with_status n Status.Canceled t) w) o w ≡ option_map_or (λ t. put_tenant ns (cancel_blocked job t) w) o w
-      by None some = refl
-      by (Some t) some = ap (λ o. put_tenant ns (option_map_or (λ n. with_status n Status.Canceled t) o t) w) (sym some)
 
   pub unlist_none : blocked (get w.tenants ns) ≡ None → w ≡ unlist_blocked ns job w
   unlist_none none = by (get w.tenants ns) none

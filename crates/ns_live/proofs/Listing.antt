@@ -1,6 +1,5 @@
 -- The rows of a node's keys are its live allocations, in the order of the keys.
 use Rattle.std.specs.Prelude.{◌≡◌, ℕ, Bool, true, false, ◌&&◌, List, [], ◌∷◌, ◌++◌, Option, Some, None, filter, flat_map, is_some, map}
-use Rattle.std.specs.Prelude.{option_map, if◌then◌else◌}
 use Rattle.std.proofs.Common.{refl, sym, ap, ◌∙◌}
 use Rattle.std.proofs.lemmas.List.{map-append}
 use Rattle.std.specs.declared.cmp.Ordering.{Ordering}
@@ -13,18 +12,18 @@ use Rattle.keyed.specs.Table.{row_at, row_list, rows, with_row}
 use Rattle.keyed.proofs.Tables.{entries-rows, get-rows, rows-empty}
 use Rattle.ns_types.specs.declared.allocation.Allocation.{Allocation}
 use Rattle.ns_types.specs.declared.allocation.ClientStatus.TheVariants as ClientStatus
-use Rattle.ns_types.specs.Asking.Nodes.{losing_jobs, lose, losses, lost}
+use Rattle.ns_types.specs.Asking.Nodes.{losing_jobs, losses}
 use Rattle.ns_types.specs.State.Lists.{Each}
 use Rattle.ns_types.specs.State.Names.{Name, Key, ByNumber, has_key, has_number, name_cmp, same_key, same_name, same_number}
 use Rattle.ns_types.specs.State.Rows.{World, Tenant, allocation_at, is_live_on}
-use Rattle.ns_types.specs.State.Tables.{any_row, map_rows, table_of}
+use Rattle.ns_types.specs.State.Tables.{any_row, table_of}
 use Rattle.ns_types.specs.Working.Snapshot.{allocations_on}
 use Rattle.ns_types.proofs.Lists.{filter_all, filter_none}
 use Rattle.ns_types.proofs.Named.{names, numbers, one_name, one_number}
 use Rattle.ns_types.proofs.TableRows.{entries_empty, some_row}
 use Rattle.ns_types.proofs.Tests.{not_Some, same_Some}
 use Rattle.ns_types.proofs.Elements.{any_flat, any_map, any_same, any_under}
-use Rattle.ns_types.proofs.Tables.{any_row-none, chosen, each_row, entries-table_of, filter-retain, get-map_rows, flat_map-retain, tied}
+use Rattle.ns_types.proofs.Tables.{any_row-none, chosen, each_row, entries-table_of, filter-retain, flat_map-retain, tied}
 use Rattle.keyed.specs.declared.key_set.KeySet.{KeySet}
 use Rattle.keyed.specs.Levels.{holds_key, holds_number}
 use Rattle.ns_live.specs.Listed.{found_at, keys_in}
@@ -158,25 +157,6 @@ module _ (w : World) (pool node : Name) (held : KeySet)
     where
       no_job : values (from_entries {X = Allocation} {R = name_cmp} []) ≡ []
       no_job = ap (map (λ e. e.1)) (entries_empty {X = Allocation} names one_name)
-
-  -- of the rows of a world those at the keys are lost with the node
-  pub lost_at : (key : Key) → allocation_at (lose pool node w) key
-      ≡ option_map (λ row. if holds_key held key then record row { client = ClientStatus.Lost } else row) (allocation_at w key)
-  lost_at key = ap (option_and_then (λ (t : Tenant). get t.allocations key.1))
-      (get-map_rows names one_name (λ _ (t : Tenant). record t { allocations = map_rows (λ _ a. lost pool node a) t.allocations }) w.tenants key.0)
-      ∙ by (get w.tenants key.0) refl
-    where
-      row : (t : Tenant) → get w.tenants key.0 ≡ Some t → (r : Option Allocation) → get t.allocations key.1 ≡ r
-          → option_map (lost pool node) r ≡ option_map (λ row. if holds_key held key then record row { client = ClientStatus.Lost } else row) r
-      row t at None there = refl
-      row t at (Some a) there = ap (λ b. Some (if b then record a { client = ClientStatus.Lost } else a)) (sym (at_row key.0 t key.1 a at there))
-
-      by : (r : Option Tenant) → get w.tenants key.0 ≡ r → option_and_then (λ (t : Tenant). get t.allocations key.1)
-          (option_map (λ (t : Tenant). record t { allocations = map_rows (λ _ a. lost pool node a) t.allocations }) r)
-          ≡ option_map (λ row. if holds_key held key then record row { client = ClientStatus.Lost } else row)
-          (option_and_then (λ (t : Tenant). get t.allocations key.1) r)
-      by None at = refl
-      by (Some t) at = get-map_rows numbers one_number (λ _ a. lost pool node a) t.allocations key.1 ∙ row t at (get t.allocations key.1) refl
 
 -- where nothing is live
 module _ (w : World) (pool node : Name) (none : (key : Key) → option_map_or (is_live_on pool node) (allocation_at w key) false ≡ false) where

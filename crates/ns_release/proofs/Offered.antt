@@ -2,13 +2,13 @@
 use Rattle.std.specs.Prelude.{◌≡◌, Bool, true, false, cond, if◌then◌else◌, List, [], ◌∷◌, ◌++◌, Option, Some, None, flat_map, filter, map, option_map}
 use Rattle.std.proofs.Common.{refl, sym, ap, ◌∙◌}
 use Rattle.std.specs.Option.{option_map_or}
-use Rattle.std.specs.FinMap.{entries, get}
+use Rattle.std.specs.FinMap.{entries}
 use Rattle.keyed.specs.Table.{row_at, row_list}
 use Rattle.ns_types.specs.declared.allocation.Allocation.{Allocation}
 use Rattle.ns_types.specs.declared.node.Node.{Node}
 use Rattle.ns_types.specs.declared.records.Namespace.{Namespace}
 use Rattle.ns_types.specs.State.Names.{Name}
-use Rattle.ns_types.specs.State.Rows.{World, PoolRows, class_of, is_free, node_at}
+use Rattle.ns_types.specs.State.Rows.{World, PoolRows, class_of, node_at}
 use Rattle.ns_change.specs.declared.change.PoolChange.{PoolChange}
 use Rattle.ns_world.specs.declared.tables.PoolRows.{PoolRows as StoredPool}
 use Rattle.ns_world.specs.declared.tables.Tables.{Tables}
@@ -45,21 +45,6 @@ module _ (t : Tables) (name : Name) where
       (λ p. option_map_or (λ x. map (λ (e : Name × Node). class_of e.1) (filter (λ (e : Name × Node). gives_itself p e.0 e.1) (row_list (entries x.nodes)))) x
       []) o [])) (pool_at t name ∙ ap (option_map pool_of) at)
 
-  pub changed_none : in_pool name (changed_classes (world_of t) name None) ≡ []
-  changed_none = by (get (world_of t).pools name)
-    where
-      by : (o : Option PoolRows) → in_pool name (option_map_or (λ _. []) o []) ≡ []
-      by None = refl
-      by (Some p) = refl
-
 -- what an ended allocation leaves, by the node that is found
 pub left_by : (w : World) (n : Namespace) (a : Allocation) (r : Option Node) → node_at w a.pool a.node ≡ r → rooms_left w (n, a) ≡ in_pool a.pool (room_left r)
 left_by w n a r is = ap (λ o. in_pool a.pool (room_left o)) is
-
-pub left_free : (w : World) (n : Namespace) (a : Allocation) (node : Node) → node_at w a.pool a.node ≡ Some node → is_free node ≡ true →
-    rooms_left w (n, a) ≡ (a.pool, class_of node) ∷ []
-left_free w n a node is free = left_by w n a (Some node) is ∙ ap (λ b. in_pool a.pool (if b then class_of node ∷ [] else [])) free
-
-pub left_taken : (w : World) (n : Namespace) (a : Allocation) (node : Node) → node_at w a.pool a.node ≡ Some node → is_free node ≡ false →
-    rooms_left w (n, a) ≡ []
-left_taken w n a node is taken = left_by w n a (Some node) is ∙ ap (λ b. in_pool a.pool (if b then class_of node ∷ [] else [])) taken

@@ -36,10 +36,6 @@ use Rattle.ns_types.proofs.Tests.{or_none, swap_or}
 
 -- ---- tests of lists
 
-and_or : (a b c : Bool) → (a && (b || c)) ≡ ((a && b) || (a && c))
-and_or true b c = refl
-and_or false b c = refl
-
 module _ {A : Type 0} where
   any_or : (f g : A → Bool) (xs : List A) → list_any (λ x. f x || g x) xs ≡ (list_any f xs || list_any g xs)
   any_or f g [] = refl

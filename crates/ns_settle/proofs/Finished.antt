@@ -45,9 +45,6 @@ module _ (t : Tables) (ns : Name) (y : TenantChange) where
       is_last (world_of t) ns (Some y) ≡ (touches (tenant_of x) y && nat_lt greatest (x.index + 1))
   last_there x at = ap (λ o. option_map_or (λ t. touches t y && nat_lt greatest (t.index + 1)) o false) (tenant_at t ns ∙ ap (option_map tenant_of) at)
 
-  pub last_nowhere : row_at t.tenants ns ≡ None → is_last (world_of t) ns (Some y) ≡ false
-  last_nowhere at = ap (λ o. option_map_or (λ t. touches t y && nat_lt greatest (t.index + 1)) o false) (tenant_at t ns ∙ ap (option_map tenant_of) at)
-
   -- where a row changed, there is an index
   pub rises : (x : TenantRows) → row_at t.tenants ns ≡ Some x → is_last (world_of t) ns (Some y) ≡ false → touches (tenant_of x) y ≡ true →
       nat_lt greatest (x.index + 1) ≡ false
