@@ -35,10 +35,6 @@ told_of (Some (ns, worker)) told is =
       tries = ap (λ x. x.3) same;
     }
 
-pub told_none : (row : Option (Name × Worker)) → None ≡ option_map busy_of row → row ≡ None
-told_none None is = refl
-told_none (Some row) is = absurd (not_Some (busy_of row) is)
-
 -- ---- the row in its namespace
 
 found_each : {A : Type 0} (P : A → Type 0) (f : A → Bool) (xs : List A) (x : A) → Each P xs → find f xs ≡ Some x → P x

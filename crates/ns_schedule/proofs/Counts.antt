@@ -1,8 +1,8 @@
 -- Sums that are checked as they are made.
-use Rattle.std.specs.Prelude.{◌≡◌, ℕ, zero, suc, ◌+◌, ◌*◌, ◌^◌, ◌<◌, ◌≤◌, true, List, ◌∷◌, Option, Some, None, SomeIff, length, drop}
-use Rattle.std.specs.Prelude.{get_or, is_some, replicate, sum_by}
-use Rattle.std.proofs.Common.{refl, sym, ap, ◌∙◌, arith}
-use Rattle.std.proofs.lemmas.Bool.{and_from, and_parts, false_from_ne_true, lt-ltb, ltb-true}
+use Rattle.std.specs.Prelude.{◌≡◌, ℕ, zero, suc, ◌+◌, ◌*◌, ◌^◌, ◌<◌, ◌≤◌, true, List, ◌∷◌, length, drop}
+use Rattle.std.specs.Prelude.{get_or, replicate, sum_by}
+use Rattle.std.proofs.Common.{refl, ap, ◌∙◌, arith}
+use Rattle.std.proofs.lemmas.Bool.{and_from, and_parts, lt-ltb, ltb-true}
 use Rattle.std.proofs.lemmas.List.Folds.{sum_by-replicate}
 use Rattle.std.proofs.lemmas.List.Sums.{sum_by-append}
 use Rattle.std.proofs.Math.Nat.{suc-mul}
@@ -22,11 +22,6 @@ counted_true r h = and_from _ _ (lt-ltb r.cpu (2 ^ 64) h.0) (lt-ltb r.memory (2 
 
 pub true_counted : (r : Resources) → is_counted r ≡ true → IsCounted r
 true_counted r e = let both = and_parts _ _ e in (ltb-true r.cpu (2 ^ 64) both.0, ltb-true r.memory (2 ^ 64) both.1)
-
--- what a checked sum says of the sum
-pub some_is : (o : Option Resources) (r : Resources) → SomeIff o (IsCounted r) r → is_some o ≡ is_counted r
-some_is None r h = sym (false_from_ne_true (is_counted r) (λ e. h (true_counted r e)))
-some_is (Some x) r h = sym (counted_true r h.0)
 
 -- one of several is within all of them
 one_within : (n x : ℕ) → (n ≡ 0 → ⊥) → x ≤ n * x

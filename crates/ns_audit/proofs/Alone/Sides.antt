@@ -25,6 +25,7 @@ use Rattle.ns_audit.specs.Laws.{concerns_part, belongs, SameRights}
 use Rattle.ns_audit.proofs.Alone.Chosen.{tenant_alone}
 use Rattle.ns_types.proofs.Settling.{settle_same}
 use Rattle.ns_audit.proofs.Alone.Settling.{settle_alone}
+use Rattle.ns_types.proofs.Tests.{and_yes}
 
 -- ---- the other side
 
@@ -106,18 +107,14 @@ is_of_own part w (Step.Apply worker ns) own = own
 is_of_own part w (Step.Finish worker ns) own = own
 is_of_own part w (Step.Nack worker ns) own = own
 
-both_off : (a : Bool) → (a && true) ≡ false → a ≡ false
-both_off true e = e
-both_off false e = refl
-
 other_tell : (part : Part) (w : World) (pool : Name) (command : NodeCommand) → IsAtHome part w → (part.pools pool && concerns_part part command) ≡ false →
     AsksPoolOn part w false pool command
-other_tell part w pool NodeCommand.ReadPool home other = both_off _ other
-other_tell part w pool NodeCommand.ListNodes home other = both_off _ other
-other_tell part w pool (NodeCommand.PutNode name offer) home other = both_off _ other
-other_tell part w pool (NodeCommand.DeleteNode name) home other = both_off _ other
-other_tell part w pool (NodeCommand.SetStatus name status) home other = both_off _ other
-other_tell part w pool (NodeCommand.SetEligible name eligible) home other = both_off _ other
+other_tell part w pool NodeCommand.ReadPool home other = and_yes _ other
+other_tell part w pool NodeCommand.ListNodes home other = and_yes _ other
+other_tell part w pool (NodeCommand.PutNode name offer) home other = and_yes _ other
+other_tell part w pool (NodeCommand.DeleteNode name) home other = and_yes _ other
+other_tell part w pool (NodeCommand.SetStatus name status) home other = and_yes _ other
+other_tell part w pool (NodeCommand.SetEligible name eligible) home other = and_yes _ other
 other_tell part w pool (NodeCommand.Report name r) home other = by (part.pools pool) refl other
   where
     by : (b : Bool) → part.pools pool ≡ b → (b && part.spaces r.namespace) ≡ false → ReportsOn part w false pool r

@@ -37,6 +37,7 @@ use Rattle.ns_types.proofs.Queue.{queue_keeps}
 use Rattle.ns_audit.proofs.ValidAllocations.Sound.{itself, le_same}
 use Rattle.ns_audit.proofs.ValidAllocations.Going.{Onward, onward_same, onward_put, onward_make_in, Goes, goes_quiet, goes_still, goes_then, goes_evaluation}
 use Rattle.ns_audit.proofs.ValidAllocations.Going.{goes_row, Allocates, allocates_on}
+use Rattle.ns_types.proofs.Bounds.{tied_number}
 
 -- the allocations go on, and the nodes are the same
 pub record Continues (w x : World) : Type 0 where
@@ -117,11 +118,6 @@ goes_tied n follower t = elim (get t.evaluations n) as
       | Some e ↦ goes_evaluations (insert t.evaluations n (record e { follower = Some follower })) t
       | None ↦ goes_still t
     ]
-
-tied_number : (n follower : ℕ) (t : Tenant) → (tied_to n follower t).evaluation_number ≡ t.evaluation_number
-tied_number n follower t = elim (get t.evaluations n) as
-    (λ (o : Option Evaluation). (option_map_or (λ e. record t { evaluations = insert t.evaluations n (record e { follower = Some follower }) })
-    o t).evaluation_number ≡ t.evaluation_number) [ Some e ↦ refl | None ↦ refl ]
 
 goes_follower : (n : ℕ) (follower : Evaluation) (t : Tenant) → Goes t (with_follower n follower t)
 goes_follower n follower t =
