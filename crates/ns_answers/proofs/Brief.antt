@@ -1,18 +1,16 @@
 -- Bodies that show no rows.
-use Rattle.std.proofs.Common.{◌≡◌, ℕ, ◌<◌, ◌≤◌, List, [], ◌++◌, length, Option, Some, None, Ok, Err, true, false, is_some, refl, sym, ap, ◌∙◌, arith}
+use Rattle.std.proofs.Common.{◌≡◌, ℕ, ◌<◌, ◌≤◌, List, [], ◌++◌, length, Option, Some, None, Ok, Err, false, refl, sym, ap, ◌∙◌, arith}
 use Rattle.std.specs.Prelude.{IsSomeAnd}
 use Rattle.std.specs.declared.alloc.AllocError.{AllocError}
 use Rattle.json.specs.Print.{print}
 use Rattle.json.specs.Written.{Written}
 use Rattle.serde_json.specs.Written.{compact_text}
 use Rattle.ns_types.specs.declared.reply.Content.{Content}
-use Rattle.ns_types.specs.declared.reply.TokenShown.{TokenShown}
 use Rattle.ns_types.proofs.Lists.{not_both}
 use Rattle.ns_json.specs.Part.{Follows, tokens_of}
 use Rattle.ns_json.specs.Replies.{body_of}
 use Rattle.ns_replies.proofs.Written.{text_written}
 use Rattle.ns_answers.specs.Bodies.{IsBrief, WritesBody, body_bytes, body_json}
-use Rattle.ns_answers.specs.Rooms.{HasRoom, Room}
 use Rattle.ns_answers.proofs.Writing.{length-print_from-le}
 
 pub some_then : {A B : Type 0} {P : A → Type 0} (o : Option A) → IsSomeAnd o P → ((x : A) → P x → B) → B
@@ -22,10 +20,6 @@ some_then (Some x) h f = f x h
 pub some_map : {A : Type 0} {P Q : A → Type 0} (o : Option A) → IsSomeAnd o P → ((x : A) → P x → Q x) → IsSomeAnd o Q
 some_map None h f = h
 some_map (Some x) h f = f x h
-
-pub is_some_and : {A : Type 0} (P : A → Type 0) (o : Option A) → IsSomeAnd o P → is_some o ≡ true
-is_some_and P None h = absurd h
-is_some_and P (Some x) h = refl
 
 pub body_is : (content : Content) → IsBrief content → body_of content ≡ compact_text (body_json content)
 unfolding body_of
@@ -59,13 +53,3 @@ body_fits content u old new items h none is =
 pub no_room : (content : Content) (e : AllocError) (old new : Written) (capacity : ℕ) → old.spare ≡ capacity → WritesBody content (Err e) old new →
     IsSomeAnd (body_bytes content) (λ n. capacity < n)
 no_room content e old new capacity is h = some_map (body_bytes content) h (λ n w. omega (arith, is, w.room))
-
--- a room for what is no token is so many bytes
-pub room_bytes : (room : Room) (content : Content) → HasRoom room content → ((token : TokenShown) → content ≡ Content.Token token → ⊥) →
-    IsSomeAnd (body_bytes content) (λ n. n ≤ room.bytes)
-room_bytes room (Content.Token token) h other = absurd (other token refl)
-room_bytes room _ h other = h
-
-pub not_less : {capacity bytes : ℕ} (o : Option ℕ) → bytes ≡ capacity → IsSomeAnd o (λ n. capacity < n) → IsSomeAnd o (λ n. n ≤ bytes) → ⊥
-not_less None is a b = a
-not_less (Some n) is a b = omega (arith, is, a, b)

@@ -39,6 +39,7 @@ use Rattle.ns_answers.specs.Bodies.{nothing_bytes, registered_bytes, stopped_byt
 use Rattle.ns_answers.specs.Laws.{may_change, row_of}
 use Rattle.ns_answers.specs.Rooms.{HasRoom, Room, plan_bytes, room_of}
 use Rattle.ns_answers.proofs.Applying.{commit_fits}
+use Rattle.ns_types.proofs.Named.{first_of_both}
 
 -- ---- what is asked for
 
@@ -240,10 +241,6 @@ apply_fits number ns w =
     let handed_in : is_submitted worker.phase ≡ true = first_of_both (is_submitted worker.phase) (is_served w w.plans (ns, worker.evaluation)) enabled in
     said_fits t worker kept row (plan_at worker kept handed_in has))))
   where
-    first_of_both : (a b : Bool) → (a && b) ≡ true → a ≡ true
-    first_of_both true b h = refl
-    first_of_both false b h = h
-
     said_fits : (t : Tenant) (worker : Worker) (kept : Snapshot) → worker_at w number ns ≡ Some worker → planned_of worker ≡ Some kept →
         Fits (Step.Apply number ns) w (Content.Applied (commit kept (plan kept) w t).made (commit kept (plan kept) w t).dropped)
     said_fits t worker kept row planned =

@@ -1,14 +1,9 @@
 -- Documents that are written as bodies and read by the readers of bodies.
-use Rattle.std.proofs.Common.{◌≡◌, ◌&&◌, Bool, List, [], ◌∷◌, Option, Some, None, Result, Ok, Err, IfOk, String, BTreeMap, Global, codes, refl, sym, ap, subst, ◌∙◌}
-use Rattle.std.proofs.Common.{string_bytes, string_cmp}
+use Rattle.std.proofs.Common.{◌≡◌, ◌&&◌, Bool, List, [], Some, None, Result, Ok, Err, IfOk, refl, sym, ap, subst}
 use Rattle.std.specs.Prelude.{IsTrue, IsUtf8}
 use Rattle.std.proofs.lemmas.Bool.{and_from}
-use Rattle.std.specs.BTreeMap.{insert_entry}
-use Rattle.serde_json.specs.Data.{Data, object, no_members}
+use Rattle.serde_json.specs.Data.{Data}
 use Rattle.serde_json.specs.Read.{read}
-use Rattle.serde_json.specs.View.{view, members_view}
-use Rattle.serde_json.specs.declared.value.Value.{Value, Object}
-use Rattle.serde_json.proofs.Views.{view-Object, members_view-insert_entry}
 use Rattle.ns_types.specs.declared.acl.Policy.{Policy}
 use Rattle.ns_types.specs.declared.acl.Rule.{Rule}
 use Rattle.ns_types.specs.declared.refusal.Member.{Member}
@@ -19,7 +14,6 @@ use Rattle.ns_types.specs.State.Name.{is_name}
 use Rattle.ns_types.specs.State.Names.{Name}
 use Rattle.ns_json.specs.Reading.{◌>>=◌, body_in, top, demanded}
 use Rattle.ns_json.specs.Reading as json
-use Rattle.ns_json.specs.Rendering.{object_of}
 use Rattle.ns_json.proofs.Posts.{Post, post_any, read_so}
 use Rattle.ns_json.proofs.Texts.{json_ok}
 use Rattle.ns_policy.specs.declared.fault.RuleFault.{RuleFault}
@@ -93,9 +87,3 @@ pub policy_rules : (text : Name) (d : Data) (r : json.Read Policy) → IsUtf8 te
 policy_rules text d r utf8 is gives = read_so r (policy_in d) _ (subst (json.Gives json.same r) (body_is policy_in text d utf8 is) gives) (policy_post d)
 
 -- ---- a job
-
--- an object with one member
-pub one_member : (m : BTreeMap (String Global) Value) (es : List (String Global × Value)) (k : String Global) (v : Value) (name : Name) (d : Data) →
-    m.entries ≡ insert_entry string_cmp es k v → es ≡ [] → string_bytes k ≡ name → view v ≡ d → view (Object m) ≡ object_of ((name, d) ∷ [])
-one_member m es k v name d is none named value =
-    view-Object m ∙ ap (λ xs. object (members_view xs)) is ∙ ap object (members_view-insert_entry es k v) ∙ rw (none, named, value) refl

@@ -1,5 +1,5 @@
 -- What calls return, by what they call.
-use Rattle.std.proofs.Common.{◌≡◌, ℕ, ◌<◌, ◌≤◌, List, [], ◌∷◌, length, Bool, true, ◌&&◌, nat_lt, nat_le, nat_cmp, Option, Some, None, Result, Ok, Err, IfOk}
+use Rattle.std.proofs.Common.{◌≡◌, ℕ, ◌<◌, ◌≤◌, [], ◌∷◌, length, true, ◌&&◌, nat_lt, nat_le, nat_cmp, Option, Some, None, Result, Ok, Err, IfOk}
 use Rattle.std.proofs.Common.{Ordering, Less, Equal, Greater, sym, subst, arith}
 use Rattle.std.proofs.lemmas.Bool.{ltb-true}
 use Rattle.std.proofs.lemmas.Str.{IsUtf8-from_ascii}
@@ -8,7 +8,7 @@ use Rattle.std.specs.Cmp.Lexicographic.{slice_cmp}
 use Rattle.std.specs.List.{list_all}
 use Rattle.std.specs.Ordering.{match_ordering}
 use Rattle.std.specs.Str.{IsAscii}
-use Rattle.std.specs.Prelude.{IsTrue, IsUtf8}
+use Rattle.std.specs.Prelude.{IsUtf8}
 use Rattle.serde_json.specs.Data.{Data, null, boolean, number, string, array, object, Members, no_members, member, depth, members_depth}
 use Rattle.serde_json.specs.Find.{get, get_member}
 use Rattle.serde_json.specs.Read.{read}
@@ -16,19 +16,11 @@ use Rattle.serde_json.specs.declared.value.Value.{Value}
 use Rattle.ns_types.specs.declared.name.NameKind.TheVariants as NameKind
 use Rattle.ns_types.specs.State.Name.{is_name, is_name_byte, is_printable, longest}
 use Rattle.ns_types.specs.State.Names.{Name}
-use Rattle.ns_types.specs.Within.{IsGoodStep}
 use Rattle.ns_types.proofs.Named.{first_of_both, second_of_both}
-use Rattle.ns_json.specs.Replies.{Entry}
 use Rattle.ns_log_read.specs.declared.fault.LineFault.{LineFault}
 use Rattle.ns_log_read.specs.declared.fault.LineFault.TheVariants.{Bad, Memory}
-use Rattle.ns_log_read.specs.Lines.{IsWithin, IsAsRead, step_fits, answer_fits}
-use Rattle.ns_log_read.specs.Reading.{Read, ReadsBack}
+use Rattle.ns_log_read.specs.Reading.{ReadsBack}
 use Rattle.ns_log_read.proofs.Lines.{none_back}
-
-pub within_so : (r : Read Entry) → IfOk r (λ e. IsGoodStep e.0) → IfOk r (λ e. IsAsRead e.0) → IfOk r (λ e. IsTrue (step_fits e.0)) →
-    IfOk r (λ e. IsTrue (answer_fits e.1)) → IfOk r IsWithin
-within_so (Ok e) good as_read step answer = record { good = good; as_read = as_read; step = step; answer = answer }
-within_so (Err e) good as_read step answer = tt
 
 pub always : {A E : Type 0} (r : Result A E) (P : Type 0) → P → IfOk r (λ _. P)
 always (Ok x) P p = p

@@ -1,12 +1,11 @@
 -- The lines of entries, and the first line.
-use Rattle.std.proofs.Common.{◌≡◌, ◌≢◌, ℕ, zero, suc, ◌+◌, ◌<◌, ◌≤◌, ◌==◌, List, [], ◌∷◌, ◌++◌, length, take, drop, get_or, Bool, true, false, not, nat_lt, cond}
-use Rattle.std.proofs.Common.{Option, Some, None, Result, Ok, Err, eqb, refl, sym, ap, subst, ◌∙◌, arith, length-append, append_assoc, append-nil, codes}
-use Rattle.std.specs.Prelude.{IsTrue, IsUtf8}
+use Rattle.std.proofs.Common.{◌≡◌, ◌≢◌, ℕ, zero, suc, ◌+◌, ◌<◌, ◌≤◌, List, [], ◌∷◌, ◌++◌, length, take, drop, get_or, Bool, true, false, nat_lt}
+use Rattle.std.proofs.Common.{Option, Some, None, Ok, Err, eqb, refl, sym, ap, subst, ◌∙◌, arith, length-append, append_assoc, append-nil, codes}
+use Rattle.std.specs.Prelude.{IsUtf8}
 use Rattle.std.specs.Bool.{then_some}
-use Rattle.std.specs.List.{AllByRecursion, flat_map, position, position_or_len, starts_with}
-use Rattle.std.proofs.lemmas.Bool.{eqb-true, eqb-false, ltb-false, eq-eqb, true≢false, false≢true}
+use Rattle.std.specs.List.{flat_map, position, position_or_len, starts_with}
+use Rattle.std.proofs.lemmas.Bool.{eqb-true, eqb-false, ltb-false, eq-eqb, false≢true}
 use Rattle.std.proofs.lemmas.List.{take-append-drop, drop_more}
-use Rattle.std.proofs.lemmas.List.Concat.{flat_map-cons, flat_map-append}
 use Rattle.std.proofs.lemmas.List.Quantifiers.{position-Some}
 use Rattle.std.proofs.lemmas.Slice.Eq.{starts_is}
 use Rattle.serde_json.specs.Data.{Data}
@@ -17,9 +16,8 @@ use Rattle.ns_types.specs.State.Name.{is_name}
 use Rattle.ns_types.specs.State.Names.{Name}
 use Rattle.ns_json.specs.Logs.{entry_json, line_of, log_text}
 use Rattle.ns_json.specs.Replies.{Entry}
-use Rattle.ns_log_read.specs.declared.fault.LineFault.{LineFault}
-use Rattle.ns_log_read.specs.declared.fault.LineFault.TheVariants.{Bad, Memory}
-use Rattle.ns_log_read.specs.Lines.{IsWithin, IsWritable, IsLogOf, BeginsWith, HasBadHead, HasBadEntry, IsBadAfter, IsFault, entry_text, first_text}
+use Rattle.ns_log_read.specs.declared.fault.LineFault.TheVariants.{Bad}
+use Rattle.ns_log_read.specs.Lines.{IsWithin, IsWritable, IsLogOf, BeginsWith, HasBadHead, HasBadEntry, IsBadAfter, entry_text, first_text}
 use Rattle.ns_log_read.specs.Reading.{Read, Gives, same, entry_in, is_feed, BeginsWithLine, IsLineLen, ReadsBack, IsNoFirst, HasEntries, StopsAfter}
 use Rattle.ns_log_read.proofs.Spelled.{read_spelled}
 use Rattle.ns_log_read.proofs.Feeds.{Lacks, lacks_both, lacks_by, text_lacks, secret_lacks, one_line}
@@ -172,16 +170,6 @@ lines es = flat_map line es
 pub each_more : (es : List Entry) (e : Entry) → Each IsWritable es → IsWritable e → Each IsWritable (es ++ e ∷ [])
 each_more [] e h w = (w, tt)
 each_more (x ∷ es) e h w = (h.0, each_more es e h.1 w)
-
--- one more entry
-pub entries_more : (text rest : Name) (n : ℕ) (es : List Entry) (e : Entry) → HasEntries text rest es → IsWritable e → rest ≡ line e ++ drop n rest →
-    HasEntries text (drop n rest) (es ++ e ∷ [])
-entries_more text rest n es e h w is = record {
-  writable = each_more es e h.writable w;
-  is_text =
-      h.is_text ∙ ap (λ r. lines es ++ r) is ∙ sym (append_assoc (lines es) (line e) (drop n rest))
-      ∙ ap (λ l. l ++ drop n rest) (sym (flat_map-append line es (e ∷ []) ∙ ap (λ l. lines es ++ l) (flat_map-cons line e [] ∙ append-nil (line e))));
-}
 
 -- ---- whole logs
 

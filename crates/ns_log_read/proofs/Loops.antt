@@ -1,5 +1,5 @@
 -- Entries one after the other, up to the end of the text or the first bad line.
-use Rattle.std.proofs.Common.{◌≡◌, ◌≢◌, ℕ, ◌+◌, ◌==◌, List, [], ◌∷◌, length, Bool, true, false, Result, Ok, Err, refl, sym, subst, ◌∙◌, arith}
+use Rattle.std.proofs.Common.{◌≡◌, ◌≢◌, ℕ, ◌+◌, ◌==◌, List, [], ◌∷◌, length, true, false, Result, Err, refl, sym, subst, ◌∙◌, arith}
 use Rattle.std.proofs.lemmas.Bool.{eqb-true, eqb-false}
 use Rattle.ns_types.specs.State.Names.{Name}
 use Rattle.ns_json.specs.Replies.{Entry}
@@ -14,9 +14,6 @@ none_left (x ∷ xs) h = let none : length (x ∷ xs) ≡ 0 = eqb-true (length (
 
 pub some_left : (rest : Name) → (length rest == 0) ≡ false → rest ≢ []
 some_left rest h is = let none : length rest ≡ 0 = subst (λ r. length r ≡ 0) (sym is) refl in eqb-false (length rest) 0 h none
-
-pub entries_done : (text rest : Name) (es : List Entry) → HasEntries text rest es → (length rest == 0) ≡ true → HasEntries text [] es
-entries_done text rest es h none = subst (λ r. HasEntries text r es) (none_left rest none) h
 
 one_line : {A : Type 0} (n m : ℕ) → ◌≡◌ {A = Result A LogFault} (Err (Line n)) (Err (Line m)) → n ≡ m
 one_line n m h = cc

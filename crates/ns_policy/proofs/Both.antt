@@ -17,7 +17,7 @@ use Rattle.ns_policy.specs.Laws.{SpelledTokensAreRead, ReadTokensAreSpelled, Spe
 use Rattle.ns_policy.specs.Lex.{skip}
 use Rattle.ns_policy.specs.Grammar.{read_on}
 use Rattle.ns_policy.specs.Layout.{Piece, Layout, text_of, tokens_of}
-use Rattle.ns_policy.proofs.Layouts.{laid_read, fewer_tokens}
+use Rattle.ns_policy.proofs.Layouts.{laid_read, fewer_tokens, both}
 use Rattle.ns_policy.proofs.Relayout.{text_laid}
 use Rattle.ns_policy.proofs.Steps.{Post, post_bind, post_then, post_if, post_if_is}
 use Rattle.ns_policy.proofs.TreeLaws.{items_read, items_placed}
@@ -111,11 +111,6 @@ bind_run : (r : Read State) → (r >>= λ a. run a []) ≡ r
 unfolding run
 bind_run (Ok a) = refl
 bind_run (Err e) = refl
-
-both : (x y : Bool) → (x && y) ≡ true → (x ≡ true) × (y ≡ true)
-both true true h = (refl, refl)
-both true false h = (refl, h)
-both false y h = absurd (true≢false (sym h))
 
 placed_item : (p : Place) → is_item p ≡ true → p ≡ Place.Item
 placed_item Place.Item h = refl

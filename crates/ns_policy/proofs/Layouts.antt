@@ -12,6 +12,7 @@ use Rattle.ns_policy.specs.Rules.{Read, ◌>>=◌}
 use Rattle.ns_policy.specs.Grammar.{step, next, read_on}
 use Rattle.ns_policy.specs.Tree.{run}
 use Rattle.ns_policy.specs.Layout.{Piece, blank, comment, part, mark, text_of, tokens_of, first_is, in_line, Spells, Apart, Layout}
+use Rattle.ns_types.proofs.Tests.{is_yes}
 
 pub both : (x y : Bool) → (x && y) ≡ true → (x ≡ true) × (y ≡ true)
 both true true h = (refl, refl)
@@ -152,10 +153,6 @@ skip_blank : (b : ℕ) (rest : List ℕ) → is_blank b ≡ true → skip false 
 unfolding skip
 skip_blank b rest holds = let p = blank_no_mark b holds in rw (p.0, p.1, holds) refl
 
-pub not_false : (c : Bool) → not c ≡ false → c ≡ true
-not_false true h = refl
-not_false false h = absurd (true≢false h)
-
 line_end : (x : ℕ) (xs : List ℕ) → x ≡ 10 → skip true (x ∷ xs) ≡ skip false (x ∷ xs)
 unfolding skip
 line_end x xs h = rw h refl
@@ -163,7 +160,7 @@ line_end x xs h = rw h refl
 skip_line : (line rest : List ℕ) → list_all in_line line ≡ true → first_is in_line rest ≡ false → skip true (line ++ rest) ≡ skip false rest
 unfolding skip
 skip_line [] [] all stop = refl
-skip_line [] (x ∷ xs) all stop = line_end x xs (eqb-true x 10 (not_false (x == 10) stop))
+skip_line [] (x ∷ xs) all stop = line_end x xs (eqb-true x 10 (is_yes (x == 10) stop))
 skip_line (x ∷ line) rest all stop =
     let p = both (in_line x) (list_all in_line line) all in
     let here : not (x == 10) ≡ true = p.0 in

@@ -11,6 +11,7 @@ use Rattle.ns_policy.specs.Rules.{Read, ◌>>=◌}
 use Rattle.ns_policy.specs.Grammar.{step, next, or_syntax, read_on}
 use Rattle.ns_policy.specs.Layout.{Piece, blank, comment, part, text_of, tokens_of, first_is, in_line, Spells, Apart, Layout}
 use Rattle.ns_policy.proofs.Layouts.{both}
+use Rattle.ns_types.proofs.Tests.{is_no}
 
 -- ---- fronts
 
@@ -79,10 +80,6 @@ quoted : (s : List ℕ) → begins_with 34 s ≡ true → s ≡ 34 ∷ drop 1 s
 quoted [] h = absurd (true≢false (sym h))
 quoted (x ∷ xs) h = first_byte x 34 xs h
 
-not_true : (c : Bool) → not c ≡ true → c ≡ false
-not_true true h = absurd (true≢false (sym h))
-not_true false h = refl
-
 string_backs : (x : ℕ) (s : List ℕ) → (x == 34) ≡ true → Backs (x ∷ s) (string_at s)
 unfolding string_at
 string_backs x s e =
@@ -92,7 +89,7 @@ string_backs x s e =
     let rest = drop 1 (after is_string_byte s) in
     let tail : s ≡ (w ++ 34 ∷ []) ++ rest = parts is_string_byte s ∙ ap (λ us. w ++ us) (quoted (after is_string_byte s) p.0) ∙
     sym (append_assoc w (34 ∷ []) rest) in
-    (34 ∷ (w ++ 34 ∷ []), first_byte x 34 s e ∙ ap (λ us. 34 ∷ us) tail, (refl, front_all is_string_byte s, not_true (has_template w) p.1), tt))
+    (34 ∷ (w ++ 34 ∷ []), first_byte x 34 s e ∙ ap (λ us. 34 ∷ us) tail, (refl, front_all is_string_byte s, is_no (has_template w) p.1), tt))
     (λ c. tt)
 
 word_backs : (x : ℕ) (xs : List ℕ) → begins_word x ≡ true → Backs (x ∷ xs) (Some (word (front is_word_byte (x ∷ xs)), after is_word_byte (x ∷ xs)))

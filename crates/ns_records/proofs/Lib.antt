@@ -1,3 +1,2 @@
-pub mod Confined
 pub mod Finding
 pub mod Owning

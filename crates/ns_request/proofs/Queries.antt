@@ -1,5 +1,5 @@
 -- Parameters.
-use Rattle.std.proofs.Common.{◌≡◌, ℕ, List, [], ◌∷◌, Option, Some, None, Bool, true, false, cond, refl, sym, ap, ◌∙◌}
+use Rattle.std.proofs.Common.{◌≡◌, ℕ, List, ◌∷◌, Option, Some, None, Bool, true, false, cond, refl, sym, ap, ◌∙◌}
 use Rattle.std.specs.Option.{option_or}
 use Rattle.std.specs.Prelude.{bytes_eq, codes, find, option_map}
 use Rattle.form_urlencoded.specs.Form.{DecodesTo, raw_pairs}
@@ -70,14 +70,3 @@ joined-first name value key text old new values left rest is decodes shows kept 
 or_none : (o : Option (List ℕ)) → option_or o None ≡ o
 or_none None = refl
 or_none (Some x) = refl
-
-pub joined-all : (values : Values) (left : Pairs) → left ≡ [] → joined values left ≡ values
-joined-all values left is = rw is (rw (
-  or_none values.namespace,
-  or_none values.filter,
-  or_none values.per_page,
-  or_none values.next_token,
-  or_none values.index,
-  or_none values.prefix,
-  or_none values.purge,
-) refl)

@@ -6,6 +6,7 @@ use Rattle.std.proofs.lemmas.Bool.{eqb-true, eqb-false}
 use Rattle.std.proofs.lemmas.Bool.Decides.{nat_tests}
 use Rattle.matchit.specs.Rows.{RowsOf, param_token, catch_all_token}
 use Rattle.matchit.specs.Seek.{own, step, or_else, seek, param_step, has_slash, slash, segment, better, cuts, longest_from, with_suffix, same_text}
+use Rattle.std.proofs.Math.Bool.{and-false}
 
 -- ---- the first segment of a text
 
@@ -184,15 +185,11 @@ no_slash (y ∷ ys) h =
       | false ↦ λ e. refl
     ] refl
 
-and_false : (b : Bool) → (b && false) ≡ false
-and_false true = refl
-and_false false = refl
-
 cuts-plain : (p : List ℕ) → has_slash p ≡ false → cuts p (slash ∷ []) ≡ false
 cuts-plain p h =
     subst (λ v. (ltb 1 (length p) && v) ≡ false)
     (sym (no_slash (drop (length p - 1) p) (has_slash-drop p (length p - 1) h)))
-    (and_false (ltb 1 (length p)))
+    (and-false (ltb 1 (length p)))
 
 cuts-cut : (part : List ℕ) → 0 < length part → cuts (part ++ slash ∷ []) (slash ∷ []) ≡ true
 cuts-cut part some =

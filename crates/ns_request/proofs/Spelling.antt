@@ -1,5 +1,5 @@
 -- What a path spells, by its segments and by the tokens of a route.
-use Rattle.std.proofs.Common.{◌≡◌, ◌⊎◌, inl, inr, ℕ, ◌<◌, List, [], ◌∷◌, ◌++◌, length, Bool, true, false, ◌&&◌, ◌||◌, not, cond, ltb, eqb, MatchBool, refl, sym}
+use Rattle.std.proofs.Common.{◌≡◌, inl, inr, ℕ, ◌<◌, List, [], ◌∷◌, ◌++◌, length, Bool, true, false, ◌&&◌, ◌||◌, not, cond, ltb, eqb, MatchBool, refl, sym}
 use Rattle.std.proofs.Common.{ap, subst, ◌∙◌, arith}
 use Rattle.std.proofs.lemmas.Bool.{eqb-true}
 use Rattle.std.proofs.lemmas.Bool.Decides.{nat_tests}
@@ -12,6 +12,8 @@ use Rattle.matchit.specs.Seek.{has_slash}
 use Rattle.ns_request.specs.Parts.{slash, segments_of}
 use Rattle.ns_request.specs.Endpoints.{fits}
 use Rattle.ns_request.proofs.Seeking.{Cuts, plain, cut, cuts_of, Matches, Opens, IsWhole, matches-byte, matches-part, append_nil}
+use Rattle.ns_types.proofs.Tests.{either_of, is_no}
+use Rattle.ns_types.proofs.Named.{second_of_both}
 
 pub and_true : (a b : Bool) → (a && b) ≡ true → (a ≡ true) × (b ≡ true)
 and_true true b h = (refl, h)
@@ -47,16 +49,12 @@ abbrev pub are_plain : List (List ℕ) → Bool
 are_plain [] = true
 are_plain (word ∷ words) = is_plain word && are_plain words
 
-not_true : (b : Bool) → not b ≡ true → b ≡ false
-not_true true h = sym h
-not_true false h = refl
-
 has_slash-plain : (word : List ℕ) → is_plain word ≡ true → has_slash word ≡ false
 has_slash-plain [] h = refl
 has_slash-plain (b ∷ word) h =
     let p = and_true (ltb b 256) (not (eqb b slash) && is_plain word) h in
     let q = and_true (not (eqb b slash)) (is_plain word) p.1 in
-    subst (λ v. cond v true (has_slash word) ≡ false) (sym (not_true (eqb b slash) q.0)) (has_slash-plain word q.1)
+    subst (λ v. cond v true (has_slash word) ≡ false) (sym (is_no (eqb b slash) q.0)) (has_slash-plain word q.1)
 
 -- ---- one segment
 
@@ -138,9 +136,6 @@ nil-spelled path h = by (cuts_of path)
     by (plain p) = true_false (sym (subst (λ s. pointwise fits [] s ≡ true) (segments-plain path p) h))
     by (cut part rest q p) = true_false (sym (subst (λ s. pointwise fits [] s ≡ true) (ap (λ x. segments_of x) q ∙ segments-cut part rest p) h))
 
-and_nil : (a b : Bool) → (a && b) ≡ true → b ≡ true
-and_nil a b h = (and_true a b h).1
-
 spelled-plain : (word : List ℕ) (words : List (List ℕ)) (path : List ℕ) → has_slash path ≡ false → Spelled (word ∷ words) path →
     Matches (tokens_of (word ∷ words)) path
 spelled-plain word [] path p h =
@@ -148,7 +143,7 @@ spelled-plain word [] path p h =
     subst (λ x. Matches (token_of word ++ []) x) (sym (append_nil path)) (fits-matches word path [] [] (and_true (fits word path) true s).0 p refl)
 spelled-plain word (next ∷ words) path p h =
     let s = subst (λ x. pointwise fits (word ∷ next ∷ words) x ≡ true) (segments-plain path p) h in
-    absurd (true_false (sym (and_nil (fits word path) false s)))
+    absurd (true_false (sym (second_of_both (fits word path) false s)))
 
 spelled-cut : (word next : List ℕ) (words : List (List ℕ)) (part rest : List ℕ) → has_slash part ≡ false → fits word part ≡ true
     → Matches (tokens_of (next ∷ words)) rest → Matches (tokens_of (word ∷ next ∷ words)) (part ++ slash ∷ rest)
@@ -244,11 +239,7 @@ differ (v ∷ vs) (w ∷ ws) = (is_word v && (is_word w && not (bytes_eq v w))) 
 fits-word : (word segment : List ℕ) → is_word word ≡ true → fits word segment ≡ true → segment ≡ word
 fits-word [] segment w f = nil_from_zero segment f
 fits-word (b ∷ word) segment w f =
-    (bytes_eq-Decides segment (b ∷ word)).0 (subst (λ v. cond v (ltb 0 (length segment)) (bytes_eq segment (b ∷ word)) ≡ true) (not_true (eqb b 123) w) f)
-
-or_true : (a b : Bool) → (a || b) ≡ true → (a ≡ true) ⊎ (b ≡ true)
-or_true true b h = inl refl
-or_true false b h = inr h
+    (bytes_eq-Decides segment (b ∷ word)).0 (subst (λ v. cond v (ltb 0 (length segment)) (bytes_eq segment (b ∷ word)) ≡ true) (is_no (eqb b 123) w) f)
 
 pub differ-spelled : (vs ws segments : List (List ℕ)) → differ vs ws ≡ true → pointwise fits vs segments ≡ true → pointwise fits ws segments ≡ true → ⊥
 differ-spelled [] [] segments d f g = true_false (sym d)
@@ -260,11 +251,11 @@ differ-spelled (v ∷ vs) (w ∷ ws) [] d f g = true_false (sym f)
 differ-spelled (v ∷ vs) (w ∷ ws) (s ∷ segments) d f g =
     let p = and_true (fits v s) (pointwise fits vs segments) f in
     let q = and_true (fits w s) (pointwise fits ws segments) g in
-    elim (or_true (is_word v && (is_word w && not (bytes_eq v w))) (differ vs ws) d) [
+    elim (either_of (is_word v && (is_word w && not (bytes_eq v w))) (differ vs ws) d) [
       | inl here ↦
           let a = and_true (is_word v) (is_word w && not (bytes_eq v w)) here in
           let b = and_true (is_word w) (not (bytes_eq v w)) a.1 in
           let same : v ≡ w = sym (fits-word v s a.0 p.0) ∙ fits-word w s b.0 q.0 in
-          true_false (sym ((bytes_eq-Decides v w).1 same) ∙ not_true (bytes_eq v w) b.1)
+          true_false (sym ((bytes_eq-Decides v w).1 same) ∙ is_no (bytes_eq v w) b.1)
       | inr later ↦ differ-spelled vs ws segments later p.1 q.1
     ]

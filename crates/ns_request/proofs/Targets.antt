@@ -7,9 +7,8 @@ use Rattle.std.specs.Prelude.{is_some, option_map}
 use Rattle.std.specs.Str.{is_utf8}
 use Rattle.std.specs.Option.{option_or}
 use Rattle.std.specs.Prelude.{unwrap_or, bytes_eq, codes, if◌then◌else◌}
-use Rattle.std.proofs.lemmas.List.Folds.{list_all_at, list_all_more, list_any_more}
+use Rattle.std.proofs.lemmas.List.Folds.{list_all_more, list_any_more}
 use Rattle.std.proofs.lemmas.List.{take_more}
-use Rattle.ns_request.specs.Endpoints.{parts_of}
 use Rattle.uuid.specs.Text.{parsed}
 use Rattle.ns_types.specs.State.Id.{uuid_number}
 use Rattle.ns_request.proofs.Spelling.{and_true}
@@ -24,7 +23,7 @@ use Rattle.ns_request.specs.Judging.{judged, named_in, part_of, second_with}
 use Rattle.ns_request.specs.Methods.{method_of}
 use Rattle.ns_request.specs.Parts.{is_good, is_part, segment_at}
 use Rattle.ns_request.specs.Targets.{first_text, first_text_in, has_good_parts, is_every_pool, is_placed_part, is_pool}
-use Rattle.ns_request.specs.Targets.{names_every_pool, path_in, query_in, second_text, second_text_in, text_at}
+use Rattle.ns_request.specs.Targets.{names_every_pool, path_in, query_in, second_text, text_at}
 
 -- a part that has a text
 some_part : (part : Part) (segment text : List ℕ) → part_of part segment ≡ Some text →
@@ -34,13 +33,6 @@ some_part part segment text is = by (is_part part segment) is
     by : (b : Bool) → (if b then Some (percent_decode segment) else None) ≡ Some text → (b ≡ true) × (text ≡ percent_decode segment)
     by true e = (refl, cc)
     by false e = let bad : ⊥ = cc in absurd bad
-
-refused_part : (part : Part) (segment : List ℕ) → part_of part segment ≡ None → is_part part segment ≡ false
-refused_part part segment is = by (is_part part segment) is
-  where
-    by : (b : Bool) → (if b then Some (percent_decode segment) else None) ≡ None → b ≡ false
-    by true e = let bad : ⊥ = cc in absurd bad
-    by false e = refl
 
 -- ---- one part more
 
@@ -100,33 +92,6 @@ says_more parts i default path segment text shown found first second every_pool 
 first_text-first_of : (parts : List Placed) (path : List ℕ) → first_text_in parts path ≡ unwrap_or (first_of parts path) []
 first_text-first_of [] path = refl
 first_text-first_of (part ∷ parts) path = refl
-
-second_text-second_of : (parts : List Placed) (path : List ℕ) → second_text_in parts path ≡ unwrap_or (second_of parts path) []
-second_text-second_of [] path = refl
-second_text-second_of (part ∷ parts) path = first_text-first_of parts path
-
-pub says_all : (endpoint : Endpoint) (parts taken : List Placed) (path name node : List ℕ) (first second : Option (List ℕ)) (every_pool : Bool) →
-    parts ≡ parts_of endpoint → taken ≡ parts → Says taken path first second every_pool → name ≡ unwrap_or first [] → node ≡ unwrap_or second [] →
-    Some (record { first = name; second = node; every_pool = every_pool }) ≡ named_in endpoint path
-says_all endpoint parts taken path name node first second every_pool same all says name_is node_is =
-    let is : taken ≡ parts_of endpoint = all ∙ same in
-    let good : has_good_parts endpoint path ≡ true = subst (λ l. list_all (is_placed_part path) l ≡ true) is says.good in
-    let every : every_pool ≡ names_every_pool endpoint path = subst (λ l. every_pool ≡ list_any (is_every_pool path) l) is says.every_pool_is in
-    let text : name ≡ first_text endpoint path =
-    name_is ∙ ap (λ o. unwrap_or o []) says.first_is ∙ sym (first_text-first_of taken path) ∙ ap (λ l. first_text_in l path) is in
-    let second_is : node ≡ second_text endpoint path =
-    node_is ∙ ap (λ o. unwrap_or o []) says.second_is ∙ sym (second_text-second_of taken path) ∙ ap (λ l. second_text_in l path) is in
-    rw (good, text, second_is, every) refl
-
--- one that does not follow its rule
-pub says_none : (endpoint : Endpoint) (parts : List Placed) (i : ℕ) (default : Placed) (path : List ℕ) →
-    parts ≡ parts_of endpoint → i < length parts →
-    part_of (get_or parts i default).part (segment_at (get_or parts i default).place path) ≡ None → None ≡ named_in endpoint path
-says_none endpoint parts i default path same within is =
-    let placed = get_or parts i default in
-    let bad : has_good_parts endpoint path ≡ false = subst (λ l. list_all (is_placed_part path) l ≡ false) same
-    (list_all_at (is_placed_part path) parts i default within (refused_part placed.part (segment_at placed.place path) is)) in
-    rw bad refl
 
 -- ---- what is found by the parts
 

@@ -15,7 +15,7 @@ use Rattle.ns_types.specs.Asking.Admins.{put_namespace, delete_namespace, put_qu
 use Rattle.ns_types.specs.Settling.Making.{put_tenant}
 use Rattle.ns_types.specs.State.Names.{Name, name_cmp, same_name, has_key}
 use Rattle.ns_types.specs.Settling.Outcome.{Outcome, NotEnabled, Refused, Done, lift}
-use Rattle.ns_types.specs.State.Rows.{State, World, Acl, Tenant, is_open}
+use Rattle.ns_types.specs.State.Rows.{State, World, Acl, Tenant, is_open, is_live}
 use Rattle.ns_types.specs.Access.Sharing.{permits}
 use Rattle.ns_types.proofs.Lists.{not_both, left_none, right_none}
 use Rattle.ns_types.proofs.Named.{names, one_name, one_number, same_name_is}
@@ -23,7 +23,7 @@ use Rattle.ns_types.proofs.Tables.{none_of_any}
 use Rattle.ns_types.proofs.Tests.{not_Some, same_Some}
 use Rattle.ns_types.proofs.TableRows.{row_of_insert}
 use Rattle.ns_audit.specs.Orderly.{IsAllowedTo, IsOrderlyTenant, IsReadyIn, IsBlockedIn, IsListed, IsOrderly}
-use Rattle.ns_audit.proofs.Steady.Keeping.{put_orderly}
+use Rattle.ns_audit.proofs.Steady.Keeping.{KeepsTenant, put_orderly}
 use Rattle.ns_audit.proofs.Steady.Asks.{KeepsOrder}
 use Rattle.ns_types.proofs.Leads.{Leads, leads_unless, leads_found}
 use Rattle.ns_audit.proofs.Steady.Resting.{same_orderly}
@@ -78,6 +78,31 @@ module _ (ns : Name) (ready blocked : ℕ → Bool) (t : Tenant) (s : IsOrderlyT
             at);
         its_quota = λ q is. quota_still n e at open_ q (a.its_quota q is);
       }
+
+  renamed_keeps : KeepsTenant ns ready blocked t (record t { namespace = new })
+  renamed_keeps = record {
+    sound = record {
+      job = λ id j at. still j.document.pool (s.job id j at)
+          (none_of_any one_name (λ _ job. is_withdrawn t.namespace new job.document.pool) t.jobs id j (left_none _ _ (left_none _ _ unlooked)) at);
+      evaluation = evaluation_still;
+      allocation = λ n a at live. still a.pool (s.allocation n a at live) (ap (λ b. b && is_withdrawn t.namespace new a.pool) (sym live) ∙
+          none_of_any one_number (λ _ a. is_live a && is_withdrawn t.namespace new a.pool) t.allocations n a (right_none _ _ unused) at);
+      snapshot = λ n worker kept at has.
+          let k = s.snapshot n worker kept at has in
+          let p = s.held n worker at in record {
+            namespace = k.namespace;
+            allowed = record {
+              permitted = still kept.pool k.allowed.permitted (kept_still n worker kept at has);
+              its_quota = λ q is. quota_still worker.evaluation p.row p.is_row (ap is_open p.is_pending) q (k.allowed.its_quota q is);
+            };
+          };
+      held = λ n worker at. let p = s.held n worker at in record { row = p.row; is_row = p.is_row; is_pending = p.is_pending };
+      one_each = s.one_each;
+      numbers = s.numbers;
+    };
+    ready_kept = λ n has r. record { pending = record { row = r.pending.row; is_row = r.pending.is_row; is_pending = r.pending.is_pending }; free = r.free };
+    blocked_kept = λ n has b. record { row = b.row; is_row = b.is_row; is_blocked = b.is_blocked };
+  }
 
 -- ---- a new namespace, and one that goes
 

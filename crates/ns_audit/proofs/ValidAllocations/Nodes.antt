@@ -207,6 +207,14 @@ module _ (pool name : Name) where
       by true = record { row = a; is_row = at; same = refl; live = λ live. not_both live (dead a) }
       by false = record { row = a; is_row = at; same = refl; live = λ live. live }
 
+  lose_goes : (t : Tenant) → Goes t (record t { allocations = map_rows (λ _ a. lost pool name a) t.allocations })
+  lose_goes t = record {
+    lasts = record { namespace = refl; index = refl; evaluations = itself t.evaluation_number };
+    number = itself t.allocation_number;
+    row = λ n b at. let y = row_of_map numbers_ one_number (λ _ a. lost pool name a) t.allocations n b at in
+        subst (GoesRow t.allocations n) y.2 (lost_row t n y.0 y.1);
+  }
+
   lose_continues : (w : World) → Continues w (lose pool name w)
   lose_continues w = record {
     goes = onward_map Goes goes_still w (λ _ t. record t { allocations = map_rows (λ _ a. lost pool name a) t.allocations })

@@ -1,5 +1,5 @@
 -- Worlds whose allocations come from those of another world, and are as sound.
-use Rattle.std.specs.Prelude.{◌≡◌, ℕ, ◌≤◌, true, cond, Option, Some, None, ◌&&◌, IsTrue, nat_le, is_some}
+use Rattle.std.specs.Prelude.{◌≡◌, ℕ, ◌≤◌, Bool, true, false, cond, Option, Some, None, ◌&&◌, IsTrue, nat_le, is_some}
 use Rattle.std.proofs.Common.{refl, sym, ap, subst, ◌∙◌, arith}
 use Rattle.std.specs.FinMap.{get, contains_key}
 use Rattle.std.specs.Option.{option_map_or, option_and_then}
@@ -9,7 +9,7 @@ use Rattle.ns_types.specs.declared.node.Node.{Node}
 use Rattle.ns_types.specs.declared.resources.Resources.{Resources}
 use Rattle.ns_types.specs.State.Limits.{is_between, is_pool_name}
 use Rattle.ns_types.specs.State.Name.{is_name}
-use Rattle.ns_types.specs.State.Names.{Name, Key}
+use Rattle.ns_types.specs.State.Names.{Name, Key, same_name}
 use Rattle.ns_types.specs.State.Resources.{is_within}
 use Rattle.ns_types.specs.State.Rows.{World, Tenant, PoolRows, is_live, is_live_on, is_ready, allocation_at, node_at}
 use Rattle.ns_types.specs.Access.Sharing.{permits}
@@ -19,7 +19,7 @@ use Rattle.ns_types.proofs.Named.{names, one_name, numbers as numbers_, one_numb
 use Rattle.std.specs.Cmp.Derive.{both_true}
 use Rattle.ns_types.proofs.Tests.{not_Some, same_Some}
 use Rattle.ns_audit.proofs.ValidAllocations.Statement.{IsAllocated}
-use Rattle.ns_audit.proofs.ValidAllocations.Sums.{sum_below, sum_none}
+use Rattle.ns_audit.proofs.ValidAllocations.Sums.{zero_le, sum_below, sum_none}
 
 -- ---- numbers
 
@@ -121,6 +121,19 @@ NodesHold w x = (pool name : Name) (node : Node) → node_at x pool name ≡ Som
 -- ---- what nodes carry
 
 module _ (w x : World) (from : IsFrom w x) (pool name : Name) (amount : Resources → ℕ) where
+  row_below : (b row : Allocation) → b ≡ record row { desired = b.desired; client = b.client; create_index = b.create_index; modify_index = b.modify_index } →
+      (is_live b ≡ true → is_live row ≡ true)
+      → cond (is_live_on pool name b) (amount b.size) 0 ≤ cond (is_live_on pool name row) (amount row.size) 0
+  row_below b row same live = by (is_live_on pool name b) refl
+    where
+      on : is_live_on pool name b ≡ true → is_live_on pool name row ≡ true
+      on e = both_true (live (first_of_both (is_live b) _ e)) ((λ i. same_name pool (sym same i).pool && same_name name (sym same i).node) ∙
+          second_of_both (is_live b) _ e)
+
+      by : (c : Bool) → is_live_on pool name b ≡ c → cond c (amount b.size) 0 ≤ cond (is_live_on pool name row) (amount row.size) 0
+      by false _ = zero_le _
+      by true e = subst (λ c. amount b.size ≤ cond c (amount row.size) 0) (sym (on e)) (le_same _ _ (ap (λ (a : Allocation). amount a.size) same))
+
   tenant_below : (ns : Name) (t : Tenant) → get x.tenants ns ≡ Some t →
       tenant_sum (is_live_on pool name) amount t ≤ option_map_or (tenant_sum (is_live_on pool name) amount) (get w.tenants ns) 0
   tenant_below ns t is = by (get w.tenants ns) refl

@@ -1,6 +1,7 @@
 -- What is asked of a pool keeps records sound.
 use Rattle.std.specs.Prelude.{◌≡◌, ◌≤◌, Bool, true, false, cond, not, Option, Some, None, ◌&&◌, nat_le}
 use Rattle.std.proofs.Common.{◌⊎◌, inl, inr, refl, sym, subst}
+use Rattle.std.proofs.Math.Nat.{le_trans}
 use Rattle.std.specs.FinMap.{get, contains_key, insert, len, remove}
 use Rattle.std.specs.Option.{option_map_or}
 use Rattle.ns_types.specs.declared.allocation.Allocation.{Allocation}
@@ -24,12 +25,12 @@ use Rattle.ns_types.specs.State.Tables.{map_rows}
 use Rattle.ns_types.specs.State.Limits.{IsInOrder}
 use Rattle.ns_types.specs.Asking.Good.{IsGoodTelling}
 use Rattle.ns_types.proofs.Named.{names, one_name, first_of_both, second_of_both}
-use Rattle.ns_types.proofs.TableRows.{row_of_insert}
+use Rattle.ns_types.proofs.TableRows.{row_of_insert, row_of_remove}
 use Rattle.ns_audit.proofs.ValidRecords.Statement.{IsGoodNode, IsGoodPool}
 use Rattle.ns_types.proofs.Leads.{Leads, leads_unless, leads_found, leads_if}
 use Rattle.ns_audit.proofs.Alone.Recording.{record_kept}
 use Rattle.ns_audit.proofs.ValidRecords.Sound.{kept_of, IsRecorded, IsNear, near_same, near_pool, near_first}
-use Rattle.ns_audit.proofs.ValidRecords.Tables.{len_put, len_room}
+use Rattle.ns_audit.proofs.ValidRecords.Tables.{len_put, len_removed, len_room}
 use Rattle.ns_audit.proofs.ValidRecords.Frames.{kept_client, near_change, near_make, near_each}
 
 -- ---- a pool
@@ -56,6 +57,16 @@ module _ (name : Name) (p : PoolRows) (g : IsGoodPool name p) where
       let x = g.node n old is in
       with_node_good n node (subst (λ k. k ≤ most_nodes) (sym (len_put p.nodes n node old is)) g.few_nodes)
       (record { named = x.named; good = subst (λ offer. is_good_offer offer ≡ true) (sym same) x.good; in_order = subst IsInOrder (sym same) x.in_order })
+
+  removed_good : (n : Name) → IsGoodPool name (record p { nodes = remove p.nodes n })
+  removed_good n = record {
+    named = g.named;
+    described = g.described;
+    few_nodes = le_trans (len_removed p.nodes n) g.few_nodes;
+    node =
+        λ k x at. g.node k x (row_of_remove p.nodes n k x at);
+    classes = g.classes;
+  }
 
   offered_good : (n : Name) (offer : Offer) → (not (contains_key p.nodes n) && nat_le most_nodes (len p.nodes)) ≡ false → is_name NameKind.Node n ≡ true →
       is_good_offer offer ≡ true → IsInOrder offer

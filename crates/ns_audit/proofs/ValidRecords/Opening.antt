@@ -1,20 +1,22 @@
 -- What administrators and registrations write is sound in the state in which the server begins.
-use Rattle.std.specs.Prelude.{◌≡◌, ◌≤◌, true, not, [], Some, ◌&&◌, is_some, nat_le}
+use Rattle.std.specs.Prelude.{◌≡◌, ◌≤◌, true, not, List, [], ◌∷◌, map, Some, ◌&&◌, is_some, nat_le}
 use Rattle.std.proofs.Common.{◌⊎◌, inl, inr, refl, sym, ap, subst, ◌∙◌, arith}
-use Rattle.std.specs.FinMap.{get, get-empty, contains_key, empty, insert, len, len-empty}
+use Rattle.std.specs.FinMap.{get, get-empty, contains_key, empty, entries, insert, len, len-empty, values}
 use Rattle.ns_types.specs.declared.acl.Policy.{Policy}
 use Rattle.ns_types.specs.declared.acl.Token.{Token}
 use Rattle.ns_types.specs.declared.acl.TokenKind.TheVariants as TokenKind
 use Rattle.ns_types.specs.declared.name.NameKind.TheVariants as NameKind
 use Rattle.ns_types.specs.Asking.Policies.{bootstrap_accessor}
 use Rattle.ns_types.specs.Asking.Admins.{most_rows}
-use Rattle.ns_types.specs.State.Limits.{is_good_token}
+use Rattle.ns_types.specs.State.Limits.{is_distinct, is_good_token}
+use Rattle.ns_types.specs.State.Lists.{Each}
 use Rattle.ns_types.specs.State.Name.{is_name}
 use Rattle.ns_types.specs.State.Names.{Name, name_cmp, same_name, default_name}
 use Rattle.ns_types.specs.State.Rows.{Tenant, QuotaRows}
 use Rattle.ns_types.specs.Steps.{opening_tenant, opening_pool, opening_world, opening_acl, opening}
 use Rattle.ns_types.specs.Validity.{IsSoundAcl}
 use Rattle.ns_types.proofs.Named.{names, one_name, same_name_refl}
+use Rattle.ns_types.proofs.Tables.{each_row}
 use Rattle.ns_types.proofs.Tests.{not_Some}
 use Rattle.ns_types.proofs.TableRows.{row_of_insert}
 use Rattle.ns_audit.proofs.ValidRecords.Statement.{IsGoodPool, RecordsOpening}
@@ -49,6 +51,13 @@ module _ {X : Type 0} where
       by (inr none) = none_yet q x none
 
 -- ---- the access lists
+
+none_distinct : is_distinct same_name (map (λ (x : Token). x.accessor) (values (empty {X = Token} {R = name_cmp}))) ≡ true
+none_distinct = by (entries (empty {X = Token} {R = name_cmp})) (each_row names one_name (λ _ _. ⊥) empty (λ k x is. none_yet k x is))
+  where
+    by : (es : List (Name × Token)) → Each (λ _. ⊥) es → is_distinct same_name (map (λ (x : Token). x.accessor) (map (λ e. e.1) es)) ≡ true
+    by [] h = refl
+    by (e ∷ es) h = absurd h.0
 
 abbrev first_token : Token
 first_token = record { accessor = bootstrap_accessor; name = []; kind = TokenKind.Management; policies = [] }

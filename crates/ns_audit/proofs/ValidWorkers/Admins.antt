@@ -12,7 +12,7 @@ use Rattle.ns_types.specs.declared.snapshot.Snapshot.{Snapshot}
 use Rattle.ns_types.specs.declared.step.AdminCommand.{AdminCommand}
 use Rattle.ns_types.specs.Working.Worker.{Worker}
 use Rattle.ns_types.specs.Asking.Policies.{with_world, with_acl, administer}
-use Rattle.ns_types.specs.Asking.Admins.{new_tenant, with_namespace, put_namespace, delete_namespace, with_quota, put_quota, delete_quota, read_quota}
+use Rattle.ns_types.specs.Asking.Admins.{has_open, new_tenant, with_namespace, put_namespace, delete_namespace, with_quota, put_quota, delete_quota, read_quota}
 use Rattle.ns_types.specs.Asking.Admins.{with_pool, put_pool_record, names_pool, looks_to_pool, is_pool_in_use, delete_pool}
 use Rattle.ns_types.specs.Settling.Making.{put_tenant}
 use Rattle.ns_types.specs.State.Names.{Name, name_cmp, same_name}
@@ -105,6 +105,24 @@ module _ (w : World) (s : IsSound w) (q : IsQueued w) where
         there = λ n b. absurd (idle k n e.0 b);
         one_busy = λ m n d c bm bn dm cn same. absurd (idle k m e.0 bm);
       })
+
+  removed_well : (ns : Name) (t : Tenant) → get w.tenants ns ≡ Some t → has_open t ≡ false → IsWell w (record w { tenants = remove w.tenants ns })
+  removed_well ns t is none = stays_well x (record {
+    came = λ k u n worker at has. record { tenant = u; is_tenant = was k u at; is_worker = has; row = refl };
+    goes = λ k u n worker at has. (u, get-remove names w.tenants ns k ∙ there k u n worker at has (same_name k ns) refl, has);
+    plans = refl;
+    looks = λ k u n worker kept at has keeps. looks_same w x refl refl kept;
+  }) (record { tenant = λ k u at. q.tenant k u (was k u at); once = q.once })
+    where
+      x : World
+      x = record w { tenants = remove w.tenants ns }
+
+      left : (k : Name) (u : Tenant) (b : Bool) → cond b None (get w.tenants k) ≡ Some u → get w.tenants k ≡ Some u
+      left k u true at = absurd (not_Some _ at)
+      left k u false at = at
+
+      was : (k : Name) (u : Tenant) → get (remove w.tenants ns) k ≡ Some u → get w.tenants k ≡ Some u
+      was k u at = left k u (eq_by_cmp name_cmp k ns) (sym (get-remove names w.tenants ns k) ∙ at)
 
       -- a worker's evaluation is open
       there : (k : Name) (u : Tenant) (n : ℕ) (worker : Worker) → get w.tenants k ≡ Some u → get u.workers n ≡ Some worker → (b : Bool) → same_name k ns ≡ b →

@@ -21,19 +21,19 @@ use Rattle.ns_types.specs.Working.Work.{without_worker, without_key, end_of, nee
 use Rattle.ns_types.specs.Working.Work.{with_follower, followed, may_finish_in, may_finish, finished, finish_for, finish, is_submitted, most_nacks, with_nack}
 use Rattle.ns_types.specs.Working.Work.{given_back, given_up, nack_for, nack}
 use Rattle.ns_types.proofs.Lists.{not_both}
-use Rattle.ns_types.proofs.Named.{names, one_name, numbers as numbers_, one_number, same_number_refl}
+use Rattle.ns_types.proofs.Named.{names, one_name, numbers as numbers_, one_number, same_number_refl, same_key_is}
 use Rattle.ns_types.proofs.Tables.{tied}
 use Rattle.ns_types.proofs.Tests.{same_Some}
 use Rattle.ns_types.proofs.TableRows.{row_of_insert}
-use Rattle.ns_audit.proofs.Steady.Keeping.{at_inserted, elsewhere}
+use Rattle.ns_audit.proofs.Steady.Keeping.{at_inserted, elsewhere, has_key_append}
 use Rattle.ns_audit.proofs.Steady.Finish.{blocked_row}
 use Rattle.ns_audit.proofs.Steady.Work.{removed_row, pending_not_blocked}
 use Rattle.ns_types.proofs.Leads.{leads_if}
 use Rattle.ns_audit.proofs.Alone.Owning.{orderly}
 use Rattle.ns_audit.proofs.ValidWorkers.Admins.{IsWell, KeepsStaff}
 use Rattle.ns_audit.proofs.ValidWorkers.Busy.{HasWorker, IsBusyIn, IsNumbered, IsQueuedIn, IsQueued, KeepsJobs, queued_in, worker_of_remove, promote_queued}
-use Rattle.ns_audit.proofs.ValidWorkers.Change.{left_row, reworked, was_here, free_here, working_staff, keeping_staff}
-use Rattle.ns_audit.proofs.ValidWorkers.Once.{is_once}
+use Rattle.ns_audit.proofs.ValidWorkers.Change.{row_apart, left_row, reworked, was_here, free_here, working_staff, keeping_staff}
+use Rattle.ns_audit.proofs.ValidWorkers.Once.{is_once, once_append}
 use Rattle.ns_audit.proofs.ValidWorkers.Quiet.{grows_with_evaluation, held_at_first}
 use Rattle.ns_audit.proofs.ValidWorkers.Settle.{queued_same}
 use Rattle.ns_audit.proofs.ValidWorkers.Staff.{sound_staffed}
@@ -221,6 +221,37 @@ module _ (w : World) (s : IsSound w) (q : IsQueued w) (ns : Name) (number : ℕ)
       by k v (inl e) = subst (λ v. IsQueuedIn y.ready k v) e.1
           (subst (λ k. IsQueuedIn y.ready k u) (sym e.0)
           (queued_in w.ready y.ready ns t u (q.tenant ns t is) (ends.numbered numbered) busy (ends.jobs numbered)))
+
+  -- its evaluation is ready again
+  back_queued : IsQueued (record (put_tenant ns u w) { ready = w.ready ++ (ns, worker.evaluation) ∷ [] })
+  back_queued = record {
+    tenant = λ k v k_is. by k v (row_apart names one_name w.tenants ns u k v k_is);
+    once = once_append w.ready (ns, worker.evaluation) q.once ((s.tenant ns t is).worker number worker has).not_ready;
+  }
+    where
+      more : List Key
+      more = w.ready ++ (ns, worker.evaluation) ∷ []
+
+      mine : (m : ℕ) → (has_key w.ready (ns, m) ≡ true) ⊎ (same_key (ns, m) (ns, worker.evaluation) ≡ true) → IsBusyIn w.ready ns t.workers m
+      mine m (inl old) = inl old
+      mine m (inr new) = inr (record { number = number; worker = worker; is_worker = has; same = sym (same_key_is (ns, m) (ns, worker.evaluation) new).1 })
+
+      busy : (m : ℕ) → IsBusyIn more ns u.workers m → IsBusyIn w.ready ns t.workers m
+      busy m (inl listed) = mine m (has_key_append w.ready (ns, worker.evaluation) (ns, m) listed)
+      busy m (inr h) = inr (fewer m h)
+
+      other : (k : Name) → k ≢ ns → (m : ℕ) → (has_key w.ready (k, m) ≡ true) ⊎ (same_key (k, m) (ns, worker.evaluation) ≡ true) → has_key w.ready (k, m) ≡ true
+      other k differs m (inl old) = old
+      other k differs m (inr new) = absurd (differs (same_key_is (k, m) (ns, worker.evaluation) new).0)
+
+      busy_other : (k : Name) (v : Tenant) → k ≢ ns → (m : ℕ) → IsBusyIn more k v.workers m → IsBusyIn w.ready k v.workers m
+      busy_other k v differs m (inl listed) = inl (other k differs m (has_key_append w.ready (ns, worker.evaluation) (k, m) listed))
+      busy_other k v differs m (inr h) = inr h
+
+      by : (k : Name) (v : Tenant) → ((k ≡ ns) × (u ≡ v)) ⊎ ((get w.tenants k ≡ Some v) × (k ≢ ns)) → IsQueuedIn more k v
+      by k v (inr at) = queued_in w.ready more k v v (q.tenant k v at.0) (q.tenant k v at.0).numbered (busy_other k v at.1) (λ m e e_at. (e, e_at, refl))
+      by k v (inl e) = subst (λ v. IsQueuedIn more k v) e.1
+          (subst (λ k. IsQueuedIn more k u) (sym e.0) (queued_in w.ready more ns t u (q.tenant ns t is) (ends.numbered numbered) busy (ends.jobs numbered)))
 
 -- ---- Nack
 

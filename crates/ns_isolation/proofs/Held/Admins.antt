@@ -1,7 +1,7 @@
 -- What administrators ask leaves allocations with their clients, or takes a namespace with all that it has.
-use Rattle.std.specs.Prelude.{◌≡◌, Option, Some, None}
+use Rattle.std.specs.Prelude.{◌≡◌, Bool, true, false, cond, Option, Some, None}
 use Rattle.std.proofs.Common.{◌⊎◌, inl, inr, refl, sym, ap, ◌∙◌}
-use Rattle.std.specs.FinMap.{get, get-empty}
+use Rattle.std.specs.FinMap.{get, get-empty, get-remove, remove}
 use Rattle.std.specs.Ordering.{nat_cmp}
 use Rattle.ns_types.specs.declared.records.Namespace.{Namespace}
 use Rattle.ns_types.specs.declared.step.AdminCommand.{AdminCommand}
@@ -10,7 +10,7 @@ use Rattle.ns_types.specs.Asking.Admins.{delete_pool}
 use Rattle.ns_types.specs.Asking.Policies.{with_world, with_acl, administer}
 use Rattle.ns_types.specs.Settling.Making.{put_tenant}
 use Rattle.ns_types.specs.Settling.Outcome.{Outcome, lift}
-use Rattle.ns_types.specs.State.Names.{Name}
+use Rattle.ns_types.specs.State.Names.{Name, same_name}
 use Rattle.ns_types.specs.State.Rows.{State, World, Acl, Tenant}
 use Rattle.ns_types.proofs.Leads.{Leads, leads_unless, leads_found, leads_lift, leads_whole}
 use Rattle.ns_types.proofs.Named.{names, one_name}
@@ -41,6 +41,13 @@ module _ (w : World) (name : Name) where
   namespace_put namespace = leads_unless (Holds w) _ _ _
       (λ _. leads_unless (Holds w) _ _ _ (λ _. leads_unless (Holds w) _ _ _
       (λ _. leads_unless (Holds w) _ _ _ (λ _. leads_unless (Holds w) _ _ _ (λ _. put_holds namespace (get w.tenants name) refl)))))
+
+  gone_holds : Holds w (record w { tenants = remove w.tenants name })
+  gone_holds ns t n b is at held dead = by (same_name ns name) (sym (get-remove names w.tenants name ns) ∙ is)
+    where
+      by : (c : Bool) → cond c None (get w.tenants ns) ≡ Some t → WasHeld w ns n b.pool
+      by true gone = absurd (not_Some _ gone)
+      by false was = record { tenant = t; is_tenant = was; row = b; is_row = at; held = held; same = refl }
 
   namespace_deleted : Leads (Holds w) (delete_namespace name w)
   unfolding delete_namespace

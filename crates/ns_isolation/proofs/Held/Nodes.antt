@@ -1,5 +1,5 @@
 -- What is asked of a pool, a node that goes down and a report bring no allocation to a client.
-use Rattle.std.specs.Prelude.{◌≡◌, Bool, true, false, cond, not, Some}
+use Rattle.std.specs.Prelude.{◌≡◌, Bool, true, false, cond, not, T, Some}
 use Rattle.std.proofs.Common.{refl, sym, ap, subst, ◌∙◌}
 use Rattle.std.specs.FinMap.{get, insert}
 use Rattle.std.specs.Option.{option_map_or}
@@ -15,18 +15,29 @@ use Rattle.ns_types.specs.Asking.Nodes.{asked_in_pool, ask_pool}
 use Rattle.ns_types.specs.Settling.Making.{put_pool, with_node, change_tenant, with_client, evaluation_for, make}
 use Rattle.ns_types.specs.Settling.Outcome.{Done, unless}
 use Rattle.ns_types.specs.State.Names.{Name}
-use Rattle.ns_types.specs.State.Rows.{World, Tenant, PoolRows, is_ready, is_held, allocation_at}
+use Rattle.ns_types.specs.State.Rows.{World, Tenant, PoolRows, is_ready, is_held, is_live_on, allocation_at}
 use Rattle.ns_types.specs.State.Tables.{map_rows}
 use Rattle.ns_types.proofs.Leads.{Leads, leads_unless, leads_found, leads_if}
+use Rattle.ns_types.proofs.Named.{numbers, one_number}
 use Rattle.ns_types.proofs.Tests.{same_Some, is_yes}
+use Rattle.ns_audit.proofs.Steady.Keeping.{row_of_map}
 use Rattle.ns_audit.proofs.Steady.Nodes.{held_before}
 use Rattle.ns_audit.proofs.ValidAllocations.Going.{Onward, onward_same, onward_change, onward_map, onward_then, onward_each}
 use Rattle.ns_audit.proofs.ValidAllocations.Sound.{allocation_row}
-use Rattle.ns_isolation.proofs.Held.Rows.{Ends, ends_quiet, ends_still, ends_then, ends_row, onward_make}
+use Rattle.ns_isolation.proofs.Held.Rows.{EndsRow, Ends, ends_quiet, ends_still, ends_then, ends_row, onward_make}
 
 -- ---- nodes that go down
 
 module _ (pool node : Name) where
+  lost_ends : (t : Tenant) → Ends t (record t { allocations = map_rows (λ _ a. lost pool node a) t.allocations })
+  lost_ends t n b at =
+      let y = row_of_map numbers one_number (λ _ a. lost pool node a) t.allocations n b at in
+      subst (EndsRow t.allocations n) y.2 (row y.0 y.1 (is_live_on pool node y.0))
+    where
+      row : (a : Allocation) → get t.allocations n ≡ Some a → (b : Bool) → EndsRow t.allocations n (cond b (record a { client = ClientStatus.Lost }) a)
+      row a is true = record { row = a; is_row = is; pool = refl; held = λ held. absurd (subst T (sym held) tt) }
+      row a is false = record { row = a; is_row = is; pool = refl; held = λ held. held }
+
   down_ends : (w : World) → Onward Ends w (go_down pool node w)
   unfolding go_down
   down_ends w = onward_then Ends ends_still ends_then w (lose pool node w) (go_down pool node w)

@@ -4,8 +4,8 @@ use Rattle.ns_http.specs.Waiting.{waiting}
 use Rattle.ns_http.specs.Steps.{Queued}
 use Rattle.ns_http.proofs.EngineLemmas.{Queued-then, CutsShort-then, queued_none, queued_done, queued_cut, waits_cut}
 use Rattle.ns_http.proofs.CountsLemmas.{HasGrown-none, HasGrown-then, IsWriteFault-after}
-use Rattle.ns_http.proofs.StreamLemmas.{OnErr_always}
 use Rattle.ns_http.proofs.engine.Connection.advance.Goals as goal
+use Rattle.ns_types.proofs.Results.{on_error}
 
 pub loop-self-init : goal.loop-self-init
 loop-self-init g c =
@@ -23,7 +23,7 @@ loop-self-init g c =
 pub returns-in_err-step-clause-err : goal.returns-in_err-step-clause-err
 returns-in_err-step-clause-err g c =
     let done = c.loop-self.invariant in
-    OnErr_always _ (CutsShort-then g.H.Answer.answers c.args.handler.now c.loop-self.handler c.step.new.handler (unread c.args.self.now.input) done.0
+    on_error _ (CutsShort-then g.H.Answer.answers c.args.handler.now c.loop-self.handler c.step.new.handler (unread c.args.self.now.input) done.0
     (unread c.loop-self.self.input) _ _ _ [] (waiting c.loop-self.self.output) _ _ done.1 c.in_err-step.ensures.err)
 
 pub loop-self-preserved : goal.loop-self-preserved
@@ -47,7 +47,7 @@ returns-in_err-flush-in-Closed-clause-err g c =
     let ok = rw c.in-Closed.is at c.in_ok-step.ensures.ok in
     let made = Queued-then g.H.Answer.answers c.args.handler.now c.loop-self.handler c.step.new.handler (unread c.args.self.now.input) done.0 (ok.0 ∷ [])
     (unread c.loop-self.self.input) ok.1 true _ _ _ [] (waiting c.loop-self.self.output) (waiting c.step.new.self.output) _ _ _ done.1 ok.2 in
-    OnErr_always _ (queued_cut g.H.Answer.answers c.args.handler.now c.step.new.handler (unread c.args.self.now.input) ok.1 _ _ _ []
+    on_error _ (queued_cut g.H.Answer.answers c.args.handler.now c.step.new.handler (unread c.args.self.now.input) ok.1 _ _ _ []
     (waiting c.step.new.self.output) _ _ _ true made c.in_err-flush-in-Closed.ensures.err)
 
 pub returns-in-Closed-clause-ok : goal.returns-in-Closed-clause-ok
@@ -66,16 +66,16 @@ pub returns-in_err-flush-in-Waits-clause-err : goal.returns-in_err-flush-in-Wait
 returns-in_err-flush-in-Waits-clause-err g c =
     let done = c.loop-self.invariant in
     let ok = rw c.in-Waits.is at c.in_ok-step.ensures.ok in
-    OnErr_always _ (waits_cut g.H.Answer.answers c.args.handler.now c.loop-self.handler c.step.new.handler (unread c.args.self.now.input)
+    on_error _ (waits_cut g.H.Answer.answers c.args.handler.now c.loop-self.handler c.step.new.handler (unread c.args.self.now.input)
     (unread c.loop-self.self.input) _ _ _ _ (waiting c.loop-self.self.output) (waiting c.step.new.self.output)
     _ _ done.0 done.1 ok.0 ok.2 ok.3 c.in_err-flush-in-Waits.ensures.err)
 
 pub returns-in_err-flush-in-Waits-clause-failed : goal.returns-in_err-flush-in-Waits-clause-failed
 returns-in_err-flush-in-Waits-clause-failed g c =
-    OnErr_always _ (IsWriteFault-after c.args.writer.now.counts c.step.new.writer.counts c.flush-in-Waits.new.writer.counts
+    on_error _ (IsWriteFault-after c.args.writer.now.counts c.step.new.writer.counts c.flush-in-Waits.new.writer.counts
     (HasGrown-then _ _ _ c.loop-self.invariant.3 c.step.ensures.grows) c.in_err-flush-in-Waits.ensures.failed)
 
 pub returns-in_err-flush-in-Closed-clause-failed : goal.returns-in_err-flush-in-Closed-clause-failed
 returns-in_err-flush-in-Closed-clause-failed g c =
-    OnErr_always _ (IsWriteFault-after c.args.writer.now.counts c.step.new.writer.counts c.flush.new.writer.counts
+    on_error _ (IsWriteFault-after c.args.writer.now.counts c.step.new.writer.counts c.flush.new.writer.counts
     (HasGrown-then _ _ _ c.loop-self.invariant.3 c.step.ensures.grows) c.in_err-flush-in-Closed.ensures.failed)

@@ -6,15 +6,15 @@ use Rattle.ns_http.specs.Waiting.{waiting}
 use Rattle.ns_http.specs.Output.{WritesSome, Queues}
 use Rattle.ns_http.specs.Input.{unread}
 use Rattle.ns_http.proofs.EngineLemmas.{queued_whole, cut_whole, queued_refused, cut_refused, length-whole}
-use Rattle.ns_http.proofs.StreamLemmas.{OnErr_always}
 use Rattle.ns_http.proofs.engine.Connection.step.Goals as goal
+use Rattle.ns_types.proofs.Results.{on_error}
 
 pub returns-in_err-send-in-Refused-clause-err : goal.returns-in_err-send-in-Refused-clause-err
 returns-in_err-send-in-Refused-clause-err g c =
     let found = rw c.unread.ensures.value at c.in-Refused.ensures in
     let err = subst (λ r. WritesSome (g.W.Write.contents c.args.writer.now.inner) (g.W.Write.contents c.send.new.writer.inner)
     ((waiting c.args.self.now.output) ++ wire r true)) c.fault.ensures c.in_err-send-in-Refused.ensures.err in
-    OnErr_always _ (cut_refused g.H.Answer.answers c.args.handler.now (unread c.args.self.now.input) c.in-Refused.fault _ _ (waiting c.args.self.now.output)
+    on_error _ (cut_refused g.H.Answer.answers c.args.handler.now (unread c.args.self.now.input) c.in-Refused.fault _ _ (waiting c.args.self.now.output)
     found err)
 
 pub returns-in_err-send-in-Whole-clause-err : goal.returns-in_err-send-in-Whole-clause-err
@@ -22,7 +22,7 @@ returns-in_err-send-in-Whole-clause-err g c =
     let found = rw c.unread.ensures.value at c.in-Whole.ensures in
     let err = subst (λ r. WritesSome (g.W.Write.contents c.args.writer.now.inner) (g.W.Write.contents c.send-in-Whole.new.writer.inner)
     ((waiting c.args.self.now.output) ++ wire r c.in-Whole.close)) c.of.ensures c.in_err-send-in-Whole.ensures.err in
-    OnErr_always _ (cut_whole g.H.Answer.answers c.args.handler.now c.answer-response.new.self (unread c.args.self.now.input)
+    on_error _ (cut_whole g.H.Answer.answers c.args.handler.now c.answer-response.new.self (unread c.args.self.now.input)
     c.in-Whole.request c.in-Whole.len c.in-Whole.close found (rendered_of c.answer-response.result) _ _ (waiting c.args.self.now.output)
     c.answer-response.ensures err)
 
