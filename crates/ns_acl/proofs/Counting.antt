@@ -10,8 +10,7 @@ use Rattle.ns_types.specs.declared.acl.Policy.{Policy}
 use Rattle.ns_types.specs.declared.acl.Rule.{Rule}
 use Rattle.ns_types.specs.declared.acl.RuleKind.{RuleKind}
 use Rattle.ns_types.proofs.Lists.{filter-append}
-use Rattle.ns_types.proofs.Named.{same_number_refl, one_number}
-use Rattle.ns_types.proofs.Tables.{equal_by}
+use Rattle.ns_types.proofs.Named.{same_number_refl, other_number}
 use Rattle.ns_types.specs.State.Names.{Name, same_number}
 use Rattle.ns_types.specs.Access.Rights.{both, no_grants, is_exact, is_match, is_of_kind, longest, merged, rules_of}
 use Rattle.ns_types.specs.State.Rows.{Acl}
@@ -46,13 +45,6 @@ merged-more rules rule = fold-append (λ grants rule. both grants rule.grants) n
 longest-more : (rules : List Rule) (rule : Rule) → longest (rules ++ rule ∷ []) ≡ max (longest rules) (size rule)
 longest-more rules rule = fold-append longer_of 0 rules (rule ∷ [])
 
-differ : (m n : ℕ) → (m ≡ n → ⊥) → same_number m n ≡ false
-differ m n apart = by (same_number m n) refl
-  where
-    by : (b : Bool) → same_number m n ≡ b → b ≡ false
-    by true e = absurd (apart (one_number m n (equal_by _ e)))
-    by false e = refl
-
 most_grows : (most : ℕ) (rules : List Rule) → most ≤ fold longer_of most rules
 most_grows most [] = omega arith
 most_grows most (r ∷ rules) = let later : max most (size r) ≤ fold longer_of (max most (size r)) rules = most_grows (max most (size r)) rules in omega arith
@@ -62,14 +54,14 @@ none_so_long most n [] h = refl
 none_so_long most n (r ∷ rules) h =
     let later : max most (size r) ≤ fold longer_of (max most (size r)) rules = most_grows (max most (size r)) rules in
     let shorter : size r < n = omega arith in
-    ap (λ b. cond b (r ∷ of_size n rules) (of_size n rules)) (differ (size r) n (λ e. omega arith)) ∙ none_so_long (max most (size r)) n rules h
+    ap (λ b. cond b (r ∷ of_size n rules) (of_size n rules)) (other_number (size r) n (λ e. omega arith)) ∙ none_so_long (max most (size r)) n rules h
 
 module _ (rules : List Rule) (rule : Rule) where
   top-shorter : size rule < longest rules → top (rules ++ rule ∷ []) ≡ top rules
   top-shorter h =
       let least : max (longest rules) (size rule) ≡ longest rules = omega arith in
       ap (λ n. of_size n (rules ++ rule ∷ [])) (longest-more rules rule ∙ least)
-      ∙ filter-passed (λ rule. same_number (size rule) (longest rules)) rules rule (differ (size rule) (longest rules) (λ e. omega arith))
+      ∙ filter-passed (λ rule. same_number (size rule) (longest rules)) rules rule (other_number (size rule) (longest rules) (λ e. omega arith))
 
   top-level : size rule ≡ longest rules → top (rules ++ rule ∷ []) ≡ top rules ++ rule ∷ []
   top-level h =

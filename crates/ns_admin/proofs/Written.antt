@@ -1,8 +1,6 @@
 -- Rows by name, found, written and taken out, as the state shows them.
-use Rattle.std.specs.Prelude.{◌≡◌, not, ◌&&◌, nat_le, Option, Some, None, option_map, is_some}
-use Rattle.std.proofs.Common.{refl, ap, ◌∙◌}
-use Rattle.std.proofs.Common.{Bor}
-use Rattle.std.specs.Option.{option_copied}
+use Rattle.std.specs.Prelude.{◌≡◌, not, ◌&&◌, nat_le, Option, Some, option_map, is_some}
+use Rattle.std.proofs.Common.{ap, ◌∙◌}
 use Rattle.std.specs.FinMap.{FinMap, empty, get, insert, len, remove}
 use Rattle.keyed.specs.Table.{row_at, rows, with_slot}
 use Rattle.keyed.proofs.Tables.{get-rows, row_put, rows-empty, rows-remove, rows-set}
@@ -13,11 +11,6 @@ use Rattle.ns_types.specs.State.Names.{Name, name_cmp}
 use Rattle.ns_types.specs.State.Tables.{table_of}
 
 module _ {X : Type 0} where
-  -- a row that is lent is there
-  pub is_lent : (x : Option (Bor X)) → is_some x ≡ is_some (option_copied x)
-  is_lent None = refl
-  is_lent (Some x) = refl
-
   -- a table without room for a new row, by what is found at the key
   pub full_by : (m : FinMap name_cmp (Option X)) (k : Name) (x : Option X) → row_at m k ≡ x →
       is_full (rows m) k ≡ (not (is_some x) && nat_le 10000 (len (rows m)))

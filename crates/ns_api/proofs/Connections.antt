@@ -1,6 +1,5 @@
 -- From the answers of a handler to those of what it holds.
-use Rattle.std.proofs.Common.{ℕ, List, [], ◌∷◌, Result, Ok, Err, ap, ◌≡◌, subst}
-use Rattle.std.specs.Prelude.{IfOk}
+use Rattle.std.proofs.Common.{ℕ, List, [], ◌∷◌, ap, ◌≡◌, subst}
 use Rattle.ns_types.specs.declared.refusal.Refusal.{Refusal}
 use Rattle.ns_types.specs.declared.reply.Rendered.{Rendered}
 use Rattle.ns_types.specs.declared.step.Step.{Step}
@@ -73,7 +72,3 @@ module _ {S D F : Type 0} (state : S → State) (notes : S → Step → Answer �
     followed = subst (λ f. follows f between steps answers new.server new.follower) same followed;
     chain = chain;
   }
-
-pub if_ok : {T E : Type 0} (r : Result T E) (P Q : T → Type 0) → ((x : T) → P x → Q x) → IfOk r P → IfOk r Q
-if_ok (Ok x) P Q f p = f x p
-if_ok (Err e) P Q f p = tt

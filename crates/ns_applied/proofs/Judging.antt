@@ -1,7 +1,6 @@
 -- An Apply as it is judged before anything is written, and the room that is left where it passes no bound.
 use Rattle.std.specs.Prelude.{◌≡◌, ◌<◌, ℕ, ◌+◌, ◌^◌, Bool, true, false, cond, not, ◌&&◌, ◌||◌, List, [], ◌∷◌, Option, Some, None, filter, length, nat_lt}
-use Rattle.std.proofs.Common.{refl, sym, ap, ◌∙◌, arith, inl, inr}
-use Rattle.std.proofs.lemmas.Bool.Decides.{leb_tells}
+use Rattle.std.proofs.Common.{refl, sym, ap, ◌∙◌, arith}
 use Rattle.std.specs.Cmp.{eq_by_cmp_equiv}
 use Rattle.std.specs.FinMap.{get}
 use Rattle.std.specs.List.{list_any}
@@ -33,6 +32,7 @@ use Rattle.ns_headroom.specs.Judging.{doing}
 use Rattle.ns_applied.specs.Counters.{HasRoom, IsAtWork, judged}
 use Rattle.ns_applied.proofs.Counting.{apply_passes_is}
 use Rattle.ns_applied.proofs.Refusing.{refused_passes_nothing}
+use Rattle.ns_types.proofs.Bounds.{within_bound}
 
 -- ---- the step
 
@@ -81,9 +81,6 @@ module _ (w : World) (number : ℕ) (ns : Name) (t : Tenant) (worker : Worker) (
       by false = refl
 
 -- ---- what is left
-
-within_bound : (n : ℕ) → nat_lt greatest n ≡ false → n < 2 ^ 64
-within_bound n none = elim (leb_tells (2 ^ 64) n) [ inl past ↦ not_both past.0 none | inr less ↦ less.1 ]
 
 -- where some element passes one test and none the other, one passes the one and not the other
 some_of : {A : Type 0} (f g : A → Bool) (xs : List A) → list_any f xs ≡ true → list_any g xs ≡ false → (x : A) × (f x ≡ true) × (g x ≡ false)

@@ -20,7 +20,8 @@ use Rattle.ns_types.proofs.Named.{names, one_name}
 use Rattle.ns_types.proofs.Tables.{tied}
 use Rattle.ns_types.proofs.Tests.{not_Some, same_Some}
 use Rattle.ns_apply.specs.Placing.{CanPlace}
-use Rattle.ns_apply.proofs.Placements.{one_placed, placed_nowhere, none_placed, pools_stay, tenants_stay}
+use Rattle.ns_apply.proofs.Placements.{one_placed, placed_nowhere, none_placed, pools_stay}
+use Rattle.ns_change.proofs.Nothing.{pool_alone}
 
 -- ---- what a namespace has besides its allocations
 
@@ -70,7 +71,7 @@ module _ {X : Type 0} (part : Tenant → X) where
         by : (o : Option Node) → node_at w kept.pool (node_name kept p.node) ≡ o → part_at (place_one kept w p) ns ≡ part_at w ns
         by None is = ap (λ x. part_at x ns) (sym (placed_nowhere kept p w is job at))
         by (Some node) is = ap (λ x. part_at x ns) (one_placed kept p w job at node is)
-            ∙ ap (λ m. option_map part (get m ns)) (tenants_stay kept.pool (with_place (node_name kept p.node) node)
+            ∙ ap (λ m. option_map part (get m ns)) (pool_alone kept.pool (with_place (node_name kept p.node) node)
             (change_tenant kept.namespace (with_allocation (new_allocation kept job p node)) w))
             ∙ part_stays (with_allocation (new_allocation kept job p node))
             (λ t. rows t (insert t.allocations (t.allocation_number + 1) (new_allocation kept job p node)) (t.allocation_number + 1)) kept.namespace w ns

@@ -19,6 +19,7 @@ use Rattle.ns_types.proofs.Tests.{not_Some, same_Some}
 use Rattle.ns_change.specs.Changed.{HasAllocationLeft, HasPlaceLeft, change_pool, count_place}
 use Rattle.ns_apply.specs.Placing.{CanPlace, on_node}
 use Rattle.ns_apply.specs.Writing.{placed_on}
+use Rattle.ns_change.proofs.Nothing.{pool_alone}
 
 -- a change of a namespace leaves the pools
 pub pools_stay : (ns : Name) (f : Tenant → Tenant) (w : World) → (change_tenant ns f w).pools ≡ w.pools
@@ -27,14 +28,6 @@ pools_stay ns f w = by (get w.tenants ns)
     by : (o : Option Tenant) → (option_map_or (λ t. put_tenant ns (f t) w) o w).pools ≡ w.pools
     by None = refl
     by (Some t) = refl
-
--- and one of a pool the namespaces
-pub tenants_stay : (name : Name) (f : PoolRows → PoolRows) (w : World) → (change_pool name f w).tenants ≡ w.tenants
-tenants_stay name f w = by (get w.pools name)
-  where
-    by : (o : Option PoolRows) → (option_map_or (λ p. put_pool name (f p) w) o w).tenants ≡ w.tenants
-    by None = refl
-    by (Some p) = refl
 
 module _ (kept : Snapshot) (p : Placement) (w : World) where
   abbrev name : Name
@@ -125,7 +118,7 @@ module _ (kept : Snapshot) (p : Placement) (rest : List Placement) where
       node_before q = ap (λ m. option_and_then (λ (p : PoolRows). get p.nodes q) (get m kept.pool)) (pools_stay kept.namespace (with_allocation a) w)
 
       numbers_then : (t : Tenant) → get then.tenants kept.namespace ≡ Some t → t.allocation_number + length rest < 2 ^ 64
-      numbers_then t is = by (get w.tenants kept.namespace) refl (sym (ap (λ m. get m kept.namespace) (tenants_stay kept.pool _ and_added)) ∙ is)
+      numbers_then t is = by (get w.tenants kept.namespace) refl (sym (ap (λ m. get m kept.namespace) (pool_alone kept.pool _ and_added)) ∙ is)
         where
           by : (o : Option Tenant) → get w.tenants kept.namespace ≡ o →
               get (option_map_or (λ t. put_tenant kept.namespace (with_allocation a t) w) o w).tenants kept.namespace ≡ Some t →

@@ -28,6 +28,7 @@ use Rattle.ns_broker.specs.Bounded.{DequeuePassesNothing, cannot_fail, is_failed
 use Rattle.ns_broker.specs.Nacking.{failed, left, nacked, put_away, put_back}
 use Rattle.ns_broker.specs.Serving.{may_dequeue, take}
 use Rattle.ns_change.specs.Changed.{put_evaluation, without_ready}
+use Rattle.std.proofs.Math.Bool.{and-false}
 
 -- ---- promoting changes the list of ready evaluations alone
 
@@ -113,10 +114,6 @@ unshown : (e : Evaluation) → same_evaluation e (nacked e) ≡ true
 unfolding same_evaluation
 unshown e = same_evaluation_refl e
 
-and_none : (b : Bool) → (b && false) ≡ false
-and_none true = refl
-and_none false = refl
-
 shown_by : (e : Evaluation) → (b : Bool) → same_name (status_text e.status) (status_text Status.Failed) ≡ b → b ≡ false → same_evaluation e (failed e) ≡ false
 unfolding same_evaluation
 shown_by e b is fails =
@@ -124,7 +121,7 @@ shown_by e b is fails =
     && same_name (trigger_text e.trigger) (trigger_text e.trigger) in
     let after : Bool → Bool = λ b. b && option_eq same_number e.previous e.previous && option_eq same_number e.follower e.follower
     && option_eq same_name e.quota e.quota && same_flag e.escapes e.escapes in
-    ap (λ s. after (before && s)) (is ∙ fails) ∙ ap after (and_none before)
+    ap (λ s. after (before && s)) (is ∙ fails) ∙ ap after (and-false before)
 
 told_apart : (s : Status) → is_failed s ≡ false → same_name (status_text s) (status_text Status.Failed) ≡ false
 told_apart Status.Pending is = refl

@@ -1,6 +1,5 @@
 -- From the answers of a client to those of what it holds.
-use Rattle.std.proofs.Common.{ℕ, List, [], ◌∷◌, Result, Ok, Err, ap}
-use Rattle.std.specs.Prelude.{IfOk}
+use Rattle.std.proofs.Common.{ℕ, List, [], ◌∷◌, ap}
 use Rattle.ns_types.specs.declared.reply.Rendered.{Rendered}
 use Rattle.ns_types.specs.Wire.Http.{Asked, End, Whole, Refused}
 use Rattle.ns_types.specs.Wire.Responses
@@ -54,7 +53,3 @@ module _ {S D : Type 0} (receipts : S → List Receipt) (draws : D → List ℕ 
         };
         made = gains draws (held receipts old) c.exchanges (held receipts new) answered;
       }
-
-pub if_ok : {T E : Type 0} (r : Result T E) (P Q : T → Type 0) → ((x : T) → P x → Q x) → IfOk r P → IfOk r Q
-if_ok (Ok x) P Q f p = f x p
-if_ok (Err e) P Q f p = tt

@@ -20,8 +20,9 @@ use Rattle.ns_types.specs.Working.Worker.{Worker}
 use Rattle.ns_change.specs.Changed.{unlist_blocked, with_blocked_key}
 use Rattle.ns_finish.specs.Ending.{Ended, ended_alone, ended_as, ended_followed, ended_in, followed_as, listed_if}
 use Rattle.ns_finish.specs.Following.{made_follower}
-use Rattle.ns_finish.proofs.Numbered.{ended_stays, number_stays, tenants_stay}
+use Rattle.ns_finish.proofs.Numbered.{ended_stays, tenants_stay}
 use Rattle.ns_types.proofs.Gone.{insert_twice}
+use Rattle.ns_types.proofs.Bounds.{tied_number}
 
 -- the end of that worker's evaluation
 abbrev pub end_by : ℕ → Name → Worker → Evaluation → Ended
@@ -76,8 +77,8 @@ module _ (number : ℕ) (ns : Name) (w : World) (t : Tenant) (worker : Worker) (
       ap (λ o. option_map_or (λ t. put_tenant ns (f t) (put_tenant ns u x)) o (put_tenant ns u x)) (get_put names one_name x.tenants ns u)
       ∙ (λ i. record x { tenants = insert_twice names one_name x.tenants ns u (f u) i })
       ∙ (λ i. put_tenant ns (record (tied_to n k u) {
-        evaluation_number = number_stays n k u i + 1;
-        evaluations = insert (tied_to n k u).evaluations (number_stays n k u i + 1) row;
+        evaluation_number = tied_number n k u i + 1;
+        evaluations = insert (tied_to n k u).evaluations (tied_number n k u i + 1) row;
       }) x)
 
   follows_in : (u : Tenant) (x : World) (b : Bool) →

@@ -10,11 +10,9 @@ use Rattle.ns_types.specs.Working.Work.{blocked_of, tied_to, without_blocked, wi
 use Rattle.ns_types.proofs.Named.{names, one_name}
 use Rattle.ns_types.proofs.TableRows.{get_put}
 use Rattle.ns_change.specs.Changed.{HasEvaluationLeft, unlist_blocked}
-use Rattle.ns_finish.proofs.Kept.{ending_keeps, tying_keeps}
+use Rattle.ns_finish.proofs.Kept.{ending_keeps}
 use Rattle.ns_finish.specs.Ending.{Ended, ended_as, ended_in}
-
-pub number_stays : (n follower : ℕ) (t : Tenant) → (tied_to n follower t).evaluation_number ≡ t.evaluation_number
-number_stays = tying_keeps (λ t. t.evaluation_number) (λ t rows. refl)
+use Rattle.ns_types.proofs.Bounds.{tied_number}
 
 pub ended_stays : (e : Ended) (t : Tenant) → (ended_as e t).evaluation_number ≡ t.evaluation_number
 ended_stays = ending_keeps (λ t. t.evaluation_number) (λ t rows. refl) (λ t rows. refl)
@@ -33,7 +31,7 @@ left_kept f stays w ns left = by (get w.tenants ns) refl
 
 -- that an evaluation names its follower takes no number
 pub left_still : (w : World) (ns : Name) (n follower : ℕ) → HasEvaluationLeft w ns → HasEvaluationLeft (change_tenant ns (tied_to n follower) w) ns
-left_still w ns n follower = left_kept (tied_to n follower) (number_stays n follower) w ns
+left_still w ns n follower = left_kept (tied_to n follower) (tied_number n follower) w ns
 
 pub tenants_stay : (ns job : Name) (w : World) → (unlist_blocked ns job w).tenants ≡ w.tenants
 tenants_stay ns job w = by (get w.tenants ns)

@@ -25,7 +25,7 @@ use Rattle.ns_types.proofs.Lists.{not_both, right_none, left_none}
 use Rattle.ns_types.proofs.Named.{numbers, one_number}
 use Rattle.ns_types.proofs.TableRows.{apart, get_other, get_put, some_row}
 use Rattle.ns_types.proofs.Tables.{tied}
-use Rattle.ns_types.proofs.Tests.{or_none, same_Some}
+use Rattle.ns_types.proofs.Tests.{or_none, same_Some, third_of_four}
 use Rattle.ns_broker.proofs.Bounding.{past_is, promote_keeps, tenant_within}
 use Rattle.ns_finish.proofs.Finished.{end_by, ends_in, follows}
 use Rattle.ns_finish.proofs.Kept.{ending_keeps, tying_keeps}
@@ -116,13 +116,8 @@ module _ (n : ℕ) (t : Tenant) where
         over = u.over;
       }
 
-third : (a b c d : Bool) → c ≡ true → (a || b || c || d) ≡ true
-third true b c d is = refl
-third false true c d is = refl
-third false false c d is = ap (λ c. c || d) is
-
 touched : (t u : Tenant) (n : ℕ) (e : Evaluation) → get t.evaluations n ≡ Some e → is_pending e.status ≡ true → HasEnded n u → is_touched t u ≡ true
-touched t u n e at waits h = third (any_row (λ id _. changes_job t u id) u.jobs) (any_row (λ id _. changes_job t u id) t.jobs)
+touched t u n e at waits h = third_of_four (any_row (λ id _. changes_job t u id) u.jobs) (any_row (λ id _. changes_job t u id) t.jobs)
     (any_row (changes_evaluation t) u.evaluations) (any_row (changes_allocation t) u.allocations)
     (some_row numbers one_number (changes_evaluation t) u.evaluations n h.row h.is_row
     (ap (λ o. is_changed same_evaluation o h.row) at ∙ ap not (told_by e h.row (told_apart e.status h.row.status waits h.over))))

@@ -22,18 +22,13 @@ use Rattle.ns_types.proofs.TableRows.{any_row-alike}
 use Rattle.ns_types.proofs.Tables.{none_of_any}
 use Rattle.ns_release.proofs.Rooms.{any_row-at}
 use Rattle.ns_bounds.specs.Bounds.{is_at_bound}
-use Rattle.ns_bounds.proofs.Bounded.{any_named, any_row-either, any_with}
+use Rattle.ns_bounds.proofs.Bounded.{any_named, any_row-either, any_with, any_chosen}
 use Rattle.ns_headroom.specs.Applying.{Doing, PassesByApply, apply_raise, does_something, ended_keys, evaluations_pass, goes_to, is_last_index}
 use Rattle.ns_headroom.specs.Applying.{losing_in, own_passes, own_passes_in, place_passes, place_passes_on, places_on, stop_passes, victim_key}
 use Rattle.ns_headroom.specs.Passing.{end_passes}
 use Rattle.ns_headroom.specs.Raising.{places_pass, raises_pass}
-use Rattle.ns_headroom.proofs.Numbered.{any_owner}
 use Rattle.ns_headroom.proofs.Raised.{counts_pass}
 use Rattle.std.proofs.Math.Bool.{and-false}
-
-and_turned : (a b c : Bool) → (a && (b && c)) ≡ (b && (a && c))
-and_turned true b c = refl
-and_turned false b c = sym (and-false b)
 
 and_moved : (a b c : Bool) → ((a && b) && c) ≡ (b && (a && c))
 and_moved true b c = refl
@@ -67,9 +62,6 @@ module _ (w : World) (within : is_past_bound w ≡ false) (kept : Snapshot) (d :
 
   abbrev own_number : Tenant → Bool
   own_number t = nat_lt greatest (t.allocation_number + length d.placed)
-
-  abbrev own_index : Tenant → Bool
-  own_index t = is_at_bound t.index && does_something d
 
   one_namespace : (ns : Name) (t : Tenant) → get w.tenants ns ≡ Some t →
       (nat_lt greatest (t.evaluation_number + losing_in ns d.victims)
@@ -108,7 +100,7 @@ module _ (w : World) (within : is_past_bound w ≡ false) (kept : Snapshot) (d :
       victims : any_row (λ ns t. has_victim ns && is_at_bound t.index) w.tenants ≡ list_any (λ v. is_last_index w v.0) d.victims
       victims = any_row-alike names one_name _ (λ ns t. list_any (λ (v : Victim). same_name ns v.0) d.victims && is_at_bound t.index) w.tenants
           (λ ns t _. ap (λ b. b && is_at_bound t.index) (any_map (same_name ns) (λ (v : Victim). v.0) d.victims))
-          ∙ any_owner (λ v. v.0) (λ t. is_at_bound t.index) w.tenants d.victims
+          ∙ any_chosen (λ v. v.0) (λ t. is_at_bound t.index) w.tenants d.victims
 
   -- ---- nodes
 
@@ -143,9 +135,6 @@ module _ (w : World) (within : is_past_bound w ≡ false) (kept : Snapshot) (d :
           ≡ (b && nat_lt greatest (node.places + length (filter (goes_to kept pool name) xs)))
       by xs true e = refl
       by xs false e = ap (λ l. nat_lt greatest (node.places + length l)) (empty_filter xs e) ∙ ap (nat_lt greatest) same ∙ none
-
-  abbrev past_at : Name → Placement → Option Node → Bool
-  past_at pool p o = option_map_or (λ node. same_name pool kept.pool && past_on pool (name_of p) node) o false
 
   one_pool : (pool : Name) (p : PoolRows) → get w.pools pool ≡ Some p →
       any_row (past_on pool) p.nodes

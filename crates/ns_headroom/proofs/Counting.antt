@@ -1,5 +1,5 @@
 -- How an Apply is judged: counts that are not made, and nodes in place of placements.
-use Rattle.std.specs.Prelude.{◌≡◌, ℕ, ◌+◌, ◌≤◌, Bool, true, false, cond, not, ◌&&◌, ◌||◌, List, [], ◌∷◌, Option, Some, None, filter, length, nat_lt}
+use Rattle.std.specs.Prelude.{◌≡◌, ℕ, ◌+◌, ◌≤◌, Bool, true, false, cond, ◌&&◌, ◌||◌, List, [], ◌∷◌, Option, Some, None, filter, length, nat_lt}
 use Rattle.std.proofs.Common.{refl, sym, ap, ◌∙◌, arith}
 use Rattle.std.proofs.lemmas.Bool.{le-ltb, ltb-false}
 use Rattle.std.specs.Option.{option_and_then, option_map_or}
@@ -8,7 +8,6 @@ use Rattle.std.specs.FinMap.{get}
 use Rattle.ns_types.specs.declared.node.Node.{Node}
 use Rattle.ns_types.specs.declared.plan.Placement.{Placement}
 use Rattle.ns_types.specs.declared.snapshot.Snapshot.{Snapshot}
-use Rattle.ns_types.specs.State.Lists.{is_empty}
 use Rattle.ns_types.specs.State.Names.{Name, has_number, same_name, same_number}
 use Rattle.ns_types.specs.State.Rows.{World, PoolRows, Tenant, node_at}
 use Rattle.ns_types.specs.Steps.{greatest, is_past_bound}
@@ -57,14 +56,6 @@ few_places kept committed placements pool name =
     omega arith
 
 -- ---- what the words say of lists
-
-pub any_chosen : {A : Type 0} (p : A → Bool) (xs : List A) → list_any p xs ≡ not (is_empty (filter p xs))
-any_chosen p [] = refl
-any_chosen p (x ∷ xs) = by (p x) (any_chosen p xs)
-  where
-    by : (b : Bool) → list_any p xs ≡ not (is_empty (filter p xs)) → (b || list_any p xs) ≡ not (is_empty (cond b (x ∷ filter p xs) (filter p xs)))
-    by true later = refl
-    by false later = later
 
 pub own_is : (w : World) (ns : Name) (count : ℕ) (does : Bool) → (allocations_pass w ns count || (is_last_index w ns && does))
     ≡ option_map_or (λ t. nat_lt greatest (t.allocation_number + count) || (is_at_bound t.index && does)) (get w.tenants ns) false

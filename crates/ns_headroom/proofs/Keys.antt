@@ -1,22 +1,19 @@
 -- Tests of the rows at keys.
-use Rattle.std.specs.Prelude.{◌≡◌, ℕ, Bool, true, false, List, [], ◌∷◌, ◌&&◌, ◌||◌}
-use Rattle.std.proofs.Common.{refl, sym, ap, ◌∙◌}
+use Rattle.std.specs.Prelude.{◌≡◌, ℕ, Bool, true, false, List, ◌&&◌}
+use Rattle.std.proofs.Common.{sym, ap, ◌∙◌}
 use Rattle.std.specs.Option.{option_map_or}
 use Rattle.std.specs.List.{list_any}
 use Rattle.std.specs.Cmp.{eq_by_cmp_equiv}
 use Rattle.std.specs.FinMap.{entries, get}
-use Rattle.ns_types.specs.State.Lists.{Each}
 use Rattle.ns_types.specs.State.Names.{Name, Key, ByNumber, has_key, same_key, same_name, same_number}
 use Rattle.ns_types.specs.State.Tables.{any_row}
 use Rattle.ns_types.proofs.Elements.{any_same}
 use Rattle.ns_types.proofs.Lists.{any_alike, each_map}
-use Rattle.ns_types.proofs.Named.{numbers, one_number, same_key_refl}
+use Rattle.ns_types.proofs.Named.{numbers, one_number}
 use Rattle.ns_release.proofs.Rooms.{any_and, any_row-at, any_swap}
 use Rattle.ns_bounds.proofs.Bounded.{any_with}
-
-and_moved : (a b c : Bool) → ((a && b) && c) ≡ (a && (b && c))
-and_moved true b c = refl
-and_moved false b c = refl
+use Rattle.ns_types.proofs.Once.{each_member}
+use Rattle.std.proofs.Math.Bool.{and_assoc}
 
 -- a test of the rows at those keys in a namespace
 pub any_row-keys : {X : Type 0} (ns : Name) (keys : List Key) (r : ℕ → X → Bool) (m : ByNumber X) →
@@ -28,21 +25,10 @@ any_row-keys {X = X} ns keys r m = any_same _ (λ (e : ℕ × X). list_any (λ k
   where
     one : (k : Key) → list_any (λ (e : ℕ × X). same_key (ns, e.0) k && r e.0 e.1) (entries m) ≡ (same_name ns k.0 && option_map_or (r k.1) (get m k.1) false)
     one k = any_same _ (λ (e : ℕ × X). same_name ns k.0 && (same_number k.1 e.0 && r e.0 e.1))
-        (λ e. and_moved (same_name ns k.0) (same_number e.0 k.1) (r e.0 e.1) ∙
+        (λ e. and_assoc (same_name ns k.0) (same_number e.0 k.1) (r e.0 e.1) ∙
         ap (λ b. same_name ns k.0 && (b && r e.0 e.1)) ((eq_by_cmp_equiv numbers).symm e.0 k.1)) (entries m)
         ∙ sym (any_and (same_name ns k.0) (λ (e : ℕ × X). same_number k.1 e.0 && r e.0 e.1) (entries m))
         ∙ ap (λ b. same_name ns k.0 && b) (any_row-at numbers one_number k.1 r m)
-
-or_true : (a b : Bool) → b ≡ true → (a || b) ≡ true
-or_true true b e = refl
-or_true false b e = e
-
-pub each_member : (keys : List Key) → Each (λ k. has_key keys k ≡ true) keys
-each_member [] = tt
-each_member (key ∷ keys) = (
-  ap (λ b. b || has_key keys key) (same_key_refl key),
-  each_map (λ k is. or_true (same_key k key) (has_key keys k) is) keys (each_member keys),
-)
 
 -- tests that agree at the keys of the list
 pub any_members : (f g : Key → Bool) (keys : List Key) → ((k : Key) → has_key keys k ≡ true → f k ≡ g k) → list_any f keys ≡ list_any g keys

@@ -7,7 +7,7 @@ use Rattle.std.specs.FinMap.{get}
 use Rattle.ns_types.specs.declared.node.Class.{Class}
 use Rattle.ns_types.specs.Settling.Releases.{released_classes, releases_quota, woken}
 use Rattle.ns_types.specs.Settling.Settle.{after_quota_release, after_release, number_releases, settle, stamp}
-use Rattle.ns_types.specs.State.Names.{Name, ByName, Key, has_name, same_name}
+use Rattle.ns_types.specs.State.Names.{Name, Key, has_name, same_name}
 use Rattle.ns_types.specs.State.Rows.{World, PoolRows, QuotaRows}
 use Rattle.ns_types.specs.State.Tables.{any_row, map_rows}
 use Rattle.ns_types.specs.Steps.{greatest, is_pool_past_bound}
@@ -19,16 +19,10 @@ use Rattle.ns_types.proofs.Tables.{none_of_any}
 use Rattle.ns_types.proofs.Tests.{same_Some}
 use Rattle.ns_release.proofs.Model.{wake_pools, wake_quotas}
 use Rattle.ns_bounds.specs.Bounds.{is_at_bound, quota_passes, room_passes}
-use Rattle.ns_bounds.proofs.Bounded.{any_named, any_row-either, any_row-mapped, any_with}
+use Rattle.ns_bounds.proofs.Bounded.{any_row-either, any_row-mapped, any_chosen}
 use Rattle.ns_headroom.specs.Passing.{places_past}
 use Rattle.ns_headroom.specs.Releasing.{EndsAlone}
 use Rattle.ns_headroom.proofs.Ended.{pool_is, quota_is, quotas, rooms}
-
--- a test of those owners that a list names
-pub any_owner : {A X : Type 0} (name : A → Name) (p : X → Bool) (m : ByName X) (xs : List A) →
-    any_row (λ k x. list_any (λ a. same_name k (name a)) xs && p x) m ≡ list_any (λ a. option_map_or p (get m (name a)) false) xs
-any_owner name p m xs = any_row-alike names one_name _ (λ k x. list_any (λ a. same_name k (name a) && p x) xs) m
-    (λ k x _. any_with (λ a. same_name k (name a)) (p x) xs) ∙ any_named name (λ _ _ x. p x) m xs
 
 module _ (w x : World) (keys : List Key) (only : EndsAlone w x keys) where
   -- ---- quotas
@@ -50,7 +44,7 @@ module _ (w x : World) (keys : List Key) (only : EndsAlone w x keys) where
       ∙ any_row-alike names one_name _ (λ name q. has_name (quotas w x keys only) name && is_at_bound q.release) w.quotas (λ name q is.
       quota_past q (none_of_any one_name (λ _ q. nat_lt greatest q.release) w.quotas name q within is) (releases_quota w x name q)
       ∙ ap (λ b. b && is_at_bound q.release) (quota_is w x keys only name q is))
-      ∙ any_owner (λ name. name) (λ q. is_at_bound q.release) w.quotas (quotas w x keys only)
+      ∙ any_chosen (λ name. name) (λ q. is_at_bound q.release) w.quotas (quotas w x keys only)
 
   -- ---- pools
 
@@ -84,7 +78,7 @@ module _ (w x : World) (keys : List Key) (only : EndsAlone w x keys) where
       ∙ ap (λ b. (b && is_at_bound p.release) || placed p) (pool_is w x keys only name (λ _. true) p is
       ∙ any_same _ (λ r. same_name name r.0) (λ r. and_true (same_name name r.0)) (rooms w x keys only)))
       ∙ any_row-either (λ name p. list_any (λ r. same_name name r.0) (rooms w x keys only) && is_at_bound p.release) (λ _ p. placed p) x.pools
-      ∙ ap (λ b. b || places_past x) (any_owner (λ r. r.0) (λ p. is_at_bound p.release) x.pools (rooms w x keys only)
+      ∙ ap (λ b. b || places_past x) (any_chosen (λ r. r.0) (λ p. is_at_bound p.release) x.pools (rooms w x keys only)
       ∙ any_same _ (room_passes w) (λ r. by (get x.pools r.0) (get w.pools r.0) (only.releases r.0)) (rooms w x keys only))
     where
       and_true : (b : Bool) → (b && true) ≡ b

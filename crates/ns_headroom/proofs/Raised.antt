@@ -1,5 +1,5 @@
 -- Of a step that counts, the counters after it, by the state before it.
-use Rattle.std.specs.Prelude.{◌≡◌, ℕ, ◌+◌, Bool, true, false, not, ◌&&◌, ◌||◌, List, Option, Some, None, is_some, nat_lt, option_map}
+use Rattle.std.specs.Prelude.{◌≡◌, ℕ, ◌+◌, Bool, true, false, ◌&&◌, ◌||◌, List, Option, Some, None, is_some, nat_lt, option_map}
 use Rattle.std.proofs.Common.{refl, sym, ap, ◌∙◌, Ordering}
 use Rattle.std.specs.Cmp.{IsTotalOrder}
 use Rattle.std.specs.Option.{option_and_then, option_map_or}
@@ -7,24 +7,21 @@ use Rattle.std.specs.List.{list_any}
 use Rattle.std.specs.FinMap.{FinMap, IsAntisymmetric, get}
 use Rattle.ns_types.specs.declared.allocation.Allocation.{Allocation}
 use Rattle.ns_types.specs.declared.node.Node.{Node}
-use Rattle.ns_types.specs.Settling.Releases.{same_offer}
 use Rattle.ns_types.specs.Settling.Settle.{is_touched}
 use Rattle.ns_types.specs.State.Names.{Name, Key}
 use Rattle.ns_types.specs.State.Rows.{World, PoolRows, Tenant, allocation_at, class_of, is_free, node_at}
 use Rattle.ns_types.specs.State.Tables.{any_row}
 use Rattle.ns_types.specs.Steps.{greatest}
-use Rattle.ns_types.proofs.Alike.{same_offer_refl}
 use Rattle.ns_types.proofs.Elements.{any_same}
 use Rattle.ns_types.proofs.Lists.{not_both}
 use Rattle.ns_types.proofs.Named.{names, one_name}
 use Rattle.ns_types.proofs.Tables.{any_row-none, none_of_any}
-use Rattle.ns_types.proofs.Tests.{same_Some}
 use Rattle.ns_bounds.specs.Bounds.{is_at_bound}
 use Rattle.ns_bounds.specs.Given.{given_room_passes}
 use Rattle.ns_bounds.proofs.Bounded.{any_row-either}
 use Rattle.ns_headroom.specs.Passing.{end_passes, index_passes, indexes_pass, is_number_past, left_quota_passes, left_room_passes, numbers_past, places_past}
 use Rattle.ns_headroom.specs.Raising.{PassesByCounts, Raise, Raises, places_pass, raise_passes, raises_pass, with_places}
-use Rattle.ns_headroom.specs.Releasing.{EndsAlone, opens}
+use Rattle.ns_headroom.specs.Releasing.{EndsAlone}
 use Rattle.ns_headroom.proofs.Settled.{ends_pass}
 
 -- ---- tables in which the same keys pass
@@ -51,22 +48,6 @@ module _ {K X Y : Type 0} {R : K → K → Ordering} (o : IsTotalOrder R) (same 
       together (any_row f m) (any_row g n) (none_between o same f g m n alike) (none_between o same g f n m (λ k. sym (alike k)))
 
 -- ---- nodes that count
-
--- none gives room by itself
-pub counting_opens : (w x : World) (places : Name → Name → ℕ) → ((pool name : Name) → node_at x pool name
-    ≡ option_map (with_places (places pool name)) (node_at w pool name)) → (pool name : Name) (node : Node) → node_at x pool name ≡ Some node →
-    opens w pool name node ≡ false
-counting_opens w x places counts pool name node at = by (node_at w pool name) refl (sym (counts pool name) ∙ at)
-  where
-    free : (b : Bool) → (b && (not b || false)) ≡ false
-    free true = refl
-    free false = refl
-
-    by : (o : Option Node) → node_at w pool name ≡ o → option_map (with_places (places pool name)) o ≡ Some node → opens w pool name node ≡ false
-    by None is e = not_both refl (sym (ap is_some e))
-    by (Some old) is e = ap (opens w pool name) (sym (same_Some (with_places (places pool name) old) node e))
-        ∙ ap (λ o. is_free old && option_map_or (λ before. not (is_free before) || not (same_offer before.offer old.offer)) o true) is
-        ∙ ap (λ b. is_free old && (not (is_free old) || not b)) (same_offer_refl old.offer) ∙ free (is_free old)
 
 module _ (w x : World) (keys : List Key) (raise : Name → Raise) (places : Name → Name → ℕ) (only : EndsAlone w x keys) (raises : Raises w x raise places) where
   -- ---- namespaces

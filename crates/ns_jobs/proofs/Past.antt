@@ -34,20 +34,14 @@ use Rattle.ns_jobs.specs.Made.{job_of, stopped_with}
 use Rattle.ns_jobs.specs.Read.{only_reads}
 use Rattle.ns_jobs.proofs.Asked.{asks}
 use Rattle.ns_jobs.proofs.Prepared.{stop_keeps}
-
-queue_tenants : (w : World) (key : Key) → (queue w key).tenants ≡ w.tenants
-queue_tenants = queue_keeps (λ w. w.tenants) (λ w keys. refl)
+use Rattle.ns_types.proofs.Tests.{third_of_four}
+use Rattle.ns_change.proofs.Nothing.{queue_tenants}
 
 queues_tenants : (keys : List Key) (w : World) → (fold queue w keys).tenants ≡ w.tenants
 queues_tenants = queues_keep (λ w. w.tenants) (λ w keys. refl)
 
 first_of_three : (a b c : Bool) → a ≡ true → (a || b || c) ≡ true
 first_of_three a b c is = ap (λ a. a || b || c) is
-
-third_of_four : (a b c d : Bool) → c ≡ true → (a || b || c || d) ≡ true
-third_of_four true b c d is = refl
-third_of_four false true c d is = refl
-third_of_four false false c d is = ap (λ c. c || d) is
 
 -- the world that is left, or that one
 abbrev world_or : World → Outcome World → World

@@ -1,7 +1,6 @@
 -- A job that is put or taken away, and the evaluation that is made of it.
-use Rattle.std.specs.Prelude.{◌≡◌, ℕ, ◌+◌, ◌<◌, ◌≤◌, ◌^◌, false, Option, Some, None, nat_lt, option_map}
-use Rattle.std.proofs.Common.{arith, refl, ap, sym, subst, ◌∙◌}
-use Rattle.std.proofs.lemmas.Bool.{ltb-false}
+use Rattle.std.specs.Prelude.{◌≡◌, ℕ, ◌+◌, ◌<◌, ◌^◌, false, Option, Some, None, nat_lt, option_map}
+use Rattle.std.proofs.Common.{refl, ap, sym, subst, ◌∙◌}
 use Rattle.std.specs.Option.{option_map_or}
 use Rattle.std.specs.FinMap.{get, insert}
 use Rattle.keyed.specs.Table.{row_at}
@@ -25,6 +24,7 @@ use Rattle.ns_world.proofs.World.{tenant_at}
 use Rattle.ns_jobs.specs.Counted.{passes_bound}
 use Rattle.ns_jobs.specs.Made.{with_made}
 use Rattle.ns_types.proofs.Gone.{insert_twice}
+use Rattle.ns_types.proofs.Bounds.{within_bound}
 
 -- ---- the namespace
 
@@ -37,13 +37,10 @@ module _ (t : Tables) (ns : Name) where
 
 -- ---- its counters
 
-within : (n : ℕ) → nat_lt greatest n ≡ false → n < 2 ^ 64
-within n e = let le : n ≤ greatest = ltb-false greatest n e in omega arith
-
 module _ (w : World) (ns : Name) where
   pub left_here : (t : Tenant) → get w.tenants ns ≡ Some t → passes_bound t ≡ false → HasEvaluationLeft w ns
   left_here t at fits z is = subst (λ z. z.evaluation_number + 1 < 2 ^ 64) (same_Some _ _ (sym at ∙ is))
-      (within (t.evaluation_number + 1) (right_none (nat_lt greatest (t.index + 1)) _ fits))
+      (within_bound (t.evaluation_number + 1) (right_none (nat_lt greatest (t.index + 1)) _ fits))
 
   -- a change of its jobs leaves them
   pub still_left : (f : Tenant → Tenant) → ((t : Tenant) → (f t).evaluation_number ≡ t.evaluation_number) → HasEvaluationLeft w ns →

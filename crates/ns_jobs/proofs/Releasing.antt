@@ -34,7 +34,7 @@ use Rattle.ns_types.proofs.Tables.{get-map_rows, map_rows_idle, none_of_any, tie
 use Rattle.ns_change.specs.declared.change.Change.{Change}
 use Rattle.ns_change.specs.declared.change.TenantChange.{TenantChange}
 use Rattle.ns_change.specs.Changed.{changed, changed_list, changed_pool, changed_quota, changed_tenant, perhaps, put_allocation}
-use Rattle.ns_change.proofs.Nothing.{no_entries, nothing}
+use Rattle.ns_change.proofs.Nothing.{nothing, list_stays}
 use Rattle.ns_change.proofs.Opening.{row_set}
 use Rattle.ns_release.specs.Released.{does_wake}
 use Rattle.ns_bounds.specs.Bounds.{is_at_bound, passes_in, places_pass, quota_passes, room_passes, shows_awake}
@@ -58,9 +58,6 @@ module _ {K X : Type 0} {R : K → K → Ordering} (o : IsTotalOrder R) (same : 
 
   unchanged_rows : {C : Type 0} (f : X → C → X) (m : FinMap R X) → map_rows (λ k x. perhaps f (row_at (empty {X = Option C} {R = R}) k) x) m ≡ m
   unchanged_rows f m = map_rows_idle o same _ m (λ k x at. ap (λ r. perhaps f (flat r) x) (get-empty R k))
-
-unchanged_list : (keys : List Key) → changed_list keys no_entries ≡ keys
-unchanged_list keys = append-nil _ ∙ filter_all (λ key. not (has_key [] key)) keys (each _ (λ _. refl) keys)
 
 -- ---- whom releases wake past the index of its namespace
 
@@ -210,8 +207,8 @@ module _ (w : World) (ns : Name) (t : Tenant) (at : get w.tenants ns ≡ Some t)
     pools = unchanged_rows names one_name changed_pool w.pools i;
     quotas = unchanged_rows names one_name changed_quota w.quotas i;
     ready = ready_is i;
-    plans = unchanged_list w.plans i;
-    blocked = unchanged_list w.blocked i;
+    plans = list_stays w.plans i;
+    blocked = list_stays w.blocked i;
   }
 
   -- ---- what it releases, where the allocation was live and is not any more

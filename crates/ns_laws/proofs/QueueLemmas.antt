@@ -1,25 +1,25 @@
 -- The first of the greatest by induction over the list, and what a filter of `blocked` keeps.
-use Rattle.std.specs.Prelude.{◌≡◌, ℕ, ◌<◌, ◌≤◌, nat_le, Bool, true, false, cond, T, ◌&&◌, ◌||◌, List, [], ◌∷◌, ◌++◌, Option, Some, None, unwrap_or, is_some}
+use Rattle.std.specs.Prelude.{◌≡◌, ℕ, ◌<◌, ◌≤◌, nat_le, Bool, true, false, cond, T, ◌&&◌, List, [], ◌∷◌, ◌++◌, Option, Some, None, unwrap_or, is_some}
 use Rattle.std.proofs.Common.{refl, sym, ap, subst, ◌∙◌, arith}
 use Rattle.std.specs.FinMap.{get}
 use Rattle.std.specs.List.{list_all}
 use Rattle.std.specs.Option.{option_map_or, option_and_then}
 use Rattle.std.specs.Ordering.{nat_cmp}
-use Rattle.std.proofs.lemmas.Bool.{leb-true, leb-false, le-leb, lt-leb}
+use Rattle.std.proofs.lemmas.Bool.{leb-true, leb-false, le-leb, lt-leb, and_right}
 use Rattle.ns_types.specs.declared.evaluation.Evaluation.{Evaluation}
 use Rattle.ns_types.specs.State.Lists.{Each}
-use Rattle.ns_types.specs.State.Names.{Key, has_key, same_key, same_name, same_number}
+use Rattle.ns_types.specs.State.Names.{Key, has_key, same_key, same_number}
 use Rattle.ns_types.specs.Working.Queue.{first_of_greatest, priority_at}
 use Rattle.ns_types.specs.Settling.Releases.{woken, wakes}
 use Rattle.ns_types.specs.State.Rows.{World, Tenant, evaluation_at}
 use Rattle.ns_types.specs.Validity.{IsSound}
 use Rattle.ns_types.proofs.Lists.{not_both, each_map}
-use Rattle.ns_types.proofs.Named.{one_number, same_name_is, first_of_both, second_of_both, same_key_refl}
-use Rattle.std.proofs.lemmas.Bool.{or_right}
+use Rattle.ns_types.proofs.Named.{one_number, second_of_both}
 use Rattle.ns_types.proofs.Tables.{equal_by}
 use Rattle.ns_types.proofs.Elements.{each_from_all, all_from_each, each_kept, any_kept, each_back}
 use Rattle.ns_laws.specs.Queue.{ServedIsFirst, FirstIsServed, NoneServedOfNone, WokenInOrder, WokenAreCalled, IsBlockedAt, WokenWereBlocked}
 use Rattle.ns_laws.proofs.Elements.{filter_in_order}
+use Rattle.ns_types.proofs.Once.{each_member, key_is}
 
 not_Some : {A : Type 0} (a : Option Key) (key : Key) → a ≡ None → a ≡ Some key → A
 not_Some a key e f = absurd (subst T (sym (ap is_some (sym e ∙ f))) tt)
@@ -69,14 +69,10 @@ first_is p (x ∷ xs) key e = by (list_all (λ o. nat_le (p o) (p x)) xs) refl (
           less_before = (less, rest.less_before);
         }
 
-neither : (a b : Bool) → b ≡ false → (a && b) ≡ false
-neither true b e = e
-neither false b e = refl
-
 -- a greater one further on
 not_all : (p : Key → ℕ) (n : ℕ) (before later : List Key) (key : Key) → n < p key → list_all (λ o. nat_le (p o) n) (before ++ key ∷ later) ≡ false
 not_all p n [] later key less = ap (λ b. b && list_all (λ o. nat_le (p o) n) later) (lt-leb (p key) n less)
-not_all p n (x ∷ before) later key less = neither (nat_le (p x) n) _ (not_all p n before later key less)
+not_all p n (x ∷ before) later key less = and_right (nat_le (p x) n) _ (not_all p n before later key less)
 
 is_first : (p : Key → ℕ) (before later : List Key) (key : Key) → Each (λ o. p o ≤ p key) later → Each (λ o. p o < p key) before
     → first_of_greatest p (before ++ key ∷ later) ≡ Some key
@@ -112,18 +108,6 @@ none_served_of_none w keys e = none_of_none (priority_at w) keys e
 pub same_number_is : (a b : ℕ) → same_number a b ≡ true → a ≡ b
 same_number_is a b e = one_number a b (equal_by (nat_cmp a b) e)
 
-same_key_is : (a b : Key) → same_key a b ≡ true → a ≡ b
-same_key_is a b e =
-    let names = same_name_is a.0 b.0 (first_of_both (same_name a.0 b.0) _ e) in
-    let numbers = same_number_is a.1 b.1 (second_of_both (same_name a.0 b.0) _ e) in
-    λ i. (names i, numbers i)
-
--- each key of a list is found in it
-each_listed : (keys : List Key) → Each (λ key. has_key keys key ≡ true) keys
-each_listed [] = tt
-each_listed (key ∷ keys) =
-    (ap (λ b. b || has_key keys key) (same_key_refl key), each_map (λ other h. or_right (same_key other key) _ h) keys (each_listed keys))
-
 pub woken_in_order : WokenInOrder
 unfolding woken
 woken_in_order w w' = filter_in_order (λ key. has_key w'.blocked key && option_map_or (wakes w w') (evaluation_at w key) false) w.blocked
@@ -132,7 +116,7 @@ pub woken_are_called : WokenAreCalled
 unfolding woken
 woken_are_called w w' key =
     let calls = λ (k : Key). has_key w'.blocked k && option_map_or (wakes w w') (evaluation_at w k) false in
-    any_kept (same_key key) calls (calls key) (λ other same. ap calls (sym (same_key_is key other same))) w.blocked
+    any_kept (same_key key) calls (calls key) (λ other same. ap calls (sym (key_is key other same))) w.blocked
 
 blocked_at : (w w' : World) → IsSound w → (key : Key) → has_key w.blocked key ≡ true → option_map_or (wakes w w') (evaluation_at w key) false ≡ true →
     IsBlockedAt w key
@@ -154,4 +138,4 @@ unfolding woken
 woken_were_blocked w w' sound =
     each_map (λ key h. blocked_at w w' sound key h.0 (second_of_both (has_key w'.blocked key) _ h.1)) (woken w w')
     (each_kept (λ key. has_key w.blocked key ≡ true) (λ key. has_key w'.blocked key && option_map_or (wakes w w') (evaluation_at w key) false) w.blocked
-    (each_listed w.blocked))
+    (each_member w.blocked))

@@ -31,6 +31,7 @@ use Rattle.ns_types.proofs.Named.{first_of_both, second_of_both, same_name_is}
 use Rattle.ns_types.proofs.Elements.{each_kept, each_true, each_passing, filter_without, any_without}
 use Rattle.ns_laws.specs.Rights as law
 use Rattle.ns_laws.proofs.QueueLemmas.{same_number_is}
+use Rattle.std.proofs.Math.Bool.{or_assoc}
 
 -- ---- whom a secret stands for
 
@@ -156,10 +157,6 @@ manager_is_allowed acl secret token (Step.Finish worker ns) found kind is = absu
 manager_is_allowed acl secret token (Step.Nack worker ns) found kind is = absurd is
 
 -- ---- what rules give
-
-or_assoc : (a b c : Bool) → ((a || b) || c) ≡ (a || (b || c))
-or_assoc true b c = refl
-or_assoc false b c = refl
 
 -- of a right that two rules give together where one of them does
 merged_gives : (right : Grants → Bool) → ((a b : Grants) → right (both a b) ≡ (right a || right b)) → (start : Grants) (rules : List Rule)

@@ -3,7 +3,7 @@ use Rattle.std.specs.Prelude.{◌≡◌, ℕ, ◌+◌, Bool, true, false, cond, 
 use Rattle.std.specs.Prelude.{length}
 use Rattle.std.specs.Prelude.{option_map, unwrap_or}
 use Rattle.std.proofs.Common.{refl, sym, ap, ◌∙◌, arith, Ordering}
-use Rattle.std.proofs.lemmas.List.{append-nil, length-map}
+use Rattle.std.proofs.lemmas.List.{length-map}
 use Rattle.std.specs.Option.{option_and_then, option_map_or}
 use Rattle.std.specs.Cmp.{IsTotalOrder}
 use Rattle.std.specs.FinMap.{FinMap, IsAntisymmetric, empty, get, get-empty, get-insert, insert, same_map}
@@ -29,8 +29,8 @@ use Rattle.ns_types.proofs.Tables.{get-map_rows, get-table_of, map_rows_idle, ti
 use Rattle.ns_change.specs.declared.change.Change.{Change}
 use Rattle.ns_change.specs.declared.change.PoolChange.{PoolChange}
 use Rattle.ns_change.specs.declared.change.TenantChange.{TenantChange}
-use Rattle.ns_change.specs.Changed.{changed, changed_list, changed_pool, changed_quota, changed_tenant, perhaps}
-use Rattle.ns_change.proofs.Nothing.{no_entries}
+use Rattle.ns_change.specs.Changed.{changed, changed_pool, changed_quota, changed_tenant, perhaps}
+use Rattle.ns_change.proofs.Nothing.{no_entries, list_stays}
 use Rattle.ns_renewal.specs.Renewing.{keys_in}
 use Rattle.ns_renewal.proofs.Made.{get_made, made_at, renewal}
 use Rattle.ns_nodes.proofs.Renewed.{all_rows, keys_counted, keys_of, losses_are, lost_tenant}
@@ -184,13 +184,6 @@ none_left base (key ∷ keys) inside =
     ap (λ b. cond (not b) (key ∷ filter (λ key. not (has_key base key)) keys) (filter (λ key. not (has_key base key)) keys))
     (inside key (ap (λ b. b || has_key keys key) (same_key_refl key)))
     ∙ none_left base keys (λ k is. inside k (ap (λ b. same_key k key || b) is ∙ or_true (same_key k key)))
-
-list_stays : (keys : List Key) → changed_list keys no_entries ≡ keys
-list_stays keys = append-nil (filter (λ key. not (has_key [] key)) keys) ∙ by keys
-  where
-    by : (keys : List Key) → filter (λ key. not (has_key [] key)) keys ≡ keys
-    by [] = refl
-    by (key ∷ keys) = ap (λ l. key ∷ l) (by keys)
 
 -- ---- the change
 

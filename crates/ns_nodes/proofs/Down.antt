@@ -17,14 +17,6 @@ use Rattle.ns_types.proofs.Lists.{not_both}
 use Rattle.ns_change.specs.Changed.{change_pool}
 use Rattle.ns_nodes.proofs.Asked.{no_node}
 
--- a change of a pool leaves the namespaces
-pub pool_alone : (pool : Name) (f : PoolRows → PoolRows) (w : World) → (change_pool pool f w).tenants ≡ w.tenants
-pool_alone pool f w = by (get w.pools pool)
-  where
-    by : (o : Option PoolRows) → (option_map_or (λ p. put_pool pool (f p) w) o w).tenants ≡ w.tenants
-    by None = refl
-    by (Some p) = refl
-
 module _ (w : World) (pool name : Name) where
   abbrev pub down_node : Node → PoolRows → PoolRows
   down_node node = with_node name (record node { status = NodeStatus.Down })

@@ -23,12 +23,12 @@ use Rattle.ns_types.specs.Steps.{greatest, is_past_bound, is_tenant_past_bound}
 use Rattle.ns_types.specs.Wire.Words.{client_text}
 use Rattle.ns_types.proofs.Alike.{same_allocation_refl}
 use Rattle.ns_types.proofs.Elements.{any_flat, any_map}
-use Rattle.ns_types.proofs.Lists.{any_alike, each, left_none, not_both, right_none}
+use Rattle.ns_types.proofs.Lists.{any_alike, each, left_none, not_both, right_none, none_of}
 use Rattle.ns_types.proofs.Named.{first_of_both, names, numbers, one_name, one_number, same_name_is, second_of_both}
 use Rattle.ns_types.proofs.Settling.{kept_evaluation}
 use Rattle.ns_types.proofs.TableRows.{any_row-alike, entries_empty, filter_no_row}
 use Rattle.ns_types.proofs.Tables.{any_row-none, each_row, entries-table_of, map_rows_idle, none_of_any}
-use Rattle.ns_types.proofs.Tests.{or_none}
+use Rattle.ns_types.proofs.Tests.{or_none, and_yes}
 use Rattle.ns_change.specs.declared.change.Change.{Change}
 use Rattle.ns_change.specs.declared.change.PoolChange.{PoolChange}
 use Rattle.ns_change.specs.declared.change.TenantChange.{TenantChange}
@@ -49,21 +49,8 @@ use Rattle.ns_bounds.proofs.Indexes.{past_bound_is}
 use Rattle.ns_release.proofs.Rooms.{any_swap, at_row}
 use Rattle.ns_release.proofs.Together.{wakes_by_quotas}
 use Rattle.ns_release.proofs.Woken.{empty_by_any}
-
-and_none : (b : Bool) → (b && false) ≡ false
-and_none true = refl
-and_none false = refl
-
-and_fails : (a b : Bool) → b ≡ false → (a && b) ≡ false
-and_fails a b is = ap (λ b. a && b) is ∙ and_none a
-
-and_yes : (b : Bool) → (b && true) ≡ false → b ≡ false
-and_yes true is = is
-and_yes false is = refl
-
-any_none : {A : Type 0} (xs : List A) → list_any (λ _. false) xs ≡ false
-any_none [] = refl
-any_none (x ∷ xs) = any_none xs
+use Rattle.std.proofs.lemmas.Bool.{and_right}
+use Rattle.std.proofs.Math.Bool.{and-false}
 
 -- ---- an allocation that is lost
 
@@ -78,7 +65,7 @@ module _ (pool node : Name) where
   -- is shown otherwise
   shown_lost : (a : Allocation) → is_held a.client ≡ true → same_allocation a (record a { client = ClientStatus.Lost }) ≡ false
   unfolding same_allocation
-  shown_lost a is = and_fails _ _ (told_lost a.client is)
+  shown_lost a is = and_right _ _ (told_lost a.client is)
 
   changed_when : (a : Allocation) → not (same_allocation a (lost pool node a)) ≡ is_live_on pool node a
   changed_when a = by (is_live_on pool node a) refl
@@ -92,7 +79,7 @@ module _ (pool node : Name) where
   ends_when a = by (is_live a) (same_name pool a.pool && same_name node a.node) refl
     where
       by : (l o : Bool) → is_live a ≡ l → (l && not (is_live (cond (l && o) (record a { client = ClientStatus.Lost }) a))) ≡ (l && o)
-      by true true e = ap not (and_none (is_run a.desired))
+      by true true e = ap not (and-false (is_run a.desired))
       by true false e = ap not e
       by false o e = refl
 
@@ -161,8 +148,8 @@ module _ (w : World) (pool name : Name) (p : PoolRows) (at : get w.pools pool �
       ∙ any_map (shows_asleep w c ns t) (λ (e : ℕ × Evaluation). (e.0, Some e.1)) (entries t.evaluations)
       ∙ any_alike _ (λ _. false) (entries t.evaluations)
       (each_row numbers one_number (λ n e. (not (is_waking w c (ns, n)) && changes_evaluation t n e) ≡ false) t.evaluations
-      (λ n e at. and_fails _ _ (kept_evaluation t n e at)))
-      ∙ any_none (entries t.evaluations)
+      (λ n e at. and_right _ _ (kept_evaluation t n e at)))
+      ∙ none_of (entries t.evaluations)
 
   change_passes : (ns : Name) (t : Tenant) → get w.tenants ns ≡ Some t →
       passes_in w c ns (all_of ns t) t ≡ (loses pool name t && own_passes t)
@@ -194,7 +181,7 @@ module _ (w : World) (pool name : Name) (p : PoolRows) (at : get w.pools pool �
           (list_any (shows_asleep w c ns t) (entries (all_of ns t).evaluations))
       by false none = (λ i. (nat_lt greatest (unchanged ns t is none i).evaluation_number || placed i) || (is_at_bound t.index
           && ((jobs i || asleep_none ns t is none i) || (rows_touched t ∙ none) i)))
-          ∙ (λ i. (numbered i || false) || and_none (is_at_bound t.index) i)
+          ∙ (λ i. (numbered i || false) || and-false (is_at_bound t.index) i)
 
   abbrev changes_pass : Bool
   changes_pass = any_row (λ _ t. loses pool name t && own_passes t) w.tenants
@@ -323,7 +310,7 @@ module _ (w : World) (pool name : Name) (p : PoolRows) (at : get w.pools pool �
     by_bound : (t : Tenant) → get w.tenants key.0 ≡ Some t → (b : Bool) → is_at_bound t.index ≡ b →
         (b && (does_wake w c key && shows_awake t key.1 (evaluation_at (changed w c) key)))
         ≡ list_any (λ quota. b && (releases_wake_at w [] (quota ∷ []) key && shows_awake t key.1 (evaluation_at w key))) quotas
-    by_bound t is false more = sym (any_none quotas)
+    by_bound t is false more = sym (none_of quotas)
     by_bound t is true last = (λ i. wakes i && shows_awake t key.1 (same_row t is (no_loss t is last) i))
         ∙ any_with (λ quota. releases_wake_at w [] (quota ∷ []) key) (shows_awake t key.1 (evaluation_at w key)) quotas
 
@@ -332,7 +319,7 @@ module _ (w : World) (pool name : Name) (p : PoolRows) (at : get w.pools pool �
       where
         by : (o : Option Tenant) → get w.tenants key.0 ≡ o →
             option_map_or (waking_passes_in w c key) o false ≡ list_any (λ quota. option_map_or (given_waking_passes_in w [] (quota ∷ []) key) o false) quotas
-        by None is = sym (any_none quotas)
+        by None is = sym (none_of quotas)
         by (Some t) is = by_bound t is (is_at_bound t.index) refl
 
   abbrev wakings : Bool

@@ -1,8 +1,7 @@
 -- The jobs that lose an allocation with a node, slot by slot.
 use Rattle.std.specs.Prelude.{◌≡◌, ℕ, ◌+◌, Bool, true, false, cond, ◌&&◌, ◌||◌, not, List, [], ◌∷◌, Option, Some, None, filter, flat_map, fold, is_some}
-use Rattle.std.specs.Prelude.{length, map, nat_lt, option_map, ◌++◌, ◌<◌, ◌≤◌, ◌^◌, T}
-use Rattle.std.proofs.Common.{inl, inr, refl, sym, ap, subst, ◌∙◌, arith}
-use Rattle.std.proofs.lemmas.Bool.Decides.{leb_tells}
+use Rattle.std.specs.Prelude.{length, map, option_map, ◌++◌, ◌<◌, ◌≤◌, ◌^◌, T}
+use Rattle.std.proofs.Common.{refl, sym, ap, subst, ◌∙◌, arith}
 use Rattle.std.proofs.lemmas.List.{length-map}
 use Rattle.std.proofs.lemmas.List.Concat.{flat_map_single}
 use Rattle.std.proofs.lemmas.List.Folds.{flat_map-map}
@@ -20,7 +19,6 @@ use Rattle.ns_types.specs.State.Rows.{Tenant, is_live_on}
 use Rattle.ns_types.specs.State.Tables.{table_of}
 use Rattle.ns_types.specs.Steps.{greatest}
 use Rattle.ns_types.proofs.Elements.{map_map}
-use Rattle.ns_types.proofs.Lists.{not_both}
 use Rattle.ns_types.proofs.Named.{names, one_name}
 use Rattle.ns_types.proofs.Tables.{entries-table_of, get-table_of, tied}
 use Rattle.ns_nodes.specs.Losing.{is_last_of_job, is_losing, key_at, looked, losing_jobs_at, losing_keys, losing_keys_at}
@@ -28,6 +26,7 @@ use Rattle.ns_nodes.specs.Losing.{losing_keys_in, losing_rows, numbers_pass_at, 
 use Rattle.ns_world.specs.declared.tables.Tables.{Tables}
 use Rattle.ns_world.specs.declared.tables.TenantRows.{TenantRows}
 use Rattle.ns_world.specs.World.{tenant_of, world_of}
+use Rattle.ns_types.proofs.Bounds.{past_bound, not_past}
 
 -- ---- tables of entries
 
@@ -47,15 +46,6 @@ from_mapped f es = same_map names one_name _ _ (λ q. get-from_entries names (ma
 values_mapped : {X Y : Type 0} (f : X → Y) (m : ByName X) → values (table_of (λ _ x. f x) m) ≡ map f (values m)
 values_mapped f m = ap (map (λ e. e.1)) (entries-table_of (λ _ x. f x) m) ∙ map_map (λ e. e.1) (λ e. (e.0, f e.1)) (entries m)
     ∙ sym (map_map f (λ e. e.1) (entries m))
-
-pub past_bound : (n : ℕ) → 2 ^ 64 ≤ n → nat_lt greatest n ≡ true
-past_bound n more = elim (leb_tells (2 ^ 64) n) [ inl past ↦ past.0 | inr less ↦ absurd (omega arith) ]
-
-pub not_past : (n : ℕ) → n < 2 ^ 64 → nat_lt greatest n ≡ false
-not_past n less = elim (leb_tells (2 ^ 64) n) [ inl past ↦ absurd (omega arith) | inr within ↦ within.0 ]
-
-pub within_bound : (n : ℕ) → nat_lt greatest n ≡ false → n < 2 ^ 64
-within_bound n none = elim (leb_tells (2 ^ 64) n) [ inl past ↦ not_both past.0 none | inr less ↦ less.1 ]
 
 or_nothing : {A : Type 0} (o : Option A) → option_or o None ≡ o
 or_nothing None = refl

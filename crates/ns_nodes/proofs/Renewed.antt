@@ -20,7 +20,8 @@ use Rattle.ns_types.proofs.Tests.{not_Some, same_Some}
 use Rattle.ns_renewal.specs.Renewing.{HasNumbers, SameJobs, keys_in, renewed}
 use Rattle.ns_renewal.proofs.Made.{IsThere, all_renewed, renewal}
 use Rattle.ns_nodes.specs.Losing.{losing_keys, losing_keys_in, losing_rows, numbers_pass, numbers_pass_in}
-use Rattle.ns_nodes.proofs.Losses.{jobs_are, within_bound}
+use Rattle.ns_nodes.proofs.Losses.{jobs_are}
+use Rattle.ns_types.proofs.Bounds.{within_bound}
 
 -- ---- those of a node that goes down
 

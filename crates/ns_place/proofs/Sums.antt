@@ -4,7 +4,7 @@ use Rattle.std.proofs.lemmas.List.Sums.{sum_by_more, sum_by_more_le, sum_by-take
 use Rattle.ns_types.specs.declared.resources.Resources.{Resources}
 use Rattle.ns_types.specs.State.Resources.{IsCounted, minus, plus, total}
 
-same_amounts : (a b : Resources) → a.cpu ≡ b.cpu → a.memory ≡ b.memory → a ≡ b
+pub same_amounts : (a b : Resources) → a.cpu ≡ b.cpu → a.memory ≡ b.memory → a ≡ b
 same_amounts a b e f = rw (e, f)
 
 module _ {X : Type 0} (size : X → Resources) (xs : List X) (i : ℕ) (d : X) (inside : i < length xs) where

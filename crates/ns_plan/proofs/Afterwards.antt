@@ -28,6 +28,7 @@ use Rattle.ns_types.proofs.Tests.{or_none}
 use Rattle.ns_plan.specs.After.{after_stops, counted, counted_stops, names, part_of_quota, part_on, shares, stop_keys}
 use Rattle.ns_plan.specs.Looks.{if_live, live_at}
 use Rattle.ns_plan.specs.Reader.{load_left, quota_left, use_left}
+use Rattle.ns_place.proofs.Sums.{same_amounts}
 
 -- ---- rows
 
@@ -105,9 +106,6 @@ counted_some w pool node e = by (allocation_at w (victim_key e))
     by (Some a) = some a (passes pool node e a)
 
 -- ---- sums
-
-pub same_amounts : (a b : Resources) → a.cpu ≡ b.cpu → a.memory ≡ b.memory → a ≡ b
-same_amounts a b e f = λ i. record { cpu = e i; memory = f i }
 
 module _ (f g : Key → ℕ) where
   abbrev sums : List Key → Resources

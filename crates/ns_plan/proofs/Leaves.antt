@@ -27,8 +27,9 @@ use Rattle.ns_types.proofs.Tests.{not_Some, same_Some}
 use Rattle.ns_plan.specs.After.{counted, keys_of, part_of_quota, part_on, shares}
 use Rattle.ns_plan.specs.Reader.{AreElsewhere, counted_keys, evictions_of, is_on, left_by, left_without, load_left, quota_left, same_eviction, with_gone}
 use Rattle.ns_plan.specs.declared.leaving.Left.{Left}
-use Rattle.ns_plan.proofs.Afterwards.{load_next, on_node, quota_next, same_amounts}
+use Rattle.ns_plan.proofs.Afterwards.{load_next, on_node, quota_next}
 use Rattle.ns_plan.proofs.Holding.{filter_next, take_next}
+use Rattle.ns_place.proofs.Sums.{same_amounts}
 
 -- ---- what stands earlier
 
@@ -214,13 +215,6 @@ module _ (w : World) (pool node : Name) (quota : Option Name) (keys : List Key) 
       by None n b stands f = idle_leaves w pool node quota keys (seen ++ take i evictions) e (counted_none w pool node e n)
       by (Some a) c true stands f = again_leaves w pool node quota keys (seen ++ take i evictions) e a (counted_row w pool node e a c) elsewhere stands
       by (Some a) c false stands f = absurd (not_Some a (sym f ∙ c))
-
-pub other_number : (a b : ℕ) → (a ≡ b → ⊥) → same_number a b ≡ false
-other_number a b differ = by (same_number a b) refl
-  where
-    by : (c : Bool) → same_number a b ≡ c → same_number a b ≡ false
-    by true e = absurd (differ (tied one_number a b e))
-    by false e = e
 
 -- one placement more, which is on the node or not
 pub part_next : (node : ℕ) (ps : List Placement) (i : ℕ) (p : Placement) → i < length ps → p ≡ get_or ps i p → (b : Bool) → same_number p.node node ≡ b →

@@ -35,6 +35,7 @@ use Rattle.ns_plan.specs.Reader.{read_all, read_one, takes, takes_left, use_left
 use Rattle.ns_plan.specs.declared.deciding.SoFar.{SoFar}
 use Rattle.ns_plan.proofs.Afterwards.{node_after, quota_after, quotas_after}
 use Rattle.ns_plan.proofs.Leaves.{victims_are}
+use Rattle.std.proofs.lemmas.Bool.{or_right}
 
 -- ---- keys that are apart
 
@@ -149,10 +150,6 @@ pub record IsReadOf (kept : Snapshot) (w : World) (nodes : List ℕ) (r : Read) 
 or_true : (a b : Bool) → a ≡ true → (a || b) ≡ true
 or_true a b e = ap (λ a. a || b) e
 
-true_or : (a b : Bool) → b ≡ true → (a || b) ≡ true
-true_or true b e = refl
-true_or false b e = e
-
 module _ (kept : Snapshot) (placements : List Placement) (w : World) where
   module _ (nodes : List ℕ) (r : Read) (is : IsReadOf kept w nodes r) (k : ℕ) where
     abbrev with_node : Read
@@ -191,7 +188,7 @@ module _ (kept : Snapshot) (placements : List Placement) (w : World) where
         found : (key : Key) → (has_key r.keys key ≡ true) ⊎ (has_key (map victim_key (victims_of w kept (part_of k placements))) key ≡ true) →
             (list_any (on key) r.committed || (on key k || false)) ≡ true
         found key (inl h) = or_true (list_any (on key) r.committed) _ (is.held key h)
-        found key (inr h) = true_or (list_any (on key) r.committed) _ (or_true (on key k) false
+        found key (inr h) = or_right (list_any (on key) r.committed) _ (or_true (on key k) false
             (counted_on w kept.pool (node_name kept k) key (evictions_of (part_of k placements))
             (ap (λ l. has_key (map victim_key l) key) (sym (victims_are w kept k placements)) ∙ h)))
 
@@ -264,7 +261,7 @@ module _ (kept : Snapshot) (p : Plan) (fits : IsOnFewNodes kept p) (w : World) (
   among key on (c ∷ cs) below h = elim (either_of (is_on w kept.pool (node_name kept c) key) (list_any (λ c. is_on w kept.pool (node_name kept c) key) cs) h) [
     | inl t ↦ or_true (same_number k c) (has_number cs k) (ap (same_number k)
         (one_node key c (below c (or_true (same_number c c) (has_number cs c) (same_number_refl c))) t on) ∙ same_number_refl k)
-    | inr t ↦ true_or (same_number k c) (has_number cs k) (among key on cs (λ q e. below q (true_or (same_number q c) (has_number cs q) e)) t)
+    | inr t ↦ or_right (same_number k c) (has_number cs k) (among key on cs (λ q e. below q (or_right (same_number q c) (has_number cs q) e)) t)
   ]
 
   pub elsewhere_is : (nodes : List ℕ) (r : Read) → IsReadOf kept w nodes r → ((q : ℕ) → has_number nodes q ≡ true → q < length kept.nodes) →

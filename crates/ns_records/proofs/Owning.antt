@@ -11,10 +11,7 @@ use Rattle.ns_types.specs.State.Rows.{State}
 use Rattle.ns_types.specs.State.Sums.{names_quota}
 use Rattle.ns_types.proofs.Named.{same_name_is, same_name_refl}
 use Rattle.ns_records.specs.Records.{SameOwned, SamePool, SameQuota}
-
-or_second : (a b : Bool) → b ≡ true → (a || b) ≡ true
-or_second true b e = refl
-or_second false b e = e
+use Rattle.std.proofs.lemmas.Bool.{or_right}
 
 -- ---- of each that is named
 
@@ -23,7 +20,7 @@ module _ (P : Name → Type 0) where
   all_named [] each = All-nil P
   all_named (n ∷ names) each =
       All-cons P n names (each n (ap (λ b. b || has_name names n) (same_name_refl n)))
-      (all_named names (λ name e. each name (or_second (same_name name n) _ e)))
+      (all_named names (λ name e. each name (or_right (same_name name n) _ e)))
 
   one_of : (n : Name) (names : List Name) (name : Name) → P n → (has_name names name ≡ true → P name) → has_name (n ∷ names) name ≡ true → P name
   one_of n names name here later e = by (same_name name n) refl
@@ -58,7 +55,7 @@ module _ (P : Name → Type 0) where
       default_pool each = each _ (by_list _ ∙ ap (λ b. b || has_name allowed namespace.default_pool) (same_name_refl namespace.default_pool))
 
       pub allowed_pools : ((pool : Name) → permits namespace pool ≡ true → P pool) → All P allowed
-      allowed_pools each = all_named allowed (λ pool e. each pool (by_list pool ∙ or_second (same_name pool namespace.default_pool) _ e))
+      allowed_pools each = all_named allowed (λ pool e. each pool (by_list pool ∙ or_right (same_name pool namespace.default_pool) _ e))
 
 -- ---- of a namespace that is there
 

@@ -1,7 +1,7 @@
 -- A log that is replayed, by one entry more.
-use Rattle.std.specs.Prelude.{◌≡◌, ℕ, ◌<◌, true, false, cond, List, [], ◌∷◌, ◌++◌, length, map}
+use Rattle.std.specs.Prelude.{◌≡◌, ℕ, true, false, cond, List, [], ◌∷◌, ◌++◌, map}
 use Rattle.std.specs.Prelude.{Option, Ok, Err, IfErr, IsErrAnd, Result}
-use Rattle.std.proofs.Common.{refl, sym, ap, subst, ◌∙◌, arith}
+use Rattle.std.proofs.Common.{refl, sym, ap, subst, ◌∙◌}
 use Rattle.std.proofs.lemmas.List.{append-nil, map_push, map-append}
 use Rattle.ns_types.specs.declared.reply.Rendered.{Rendered}
 use Rattle.ns_types.specs.declared.step.Step.{Step}
@@ -166,11 +166,6 @@ module _ (ns : Name) (base : State) (log : List Entry) where
   fault_at place at entry s t (NotARun i) reached f same =
       subst (λ p. IsFault ns base log (NotARun p)) (sym (f.0 ∙ same)) (IsFault.no_step place entry s t reached f.1)
   fault_at place at entry s t Memory reached f same = IsFault.no_memory
-
--- the first entry is there
-pub some_entries : (log : List Entry) → (log ≡ [] → ⊥) → 0 < length log
-some_entries [] none = absurd (none refl)
-some_entries (entry ∷ log) none = omega arith
 
 pub no_memory : {A : Type 0} (ns : Name) (base : State) (log : List Entry) (r : Result A ReplayFault) → IsErrAnd r (λ fault. fault ≡ Memory) →
     IfErr r (IsFault ns base log)

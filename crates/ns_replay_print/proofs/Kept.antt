@@ -12,9 +12,6 @@ use Rattle.ns_replay.specs.declared.fault.ReplayFault.{ReplayFault}
 use Rattle.ns_replay.specs.declared.fault.ReplayFault.TheVariants.{Memory}
 use Rattle.ns_replay_print.specs.Outcome.{IsBaseFault, IsNoRunAt}
 
-pub kept_none : (s : State) → IsKept s [] s
-kept_none s = record { answers = []; run = refl; rendering = refl }
-
 kept_then : (s mid s' : State) (log : List Entry) (entry : Entry) → IsKept s log mid → Fits entry mid s' → IsKept s (log ++ entry ∷ []) s'
 kept_then s mid s' log entry k f = record {
   answers = k.answers ++ f.answer ∷ [];

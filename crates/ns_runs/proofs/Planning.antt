@@ -6,7 +6,6 @@ use Rattle.std.specs.Option.{option_and_then, option_map_or}
 use Rattle.ns_types.specs.declared.refusal.Refusal.{Refusal}
 use Rattle.ns_types.specs.declared.snapshot.Snapshot.{Snapshot}
 use Rattle.ns_types.specs.declared.step.Step.{Step}
-use Rattle.ns_types.specs.declared.worker.Phase.{Phase}
 use Rattle.ns_types.specs.Asking.Policies.{with_world}
 use Rattle.ns_types.specs.Settling.Outcome.{NotEnabled, lift}
 use Rattle.ns_types.specs.State.Names.{Name}
@@ -14,7 +13,7 @@ use Rattle.ns_types.specs.State.Rows.{State, Tenant}
 use Rattle.ns_types.specs.Steps.{Answer, act, after, concluded}
 use Rattle.ns_types.specs.Validity.{IsValid}
 use Rattle.ns_types.specs.Working.Looks.{RefusesFinish, RefusesPlan, is_ending, worker_at}
-use Rattle.ns_types.specs.Working.Work.{finish, finish_for, is_snapped, planned_in, planned_of, submit, submit_for}
+use Rattle.ns_types.specs.Working.Work.{finish, finish_for, is_snapped, submit, submit_for}
 use Rattle.ns_types.specs.Working.Worker.{Worker}
 use Rattle.ns_types.proofs.Tests.{not_Some}
 use Rattle.ns_broker.specs.Snapping.{kept_at}
@@ -28,20 +27,6 @@ use Rattle.ns_runs.specs.Making.{MakesAny, NeedsPlan}
 use Rattle.ns_runs.specs.Planned.{HasFitting, PlansFor, PlansKept}
 
 -- ---- a plan of what a row keeps
-
--- from Submit on a row has the plan of what it keeps
-pub own_plan : (row : Worker) (planned : Snapshot) → Some planned ≡ planned_of row → row.kept ≡ Some planned
-own_plan row planned is = by row.phase row.kept (sym is)
-  where
-    by : (phase : Phase) (kept : Option Snapshot) → planned_in phase kept ≡ Some planned → kept ≡ Some planned
-    by Phase.Took kept is = absurd (not_Some planned is)
-    by Phase.Snapped kept is = absurd (not_Some planned is)
-    by Phase.Submitted kept is = is
-    by Phase.Applied kept is = is
-    by Phase.Dropped kept is = is
-
-pub want_of_memory : (kept : Option Snapshot) (seen : Snapshot) → kept ≡ Some seen → PlansKept kept (Err Refusal.Memory)
-want_of_memory kept seen is = subst (λ o. PlansKept o (Err Refusal.Memory)) (sym is) refl
 
 -- one that is made
 pub plans : (kept : Option Snapshot) (seen : Snapshot) → kept ≡ Some seen → fits seen ≡ true → (r : Result Snapshot Refusal) →

@@ -31,9 +31,6 @@ pub record HasRun (s : State) (steps : List Step) (count : ℕ) (answers : List 
   pub run : Run s (take count steps) answers s'
   pub are_so_many : length answers ≡ count
 
-pub runs_none : (s : State) (steps : List Step) → HasRun s steps 0 [] s
-runs_none s steps = record { run = refl; are_so_many = refl }
-
 module _ (s mid s' : State) (steps : List Step) (count : ℕ) (answers : List Answer) (far : HasRun s steps count answers mid) where
   pub runs_more : (step : Step) (answer : Answer) → count < length steps → step ≡ get_or steps count step →
       IfErr answer (λ refusal. is_no_step refusal ≡ false) → MakesAny step mid answer s' →

@@ -2,7 +2,7 @@
 use Rattle.std.specs.Prelude.{◌≡◌, ℕ, zero, suc, ◌+◌, ◌*◌, ◌^◌, ◌<◌, ◌≤◌, true, List, ◌∷◌, length, drop}
 use Rattle.std.specs.Prelude.{get_or, replicate, sum_by}
 use Rattle.std.proofs.Common.{refl, ap, ◌∙◌, arith}
-use Rattle.std.proofs.lemmas.Bool.{and_from, and_parts, lt-ltb, ltb-true}
+use Rattle.std.proofs.lemmas.Bool.{and_from, lt-ltb}
 use Rattle.std.proofs.lemmas.List.Folds.{sum_by-replicate}
 use Rattle.std.proofs.lemmas.List.Sums.{sum_by-append}
 use Rattle.std.proofs.Math.Nat.{suc-mul}
@@ -14,14 +14,11 @@ use Rattle.ns_types.specs.declared.snapshot.OwnAllocation.{OwnAllocation}
 use Rattle.ns_types.specs.Placing.Wanted.{demands_from, group_size, missing}
 use Rattle.ns_types.specs.State.Resources.{IsCounted, plus, total}
 use Rattle.ns_schedule.specs.Fits.{is_counted, times}
-use Rattle.ns_schedule.proofs.Differences.{same_amounts}
 use Rattle.ns_schedule.proofs.Wants.{first_of_rest}
+use Rattle.ns_place.proofs.Sums.{same_amounts}
 
 pub counted_true : (r : Resources) → IsCounted r → is_counted r ≡ true
 counted_true r h = and_from _ _ (lt-ltb r.cpu (2 ^ 64) h.0) (lt-ltb r.memory (2 ^ 64) h.1)
-
-pub true_counted : (r : Resources) → is_counted r ≡ true → IsCounted r
-true_counted r e = let both = and_parts _ _ e in (ltb-true r.cpu (2 ^ 64) both.0, ltb-true r.memory (2 ^ 64) both.1)
 
 -- one of several is within all of them
 one_within : (n x : ℕ) → (n ≡ 0 → ⊥) → x ≤ n * x

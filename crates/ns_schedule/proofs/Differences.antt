@@ -7,9 +7,7 @@ use Rattle.ns_types.specs.declared.resources.Resources.{Resources}
 use Rattle.ns_types.specs.State.Resources.{minus, total}
 use Rattle.ns_types.proofs.Lists.{filter-append}
 use Rattle.ns_types.proofs.Sums.{sum_part}
-
-pub same_amounts : (a b : Resources) → a.cpu ≡ b.cpu → a.memory ≡ b.memory → a ≡ b
-same_amounts a b e f = rw (e, f)
+use Rattle.ns_place.proofs.Sums.{same_amounts}
 
 module _ {X : Type 0} (xs : List X) (i : ℕ) (x : X) (inside : i < length xs) (reads : x ≡ get_or xs i x) where
   sum_next : (f : X → ℕ) (p : X → Bool) → sum_by f (filter p (take (i + 1) xs)) ≡ sum_by f (filter p (take i xs)) + cond (p x) (f x) 0

@@ -14,7 +14,7 @@ use Rattle.ns_types.specs.Placing.Preemption.{victims, cheaper, best_victims}
 use Rattle.ns_types.specs.State.Resources.{plus, is_within, none}
 use Rattle.ns_preempt.specs.Fewest.{IsFewest}
 use Rattle.ns_schedule.specs.Chosen.{IsChosen}
-use Rattle.ns_schedule.proofs.Differences.{same_amounts}
+use Rattle.ns_place.proofs.Sums.{same_amounts}
 
 plus_none : (a : Resources) → plus a none ≡ a
 plus_none a = same_amounts (plus a none) a (omega arith) (omega arith)

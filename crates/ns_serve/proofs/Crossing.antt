@@ -1,7 +1,7 @@
 -- What the threads of a server share may be looked at by all of them.
 use denote.RattleType.{RattleType}
 use denote.Ref.{NamedLft}
-use denote.Param.Send.{IsSend, IsSync, sendable, shr_send, struct_send}
+use denote.Param.Send.{IsSend, IsSync, sendable, struct_send}
 use denote.Param.SendFields.{declared_sync}
 use denote.Struct.Declared.{shape}
 use denote.Struct.Struct.{Struct}
@@ -41,12 +41,6 @@ module _ (L : RattleType) (g : Ghosts L.Denot) where
 
 pub Door-sync : IsSync Door.the_row
 Door-sync = search (sendable, crosses) depth 20
-
-pub Start-sync : IsSync Start.the_row
-Start-sync = search (sendable, crosses) depth 20
-
-pub Tickets-sync : IsSync Tickets.the_row
-Tickets-sync = search (sendable, crosses) depth 20
 
 -- a reference to each of what is shared, and what is their own
 pub House-sync : (a : NamedLft) (L : RattleType) (g : Ghosts L.Denot) → IsSync (House.the_row a L g)

@@ -1,5 +1,5 @@
 -- What a connection gains are receipts of the steps that its requests ask for.
-use Rattle.std.specs.Prelude.{◌≡◌, ℕ, List, [], ◌∷◌, ◌++◌, All, Result, Ok, Err, IfOk}
+use Rattle.std.specs.Prelude.{ℕ, List, [], ◌∷◌, ◌++◌, All, Result, Ok, Err, IfOk}
 use Rattle.std.specs.Result.{IsErrOf}
 use Rattle.std.proofs.Common.{ap, refl, subst, sym, ◌∙◌}
 use Rattle.std.proofs.lemmas.List.{append-nil, append_assoc}
@@ -29,15 +29,6 @@ grows_then IsOwn old mid new first then = record {
   more = first.more ++ then.more;
   is_grown = then.is_grown ∙ ap (λ x. x ++ then.more) first.is_grown ∙ append_assoc old first.more then.more;
   are_own = All-append (λ (receipt : Receipt). IsOwn receipt.step) first.more then.more first.are_own then.are_own;
-}
-
--- from and to what is the same
-pub grows_between : (IsOwn : Step → Type 0) (old old' new new' : List Receipt) → old ≡ old' → new' ≡ new → Grows IsOwn old new →
-    Grows IsOwn old' new'
-grows_between IsOwn old old' new new' from to grown = record {
-  more = grown.more;
-  is_grown = to ∙ grown.is_grown ∙ ap (λ x. x ++ grown.more) from;
-  are_own = grown.are_own;
 }
 
 -- ---- by the requests of a connection

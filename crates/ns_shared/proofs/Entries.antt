@@ -31,7 +31,6 @@ use Rattle.ns_answers.specs.Rooms.{HasRoom, Room}
 use Rattle.ns_answers.proofs.Writing.{applied_tokens, escaped_follower, escaped_status, finished_room, first_tokens, last_tokens, length-print_from-le}
 use Rattle.ns_answers.proofs.Writing.{middle_tokens, nacked_room, one_id_room, room-first, room-ids, room-last, room-middle, room-texts}
 use Rattle.ns_held.specs.Logs.{History}
-use Rattle.ns_held.specs.Noting.{is_answer}
 use Rattle.ns_held.specs.Rendered.{rendered_step}
 use Rattle.ns_held.proofs.Adding.{Adds}
 use Rattle.ns_shared.specs.Copying.{FitsItsBytes, entry_answer, is_work}
@@ -120,11 +119,3 @@ pub entry_behind : (step : Step) (old : History) (answer : Answer) (new : Histor
 entry_behind step old answer new before after adds is is' =
     ap (λ (log : List Entry). option_map entry_answer (slice_get log (length before))) is'
     ∙ ap (λ (log : List Entry). option_map entry_answer (slice_get new.log (length log))) is ∙ behind step old answer new adds
-
--- what it shows is the answer
-pub is_shown : (answer : Answer) (shown : Rendered) → Some shown ≡ rendered_step answer → shown ≡ rendered answer
-is_shown answer shown is = by (is_answer answer) is
-  where
-    by : (b : Bool) → Some shown ≡ (if b then Some (rendered answer) else None) → shown ≡ rendered answer
-    by true e = cc
-    by false e = cc

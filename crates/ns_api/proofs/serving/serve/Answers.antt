@@ -1,5 +1,6 @@
-use Rattle.ns_api.proofs.Connections.{served, served_in_part, if_ok}
+use Rattle.ns_api.proofs.Connections.{served, served_in_part}
 use Rattle.ns_api.proofs.serving.serve.Goals as goal
+use Rattle.ns_types.proofs.Results.{if_ok}
 
 pub returns-clause-ok : goal.returns-clause-ok
 returns-clause-ok g c =

@@ -4,8 +4,8 @@ use Rattle.ns_types.specs.Settling.Making.{with_node}
 use Rattle.ns_types.specs.State.Rows.{World}
 use Rattle.ns_change.proofs.Prepares.{done_as}
 use Rattle.ns_change.specs.Changed.{view}
-use Rattle.ns_nodes.proofs.Down.{pool_alone}
 use Rattle.ns_nodes.proofs.status.put_down.Goals as goal
+use Rattle.ns_change.proofs.Nothing.{pool_alone}
 
 pub go_down-requires-clause-first : goal.go_down-requires-clause-first
 go_down-requires-clause-first c = ap (λ (w : World). w.tenants) c.in_ok-put_node.ensures

@@ -2,10 +2,10 @@ use Rattle.std.proofs.Common.{◌∙◌, ◌++◌, ap, arith, false, option_copi
 use Rattle.std.proofs.lemmas.List.{append-nil, take_all}
 use Rattle.ns_types.specs.State.Names.{same_number}
 use Rattle.ns_types.specs.Working.Commit.{part_of}
-use Rattle.ns_types.proofs.Named.{same_number_refl}
+use Rattle.ns_types.proofs.Named.{same_number_refl, other_number}
 use Rattle.ns_plan.specs.After.{after_stops}
 use Rattle.ns_plan.specs.Reader.{evictions_of, left_by}
-use Rattle.ns_plan.proofs.Leaves.{nothing_left_out, other_number, part_next}
+use Rattle.ns_plan.proofs.Leaves.{nothing_left_out, part_next}
 use Rattle.ns_plan.proofs.leaving.left_at.Goals as goal
 use Rattle.ns_plan.proofs.leaving.left_at.Goals.{then-placement-node, else-placement-node}
 
