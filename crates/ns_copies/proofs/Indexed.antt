@@ -52,7 +52,8 @@ none_indexed live slots sorted none = record {
   found = λ k is. refl;
 }
   where
-    by : (pool node : Name) (n : ℕ) (r : Option (Option TenantRows)) → false ≡ option_map_or (is_live_on pool node) (cond (is_some r) None (row_in (flat r) n)) false
+    by : (pool node : Name) (n : ℕ) (r : Option (Option TenantRows)) → false
+        ≡ option_map_or (is_live_on pool node) (cond (is_some r) None (row_in (flat r) n)) false
     by pool node n None = refl
     by pool node n (Some slot) = refl
 

@@ -32,7 +32,8 @@ pub all_kept : (copy all events : List Event) → copy ≡ [] → all ≡ filter
 all_kept copy all events none is few =
     let most : length events - 100 ≡ 0 = omega arith in
     ap (λ l. last 100 (l ++ all)) none
-    ∙ ap (last 100) (is ∙ filter_all (λ (event : Event). nat_le 0 event.index) events (each (λ (event : Event). nat_le 0 event.index ≡ true) (λ event. leb-zero event.index) events))
+    ∙ ap (last 100) (is ∙ filter_all (λ (event : Event). nat_le 0 event.index) events
+    (each (λ (event : Event). nat_le 0 event.index ≡ true) (λ event. leb-zero event.index) events))
     ∙ ap (λ n. drop n events) most
 
 pub pool_copied : (copy p : PoolRows) → copy.pool ≡ p.pool → copy.release ≡ p.release → copy.classes.items ≡ p.classes.items → rows copy.nodes ≡ rows p.nodes →

@@ -37,7 +37,8 @@ module _ {K V A : Type 0} (seen : V → A) where
   rows_kept p ((k, None) ∷ es) = rows_kept p es
   rows_kept p ((k, Some v) ∷ es) = by (rows_kept p es) (p k)
     where
-      by : row_list (filter (keeps p) es) ≡ filter (λ e. p e.0) (row_list es) → (b : Bool) → row_list (cond b ((k, Some v) ∷ filter (keeps p) es) (filter (keeps p) es))
+      by : row_list (filter (keeps p) es) ≡ filter (λ e. p e.0) (row_list es) → (b : Bool)
+          → row_list (cond b ((k, Some v) ∷ filter (keeps p) es) (filter (keeps p) es))
           ≡ cond b ((k, v) ∷ filter (λ e. p e.0) (row_list es)) (filter (λ e. p e.0) (row_list es))
       by rest true = ap (λ fs. (k, v) ∷ fs) rest
       by rest false = rest

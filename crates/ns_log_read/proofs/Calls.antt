@@ -33,7 +33,8 @@ err_back line Memory r is none = λ e w text. tt
 
 -- ---- members
 
-depth-by_order : (o : Ordering) (a b c : Option Data) (e : Data) (n : ℕ) → (Some e ≡ a → depth e ≤ n) → (Some e ≡ b → depth e ≤ n) → (Some e ≡ c → depth e ≤ n) →
+depth-by_order : (o : Ordering) (a b c : Option Data) (e : Data) (n : ℕ) → (Some e ≡ a → depth e ≤ n) → (Some e ≡ b → depth e ≤ n)
+    → (Some e ≡ c → depth e ≤ n) →
     Some e ≡ match_ordering o a b c → depth e ≤ n
 depth-by_order Less a b c e n f g h is = f is
 depth-by_order Equal a b c e n f g h is = g is

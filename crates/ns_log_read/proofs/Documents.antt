@@ -1,5 +1,6 @@
 -- The documents of administrators and nodes that are written and read back.
-use Rattle.std.proofs.Common.{◌≡◌, ℕ, ◌+◌, ◌<◌, ◌≤◌, ◌^◌, ◌==◌, pos, negsuc, List, [], ◌∷◌, ◌++◌, length, map, Bool, true, false, not, ◌&&◌, ◌||◌, nat_le, nat_lt}
+use Rattle.std.proofs.Common.{◌≡◌, ℕ, ◌+◌, ◌<◌, ◌≤◌, ◌^◌, ◌==◌, pos, negsuc, List, [], ◌∷◌, ◌++◌, length, map}
+use Rattle.std.proofs.Common.{Bool, true, false, not, ◌&&◌, ◌||◌, nat_le, nat_lt}
 use Rattle.std.proofs.Common.{Option, Some, None, is_some, Ok, codes, refl, sym, ap, subst, ◌∙◌, arith, length-append, append_assoc, append-nil}
 use Rattle.std.proofs.lemmas.Bool.{le-leb, lt-leb, lt-ltb, leb-true, ne_eqb, not-true, and_from, or_parts, or_from, true≢false, false≢true, cases_Bool}
 use Rattle.std.proofs.lemmas.Map.Text.{is_eq-slice_cmp}
@@ -140,7 +141,8 @@ any_same (y ∷ ys) x h =
         let same : y ≡ x = same_name_is y x (is_eq-slice_cmp y x ∙ e) in
         absurd (true≢false (sym e ∙ sym (is_eq-slice_cmp y x) ∙ ap (λ z. same_name z x) same ∙ ap (same_name x) (sym same) ∙ k))
 
-one_list : (allowed : Option (List Name)) (denied : List Name) → (is_none allowed || is_empty denied) ≡ true → (is_some allowed && not (is_empty denied)) ≡ false
+one_list : (allowed : Option (List Name)) (denied : List Name) → (is_none allowed || is_empty denied) ≡ true
+    → (is_some allowed && not (is_empty denied)) ≡ false
 one_list None denied h = refl
 one_list (Some xs) [] h = refl
 one_list (Some xs) (y ∷ ys) h = absurd (false≢true h)
@@ -214,7 +216,8 @@ quota_back name q is_named good =
     let memory = is_limit (limits_in q.limits).memory in
     let both = first_of_both (is_text q.description && cpu) memory good in
     let limits = limits_back q.limits (second_of_both (is_text q.description) cpu both) (second_of_both (is_text q.description && cpu) memory good) in
-    rw (name_back Member.Name NameKind.Quota name is_named, text_back Member.Description q.description (first_of_both (is_text q.description) cpu both), limits) refl
+    rw (name_back Member.Name NameKind.Quota name is_named, text_back Member.Description q.description
+    (first_of_both (is_text q.description) cpu both), limits) refl
 
 -- ---- pools
 

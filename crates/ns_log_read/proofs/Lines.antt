@@ -118,7 +118,8 @@ one_ok x y h = cc
 pub bad_candidate : (text : Name) (i : ℕ) → Some i ≡ position is_feed text → ReadsBack (take i text) (Err Bad) → HasBadEntry text
 bad_candidate text i at back = λ e w b. not_bad e (back e w (first_is text i (entry_text e) at (entry_lacks e w.within) b))
 
-begins : (text line : Name) → (starts_with eqb text line ≡ true → text ≡ line ++ drop (length line) text) × ((rest : Name) → text ≡ line ++ rest → starts_with eqb text line ≡ true)
+begins : (text line : Name) → (starts_with eqb text line ≡ true → text ≡ line ++ drop (length line) text)
+    × ((rest : Name) → text ≡ line ++ rest → starts_with eqb text line ≡ true)
 begins text line = starts_is (λ a b. (eqb-true a b, eq-eqb a b)) text line (starts_with eqb text line) refl
 
 -- whether the text begins with the line that was written, and how long that is

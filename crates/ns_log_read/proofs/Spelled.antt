@@ -1,6 +1,7 @@
 -- JSON values whose compact text is read back as themselves.
 use Rattle.std.proofs.Common.{◌≡◌, ℕ, zero, suc, ◌+◌, ◌^◌, ◌<◌, ◌≤◌, max, pos, negsuc, List, [], ◌∷◌, ◌++◌, map, Bool, true, false, ◌&&◌, nat_lt}
-use Rattle.std.proofs.Common.{Option, Some, option_map, option_and_then, Ordering, Less, Equal, Greater, refl, sym, ap, ap₂, ◌∙◌, arith, append-nil, append_assoc}
+use Rattle.std.proofs.Common.{Option, Some, option_map, option_and_then, Ordering, Less, Equal, Greater, refl, sym}
+use Rattle.std.proofs.Common.{ap, ap₂, ◌∙◌, arith, append-nil, append_assoc}
 use Rattle.std.proofs.lemmas.Bool.{ltb-true, false≢true}
 use Rattle.std.specs.List.{list_all}
 use lib.Signed.{mag}
@@ -12,7 +13,8 @@ use Rattle.json.specs.Tree.{json_tokens, HasNumbers, ItemsHaveNumbers, MembersHa
 use Rattle.json.proofs.Printed.Decimals.{IsNumber-decimal, IsNumber-signed_decimal}
 use Rattle.json.proofs.Printed.Tokens.{tokens-print}
 use Rattle.json.proofs.Printed.Trees.{value-json_tokens, ArePrintable-json_tokens}
-use Rattle.serde_json.specs.Data.{Num, unsigned, negative, float, Data, null, boolean, number, string, array, object, Items, no_items, item, Members, no_members}
+use Rattle.serde_json.specs.Data.{Num, unsigned, negative, float, Data, null, boolean, number, string, array}
+use Rattle.serde_json.specs.Data.{object, Items, no_items, item, Members, no_members}
 use Rattle.serde_json.specs.Data.{member, put, depth, items_depth, members_depth}
 use Rattle.serde_json.specs.Read.{read, max_depth, of_json, of_items, of_members}
 use Rattle.serde_json.specs.Written.{outline, items_outline, members_outline, compact_text}
@@ -190,7 +192,8 @@ spelled_tokens n d h = ap tokens (sym (print-outline d)) ∙ tokens-print (json_
 pub read_spelled : (n : ℕ) (d : Data) → n ≤ max_depth → is_spelled n d ≡ true → read (compact_text d) ≡ Some d
 read_spelled n d le h =
     let shallow : tree.depth (outline d) ≤ max_depth = omega (arith, nests n d h) in
-    ap whole (ap (json.value max_depth) (spelled_tokens n d h ∙ sym (append-nil _)) ∙ value-json_tokens (outline d) max_depth [] shallow) ∙ of_json-outline n d h
+    ap whole (ap (json.value max_depth) (spelled_tokens n d h ∙ sym (append-nil _)) ∙ value-json_tokens (outline d) max_depth [] shallow)
+    ∙ of_json-outline n d h
 
 -- ---- lists
 

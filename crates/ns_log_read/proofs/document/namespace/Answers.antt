@@ -14,4 +14,5 @@ returns-clause-value c = document_read (namespace_in None) c.as_bytes.result.now
 
 pub returns-clause-good : goal.returns-clause-good
 returns-clause-good c = accepted_so c.read_namespace.result c.accepted.result (λ n. IsTrue (is_name NameKind.Namespace n.name && is_good_namespace n.namespace))
-    (named_so NameKind.Namespace (λ n. n.name) (λ n. is_good_namespace n.namespace) c.read_namespace.result c.read_namespace.ensures.good c.read_namespace.ensures.name) c.accepted.ensures
+    (named_so NameKind.Namespace (λ n. n.name)
+    (λ n. is_good_namespace n.namespace) c.read_namespace.result c.read_namespace.ensures.good c.read_namespace.ensures.name) c.accepted.ensures

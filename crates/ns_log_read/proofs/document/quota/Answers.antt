@@ -14,4 +14,5 @@ returns-clause-value c = document_read (quota_in None) c.as_bytes.result.now _ c
 
 pub returns-clause-good : goal.returns-clause-good
 returns-clause-good c = accepted_so c.read_quota.result c.accepted.result (λ q. IsTrue (is_name NameKind.Quota q.name && is_good_quota q.quota))
-    (named_so NameKind.Quota (λ q. q.name) (λ q. is_good_quota q.quota) c.read_quota.result c.read_quota.ensures.good c.read_quota.ensures.name) c.accepted.ensures
+    (named_so NameKind.Quota (λ q. q.name) (λ q. is_good_quota q.quota) c.read_quota.result c.read_quota.ensures.good c.read_quota.ensures.name)
+    c.accepted.ensures

@@ -13,7 +13,8 @@ text_of-requires c = subst (λ d. depth d ≤ max_depth) (sym c.in_ok-body.ensur
 
 pub returns-clause-value : goal.returns-clause-value
 returns-clause-value c = document_read registration_in c.as_bytes.result.now _ c.read_registration.result c.accepted.result c.as_bytes.ensures.utf8
-    (ap read (c.as_bytes.ensures.value ∙ c.as_str.ensures.value) ∙ c.in_ok-text.ensures ∙ ap Some c.in_ok-body.ensures) c.read_registration.ensures.value c.accepted.ensures
+    (ap read (c.as_bytes.ensures.value ∙ c.as_str.ensures.value) ∙ c.in_ok-text.ensures ∙ ap Some c.in_ok-body.ensures)
+    c.read_registration.ensures.value c.accepted.ensures
 
 pub returns-clause-good : goal.returns-clause-good
 returns-clause-good c = accepted_so c.read_registration.result c.accepted.result (λ r. IsTrue (is_good_registration r.registration))

@@ -17,7 +17,8 @@ returns-in-Some c =
     let here : slice_get seats i ≡ Some (vec_items s) =
     slice_get-map vec_items c.args.seats.now i
     ∙ ap (option_map vec_items) (slice_get_read c.args.seats.now (length c.args.seats.now) i s refl c.loop-number-test.true c.index-seats-number.is) in
-    inl (unfit_in_seat log seats i c.in-Some.place (vec_items s) c.loop-number.marks here inv.marked inv.fit (rw c.as_slice.ensures.value at c.in-Some.ensures.unfit))
+    inl (unfit_in_seat log seats i c.in-Some.place (vec_items s) c.loop-number.marks here inv.marked inv.fit
+    (rw c.as_slice.ensures.value at c.in-Some.ensures.unfit))
 
 pub loop-number-preserved : goal.loop-number-preserved
 loop-number-preserved c =

@@ -8,7 +8,8 @@ use Rattle.ns_held.proofs.held.Held.apply.Goals as goal
 
 pub note-requires-clause-room : goal.note-requires-clause-room
 note-requires-clause-room c = enough_made (Step.Apply c.args.worker c.args.namespace.now) c.self.inside.core c.apply-answer.result c.apply-answer.new.self
-    c.in_ok-step.room refl (ap (λ m. m.1) c.in_ok-step.ensures.room ∙ ap (room_of (Step.Apply c.args.worker c.args.namespace.now)) c.worker_at.ensures) c.apply-answer.ensures
+    c.in_ok-step.room refl (ap (λ m. m.1) c.in_ok-step.ensures.room
+    ∙ ap (room_of (Step.Apply c.args.worker c.args.namespace.now)) c.worker_at.ensures) c.apply-answer.ensures
 
 pub invariant_of-self-2 : goal.invariant_of-self-2
 invariant_of-self-2 c = call_keeps c.self.inside.base.value c.self.inside.limit c.self.inside.log.items c.note.new.log.items c.self.inside.core

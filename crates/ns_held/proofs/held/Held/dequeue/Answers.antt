@@ -6,7 +6,8 @@ use Rattle.ns_held.proofs.Rooms.{enough_made}
 use Rattle.ns_held.proofs.held.Held.dequeue.Goals as goal
 
 pub note-requires-clause-room : goal.note-requires-clause-room
-note-requires-clause-room c = enough_made (Step.Dequeue c.args.worker c.args.namespace.now c.args.evaluation) c.self.inside.core c.dequeue-answer.result c.dequeue-answer.new.self
+note-requires-clause-room c = enough_made
+    (Step.Dequeue c.args.worker c.args.namespace.now c.args.evaluation) c.self.inside.core c.dequeue-answer.result c.dequeue-answer.new.self
     c.in_ok-step.room refl (ap (λ m. m.1) c.in_ok-step.ensures.room) c.dequeue-answer.ensures
 
 pub invariant_of-self-2 : goal.invariant_of-self-2
