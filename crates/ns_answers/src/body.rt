@@ -5,7 +5,7 @@ ghost use Rattle.std.specs.Prelude.{codes, string_bytes, vec_capacity};
 ghost use Rattle.std.specs.Option.{option_map_or};
 ghost use Rattle.json.specs.Print.{escape};
 ghost use Rattle.json.specs.Token.{string};
-ghost use Rattle.serde_json.specs.Data as Data;
+ghost use Rattle.serde_json.specs.Data;
 ghost use Rattle.ns_types.specs.State.Id.{id_text};
 ghost use Rattle.ns_json.specs.Part.{Adds, tokens_of};
 ghost use Rattle.ns_json.specs.Rendering.{object_of, registered_json, stopped_json};

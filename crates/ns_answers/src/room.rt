@@ -28,7 +28,7 @@ pub struct Room {
 impl Model for Room {
     ghost use Rattle.std.specs.Prelude.{◌≡◌, ◌≤◌, [], option_map};
     ghost use Rattle.std.specs.String.{string_bytes, string_capacity};
-    ghost use Rattle.ns_answers.specs.Rooms as Rooms;
+    ghost use Rattle.ns_answers.specs.Rooms;
 
     ghost Value = { Rooms.Room };
 

@@ -25,11 +25,11 @@ use std::alloc::{AllocError, Global};
 
 /// What takes steps.
 pub trait Takes: Server {
-    ghost use Rattle.ns_types.specs.declared.refusal.Refusal.{Refusal as ARefusal};
+    ghost use Rattle.ns_types.specs.declared.refusal.Refusal.{Refusal};
     ghost use Rattle.ns_types.specs.declared.refusal.Refusal.TheVariants.{Memory};
 
     // What it may lack besides memory; and memory, where a read changes it.
-    ghost lacks: { Self → ARefusal → Type 0 };
+    ghost lacks: { Self → Refusal → Type 0 };
 
     /// Makes the step, and says what it is answered. Else it wants something, and nothing changes.
     fn take(&mut self, alloc: Global, step: Step) -> Result<Reply, Refusal>

@@ -1,8 +1,8 @@
 //! Why a text is no log.
 
 ghost use Rattle.std.specs.Prelude.{◌≡◌};
-ghost use Rattle.ns_log_read.specs.declared.fault.LineFault.TheVariants as Line;
-ghost use Rattle.ns_log_read.specs.declared.fault.LogFault.TheVariants as Log;
+ghost use Rattle.ns_log_read.specs.declared.fault.LineFault.TheVariants as LineFault;
+ghost use Rattle.ns_log_read.specs.declared.fault.LogFault.TheVariants as LogFault;
 ghost use Rattle.ns_log_read.specs.Reading.{accepted, fault_of};
 
 use ns_types::refusal::Refusal;
@@ -19,7 +19,7 @@ pub enum LogFault {
 }
 
 impl From<AllocError> for LogFault {
-    ghost from_gives = { λ _ e. e ≡ Log.Memory };
+    ghost from_gives = { λ _ e. e ≡ LogFault.Memory };
 
     fn from(_error: AllocError) -> LogFault {
         LogFault::Memory
@@ -34,7 +34,7 @@ pub enum LineFault {
 }
 
 impl From<AllocError> for LineFault {
-    ghost from_gives = { λ _ e. e ≡ Line.Memory };
+    ghost from_gives = { λ _ e. e ≡ LineFault.Memory };
 
     fn from(_error: AllocError) -> LineFault {
         LineFault::Memory
