@@ -2,3 +2,4 @@ pub mod Adding
 pub mod Entries
 pub mod Refusing
 pub mod SettledAlike
+pub mod Crossing

@@ -5,7 +5,8 @@ use Rattle.std.proofs.Crossing.{crosses, sync}
 use Rattle.std.specs.contracts.alloc.Global as Global
 use Rattle.ns_running_tests.specs.contracts.meeting.Meeting as Meeting
 use Rattle.ns_shared.specs.contracts.shared.Shared as Shared
-use Rattle.ns_running_tests.proofs.Crossing.{Shared-sync, four-sync}
+use Rattle.ns_shared.proofs.Crossing.{Shared-sync}
+use Rattle.ns_running_tests.proofs.Crossing.{four-sync}
 use Rattle.ns_running_tests.proofs.scheduling.performed.Goals as goal
 
 Meeting-sync : IsSync Meeting.the_row
