@@ -1,11 +1,9 @@
 -- What a connection gains are receipts of the steps that its requests ask for.
-use Rattle.std.specs.Prelude.{ℕ, List, [], ◌∷◌, ◌++◌, All, Result, Ok, Err, IfOk}
+use Rattle.std.specs.Prelude.{ℕ, List, [], ◌∷◌, All, Result, Ok, Err, IfOk}
 use Rattle.std.specs.Result.{IsErrOf}
-use Rattle.std.proofs.Common.{ap, refl, subst, sym, ◌∙◌}
-use Rattle.std.proofs.lemmas.List.{append-nil, append_assoc}
+use Rattle.std.proofs.Common.{refl, subst, sym}
 use Rattle.std.proofs.lemmas.List.Elements.{All-append, All-cons, All-nil}
 use Rattle.ns_types.specs.declared.reply.Rendered.{Rendered}
-use Rattle.ns_types.specs.declared.step.Step.{Step}
 use Rattle.ns_types.specs.Wire.Http.{Asked, asked_by, Refused, Whole}
 use Rattle.ns_types.specs.Wire.Responses.{Exchange}
 use Rattle.ns_http.specs.declared.engine.ConnFault.{ConnFault}
@@ -14,22 +12,6 @@ use Rattle.ns_asked.specs.Asking.{asked}
 use Rattle.ns_clients.specs.Answering.{Gains, GainsAll, Made}
 use Rattle.ns_workers.specs.Growing.{Grows}
 use Rattle.ns_serve.specs.Duties.{IsRequested}
-
--- ---- receipts that grow
-
-pub grows_same : (IsOwn : Step → Type 0) (receipts : List Receipt) → Grows IsOwn receipts receipts
-grows_same IsOwn receipts = record {
-  more = [];
-  is_grown = sym (append-nil receipts);
-  are_own = All-nil (λ (receipt : Receipt). IsOwn receipt.step);
-}
-
-pub grows_then : (IsOwn : Step → Type 0) (old mid new : List Receipt) → Grows IsOwn old mid → Grows IsOwn mid new → Grows IsOwn old new
-grows_then IsOwn old mid new first then = record {
-  more = first.more ++ then.more;
-  is_grown = then.is_grown ∙ ap (λ x. x ++ then.more) first.is_grown ∙ append_assoc old first.more then.more;
-  are_own = All-append (λ (receipt : Receipt). IsOwn receipt.step) first.more then.more first.are_own then.are_own;
-}
 
 -- ---- by the requests of a connection
 

@@ -3,8 +3,9 @@ use Rattle.std.proofs.lemmas.Result.{IfOk-weaker}
 use Rattle.ns_receipts.specs.declared.receipt.Receipt.{Receipt}
 use Rattle.ns_workers.specs.Growing.{Grows}
 use Rattle.ns_serve.specs.Duties.{IsRequested}
-use Rattle.ns_serve.proofs.Requests.{grows_same, in_each_case, made_grows}
+use Rattle.ns_serve.proofs.Requests.{in_each_case, made_grows}
 use Rattle.ns_serve.proofs.connections.converse.Goals as goal
+use Rattle.ns_workers.proofs.Growing.{grows_same}
 
 pub returns-then-is_ok : goal.returns-then-is_ok
 returns-then-is_ok g c =
