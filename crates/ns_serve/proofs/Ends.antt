@@ -1,5 +1,5 @@
 -- How a server ended, from its status and what was printed and told.
-use Rattle.std.specs.Prelude.{◌≡◌, ◌⊎◌, ℕ, List, [], ◌∷◌, ◌++◌, Option, Result, Ok, Err}
+use Rattle.std.specs.Prelude.{◌≡◌, ℕ, List, Option, Result, Ok, Err}
 use Rattle.std.specs.Result.{IsErrOf}
 use Rattle.std.specs.declared.net.socket_addr.SocketAddr.{SocketAddr}
 use Rattle.std.proofs.Common.{ap, arith, inl, inr, refl, subst}
@@ -10,7 +10,7 @@ use Rattle.ns_http.specs.declared.engine.ConnFault.{ConnFault}
 use Rattle.ns_faults.specs.Lines.{Tells, line_of, mismatch_line, status_of}
 use Rattle.ns_faults.specs.declared.status.TheConstants.{SERVED, MISMATCH, WRITE_FAULT}
 use Rattle.ns_serve.specs.Ending.{EndsInPart, EndsSettled, IsChosen, IsEnd, TellsLast, fault_line, fault_status}
-use Rattle.ns_serve.specs.Opening.{IsSecret, opening_lines}
+use Rattle.ns_serve.specs.Opening.{opening_lines}
 use Rattle.ns_serve.specs.Printing.{PrintsPart, PrintsRun}
 use Rattle.ns_serve.specs.declared.fault.ServeFault.{ServeFault}
 

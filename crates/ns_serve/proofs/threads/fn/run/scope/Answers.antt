@@ -1,7 +1,6 @@
 use mir.Syntax as Syntax
 use denote.Exit as Exit
 use denote.Ref.{NamedLft}
-use denote.RattleType.{RattleType}
 use denote.Struct.Tuple as Tuple
 use denote.Param.Send.{IsSend, arg_send, param_send, sendable, shr_send}
 use denote.Param.{param}
