@@ -1,8 +1,6 @@
-use Rattle.std.proofs.Common.{◌≡◌, ℕ, List, Option, ap₂, subst, sym}
+use Rattle.std.proofs.Common.{◌≡◌, ℕ, List, Option, subst, sym}
 use Rattle.ns_types.specs.State.Names.{Name}
-use Rattle.ns_http.specs.Counts.{no_counts}
 use Rattle.ns_http.specs.declared.counting.Counted.{Counted}
-use Rattle.ns_http.specs.declared.counting.Counts.{Counts}
 use Rattle.ns_api.specs.declared.following.Driven.{Driven}
 use Rattle.ns_pipe.specs.Ending.{Ends, opened, uncounted}
 use Rattle.ns_pipe.specs.Logging.{EndsLogged, opened_log}
@@ -10,9 +8,7 @@ use Rattle.ns_pipe.specs.Printing.{EndsPrinted, kept_nowhere, nowhere}
 use Rattle.ns_pipe.specs.declared.nowhere.Nowhere.{Nowhere}
 use Rattle.ns_pipe.specs.declared.printed.Printed.{Printed}
 use Rattle.ns_pipe.proofs.running.converse.Goals as goal
-
-fresh : {T : Type 0} (counted : Counted T) (inner : T) → counted.inner ≡ inner → counted.counts ≡ no_counts → counted ≡ uncounted inner
-fresh {T} counted inner p q = let make : T → Counts → Counted T = λ i n. record { inner = i; counts = n } in ap₂ make p q
+use Rattle.ns_pipe.proofs.Uncounted.{uncounted_by}
 
 module _ {D R W : Type 0} (draws : D → List ℕ → D → Type 0) (remaining : R → Option (List ℕ)) (contents : W → Option (List ℕ))
     (printed : Printed) (secret : Name) (x : D) (driven : Driven) (status : ℕ) (reader r reader' : Counted R) (other other' : Counted Nowhere)
@@ -40,8 +36,8 @@ pub returns-in-Replies-clause-ended : goal.returns-in-Replies-clause-ended
 returns-in-Replies-clause-ended g c =
     let e = c.pipe-status.ensures in
     replies g.D.Draws.draws g.R.Read.remaining g.W.Write.contents _ _ _ _ _ _ _ _ c.new-unprinted.result _ _ _ _
-    (fresh c.new-reader.result c.args.reader c.new-reader.ensures.inner c.new-reader.ensures.counts)
-    (fresh c.new-writer.result c.args.writer c.new-writer.ensures.inner c.new-writer.ensures.counts) c.in-Replies.is (record {
+    (uncounted_by c.new-reader.result c.args.reader c.new-reader.ensures.inner c.new-reader.ensures.counts)
+    (uncounted_by c.new-writer.result c.args.writer c.new-writer.ensures.inner c.new-writer.ensures.counts) c.in-Replies.is (record {
       is_end = e.status;
       served = e.served;
       read_fault = e.read_fault;
@@ -53,9 +49,9 @@ pub returns-in-Log-clause-ended : goal.returns-in-Log-clause-ended
 returns-in-Log-clause-ended g c =
     let e = c.pipe_log-status.ensures in
     logs g.D.Draws.draws g.R.Read.remaining g.W.Write.contents _ _ _ _ _ _ _ _ c.new-unprinted.result _ _ _ _
-    (fresh c.new-reader.result c.args.reader c.new-reader.ensures.inner c.new-reader.ensures.counts)
-    (fresh c.new-writer.result c.args.writer c.new-writer.ensures.inner c.new-writer.ensures.counts) c.in-Log.is
-    (fresh c.new-unprinted.result nowhere c.new-unprinted.ensures.inner c.new-unprinted.ensures.counts) (record {
+    (uncounted_by c.new-reader.result c.args.reader c.new-reader.ensures.inner c.new-reader.ensures.counts)
+    (uncounted_by c.new-writer.result c.args.writer c.new-writer.ensures.inner c.new-writer.ensures.counts) c.in-Log.is
+    (uncounted_by c.new-unprinted.result nowhere c.new-unprinted.ensures.inner c.new-unprinted.ensures.counts) (record {
       is_end = e.status;
       served = e.served;
       read_fault = e.read_fault;

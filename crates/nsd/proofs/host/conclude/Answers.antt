@@ -1,7 +1,5 @@
 use Rattle.std.proofs.Common.{◌≡◌, ℕ, List, Option, sym, subst}
-use Rattle.ns_http.specs.Counts.{no_counts}
 use Rattle.ns_http.specs.declared.counting.Counted.{Counted}
-use Rattle.ns_pipe.specs.Ending.{uncounted}
 use Rattle.ns_pipe.specs.declared.running.Ended.{Ended}
 use Rattle.ns_serve.specs.declared.service.Service.{Service}
 use Rattle.ns_types.specs.State.Names.{Name}
@@ -9,15 +7,13 @@ use Rattle.nsd.specs.Hosting.{EndsHosted}
 use Rattle.nsd.specs.Outcome.{MatchOutcome}
 use Rattle.nsd.specs.declared.outcome.Outcome.{Outcome}
 use Rattle.nsd.proofs.host.conclude.Goals as goal
+use Rattle.ns_pipe.proofs.Uncounted.{uncounted_by}
 
 -- a server is to be run
 to_serve : {R W : Type 0} (outcome : Outcome R W) (service : Service) (reader : R) (writer : W) (HasEnded : Ended R W → Type 0)
     (IsToServe : Service → R → W → Type 0) → outcome ≡ Outcome.Serve service reader writer → IsToServe service reader writer →
     MatchOutcome outcome HasEnded IsToServe
 to_serve outcome service reader writer HasEnded IsToServe is h = subst (λ o. MatchOutcome o HasEnded IsToServe) (sym is) h
-
-uncounted_by : {T : Type 0} (counted : Counted T) (inner : T) → counted.inner ≡ inner → counted.counts ≡ no_counts → counted ≡ uncounted inner
-uncounted_by counted inner same none = λ i. record { inner = same i; counts = none i }
 
 -- by an equal writer
 hosted_by : {D W E : Type 0} (draws : D → List ℕ → D → Type 0) (contents : W → Option (List ℕ)) (told : E → Option (List ℕ)) (given : Option Name)
