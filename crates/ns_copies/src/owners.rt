@@ -2,7 +2,7 @@
 
 ghost use Rattle.std.specs.Prelude.{◌≡◌, ◌≤◌, IfOk, length};
 ghost use Rattle.keyed.specs.Table.{rows};
-ghost use Rattle.ns_types.specs.State.Rows as model;
+ghost use Rattle.ns_types.specs.State.Rows;
 ghost use Rattle.ns_world.specs.World.{pool_of, quota_of, tenant_of};
 ghost use Rattle.ns_copies.specs.Whole.{IsWholeTenant};
 
@@ -51,7 +51,7 @@ fn copied_classes(
 }
 
 impl Copies for TenantRows {
-    ghost Seen = { model.Tenant };
+    ghost Seen = { Rows.Tenant };
 
     ghost seen = { tenant_of };
 
@@ -73,7 +73,7 @@ impl Copies for TenantRows {
 }
 
 impl Copies for PoolRows {
-    ghost Seen = { model.PoolRows };
+    ghost Seen = { Rows.PoolRows };
 
     ghost seen = { pool_of };
 
@@ -90,7 +90,7 @@ impl Copies for PoolRows {
 }
 
 impl Copies for QuotaRows {
-    ghost Seen = { model.QuotaRows };
+    ghost Seen = { Rows.QuotaRows };
 
     ghost seen = { quota_of };
 
