@@ -7,20 +7,13 @@ use Rattle.std.specs.Cmp.{IsTotalOrder}
 use Rattle.std.specs.Ordering.{eq_by_cmp, nat_cmp}
 use Rattle.std.specs.FinMap.{FinMap, IsAntisymmetric, empty, get, get-empty, get-insert, get-remove, insert, remove}
 use Rattle.keyed.specs.Table.{emptied, flat, has_slot, row_at, with_slot}
+use Rattle.keyed.proofs.Levels.{flat_none, flat_one}
 use Rattle.keyed.proofs.Tables.{has_slot-insert}
 use Rattle.ns_types.specs.State.Names.{Name, ByName, ByNumber, same_name}
 use Rattle.ns_types.proofs.Named.{names, numbers, one_name}
 use Rattle.ns_types.proofs.Tables.{tied}
 
 -- ---- rows of one table
-
-flat_one : {X : Type 0} (b : Bool) (x : Option X) (y : Option (Option X)) → flat (cond b (Some x) y) ≡ cond b x (flat y)
-flat_one true x y = refl
-flat_one false x y = refl
-
-flat_none : {X : Type 0} (b : Bool) (y : Option (Option X)) → flat (cond b None y) ≡ cond b None (flat y)
-flat_none true y = refl
-flat_none false y = refl
 
 module _ {K V : Type 0} {R : K → K → Ordering} (o : IsTotalOrder R) where
   pub row_set : (m new : FinMap R (Option V)) (k : K) (x : Option V) → new ≡ insert m k x → (q : K) →

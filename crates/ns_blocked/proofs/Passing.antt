@@ -1,6 +1,6 @@
 -- The places of all entries that pass, and the list without them.
 use Rattle.std.specs.Prelude.{◌≡◌, ℕ, ◌<◌, Bool, true, false, cond, not, ◌&&◌, ◌||◌, T, IsTrue, List, [], ◌∷◌, ◌++◌, length, map, filter}
-use Rattle.std.specs.Prelude.{Option, Some, None, is_some, option_map, reverse, Result, Ok, Err, IfOk, OnOk}
+use Rattle.std.specs.Prelude.{Option, Some, None, is_some, option_map, reverse}
 use Rattle.std.proofs.Common.{refl, sym, ap, subst, ◌∙◌, arith}
 use Rattle.std.proofs.lemmas.Map.Lookups.{btree_set_from_contains, exact_unsigned}
 use Rattle.std.specs.declared.cmp.Ordering.TheVariants.{Less}
@@ -14,6 +14,7 @@ use Rattle.ns_types.specs.declared.node.Class.{Class}
 use Rattle.ns_types.specs.State.Lists.{Each}
 use Rattle.ns_types.specs.State.Names.{Key, Name, has_number, same_number}
 use Rattle.ns_types.proofs.Elements.{any_map, any_same, each_still, filter_map, map_map}
+use Rattle.ns_types.proofs.Lists.{none_of}
 use Rattle.ns_types.proofs.Named.{numbers, one_number, same_number_refl}
 use Rattle.ns_types.proofs.Tables.{each_row, less_by}
 use Rattle.ns_types.proofs.Tests as tests
@@ -142,21 +143,7 @@ module _ (start now : BlockedList) (all left : List ℕ) (keys : List Key) (h : 
   all_gone passes are = passing_gone start.index passes now.index all are
       (λ n. sym (ap (λ l. cond (has_number l n) None (entry_at now.index n)) none) ∙ h.gone n)
 
--- ---- an answer that is not refused
-
-pub if_ok : {A E : Type 0} {P Q : A → Type 0} (r : Result A E) → ((x : A) → P x → Q x) → IfOk r P → IfOk r Q
-if_ok (Ok x) f h = f x h
-if_ok (Err e) f h = h
-
-pub on_ok : {A E P Q : Type 0} (r : Result A E) → (P → Q) → OnOk r P → OnOk r Q
-on_ok (Ok x) f h = f h
-on_ok (Err e) f h = h
-
 -- ---- what a group says of the entries
-
-pub none_of : {A : Type 0} (xs : List A) → list_any (λ _. false) xs ≡ false
-none_of [] = refl
-none_of (x ∷ xs) = none_of xs
 
 module _ (index : Index) (next : ℕ) (h : IsIndexed index next) (n : ℕ) where
   pub quota_at : (quota : Name) → is_of_quota index.groups n quota ≡ passes_at (wakes_of_quota quota) (entry_at index n)

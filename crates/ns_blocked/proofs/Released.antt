@@ -12,13 +12,14 @@ use Rattle.ns_types.specs.State.Names.{Key, Name, has_key, same_name}
 use Rattle.ns_types.specs.State.Rows.{PoolRows, QuotaRows, World, evaluation_at}
 use Rattle.ns_types.proofs.Elements.{any_map, any_same}
 use Rattle.ns_types.proofs.Tests.{or_none}
+use Rattle.ns_types.proofs.Lists.{none_of}
 use Rattle.ns_types.proofs.Named.{names, one_name, same_name_refl}
 use Rattle.ns_blocked.specs.declared.entry.Entry.{Entry}
 use Rattle.ns_blocked.specs.declared.entry.Waits.TheVariants.{Pool, Quota}
 use Rattle.ns_blocked.specs.declared.releases.ReleasedPool.{ReleasedPool}
 use Rattle.ns_blocked.specs.Waking.{entries_still_in, entry_of, is_woken, keys_of_passing, released, released_pool, woken_by}
 use Rattle.ns_blocked.proofs.OneKey.{any_row_at, at_that_key}
-use Rattle.ns_blocked.proofs.Passing.{and_false, and_true, any_kept, none_of}
+use Rattle.ns_blocked.proofs.Passing.{and_false, and_true, any_kept}
 
 -- a test that finds one needs no look at whether there are any
 some_there : {A : Type 0} (s : Bool) (p : A → Bool) (xs : List A) → ((s && list_any p xs) && not (is_empty xs)) ≡ (s && list_any p xs)
