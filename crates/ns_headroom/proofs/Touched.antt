@@ -20,7 +20,7 @@ use Rattle.ns_types.proofs.Queue.{queues_keep}
 use Rattle.ns_types.proofs.Settling.{kept_evaluation}
 use Rattle.ns_types.proofs.TableRows.{any_row-alike}
 use Rattle.ns_types.proofs.Tables.{none_of_any}
-use Rattle.ns_types.proofs.Tests.{or_none, same_Some}
+use Rattle.ns_types.proofs.Tests.{and_turned, or_none, same_Some}
 use Rattle.ns_release.specs.Released.{releases_wake_at}
 use Rattle.ns_release.proofs.Rooms.{any_and}
 use Rattle.ns_bounds.specs.Bounds.{is_at_bound, shows_awake}
@@ -125,11 +125,6 @@ module _ (w x : World) (keys : List Key) (only : EndsAlone w x keys) where
   abbrev by_waking : Name → Tenant → Bool
   by_waking ns u = list_any (λ k. same_name ns k.0 && shown_at k ns u) awake
 
-  moved : (b s q : Bool) → (b && (s && q)) ≡ (s && (b && q))
-  moved true s q = refl
-  moved false true q = refl
-  moved false false q = refl
-
   -- ---- by an evaluation that wakes
 
   abbrev shown : Key → Tenant → Bool
@@ -155,7 +150,7 @@ module _ (w x : World) (keys : List Key) (only : EndsAlone w x keys) where
       by : (k : Key) (o : Option Tenant) → (wakes k && option_map_or (shown k) o false)
           ≡ option_map_or (given_waking_passes_in w (rooms w x keys only) (quotas w x keys only) k) o false
       by k None = and-false (wakes k)
-      by k (Some t) = moved (wakes k) (is_at_bound t.index) (shows_awake t k.1 (evaluation_at w k))
+      by k (Some t) = and_turned (wakes k) (is_at_bound t.index) (shows_awake t k.1 (evaluation_at w k))
 
   -- ---- all of it
 
@@ -184,7 +179,7 @@ module _ (w x : World) (keys : List Key) (only : EndsAlone w x keys) where
         waking : (t : Tenant) → get w.tenants ns ≡ Some t →
             (is_at_bound t.index && list_any (λ k. same_name ns k.0 && shows_awake t k.1 (get u.evaluations k.1)) awake) ≡ by_waking ns u
         waking t is = any_and (is_at_bound t.index) (λ k. same_name ns k.0 && shows_awake t k.1 (get u.evaluations k.1)) awake
-            ∙ any_same _ (λ k. same_name ns k.0 && shown_at k ns u) (λ k. moved (is_at_bound t.index) (same_name ns k.0) _
+            ∙ any_same _ (λ k. same_name ns k.0 && shown_at k ns u) (λ k. and_turned (is_at_bound t.index) (same_name ns k.0) _
             ∙ ap (λ o. same_name ns k.0 && option_map_or (λ t. is_at_bound t.index && shows_awake t k.1 (get u.evaluations k.1)) o false) (sym is)) awake
 
     pub tenants_within : any_row (λ _ t. is_tenant_past_bound t) (settle w x).tenants

@@ -2,7 +2,7 @@
 use Rattle.std.specs.Prelude.{◌≡◌, ℕ, ◌+◌, ◌≤◌, Bool, true, false, cond, not, T, List, [], ◌∷◌, Some, None, sum_by}
 use Rattle.std.proofs.Common.{Ordering, Less, Equal, Greater, is_eq, is_lt, refl, sym, ap, subst, ◌∙◌, arith}
 use Rattle.std.proofs.lemmas.List.Sums.{sum_by-cons}
-use Rattle.std.specs.Cmp.{IsTotalOrder, tied_itself}
+use Rattle.std.specs.Cmp.{IsTotalOrder}
 use Rattle.std.specs.FinMap.{FinMap, IsAntisymmetric, empty, entries, entries_sorted, from_entries, get, get-empty, get-entries, get-insert, insert}
 use Rattle.std.specs.FinMap.Entries.{find, where_key, below_all, is_sorted, find-where_key}
 use Rattle.std.specs.Option.{option_map_or}
@@ -10,6 +10,7 @@ use Rattle.std.specs.Ordering.{eq_by_cmp}
 use Rattle.ns_types.specs.State.Lists.{Each}
 use Rattle.ns_types.proofs.Lists.{not_both}
 use Rattle.ns_types.proofs.Sums.{sum_kept}
+use Rattle.ns_types.proofs.TableRows.{turned}
 use Rattle.ns_types.proofs.Tables.{each_row, tied}
 use Rattle.ns_types.proofs.Tests.{first, not_Some, second}
 
@@ -56,13 +57,6 @@ unlike Equal p = absurd p
 unlike Greater p = absurd p
 
 module _ {K : Type 0} {R : K → K → Ordering} (o : IsTotalOrder R) (same : IsAntisymmetric R) where
-  other : (q k : K) → eq_by_cmp R q k ≡ false → eq_by_cmp R k q ≡ false
-  other q k e = by (eq_by_cmp R k q) refl
-    where
-      by : (b : Bool) → eq_by_cmp R k q ≡ b → b ≡ false
-      by false _ = refl
-      by true t = not_both (ap is_eq (tied_itself o q)) (ap (eq_by_cmp R q) (sym (tied same k q t)) ∙ e)
-
   abbrev elsewhere : K → K → Bool
   elsewhere k q = not (eq_by_cmp R q k)
 
@@ -84,8 +78,8 @@ module _ {K : Type 0} {R : K → K → Ordering} (o : IsTotalOrder R) (same : Is
             ≤ sum (e ∷ es)
         by rest true t true u = le_sum (λ e. g e.0 e.1) e es _
             (both_le _ _ _ _ (subst (λ q. g k e.1 ≤ g q e.1) (tied same k e.0 t) (omega arith)) (sum_kept (λ e. g e.0 e.1) (λ e. elsewhere k e.0) es))
-        by rest true t false u = not_both t (other e.0 k u)
-        by rest false t true u = not_both u (other k e.0 t)
+        by rest true t false u = not_both t (turned o e.0 k u)
+        by rest false t true u = not_both u (turned o k e.0 t)
         by rest false t false u = le_sum (λ e. g e.0 e.1) e es _
             (subst (λ m. at k es + m ≤ g e.0 e.1 + sum es) (sym (sum_by-cons (λ e. g e.0 e.1) e (where_key R (elsewhere k) es)))
             (past (at k es) _ _ (g e.0 e.1) rest))
@@ -104,7 +98,7 @@ module _ {K : Type 0} {R : K → K → Ordering} (o : IsTotalOrder R) (same : Is
             Each (λ x. f x.0 x.1 ≤ at g x.0 (where_key R (elsewhere e.0) fs)) xs
         still [] _ k = tt
         still (x ∷ xs) b k = (
-          subst (λ y. f x.0 x.1 ≤ option_map_or (g x.0) y 0) (sym (found_elsewhere g e.0 x.0 fs (other e.0 x.0 (unlike (R e.0 x.0) (first _ _ b))))) k.0,
+          subst (λ y. f x.0 x.1 ≤ option_map_or (g x.0) y 0) (sym (found_elsewhere g e.0 x.0 fs (turned o e.0 x.0 (unlike (R e.0 x.0) (first _ _ b))))) k.0,
           still xs (second _ _ b) k.1,
         )
 

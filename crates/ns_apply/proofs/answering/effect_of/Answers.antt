@@ -1,5 +1,5 @@
-use Rattle.std.proofs.Common.{◌≡◌, Bool, true, false, cond, List, [], ◌∷◌, ap, arith, refl, sym, ◌∙◌}
-use Rattle.std.specs.Prelude.{◌==◌, ◌||◌, ℕ, not, filter, length}
+use Rattle.std.proofs.Common.{◌≡◌, false, List, [], ◌∷◌, ap, arith, refl, sym, ◌∙◌}
+use Rattle.std.specs.Prelude.{◌==◌, ◌||◌, ℕ, not, length}
 use Rattle.std.specs.FinMap.{get}
 use Rattle.std.specs.List.{list_any}
 use Rattle.std.specs.Option.{option_map_or}
@@ -8,19 +8,13 @@ use Rattle.ns_types.specs.State.Lists.{is_empty}
 use Rattle.ns_types.specs.State.Names.{has_number}
 use Rattle.ns_types.specs.State.Rows.{is_live}
 use Rattle.ns_types.specs.Working.Commit.{live_stops}
+use Rattle.ns_types.proofs.Lists.{any_is}
 use Rattle.ns_types.proofs.Named.{number_ties}
 use Rattle.ns_types.proofs.TableRows.{apart}
 use Rattle.ns_world.specs.World.{tenant_of}
 use Rattle.ns_apply.specs.Writing.{placed_on}
 use Rattle.ns_apply.proofs.answering.effect_of.Goals as goal
 use Rattle.ns_apply.proofs.answering.effect_of.Goals.{then-any_live, else-any_live}
-
-any_is : {A : Type 0} (p : A → Bool) (xs : List A) → list_any p xs ≡ not (is_empty (filter p xs))
-any_is p [] = refl
-any_is p (x ∷ xs) = elim (p x) as (λ b. (b || list_any p xs) ≡ not (is_empty (cond b (x ∷ filter p xs) (filter p xs)))) [
-  | true ↦ refl
-  | false ↦ any_is p xs
-]
 
 none_is : {A : Type 0} (xs : List A) → (length xs == 0) ≡ is_empty xs
 none_is [] = refl
