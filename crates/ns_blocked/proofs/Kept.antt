@@ -1,6 +1,7 @@
 -- What a release leaves is what the model leaves.
 use Rattle.std.specs.Prelude.{◌≡◌, Bool, true, false, cond, not, ◌&&◌, ◌||◌, List, [], ◌∷◌, map, filter, Option, Some, None, option_map}
 use Rattle.std.proofs.Common.{refl, sym, ap, ◌∙◌}
+use Rattle.std.proofs.Math.Bool.{and-false}
 use Rattle.std.specs.List.{cons_option, filter_map}
 use Rattle.ns_types.specs.declared.evaluation.Evaluation.{Evaluation}
 use Rattle.ns_types.specs.Settling.Releases.{woken}
@@ -12,7 +13,6 @@ use Rattle.ns_types.proofs.Named.{same_key_refl}
 use Rattle.ns_types.proofs.Tests.{same_Some}
 use Rattle.ns_blocked.specs.declared.entry.Entry.{Entry}
 use Rattle.ns_blocked.specs.Waking.{entries_in, entries_still_in, entry_of, is_woken, keys_of_passing, released, without_passing}
-use Rattle.ns_blocked.proofs.Passing.{and_false}
 use Rattle.ns_blocked.proofs.Released.{woken_is}
 use Rattle.ns_types.proofs.Once.{key_is}
 
@@ -70,7 +70,7 @@ module _ (w : World) where
           has_key (map (λ e. e.key) (cond b (x ∷ filter passes xs) (filter passes xs))) e.key ≡ ((same_key e.key x.key || others) && passes e)
       by true p true t later = ap (λ s. s || found) t ∙ sym (ap (λ s. (s || others) && passes e) t ∙ alike t ∙ p)
       by true p false t later = ap (λ s. s || found) t ∙ later ∙ sym (ap (λ s. (s || others) && passes e) t)
-      by false p true t later = later ∙ ap (λ b. others && b) (alike t ∙ p) ∙ and_false others
+      by false p true t later = later ∙ ap (λ b. others && b) (alike t ∙ p) ∙ and-false others
           ∙ sym (ap (λ s. (s || others) && passes e) t ∙ alike t ∙ p)
       by false p false t later = later ∙ sym (ap (λ s. (s || others) && passes e) t)
 

@@ -2,6 +2,7 @@
 use Rattle.std.specs.Prelude.{◌≡◌, ℕ, ◌<◌, Bool, true, false, cond, not, ◌&&◌, ◌||◌, T, IsTrue, List, [], ◌∷◌, ◌++◌, length, map, filter}
 use Rattle.std.specs.Prelude.{Option, Some, None, is_some, option_map, reverse}
 use Rattle.std.proofs.Common.{refl, sym, ap, subst, ◌∙◌, arith}
+use Rattle.std.proofs.Math.Bool.{and-false}
 use Rattle.std.proofs.lemmas.Map.Lookups.{btree_set_from_contains, exact_unsigned}
 use Rattle.std.specs.declared.cmp.Ordering.TheVariants.{Less}
 use Rattle.std.specs.FinMap.{entries, entries_sorted, values}
@@ -64,10 +65,6 @@ pub and_true : (b : Bool) → (b && true) ≡ b
 and_true true = refl
 and_true false = refl
 
-pub and_false : (b : Bool) → (b && false) ≡ false
-and_false true = refl
-and_false false = refl
-
 pub any_kept : {A : Type 0} (p passes : A → Bool) (xs : List A) → list_any p (filter passes xs) ≡ list_any (λ x. p x && passes x) xs
 any_kept p passes [] = refl
 any_kept {A = A} p passes (x ∷ xs) = by (passes x) (any_kept p passes xs)
@@ -80,7 +77,7 @@ any_kept {A = A} p passes (x ∷ xs) = by (passes x) (any_kept p passes xs)
 
     by : (b : Bool) → list_any p rest ≡ others → list_any p (cond b (x ∷ rest) rest) ≡ ((p x && b) || others)
     by true same = λ i. sym (and_true (p x)) i || same i
-    by false same = same ∙ ap (λ b. b || others) (sym (and_false (p x)))
+    by false same = same ∙ ap (λ b. b || others) (sym (and-false (p x)))
 
 module _ (index : Index) (passes : Entry → Bool) where
   passing : List (ℕ × Entry)

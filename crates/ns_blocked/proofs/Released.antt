@@ -1,6 +1,7 @@
 -- What a step releases wakes those that the model wakes.
 use Rattle.std.specs.Prelude.{◌≡◌, Bool, true, false, cond, not, ◌&&◌, ◌||◌, List, [], ◌∷◌, map, filter, Option, Some, None, option_map}
 use Rattle.std.proofs.Common.{refl, sym, ap, ◌∙◌}
+use Rattle.std.proofs.Math.Bool.{and-false}
 use Rattle.std.specs.FinMap.{entries, get}
 use Rattle.std.specs.List.{cons_option, filter_map, list_any}
 use Rattle.std.specs.Option.{option_map_or}
@@ -19,7 +20,7 @@ use Rattle.ns_blocked.specs.declared.entry.Waits.TheVariants.{Pool, Quota}
 use Rattle.ns_blocked.specs.declared.releases.ReleasedPool.{ReleasedPool}
 use Rattle.ns_blocked.specs.Waking.{entries_still_in, entry_of, is_woken, keys_of_passing, released, released_pool, woken_by}
 use Rattle.ns_blocked.proofs.OneKey.{any_row_at, at_that_key}
-use Rattle.ns_blocked.proofs.Passing.{and_false, and_true, any_kept}
+use Rattle.ns_blocked.proofs.Passing.{and_true, any_kept}
 
 -- a test that finds one needs no look at whether there are any
 some_there : {A : Type 0} (s : Bool) (p : A → Bool) (xs : List A) → ((s && list_any p xs) && not (is_empty xs)) ≡ (s && list_any p xs)
@@ -103,7 +104,7 @@ module _ (w w' : World) where
           keys_of_passing passes (filter (λ e. has_key w'.blocked e.key) (cons_option (option_map (entry_of key) r)
           (filter_map (λ key. option_map (entry_of key) (evaluation_at w key)) keys)))
           ≡ cond (has_key w'.blocked key && option_map_or (wakes w w') r false) (key ∷ rest) rest
-      by None later = later ∙ ap (λ b. cond b (key ∷ rest) rest) (sym (and_false (has_key w'.blocked key)))
+      by None later = later ∙ ap (λ b. cond b (key ∷ rest) rest) (sym (and-false (has_key w'.blocked key)))
       by (Some e) later = there e (has_key w'.blocked key) later
 
   pub woken_is : woken_by (released w w') (entries_still_in w w') ≡ woken w w'
