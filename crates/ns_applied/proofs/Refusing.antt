@@ -1,6 +1,7 @@
 -- A plan that does not stand changes the worker's row and the list of plans, and no counter.
 use Rattle.std.specs.Prelude.{◌≡◌, ℕ, ◌+◌, ◌&&◌, ◌||◌, Bool, true, false, cond, not, [], Option, Some, None, nat_lt, option_map}
 use Rattle.std.proofs.Common.{refl, sym, ap, subst, ◌∙◌, arith}
+use Rattle.std.proofs.Math.Bool.{and-false}
 use Rattle.std.specs.FinMap.{get, insert}
 use Rattle.std.specs.Option.{option_and_then, option_map_or}
 use Rattle.ns_types.specs.declared.evaluation.Evaluation.{Evaluation}
@@ -50,15 +51,11 @@ module _ (w : World) (within : is_past_bound w ≡ false) (kept : Snapshot) wher
   own_within : own_passes w kept.namespace nothing ≡ false
   own_within = by (get w.tenants kept.namespace) refl
     where
-      none : (b : Bool) → (b && false) ≡ false
-      none true = refl
-      none false = refl
-
       by : (o : Option Tenant) → get w.tenants kept.namespace ≡ o → option_map_or (own_passes_in nothing) o false ≡ false
       by None at = refl
       by (Some t) at = λ i. (ap (nat_lt greatest) (no_more t.allocation_number)
           ∙ right_none (nat_lt greatest t.index || nat_lt greatest t.evaluation_number) _ (tenant_within kept.namespace t at)) i
-          || none (nat_lt greatest (t.index + 1)) i
+          || and-false (nat_lt greatest (t.index + 1)) i
 
   passes_none : apply_passes w kept nothing ≡ false
   passes_none = λ i. evaluations_within i || own_within i || false || false || false
