@@ -216,8 +216,12 @@ quota_back name q is_named good =
     let memory = is_limit (limits_in q.limits).memory in
     let both = first_of_both (is_text q.description && cpu) memory good in
     let limits = limits_back q.limits (second_of_both (is_text q.description) cpu both) (second_of_both (is_text q.description && cpu) memory good) in
-    rw (name_back Member.Name NameKind.Quota name is_named, text_back Member.Description q.description
-    (first_of_both (is_text q.description) cpu both), limits) refl
+    rw (
+      name_back Member.Name NameKind.Quota name is_named,
+      text_back Member.Description q.description
+          (first_of_both (is_text q.description) cpu both),
+      limits,
+    ) refl
 
 -- ---- pools
 

@@ -162,7 +162,7 @@ members_in_order n before (a ∷ more) h sorted =
     let next : list_all (λ l. below_all name_cmp l (pairs more)) (before ++ a.key ∷ []) ≡ true =
     list_all-append (λ l. below_all name_cmp l (pairs more)) before (a.key ∷ []) ∙ rw (both.1, below) refl in
     let rest = members_in_order n (before ++ a.key ∷ []) more next
-        (second_of_both (below_all name_cmp a.key (pairs more)) (is_sorted name_cmp (pairs more)) sorted) in
+    (second_of_both (below_all name_cmp a.key (pairs more)) (is_sorted name_cmp (pairs more)) sorted) in
     rw (both.0, rest) refl
 
 attributes_spelled : (o : Offer) → IsInOrder o → is_spelled 6 (attributes_json o.attributes) ≡ true

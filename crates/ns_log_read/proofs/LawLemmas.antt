@@ -98,7 +98,7 @@ one_log text secret other es fs h k =
 not_after : (text secret : Name) (es : List Entry) (n : ℕ) → IsLogOf text secret es → IsBadAfter text n → ⊥
 not_after text secret es n h b =
     let both = heads secret b.secret (lines es ++ []) (lines b.entries ++ b.rest) h.is_secret b.is_log.is_secret
-        (sym (whole text secret es h) ∙ part text n b) in
+    (sym (whole text secret es h) ∙ part text n b) in
     goes_on es b.entries b.rest h.writable b.is_log.writable b.is_more b.is_bad both.1
 
 pub log_has_no_fault : LogHasNoFault
