@@ -1,44 +1,17 @@
 //! Which classes an entry can use.
 
 ghost use Rattle.std.specs.Prelude.{◌≡◌};
-ghost use Rattle.std.specs.Cmp.Lexicographic.{slice_cmp};
 ghost use Rattle.ns_blocked.specs.Waking.{can_use, can_use_any, is_usable};
-ghost use Rattle.ns_types.specs.State.Names.{attribute_cmp, class_cmp, has_class};
+ghost use Rattle.ns_types.specs.State.Names.{has_class};
 
 use crate::entry::Waiting;
-use ns_types::node::{Attribute, Class};
-use std::cmp::Ordering;
-
-fn compare_attribute(a: &Attribute, b: &Attribute) -> Ordering
-    ensures { result ≡ attribute_cmp a.now b.now }
-{
-    a.key.cmp(&b.key).then(a.value.cmp(&b.value))
-}
-
-fn compare_attributes(a: &[Attribute], b: &[Attribute]) -> Ordering
-    ensures { result ≡ slice_cmp attribute_cmp a.now b.now }
-{
-    match (a, b) {
-        ([], []) => Ordering::Equal,
-        ([], [_second, _more @ ..]) => Ordering::Less,
-        ([_first, _others @ ..], []) => Ordering::Greater,
-        ([first, others @ ..], [second, more @ ..]) => {
-            compare_attribute(first, second).then(compare_attributes(others, more))
-        }
-    }
-}
-
-fn compare(a: &Class, b: &Class) -> Ordering
-    ensures { result ≡ class_cmp a.now b.now }
-{
-    let by_name = a.name.cmp(&b.name);
-    by_name.then(compare_attributes(a.attributes.as_slice(), b.attributes.as_slice()))
-}
+use ns_alike::same_class;
+use ns_types::node::Class;
 
 fn has_class(classes: &[Class], class: &Class) -> bool
     ensures { result ≡ has_class classes.now class.now }
 {
-    classes.iter().any(|other| compare(class, other).is_eq())
+    classes.iter().any(|other| same_class(class, other))
 }
 
 fn can_use(row: &Waiting, class: &Class) -> bool
