@@ -23,7 +23,8 @@ fn take<W: Works>(alloc: Global, works: &mut W, key: &EvalKey) -> Result<(), Sto
     ensures ends { IfErr result (λ stop. (has : Option Snapshot) →
         Ends W.state W.notes W.lacks works.old has stop works.new) }
 {
-    let _reply = works.dequeue(alloc, WORKER, key.namespace(), key.number())?;
+    let reply = works.dequeue(alloc, WORKER, key.namespace(), key.number())?;
+    drop(reply);
     Ok(())
 }
 
@@ -60,7 +61,8 @@ fn finish<W: Works>(
         Ends W.state W.notes W.lacks works.old (seen_of kept.new) stop works.new) }
     ensures same { OnErr result (seen_of kept.new ≡ seen_of kept.old) }
 {
-    let _reply = works.finish(alloc, WORKER, namespace, planned)?;
+    let reply = works.finish(alloc, WORKER, namespace, planned)?;
+    drop(reply);
     *kept = Kept::Nothing;
     Ok(())
 }
@@ -86,7 +88,8 @@ fn submit<W: Works>(
         drop(planned);
         return ended;
     }
-    let _reply = works.submit(alloc, WORKER, namespace, planned)?;
+    let reply = works.submit(alloc, WORKER, namespace, planned)?;
+    drop(reply);
     Ok(())
 }
 
@@ -135,7 +138,8 @@ fn apply<W: Works>(alloc: Global, works: &mut W, namespace: &Text) -> Result<(),
     ensures ends { IfErr result (λ stop. (has : Option Snapshot) →
         Ends W.state W.notes W.lacks works.old has stop works.new) }
 {
-    let _reply = works.apply(alloc, WORKER, namespace)?;
+    let reply = works.apply(alloc, WORKER, namespace)?;
+    drop(reply);
     Ok(())
 }
 

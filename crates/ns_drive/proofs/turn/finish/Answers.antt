@@ -7,11 +7,11 @@ use Rattle.ns_drive.specs.Driving.{driven}
 use Rattle.ns_drive.specs.Kept.{seen_of}
 use Rattle.ns_drive.specs.Working.{Ends}
 
-pub returns-in_err-_reply-clause-ends : goal.returns-in_err-_reply-clause-ends
-returns-in_err-_reply-clause-ends g c =
+pub returns-in_err-reply-clause-ends : goal.returns-in_err-reply-clause-ends
+returns-in_err-reply-clause-ends g c =
     let old = c.args.works.now in
     let new = c.finish.new.self in
-    let refusal = c.in_err-_reply.field-0.0 in
+    let refusal = c.in_err-reply.field-0.0 in
     let end = c.requires.end in
     let ns = c.args.namespace.now in
     let planned = c.args.planned.now in
@@ -19,5 +19,5 @@ returns-in_err-_reply-clause-ends g c =
     (λ stop. Ends g.W.Server.state g.W.Server.notes g.W.Works.lacks old (seen_of c.args.kept.now) stop new) c.from_residual.ensures
     (subst (λ has. Ends g.W.Server.state g.W.Server.notes g.W.Works.lacks old has (Stop.Refused refusal) new) (sym c.requires.kept)
     (end_refused g.W.Server.state g.W.Server.notes g.W.Works.lacks old ns end.0 planned end.1 new refusal
-    (subst (λ r. AttemptsFinish g.W.Server.state g.W.Server.notes g.W.Works.lacks driven ns planned old r new) c.in_err-_reply.was
+    (subst (λ r. AttemptsFinish g.W.Server.state g.W.Server.notes g.W.Works.lacks driven ns planned old r new) c.in_err-reply.was
     c.finish.ensures) end.2 end.3))
