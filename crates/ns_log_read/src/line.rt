@@ -75,8 +75,15 @@ pub fn next_entry(alloc: Global, text: &[u8]) -> Result<Line, LineFault>
         return Err(LineFault::Bad);
     };
     let entry = candidate(alloc, &text[..end])?;
-    match line_len(alloc, text, &entry)? {
-        Some(len) => Ok(Line { entry, len }),
-        None => Err(LineFault::Bad),
+    match line_len(alloc, text, &entry) {
+        Ok(Some(len)) => Ok(Line { entry, len }),
+        Ok(None) => {
+            drop(entry);
+            Err(LineFault::Bad)
+        }
+        Err(_) => {
+            drop(entry);
+            Err(LineFault::Memory)
+        }
     }
 }

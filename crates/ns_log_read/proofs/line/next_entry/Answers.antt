@@ -1,4 +1,4 @@
-use Rattle.std.proofs.Common.{◌≡◌, ◌∙◌, take, sym, subst, Some, Ok, Err}
+use Rattle.std.proofs.Common.{◌≡◌, ◌∙◌, take, sym, subst, None, Some, Ok, Err}
 use Rattle.std.proofs.lemmas.Result.{err_from_is_err_and, IfOk-at_ok}
 use Rattle.ns_log_read.specs.declared.fault.LineFault.TheVariants.{Bad}
 use Rattle.ns_log_read.specs.Reading.{IsLineLen, ReadsBack}
@@ -15,13 +15,14 @@ returns-in_err-entry-clause-bad c =
     let bad : c.candidate.result ≡ Err Bad = cc (p.1, p.2, e) in
     bad_candidate c.args.text.now c.in-Some.end (cc) (subst (ReadsBack (take c.in-Some.end c.args.text.now)) bad c.candidate.ensures.back)
 
-pub returns-in-Some-2-clause-ok : goal.returns-in-Some-2-clause-ok
-returns-in-Some-2-clause-ok c =
-    let is : c.line_len.result ≡ Ok (Some c.in-Some-2.len) = cc in
-    is_line c.args.text.now c.in-Some.end c.in-Some-2.len c.in_ok-entry.entry (cc) c.in_ok-entry.ensures.within c.in_ok-entry.ensures.text
+pub returns-in-Ok-Some-clause-ok : goal.returns-in-Ok-Some-clause-ok
+returns-in-Ok-Some-clause-ok c =
+    let is : c.line_len.result ≡ Ok (Some c.in-Ok-Some.len) = cc in
+    is_line c.args.text.now c.in-Some.end c.in-Ok-Some.len c.in_ok-entry.entry (cc) c.in_ok-entry.ensures.within c.in_ok-entry.ensures.text
     (IfOk-at_ok (IsLineLen c.args.text.now c.in_ok-entry.entry) is c.line_len.ensures)
 
-pub returns-in-None-clause-bad : goal.returns-in-None-clause-bad
-returns-in-None-clause-bad c = λ e.
+pub returns-in-Ok-None-clause-bad : goal.returns-in-Ok-None-clause-bad
+returns-in-Ok-None-clause-bad c = λ e.
+    let is : c.line_len.result ≡ Ok None = cc in
     other_spelling c.args.text.now c.in-Some.end c.in_ok-entry.entry (sym c.in-Some.is ∙ c.line_end.ensures.value) c.in_ok-entry.ensures.back
-    (subst (IsLineLen c.args.text.now c.in_ok-entry.entry) c.in-None.is c.in_ok-len.ensures)
+    (IfOk-at_ok (IsLineLen c.args.text.now c.in_ok-entry.entry) is c.line_len.ensures)
