@@ -16,7 +16,7 @@ use Rattle.ns_json.specs.Rendering.{namespace_json, quota_json, pool_json, attri
 use Rattle.ns_json.specs.Replies.{Entry}
 use Rattle.ns_types.specs.Wire.Words.{kind_text, node_status_text, eligibility_text, client_text}
 
--- what is asked or told: its name and its arguments
+-- what is asked of a server: its name and its arguments
 abbrev pub Call : Type 0
 Call = Name × List (Name × Data)
 
@@ -119,16 +119,16 @@ administered (AdminCommand.DeletePolicy name) = (codes "DeletePolicy", named nam
 administered (AdminCommand.CreateToken t) = (codes "CreateToken", documented (new_token_json t) ∷ [])
 administered (AdminCommand.DeleteToken accessor) = (codes "DeleteToken", (codes "AccessorID", string accessor) ∷ [])
 
-unfoldable pub told : NodeCommand → Call
-told NodeCommand.ReadPool = (codes "ReadPool", [])
-told NodeCommand.ListNodes = (codes "ListNodes", [])
-told (NodeCommand.PutNode name offer) = (codes "PutNode", documented (offer_json offer) ∷ named name ∷ [])
-told (NodeCommand.DeleteNode name) = (codes "DeleteNode", named name ∷ [])
-told (NodeCommand.SetStatus name status) =
+unfoldable pub node_call : NodeCommand → Call
+node_call NodeCommand.ReadPool = (codes "ReadPool", [])
+node_call NodeCommand.ListNodes = (codes "ListNodes", [])
+node_call (NodeCommand.PutNode name offer) = (codes "PutNode", documented (offer_json offer) ∷ named name ∷ [])
+node_call (NodeCommand.DeleteNode name) = (codes "DeleteNode", named name ∷ [])
+node_call (NodeCommand.SetStatus name status) =
     (codes "SetStatus", named name ∷ (codes "Status", string (node_status_text status)) ∷ [])
-told (NodeCommand.SetEligible name eligible) =
+node_call (NodeCommand.SetEligible name eligible) =
     (codes "SetEligible", (codes "Eligibility", string (eligibility_text eligible)) ∷ named name ∷ [])
-told (NodeCommand.Report name r) = (codes "Report", report_members name r)
+node_call (NodeCommand.Report name r) = (codes "Report", report_members name r)
 
 -- ---- steps
 
@@ -150,7 +150,7 @@ step_members (Step.Ask ns secret command) =
 step_members (Step.Admin secret command) =
     call_members (administered command) (kind (codes "Admin") ∷ with_secret secret ∷ [])
 step_members (Step.Node pool secret command) =
-    call_members (told command) (kind (codes "Node") ∷ (codes "Pool", string pool) ∷ with_secret secret ∷ [])
+    call_members (node_call command) (kind (codes "Node") ∷ (codes "Pool", string pool) ∷ with_secret secret ∷ [])
 step_members (Step.Dequeue worker ns n) = (codes "Eval", number_of n) ∷ work_members (codes "Dequeue") worker ns
 step_members (Step.Snap worker ns) = work_members (codes "Snap") worker ns
 step_members (Step.Submit worker ns) = work_members (codes "Submit") worker ns

@@ -1,8 +1,8 @@
-//! What is asked or told: its arguments and its name.
+//! What is asked of a server: its arguments and its name.
 
 ghost use Rattle.std.specs.Prelude.{OnOk, map, codes, ◌∷◌, []};
 ghost use Rattle.serde_json.specs.Data.{string};
-ghost use Rattle.ns_json.specs.Logs.{asked, administered, told, documented, report_members};
+ghost use Rattle.ns_json.specs.Logs.{asked, administered, node_call, documented, report_members};
 ghost use Rattle.ns_json.specs.Part.{Follows};
 ghost use Rattle.ns_json.specs.Rendering.{number_of};
 ghost use Rattle.ns_log.specs.Members.{document_json, member_of, call_tokens};
@@ -193,9 +193,13 @@ fn write_report<'a>(out: &mut Writer, name: &'a Text, report: &'a Report) -> Res
     )
 }
 
-#[tactic(auto, unfolding(ns_json::specs::Logs::told))]
-pub fn write_told(out: &mut Writer, alloc: Global, command: &NodeCommand) -> Result<(), AllocError>
-    ensures { OnOk result (Follows out.old out.new (call_tokens (told command.now))) }
+#[tactic(auto, unfolding(ns_json::specs::Logs::node_call))]
+pub fn write_node_call(
+    out: &mut Writer,
+    alloc: Global,
+    command: &NodeCommand,
+) -> Result<(), AllocError>
+    ensures { OnOk result (Follows out.old out.new (call_tokens (node_call command.now))) }
 {
     match command {
         NodeCommand::ReadPool => write_bare(out, "ReadPool"),

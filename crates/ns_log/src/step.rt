@@ -6,7 +6,7 @@ ghost use Rattle.ns_json.specs.Logs.{step_members, work_members};
 ghost use Rattle.ns_json.specs.Part.{Follows, tokens_of};
 ghost use Rattle.ns_json.specs.Rendering.{object_of};
 
-use crate::call::{write_administered, write_asked, write_told};
+use crate::call::{write_administered, write_asked, write_node_call};
 use crate::member::{Member, secret_or_null, write_end, write_object};
 use json::Writer;
 use ns_json::part::{Part, write_parts};
@@ -85,7 +85,7 @@ fn write_node<'a>(
         (tokens_of (object_of (step_members (Step.Node pool.now secret.now command.now))))) }
 {
     write_parts(out, &[Part::BeginObject])?;
-    write_told(out, alloc, command.get())?;
+    write_node_call(out, alloc, command.get())?;
     write_end(
         out,
         alloc,

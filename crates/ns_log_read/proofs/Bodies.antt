@@ -1,5 +1,5 @@
 -- Documents that are written as bodies and read by the readers of bodies.
-use Rattle.std.proofs.Common.{◌≡◌, ◌&&◌, Bool, List, [], Some, None, Result, Ok, Err, IfOk, refl, sym, ap, subst}
+use Rattle.std.proofs.Common.{◌≡◌, ◌&&◌, Bool, List, Some, None, Result, Ok, Err, IfOk, refl, sym, ap, subst}
 use Rattle.std.specs.Prelude.{IsTrue, IsUtf8}
 use Rattle.std.proofs.lemmas.Bool.{and_from}
 use Rattle.serde_json.specs.Data.{Data}

@@ -1,18 +1,16 @@
 -- The documents of administrators and nodes that are written and read back.
-use Rattle.std.proofs.Common.{◌≡◌, ℕ, ◌+◌, ◌<◌, ◌≤◌, ◌^◌, ◌==◌, pos, negsuc, List, [], ◌∷◌, ◌++◌, length, map}
+use Rattle.std.proofs.Common.{◌≡◌, ℕ, ◌+◌, ◌<◌, ◌≤◌, ◌^◌, ◌==◌, List, [], ◌∷◌, ◌++◌, length, map}
 use Rattle.std.proofs.Common.{Bool, true, false, not, ◌&&◌, ◌||◌, nat_le, nat_lt}
-use Rattle.std.proofs.Common.{Option, Some, None, is_some, Ok, codes, refl, sym, ap, subst, ◌∙◌, arith, length-append, append_assoc, append-nil}
-use Rattle.std.proofs.lemmas.Bool.{le-leb, lt-leb, lt-ltb, leb-true, ne_eqb, not-true, and_from, or_parts, or_from, true≢false, false≢true, cases_Bool}
+use Rattle.std.proofs.Common.{Option, Some, None, is_some, Ok, codes, refl, sym, ap, ◌∙◌, arith, length-append, append_assoc, append-nil}
+use Rattle.std.proofs.lemmas.Bool.{le-leb, lt-leb, lt-ltb, leb-true, ne_eqb, not-true, and_from, or_parts, or_from, true≢false, false≢true}
 use Rattle.std.proofs.lemmas.Map.Text.{is_eq-slice_cmp}
-use Rattle.std.specs.List.{list_all, list_any}
+use Rattle.std.specs.List.{list_all}
 use Rattle.std.specs.Option.{option_map_or, is_none}
 use Rattle.std.specs.Str.{bytes_eq}
-use Rattle.serde_json.specs.Data.{Data, string, object, number, unsigned, negative, no_items, item, no_members, member}
+use Rattle.serde_json.specs.Data.{Data, string}
 use Rattle.ns_types.specs.declared.acl.Policy.{Policy}
 use Rattle.ns_types.specs.declared.acl.TokenKind.{TokenKind}
-use Rattle.ns_types.specs.declared.acl.TokenKind.TheVariants as TokenKind
 use Rattle.ns_types.specs.declared.name.NameKind.{NameKind}
-use Rattle.ns_types.specs.declared.name.NameKind.TheVariants as NameKind
 use Rattle.ns_types.specs.declared.node.Attribute.{Attribute}
 use Rattle.ns_types.specs.declared.node.Offer.{Offer}
 use Rattle.ns_types.specs.declared.records.Namespace.{Namespace}
@@ -20,7 +18,6 @@ use Rattle.ns_types.specs.declared.records.Pool.{Pool}
 use Rattle.ns_types.specs.declared.records.Quota.{Quota}
 use Rattle.ns_types.specs.declared.refusal.Member.{Member}
 use Rattle.ns_types.specs.declared.resources.Limit.{Limit}
-use Rattle.ns_types.specs.declared.resources.Limit.TheVariants as Limit
 use Rattle.ns_types.specs.declared.resources.Limits.{Limits}
 use Rattle.ns_types.specs.declared.step.NewToken.{NewToken}
 use Rattle.ns_types.specs.Asking.Policies.{token_of}
@@ -34,19 +31,16 @@ use Rattle.ns_types.specs.State.Resources.{limits_in}
 use Rattle.ns_types.specs.Wire.Words.{token_kind_text}
 use Rattle.ns_types.proofs.Named.{first_of_both, second_of_both, same_name_is}
 use Rattle.ns_json.specs.Logs.{offer_json, new_token_json}
-use Rattle.ns_json.specs.Reading.{◌>>=◌, same, top, present, unless_null, demanded, or_else, some, an_object, a_text, a_name, a_number, has_name, a_list, each}
-use Rattle.ns_json.specs.Registration.{name_if_any}
-use Rattle.ns_json.specs.Rendering.{number_of, object_of, members_of, list_of, texts_of, text_or_empty, allowed_json, pools_json, namespace_json, limit_json}
-use Rattle.ns_json.specs.Rendering.{limits_json, quota_json, pool_json, policy_json, token_json, attributes_json}
+use Rattle.ns_json.specs.Reading.{same, top, present, unless_null, demanded, or_else, some, an_object, a_text, has_name, a_list}
+use Rattle.ns_json.specs.Rendering.{object_of, members_of, texts_of, allowed_json, pools_json, namespace_json, limit_json}
+use Rattle.ns_json.specs.Rendering.{limits_json, quota_json, pool_json, policy_json, token_json}
 use Rattle.ns_policy.specs.Json.{rules_of}
-use Rattle.ns_documents.specs.declared.namespace.NamedNamespace.{NamedNamespace}
-use Rattle.ns_documents.specs.declared.pools.PoolConfiguration.{PoolConfiguration}
 use Rattle.ns_documents.specs.Access.{rules_text_in, policy_in, token_kind_of, token_kind_in, token_in}
 use Rattle.ns_documents.specs.Members.{named, description_in, listed_name, names_in}
 use Rattle.ns_documents.specs.Nodes.{with_attribute, each_attribute, attributes_in, amount_in, node_in}
 use Rattle.ns_documents.specs.Records.{default_pool_in, pools_in, configuration_in, namespace_in, limit_in, region_limit_in, region_in, entry_in}
 use Rattle.ns_documents.specs.Records.{entries_in, quota_in, pool_in}
-use Rattle.ns_log_read.proofs.Lists.{ReadBack, EachAfter, each_distinct, list_back}
+use Rattle.ns_log_read.proofs.Lists.{ReadBack, each_distinct, list_back}
 use Rattle.ns_log_read.proofs.Values.{text_back, name_back, number_back, if_any_back}
 
 -- ---- lists of names

@@ -1,16 +1,14 @@
 -- The JSON of an entry is spelled well.
-use Rattle.std.proofs.Common.{◌≡◌, ℕ, suc, ◌+◌, ◌<◌, ◌≤◌, ◌^◌, List, [], ◌∷◌, ◌++◌, length, map, Bool, true, false, ◌&&◌, nat_le, nat_lt, Option, Some, None}
-use Rattle.std.proofs.Common.{Ordering, Less, Equal, Greater, refl, sym, ap, subst, ◌∙◌, arith}
+use Rattle.std.proofs.Common.{◌≡◌, ℕ, suc, ◌<◌, ◌≤◌, ◌^◌, List, [], ◌∷◌, ◌++◌, length, map, Bool, true, false, ◌&&◌, nat_le, nat_lt, Option, Some, None}
+use Rattle.std.proofs.Common.{Ordering, Less, Equal, Greater, refl, ap, subst, ◌∙◌, arith}
 use Rattle.std.proofs.lemmas.Bool.{leb-true, ltb-true, lt-ltb, false≢true}
 use Rattle.std.proofs.lemmas.List.Folds.{list_all-append}
-use Rattle.std.specs.Bool.{IsTrue}
-use Rattle.std.specs.FinMap.{entries, from_entries, entries_sorted}
+use Rattle.std.specs.FinMap.{from_entries, entries_sorted}
 use Rattle.std.specs.FinMap.Entries.{is_sorted, below_all}
 use Rattle.std.specs.List.{list_all}
-use Rattle.std.specs.Option.{option_map_or}
 use Rattle.std.specs.Ordering.{is_lt, ordering_reverse}
 use Rattle.std.specs.Prelude.{T}
-use Rattle.serde_json.specs.Data.{Data, string}
+use Rattle.serde_json.specs.Data.{string}
 use Rattle.serde_json.specs.View.{items_of}
 use Rattle.ns_types.specs.declared.job.Constraint.{Constraint}
 use Rattle.ns_types.specs.declared.job.Group.{Group}
@@ -31,19 +29,19 @@ use Rattle.ns_types.specs.declared.step.Step.{Step}
 use Rattle.ns_types.specs.declared.name.NameKind.TheVariants as NameKind
 use Rattle.ns_types.specs.Asking.Good.{is_good_admin, is_good_ask, IsGoodTelling}
 use Rattle.ns_types.specs.State.Limits.{is_amount, is_between, is_good_constraint, is_good_task, is_good_group, is_good_registration, is_good_offer}
-use Rattle.ns_types.specs.State.Limits.{is_limit, is_good_quota, is_good_namespace, is_text, IsInOrder}
+use Rattle.ns_types.specs.State.Limits.{is_limit, is_good_quota, is_text, IsInOrder}
 use Rattle.ns_types.specs.State.Name.{is_name}
 use Rattle.ns_types.specs.State.Names.{Name, name_cmp}
 use Rattle.ns_types.specs.State.Resources.{limits_in}
 use Rattle.ns_types.specs.Within.{IsGoodStep}
 use Rattle.ns_types.proofs.Named.{first_of_both, second_of_both, names}
-use Rattle.ns_json.specs.Logs.{asked, administered, told, step_members, entry_json, number_or_null, text_or_null, registration_json, offer_json, new_token_json}
-use Rattle.ns_json.specs.Rendering.{object_of, members_of, number_of, texts_of, allowed_json, pools_json, namespace_json, limit_json, limits_json, quota_json}
+use Rattle.ns_json.specs.Logs.{asked, administered, node_call, step_members, entry_json, number_or_null, text_or_null, registration_json, offer_json, new_token_json}
+use Rattle.ns_json.specs.Rendering.{object_of, members_of, allowed_json, pools_json, namespace_json, limit_json, limits_json, quota_json}
 use Rattle.ns_json.specs.Rendering.{pool_json, policy_json, token_json, resources_json, task_json, group_json, constraint_json, attributes_json}
 use Rattle.ns_json.specs.Replies.{Entry}
-use Rattle.ns_log_read.specs.Lines.{IsWritable, ask_fits, telling_fits, step_fits, answer_fits, fits, fits_if_any}
+use Rattle.ns_log_read.specs.Lines.{ask_fits, telling_fits, step_fits, answer_fits, fits, fits_if_any}
 use Rattle.ns_log_read.proofs.Spelled.{is_after, is_greater, is_spelled, items_spelled, members_spelled, list_spelled}
-use Rattle.ns_log_read.proofs.Jobs.{IsGroup, group_parts, IsRegistration, registration_parts}
+use Rattle.ns_log_read.proofs.Jobs.{group_parts, registration_parts}
 
 -- a number within a bound fits
 small : (low most n : ℕ) → is_between low most n ≡ true → most < 2 ^ 64 → nat_lt n (2 ^ 64) ≡ true
@@ -221,16 +219,16 @@ administered_spelled (AdminCommand.DeletePolicy name) h = refl
 administered_spelled (AdminCommand.CreateToken t) h = rw (token_spelled t) refl
 administered_spelled (AdminCommand.DeleteToken accessor) h = refl
 
-told_spelled : (c : NodeCommand) → IsGoodTelling c → telling_fits c ≡ true → is_spelled 8 (object_of (told c).1) ≡ true
-unfolding told
-told_spelled NodeCommand.ReadPool h k = refl
-told_spelled NodeCommand.ListNodes h k = refl
-told_spelled (NodeCommand.PutNode name offer) h k =
+node_call_spelled : (c : NodeCommand) → IsGoodTelling c → telling_fits c ≡ true → is_spelled 8 (object_of (node_call c).1) ≡ true
+unfolding node_call
+node_call_spelled NodeCommand.ReadPool h k = refl
+node_call_spelled NodeCommand.ListNodes h k = refl
+node_call_spelled (NodeCommand.PutNode name offer) h k =
     rw (offer_spelled offer (second_of_both (is_name NameKind.Node name) (is_good_offer offer) h.0) h.1) refl
-told_spelled (NodeCommand.DeleteNode name) h k = refl
-told_spelled (NodeCommand.SetStatus name status) h k = refl
-told_spelled (NodeCommand.SetEligible name eligible) h k = refl
-told_spelled (NodeCommand.Report name r) h k = rw k refl
+node_call_spelled (NodeCommand.DeleteNode name) h k = refl
+node_call_spelled (NodeCommand.SetStatus name status) h k = refl
+node_call_spelled (NodeCommand.SetEligible name eligible) h k = refl
+node_call_spelled (NodeCommand.Report name r) h k = rw k refl
 
 -- ---- entries
 
@@ -238,7 +236,7 @@ step_spelled : (s : Step) → IsGoodStep s → step_fits s ≡ true → is_spell
 unfolding step_members
 step_spelled (Step.Ask ns secret command) h k = rw (asked_spelled command h k, text_spelled 8 secret) refl
 step_spelled (Step.Admin secret command) h k = rw (administered_spelled command h, text_spelled 8 secret) refl
-step_spelled (Step.Node pool secret command) h k = rw (told_spelled command h k, text_spelled 8 secret) refl
+step_spelled (Step.Node pool secret command) h k = rw (node_call_spelled command h k, text_spelled 8 secret) refl
 step_spelled (Step.Dequeue worker ns n) h k =
     let first : fits worker ≡ true = first_of_both (fits worker) (fits n) k in
     let second : fits n ≡ true = second_of_both (fits worker) (fits n) k in

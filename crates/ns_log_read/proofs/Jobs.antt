@@ -1,19 +1,17 @@
 -- Registrations that are written and read back.
-use Rattle.std.proofs.Common.{◌≡◌, ℕ, ◌+◌, ◌-◌, ◌≤◌, ◌==◌, List, [], ◌∷◌, ◌++◌, length, take, drop, map, Bool}
+use Rattle.std.proofs.Common.{◌≡◌, ℕ, ◌-◌, List, [], ◌∷◌, ◌++◌, length, map}
 use Rattle.std.proofs.Common.{true, false, not, ◌&&◌, nat_le, eqb, Option, Some}
-use Rattle.std.proofs.Common.{None, Ok, codes, refl, sym, ap, ◌∙◌, arith, length-append}
+use Rattle.std.proofs.Common.{None, Ok, codes, refl, arith, length-append}
 use Rattle.std.proofs.lemmas.Bool.{le-leb, not-true, and_from, eq-eqb}
 use Rattle.std.proofs.Math.Seq.{take-append_seam, drop-append_seam}
 use Rattle.std.specs.List.{list_all}
 use Rattle.std.specs.Option.{option_map_or}
 use Rattle.std.specs.Str.{bytes_eq}
-use Rattle.serde_json.specs.Data.{Data, string, object}
+use Rattle.serde_json.specs.Data.{string}
 use Rattle.ns_types.specs.declared.job.Constraint.{Constraint}
 use Rattle.ns_types.specs.declared.job.Group.{Group}
 use Rattle.ns_types.specs.declared.job.JobKind.{JobKind}
-use Rattle.ns_types.specs.declared.job.JobKind.TheVariants as JobKind
 use Rattle.ns_types.specs.declared.job.Operand.{Operand}
-use Rattle.ns_types.specs.declared.job.Operand.TheVariants as Operand
 use Rattle.ns_types.specs.declared.job.Registration.{Registration}
 use Rattle.ns_types.specs.declared.job.Target.{Target}
 use Rattle.ns_types.specs.declared.job.Task.{Task}
@@ -27,14 +25,13 @@ use Rattle.ns_types.specs.State.Names.{Name, same_name}
 use Rattle.ns_types.specs.Wire.Words.{target_text, operand_text, kind_text}
 use Rattle.ns_types.proofs.Alike.{pointwise_refl}
 use Rattle.ns_types.proofs.Named.{first_of_both, second_of_both}
-use Rattle.ns_json.specs.declared.registration.RegistrationDocument.{RegistrationDocument}
 use Rattle.ns_json.specs.Logs.{registration_json}
-use Rattle.ns_json.specs.Reading.{present, demanded, an_object, a_text, a_name, has_name, top}
+use Rattle.ns_json.specs.Reading.{present, demanded, an_object, a_text, has_name, top}
 use Rattle.ns_json.specs.Registration.{resources_in, no_constraints, task_in, tasks_in, group_in, groups_in, attribute_key, target_of, operand_of}
-use Rattle.ns_json.specs.Registration.{constraint_in, constraint_after, constraints_in, kind_of, kind_in, not_all, pool_in, job_in, registration_in, demanding}
+use Rattle.ns_json.specs.Registration.{constraint_in, constraint_after, constraints_in, kind_of, kind_in, pool_in, job_in, registration_in, demanding}
 use Rattle.ns_json.specs.Registration.{without_suffix}
-use Rattle.ns_json.specs.Rendering.{object_of, number_of, list_of, text_or_empty, resources_json, task_json, group_json, constraint_json}
-use Rattle.ns_log_read.proofs.Lists.{ReadBack, EachAfter, each_distinct, each_good, list_back}
+use Rattle.ns_json.specs.Rendering.{object_of, list_of, text_or_empty, resources_json, task_json, group_json, constraint_json}
+use Rattle.ns_log_read.proofs.Lists.{ReadBack, each_distinct, each_good, list_back}
 use Rattle.ns_log_read.proofs.Values.{text_back, name_back, number_back, if_any_back}
 
 -- ---- tasks and groups

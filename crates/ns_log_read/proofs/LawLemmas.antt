@@ -1,7 +1,6 @@
 -- The laws of logs' texts.
-use Rattle.std.proofs.Common.{◌≡◌, ◌≢◌, ℕ, suc, ◌+◌, ◌<◌, ◌⊎◌, List, [], ◌∷◌, ◌++◌, length, true, Option, Some, Ok, refl, sym, ap, ap₂, subst, ◌∙◌, arith}
+use Rattle.std.proofs.Common.{◌≡◌, ◌≢◌, ℕ, suc, ◌+◌, List, [], ◌∷◌, ◌++◌, length, true, refl, sym, ap, ap₂, ◌∙◌}
 use Rattle.std.proofs.Common.{append_assoc, append-nil, codes, inl, inr}
-use Rattle.std.specs.List.{flat_map}
 use Rattle.std.proofs.lemmas.List.Concat.{flat_map-cons}
 use Rattle.std.proofs.lemmas.List.{append_cancel_left}
 use Rattle.serde_json.specs.Read.{read}
@@ -12,7 +11,7 @@ use Rattle.ns_types.specs.State.Names.{Name}
 use Rattle.ns_json.specs.Logs.{entry_json, line_of, log_text}
 use Rattle.ns_json.specs.Replies.{Entry}
 use Rattle.ns_log_read.specs.Laws.{OneLog, LogHasNoFault, OneFault}
-use Rattle.ns_log_read.specs.Lines.{IsWithin, IsWritable, IsLogOf, HasBadHead, HasBadEntry, IsBadAfter, IsFault, entry_text, first_text}
+use Rattle.ns_log_read.specs.Lines.{IsWithin, IsWritable, IsLogOf, HasBadHead, HasBadEntry, IsBadAfter, entry_text, first_text}
 use Rattle.ns_log_read.specs.Reading.{entry_in}
 use Rattle.ns_log_read.proofs.Feeds.{Lacks, one_line}
 use Rattle.ns_log_read.proofs.Lines.{written_is_read, entry_lacks, first_lacks, one_value, one_ok, opened, line, lines}

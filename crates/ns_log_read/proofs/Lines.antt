@@ -1,5 +1,5 @@
 -- The lines of entries, and the first line.
-use Rattle.std.proofs.Common.{◌≡◌, ◌≢◌, ℕ, zero, suc, ◌+◌, ◌<◌, ◌≤◌, List, [], ◌∷◌, ◌++◌, length, take, drop, get_or, Bool, true, false, nat_lt}
+use Rattle.std.proofs.Common.{◌≡◌, ℕ, zero, suc, ◌+◌, ◌<◌, ◌≤◌, List, [], ◌∷◌, ◌++◌, length, take, drop, get_or, Bool, true, false, nat_lt}
 use Rattle.std.proofs.Common.{Option, Some, None, Ok, Err, eqb, refl, sym, ap, subst, ◌∙◌, arith, length-append, append_assoc, append-nil, codes}
 use Rattle.std.specs.Prelude.{IsUtf8}
 use Rattle.std.specs.Bool.{then_some}

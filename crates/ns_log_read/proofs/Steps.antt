@@ -1,11 +1,9 @@
 -- What is written of an entry is read back as the entry.
-use Rattle.std.proofs.Common.{◌≡◌, ℕ, ◌^◌, List, [], ◌∷◌, Bool, true, false, ◌&&◌, nat_lt, Option, Some, None, Ok, codes, refl, option_and_then}
-use Rattle.std.specs.Bool.{IsTrue}
+use Rattle.std.proofs.Common.{◌≡◌, ℕ, ◌^◌, true, false, nat_lt, Option, Some, None, Ok, refl, option_and_then}
 use Rattle.serde_json.specs.Find.{as_str, as_u64, as_number}
 use Rattle.ns_types.specs.declared.allocation.ClientStatus.{ClientStatus}
 use Rattle.ns_types.specs.declared.name.NameKind.TheVariants as NameKind
 use Rattle.ns_types.specs.declared.node.NodeStatus.{NodeStatus}
-use Rattle.ns_types.specs.declared.reply.Rendered.{Rendered}
 use Rattle.ns_types.specs.declared.step.AdminCommand.{AdminCommand}
 use Rattle.ns_types.specs.declared.step.AskCommand.{AskCommand}
 use Rattle.ns_types.specs.declared.step.NodeCommand.{NodeCommand}
@@ -18,14 +16,14 @@ use Rattle.ns_types.specs.State.Names.{Name}
 use Rattle.ns_types.specs.Within.{IsGoodStep}
 use Rattle.ns_types.specs.Wire.Words.{client_text}
 use Rattle.ns_types.proofs.Named.{first_of_both, second_of_both}
-use Rattle.ns_json.specs.Logs.{asked, administered, told, step_members, entry_json, number_or_null, text_or_null}
+use Rattle.ns_json.specs.Logs.{asked, administered, node_call, step_members, entry_json, number_or_null, text_or_null}
 use Rattle.ns_json.specs.Reading.{unless_null}
 use Rattle.ns_json.specs.Rendering.{object_of, policy_json, token_json}
 use Rattle.ns_json.specs.Replies.{Entry}
 use Rattle.ns_log_read.specs.Lines.{HasReadRules, IsAsRead, answer_fits, fits_if_any}
 use Rattle.ns_log_read.specs.Reading.{if_any, member_in, text_in, name_in, number_in, flag_in, text_or_null_in, number_or_null_in, registered_in, with_prefix}
 use Rattle.ns_log_read.specs.Reading.{with_id, with_number, deregistered_in, asked_in, put_policy_in, new_token_in, put_in, with_name, listing}
-use Rattle.ns_log_read.specs.Reading.{administered_in, put_node_in, status_in, eligible_in, client_of, reported_in, told_in, ask_in, admin_in, node_step_in}
+use Rattle.ns_log_read.specs.Reading.{administered_in, put_node_in, status_in, eligible_in, client_of, reported_in, node_command_in, ask_in, admin_in, node_step_in}
 use Rattle.ns_log_read.specs.Reading.{work_of, work_in, dequeue_in, step_of, step_in, status_code_in, answer_in, entry_in}
 use Rattle.ns_log_read.proofs.Jobs.{registration_back}
 use Rattle.ns_log_read.proofs.Documents.{namespace_back, quota_back, pool_back, policy_back, token_back, offer_back}
@@ -92,19 +90,19 @@ client_back ClientStatus.Complete = refl
 client_back ClientStatus.Failed = refl
 client_back ClientStatus.Lost = refl
 
-told_back : (c : NodeCommand) → IsGoodTelling c → told_in (told c).0 (object_of (told c).1) ≡ Ok c
-unfolding told told_in text_in number_in member_in name_in put_node_in status_in eligible_in client_of reported_in
-told_back NodeCommand.ReadPool h = refl
-told_back NodeCommand.ListNodes h = refl
-told_back (NodeCommand.PutNode name offer) h =
+node_call_back : (c : NodeCommand) → IsGoodTelling c → node_command_in (node_call c).0 (object_of (node_call c).1) ≡ Ok c
+unfolding node_call node_command_in text_in number_in member_in name_in put_node_in status_in eligible_in client_of reported_in
+node_call_back NodeCommand.ReadPool h = refl
+node_call_back NodeCommand.ListNodes h = refl
+node_call_back (NodeCommand.PutNode name offer) h =
     let named : is_name NameKind.Node name ≡ true = first_of_both (is_name NameKind.Node name) (is_good_offer offer) h.0 in
     rw (named, offer_back offer (second_of_both (is_name NameKind.Node name) (is_good_offer offer) h.0)) refl
-told_back (NodeCommand.DeleteNode name) h = refl
-told_back (NodeCommand.SetStatus name NodeStatus.Ready) h = refl
-told_back (NodeCommand.SetStatus name NodeStatus.Down) h = refl
-told_back (NodeCommand.SetEligible name true) h = refl
-told_back (NodeCommand.SetEligible name false) h = refl
-told_back (NodeCommand.Report name r) h = rw (client_back r.client) refl
+node_call_back (NodeCommand.DeleteNode name) h = refl
+node_call_back (NodeCommand.SetStatus name NodeStatus.Ready) h = refl
+node_call_back (NodeCommand.SetStatus name NodeStatus.Down) h = refl
+node_call_back (NodeCommand.SetEligible name true) h = refl
+node_call_back (NodeCommand.SetEligible name false) h = refl
+node_call_back (NodeCommand.Report name r) h = rw (client_back r.client) refl
 
 -- ---- steps and entries
 
@@ -112,7 +110,7 @@ pub step_back : (s : Step) → IsGoodStep s → IsAsRead s → step_in (object_o
 unfolding step_members step_in step_of text_in number_in member_in text_or_null_in ask_in admin_in node_step_in work_of work_in dequeue_in
 step_back (Step.Ask ns secret command) h k = rw (asked_back command h, text_if_any secret) refl
 step_back (Step.Admin secret command) h k = rw (administered_back command h k, text_if_any secret) refl
-step_back (Step.Node pool secret command) h k = rw (told_back command h, text_if_any secret) refl
+step_back (Step.Node pool secret command) h k = rw (node_call_back command h, text_if_any secret) refl
 step_back (Step.Dequeue worker ns n) h k = refl
 step_back (Step.Snap worker ns) h k = refl
 step_back (Step.Submit worker ns) h k = refl

@@ -4,20 +4,15 @@ use Rattle.std.specs.Prelude.{◌≡◌, ◌≢◌, ◌<◌, ◌≤◌, ◌==◌
 use Rattle.std.specs.Str.{bytes_eq}
 use Rattle.serde_json.specs.Data.{Data}
 use Rattle.serde_json.specs.Find.{get, as_str, as_bool, as_u64, as_number}
-use Rattle.ns_types.specs.declared.acl.Policy.{Policy}
 use Rattle.ns_types.specs.declared.allocation.ClientStatus.{ClientStatus}
-use Rattle.ns_types.specs.declared.job.Registration.{Registration}
 use Rattle.ns_types.specs.declared.name.NameKind.{NameKind}
 use Rattle.ns_types.specs.declared.name.NameKind.TheVariants as Kind
 use Rattle.ns_types.specs.declared.node.NodeStatus.{NodeStatus}
-use Rattle.ns_types.specs.declared.node.Offer.{Offer}
 use Rattle.ns_types.specs.declared.refusal.Refusal.{Refusal}
 use Rattle.ns_types.specs.declared.reply.Rendered.{Rendered}
 use Rattle.ns_types.specs.declared.step.AdminCommand.{AdminCommand}
 use Rattle.ns_types.specs.declared.step.AskCommand.{AskCommand}
-use Rattle.ns_types.specs.declared.step.NewToken.{NewToken}
 use Rattle.ns_types.specs.declared.step.NodeCommand.{NodeCommand}
-use Rattle.ns_types.specs.declared.step.Report.{Report}
 use Rattle.ns_types.specs.declared.step.Step.{Step}
 use Rattle.ns_types.specs.State.Lists.{Each}
 use Rattle.ns_types.specs.State.Name.{is_name}
@@ -199,7 +194,7 @@ administered_in word d =
     then text_in (codes "AccessorID") d >>= (λ accessor. Ok (AdminCommand.DeleteToken accessor))
     else listing word
 
--- ---- what is told of a pool
+-- ---- what is asked of a pool
 
 unfoldable pub put_node_in : Data → Read NodeCommand
 put_node_in d = do
@@ -239,8 +234,8 @@ reported_in d = do
   number ← number_in (codes "Number") d
   Ok (NodeCommand.Report name (record { namespace = namespace; number = number; client = client }))
 
-unfoldable pub told_in : Name → Data → Read NodeCommand
-told_in word d =
+unfoldable pub node_command_in : Name → Data → Read NodeCommand
+node_command_in word d =
     if has (codes "Doc") d then put_node_in d
     else if has (codes "Status") d then status_in d
     else if has (codes "Eligibility") d then eligible_in d
@@ -272,7 +267,7 @@ unfoldable pub node_step_in : Data → Read Step
 node_step_in d = do
   arguments ← member_in (codes "Args") d
   word ← text_in (codes "Do") d
-  command ← told_in word arguments
+  command ← node_command_in word arguments
   pool ← text_in (codes "Pool") d
   secret ← text_or_null_in (codes "Secret") d
   Ok (Step.Node pool secret command)

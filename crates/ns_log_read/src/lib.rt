@@ -11,8 +11,8 @@ pub mod laws;
 mod line;
 mod log;
 mod member;
+mod nodes;
 mod step;
-mod told;
 
 pub use fault::LogFault;
 pub use log::{Log, log_read};

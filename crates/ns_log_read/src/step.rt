@@ -12,7 +12,7 @@ use crate::administered::administered;
 use crate::asked::asked;
 use crate::fault::LineFault;
 use crate::member::{member, number, text, text_or_null, word};
-use crate::told::told;
+use crate::nodes::node_command;
 use ns_types::good::{GoodAdmin, GoodAsk, GoodTelling};
 use ns_types::step::Step;
 use ns_types::text::Text;
@@ -57,7 +57,7 @@ fn node(alloc: Global, step: &Value) -> Result<Step, LineFault>
     ensures fits { IfOk result (λ s. IsTrue (step_fits s)) }
 {
     let arguments = member(step, "Args")?;
-    let command = told(alloc, word(step, "Do")?, arguments)?;
+    let command = node_command(alloc, word(step, "Do")?, arguments)?;
     let pool = text(alloc, step, "Pool")?;
     let secret = text_or_null(alloc, step, "Secret")?;
     Ok(Step::Node(pool, secret, GoodTelling::new(command)))

@@ -63,13 +63,13 @@ line_of_mismatch ServeFault.Mismatch e = refl
 
 -- ---- how it ended
 
-module _ {D W E : Type 0} (draws : D → List ℕ → D → Type 0) (contents : W → Option (List ℕ)) (told : E → Option (List ℕ))
+module _ {D W E : Type 0} (draws : D → List ℕ → D → Type 0) (contents : W → Option (List ℕ)) (said : E → Option (List ℕ))
     (given : Option Name) (drawers : List D) where
   pub ends_settled : (address : SocketAddr) (secret : Name) (history : History) (writer writer' : Counted W)
       (errors opened errors' : Counted E) (lines line : List ℕ) → IsChosen draws given drawers secret →
-      lines ≡ opening_lines given address secret → Tells told errors opened lines →
-      PrintsRun contents secret history writer writer' line → Tells told opened errors' line →
-      EndsSettled draws contents told given drawers writer writer' errors errors'
+      lines ≡ opening_lines given address secret → Tells said errors opened lines →
+      PrintsRun contents secret history writer writer' line → Tells said opened errors' line →
+      EndsSettled draws contents said given drawers writer writer' errors errors'
   ends_settled address secret history writer writer' errors opened errors' lines line chosen are tells prints says = record {
     address = address;
     secret = secret;
@@ -78,12 +78,12 @@ module _ {D W E : Type 0} (draws : D → List ℕ → D → Type 0) (contents : 
     is_secret = chosen;
     is_run = prints.is_run;
     printed = prints.printed;
-    listens = subst (Tells told errors opened) are tells;
-    settled = subst (Tells told opened errors') prints.counts says;
+    listens = subst (Tells said errors opened) are tells;
+    settled = subst (Tells said opened errors') prints.counts says;
   }
 
   pub ends_in_part : (secret : Name) (history : History) (writer writer' : Counted W) → IsChosen draws given drawers secret →
-      PrintsPart contents secret history writer writer' → EndsInPart draws contents told given drawers writer writer'
+      PrintsPart contents secret history writer writer' → EndsInPart draws contents said given drawers writer writer'
   ends_in_part secret history writer writer' chosen prints = record {
     secret = secret;
     history = history;
@@ -94,19 +94,19 @@ module _ {D W E : Type 0} (draws : D → List ℕ → D → Type 0) (contents : 
 
   -- behind the first lines
   pub tells_behind : (address : SocketAddr) (secret : Name) (errors opened errors' : Counted E) (lines line line' : List ℕ) →
-      IsChosen draws given drawers secret → lines ≡ opening_lines given address secret → Tells told errors opened lines →
-      Tells told opened errors' line → line ≡ line' → TellsLast draws contents told given drawers errors errors' line'
+      IsChosen draws given drawers secret → lines ≡ opening_lines given address secret → Tells said errors opened lines →
+      Tells said opened errors' line → line ≡ line' → TellsLast draws contents said given drawers errors errors' line'
   tells_behind address secret errors opened errors' lines line line' chosen are tells says is = record {
     opened = opened;
-    before = inr (address, secret, chosen, subst (Tells told errors opened) are tells);
-    last = subst (Tells told opened errors') is says;
+    before = inr (address, secret, chosen, subst (Tells said errors opened) are tells);
+    last = subst (Tells said opened errors') is says;
   }
 
   -- with nothing before it
-  pub tells_alone : (errors errors' : Counted E) (line line' : List ℕ) → Tells told errors errors' line → line ≡ line' →
-      TellsLast draws contents told given drawers errors errors' line'
+  pub tells_alone : (errors errors' : Counted E) (line line' : List ℕ) → Tells said errors errors' line → line ≡ line' →
+      TellsLast draws contents said given drawers errors errors' line'
   tells_alone errors errors' line line' says is = record {
     opened = errors;
     before = inl refl;
-    last = subst (Tells told errors errors') is says;
+    last = subst (Tells said errors errors') is says;
   }

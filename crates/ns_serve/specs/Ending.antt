@@ -32,7 +32,7 @@ IsChosen {D} draws given drawers secret =
     (others : List D) × (last : D) × (drawers ≡ others ++ last ∷ []) × IsSecret draws given last secret
 
 module _ {D W E : Type 0} (draws : D → List ℕ → D → Type 0) (contents : W → Option (List ℕ))
-    (told : E → Option (List ℕ)) (given : Option Name) (drawers : List D) where
+    (said : E → Option (List ℕ)) (given : Option Name) (drawers : List D) where
   -- the log of a run was printed; told were where the server listens, and how many entries the log has
   pub record EndsSettled (writer writer' : Counted W) (errors errors' : Counted E) : Type 0 where
     pub address : SocketAddr
@@ -42,8 +42,8 @@ module _ {D W E : Type 0} (draws : D → List ℕ → D → Type 0) (contents : 
     pub is_secret : IsChosen draws given drawers secret
     pub is_run : IsRun history
     pub printed : WritesAll contents writer writer' (log_text secret history.log)
-    pub listens : Tells told errors opened (opening_lines given address secret)
-    pub settled : Tells told opened errors' (settled_line (length history.log))
+    pub listens : Tells said errors opened (opening_lines given address secret)
+    pub settled : Tells said opened errors' (settled_line (length history.log))
 
   -- a first part of the log of a run was printed, and then the writer failed
   pub record EndsInPart (writer writer' : Counted W) : Type 0 where
@@ -57,5 +57,5 @@ module _ {D W E : Type 0} (draws : D → List ℕ → D → Type 0) (contents : 
   pub record TellsLast (errors errors' : Counted E) (line : List ℕ) : Type 0 where
     pub opened : Counted E
     pub before : (opened ≡ errors) ⊎ ((address : SocketAddr) × (secret : Name) × IsChosen draws given drawers secret
-        × Tells told errors opened (opening_lines given address secret))
-    pub last : Tells told opened errors' line
+        × Tells said errors opened (opening_lines given address secret))
+    pub last : Tells said opened errors' line

@@ -19,7 +19,7 @@ use Rattle.ns_change.specs.Changed.{changed, changed_list, changed_pool, changed
 use Rattle.ns_change.specs.Settled.{classes_in, settled_tenant, settled_world, tell}
 use Rattle.ns_release.specs.Released.{woken_keys}
 use Rattle.ns_release.proofs.Model.{map_rows-alike, map_rows-twice, pools_after, quotas_after, wake_pools, wake_quotas, woken_is}
-use Rattle.ns_settle.specs.Settles.{IsSettled, IsTold, settled_by, settled_slot, shown_if, unshown}
+use Rattle.ns_settle.specs.Settles.{IsSettled, AreStamped, settled_by, settled_slot, shown_if, unshown}
 use Rattle.ns_settle.specs.Stamped.{changed_events, stamped_rows, stamped_tenant, touches}
 use Rattle.ns_settle.proofs.Stamped.{stamped_is}
 
@@ -42,7 +42,7 @@ module _ (w : World) (c awake : Change) (s : Settled) (is : IsSettled w c awake 
   tenants_are = map_rows-twice names one_name (λ ns t. stamp_tenant (get w.tenants ns) t) (λ ns t. perhaps changed_tenant (row_at awake.tenants ns) t) w.tenants
       ∙ map_rows-alike names one_name _ (λ ns t. perhaps settled_tenant (row_at s.tenants ns) t) w.tenants
       (λ ns t at. ap (λ o. stamp_tenant o (perhaps changed_tenant (row_at awake.tenants ns) t)) at ∙ stamp_is ns t (row_at awake.tenants ns)
-      ∙ sym (is.told ns t at))
+      ∙ sym (is.stamped ns t at))
 
   pools_are : map_rows (λ name p. after_release (released_classes w (changed w c) name p) p) (changed w awake).pools ≡
       map_rows (λ name p. after_release (classes_in name s.rooms) (perhaps changed_pool (row_at s.pools name) p)) w.pools
@@ -73,7 +73,7 @@ module _ (w : World) (c awake : Change) (s : Settled) (is : IsSettled w c awake 
   pub tenants_then : (settled_world w s).tenants ≡ map_rows (λ ns t. perhaps stamped_tenant (row_at awake.tenants ns) t) w.tenants
   unfolding settled_world
   tenants_then = map_rows-alike names one_name (λ ns t. perhaps settled_tenant (row_at s.tenants ns) t)
-      (λ ns t. perhaps stamped_tenant (row_at awake.tenants ns) t) w.tenants is.told
+      (λ ns t. perhaps stamped_tenant (row_at awake.tenants ns) t) w.tenants is.stamped
 
 -- ---- there is one such for each change
 
@@ -86,9 +86,9 @@ module _ (w : World) (c awake : Change) where
       by None = sym (none ns)
       by (Some x) = refl
 
-  told_by : IsTold w awake (settled_by w c awake)
+  stamped_by : AreStamped w awake (settled_by w c awake)
   unfolding stamped_tenant
-  told_by ns t is = ap (λ x. perhaps settled_tenant x t) (row_of (settled_slot w) (λ _. refl) awake.tenants ns) ∙ by (row_at awake.tenants ns)
+  stamped_by ns t is = ap (λ x. perhaps settled_tenant x t) (row_of (settled_slot w) (λ _. refl) awake.tenants ns) ∙ by (row_at awake.tenants ns)
     where
       slots : (b : Bool) (x : TenantChange) → settled_tenant t (shown_if b t x) ≡
           (if b then tell (changed_tenant t (stamped_rows t x)) (changed_events t x) else changed_tenant t x)
@@ -100,7 +100,7 @@ module _ (w : World) (c awake : Change) where
       by (Some x) = ap (λ o. settled_tenant t (option_map_or (λ t. shown_if (touches t x) t x) o (unshown x))) is ∙ slots (touches t x) x
 
   pub settles : changed w awake ≡ wake (woken_keys w c) (changed w c) → IsSettled w c awake (settled_by w c awake)
-  settles woke = record { woke = woke; told = told_by; pools = refl; quotas = refl; ready = refl; plans = refl; blocked = refl; rooms = refl; released = refl }
+  settles woke = record { woke = woke; stamped = stamped_by; pools = refl; quotas = refl; ready = refl; plans = refl; blocked = refl; rooms = refl; released = refl }
 
   -- the end of a step, as one value made of the change
   pub settled_is : changed w awake ≡ wake (woken_keys w c) (changed w c) → settle w (changed w c) ≡ settled_world w (settled_by w c awake)

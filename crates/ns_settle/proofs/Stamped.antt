@@ -32,16 +32,16 @@ left_out : {A : Type 0} (b : Bool) (x y : A) → b ≡ false → cond b x y ≡ 
 left_out true x y e = not_both refl e
 left_out false x y e = refl
 
--- what is told of the keys of a table, by its rows
-keys_told : {K X Y : Type 0} (p : K → Bool) (q : K → X → Bool) (f : K → Y) (g : K → X → Y) (es : List (K × X)) →
+-- the events of the keys of a table, by its rows
+keys_events : {K X Y : Type 0} (p : K → Bool) (q : K → X → Bool) (f : K → Y) (g : K → X → Y) (es : List (K × X)) →
     Each (λ e. (p e.0 ≡ q e.0 e.1) × (f e.0 ≡ g e.0 e.1)) es
     → map f (filter p (map (λ e. e.0) es)) ≡ map (λ e. g e.0 e.1) (filter (λ e. q e.0 e.1) es)
-keys_told p q f g [] h = refl
-keys_told p q f g (e ∷ es) h = ap (λ b. map f (cond b (e.0 ∷ filter p (map (λ e. e.0) es)) (filter p (map (λ e. e.0) es)))) h.0.0
+keys_events p q f g [] h = refl
+keys_events p q f g (e ∷ es) h = ap (λ b. map f (cond b (e.0 ∷ filter p (map (λ e. e.0) es)) (filter p (map (λ e. e.0) es)))) h.0.0
     ∙ elim (q e.0 e.1) as (λ b. map f (cond b (e.0 ∷ filter p (map (λ e. e.0) es)) (filter p (map (λ e. e.0) es))) ≡ map (λ e. g e.0 e.1)
     (cond b (e ∷ filter (λ e. q e.0 e.1) es) (filter (λ e. q e.0 e.1) es))) [
-      | true ↦ λ i. h.0.1 i ∷ keys_told p q f g es h.1 i
-      | false ↦ keys_told p q f g es h.1
+      | true ↦ λ i. h.0.1 i ∷ keys_events p q f g es h.1 i
+      | false ↦ keys_events p q f g es h.1
     ]
 
 module _ (t : Tenant) (x : TenantChange) where
@@ -50,15 +50,15 @@ module _ (t : Tenant) (x : TenantChange) where
 
   -- ---- evaluations and allocations
 
-  evaluations_told : map (λ e. Topic.EvaluationUpdated e.0) (filter (λ e. changes_evaluation t e.0 e.1) (entries (over t.evaluations x.evaluations)))
+  evaluation_events : map (λ e. Topic.EvaluationUpdated e.0) (filter (λ e. changes_evaluation t e.0 e.1) (entries (over t.evaluations x.evaluations)))
       ≡ map (λ e. Topic.EvaluationUpdated e.0) (filter (at_slot (λ e. changes_evaluation t e.0 e.1)) (entries x.evaluations))
-  evaluations_told = ap (map (λ e. Topic.EvaluationUpdated e.0))
+  evaluation_events = ap (map (λ e. Topic.EvaluationUpdated e.0))
       (filter-over numbers one_number (changes_evaluation t) t.evaluations x.evaluations (evaluations_idle t x))
       ∙ sym (map-at_slot nat_cmp (λ e. changes_evaluation t e.0 e.1) (λ n. Topic.EvaluationUpdated n) (entries x.evaluations))
 
-  allocations_told : map (λ a. Topic.AllocationUpdated a.0) (filter (λ a. changes_allocation t a.0 a.1) (entries (over t.allocations x.allocations)))
+  allocation_events : map (λ a. Topic.AllocationUpdated a.0) (filter (λ a. changes_allocation t a.0 a.1) (entries (over t.allocations x.allocations)))
       ≡ map (λ e. Topic.AllocationUpdated e.0) (filter (at_slot (λ e. changes_allocation t e.0 e.1)) (entries x.allocations))
-  allocations_told = ap (map (λ e. Topic.AllocationUpdated e.0))
+  allocation_events = ap (map (λ e. Topic.AllocationUpdated e.0))
       (filter-over numbers one_number (changes_allocation t) t.allocations x.allocations (allocations_idle t x))
       ∙ sym (map-at_slot nat_cmp (λ e. changes_allocation t e.0 e.1) (λ n. Topic.AllocationUpdated n) (entries x.allocations))
 
@@ -81,14 +81,14 @@ module _ (t : Tenant) (x : TenantChange) where
   topic_at : (id : Name) (row : Option Job) → get x.jobs id ≡ Some row → job_topic after id ≡ row_topic id row
   topic_at id row is = ap (row_topic id) (get-over names one_name t.jobs x.jobs id ∙ ap (λ r. unwrap_or r (get t.jobs id)) is)
 
-  jobs_told : map (job_topic after) (filter (changes_job t after) (job_ids t after)) ≡ map (λ e. row_topic e.0 e.1)
+  job_events : map (job_topic after) (filter (changes_job t after) (job_ids t after)) ≡ map (λ e. row_topic e.0 e.1)
       (filter (λ e. changes_job_row t e.0 e.1) (entries x.jobs))
-  jobs_told = ap (map (job_topic after)) jobs_chosen ∙ keys_told (changes_job t after) (changes_job_row t) (job_topic after) row_topic (entries x.jobs)
+  job_events = ap (map (job_topic after)) jobs_chosen ∙ keys_events (changes_job t after) (changes_job_row t) (job_topic after) row_topic (entries x.jobs)
       (each_row names one_name (λ id row. (changes_job t after id ≡ changes_job_row t id row) × (job_topic after id ≡ row_topic id row)) x.jobs
       (λ id row is. (changes_at t x id row is, topic_at id row is)))
 
   topics_are : topics_of t after ≡ changed_topics t x
-  topics_are = λ i. jobs_told i ++ evaluations_told i ++ allocations_told i
+  topics_are = λ i. job_events i ++ evaluation_events i ++ allocation_events i
 
   -- ---- the whole
 

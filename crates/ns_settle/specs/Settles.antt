@@ -18,7 +18,7 @@ use Rattle.ns_change.specs.Settled.{settled_tenant}
 use Rattle.ns_release.specs.Released.{released_quotas, released_rooms, woken_keys}
 use Rattle.ns_settle.specs.Stamped.{changed_events, stamped_rows, stamped_tenant, touches}
 
--- the changed rows have their index, and their events are told
+-- the changed rows have their index, and their events are made
 abbrev pub shown : Tenant → TenantChange → SettledTenant
 shown t x = record { rows = stamped_rows t x; events = Some (changed_events t x) }
 
@@ -45,14 +45,14 @@ settled_by w c awake = record {
   released = released_quotas w c;
 }
 
-abbrev pub IsTold : World → Change → Settled → Type 0
-IsTold w c s = (ns : Name) (t : Tenant) → get w.tenants ns ≡ Some t →
+abbrev pub AreStamped : World → Change → Settled → Type 0
+AreStamped w c s = (ns : Name) (t : Tenant) → get w.tenants ns ≡ Some t →
     perhaps settled_tenant (row_at s.tenants ns) t ≡ perhaps stamped_tenant (row_at c.tenants ns) t
 
 -- c is what the step changes, awake the same once evaluations have woken, and s all of it
 pub record IsSettled (w : World) (c awake : Change) (s : Settled) : Type 0 where
   pub woke : changed w awake ≡ wake (woken_keys w c) (changed w c)
-  pub told : IsTold w awake s
+  pub stamped : AreStamped w awake s
   pub pools : s.pools ≡ awake.pools
   pub quotas : s.quotas ≡ awake.quotas
   pub ready : s.ready ≡ awake.ready

@@ -37,8 +37,8 @@ module _ {X : Type 0} (kind : Kind X) where
   stamped_slot index before n row = option_map (stamped_row index before n) row
 
 -- an event of each slot that changes
-abbrev pub told : {A : Type 0} → ℕ → (A → Topic) → (A → Bool) → List A → List Event
-told index topic changes slots = map (λ slot. record { index = index; topic = topic slot }) (filter changes slots)
+abbrev pub events_for : {A : Type 0} → ℕ → (A → Topic) → (A → Bool) → List A → List Event
+events_for index topic changes slots = map (λ slot. record { index = index; topic = topic slot }) (filter changes slots)
 
 -- ---- a namespace
 

@@ -5,7 +5,7 @@ ghost use Rattle.std.specs.Option.{option_map_or};
 ghost use Rattle.keyed.specs.Table.{rows};
 ghost use Rattle.ns_types.specs.State.Tables.{map_rows};
 ghost use Rattle.ns_release.specs.Shown.{changes_job_slot, changes_slot};
-ghost use Rattle.ns_settle.specs.Stamped.{job_topic, made_at, stamped_row, stamped_slot, told, topic_at, touches};
+ghost use Rattle.ns_settle.specs.Stamped.{job_topic, made_at, stamped_row, stamped_slot, events_for, topic_at, touches};
 ghost use Rattle.ns_world.specs.World.{tenant_of};
 
 use keyed::NumberTable;
@@ -29,7 +29,7 @@ pub fn tell_rows<R: Shown>(
     slots: &[(u64, Option<R>)],
 ) -> Result<(), AllocError>
     ensures { OnOk result (events.new ≡ events.old
-        ++ told index (topic_at R.kind) (changes_slot R.kind (rows before.now)) slots.now) }
+        ++ events_for index (topic_at R.kind) (changes_slot R.kind (rows before.now)) slots.now) }
 {
     for slot in slots {
         if changes_slot(before, slot) {
@@ -114,7 +114,7 @@ pub fn tell_jobs(
     slots: &[JobSlot],
 ) -> Result<(), AllocError>
     ensures { OnOk result (events.new ≡ events.old
-        ++ told index job_topic (changes_job_slot (tenant_of tenant.now)) slots.now) }
+        ++ events_for index job_topic (changes_job_slot (tenant_of tenant.now)) slots.now) }
 {
     for slot in slots {
         if changes_job_slot(tenant, slot) {

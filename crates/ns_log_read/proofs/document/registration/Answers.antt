@@ -2,7 +2,6 @@ use Rattle.std.proofs.Common.{◌≤◌, Some, ap, subst, sym, ◌∙◌, arith}
 use Rattle.std.specs.Bool.{IsTrue}
 use Rattle.serde_json.specs.Data.{depth}
 use Rattle.serde_json.specs.Read.{read, max_depth}
-use Rattle.serde_json.specs.View.{view}
 use Rattle.ns_types.specs.State.Limits.{is_good_registration}
 use Rattle.ns_json.specs.Registration.{registration_in}
 use Rattle.ns_log_read.proofs.Bodies.{document_read, accepted_so}

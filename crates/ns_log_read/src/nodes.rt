@@ -1,4 +1,4 @@
-//! What is told of a pool and its nodes.
+//! What is asked of a pool and its nodes.
 
 ghost use Rattle.std.specs.Prelude.{◌≤◌, IfOk, IsTrue};
 ghost use Rattle.serde_json.specs.Data.{depth};
@@ -6,7 +6,7 @@ ghost use Rattle.serde_json.specs.Read.{max_depth};
 ghost use Rattle.serde_json.specs.View.{view};
 ghost use Rattle.ns_types.specs.Asking.Good.{IsGoodTelling};
 ghost use Rattle.ns_log_read.specs.Lines.{telling_fits};
-ghost use Rattle.ns_log_read.specs.Reading.{Gives, same, put_node_in, status_in, eligible_in, client_of, reported_in, told_in};
+ghost use Rattle.ns_log_read.specs.Reading.{Gives, same, put_node_in, status_in, eligible_in, client_of, reported_in, node_command_in};
 
 use crate::document;
 use crate::fault::LineFault;
@@ -103,10 +103,10 @@ fn reported(alloc: Global, arguments: &Value) -> Result<NodeCommand, LineFault>
 }
 
 /// The command of that name. The arguments tell which it can be.
-#[tactic(auto, unfolding(crate::specs::Reading::told_in))]
-pub fn told(alloc: Global, word: &str, arguments: &Value) -> Result<NodeCommand, LineFault>
+#[tactic(auto, unfolding(crate::specs::Reading::node_command_in))]
+pub fn node_command(alloc: Global, word: &str, arguments: &Value) -> Result<NodeCommand, LineFault>
     requires { depth (view arguments.now) ≤ max_depth }
-    ensures value { Gives same result (told_in word.now (view arguments.now)) }
+    ensures value { Gives same result (node_command_in word.now (view arguments.now)) }
     ensures good { IfOk result IsGoodTelling }
     ensures fits { IfOk result (λ c. IsTrue (telling_fits c)) }
 {

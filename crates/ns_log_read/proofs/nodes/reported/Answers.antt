@@ -1,6 +1,6 @@
 use Rattle.std.proofs.Common.{refl}
 use Rattle.ns_log_read.specs.Reading.{reported_in}
-use Rattle.ns_log_read.proofs.told.reported.Goals as goal
+use Rattle.ns_log_read.proofs.nodes.reported.Goals as goal
 
 pub returns-clause-value : goal.returns-clause-value
 unfolding reported_in
