@@ -2,6 +2,8 @@
 #![tactic(auto)]
 
 #[cfg(test)]
+mod blocked;
+#[cfg(test)]
 mod by_key;
 #[cfg(test)]
 mod full_pool;

@@ -44,7 +44,9 @@ pub(crate) fn only<T: Drop>(rt: &impl Abort, alloc: Global, row: T) -> Rows<T>
 }
 
 /// A list of two rows.
-pub(crate) fn both<T: Drop>(rt: &impl Abort, alloc: Global, first: T, second: T) -> Rows<T> {
+pub(crate) fn both<T: Drop>(rt: &impl Abort, alloc: Global, first: T, second: T) -> Rows<T>
+    ensures { result ≡ first ∷ second ∷ [] }
+{
     let mut rows = only(rt, alloc, first);
     rows.push(second).expect(rt, "memory");
     rows
