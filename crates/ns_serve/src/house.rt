@@ -1,8 +1,8 @@
 //! What the threads of a server share.
 
-use crate::door::Door;
 use crate::start::Start;
 use crate::tickets::Tickets;
+use ns_door::Door;
 use ns_shared::Shared;
 use std::sync::ledger::Ledger;
 

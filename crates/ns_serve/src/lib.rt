@@ -2,7 +2,6 @@
 #![tactic(auto)]
 
 mod connections;
-mod door;
 mod duty;
 mod fault;
 mod house;

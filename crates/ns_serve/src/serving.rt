@@ -7,13 +7,13 @@ ghost use Rattle.ns_serve.specs.Opening.{begun_by};
 ghost use Rattle.ns_serve.specs.Printing.{PrintsPart, PrintsRun};
 ghost use Rattle.ns_serve.specs.Ending.{EndsInPart, EndsSettled, IsEnd, TellsLast, fault_line, fault_status};
 
-use crate::door::Door;
 use crate::fault::ServeFault;
 use crate::opening::{Opened, open};
 use crate::printing::print_log;
 use crate::service::Service;
 use crate::threads::host;
 use ns_asked::Draws;
+use ns_door::Door;
 use ns_faults::status::{MISMATCH, SERVED, WRITE_FAULT};
 use ns_faults::{say, tell, tell_mismatch};
 use ns_held::Held;

@@ -1,7 +1,6 @@
 // A server over a port of the system's, with its clients in other threads. Expected bytes are written from the formats.
 ghost use Rattle.std.specs.Prelude.{◌≡◌, ◌+◌, IfOk, vec_len};
 
-use crate::door::Door;
 use crate::service::Service;
 use crate::serving::serve;
 use ns_asked::Draws;
@@ -363,25 +362,5 @@ fn port_in_use(rt: HostRuntime) -> Result<(), Fail> {
     assert_eq!(rt; ending.log(), "");
     assert_eq!(rt; ending.errors(), "read fault\n");
     assert_eq!(rt; ending.status, 3);
-    Ok(())
-}
-
-/// Whether a call that waits for a connection fails once the door is shut.
-fn fails_when_shut<R: Threads + Wait + Clock + Sync>(rt: &R, door: &Door) -> bool {
-    let (is_refused, _) = thread::join(
-        rt,
-        move || door.accept(rt).is_err(),
-        move || {
-            thread::sleep(rt, Duration::from_millis(100));
-            door.shut();
-        },
-    );
-    is_refused
-}
-
-#[test]
-fn shut_door(rt: HostRuntime) -> Result<(), Fail> {
-    let door = Door::open(&rt, SocketAddr::from(([127, 0, 0, 1], 0)))?;
-    assert!(rt; fails_when_shut(&rt, &door));
     Ok(())
 }

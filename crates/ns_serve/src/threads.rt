@@ -4,7 +4,6 @@ ghost use denote.Param.Send.{IsSend, IsSync};
 ghost use Rattle.std.specs.Prelude.{◌≡◌, ◌≢◌, ◌+◌, IfOk, OnOk, Some, vec_len};
 ghost use Rattle.ns_serve.specs.declared.fault.HostFault.TheVariants as HostFault;
 
-use crate::door::Door;
 use crate::duty::perform;
 use crate::fault::HostFault;
 use crate::house::House;
@@ -13,6 +12,7 @@ use crate::service::Service;
 use crate::start::Start;
 use crate::tickets::Tickets;
 use ns_asked::Draws;
+use ns_door::Door;
 use ns_shared::{Seat, Shared};
 use std::alloc::Global;
 use std::rt::Clock;
