@@ -8,7 +8,7 @@ use std::process::Abort;
 use std::sync::Wait;
 use std::sync::ledger::Ledger;
 
-/// A token's bits, of which none are drawn here.
+/// Draws the same bits again and again.
 #[derive(Clone, Copy)]
 pub(crate) struct SameBits;
 

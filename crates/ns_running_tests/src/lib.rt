@@ -1,4 +1,5 @@
-//! Tests of the running server in one process: what callers write and read, and what their receipts say of the log.
+//! Tests of the running server in one process: what callers write and read, what their receipts say of the log, and what a server
+//! over a port answers and prints.
 #![tactic(auto)]
 
 #[cfg(test)]
@@ -12,10 +13,16 @@ mod many;
 #[cfg(test)]
 mod meeting;
 #[cfg(test)]
+mod port;
+#[cfg(test)]
 mod reading;
 #[cfg(test)]
 mod scheduling;
 #[cfg(test)]
 mod server;
 #[cfg(test)]
+mod serving;
+#[cfg(test)]
 mod stopping;
+#[cfg(test)]
+mod visits;

@@ -12,8 +12,6 @@ mod secret;
 mod service;
 mod serving;
 mod start;
-#[cfg(test)]
-mod tests;
 mod threads;
 mod tickets;
 

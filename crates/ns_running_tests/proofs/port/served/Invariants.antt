@@ -1,4 +1,4 @@
-use Rattle.ns_serve.proofs.tests.served.Given as goal
+use Rattle.ns_running_tests.proofs.port.served.Given as goal
 
 abbrev pub ghosts-serve : goal.ghosts-serve
 ghosts-serve g a = record { name = a.blank.name; parts = a.blank.parts }

@@ -1,0 +1,163 @@
+// A server over a port of the system's, with its clients in other threads.
+ghost use Rattle.std.specs.Prelude.{◌≡◌, ◌+◌, IfOk, vec_len};
+
+use crate::guest::SameBits;
+use crate::visits::{Visit, sent, text};
+use ns_http::Counted;
+use ns_serve::{Service, serve};
+use ns_shared::PARTS;
+use ns_types::name::Secret;
+use std::alloc::{AllocError, Global};
+use std::io::{ErrorKind, Write};
+use std::marker::Brand;
+use std::net::{Net, SocketAddr, TcpListener, TcpStream};
+use std::rt::Clock;
+use std::sync::ledger::Blank;
+use std::sync::{Mutex, Wait};
+use std::thread::Threads;
+use std::{io, thread};
+
+/// A writer whose bytes other threads read.
+#[derive(Drop)]
+struct Notes<'a, R: Wait> {
+    rt: &'a R,
+    bytes: &'a Mutex<Vec<u8>>,
+}
+
+impl<'a, R: Wait> Write for Notes<'a, R> {
+    fn write(&mut self, buf: &[u8]) -> io::Result<usize> {
+        self.bytes.lock(self.rt).extend_from_slice(buf)?;
+        Ok(buf.len())
+    }
+
+    fn flush(&mut self) -> io::Result<()> {
+        Ok(())
+    }
+}
+
+/// Where the log is printed: what takes all bytes, or none.
+#[derive(Drop)]
+pub(crate) enum Output {
+    Open(Vec<u8>),
+    Broken,
+}
+
+impl Write for Output {
+    fn write(&mut self, buf: &[u8]) -> io::Result<usize> {
+        match self {
+            Output::Open(bytes) => {
+                bytes.extend_from_slice(buf)?;
+                Ok(buf.len())
+            }
+            Output::Broken => Err(io::Error::from(ErrorKind::BrokenPipe)),
+        }
+    }
+
+    fn flush(&mut self) -> io::Result<()> {
+        Ok(())
+    }
+}
+
+/// How a server ended: its exit status, the log that it printed, its lines of standard error, and what it sent to each client.
+#[derive(Drop)]
+pub(crate) struct Ending {
+    pub status: u8,
+    log: Vec<u8>,
+    errors: Vec<u8>,
+    pub replies: Vec<Vec<u8>>,
+}
+
+impl Ending {
+    pub(crate) fn log(&self) -> &str {
+        text(self.log.as_slice())
+    }
+
+    pub(crate) fn errors(&self) -> &str {
+        text(self.errors.as_slice())
+    }
+}
+
+fn drawers(alloc: Global, connections: u64) -> Result<Vec<SameBits>, AllocError>
+    ensures { IfOk result (λ drawers. vec_len drawers ≡ connections + 1) }
+{
+    let mut drawers = Vec::new(alloc);
+    drawers.push(SameBits)?;
+    for _ in 0..connections {
+        drawers.push(SameBits)?;
+    }
+    Ok(drawers)
+}
+
+/// Serves, and notes what is told on the errors. The exit status, and the output.
+fn served<R: Threads + Wait + Clock + Sync + Net<Listener = TcpListener, Stream = TcpStream>>(
+    rt: &R,
+    alloc: Global,
+    service: &Service,
+    notes: &Mutex<Vec<u8>>,
+    output: Output,
+) -> Result<(u8, Output), AllocError> {
+    let mut writer = Counted::new(output);
+    let mut errors = Counted::new(Notes { rt, bytes: notes });
+    let drawers = drawers(alloc, service.connections)?;
+    let blank = Blank::new(PARTS);
+    let status = serve::<Brand, _, _, _, _>(
+        rt,
+        alloc,
+        service,
+        drawers,
+        blank,
+        &mut writer,
+        &mut errors,
+    );
+    Ok((status, writer.into_inner()))
+}
+
+/// Serves while so many clients come, all at once.
+pub(crate) fn run<
+    R: Threads + Wait + Clock + Sync + Net<Listener = TcpListener, Stream = TcpStream>,
+>(
+    rt: &R,
+    alloc: Global,
+    service: &Service,
+    output: Output,
+    clients: usize,
+    visit: Visit,
+) -> Result<Ending, AllocError> {
+    let notes = Mutex::new(Vec::new(alloc));
+    let errors = &notes;
+    let (ended, replies) = thread::join(
+        rt,
+        move || served(rt, alloc, service, errors, output),
+        move || thread::map_indices(rt, alloc, clients, &|_| sent(rt, alloc, errors, visit)),
+    );
+    let (status, output) = ended?;
+    let log = match output {
+        Output::Open(bytes) => bytes,
+        Output::Broken => Vec::new(alloc),
+    };
+    Ok(Ending {
+        status,
+        log,
+        errors: notes.into_inner(),
+        replies: replies?,
+    })
+}
+
+/// A service by two workers, which ends after so many connections, all served at once.
+pub(crate) fn service(alloc: Global, connections: u64) -> Result<Service, AllocError> {
+    Ok(Service {
+        address: SocketAddr::from(([127, 0, 0, 1], 0)),
+        bootstrap: Secret::read(alloc, "root")?,
+        workers: 2,
+        connections,
+        accept: Some(connections),
+        log_limit: 10_000,
+    })
+}
+
+/// Whether the server ended with exit status 0, and the last line says how many entries the printed log has.
+pub(crate) fn is_settled(alloc: Global, ending: &Ending) -> Result<bool, AllocError> {
+    let entries = ending.log().lines().count().saturating_sub(1);
+    let line = format!(in alloc; "settled {entries}")?;
+    Ok(ending.status == 0 && ending.errors().lines().last() == Some(line.as_str()))
+}

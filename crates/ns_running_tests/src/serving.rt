@@ -1,0 +1,102 @@
+// What a server over a port of the system's answers and prints. Expected bytes are written from the formats.
+use crate::port::{Output, is_settled, run, service};
+use crate::visits::{REGISTERED, Visit, text};
+use std::alloc::Global;
+use std::net::{SocketAddr, TcpListener};
+use std::test::Fail;
+
+#[test]
+fn stored_run(rt: HostRuntime) -> Result<(), Fail> {
+    let alloc: Global = rt.alloc();
+    let output = Output::Open(Vec::new(alloc));
+    let ending = run(&rt, alloc, &service(alloc, 1)?, output, 1, Visit::Asks)?;
+    assert_eq!(rt; ending.replies.len(), 1);
+    for replies in ending.replies.iter() {
+        let replies = text(replies.as_slice());
+        let rest = replies.strip_prefix(REGISTERED).ok_or("no registration")?;
+        assert!(rt; rest.starts_with("HTTP/1.1 200 OK\r\n"));
+        assert!(rt; rest.contains("\"ID\":\"web\""));
+    }
+    assert!(rt; ending.log().starts_with("nsd-log 1 root\n"));
+    assert!(rt; ending.log().lines().count() > 2);
+    assert!(rt; is_settled(alloc, &ending)?);
+    Ok(())
+}
+
+/// Each connection registers the job and reads it.
+#[test]
+fn many_connections_at_once(rt: HostRuntime) -> Result<(), Fail> {
+    let alloc: Global = rt.alloc();
+    let output = Output::Open(Vec::new(alloc));
+    let ending = run(&rt, alloc, &service(alloc, 64)?, output, 64, Visit::Asks)?;
+    assert_eq!(rt; ending.replies.len(), 64);
+    for replies in ending.replies.iter() {
+        let replies = text(replies.as_slice());
+        assert_eq!(rt; replies.matches("HTTP/1.1 200 OK\r\n").count(), 2);
+        assert_eq!(rt; replies.matches("\"ID\":\"web\"").count(), 1);
+    }
+    assert!(rt; ending.log().lines().count() > 128);
+    assert!(rt; is_settled(alloc, &ending)?);
+    Ok(())
+}
+
+/// A connection that waits in mid-request and is closed there takes no other connection with it.
+#[test]
+fn closed_in_mid_request(rt: HostRuntime) -> Result<(), Fail> {
+    let alloc: Global = rt.alloc();
+    let output = Output::Open(Vec::new(alloc));
+    let service = service(alloc, 2)?;
+    let ending = run(&rt, alloc, &service, output, 1, Visit::AsksBesideAnother)?;
+    assert_eq!(rt; ending.replies.len(), 1);
+    for replies in ending.replies.iter() {
+        assert!(rt; text(replies.as_slice()).starts_with(REGISTERED));
+    }
+    assert!(rt; is_settled(alloc, &ending)?);
+    Ok(())
+}
+
+/// The bits are all of the same byte, save those of the version and of the variant.
+#[test]
+fn drawn_secret(rt: HostRuntime) -> Result<(), Fail> {
+    let alloc: Global = rt.alloc();
+    let output = Output::Open(Vec::new(alloc));
+    let mut service = service(alloc, 1)?;
+    service.bootstrap = None;
+    let ending = run(&rt, alloc, &service, output, 1, Visit::Leaves)?;
+    assert_eq!(rt;
+        ending.log(),
+        "nsd-log 1 01010101-0101-4101-8101-010101010101\n"
+    );
+    let (_, rest) = ending.errors().split_once('\n').ok_or("one line")?;
+    assert_eq!(rt;
+        rest,
+        "bootstrap 01010101-0101-4101-8101-010101010101\nsettled 0\n"
+    );
+    assert_eq!(rt; ending.status, 0);
+    Ok(())
+}
+
+#[test]
+fn broken_output(rt: HostRuntime) -> Result<(), Fail> {
+    let alloc: Global = rt.alloc();
+    let service = service(alloc, 1)?;
+    let ending = run(&rt, alloc, &service, Output::Broken, 1, Visit::Asks)?;
+    let (_, rest) = ending.errors().split_once('\n').ok_or("one line")?;
+    assert_eq!(rt; rest, "write fault\n");
+    assert_eq!(rt; ending.status, 4);
+    Ok(())
+}
+
+#[test]
+fn port_in_use(rt: HostRuntime) -> Result<(), Fail> {
+    let alloc: Global = rt.alloc();
+    let taken = TcpListener::bind(&rt, SocketAddr::from(([127, 0, 0, 1], 0)))?;
+    let output = Output::Open(Vec::new(alloc));
+    let mut service = service(alloc, 1)?;
+    service.address = taken.local_addr()?;
+    let ending = run(&rt, alloc, &service, output, 0, Visit::Leaves)?;
+    assert_eq!(rt; ending.log(), "");
+    assert_eq!(rt; ending.errors(), "read fault\n");
+    assert_eq!(rt; ending.status, 3);
+    Ok(())
+}
