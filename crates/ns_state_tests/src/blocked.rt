@@ -14,7 +14,7 @@ use std::alloc::Global;
 use std::process::Abort;
 
 /// A key, as its namespace and its number.
-type Told<'a> = (&'a str, u64);
+type KeyText<'a> = (&'a str, u64);
 
 /// A class, as its name and the value of its attribute `os`.
 type Named<'a> = (&'a str, &'a str);
@@ -28,7 +28,7 @@ enum Source<'a> {
 
 #[derive(Clone, Copy)]
 struct Waiter<'a> {
-    key: Told<'a>,
+    key: KeyText<'a>,
     source: Source<'a>,
     escapes: bool,
     infeasible: &'a [Named<'a>],
@@ -58,7 +58,7 @@ impl<'a> Waiter<'a> {
 
 // ---- what goes into the list
 
-fn key(rt: &impl Abort, alloc: Global, (namespace, number): Told) -> EvalKey {
+fn key(rt: &impl Abort, alloc: Global, (namespace, number): KeyText) -> EvalKey {
     EvalKey::new(text(rt, alloc, namespace), number)
 }
 
@@ -135,22 +135,26 @@ fn blocked(rt: &impl Abort, alloc: Global, waiters: &[Waiter]) -> BlockedList {
 
 // ---- what comes out of it
 
-fn is_told(key: &EvalKey, (namespace, number): Told) -> bool {
+fn is_key(key: &EvalKey, (namespace, number): KeyText) -> bool {
     key.namespace().as_str() == namespace && key.number() == number
 }
 
 /// Whether these are the keys, in this order.
-fn are_told(keys: &[EvalKey], told: &[Told]) -> bool {
-    keys.len() == told.len() && keys.iter().zip(told).all(|(key, told)| is_told(key, *told))
+fn are_keys(keys: &[EvalKey], expected: &[KeyText]) -> bool {
+    keys.len() == expected.len()
+        && keys
+            .iter()
+            .zip(expected)
+            .all(|(key, expected)| is_key(key, *expected))
 }
 
 /// Whether these are the keys in the slots, in this order. A vacant slot has none.
-fn have_told(slots: &[(u64, Option<Waiting>)], told: &[Told]) -> bool {
-    let mut rest = told;
+fn have_keys(slots: &[(u64, Option<Waiting>)], expected: &[KeyText]) -> bool {
+    let mut rest = expected;
     for slot in slots {
         if let Some(row) = &slot.1 {
             match rest {
-                [first, others @ ..] if is_told(&row.key, *first) => rest = others,
+                [first, others @ ..] if is_key(&row.key, *first) => rest = others,
                 _ => return false,
             }
         }
@@ -159,10 +163,16 @@ fn have_told(slots: &[(u64, Option<Waiting>)], told: &[Told]) -> bool {
 }
 
 /// Whether these wait for it, in this order.
-fn wait(rt: &impl Abort, alloc: Global, list: &BlockedList, source: Source, told: &[Told]) -> bool {
+fn wait(
+    rt: &impl Abort,
+    alloc: Global,
+    list: &BlockedList,
+    source: Source,
+    expected: &[KeyText],
+) -> bool {
     match source {
-        Source::Quota(name) => have_told(list.of_quota(&text(rt, alloc, name)), told),
-        Source::Pool(name) => have_told(list.of_pool(&text(rt, alloc, name)), told),
+        Source::Quota(name) => have_keys(list.of_quota(&text(rt, alloc, name)), expected),
+        Source::Pool(name) => have_keys(list.of_pool(&text(rt, alloc, name)), expected),
     }
 }
 
@@ -218,12 +228,12 @@ fn keeps_others(
     alloc: Global,
     list: &BlockedList,
     waiters: &[Waiter],
-    woken: &[Told],
+    woken: &[KeyText],
 ) -> bool {
     let mut right = true;
     for waiter in waiters {
         let key = key(rt, alloc, waiter.key);
-        right &= has(list, &key) != woken.iter().any(|told| is_told(&key, *told));
+        right &= has(list, &key) != woken.iter().any(|expected| is_key(&key, *expected));
     }
     right
 }
@@ -237,15 +247,21 @@ const BSD: Named = ("large", "bsd");
 const SMALL: Named = ("small", "linux");
 
 /// What is released, with the classes of the nodes that have room, and whom that wakes.
-type Case<'a> = (Source<'a>, &'a [Named<'a>], &'a [Told<'a>]);
+type Case<'a> = (Source<'a>, &'a [Named<'a>], &'a [KeyText<'a>]);
 
-fn wakes(rt: &impl Abort, alloc: Global, waiters: &[Waiter], (source, names, told): Case) -> bool {
+fn wakes(
+    rt: &impl Abort,
+    alloc: Global,
+    waiters: &[Waiter],
+    (source, names, expected): Case,
+) -> bool {
     let mut list = blocked(rt, alloc, waiters);
     let keys = woken(rt, alloc, &mut list, source, names);
-    let right = are_told(keys.as_slice(), told) & keeps_others(rt, alloc, &list, waiters, told);
+    let right = are_keys(keys.as_slice(), expected)
+        & keeps_others(rt, alloc, &list, waiters, expected);
     let mut list = blocked(rt, alloc, waiters);
     let keys = woken_by_step(rt, alloc, &mut list, source, names);
-    right & are_told(keys.as_slice(), told) & keeps_others(rt, alloc, &list, waiters, told)
+    right & are_keys(keys.as_slice(), expected) & keeps_others(rt, alloc, &list, waiters, expected)
 }
 
 #[test]
@@ -315,7 +331,7 @@ fn several_are_woken_in_the_order_of_the_list(rt: HostRuntime) {
     );
     let releases = several(&rt, alloc);
     let first = list.release(&releases).expect(&rt, "memory");
-    let told = [
+    let expected = [
         ("tb", 9),
         ("ta", 4),
         ("tb", 2),
@@ -323,15 +339,15 @@ fn several_are_woken_in_the_order_of_the_list(rt: HostRuntime) {
         ("ta", 5),
         ("tb", 3),
     ];
-    assert!(rt; are_told(first.as_slice(), &told));
+    assert!(rt; are_keys(first.as_slice(), &expected));
     assert!(rt; wait(&rt, alloc, &list, Source::Pool("arm"), &[("ta", 1)]));
     assert!(rt; wait(&rt, alloc, &list, Source::Quota("qc"), &[("tb", 4)]));
     let second = list.release(&releases).expect(&rt, "memory");
     assert!(rt; second.is_empty());
 }
 
-fn untrack(rt: &impl Abort, alloc: Global, list: &mut BlockedList, told: Told) -> bool {
-    let key = key(rt, alloc, told);
+fn untrack(rt: &impl Abort, alloc: Global, list: &mut BlockedList, expected: KeyText) -> bool {
+    let key = key(rt, alloc, expected);
     list.untrack(&key);
     !has(list, &key)
 }
@@ -351,11 +367,11 @@ fn forgets(rt: &impl Abort, alloc: Global, source: Source) -> bool {
         Waiter::feasible("ta", 2, source),
     );
     append(rt, alloc, &mut list, &third, &again);
-    let told = [("tb", 2), ("tb", 1), ("ta", 1), ("ta", 2)];
-    right &= wait(rt, alloc, &list, source, &told);
+    let expected = [("tb", 2), ("tb", 1), ("ta", 1), ("ta", 2)];
+    right &= wait(rt, alloc, &list, source, &expected);
     right &= untrack(rt, alloc, &mut list, ("tb", 1));
     let keys = woken(rt, alloc, &mut list, source, &[LINUX]);
-    right && are_told(keys.as_slice(), &[("tb", 2), ("ta", 1), ("ta", 2)])
+    right && are_keys(keys.as_slice(), &[("tb", 2), ("ta", 1), ("ta", 2)])
 }
 
 #[test]
