@@ -1,21 +1,10 @@
 //! The program `nsd`.
 #![tactic(auto)]
 
-mod command;
-mod host;
-mod outcome;
-mod random;
-mod run;
-#[cfg(test)]
-mod tests;
-mod wanted;
-mod words;
-
-use crate::host::conclude;
-use crate::random::Random;
-use crate::run::run_words;
 use ns_faults::{tell, tell_no_random, tell_no_words};
+use ns_host::{Random, conclude};
 use ns_http::{ConnFault, Counted};
+use ns_words::run_words;
 use rand::make_rng;
 use rand::rngs::StdRng;
 use std::alloc::{AllocError, Global};

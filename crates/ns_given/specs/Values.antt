@@ -1,0 +1,66 @@
+-- What the values that are given for the program's arguments say.
+use Rattle.std.specs.Prelude.{ℕ, ◌^◌, ◌-◌, ◌&&◌, List, Option, Some, None, codes, nat_le, option_map, if◌then◌else◌}
+use Rattle.std.specs.Str.{bytes_eq}
+use Rattle.std.specs.Str.Parse.{digits_value}
+use Rattle.ns_api.specs.declared.following.Driven.{Driven}
+use Rattle.ns_pipe.specs.declared.printed.Printed.{Printed}
+use Rattle.ns_request.specs.Queries.{is_number}
+use Rattle.ns_types.specs.declared.name.NameKind.TheVariants as NameKind
+use Rattle.ns_types.specs.State.Name.{is_name}
+
+-- ---- numbers
+
+-- the number that the text is, where it is one from the first to the last
+abbrev pub number_between : ℕ → ℕ → List ℕ → Option ℕ
+number_between first last text =
+    if is_number text && (nat_le first (digits_value 10 text) && nat_le (digits_value 10 text) last)
+    then Some (digits_value 10 text) else None
+
+-- the same of what is given, and a default where nothing is
+abbrev pub number_by : ℕ → ℕ → ℕ → Option (List ℕ) → Option ℕ
+number_by default first last None = Some default
+number_by default first last (Some text) = number_between first last text
+
+-- ---- of `pipe`
+
+-- a flag that is there is given as `true`
+abbrev pub driven_by : Option (List ℕ) → Driven
+driven_by None = Driven.Nobody
+driven_by (Some text) = if bytes_eq text (codes "true") then Driven.Worker else Driven.Nobody
+
+-- the replies, where nothing is said
+abbrev pub printed_by : Option (List ℕ) → Option Printed
+printed_by None = Some Printed.Replies
+printed_by (Some text) =
+    if bytes_eq text (codes "replies") then Some Printed.Replies
+    else if bytes_eq text (codes "log") then Some Printed.Log else None
+
+-- ---- of `alone`
+
+-- how many entries come before: none, where nothing is said
+abbrev pub count_by : Option (List ℕ) → Option ℕ
+count_by = number_by 0 0 (2 ^ 64 - 1)
+
+-- ---- of `serve`
+
+-- the secret that is given, which is one by its rule, or none where nothing is said
+abbrev pub secret_by : Option (List ℕ) → Option (Option (List ℕ))
+secret_by None = Some None
+secret_by (Some text) = if is_name NameKind.Secret text then Some (Some text) else None
+
+-- two, where nothing is said
+abbrev pub workers_by : Option (List ℕ) → Option ℕ
+workers_by = number_by 2 1 63
+
+-- four, where nothing is said
+abbrev pub connections_by : Option (List ℕ) → Option ℕ
+connections_by = number_by 4 1 64
+
+-- no end, where nothing is said
+abbrev pub accept_by : Option (List ℕ) → Option (Option ℕ)
+accept_by None = Some None
+accept_by (Some text) = option_map Some (number_between 1 (2 ^ 64 - 1) text)
+
+-- a million, where nothing is said
+abbrev pub log_limit_by : Option (List ℕ) → Option ℕ
+log_limit_by = number_by 1000000 1 (2 ^ 64 - 1)

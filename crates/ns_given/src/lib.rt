@@ -1,0 +1,11 @@
+//! What the values that are given for the program's arguments say. `clap`, which finds them, is not needed for it.
+#![tactic(auto)]
+
+mod alone;
+mod number;
+mod pipe;
+mod serve;
+
+pub use alone::count;
+pub use pipe::{driven, printed};
+pub use serve::{accept, connections, log_limit, secret, workers};

@@ -1,0 +1,53 @@
+//! What is given to `serve`. None: a value is not what it has to be.
+
+ghost use Rattle.std.specs.Prelude.{◌≡◌, IfOk, option_map};
+ghost use Rattle.ns_given.specs.Values.{accept_by, connections_by, log_limit_by, secret_by, workers_by};
+
+use crate::number::{number_between, number_by};
+use ns_types::name::Secret;
+use std::alloc::{AllocError, Global};
+
+/// The secret, by what is given for it. Want of memory is the only error.
+pub fn secret(alloc: Global, given: Option<&str>) -> Result<Option<Option<Secret>>, AllocError>
+    ensures { IfOk result (λ secret.
+        secret ≡ secret_by (option_map (λ s. s.now) given.entry)) }
+{
+    match given {
+        None => Ok(Some(None)),
+        Some(text) => match Secret::read(alloc, text)? {
+            Some(secret) => Ok(Some(Some(secret))),
+            None => Ok(None),
+        },
+    }
+}
+
+/// How many workers there are, by what is given for it.
+pub fn workers(given: Option<&str>) -> Option<u64>
+    ensures { result ≡ workers_by (option_map (λ s. s.now) given.entry) }
+{
+    number_by(2, 1, 63, given)
+}
+
+/// How many connections are served at once, by what is given for it.
+pub fn connections(given: Option<&str>) -> Option<u64>
+    ensures { result ≡ connections_by (option_map (λ s. s.now) given.entry) }
+{
+    number_by(4, 1, 64, given)
+}
+
+/// After how many connections to end, by what is given for it.
+pub fn accept(given: Option<&str>) -> Option<Option<u64>>
+    ensures { result ≡ accept_by (option_map (λ s. s.now) given.entry) }
+{
+    match given {
+        None => Some(None),
+        Some(text) => number_between(1, u64::MAX, text).map(Some),
+    }
+}
+
+/// How many entries the log may have, by what is given for it.
+pub fn log_limit(given: Option<&str>) -> Option<u64>
+    ensures { result ≡ log_limit_by (option_map (λ s. s.now) given.entry) }
+{
+    number_by(1_000_000, 1, u64::MAX, given)
+}

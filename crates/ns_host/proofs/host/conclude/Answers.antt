@@ -1,0 +1,29 @@
+use Rattle.std.proofs.Common.{◌≡◌, ℕ, List, Option, sym, subst}
+use Rattle.ns_http.specs.declared.counting.Counted.{Counted}
+use Rattle.ns_pipe.specs.declared.running.Ended.{Ended}
+use Rattle.ns_serve.specs.declared.service.Service.{Service}
+use Rattle.ns_types.specs.State.Names.{Name}
+use Rattle.ns_host.specs.Hosting.{EndsHosted}
+use Rattle.ns_host.specs.Outcome.{MatchOutcome}
+use Rattle.ns_host.specs.declared.outcome.Outcome.{Outcome}
+use Rattle.ns_host.proofs.host.conclude.Goals as goal
+use Rattle.ns_pipe.proofs.Uncounted.{uncounted_by}
+
+-- a server is to be run
+to_serve : {R W : Type 0} (outcome : Outcome R W) (service : Service) (reader : R) (writer : W) (HasEnded : Ended R W → Type 0)
+    (IsToServe : Service → R → W → Type 0) → outcome ≡ Outcome.Serve service reader writer → IsToServe service reader writer →
+    MatchOutcome outcome HasEnded IsToServe
+to_serve outcome service reader writer HasEnded IsToServe is h = subst (λ o. MatchOutcome o HasEnded IsToServe) (sym is) h
+
+-- by an equal writer
+hosted_by : {D W E : Type 0} (draws : D → List ℕ → D → Type 0) (contents : W → Option (List ℕ)) (said : E → Option (List ℕ)) (given : Option Name)
+    (status : ℕ) (w v writer' : Counted W) (errors errors' : Counted E) → w ≡ v →
+    EndsHosted draws contents said given status w writer' errors errors' → EndsHosted draws contents said given status v writer' errors errors'
+hosted_by draws contents said given status w v writer' errors errors' same h =
+    subst (λ x. EndsHosted draws contents said given status x writer' errors errors') same h
+
+pub returns-in-Serve : goal.returns-in-Serve
+returns-in-Serve g c = to_serve _ _ _ _ _ _ c.in-Serve.is (
+  uncounted_by _ _ c.new.ensures.inner c.new.ensures.counts,
+  hosted_by _ _ _ _ _ _ _ _ _ _ (uncounted_by _ _ c.new-writer.ensures.inner c.new-writer.ensures.counts) c.host-status.ensures,
+)

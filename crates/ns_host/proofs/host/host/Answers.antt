@@ -1,0 +1,66 @@
+use Rattle.std.proofs.Common.{◌≡◌, ◌∙◌, ℕ, List, [], Option, arith, inl, inr, refl, sym, subst}
+use Rattle.ns_faults.specs.Lines.{Tells, line_of, status_of}
+use Rattle.ns_http.specs.declared.counting.Counted.{Counted}
+use Rattle.ns_http.specs.declared.engine.ConnFault.{ConnFault}
+use Rattle.ns_serve.specs.Ending.{IsEnd, TellsLast}
+use Rattle.ns_types.specs.State.Names.{Name}
+use Rattle.ns_host.proofs.host.host.Goals as goal
+
+-- a fault by its status
+end_of : (fault : ConnFault) → IsEnd (status_of fault)
+end_of ConnFault.Read = inr (inr (inl refl))
+end_of ConnFault.Write = inr (inr (inr (inl refl)))
+end_of ConnFault.Memory = inr (inr (inr (inr refl)))
+
+not_served : (fault : ConnFault) → status_of fault ≡ 0 → ⊥
+not_served ConnFault.Read e = omega (arith, e)
+not_served ConnFault.Write e = omega (arith, e)
+not_served ConnFault.Memory e = omega (arith, e)
+
+no_mismatch : (fault : ConnFault) → status_of fault ≡ 1 → ⊥
+no_mismatch ConnFault.Read e = omega (arith, e)
+no_mismatch ConnFault.Write e = omega (arith, e)
+no_mismatch ConnFault.Memory e = omega (arith, e)
+
+same_fault : (a b : ConnFault) → status_of a ≡ status_of b → a ≡ b
+same_fault ConnFault.Read ConnFault.Read e = refl
+same_fault ConnFault.Read ConnFault.Write e = absurd (omega (arith, e))
+same_fault ConnFault.Read ConnFault.Memory e = absurd (omega (arith, e))
+same_fault ConnFault.Write ConnFault.Read e = absurd (omega (arith, e))
+same_fault ConnFault.Write ConnFault.Write e = refl
+same_fault ConnFault.Write ConnFault.Memory e = absurd (omega (arith, e))
+same_fault ConnFault.Memory ConnFault.Read e = absurd (omega (arith, e))
+same_fault ConnFault.Memory ConnFault.Write e = absurd (omega (arith, e))
+same_fault ConnFault.Memory ConnFault.Memory e = refl
+
+-- nothing was told before this line
+only_fault : {D W E : Type 0} (draws : D → List ℕ → D → Type 0) (contents : W → Option (List ℕ)) (said : E → Option (List ℕ))
+    (given : Option Name) (drawers : List D) (errors errors' : Counted E) (a b : ConnFault) → a ≡ b →
+    Tells said errors errors' (line_of a) → TellsLast draws contents said given drawers errors errors' (line_of b)
+only_fault draws contents said given drawers errors errors' a b same tells = record {
+  opened = errors;
+  before = inl refl;
+  last = subst (λ f. Tells said errors errors' (line_of f)) same tells;
+}
+
+pub returns-in-Err : goal.returns-in-Err
+returns-in-Err g c = record {
+  is_end = subst IsEnd (sym c.tell.ensures.status) (end_of c.in-Err.fault);
+  settled = λ e. absurd (not_served _ (sym c.tell.ensures.status ∙ e));
+  write_fault = λ e. absurd (c.in-Err.ensures.fault (same_fault _ ConnFault.Write (sym c.tell.ensures.status ∙ e)));
+  unprinted = λ _ _. refl;
+  told_last = λ fault e.
+      let same = same_fault c.in-Err.fault fault (sym c.tell.ensures.status ∙ e) in
+      ([], only_fault _ _ _ _ _ _ _ _ _ same c.tell.ensures.line);
+  mismatch = λ e. absurd (no_mismatch _ (sym c.tell.ensures.status ∙ e));
+}
+
+pub returns : goal.returns
+returns g c = record {
+  is_end = c.serve.ensures.status;
+  settled = λ e. (_, c.serve.ensures.settled e);
+  write_fault = λ e. (_, c.serve.ensures.write_fault e);
+  unprinted = c.serve.ensures.unprinted;
+  told_last = λ fault e. (_, c.serve.ensures.told fault e);
+  mismatch = λ e. (_, c.serve.ensures.mismatch e);
+}

@@ -1,0 +1,3 @@
+pub mod Outcome
+pub mod Random
+pub mod Hosting

@@ -1,0 +1,105 @@
+//! The server over TCP, in the threads of this process.
+
+ghost use Rattle.std.specs.Prelude.{◌≡◌, ◌≢◌, ◌≤◌, IfErr, IfOk, vec_len};
+ghost use Rattle.ns_pipe.specs.Ending.{uncounted};
+ghost use Rattle.ns_host.specs.Hosting.{EndsHosted};
+ghost use Rattle.ns_host.specs.Outcome.{IfServe, MatchOutcome};
+
+use crate::outcome::Outcome;
+use crate::random::Random;
+use ns_asked::Draws;
+use ns_faults::tell;
+use ns_http::{ConnFault, Counted};
+use ns_pipe::{Ended, Nowhere};
+use ns_serve::{Service, serve};
+use ns_shared::PARTS;
+use rand::make_rng;
+use rand::rngs::StdRng;
+use std::alloc::Global;
+use std::io::Write;
+use std::marker::Brand;
+use std::net::{Net, TcpListener, TcpStream};
+use std::random::RandomSource;
+use std::rt::Clock;
+use std::sync::Wait;
+use std::sync::ledger::{Blank, Ledger};
+use std::thread::Threads;
+
+/// So many generators, each seeded by the system. A read fault: it gives no random bits.
+pub fn generators<R: RandomSource>(
+    rt: &R,
+    alloc: Global,
+    count: u64,
+) -> Result<Vec<Random<StdRng>>, ConnFault>
+    ensures many { IfOk result (λ all. vec_len all ≡ count) }
+    ensures fault { IfErr result (λ fault. fault ≢ ConnFault.Write) }
+{
+    let mut all = Vec::new(alloc);
+    for made in 0..count {
+        let Ok(generator) = make_rng(rt) else {
+            return Err(ConnFault::Read);
+        };
+        if all.push(Random::new(generator)).is_err() {
+            return Err(ConnFault::Memory);
+        }
+    }
+    Ok(all)
+}
+
+/// Serves as is asked, with a generator for each thread of connections and one for the secret, and says the exit status.
+fn host<
+    R: Threads
+        + Wait
+        + Clock
+        + Sync
+        + RandomSource
+        + Net<Listener = TcpListener, Stream = TcpStream>,
+    W: Write,
+    E: Write,
+>(rt: &R, alloc: Global, service: &Service, writer: &mut Counted<W>, errors: &mut Counted<E>) -> u8
+    requires { service.now.connections ≤ 64 }
+    ensures { let draws = ⟦<Random<StdRng> as Draws>⟧.draws in
+        EndsHosted draws W.contents E.contents
+        service.now.bootstrap result writer.old writer.new errors.old errors.new }
+{
+    let draws = match generators(rt, alloc, service.connections + 1) {
+        Ok(draws) => draws,
+        Err(fault) => return tell(fault, errors),
+    };
+    let blank = Blank::new(PARTS);
+    serve::<Brand, _, _, _, _>(rt, alloc, service, draws, blank, writer, errors)
+}
+
+/// Ends what the words came to: runs the server, where they ask for one. Says how that ended; a server reads no input.
+pub fn conclude<
+    T: Threads
+        + Wait
+        + Clock
+        + Sync
+        + RandomSource
+        + Net<Listener = TcpListener, Stream = TcpStream>,
+    R: Drop,
+    W: Write + Drop,
+    E: Write,
+>(rt: &T, alloc: Global, outcome: Outcome<R, W>, errors: &mut Counted<E>) -> Ended<R, W>
+    requires { IfServe outcome (λ service. service.connections ≤ 64) }
+    ensures { let draws = ⟦<Random<StdRng> as Draws>⟧.draws in MatchOutcome outcome
+        (λ ended. (result ≡ ended) × (errors.new ≡ errors.old))
+        (λ service reader writer. (result.reader ≡ uncounted reader)
+        × EndsHosted draws W.contents E.contents service.bootstrap
+        result.status (uncounted writer) result.writer errors.old errors.new) }
+{
+    match outcome {
+        Outcome::Ended(ended) => ended,
+        Outcome::Serve(service, reader, writer) => {
+            let mut writer = Counted::new(writer);
+            let status = host(rt, alloc, &service, &mut writer, errors);
+            Ended {
+                status,
+                reader: Counted::new(reader),
+                writer,
+                unprinted: Counted::new(Nowhere),
+            }
+        }
+    }
+}

@@ -1,0 +1,3 @@
+mod Errors
+pub mod Serving
+mod Wanting

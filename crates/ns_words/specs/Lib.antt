@@ -1,0 +1,4 @@
+pub mod Given
+pub mod Serve
+pub mod Words
+pub mod Running

@@ -1,0 +1,157 @@
+//! The words that the program takes, for `clap`.
+
+mod serve;
+
+ghost use Rattle.std.specs.Prelude.{◌≡◌, IfOk, codes, false};
+ghost use Rattle.clap.specs.Words.{app_of, new_app, rule_of};
+ghost use Rattle.clap.specs.declared.builder.command.Command.TheViews.{out-Command};
+ghost use Rattle.ns_words.specs.Words.{alone_words, bare_words, bootstrap_rule, drive_rule, from_rule, namespace_rule, pipe_words, print_rule, program_words};
+
+use clap::{Arg, ArgAction, Command};
+use std::alloc::{AllocError, Global};
+
+const EXAMPLE: &str = "Example:
+  nsd pipe --bootstrap root < examples/one-job.http";
+
+const STATUSES: &str = "Exit statuses:
+  0  pipe: served to the end; serve: served and settled; alone: same
+  1  serve: mismatch; alone: differs, a premise fails, or not a run
+  2  bad words; alone: or a bad log
+  3  the input failed; pipe: or ended inside a request; serve: no address or no connection
+  4  the output failed
+  5  out of memory; serve: or no thread could be made";
+
+const ALONE: &str = "\
+The log stands on standard input, as `pipe --print log` prints it. What was asked in the namespace
+or of its pools, and what workers did for it, is done again by a server that holds nobody else.
+
+Promised: a namespace that has its pools and its quota to itself gets the same replies alone.
+To be kept, from COUNT on: it is confined to pools that no other namespace may use, no other names
+its quota, and nobody changes its record, those of its pools and its quota, or a right on them.
+Not promised: how long it takes, what administrators are answered, anything where this is not kept.
+
+Printed: place in the log, status and body of each step that is done again, and at the end
+  same                each reply is the one in the log
+  differs at P        alone, the reply at place P is another
+  premise fails at P  what is to be kept does not hold before or after place P
+  not a run at P      no server does what stands at place P with that reply
+  bad log line L      nothing else is printed, since line L is no line of a log
+
+Exit statuses:
+  0  same
+  1  differs at P, premise fails at P or not a run at P
+  2  bad words, or bad log line L
+  3  the input failed
+  4  the output failed
+  5  out of memory";
+
+fn bootstrap<'a>(alloc: Global) -> Arg<'a>
+    ensures rule { rule_of result ≡ bootstrap_rule }
+    ensures local { result.global ≡ false }
+{
+    Arg::new(alloc, "bootstrap")
+        .long("bootstrap")
+        .value_name("SECRET")
+        .required(true)
+        .help("The secret of the first management token: 1 to 64 printable bytes without a space")
+}
+
+fn drive<'a>(alloc: Global) -> Arg<'a>
+    ensures rule { rule_of result ≡ drive_rule }
+    ensures local { result.global ≡ false }
+{
+    Arg::new(alloc, "drive")
+        .long("drive")
+        .action(ArgAction::SetTrue)
+        .help(
+            "After each request a worker places what is ready, has its plans applied, and finishes",
+        )
+}
+
+fn print<'a>(alloc: Global) -> Arg<'a>
+    ensures rule { rule_of result ≡ print_rule }
+    ensures local { result.global ≡ false }
+{
+    Arg::new(alloc, "print")
+        .long("print")
+        .value_name("WHAT")
+        .help("What standard output gets: `replies`, as without this word, or `log`, what was done")
+}
+
+fn namespace<'a>(alloc: Global) -> Arg<'a>
+    ensures rule { rule_of result ≡ namespace_rule }
+    ensures local { result.global ≡ false }
+{
+    Arg::new(alloc, "namespace")
+        .value_name("NAMESPACE")
+        .required(true)
+        .help("The namespace: 1 to 128 letters, digits and hyphens")
+}
+
+fn from<'a>(alloc: Global) -> Arg<'a>
+    ensures rule { rule_of result ≡ from_rule }
+    ensures local { result.global ≡ false }
+{
+    Arg::new(alloc, "from")
+        .long("from")
+        .value_name("COUNT")
+        .help("How many entries of the log set up the server first: 0 without this word")
+}
+
+/// `pipe` without its arguments.
+fn bare_pipe<'a>(alloc: Global) -> Command<'a>
+    ensures shape { app_of result ≡ new_app (codes "pipe") }
+    ensures local { (out-Command result).has_globals ≡ false }
+{
+    Command::new(alloc, "pipe")
+        .about(
+            "Serves standard input as one HTTP/1.1 connection, with the replies on standard output",
+        )
+        .after_help(EXAMPLE)
+}
+
+fn pipe<'a>(alloc: Global) -> Result<Command<'a>, AllocError>
+    ensures shape { IfOk result (λ command. app_of command ≡ pipe_words) }
+    ensures local { IfOk result (λ command. (out-Command command).has_globals ≡ false) }
+{
+    let command = bare_pipe(alloc).arg(bootstrap(alloc))?;
+    let command = command.arg(drive(alloc))?;
+    command.arg(print(alloc))
+}
+
+/// `alone` without its arguments.
+fn bare_alone<'a>(alloc: Global) -> Command<'a>
+    ensures shape { app_of result ≡ new_app (codes "alone") }
+    ensures local { (out-Command result).has_globals ≡ false }
+{
+    Command::new(alloc, "alone")
+        .about("Replays a namespace's own part of a log alone, and says whether all went the same")
+        .after_help(ALONE)
+}
+
+fn alone<'a>(alloc: Global) -> Result<Command<'a>, AllocError>
+    ensures shape { IfOk result (λ command. app_of command ≡ alone_words) }
+    ensures local { IfOk result (λ command. (out-Command command).has_globals ≡ false) }
+{
+    let command = bare_alone(alloc).arg(namespace(alloc))?;
+    command.arg(from(alloc))
+}
+
+/// The program without its subcommands.
+fn bare<'a>(alloc: Global) -> Command<'a>
+    ensures { app_of result ≡ bare_words }
+{
+    Command::new(alloc, "nsd")
+        .about("A scheduling server for many tenants")
+        .after_help(STATUSES)
+        .subcommand_required(true)
+}
+
+/// The words that the program takes.
+pub fn command<'a>(alloc: Global) -> Result<Command<'a>, AllocError>
+    ensures { IfOk result (λ command. app_of command ≡ program_words) }
+{
+    let command = bare(alloc).subcommand(pipe(alloc)?)?;
+    let command = command.subcommand(serve::serve(alloc)?)?;
+    command.subcommand(alone(alloc)?)
+}

@@ -1,0 +1,11 @@
+//! The words that the program is started with, as `clap` finds them: what they ask for, and a run of the program by them.
+#![tactic(auto)]
+
+mod command;
+mod run;
+mod wanted;
+mod words;
+
+pub use run::run_words;
+pub use wanted::Wanted;
+pub use words::read;

@@ -1,0 +1,68 @@
+//! What `serve` is given.
+
+ghost use Rattle.std.specs.Prelude.{◌≡◌, IfOk, IfErr, Some, codes};
+ghost use Rattle.clap.specs.Words.{kind_of, subcommand_rows_of};
+ghost use Rattle.ns_serve.specs.declared.service.Service.{Service};
+ghost use Rattle.ns_words.specs.Serve.{IsServe, of_serve};
+ghost use Rattle.ns_words.specs.Words.{IsRefusal};
+
+use crate::words::pipe::BAD_SECRET;
+use crate::words::value::{given, refused};
+use clap::error::ErrorKind;
+use clap::{ArgMatches, Command, Error};
+use ns_given::{accept, connections, log_limit, secret, workers};
+use ns_serve::Service;
+use std::alloc::Global;
+use std::net::SocketAddr;
+
+const BAD_LISTEN: &str = "the address is an IP address and a port, as 127.0.0.1:4646 or [::1]:4646";
+
+const BAD_WORKERS: &str = "there are 1 to 63 workers";
+
+const BAD_CONNECTIONS: &str = "1 to 64 connections are served at once";
+
+const BAD_ACCEPT: &str =
+    "the connections to be accepted are a decimal number from 1 on, below 2^64";
+
+const BAD_LOG_LIMIT: &str = "the limit of the log is a decimal number from 1 on, below 2^64";
+
+/// What `serve` is given besides this address, or the fault in it.
+pub fn serve_given(
+    alloc: Global,
+    command: &mut Command,
+    matches: &ArgMatches,
+    address: &str,
+) -> Result<Service, Error>
+    requires given { of_serve (codes "listen") (subcommand_rows_of matches.now) ≡ Some address.now }
+    ensures gives { IfOk result (IsServe (subcommand_rows_of matches.now)) }
+    ensures good { (service : Service) → IsServe (subcommand_rows_of matches.now) service
+        → IfErr result (λ error. kind_of error ≡ ErrorKind.OutOfMemory) }
+    ensures bad { IfErr result IsRefusal }
+{
+    let Ok(address) = address.parse::<SocketAddr>() else {
+        return Err(refused(command, BAD_LISTEN));
+    };
+    let Some(bootstrap) = secret(alloc, given(matches, "serve", "bootstrap"))? else {
+        return Err(refused(command, BAD_SECRET));
+    };
+    let Some(workers) = workers(given(matches, "serve", "workers")) else {
+        return Err(refused(command, BAD_WORKERS));
+    };
+    let Some(connections) = connections(given(matches, "serve", "connections")) else {
+        return Err(refused(command, BAD_CONNECTIONS));
+    };
+    let Some(accept) = accept(given(matches, "serve", "accept")) else {
+        return Err(refused(command, BAD_ACCEPT));
+    };
+    let Some(log_limit) = log_limit(given(matches, "serve", "log-limit")) else {
+        return Err(refused(command, BAD_LOG_LIMIT));
+    };
+    Ok(Service {
+        address,
+        bootstrap,
+        workers,
+        connections,
+        accept,
+        log_limit,
+    })
+}

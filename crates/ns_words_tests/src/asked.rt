@@ -1,0 +1,113 @@
+// What good words come to.
+use ns_api::Driven;
+use ns_pipe::{Asked, Printed};
+use ns_words::{Wanted, read};
+use std::net::{Ipv4Addr, Ipv6Addr, SocketAddr};
+use std::rt::HostRuntime;
+
+/// Whether a connection is asked for with the secret `root` and these.
+fn is_pipe(wanted: &Wanted, driven: Driven, printed: Printed) -> bool {
+    match wanted {
+        Wanted::Run(Asked::Pipe(secret, drives, prints)) => {
+            secret.get().as_str() == "root" && *drives == driven && *prints == printed
+        }
+        _ => false,
+    }
+}
+
+#[test]
+fn pipe(rt: HostRuntime) {
+    let plain = read(rt.alloc(), &["nsd", "pipe", "--bootstrap", "root"]);
+    assert!(rt; is_pipe(&plain, Driven::Nobody, Printed::Replies));
+    let words = ["nsd", "pipe", "--print=log", "--drive", "--bootstrap=root"];
+    let logged = read(rt.alloc(), &words);
+    assert!(rt; is_pipe(&logged, Driven::Worker, Printed::Log));
+}
+
+/// Whether the namespace `ta` is to run alone from that entry on.
+fn is_alone(wanted: &Wanted, count: u64) -> bool {
+    match wanted {
+        Wanted::Run(Asked::Alone(namespace, from)) => namespace.as_str() == "ta" && *from == count,
+        _ => false,
+    }
+}
+
+#[test]
+fn alone(rt: HostRuntime) {
+    let whole = read(rt.alloc(), &["nsd", "alone", "ta"]);
+    assert!(rt; is_alone(&whole, 0));
+    let late = read(rt.alloc(), &["nsd", "alone", "--from", "008", "ta"]);
+    assert!(rt; is_alone(&late, 8));
+    let last = read(
+        rt.alloc(),
+        &["nsd", "alone", "ta", "--from=18446744073709551615"],
+    );
+    assert!(rt; is_alone(&last, u64::MAX));
+}
+
+/// Whether this server is asked for, with these workers, connections, connections to accept and entries.
+fn is_serve(
+    wanted: &Wanted,
+    address: SocketAddr,
+    bootstrap: Option<&str>,
+    numbers: (u64, u64, Option<u64>, u64),
+) -> bool {
+    match wanted {
+        Wanted::Serve(service) => {
+            let given = match &service.bootstrap {
+                Some(secret) => Some(secret.get().as_str()),
+                None => None,
+            };
+            service.address == address
+                && given == bootstrap
+                && (
+                    service.workers,
+                    service.connections,
+                    service.accept,
+                    service.log_limit,
+                ) == numbers
+        }
+        Wanted::Run(_) => false,
+    }
+}
+
+#[test]
+fn serve(rt: HostRuntime) {
+    let local = SocketAddr::from((Ipv4Addr::LOCALHOST, 4646));
+    let plain = read(rt.alloc(), &["nsd", "serve", "--listen", "127.0.0.1:4646"]);
+    assert!(rt; is_serve(&plain, local, None, (2, 4, None, 1_000_000)));
+    let least = read(
+        rt.alloc(),
+        &[
+            "nsd",
+            "serve",
+            "--bootstrap",
+            "root",
+            "--workers=1",
+            "--connections=1",
+            "--accept=1",
+            "--log-limit=1",
+            "--listen=[::1]:0",
+        ],
+    );
+    let free = SocketAddr::from((Ipv6Addr::LOCALHOST, 0));
+    assert!(rt; is_serve(&least, free, Some("root"), (1, 1, Some(1), 1)));
+    let most = read(
+        rt.alloc(),
+        &[
+            "nsd",
+            "serve",
+            "--workers",
+            "63",
+            "--connections",
+            "64",
+            "--accept",
+            "18446744073709551615",
+            "--log-limit",
+            "18446744073709551615",
+            "--listen",
+            "127.0.0.1:4646",
+        ],
+    );
+    assert!(rt; is_serve(&most, local, None, (63, 64, Some(u64::MAX), u64::MAX)));
+}

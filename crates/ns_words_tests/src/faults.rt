@@ -1,0 +1,153 @@
+// Readers and writers that are slow or fail.
+use crate::drawing::SameBits;
+use ns_host::Outcome;
+use ns_http::Counted;
+use ns_words::run_words;
+use std::alloc::Global;
+use std::io::{self, ErrorKind, Read, Write};
+use std::rt::HostRuntime;
+
+const WORDS: [&str; 4] = ["nsd", "pipe", "--bootstrap", "root"];
+
+const INPUT: &[u8] =
+    b"POST /v1/jobs HTTP/1.1\r\nX-Nomad-Token: root\r\nContent-Length: 71\r\n\r\n{\"Job\":{\"ID\":\"web\",\"TaskGroups\":[{\"Name\":\"g\",\"Tasks\":[{\"Name\":\"t\"}]}]}}GET /v1/jobs HTTP/1.1\r\nX-Nomad-Token: root\r\n\r\n";
+
+const REGISTERED: &[u8] =
+    b"HTTP/1.1 200 OK\r\nContent-Type: application/json\r\nX-Nomad-Index: 1\r\nContent-Length: 88\r\n\r\n{\"EvalCreateIndex\":1,\"EvalID\":\"00000000-0000-0001-0000-000000000001\",\"JobModifyIndex\":1}";
+
+const LISTED: &[u8] =
+    b"HTTP/1.1 200 OK\r\nContent-Type: application/json\r\nX-Nomad-Index: 1\r\nContent-Length: 105\r\n\r\n[{\"ID\":\"web\",\"JobModifyIndex\":1,\"Namespace\":\"default\",\"Priority\":50,\"Status\":\"pending\",\"Type\":\"service\"}]";
+
+/// Gives at most `step` bytes a read, and fails at the end if `fails`.
+#[derive(Drop)]
+struct Slow<'a> {
+    rest: &'a [u8],
+    step: usize,
+    fails: bool,
+}
+
+impl Read for Slow<'_> {
+    fn read(&mut self, buf: &mut [u8]) -> io::Result<usize> {
+        if self.fails && self.rest.is_empty() {
+            return Err(io::Error::from(ErrorKind::ConnectionReset));
+        }
+        let count = self.step.min(buf.len()).min(self.rest.len());
+        let (front, rest) = self.rest.split_at(count);
+        buf[..count].copy_from_slice(front);
+        self.rest = rest;
+        Ok(count)
+    }
+}
+
+/// Takes so many bytes more, and then fails.
+#[derive(Drop)]
+struct Narrow {
+    taken: Vec<u8>,
+    room: usize,
+}
+
+impl Write for Narrow {
+    fn write(&mut self, buf: &[u8]) -> io::Result<usize> {
+        let count = self.room.min(buf.len());
+        if count == 0 {
+            return Err(io::Error::from(ErrorKind::BrokenPipe));
+        }
+        self.taken.extend_from_slice(&buf[..count])?;
+        self.room -= count;
+        Ok(count)
+    }
+
+    fn flush(&mut self) -> io::Result<()> {
+        Ok(())
+    }
+}
+
+/// What a run left.
+#[derive(Drop)]
+struct Left {
+    status: u8,
+    written: Vec<u8>,
+    errors: Vec<u8>,
+}
+
+fn run(alloc: Global, reader: Slow<'_>, room: usize) -> Left {
+    let mut errors = Counted::new(Vec::new(alloc));
+    let writer = Narrow {
+        taken: Vec::new(alloc),
+        room,
+    };
+    let outcome = run_words(alloc, &WORDS, SameBits, reader, writer, &mut errors);
+    let (status, written) = match outcome {
+        Outcome::Ended(ended) => (ended.status, ended.writer.into_inner().taken),
+        Outcome::Serve(..) => (u8::MAX, Vec::new(alloc)),
+    };
+    Left {
+        status,
+        written,
+        errors: errors.into_inner(),
+    }
+}
+
+/// Whether the run left these.
+fn leaves(left: &Left, status: u8, written: &[&[u8]], errors: &[u8]) -> bool {
+    let mut rest = left.written.as_slice();
+    for part in written {
+        match rest.strip_prefix(*part) {
+            Some(after) => rest = after,
+            None => return false,
+        }
+    }
+    rest.is_empty() && left.status == status && left.errors.as_slice() == errors
+}
+
+/// Whether both requests are answered when each read gives so many bytes.
+fn is_answered(alloc: Global, step: usize) -> bool {
+    let reader = Slow {
+        rest: INPUT,
+        step,
+        fails: false,
+    };
+    let left = run(alloc, reader, usize::MAX);
+    leaves(&left, 0, &[REGISTERED, LISTED], b"")
+}
+
+#[test]
+fn input_is_served_at_any_cut(rt: HostRuntime) {
+    for step in 1..=INPUT.len() {
+        assert!(rt; is_answered(rt.alloc(), step), "at {step} bytes a read");
+    }
+}
+
+/// Whether a run over all but the last byte answers the first request, and then tells of a read fault.
+fn is_read_fault(alloc: Global, fails: bool) -> bool {
+    let reader = Slow {
+        rest: &INPUT[..INPUT.len() - 1],
+        step: usize::MAX,
+        fails,
+    };
+    let left = run(alloc, reader, usize::MAX);
+    leaves(&left, 3, &[REGISTERED], b"read fault\n")
+}
+
+#[test]
+fn input_that_ends_inside_a_request_or_fails(rt: HostRuntime) {
+    assert!(rt; is_read_fault(rt.alloc(), false));
+    assert!(rt; is_read_fault(rt.alloc(), true));
+}
+
+/// Whether a run whose output takes only these bytes tells of a write fault.
+fn is_write_fault(alloc: Global, taken: &[u8]) -> bool {
+    let reader = Slow {
+        rest: INPUT,
+        step: usize::MAX,
+        fails: false,
+    };
+    let left = run(alloc, reader, taken.len());
+    leaves(&left, 4, &[taken], b"write fault\n")
+}
+
+#[test]
+fn output_that_fails(rt: HostRuntime) {
+    assert!(rt; is_write_fault(rt.alloc(), b""));
+    assert!(rt; is_write_fault(rt.alloc(), b"HTTP/1.1 200 OK\r\nCont"));
+}

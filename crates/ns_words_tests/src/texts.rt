@@ -1,0 +1,286 @@
+// What words that ask for nothing are answered, and the lines of faults.
+use crate::drawing::SameBits;
+use crate::serving;
+use ns_faults::{tell, tell_no_random, tell_no_words};
+use ns_host::Outcome;
+use ns_http::{ConnFault, Counted};
+use ns_pipe::{Asked, run};
+use ns_words::run_words;
+use std::alloc::Global;
+use std::io::{self, ErrorKind};
+use std::rt::HostRuntime;
+
+const NO_INPUT: &[u8] = b"";
+
+/// What was told.
+#[derive(Drop)]
+struct Told {
+    status: u8,
+    output: Vec<u8>,
+    errors: Vec<u8>,
+}
+
+fn telling(alloc: Global, words: &[&str]) -> Told {
+    let mut errors = Counted::new(Vec::new(alloc));
+    let outcome = run_words(
+        alloc,
+        words,
+        SameBits,
+        NO_INPUT,
+        Vec::new(alloc),
+        &mut errors,
+    );
+    let (status, output) = match outcome {
+        Outcome::Ended(ended) => (ended.status, ended.writer.into_inner()),
+        Outcome::Serve(..) => (u8::MAX, Vec::new(alloc)),
+    };
+    Told {
+        status,
+        output,
+        errors: errors.into_inner(),
+    }
+}
+
+/// Whether the words are bad, for this reason.
+pub fn are_bad(alloc: Global, words: &[&str], text: &str) -> bool {
+    let told = telling(alloc, words);
+    told.status == 2 && told.output.is_empty() && told.errors.as_slice() == text.as_bytes()
+}
+
+const NO_COMMAND: &str = "error: 'nsd' requires a subcommand but one was not provided
+  [subcommands: pipe, serve, alone, help]
+
+Usage: nsd <COMMAND>
+
+For more information, try '--help'.
+";
+
+const OTHER_COMMAND: &str = "error: unrecognized subcommand 'agent'
+
+Usage: nsd <COMMAND>
+
+For more information, try '--help'.
+";
+
+const NO_BOOTSTRAP: &str = "error: the following required arguments were not provided:
+  --bootstrap <SECRET>
+
+Usage: nsd pipe --bootstrap <SECRET>
+
+For more information, try '--help'.
+";
+
+const BAD_SECRET: &str = "error: the bootstrap secret has 1 to 64 printable bytes without a space
+
+Usage: nsd <COMMAND>
+
+For more information, try '--help'.
+";
+
+const BAD_PRINT: &str = "error: what is printed is replies or log
+
+Usage: nsd <COMMAND>
+
+For more information, try '--help'.
+";
+
+const NO_NAMESPACE: &str = "error: the following required arguments were not provided:
+  <NAMESPACE>
+
+Usage: nsd alone <NAMESPACE>
+
+For more information, try '--help'.
+";
+
+const BAD_NAMESPACE: &str = "error: the namespace has 1 to 128 letters, digits and hyphens
+
+Usage: nsd <COMMAND>
+
+For more information, try '--help'.
+";
+
+const NO_COUNT: &str = "error: a value is required for '--from <COUNT>' but none was supplied
+
+For more information, try '--help'.
+";
+
+const BAD_COUNT: &str = "error: the count of entries is a decimal number below 2^64
+
+Usage: nsd <COMMAND>
+
+For more information, try '--help'.
+";
+
+#[test]
+fn bad_words(rt: HostRuntime) {
+    let alloc = rt.alloc();
+    assert!(rt; are_bad(alloc, &["nsd"], NO_COMMAND));
+    assert!(rt; are_bad(alloc, &["nsd", "agent"], OTHER_COMMAND));
+    assert!(rt; are_bad(alloc, &["nsd", "help", "agent"], OTHER_COMMAND));
+}
+
+/// Whether `pipe` with these words after a good secret is bad, for this reason.
+fn is_bad_pipe(alloc: Global, word: &str, text: &str) -> bool {
+    are_bad(alloc, &["nsd", "pipe", "--bootstrap", "root", word], text)
+}
+
+#[test]
+fn bad_words_of_pipe(rt: HostRuntime) {
+    let alloc = rt.alloc();
+    assert!(rt; are_bad(alloc, &["nsd", "pipe"], NO_BOOTSTRAP));
+    assert!(rt; are_bad(alloc, &["nsd", "pipe", "--bootstrap", "a b"], BAD_SECRET));
+    assert!(rt; are_bad(alloc, &["nsd", "pipe", "--bootstrap="], BAD_SECRET));
+    assert!(rt; is_bad_pipe(alloc, "--print=Log", BAD_PRINT));
+    assert!(rt; is_bad_pipe(alloc, "--print=", BAD_PRINT));
+}
+
+/// Whether `alone` with these words after a good name is bad, for this reason.
+fn is_bad_count(alloc: Global, word: &str, text: &str) -> bool {
+    are_bad(alloc, &["nsd", "alone", "ta", word], text)
+}
+
+#[test]
+fn bad_words_of_alone(rt: HostRuntime) {
+    let alloc = rt.alloc();
+    assert!(rt; are_bad(alloc, &["nsd", "alone"], NO_NAMESPACE));
+    assert!(rt; are_bad(alloc, &["nsd", "alone", "t_a"], BAD_NAMESPACE));
+    assert!(rt; are_bad(alloc, &["nsd", "alone", ""], BAD_NAMESPACE));
+    assert!(rt; is_bad_count(alloc, "--from", NO_COUNT));
+    assert!(rt; is_bad_count(alloc, "--from=", BAD_COUNT));
+    assert!(rt; is_bad_count(alloc, "--from=+1", BAD_COUNT));
+    assert!(rt; is_bad_count(alloc, "--from=18446744073709551616", BAD_COUNT));
+}
+
+const HELP: &str = "A scheduling server for many tenants
+
+Usage: nsd <COMMAND>
+
+Commands:
+  pipe   Serves standard input as one HTTP/1.1 connection, with the replies on standard output
+  serve  Serves HTTP/1.1 over TCP: many connections and many workers at once, on one log
+  alone  Replays a namespace's own part of a log alone, and says whether all went the same
+  help   Print this message or the help of the given subcommand(s)
+
+Options:
+  -h, --help  Print help
+
+Exit statuses:
+  0  pipe: served to the end; serve: served and settled; alone: same
+  1  serve: mismatch; alone: differs, a premise fails, or not a run
+  2  bad words; alone: or a bad log
+  3  the input failed; pipe: or ended inside a request; serve: no address or no connection
+  4  the output failed
+  5  out of memory; serve: or no thread could be made
+";
+
+const ALONE_HELP: &str =
+    "Replays a namespace's own part of a log alone, and says whether all went the same
+
+Usage: nsd alone [OPTIONS] <NAMESPACE>
+
+Arguments:
+  <NAMESPACE>  The namespace: 1 to 128 letters, digits and hyphens
+
+Options:
+      --from <COUNT>  How many entries of the log set up the server first: 0 without this word
+  -h, --help          Print help
+
+The log stands on standard input, as `pipe --print log` prints it. What was asked in the namespace
+or of its pools, and what workers did for it, is done again by a server that holds nobody else.
+
+Promised: a namespace that has its pools and its quota to itself gets the same replies alone.
+To be kept, from COUNT on: it is confined to pools that no other namespace may use, no other names
+its quota, and nobody changes its record, those of its pools and its quota, or a right on them.
+Not promised: how long it takes, what administrators are answered, anything where this is not kept.
+
+Printed: place in the log, status and body of each step that is done again, and at the end
+  same                each reply is the one in the log
+  differs at P        alone, the reply at place P is another
+  premise fails at P  what is to be kept does not hold before or after place P
+  not a run at P      no server does what stands at place P with that reply
+  bad log line L      nothing else is printed, since line L is no line of a log
+
+Exit statuses:
+  0  same
+  1  differs at P, premise fails at P or not a run at P
+  2  bad words, or bad log line L
+  3  the input failed
+  4  the output failed
+  5  out of memory
+";
+
+/// Whether the words are answered by this help, on the output.
+fn is_helped(alloc: Global, words: &[&str], help: &str) -> bool {
+    let told = telling(alloc, words);
+    told.status == 0 && told.errors.is_empty() && told.output.as_slice() == help.as_bytes()
+}
+
+#[test]
+fn help_goes_to_the_output(rt: HostRuntime) {
+    let alloc = rt.alloc();
+    assert!(rt; is_helped(alloc, &["nsd", "--help"], HELP));
+    assert!(rt; is_helped(alloc, &["nsd", "alone", "--help"], ALONE_HELP));
+    assert!(rt; is_helped(alloc, &["nsd", "help", "alone"], ALONE_HELP));
+    assert!(rt; is_helped(alloc, &["nsd", "serve", "--help"], serving::HELP));
+}
+
+/// Whether what is told has this status and this line.
+fn is_line(told: (u8, Vec<u8>), status: u8, line: &[u8]) -> bool {
+    let (given, errors) = told;
+    given == status && errors.as_slice() == line
+}
+
+fn fault(alloc: Global, fault: ConnFault) -> (u8, Vec<u8>) {
+    let mut errors = Counted::new(Vec::new(alloc));
+    let status = tell(fault, &mut errors);
+    (status, errors.into_inner())
+}
+
+fn no_random(alloc: Global) -> (u8, Vec<u8>) {
+    let mut errors = Counted::new(Vec::new(alloc));
+    let status = tell_no_random(&mut errors);
+    (status, errors.into_inner())
+}
+
+fn no_words(alloc: Global, kind: ErrorKind) -> (u8, Vec<u8>) {
+    let mut errors = Counted::new(Vec::new(alloc));
+    let status = tell_no_words(&io::Error::from(kind), &mut errors);
+    (status, errors.into_inner())
+}
+
+fn no_memory(alloc: Global) -> (u8, Vec<u8>) {
+    let mut errors = Counted::new(Vec::new(alloc));
+    let ended = run(
+        alloc,
+        &Asked::NoMemory,
+        SameBits,
+        NO_INPUT,
+        Vec::new(alloc),
+        &mut errors,
+    );
+    (ended.status, errors.into_inner())
+}
+
+#[test]
+fn lines_of_faults(rt: HostRuntime) {
+    let alloc = rt.alloc();
+    assert!(rt; is_line(fault(alloc, ConnFault::Read), 3, b"read fault\n"));
+    assert!(rt; is_line(fault(alloc, ConnFault::Write), 4, b"write fault\n"));
+    assert!(rt; is_line(fault(alloc, ConnFault::Memory), 5, b"out of memory\n"));
+    assert!(rt; is_line(no_random(alloc), 3, b"read fault\n"));
+    assert!(rt; is_line(no_memory(alloc), 5, b"out of memory\n"));
+    assert!(rt;
+        is_line(
+            no_words(alloc, ErrorKind::OutOfMemory),
+            5,
+            b"out of memory\n"
+        )
+    );
+    assert!(rt;
+        is_line(
+            no_words(alloc, ErrorKind::InvalidData),
+            2,
+            b"error: a word is no text\n"
+        )
+    );
+}

@@ -1,3 +1,0 @@
-pub mod Errors
-pub mod Serving
-pub mod Wanting

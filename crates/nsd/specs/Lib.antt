@@ -1,7 +1,0 @@
-pub mod Given
-pub mod Serve
-pub mod Words
-pub mod Outcome
-pub mod Running
-pub mod Random
-pub mod Hosting
