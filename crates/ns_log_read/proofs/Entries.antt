@@ -35,7 +35,8 @@ use Rattle.ns_types.specs.State.Names.{Name, name_cmp}
 use Rattle.ns_types.specs.State.Resources.{limits_in}
 use Rattle.ns_types.specs.Within.{IsGoodStep}
 use Rattle.ns_types.proofs.Named.{first_of_both, second_of_both, names}
-use Rattle.ns_json.specs.Logs.{asked, administered, node_call, step_members, entry_json, number_or_null, text_or_null, registration_json, offer_json, new_token_json}
+use Rattle.ns_json.specs.Logs.{asked, administered, node_call, step_members, entry_json, number_or_null, text_or_null}
+use Rattle.ns_json.specs.Logs.{registration_json, offer_json, new_token_json}
 use Rattle.ns_json.specs.Rendering.{object_of, members_of, allowed_json, pools_json, namespace_json, limit_json, limits_json, quota_json}
 use Rattle.ns_json.specs.Rendering.{pool_json, policy_json, token_json, resources_json, task_json, group_json, constraint_json, attributes_json}
 use Rattle.ns_json.specs.Replies.{Entry}

@@ -23,7 +23,8 @@ use Rattle.ns_json.specs.Replies.{Entry}
 use Rattle.ns_log_read.specs.Lines.{HasReadRules, IsAsRead, answer_fits, fits_if_any}
 use Rattle.ns_log_read.specs.Reading.{if_any, member_in, text_in, name_in, number_in, flag_in, text_or_null_in, number_or_null_in, registered_in, with_prefix}
 use Rattle.ns_log_read.specs.Reading.{with_id, with_number, deregistered_in, asked_in, put_policy_in, new_token_in, put_in, with_name, listing}
-use Rattle.ns_log_read.specs.Reading.{administered_in, put_node_in, status_in, eligible_in, client_of, reported_in, node_command_in, ask_in, admin_in, node_step_in}
+use Rattle.ns_log_read.specs.Reading.{administered_in, put_node_in, status_in, eligible_in, client_of, reported_in, node_command_in}
+use Rattle.ns_log_read.specs.Reading.{ask_in, admin_in, node_step_in}
 use Rattle.ns_log_read.specs.Reading.{work_of, work_in, dequeue_in, step_of, step_in, status_code_in, answer_in, entry_in}
 use Rattle.ns_log_read.proofs.Jobs.{registration_back}
 use Rattle.ns_log_read.proofs.Documents.{namespace_back, quota_back, pool_back, policy_back, token_back, offer_back}

@@ -100,7 +100,17 @@ module _ (w : World) (c awake : Change) where
       by (Some x) = ap (λ o. settled_tenant t (option_map_or (λ t. shown_if (touches t x) t x) o (unshown x))) is ∙ slots (touches t x) x
 
   pub settles : changed w awake ≡ wake (woken_keys w c) (changed w c) → IsSettled w c awake (settled_by w c awake)
-  settles woke = record { woke = woke; stamped = stamped_by; pools = refl; quotas = refl; ready = refl; plans = refl; blocked = refl; rooms = refl; released = refl }
+  settles woke = record {
+    woke = woke;
+    stamped = stamped_by;
+    pools = refl;
+    quotas = refl;
+    ready = refl;
+    plans = refl;
+    blocked = refl;
+    rooms = refl;
+    released = refl;
+  }
 
   -- the end of a step, as one value made of the change
   pub settled_is : changed w awake ≡ wake (woken_keys w c) (changed w c) → settle w (changed w c) ≡ settled_world w (settled_by w c awake)

@@ -97,7 +97,7 @@ fn bad_words_of_serve(rt: HostRuntime) {
     }
 }
 
-pub const HELP: &str =
+pub(crate) const HELP: &str =
     "Serves HTTP/1.1 over TCP: many connections and many workers at once, on one log
 
 Usage: nsd serve [OPTIONS] --listen <ADDR>

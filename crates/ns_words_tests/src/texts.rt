@@ -42,7 +42,7 @@ fn telling(alloc: Global, words: &[&str]) -> Told {
 }
 
 /// Whether the words are bad, for this reason.
-pub fn are_bad(alloc: Global, words: &[&str], text: &str) -> bool {
+pub(crate) fn are_bad(alloc: Global, words: &[&str], text: &str) -> bool {
     let told = telling(alloc, words);
     told.status == 2 && told.output.is_empty() && told.errors.as_slice() == text.as_bytes()
 }
