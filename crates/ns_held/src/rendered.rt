@@ -3,6 +3,7 @@
 ghost use Rattle.std.specs.Prelude.{◌≡◌, ◌<◌, IfErr, IfOk, None, OnErr, OnOk, false, true, vec_len, vec_capacity};
 ghost use Rattle.ns_types.specs.declared.refusal.Refusal.TheVariants as Refusal;
 ghost use Rattle.ns_steps.specs.Served.{IsServed};
+ghost use Rattle.ns_json.specs.Replies.{rendered};
 ghost use Rattle.ns_answers.specs.Laws.{may_change};
 ghost use Rattle.ns_answers.specs.Rooms.{HasRoom, copy_room, room_of};
 ghost use Rattle.ns_held.specs.Noting.{is_answer, noted};
@@ -16,7 +17,7 @@ use ns_log::Entry;
 use ns_types::refusal::Refusal;
 use ns_types::reply::{Rendered, Reply, Response};
 use ns_types::step::Step;
-use std::alloc::Global;
+use std::alloc::{AllocError, Global};
 
 /// Room for the answer of a step that a request asks for: in the log, and for its copies, a receipt's and the response's.
 #[derive(Drop)]
@@ -83,6 +84,20 @@ fn note_given(
     }
 }
 
+/// The answer in new memory, for the log, and what is handed out of it, if it is the answer of a step.
+fn given_anew(
+    alloc: Global,
+    answer: &Result<Reply, Refusal>,
+) -> Result<(Rendered, (Rendered, Response)), AllocError>
+    ensures answer { OnOk result (is_answer answer.now ≡ true) }
+    ensures rendered { IfOk result (λ made. made.0 ≡ rendered answer.now) }
+    ensures given { IfOk result (λ made. IsGiven answer.now made.1) }
+{
+    let shown = rendered_anew(alloc, answer)?;
+    let given = given_again(answer, &shown)?;
+    Ok((shown, given))
+}
+
 /// Adds the step with its answer in new memory, and hands the answer out, if it is the answer of a step.
 fn give(
     log: &mut Vec<Entry>,
@@ -97,10 +112,16 @@ fn give(
     ensures same { OnErr result (log.new.items ≡ log.old.items) }
     ensures memory { IfErr result (λ refusal. refusal ≡ Refusal.Memory) }
 {
-    let shown = rendered_anew(alloc, answer)?;
-    let given = given_again(answer, &shown)?;
-    log.push_reserved(Entry::new(step, shown));
-    Ok(given)
+    match given_anew(alloc, answer) {
+        Ok((shown, given)) => {
+            log.push_reserved(Entry::new(step, shown));
+            Ok(given)
+        }
+        Err(_) => {
+            drop(step);
+            Err(Refusal::Memory)
+        }
+    }
 }
 
 impl Held {
