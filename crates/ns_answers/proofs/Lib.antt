@@ -3,3 +3,4 @@ pub mod Brief
 pub mod Summing
 pub mod Applying
 pub mod Made
+pub mod Reading

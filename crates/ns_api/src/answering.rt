@@ -5,6 +5,7 @@ ghost use Rattle.ns_types.specs.Wire.Responses.{rendered_of};
 ghost use Rattle.ns_chains.specs.Chains.{MakesOrLacks};
 ghost use Rattle.ns_http.specs.Head;
 ghost use Rattle.ns_steps.specs.Served.{IsServed, is_reading};
+ghost use Rattle.ns_answers.specs.Laws.{may_change};
 ghost use Rattle.ns_json.specs.Replies.{rendered};
 ghost use Rattle.ns_replies.specs.Rendered.{HasRoom, IsRendered};
 ghost use Rattle.ns_api.specs.Answering.{AnswersAsked, AnswersOrWants, AnswersRequest, IsWanting, ShowsOrWants};
@@ -13,6 +14,7 @@ ghost use Rattle.ns_api.specs.Serving.{held};
 ghost use Rattle.ns_asked.specs.Wanted.{draft_step, IsServedDraft};
 
 use crate::following::Follows;
+use ns_answers::may_change;
 use ns_asked::{Draft, Draws, asked, drawn};
 use ns_chains::Server;
 use ns_http::{Answer, Request};
@@ -20,7 +22,7 @@ use ns_replies::{Room, render};
 use ns_request::Routes;
 use ns_types::refusal::Refusal;
 use ns_types::reply::{Reply, Response};
-use ns_types::step::{AdminCommand, AskCommand, NodeCommand, Step};
+use ns_types::step::{AdminCommand, Step};
 use std::alloc::{AllocError, Global};
 
 /// What takes steps.
@@ -47,35 +49,6 @@ pub struct Api<T, D, F> {
     follower: F,
     routes: Routes,
     alloc: Global,
-}
-
-/// Whether the step only reads.
-fn is_read(step: &Step) -> bool
-    ensures { result ≡ is_reading step.now }
-{
-    match step {
-        Step::Ask(_, _, command) => !matches!(
-            command.get(),
-            AskCommand::Register(_) | AskCommand::Deregister(_, _) | AskCommand::StopAllocation(_)
-        ),
-        Step::Admin(_, command) => matches!(
-            command.get(),
-            AdminCommand::ListNamespaces
-                | AdminCommand::ListQuotas
-                | AdminCommand::ReadQuota(_)
-                | AdminCommand::ListPools
-                | AdminCommand::ReadPolicy(_)
-        ),
-        Step::Node(_, _, command) => !matches!(
-            command.get(),
-            NodeCommand::PutNode(_, _)
-                | NodeCommand::DeleteNode(_)
-                | NodeCommand::SetStatus(_, _)
-                | NodeCommand::SetEligible(_, _)
-                | NodeCommand::Report(_, _)
-        ),
-        _ => true,
-    }
 }
 
 /// Room for the reply to a write.
@@ -148,7 +121,7 @@ impl<T: Takes, D: Draws, F> Api<T, D, F> {
     /// The room of the reply is taken before the step, so a write that was made is answered.
     fn write(&mut self, step: Step) -> Response
         requires served { IsServed step }
-        requires writes { is_reading step ≡ false }
+        requires writes { may_change step ≡ true }
         ensures answered { AnswersOrWants T.state T.notes T.lacks step
             self.old.taker (rendered_of result) self.new.taker }
         ensures draws_none { self.new.draws ≡ self.old.draws }
@@ -167,7 +140,7 @@ impl<T: Takes, D: Draws, F> Api<T, D, F> {
     /// A read leaves the state as it is, so its reply may still be refused for want of memory.
     fn read(&mut self, step: Step) -> Response
         requires served { IsServed step }
-        requires reads { is_reading step ≡ true }
+        requires reads { may_change step ≡ false }
         ensures answered { AnswersOrWants T.state T.notes T.lacks step
             self.old.taker (rendered_of result) self.new.taker }
         ensures draws_none { self.new.draws ≡ self.old.draws }
@@ -187,10 +160,10 @@ impl<T: Takes, D: Draws, F> Api<T, D, F> {
         ensures draws_none { self.new.draws ≡ self.old.draws }
         ensures not_yet { self.new.follower ≡ self.old.follower }
     {
-        if is_read(&step) {
-            self.read(step)
-        } else {
+        if may_change(&step) {
             self.write(step)
+        } else {
+            self.read(step)
         }
     }
 

@@ -1,20 +1,14 @@
 -- A read leaves the state as it is.
-use Rattle.std.specs.Prelude.{◌≡◌, true, false, not, Option, Some, None, Ok, Err, IsSome}
-use Rattle.std.specs.Option.{option_map_or}
-use Rattle.std.proofs.Common.{refl, ap}
+use Rattle.std.specs.Prelude.{◌≡◌, true, false, not, Ok, Err}
+use Rattle.std.proofs.Common.{ap, ◌∙◌}
 use Rattle.ns_types.specs.declared.refusal.Refusal.{Refusal}
 use Rattle.ns_types.specs.declared.step.Step.{Step}
 use Rattle.ns_types.specs.State.Rows.{State}
 use Rattle.ns_types.specs.Steps.{Answer, Makes}
-use Rattle.ns_types.proofs.Lists.{not_both}
-use Rattle.ns_steps.specs.Served.{IsServed, is_reading, only_reads, served}
-use Rattle.ns_steps.specs.Told.{Shape, is_of_write}
+use Rattle.ns_steps.specs.Served.{IsServed, is_reading}
 use Rattle.ns_steps.proofs.Telling.{reading_rests}
 use Rattle.ns_answers.specs.Laws.{may_change}
-
-reads : (line : Option Shape) → IsSome line → option_map_or is_of_write line true ≡ false → only_reads line ≡ true
-reads None served never = not_both served refl
-reads (Some shape) served never = ap not never
+use Rattle.ns_answers.proofs.Reading.{reads_or_changes}
 
 rests : (step : Step) (s : State) (answer : Answer) (s' : State) → IsServed step → is_reading step ≡ true → Makes step s answer s' → s' ≡ s
 rests step s (Ok reply) s' served reading m = reading_rests step s s' (Ok reply) served reading m
@@ -24,4 +18,4 @@ rests step s (Err refusal) s' served reading m = m.1
 
 pub read_rests : (step : Step) (s : State) (answer : Answer) (s' : State) → IsServed step → may_change step ≡ false → Makes step s answer s' →
     s' ≡ s
-read_rests step s answer s' is_served never m = rests step s answer s' is_served (reads (served step) is_served never) m
+read_rests step s answer s' served never m = rests step s answer s' served (reads_or_changes step served ∙ ap not never) m
