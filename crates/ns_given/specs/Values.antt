@@ -1,9 +1,6 @@
 -- What the values that are given for the program's arguments say.
-use Rattle.std.specs.Prelude.{ℕ, ◌^◌, ◌-◌, ◌&&◌, List, Option, Some, None, codes, nat_le, option_map, if◌then◌else◌}
-use Rattle.std.specs.Str.{bytes_eq}
+use Rattle.std.specs.Prelude.{ℕ, ◌^◌, ◌-◌, ◌&&◌, List, Option, Some, None, nat_le, option_map, if◌then◌else◌}
 use Rattle.std.specs.Str.Parse.{digits_value}
-use Rattle.ns_api.specs.declared.following.Driven.{Driven}
-use Rattle.ns_pipe.specs.declared.printed.Printed.{Printed}
 use Rattle.ns_request.specs.Queries.{is_number}
 use Rattle.ns_types.specs.declared.name.NameKind.TheVariants as NameKind
 use Rattle.ns_types.specs.State.Name.{is_name}
@@ -20,20 +17,6 @@ number_between first last text =
 abbrev pub number_by : ℕ → ℕ → ℕ → Option (List ℕ) → Option ℕ
 number_by default first last None = Some default
 number_by default first last (Some text) = number_between first last text
-
--- ---- of `pipe`
-
--- a flag that is there is given as `true`
-abbrev pub driven_by : Option (List ℕ) → Driven
-driven_by None = Driven.Nobody
-driven_by (Some text) = if bytes_eq text (codes "true") then Driven.Worker else Driven.Nobody
-
--- the replies, where nothing is said
-abbrev pub printed_by : Option (List ℕ) → Option Printed
-printed_by None = Some Printed.Replies
-printed_by (Some text) =
-    if bytes_eq text (codes "replies") then Some Printed.Replies
-    else if bytes_eq text (codes "log") then Some Printed.Log else None
 
 -- ---- of `alone`
 

@@ -3,9 +3,7 @@
 
 mod alone;
 mod number;
-mod pipe;
 mod serve;
 
 pub use alone::count;
-pub use pipe::{driven, printed};
 pub use serve::{accept, connections, log_limit, secret, workers};

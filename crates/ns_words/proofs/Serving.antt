@@ -4,11 +4,11 @@ use Rattle.clap.specs.Words.{Text, subcommand_of}
 use Rattle.ns_http.specs.declared.counting.Counted.{Counted}
 use Rattle.ns_pipe.specs.declared.running.Ended.{Ended}
 use Rattle.ns_given.specs.Values.{number_by}
-use Rattle.ns_host.specs.Outcome.{IfServe, MatchOutcome}
+use Rattle.ns_words.specs.Outcome.{IfServe, MatchOutcome}
 use Rattle.ns_words.specs.Running.{IsHandedOn}
 use Rattle.ns_words.specs.Serve.{of_serve}
 use Rattle.ns_words.specs.Words.{program_words}
-use Rattle.ns_host.specs.declared.outcome.Outcome.{Outcome}
+use Rattle.ns_words.specs.declared.outcome.Outcome.{Outcome}
 
 -- a number that is given, or the default, is at most the last
 at_most : (default first last n : ℕ) (given : Option Text) → default ≤ last → number_by default first last given ≡ Some n → n ≤ last

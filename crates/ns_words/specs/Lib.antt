@@ -1,4 +1,5 @@
 pub mod Given
 pub mod Serve
 pub mod Words
+pub mod Outcome
 pub mod Running

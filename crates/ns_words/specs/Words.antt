@@ -1,5 +1,6 @@
 -- The words that the program takes, as `clap` reads them.
-use Rattle.std.specs.Prelude.{◌≡◌, ◌⊎◌, ℕ, List, [], ◌∷◌, Some, codes, true}
+use Rattle.std.specs.Prelude.{◌≡◌, ◌⊎◌, ℕ, List, [], ◌∷◌, Option, Some, None, codes, true, if◌then◌else◌}
+use Rattle.std.specs.Str.{bytes_eq}
 use Rattle.clap.specs.Simple.{on_top}
 use Rattle.clap.specs.Words.{App, Rule, Text}
 use Rattle.clap.specs.Words.{IsAmong, fault_of, kind_of, new_app, new_rule, subcommand_of, with_rule, with_subcommand}
@@ -13,7 +14,7 @@ use Rattle.ns_serve.specs.declared.service.Service.{Service}
 use Rattle.ns_types.specs.declared.name.NameKind.TheVariants as NameKind
 use Rattle.ns_types.specs.State.Name.{is_name}
 use Rattle.ns_words.specs.declared.wanted.Wanted.{Wanted}
-use Rattle.ns_given.specs.Values.{count_by, driven_by, printed_by}
+use Rattle.ns_given.specs.Values.{count_by}
 use Rattle.ns_words.specs.Given.{Named, given_for}
 use Rattle.ns_words.specs.Serve.{IsServe, serve_words}
 
@@ -72,6 +73,18 @@ pub record AreRefused (words : List Text) : Type 0 where
   pub no_wish : (kind : ErrorKind) → IsAmong kind (fault_of program_words words) → IsWish kind → ⊥
 
 -- ---- `pipe`
+
+-- a flag that is there is given as `true`
+abbrev pub driven_by : Option Text → Driven
+driven_by None = Driven.Nobody
+driven_by (Some text) = if bytes_eq text (codes "true") then Driven.Worker else Driven.Nobody
+
+-- the replies, where nothing is said
+abbrev pub printed_by : Option Text → Option Printed
+printed_by None = Some Printed.Replies
+printed_by (Some text) =
+    if bytes_eq text (codes "replies") then Some Printed.Replies
+    else if bytes_eq text (codes "log") then Some Printed.Log else None
 
 -- `pipe` is given this secret, which is one by its rule, and told whom to drive and what to print
 pub record IsPipe (named : Named) (secret : Text) (driven : Driven) (printed : Printed) : Type 0 where

@@ -2,10 +2,12 @@
 #![tactic(auto)]
 
 mod command;
+mod outcome;
 mod run;
 mod wanted;
 mod words;
 
+pub use outcome::Outcome;
 pub use run::run_words;
 pub use wanted::Wanted;
 pub use words::read;

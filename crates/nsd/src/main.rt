@@ -1,8 +1,14 @@
 //! The program `nsd`.
 #![tactic(auto)]
 
+mod host;
+mod random;
+#[cfg(test)]
+mod tests;
+
+use crate::host::conclude;
+use crate::random::Random;
 use ns_faults::{tell, tell_no_random, tell_no_words};
-use ns_host::{Random, conclude};
 use ns_http::{ConnFault, Counted};
 use ns_words::run_words;
 use rand::make_rng;

@@ -8,7 +8,7 @@ use Rattle.ns_pipe.specs.declared.asked.Asked.{Asked}
 use Rattle.ns_pipe.specs.declared.nowhere.Nowhere.{Nowhere}
 use Rattle.ns_pipe.specs.declared.printed.Printed.{Printed}
 use Rattle.ns_serve.specs.declared.service.Service.{Service}
-use Rattle.ns_host.specs.declared.outcome.Outcome.{Outcome}
+use Rattle.ns_words.specs.declared.outcome.Outcome.{Outcome}
 use Rattle.ns_words.specs.declared.wanted.Wanted.{Wanted}
 use Rattle.ns_words.proofs.run.run_words.Goals as goal
 

@@ -2,10 +2,9 @@
 
 ghost use Rattle.std.specs.Prelude.{◌≡◌, ◌≢◌, ◌≤◌, IfErr, IfOk, vec_len};
 ghost use Rattle.ns_pipe.specs.Ending.{uncounted};
-ghost use Rattle.ns_host.specs.Hosting.{EndsHosted};
-ghost use Rattle.ns_host.specs.Outcome.{IfServe, MatchOutcome};
+ghost use Rattle.nsd.specs.Hosting.{EndsHosted};
+ghost use Rattle.ns_words.specs.Outcome.{IfServe, MatchOutcome};
 
-use crate::outcome::Outcome;
 use crate::random::Random;
 use ns_asked::Draws;
 use ns_faults::tell;
@@ -13,6 +12,7 @@ use ns_http::{ConnFault, Counted};
 use ns_pipe::{Ended, Nowhere};
 use ns_serve::{Service, serve};
 use ns_shared::PARTS;
+use ns_words::Outcome;
 use rand::make_rng;
 use rand::rngs::StdRng;
 use std::alloc::Global;

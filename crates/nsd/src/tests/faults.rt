@@ -1,8 +1,7 @@
 // Readers and writers that are slow or fail.
-use crate::drawing::SameBits;
-use ns_host::Outcome;
+use super::drawing::SameBits;
 use ns_http::Counted;
-use ns_words::run_words;
+use ns_words::{Outcome, run_words};
 use std::alloc::Global;
 use std::io::{self, ErrorKind, Read, Write};
 use std::rt::HostRuntime;

@@ -1,6 +1,7 @@
 // Random draws: each thread's from a generator of its own, and bits that are known.
+use crate::host::generators;
+use crate::random::Random;
 use ns_asked::Draws;
-use ns_host::{Random, generators};
 use ns_http::ConnFault;
 use rand::SeedableRng;
 use rand::rngs::StdRng;

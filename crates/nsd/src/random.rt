@@ -16,7 +16,7 @@ impl<R: Rng> Random<R> {
 }
 
 impl<R: Rng> Draws for Random<R> {
-    ghost use Rattle.ns_host.specs.Random.{FillsBytes};
+    ghost use Rattle.nsd.specs.Random.{FillsBytes};
 
     // All bits of a draw come from the generator.
     ghost draws = { λ old bytes new. FillsBytes R.stream old.generator bytes new.generator };

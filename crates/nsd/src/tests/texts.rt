@@ -1,11 +1,10 @@
 // What words that ask for nothing are answered, and the lines of faults.
-use crate::drawing::SameBits;
-use crate::serving;
+use super::drawing::SameBits;
+use super::serving;
 use ns_faults::{tell, tell_no_random, tell_no_words};
-use ns_host::Outcome;
 use ns_http::{ConnFault, Counted};
 use ns_pipe::{Asked, run};
-use ns_words::run_words;
+use ns_words::{Outcome, run_words};
 use std::alloc::Global;
 use std::io::{self, ErrorKind};
 use std::rt::HostRuntime;

@@ -1,7 +1,7 @@
 -- Facts of what a run of the words comes to.
 use Rattle.ns_pipe.specs.declared.running.Ended.{Ended}
 use Rattle.ns_serve.specs.declared.service.Service.{Service}
-use Rattle.ns_host.specs.declared.outcome.Outcome.{Outcome}
+use Rattle.ns_words.specs.declared.outcome.Outcome.{Outcome}
 
 module _ {R W : Type 0} where
   -- this holds of how it ended, or that of the server that is to be run, with what it is handed

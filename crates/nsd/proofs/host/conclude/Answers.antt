@@ -3,10 +3,10 @@ use Rattle.ns_http.specs.declared.counting.Counted.{Counted}
 use Rattle.ns_pipe.specs.declared.running.Ended.{Ended}
 use Rattle.ns_serve.specs.declared.service.Service.{Service}
 use Rattle.ns_types.specs.State.Names.{Name}
-use Rattle.ns_host.specs.Hosting.{EndsHosted}
-use Rattle.ns_host.specs.Outcome.{MatchOutcome}
-use Rattle.ns_host.specs.declared.outcome.Outcome.{Outcome}
-use Rattle.ns_host.proofs.host.conclude.Goals as goal
+use Rattle.nsd.specs.Hosting.{EndsHosted}
+use Rattle.ns_words.specs.Outcome.{MatchOutcome}
+use Rattle.ns_words.specs.declared.outcome.Outcome.{Outcome}
+use Rattle.nsd.proofs.host.conclude.Goals as goal
 use Rattle.ns_pipe.proofs.Uncounted.{uncounted_by}
 
 -- a server is to be run

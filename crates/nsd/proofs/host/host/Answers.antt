@@ -4,7 +4,7 @@ use Rattle.ns_http.specs.declared.counting.Counted.{Counted}
 use Rattle.ns_http.specs.declared.engine.ConnFault.{ConnFault}
 use Rattle.ns_serve.specs.Ending.{IsEnd, TellsLast}
 use Rattle.ns_types.specs.State.Names.{Name}
-use Rattle.ns_host.proofs.host.host.Goals as goal
+use Rattle.nsd.proofs.host.host.Goals as goal
 
 -- a fault by its status
 end_of : (fault : ConnFault) → IsEnd (status_of fault)

@@ -1,4 +1,4 @@
-use Rattle.ns_host.proofs.host.host.Given as goal
+use Rattle.nsd.proofs.host.host.Given as goal
 
 abbrev pub ghosts-serve : goal.ghosts-serve
 ghosts-serve g a = record { name = a.blank.name; parts = a.blank.parts }
