@@ -29,6 +29,19 @@ struct Rooms {
     ghost response_is: { response ≡ copy_room entry },
 }
 
+/// Rooms like that in the log for the copies of the answer.
+fn with_copies(alloc: Global, entry: Room) -> Result<Rooms, AllocError>
+    ensures { IfOk result (λ rooms. rooms.entry ≡ entry) }
+{
+    let receipt = entry.for_copy(alloc)?;
+    let response = entry.for_copy(alloc)?;
+    Ok(Rooms {
+        entry,
+        receipt,
+        response,
+    })
+}
+
 /// The step, with rooms for its answer.
 fn with_rooms(alloc: Global, step: Step) -> Result<(Step, Rooms), Refusal>
     ensures step { IfOk result (λ made. made.0 ≡ step) }
@@ -36,16 +49,13 @@ fn with_rooms(alloc: Global, step: Step) -> Result<(Step, Rooms), Refusal>
     ensures memory { IfErr result (λ refusal. refusal ≡ Refusal.Memory) }
 {
     let (step, entry) = with_room(alloc, step, None)?;
-    let receipt = entry.for_copy(alloc)?;
-    let response = entry.for_copy(alloc)?;
-    Ok((
-        step,
-        Rooms {
-            entry,
-            receipt,
-            response,
-        },
-    ))
+    match with_copies(alloc, entry) {
+        Ok(rooms) => Ok((step, rooms)),
+        Err(_) => {
+            drop(step);
+            Err(Refusal::Memory)
+        }
+    }
 }
 
 /// Adds the step with its answer, and hands the answer out, if it is the answer of a step. It takes no memory.
