@@ -52,7 +52,7 @@ impl<'a, L: Ledger, G: Gate, R: Wait> Post<'a, L, G, R> {
             return Ok(());
         };
         let (namespace, evaluation) = (key.namespace(), key.number());
-        let _reply = self.shared.dequeue(
+        let reply = self.shared.dequeue(
             self.rt,
             self.alloc,
             seat,
@@ -60,6 +60,7 @@ impl<'a, L: Ledger, G: Gate, R: Wait> Post<'a, L, G, R> {
             namespace,
             evaluation,
         )?;
+        drop(reply);
         self.pass(Point::Took)
     }
 
@@ -90,14 +91,9 @@ impl<'a, L: Ledger, G: Gate, R: Wait> Post<'a, L, G, R> {
         ensures { Grows (IsOfWorker self.now.number) seat.old seat.new }
     {
         let planned = self.planned(kept)?;
-        let _reply = self.shared.finish(
-            self.rt,
-            self.alloc,
-            seat,
-            self.number,
-            namespace,
-            &planned,
-        )?;
+        let ended = self.shared.finish(self.rt, self.alloc, seat, self.number, namespace, &planned);
+        drop(planned);
+        drop(ended?);
         *kept = Kept::Nothing;
         self.pass(Point::Finished)
     }
@@ -108,11 +104,13 @@ impl<'a, L: Ledger, G: Gate, R: Wait> Post<'a, L, G, R> {
     {
         let planned = self.planned(kept)?;
         if planned.does_nothing() {
+            drop(planned);
             return self.finish(seat, kept, namespace);
         }
-        let _reply = self
+        let reply = self
             .shared
             .submit(self.rt, self.alloc, seat, self.number, namespace, planned)?;
+        drop(reply);
         self.pass(Point::Queued)
     }
 
@@ -168,9 +166,10 @@ impl<'a, L: Ledger, G: Gate, R: Wait> Post<'a, L, G, R> {
             return Ok(());
         };
         let namespace = &busy.namespace;
-        let _reply = self
+        let reply = self
             .shared
             .nack(self.rt, self.alloc, seat, self.number, namespace)?;
+        drop(reply);
         *kept = Kept::Nothing;
         Ok(())
     }
