@@ -10,7 +10,8 @@ use crate::slots::Slots;
 use std::alloc::{AllocError, Global};
 use std::marker::Model;
 
-/// A table by number: slots that have a row, or are vacant. A look-up is a binary search.
+/// A table by number: slots that have a row, or are vacant. A look-up is a binary search, which begins where the number stands
+/// in a table whose numbers rise by one.
 #[derive(Drop)]
 pub struct NumberTable<V> {
     slots: Slots<u64, V>,

@@ -1,9 +1,10 @@
 // Slots in the order of their keys, in a plain `Vec`.
-ghost use Rattle.std.specs.Prelude.{◌≡◌, [], IsTrue, T, OnOk, OnErr, length, option_copied};
+ghost use Rattle.std.specs.Prelude.{◌≡◌, ◌<◌, ◌≤◌, [], IsTrue, T, OnOk, OnErr, length, option_copied};
 ghost use Rattle.std.specs.FinMap.Entries.{find, put, is_sorted};
 ghost use Rattle.keyed.specs.Slots.{Placed, has_slot, with_slot, row, without, without_vacant, emptied, filled};
 ghost use Rattle.keyed.specs.Table.{row_list};
 
+use ns_types::text::Text;
 use std::alloc::{AllocError, Global};
 use std::cmp::Ordering;
 use std::marker::Model;
@@ -26,15 +27,59 @@ impl<K: Ord, V> Model for Slots<K, V> {
     ghost invariant = { λ a. IsTable K.cmp a.slots.items a.filled };
 }
 
-/// Where the slot of `key` stands, or where it belongs: a binary search.
-fn place_in<K: Ord, X>(slots: &[(K, X)], key: &K) -> Result<usize, usize>
+/// A key that tells where it most likely stands among others.
+pub(crate) trait SlotKey {
+    /// The slot to look at first, of so many whose keys rise from `least` on. Any answer serves; a good one saves steps.
+    fn guess(&self, least: &Self, count: usize) -> usize;
+}
+
+/// Numbers that are given one after the other stand side by side, and the next one belongs behind the last.
+impl SlotKey for u64 {
+    fn guess(&self, least: &u64, count: usize) -> usize {
+        let ahead = self.saturating_sub(*least);
+        match usize::try_from(ahead) {
+            Ok(place) => place.min(count.saturating_sub(1)),
+            Err(_) => 0,
+        }
+    }
+}
+
+impl SlotKey for Text {
+    fn guess(&self, _least: &Text, count: usize) -> usize {
+        count / 2
+    }
+}
+
+fn guess_in<K: SlotKey, X>(slots: &[(K, X)], key: &K) -> usize {
+    match slots.first() {
+        Some(slot) => key.guess(&slot.0, slots.len()),
+        None => 0,
+    }
+}
+
+/// The guess, where it is between the two, or else their middle.
+fn between(low: usize, high: usize, guess: usize) -> usize
+    requires { low < high }
+    ensures least { low ≤ result }
+    ensures most { result < high }
+{
+    if low <= guess && guess < high {
+        guess
+    } else {
+        low + (high - low) / 2
+    }
+}
+
+/// Where the slot of `key` stands, or where it belongs: a binary search that begins at the key's guess.
+fn place_in<K: Ord + SlotKey, X>(slots: &[(K, X)], key: &K) -> Result<usize, usize>
     requires { T (is_sorted K.cmp slots.now) }
     ensures { Placed K.cmp key.now slots.now result }
 {
+    let guess = guess_in(slots, key);
     let mut low = 0;
     let mut high = slots.len();
     while low < high {
-        let middle = low + (high - low) / 2;
+        let middle = between(low, high, guess);
         match key.cmp(&slots[middle].0) {
             Ordering::Less => high = middle,
             Ordering::Equal => return Ok(middle),
@@ -57,7 +102,7 @@ fn count_rows<K, V>(slots: &[(K, Option<V>)]) -> usize
     count
 }
 
-impl<K: Ord + Drop, V: Drop> Slots<K, V> {
+impl<K: Ord + SlotKey + Drop, V: Drop> Slots<K, V> {
     ghost use Rattle.std.specs.Borrow.{sem};
     ghost use Rattle.std.specs.Option.{option_copied_mut};
     ghost use Rattle.keyed.specs.Lends.{lends_at_key};
