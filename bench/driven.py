@@ -2,6 +2,7 @@
 
     python3 bench/driven.py place              100 jobs of 1,000 allocations over 1,000 nodes
     python3 bench/driven.py preempt            8 jobs that fill 1,000 nodes, and 2 that take half of that
+    python3 bench/driven.py beside             500 jobs of one allocation, beside 0 and 100,000 of another namespace of its quota
     python3 bench/driven.py place 10           another number of jobs
     python3 bench/driven.py place 10 --show    prints the requests, and runs nothing
 
@@ -21,7 +22,6 @@ NODES = 1_000
 COUNT = 1_000
 MHZ = 100
 COMMAND = ["./nsd", "pipe", "--bootstrap", "root", "--drive"]
-LIST = "/v1/node/pool/default/nodes"
 
 
 def request(method, path, document=None):
@@ -30,19 +30,20 @@ def request(method, path, document=None):
     return (head + body).encode("ascii")
 
 
-def nodes(places):
-    """Each has room for so many allocations of one size."""
-    offer = {"CPU": places * MHZ, "MemoryMB": places * MHZ}
-    return [request("PUT", f"/v1/node/pool/default/node/n{node}", offer) for node in range(NODES)]
+def nodes(places, pool="default"):
+    """Each has room for so many allocations of one size, and for one at least."""
+    room = max(places, 1) * MHZ
+    offer = {"CPU": room, "MemoryMB": room}
+    return [request("PUT", f"/v1/node/pool/{pool}/node/n{node}", offer) for node in range(NODES)]
 
 
-def jobs(name, number, priority, sizes):
-    """Each allocation takes as much as so many of one size."""
+def jobs(name, number, priority, sizes, namespace="default", count=COUNT):
+    """Each has so many allocations, which take as much as so many of one size."""
     task = {"Name": "t", "Resources": {"CPU": sizes * MHZ, "MemoryMB": sizes * MHZ}}
-    group = {"Name": "g", "Count": COUNT, "Tasks": [task]}
+    group = {"Name": "g", "Count": count, "Tasks": [task]}
     ids = (f"{name}-{job}" for job in range(number))
     documents = ({"Job": {"ID": id, "Priority": priority, "TaskGroups": [group]}} for id in ids)
-    return [request("POST", "/v1/jobs", document) for document in documents]
+    return [request("POST", f"/v1/jobs?namespace={namespace}", document) for document in documents]
 
 
 class Server:
@@ -71,8 +72,9 @@ class Server:
         writer.join()
         return json.loads(replies[-1])
 
-    def used(self):
-        return sum(node["Used"]["CPU"] for node in self.ask([request("GET", LIST)]))
+    def used(self, pool="default"):
+        listed = self.ask([request("GET", f"/v1/node/pool/{pool}/nodes")])
+        return sum(node["Used"]["CPU"] for node in listed)
 
     def timed(self, requests):
         """The seconds until all of it was driven."""
@@ -119,6 +121,31 @@ def preempt(server, number):
     return filled and placed == greater * COUNT and evicted == 2 * placed
 
 
+def tenants():
+    """Two namespaces that name one quota, `own` and `other`. Each has a pool of its own."""
+    limits = [{"Region": "global", "RegionLimit": {"CPU": 2**40, "MemoryMB": 2**40}}]
+    requests = [request("PUT", "/v1/quota", {"Name": "both", "Limits": limits})]
+    for name in ("own", "other"):
+        configuration = {"Default": name, "Allowed": [name]}
+        namespace = {"Name": name, "Quota": "both", "NodePoolConfiguration": configuration}
+        requests += [request("PUT", "/v1/node/pools", {"Name": name}), request("PUT", "/v1/namespace", namespace)]
+    return requests
+
+
+def beside(server, number):
+    """Jobs of one namespace, on one node, beside so many allocations of the other. It answers whether all were placed."""
+    few = 500
+    server.ask(tenants())
+    server.ask(nodes(places_in(number), "other"))
+    server.ask([request("PUT", "/v1/node/pool/own/node/n", {"CPU": few * MHZ, "MemoryMB": few * MHZ})])
+    if number > 0:
+        server.ask(jobs("job", number, 20, 1, "other"))
+    others = number * COUNT
+    seconds = server.timed(jobs("one", few, 20, 1, "own", 1))
+    told(f"jobs beside {others} allocations of another namespace", few, seconds)
+    return server.used("own") == few * MHZ and server.used("other") == others * MHZ
+
+
 def inputs(kind, number):
     filling = nodes(places_in(number)) + jobs("job", number, 20, 1)
     return filling if kind == "place" else filling + jobs("high", number // 4, 60, 2)
@@ -127,19 +154,21 @@ def inputs(kind, number):
 def main():
     words = [word for word in sys.argv[1:] if word != "--show"]
     kind = words[0]
-    number = int(words[1]) if len(words) > 1 else {"place": 100, "preempt": 8}[kind]
+    numbers = [int(word) for word in words[1:]] or {"place": [100], "preempt": [8], "beside": [0, 100]}[kind]
     if "--show" in sys.argv:
-        sys.stdout.buffer.write(b"".join(inputs(kind, number)))
+        sys.stdout.buffer.write(b"".join(inputs(kind, numbers[0])))
         return 0
     if not os.path.exists("nsd"):
         print("there is no ./nsd here: build the program first", file=sys.stderr)
         return 2
-    server = Server()
-    is_right = {"place": place, "preempt": preempt}[kind](server, number)
-    server.end()
-    if not is_right:
+    are_right = True
+    for number in numbers:
+        server = Server()
+        are_right &= {"place": place, "preempt": preempt, "beside": beside}[kind](server, number)
+        server.end()
+    if not are_right:
         print("that is not what the input asks for", file=sys.stderr)
-    return 0 if is_right else 1
+    return 0 if are_right else 1
 
 
 if __name__ == "__main__":
