@@ -1,4 +1,6 @@
-//! Random bits for new tokens.
+//! Random bits for new tokens and secrets.
+
+ghost use Rattle.std.specs.Prelude.{◌≡◌};
 
 use ns_asked::Draws;
 use rand::Rng;
@@ -10,13 +12,16 @@ pub struct Random<R> {
 }
 
 impl<R: Rng> Random<R> {
-    pub fn new(generator: R) -> Random<R> {
+    /// Whose bits are drawn.
+    pub fn new(generator: R) -> Random<R>
+        ensures { result.generator ≡ generator }
+    {
         Random { generator }
     }
 }
 
 impl<R: Rng> Draws for Random<R> {
-    ghost use Rattle.nsd.specs.Random.{FillsBytes};
+    ghost use Rattle.ns_random.specs.Random.{FillsBytes};
 
     // All bits of a draw come from the generator.
     ghost draws = { λ old bytes new. FillsBytes R.stream old.generator bytes new.generator };

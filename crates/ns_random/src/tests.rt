@@ -1,6 +1,5 @@
-// Random draws: each thread's from a generator of its own, and bits that are known.
-use crate::host::generators;
-use crate::random::Random;
+// Each thread's bits are from a generator of its own, and bits that are known.
+use crate::{Random, generators};
 use ns_asked::Draws;
 use ns_http::ConnFault;
 use rand::SeedableRng;
@@ -10,20 +9,6 @@ use std::io::{self, ErrorKind};
 use std::random::RandomSource;
 use std::rt::HostRuntime;
 use std::test::Fail;
-
-/// Draws the same bits again and again.
-#[derive(Clone, Copy)]
-pub(crate) struct SameBits;
-
-impl Draws for SameBits {
-    ghost use Rattle.std.specs.Prelude.{◌≡◌, replicate};
-
-    ghost draws = { λ old bytes new. bytes ≡ replicate 16 1 };
-
-    fn draw(&mut self) -> [u8; 16] {
-        [1; 16]
-    }
-}
 
 /// The first 32 bytes of ChaCha with 12 rounds for a key and a nonce of zeros, as published with the cipher.
 const FIRST: [u8; 16] = [

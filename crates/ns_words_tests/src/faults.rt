@@ -1,5 +1,5 @@
 // Readers and writers that are slow or fail.
-use super::drawing::SameBits;
+use crate::same_bits::SameBits;
 use ns_http::Counted;
 use ns_words::{Outcome, run_words};
 use std::alloc::Global;

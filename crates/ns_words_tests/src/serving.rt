@@ -1,5 +1,5 @@
 // What bad words of `serve` are answered, and its help.
-use super::texts::are_bad;
+use crate::texts::are_bad;
 use std::alloc::Global;
 use std::rt::HostRuntime;
 

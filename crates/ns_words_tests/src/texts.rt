@@ -1,6 +1,6 @@
 // What words that ask for nothing are answered, and the lines of faults.
-use super::drawing::SameBits;
-use super::serving;
+use crate::same_bits::SameBits;
+use crate::serving;
 use ns_faults::{tell, tell_no_random, tell_no_words};
 use ns_http::{ConnFault, Counted};
 use ns_pipe::{Asked, run};

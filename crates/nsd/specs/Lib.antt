@@ -1,2 +1,1 @@
-pub mod Random
 pub mod Hosting

@@ -1,19 +1,18 @@
 //! The server over TCP, in the threads of this process.
 
-ghost use Rattle.std.specs.Prelude.{◌≡◌, ◌≢◌, ◌≤◌, IfErr, IfOk, vec_len};
+ghost use Rattle.std.specs.Prelude.{◌≡◌, ◌≤◌};
 ghost use Rattle.ns_pipe.specs.Ending.{uncounted};
 ghost use Rattle.nsd.specs.Hosting.{EndsHosted};
 ghost use Rattle.ns_words.specs.Outcome.{IfServe, MatchOutcome};
 
-use crate::random::Random;
 use ns_asked::Draws;
 use ns_faults::tell;
-use ns_http::{ConnFault, Counted};
+use ns_http::Counted;
 use ns_pipe::{Ended, Nowhere};
+use ns_random::{Random, generators};
 use ns_serve::{Service, serve};
 use ns_shared::PARTS;
 use ns_words::Outcome;
-use rand::make_rng;
 use rand::rngs::StdRng;
 use std::alloc::Global;
 use std::io::Write;
@@ -24,27 +23,6 @@ use std::rt::Clock;
 use std::sync::Wait;
 use std::sync::ledger::{Blank, Ledger};
 use std::thread::Threads;
-
-/// So many generators, each seeded by the system. A read fault: it gives no random bits.
-pub fn generators<R: RandomSource>(
-    rt: &R,
-    alloc: Global,
-    count: u64,
-) -> Result<Vec<Random<StdRng>>, ConnFault>
-    ensures many { IfOk result (λ all. vec_len all ≡ count) }
-    ensures fault { IfErr result (λ fault. fault ≢ ConnFault.Write) }
-{
-    let mut all = Vec::new(alloc);
-    for made in 0..count {
-        let Ok(generator) = make_rng(rt) else {
-            return Err(ConnFault::Read);
-        };
-        if all.push(Random::new(generator)).is_err() {
-            return Err(ConnFault::Memory);
-        }
-    }
-    Ok(all)
-}
 
 /// Serves as is asked, with a generator for each thread of connections and one for the secret, and says the exit status.
 fn host<

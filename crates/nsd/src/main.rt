@@ -2,14 +2,11 @@
 #![tactic(auto)]
 
 mod host;
-mod random;
-#[cfg(test)]
-mod tests;
 
 use crate::host::conclude;
-use crate::random::Random;
 use ns_faults::{tell, tell_no_random, tell_no_words};
 use ns_http::{ConnFault, Counted};
+use ns_random::Random;
 use ns_words::run_words;
 use rand::make_rng;
 use rand::rngs::StdRng;

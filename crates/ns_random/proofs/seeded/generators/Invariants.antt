@@ -1,5 +1,5 @@
 use Rattle.std.proofs.Common.{◌≡◌, vec_len}
-use Rattle.nsd.proofs.host.generators.Given as goal
+use Rattle.ns_random.proofs.seeded.generators.Given as goal
 
 abbrev pub invariant-loop-made : goal.invariant-loop-made
 invariant-loop-made g l = vec_len l.all ≡ l.made

@@ -1,0 +1,10 @@
+//! Random bits for new tokens and secrets, drawn from generators that the system seeds one by one.
+#![tactic(auto)]
+
+mod random;
+mod seeded;
+#[cfg(test)]
+mod tests;
+
+pub use random::Random;
+pub use seeded::generators;
