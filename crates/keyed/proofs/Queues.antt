@@ -3,6 +3,7 @@ use Rattle.std.specs.Prelude.{◌≡◌, ℕ, ◌+◌, ◌<◌, ◌≤◌, ◌==
 use Rattle.std.proofs.Common.{refl, sym, ap, subst, ◌∙◌, arith, append_assoc, get_or, drop, drop-cons, add-one}
 use Rattle.std.proofs.lemmas.Bool.{eqb-true}
 use Rattle.std.proofs.lemmas.List.Folds.{list_any-append}
+use Rattle.std.proofs.Math.Bool.{and-false, and-true}
 use Rattle.keyed.specs.Levels.{Adds, Keeps, Vacates, holds_key, has_key_room}
 use Rattle.keyed.specs.Queue.{CanAdd, IsSetOf, KeyQueue}
 use Rattle.keyed.specs.declared.key_set.KeySet.{KeySet}
@@ -18,11 +19,7 @@ from_here xs i x lt is = drop-cons xs i x lt ∙ (λ j. sym is j ∷ drop (sym (
 -- ---- keys that are chosen
 
 pub has_filter : (p : Key → Bool) (q : Key) (xs : List Key) → has_key (filter p xs) q ≡ (p q && has_key xs q)
-has_filter p q [] = none (p q)
-  where
-    none : (b : Bool) → false ≡ (b && false)
-    none true = refl
-    none false = refl
+has_filter p q [] = sym (and-false (p q))
 has_filter p q (x ∷ xs) = by (has_filter p q xs) (p x) refl (same_key q x) refl
   where
     alike : (b : Bool) → p x ≡ b → same_key q x ≡ true → p q ≡ b
@@ -102,11 +99,7 @@ module _ (old held : KeySet) (keys items : List Key) (is : IsSetOf old items)
     (out : (q : Key) → holds_key held q ≡ (not (has_key keys q) && holds_key old q)) where
   pub taken_items : filter (λ key. holds_key held key) items ≡ filter (λ key. not (has_key keys key)) items
   taken_items = filter_alike (λ key. holds_key held key) (λ key. not (has_key keys key)) items
-      (λ x h. out x ∙ ap (λ b. not (has_key keys x) && b) (is x ∙ h) ∙ by (not (has_key keys x)))
-    where
-      by : (b : Bool) → (b && true) ≡ b
-      by true = refl
-      by false = refl
+      (λ x h. out x ∙ ap (λ b. not (has_key keys x) && b) (is x ∙ h) ∙ and-true (not (has_key keys x)))
 
   pub set_taken : IsSetOf held (filter (λ key. not (has_key keys key)) items)
   set_taken q = out q ∙ ap (λ b. not (has_key keys q) && b) (is q) ∙ sym (has_filter (λ key. not (has_key keys key)) q items)

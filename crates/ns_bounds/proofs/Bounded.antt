@@ -1,6 +1,7 @@
 -- Release numbers pass their bounds only where the step releases, and numbers of places where the change has them.
 use Rattle.std.specs.Prelude.{◌≡◌, ◌+◌, Bool, true, false, List, [], ◌∷◌, Option, Some, None, ◌&&◌, ◌||◌, is_some, map, nat_lt}
 use Rattle.std.proofs.Common.{refl, ap, ◌∙◌, Ordering}
+use Rattle.std.proofs.Math.Bool.{and-true}
 use Rattle.std.specs.Option.{option_map_or}
 use Rattle.std.specs.List.{list_any}
 use Rattle.std.specs.Cmp.{eq_by_cmp_equiv}
@@ -129,11 +130,7 @@ module _ (w : World) (c : Change) where
 
   some_class : (name : Name) → list_any (λ _. true) (classes_in name (released_rooms w c)) ≡ list_any (λ r. same_name name r.0) (released_rooms w c)
   some_class name = any_image (λ _. true) (λ r. r.1) (λ r. same_name name r.0) (released_rooms w c) ∙
-      any_alike _ (λ r. same_name name r.0) (released_rooms w c) (each _ (λ r. and_true (same_name name r.0)) (released_rooms w c))
-    where
-      and_true : (b : Bool) → (b && true) ≡ b
-      and_true true = refl
-      and_true false = refl
+      any_alike _ (λ r. same_name name r.0) (released_rooms w c) (each _ (λ r. and-true (same_name name r.0)) (released_rooms w c))
 
   pool_past : (name : Name) (p : PoolRows) → is_past p ≡ false →
       is_past (after_release (classes_in name (released_rooms w c)) (perhaps changed_pool (row_at c.pools name) p))

@@ -25,6 +25,7 @@ use Rattle.ns_change.specs.Changed.{DoesToList, changed, changed_list, with_key,
 use Rattle.ns_change.specs.Changed.{view}
 use Rattle.ns_world.specs.World.{world_of}
 use Rattle.std.proofs.lemmas.List.Folds.{list_any-append}
+use Rattle.std.proofs.Math.Bool.{and-false, or-false}
 use Rattle.keyed.proofs.Over.{any_row-both}
 use Rattle.keyed.proofs.Queues.{from_here}
 use Rattle.keyed.proofs.Viewing.{any_row-rows}
@@ -66,13 +67,9 @@ module _ (t : Tables) (c : Change) (ns : Name) (f : Worker → Bool) where
       ∙ ap (λ b. list_any (at_slot (λ e. f e.1)) (entries y.workers) || b) (any_row-rows (λ n worker. not (contains_key y.workers n) && f worker) x.workers
       ∙ any_alike _ (λ slot. not (contains_key y.workers slot.0) && at_slot (λ e. f e.1) slot) (entries x.workers) (each _ by (entries x.workers)))
     where
-      none : (b : Bool) → false ≡ (b && false)
-      none true = refl
-      none false = refl
-
       by : (slot : ℕ × Option Worker) → at_slot (λ e. not (contains_key y.workers e.0) && f e.1) slot ≡
           (not (contains_key y.workers slot.0) && at_slot (λ e. f e.1) slot)
-      by (n, None) = none (not (contains_key y.workers n))
+      by (n, None) = sym (and-false (not (contains_key y.workers n)))
       by (n, Some worker) = refl
 
 -- ---- the queue
@@ -164,11 +161,7 @@ swapped : (a b : Key) → same_key a b ≡ same_key b a
 swapped a b = λ i. (eq_by_cmp_equiv names).symm a.0 b.0 i && (eq_by_cmp_equiv numbers).symm a.1 b.1 i
 
 pub taken_alone : (key : Key) (keys : List Key) → without_keys (key ∷ []) keys ≡ without_key key keys
-taken_alone key keys = λ i. filter (λ other. not ((by (same_key other key) ∙ swapped other key) i)) keys
-  where
-    by : (b : Bool) → (b || false) ≡ b
-    by true = refl
-    by false = refl
+taken_alone key keys = λ i. filter (λ other. not ((or-false (same_key other key) ∙ swapped other key) i)) keys
 
 pub added_one : (key : Key) (old : ListChange) → DoesToList (with_key key) old (record old { added = old.added ++ key ∷ [] })
 added_one key old base = sym (append_assoc (without_keys old.taken base) old.added (key ∷ []))

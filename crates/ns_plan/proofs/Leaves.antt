@@ -5,6 +5,7 @@ use Rattle.std.proofs.lemmas.Grind.{flat_map-append}
 use Rattle.std.proofs.lemmas.List.{append-nil, map-append}
 use Rattle.std.proofs.lemmas.List.Folds.{list_any-append}
 use Rattle.std.proofs.lemmas.List.Sums.{sum_by-cons}
+use Rattle.std.proofs.Math.Bool.{and-false, and-true}
 use Rattle.std.specs.List.{list_any}
 use Rattle.std.specs.Option.{option_map_or}
 use Rattle.ns_types.specs.declared.allocation.Allocation.{Allocation}
@@ -110,19 +111,11 @@ module _ (w : World) (pool node : Name) (e : Eviction) where
       ∙ any_same (λ x. counts w pool node x && same_key (victim_key e) (victim_key x)) (same_eviction e)
       (λ x. by x (same_key (victim_key e) (victim_key x)) refl) seen
     where
-      out : (b : Bool) → (b && false) ≡ false
-      out true = refl
-      out false = refl
-
-      in_full : (b : Bool) → (b && true) ≡ b
-      in_full true = refl
-      in_full false = refl
-
       by : (x : Eviction) (b : Bool) → same_key (victim_key e) (victim_key x) ≡ b →
           (counts w pool node x && same_key (victim_key e) (victim_key x)) ≡ (same_key (victim_key e) (victim_key x) && same_number e.priority x.priority)
-      by x true same = ap (λ b. counts w pool node x && b) same ∙ in_full (counts w pool node x) ∙ counts_alike a is x same
+      by x true same = ap (λ b. counts w pool node x && b) same ∙ and-true (counts w pool node x) ∙ counts_alike a is x same
           ∙ ap (λ b. b && same_number e.priority x.priority) (sym same)
-      by x false same = ap (λ b. counts w pool node x && b) same ∙ out (counts w pool node x) ∙ ap (λ b. b && same_number e.priority x.priority) (sym same)
+      by x false same = ap (λ b. counts w pool node x && b) same ∙ and-false (counts w pool node x) ∙ ap (λ b. b && same_number e.priority x.priority) (sym same)
 
 -- ---- one eviction more
 

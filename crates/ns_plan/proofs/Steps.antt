@@ -1,6 +1,7 @@
 -- One node more.
 use Rattle.std.specs.Prelude.{◌≡◌, ℕ, ◌+◌, ◌<◌, ◌++◌, Bool, true, false, cond, not, List, [], ◌∷◌, ◌&&◌, ◌||◌, Option, Some, None, filter, fold, length, map}
 use Rattle.std.proofs.Common.{◌⊎◌, append_assoc, arith, inl, inr, refl, sym, ap, subst, ◌∙◌}
+use Rattle.std.proofs.Math.Bool.{or_assoc}
 use Rattle.std.proofs.lemmas.List.{append-nil, length-append}
 use Rattle.std.proofs.lemmas.List.Folds.{list_any-append}
 use Rattle.std.proofs.lemmas.Option.{slice_get_cases}
@@ -196,17 +197,13 @@ module _ (kept : Snapshot) (placements : List Placement) (w : World) where
     left = record {
       has =
           λ q. ap (λ b. has_number r.committed q || b) (list_any-append (same_number q) r.dropped (k ∷ []))
-          ∙ joined (has_number r.committed q) (has_number r.dropped q) (same_number q k || false)
+          ∙ sym (or_assoc (has_number r.committed q) (has_number r.dropped q) (same_number q k || false))
           ∙ ap (λ b. b || (same_number q k || false)) (is.has q) ∙ sym (list_any-append (same_number q) nodes (k ∷ []));
       count =
           let sum = is.count in let one = length-append r.dropped (k ∷ []) in let all = length-append nodes (k ∷ []) in
           omega (arith, sum, one, all);
       held = is.held;
     }
-      where
-        joined : (a d s : Bool) → (a || (d || s)) ≡ ((a || d) || s)
-        joined true d s = refl
-        joined false d s = refl
 
     read_more : IsReadOf kept w (nodes ++ k ∷ []) (read_one kept placements w r k)
     read_more = by (takes kept w (with_victims kept w r.keys (part_of k placements)) (node_name kept k) (size_of (part_of k placements)) r.placed)

@@ -11,7 +11,7 @@ use Rattle.ns_types.specs.State.Names.{Name, Key, has_name, same_name}
 use Rattle.ns_types.specs.State.Rows.{World, evaluation_at}
 use Rattle.ns_types.proofs.Tests.{or_none}
 use Rattle.ns_release.specs.Released.{at_room, releases_wake_at, woken_by}
-use Rattle.std.proofs.Math.Bool.{and-false}
+use Rattle.ns_release.proofs.Woken.{wakes_nothing}
 
 -- an evaluation is woken by rooms, or by quotas
 pub wakes_by_each : (w : World) (rooms : List (Name × Class)) (quotas : List Name) (key : Key) →
@@ -34,15 +34,7 @@ wakes_by_each w rooms quotas key = by (evaluation_at w key)
 -- by one of the quotas
 pub wakes_by_quotas : (w : World) (quotas : List Name) (key : Key) →
     releases_wake_at w [] quotas key ≡ list_any (λ q. releases_wake_at w [] (q ∷ []) key) quotas
-wakes_by_quotas w [] key = by (evaluation_at w key)
-  where
-    of : (e : Evaluation) (q : Option Name) → woken_by w [] [] e q ≡ false
-    of e (Some q) = and-false (contains_key w.quotas q)
-    of e None = refl
-
-    by : (o : Option Evaluation) → option_map_or (λ e. woken_by w [] [] e e.quota) o false ≡ false
-    by None = refl
-    by (Some e) = of e e.quota
+wakes_by_quotas w [] key = wakes_nothing w key
 wakes_by_quotas w (name ∷ names) key = by (evaluation_at w key) ∙ ap (λ b. releases_wake_at w [] (name ∷ []) key || b) (wakes_by_quotas w names key)
   where
     split : (c s h : Bool) → (c && (s || h)) ≡ ((c && (s || false)) || (c && h))

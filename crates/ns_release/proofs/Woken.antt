@@ -9,27 +9,20 @@ use Rattle.ns_types.specs.declared.node.Class.{Class}
 use Rattle.ns_types.specs.State.Names.{Name, Key, has_key, same_key, same_name, same_number}
 use Rattle.ns_types.specs.State.Rows.{World, evaluation_at}
 use Rattle.ns_types.proofs.Lists.{any_alike, each, filter_none, not_both}
-use Rattle.ns_types.proofs.Named.{one_number, same_name_is, same_name_refl, same_number_refl}
+use Rattle.ns_types.proofs.Named.{one_number, same_key_refl, same_name_is}
 use Rattle.ns_types.proofs.Tables.{tied}
 use Rattle.ns_change.specs.declared.change.Change.{Change}
 use Rattle.ns_change.specs.Changed.{changed}
 use Rattle.ns_release.specs.Released.{is_woken, releases_wake_at, woken_by, woken_from}
-use Rattle.std.proofs.Math.Bool.{and-false}
+use Rattle.std.proofs.Math.Bool.{and-false, and-true, or-true}
 use Rattle.ns_change.proofs.Listed.{any_listed}
-
-same_key_refl : (k : Key) → same_key k k ≡ true
-same_key_refl k = λ i. same_name_refl k.0 i && same_number_refl k.1 i
-
-or_true : (b : Bool) → (b || true) ≡ true
-or_true true = refl
-or_true false = refl
 
 -- a filter looks at members alone
 filter_members : (f g : Key → Bool) (base xs : List Key) → ((k : Key) → has_key xs k ≡ true → has_key base k ≡ true) →
     ((k : Key) → has_key base k ≡ true → f k ≡ g k) → filter f xs ≡ filter g xs
 filter_members f g base [] inside h = refl
 filter_members f g base (x ∷ xs) inside h =
-    let rest = filter_members f g base xs (λ k is. inside k (ap (λ b. same_key k x || b) is ∙ or_true (same_key k x))) h in
+    let rest = filter_members f g base xs (λ k is. inside k (ap (λ b. same_key k x || b) is ∙ or-true (same_key k x))) h in
     (λ i. cond (h x (inside x (ap (λ b. b || has_key xs x) (same_key_refl x))) i) (x ∷ rest i) (rest i))
 
 module _ (taken base : List Key) (key : Key) where
@@ -54,11 +47,7 @@ module _ (taken base : List Key) (key : Key) where
 
   left_in : has_key base key ≡ true → list_any (λ k. not (has_key taken k) && same_key key k) base ≡ not (has_key taken key)
   left_in is = any_alike _ _ base (each _ tested base) ∙ any_and (not (has_key taken key)) (same_key key) base ∙ ap (λ b. not (has_key taken key) && b) is ∙
-      and_true (not (has_key taken key))
-    where
-      and_true : (b : Bool) → (b && true) ≡ b
-      and_true true = refl
-      and_true false = refl
+      and-true (not (has_key taken key))
 
 pub woken_tests : (w : World) (c : Change) (rooms : List (Name × Class)) (quotas : List Name) →
     filter (is_woken w c.blocked rooms quotas) w.blocked ≡ woken_from w c rooms quotas

@@ -6,6 +6,7 @@ use Rattle.std.specs.declared.cmp.Ordering.{Ordering}
 use Rattle.std.specs.FinMap.{IsAntisymmetric}
 use Rattle.std.specs.FinMap.Entries.{find}
 use Rattle.std.specs.Ordering.{eq_by_cmp}
+use Rattle.std.proofs.Math.Bool.{and-false}
 use Rattle.std.proofs.lemmas.List.Elements.{All-nil, All-cons}
 use Rattle.std.proofs.lemmas.List.Folds.{list_any-append}
 use Rattle.ns_types.specs.State.Lists.{Each, first_each}
@@ -99,11 +100,7 @@ module _ {A : Type 0} where
       by : (s c : Bool) → test x ≡ s → p x ≡ c → list_any test (filter p xs) ≡ (list_any test xs && b)
           → list_any test (cond c (x ∷ filter p xs) (filter p xs)) ≡ ((s || list_any test xs) && b)
       by true true e f rest = ap (λ s. s || list_any test (filter p xs)) e ∙ sym f ∙ alike x e
-      by true false e f rest = rest ∙ (ap (λ c. list_any test xs && c) (sym (alike x e) ∙ f) ∙ none (list_any test xs) ∙ sym f ∙ alike x e)
-        where
-          none : (d : Bool) → (d && false) ≡ false
-          none true = refl
-          none false = refl
+      by true false e f rest = rest ∙ (ap (λ c. list_any test xs && c) (sym (alike x e) ∙ f) ∙ and-false (list_any test xs) ∙ sym f ∙ alike x e)
       by false true e f rest = ap (λ s. s || list_any test (filter p xs)) e ∙ rest
       by false false e f rest = rest
 

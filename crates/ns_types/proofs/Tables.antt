@@ -2,6 +2,7 @@
 use Rattle.std.specs.Prelude.{◌≡◌, Bool, true, false, cond, not, T, List, [], ◌∷◌, map, Option, Some, None, ◌&&◌, ◌||◌, option_map, is_some, filter, flat_map}
 use Rattle.std.specs.Prelude.{length, unwrap_or}
 use Rattle.std.proofs.Common.{ℕ, ◌+◌, sum_by, add-zero, fold, refl, sym, ap, subst, ◌∙◌, Ordering, Less, Equal, Greater, is_eq, is_lt}
+use Rattle.std.proofs.Math.Bool.{or_assoc}
 use Rattle.std.proofs.lemmas.List.{length-map}
 use Rattle.std.specs.List.{list_any}
 use Rattle.std.specs.Ordering.{eq_by_cmp}
@@ -23,10 +24,6 @@ pub less_by : (r : Ordering) → T (is_lt r) → r ≡ Less
 less_by Less p = refl
 less_by Equal p = absurd p
 less_by Greater p = absurd p
-
-or_first : (a b c : Bool) → (a || (b || c)) ≡ ((a || b) || c)
-or_first true b c = refl
-or_first false b c = refl
 
 or_second : (a b c : Bool) → (a || (b || c)) ≡ (b || (a || c))
 or_second true true c = refl
@@ -229,7 +226,7 @@ module _ {K X : Type 0} {R : K → K → Ordering} (o : IsTotalOrder R) (same : 
       elim (p e.0) as (λ b. (f e || (list_any f (where_key R p es) || list_any f (where_key R (λ k. not (p k)) es)))
       ≡ (list_any f (cond b (e ∷ where_key R p es) (where_key R p es))
       || list_any f (cond (not b) (e ∷ where_key R (λ k. not (p k)) es) (where_key R (λ k. not (p k)) es)))) [
-        | true ↦ or_first (f e) _ _
+        | true ↦ sym (or_assoc (f e) _ _)
         | false ↦ or_second (f e) (list_any f (where_key R p es)) _
       ]
 

@@ -1,6 +1,7 @@
 -- Evaluations by number and the numbers of each job.
-use Rattle.std.specs.Prelude.{◌≡◌, ℕ, true, false, Bool, ◌||◌, IsTrue, List, [], ◌∷◌, Option, Some, None, is_some, unwrap_or}
+use Rattle.std.specs.Prelude.{◌≡◌, ℕ, false, Bool, ◌||◌, IsTrue, List, [], ◌∷◌, Option, Some, None, is_some, unwrap_or}
 use Rattle.std.proofs.Common.{refl, sym, ap, subst, ◌∙◌}
+use Rattle.std.proofs.lemmas.Bool.{or_right}
 use Rattle.std.specs.Ordering.{nat_cmp}
 use Rattle.std.specs.Option.{option_map_or}
 use Rattle.std.specs.FinMap.{empty, entries, get, get-empty, get-entries}
@@ -102,12 +103,8 @@ module _ (slot : ℕ × Option Evaluation) (rest left slots : List (ℕ × Optio
         (a.held (row.job, slot.0) ∙ ap (λ b. b || holds_key held (row.job, slot.0)) (same_key_refl (row.job, slot.0)))) h.1,
   )
     where
-      by : (b c : Bool) → c ≡ true → (b || c) ≡ true
-      by true c t = refl
-      by false c t = t
-
       grows : Grows holds_key held new
-      grows key t = a.held key ∙ by (same_key key (row.job, slot.0)) (holds_key held key) t
+      grows key t = a.held key ∙ or_right (same_key key (row.job, slot.0)) (holds_key held key) t
 
 -- ---- the index
 

@@ -18,7 +18,7 @@ use Rattle.ns_types.proofs.Lists.{not_both, left_none, right_none}
 use Rattle.ns_types.proofs.Named.{one_name, one_number, same_name_is, same_name_refl, same_number_refl, first_of_both, second_of_both}
 use Rattle.ns_types.proofs.Tables.{none_of_any}
 use Rattle.ns_types.proofs.Tests.{not_Some, same_Some, is_no}
-use Rattle.std.proofs.lemmas.Bool.{or_right}
+use Rattle.std.proofs.lemmas.Bool.{or_right, not-false}
 use Rattle.ns_audit.specs.Apart.{IsWith, IsApart, IsAtHome}
 use Rattle.ns_audit.specs.Laws.{IsFit}
 use Rattle.ns_audit.specs.Orderly.{IsAllowedTo, IsOrderlyTenant, IsReadyIn, IsBlockedIn, IsListed, IsOrderly}
@@ -115,11 +115,7 @@ module _ (w : World) (ns : Name) (t : Tenant) (is : get w.tenants ns ≡ Some t)
 
   module _ (unshared : shares_with_any w ns t ≡ false) where
     confined : is_confined t.namespace ≡ true
-    confined = by (is_confined t.namespace) (left_none (not (is_confined t.namespace)) _ unshared)
-      where
-        by : (b : Bool) → not b ≡ false → b ≡ true
-        by true e = refl
-        by false e = sym e
+    confined = not-false (is_confined t.namespace) (left_none (not (is_confined t.namespace)) _ unshared)
 
     foreign : (k : Name) (other : Tenant) → get w.tenants k ≡ Some other → same_name ns k ≡ false → overlaps t.namespace other.namespace ≡ false
     foreign k other at differs = by (same_name k ns) (turned_name ns k differs)

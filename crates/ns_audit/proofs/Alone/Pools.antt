@@ -1,6 +1,7 @@
 -- What is asked of a pool goes along with a choice of owners.
 use Rattle.std.specs.Prelude.{◌≡◌, ℕ, Bool, true, false, cond, not, T, List, [], ◌∷◌, ◌++◌, map, Option, Some, None, ◌&&◌, filter, fold, flat_map, nat_le}
 use Rattle.std.proofs.Common.{inl, inr, refl, sym, ap, subst, ◌∙◌}
+use Rattle.std.proofs.lemmas.Bool.{not-false}
 use Rattle.std.specs.Option.{option_map_or, option_and_then}
 use Rattle.std.specs.FinMap.{get, entries, retain_keys, remove, contains_key, len, empty, len-empty, len-entries, from_entries}
 use Rattle.ns_types.specs.declared.allocation.Allocation.{Allocation}
@@ -195,12 +196,8 @@ module _ (part : Part) (w : World) (r : Report) where
       Goes part w b (report pool name r w p) (report pool name r (alone_in part w) p)
   report_goes b pool name p on = goes_found part w b (get p.nodes name) _ _ _ (λ _. refl) (λ node _.
       goes_found part w b (allocation_at w (r.namespace, r.number)) _ _ _ (λ own. alike b own on) (λ a at.
-      goes_unless part w b (not (is_on pool name a)) _ Refusal.NotFound _ _ (λ _. refl) (λ there. by b on a at (turned _ there))))
+      goes_unless part w b (not (is_on pool name a)) _ Refusal.NotFound _ _ (λ _. refl) (λ there. by b on a at (not-false _ there))))
     where
-      turned : (c : Bool) → not c ≡ false → c ≡ true
-      turned true e = refl
-      turned false e = sym e
-
       alike : (c : Bool) → c ≡ true → ReportsOn part w c pool r →
           allocation_at (alone_in part w) (r.namespace, r.number) ≡ allocation_at w (r.namespace, r.number)
       alike true own on = allocation_alone part w (r.namespace, r.number) on.1
