@@ -1,6 +1,6 @@
 -- The first row that passes, in a table with changed rows over it.
 use Rattle.std.specs.Prelude.{◌≡◌, ℕ, ◌<◌, ◌≤◌, Bool, true, false, cond, not, T, ◌&&◌, ◌||◌, nat_le, List, [], ◌∷◌, ◌++◌, Option, Some, None, option_map}
-use Rattle.std.specs.Prelude.{is_some, find, unwrap_or}
+use Rattle.std.specs.Prelude.{is_some, find, min, unwrap_or}
 use Rattle.std.proofs.Common.{refl, sym, ap, subst, ◌∙◌, arith, Ordering, Less, Equal, Greater, is_lt}
 use Rattle.std.specs.Ordering.{is_le}
 use Rattle.std.proofs.lemmas.Bool.{leb-true, leb-false}
@@ -9,6 +9,7 @@ use Rattle.std.specs.Ordering.{eq_by_cmp, nat_cmp}
 use Rattle.std.specs.FinMap.{FinMap, contains_key, entries, entries_sorted, get, get-entries}
 use Rattle.std.specs.FinMap.Entries.{find as found_at, below_all, is_sorted}
 use Rattle.std.proofs.lemmas.Map.Keys.{le_from_is_le}
+use Rattle.std.proofs.Math.Bool.{or-false, or-true}
 use Rattle.keyed.specs.Table.{at_slot, flat, rows, row_at, row_list}
 use Rattle.keyed.proofs.Tables.{entries-rows, get-rows}
 use Rattle.ns_types.specs.declared.evaluation.Status.{Status}
@@ -144,11 +145,7 @@ module _ {X : Type 0} (p : ℕ → X → Bool) (m : FinMap nat_cmp X) (a b : ℕ
   here_left q u = both q ∙ ap (λ c. c || b q) u
 
   here_right : (q : ℕ) → b q ≡ true → option_map_or (p q) (get m q) false ≡ true
-  here_right q v = both q ∙ ap (λ c. a q || c) v ∙ by (a q)
-    where
-      by : (c : Bool) → (c || true) ≡ true
-      by true = refl
-      by false = refl
+  here_right q v = both q ∙ ap (λ c. a q || c) v ∙ or-true (a q)
 
   pub lesser_first : (r s : Option ℕ) → Leads a r → Leads b s → IsFirst p m (lesser r s)
   lesser_first None None u v = λ q. neither q (u q) (v q)
@@ -156,9 +153,15 @@ module _ {X : Type 0} (p : ℕ → X → Bool) (m : FinMap nat_cmp X) (a b : ℕ
   lesser_first (Some j) None u v = (here_left j u.0, λ q lt. neither q (u.1 q lt) (v q))
   lesser_first (Some j) (Some k) u v = by (nat_le j k) refl
     where
-      by : (c : Bool) → nat_le j k ≡ c → IsFirst p m (cond c (Some j) (Some k))
-      by true e = let le = leb-true j k e in (here_left j u.0, λ q lt. neither q (u.1 q lt) (v.1 q (omega (arith, lt, le))))
-      by false e = let less = leb-false j k e in (here_right k v.0, λ q lt. neither q (u.1 q (omega (arith, lt, less))) (v.1 q lt))
+      by : (c : Bool) → nat_le j k ≡ c → IsFirst p m (Some (min j k))
+      by true e =
+          let le = leb-true j k e in
+          let least : j ≡ min j k = omega (arith, le) in
+          subst (λ n. IsFirst p m (Some n)) least (here_left j u.0, λ q lt. neither q (u.1 q lt) (v.1 q (omega (arith, lt, le))))
+      by false e =
+          let less = leb-false j k e in
+          let least : k ≡ min j k = omega (arith, less) in
+          subst (λ n. IsFirst p m (Some n)) least (here_right k v.0, λ q lt. neither q (u.1 q (omega (arith, lt, less))) (v.1 q lt))
 
 -- ---- a table with changed rows over it
 
@@ -168,14 +171,10 @@ module _ {X : Type 0} (p : ℕ → X → Bool) (m : FinMap nat_cmp X) (c : FinMa
       (option_map_or (p q) (row_at c q) false || (not (contains_key c q) && option_map_or (p q) (get m q) false))
   over_cases q = ap (λ r. option_map_or (p q) r false) (get-over numbers one_number m c q) ∙ by (get c q) (get m q)
     where
-      none : (b : Bool) → b ≡ (b || false)
-      none true = refl
-      none false = refl
-
       by : (r : Option (Option X)) (a : Option X) →
           option_map_or (p q) (unwrap_or r a) false ≡ (option_map_or (p q) (flat r) false || (not (is_some r) && option_map_or (p q) a false))
       by None a = refl
-      by (Some r) a = none (option_map_or (p q) r false)
+      by (Some r) a = sym (or-false (option_map_or (p q) r false))
 
   changed_leads : (r : Option ℕ) → IsFirst p (rows c) r → Leads (λ q. option_map_or (p q) (row_at c q) false) r
   changed_leads None is = λ q. ap (λ r. option_map_or (p q) r false) (sym (get-rows numbers c q)) ∙ is q

@@ -1,6 +1,6 @@
 -- The first row by number that passes a test.
-use Rattle.std.specs.Prelude.{◌≡◌, ℕ, ◌<◌, Bool, true, false, not, ◌&&◌, if◌then◌else◌, Option, Some, None, option_map}
-use Rattle.std.specs.Prelude.{find, nat_le}
+use Rattle.std.specs.Prelude.{◌≡◌, ℕ, ◌<◌, Bool, true, false, not, ◌&&◌, Option, Some, None, option_map}
+use Rattle.std.specs.Prelude.{find, min}
 use Rattle.std.specs.Option.{option_map_or}
 use Rattle.std.specs.Ordering.{nat_cmp}
 use Rattle.std.specs.FinMap.{FinMap, contains_key, entries, get}
@@ -28,7 +28,7 @@ IsFirst p m r = Leads (row_passes p m) r
 abbrev pub lesser : Option ℕ → Option ℕ → Option ℕ
 lesser None b = b
 lesser (Some a) None = Some a
-lesser (Some a) (Some b) = if nat_le a b then Some a else Some b
+lesser (Some a) (Some b) = Some (min a b)
 
 -- a row of the table passes that the change does not hold
 abbrev pub unheld_passes : {X : Type 0} → (ℕ → X → Bool) → FinMap nat_cmp X → FinMap nat_cmp (Option X) → ℕ → Bool

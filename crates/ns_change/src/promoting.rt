@@ -135,7 +135,7 @@ fn lesser(a: Option<u64>, b: Option<u64>) -> Option<u64>
     ensures { result ≡ lesser a b }
 {
     match (a, b) {
-        (Some(a), Some(b)) => { if a <= b { Some(a) } else { Some(b) } }
+        (Some(a), Some(b)) => Some(a.min(b)),
         (Some(a), None) => Some(a),
         (None, b) => b,
     }

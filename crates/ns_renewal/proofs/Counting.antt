@@ -2,6 +2,7 @@
 use Rattle.std.specs.Prelude.{◌≡◌, ℕ, ◌+◌, ◌<◌, ◌≤◌, ◌^◌, Bool, true, false, cond, not, ◌&&◌, ◌||◌, List, [], ◌∷◌, Option, Some, None, filter}
 use Rattle.std.specs.Prelude.{length, min, nat_lt, option_map, suc, ◌-◌}
 use Rattle.std.proofs.Common.{refl, sym, ap, ◌∙◌, arith}
+use Rattle.ns_types.proofs.Tests.{and_turned}
 use Rattle.std.specs.FinMap.{get}
 use Rattle.std.specs.List.{cons_option, list_any}
 use Rattle.std.specs.Option.{option_map_or}
@@ -78,14 +79,8 @@ module _ {A : Type 0} (same : A → A → Bool) (turned : (a b : A) → same a b
 
       swapped : count (λ y. other u y && q y) (filter (other v) firsts) ≡ count q (filter (other v) rest)
       swapped = count_under (other v) (λ y. other u y && q y) firsts
-          ∙ count_alike _ _ (λ y. turn (other v y) (other u y) (q y)) firsts
+          ∙ count_alike _ _ (λ y. and_turned (other v y) (other u y) (q y)) firsts
           ∙ sym (count_under (other v) q rest ∙ count_under (other u) (λ y. other v y && q y) firsts)
-        where
-          turn : (a b c : Bool) → (a && (b && c)) ≡ (b && (a && c))
-          turn true true c = refl
-          turn true false c = refl
-          turn false true c = refl
-          turn false false c = refl
 
       by : (b : Bool) → same v u ≡ b → ((q : A → Bool) → ((y : A) → same v y ≡ true → q y ≡ q v) →
           count q firsts ≡ count q (filter (other v) firsts) + cond (list_any (same v) us && q v) 1 0) → Claim b

@@ -2,6 +2,7 @@
 use Rattle.std.specs.Prelude.{◌≡◌, ℕ, Bool, true, false, cond, not, ◌&&◌, ◌||◌, List, [], ◌∷◌, ◌++◌, Option, Some, None, filter, flat_map, is_some}
 use Rattle.std.specs.Prelude.{map, min, option_map, unwrap_or}
 use Rattle.std.proofs.Common.{refl, sym, ap, ◌∙◌, arith}
+use Rattle.std.proofs.lemmas.Bool.{or_right}
 use Rattle.std.specs.Cmp.{eq_by_cmp_equiv}
 use Rattle.std.specs.List.{cons_option, list_any}
 use Rattle.std.specs.Option.{option_and_then, option_map_or, option_to_list}
@@ -17,7 +18,8 @@ use Rattle.ns_types.specs.Working.Commit.{Victim, same_victim_job, victim_at}
 use Rattle.ns_types.proofs.Elements.{each_first}
 use Rattle.ns_types.proofs.Lists.{not_both}
 use Rattle.ns_types.proofs.Named.{first_of_both, names, numbers, same_name_is, same_name_refl, second_of_both}
-use Rattle.ns_renewal.specs.Losing.{is_of_job, keys_left, least, least_key, least_of, lesser, losing, losing_keys, victims_at}
+use Rattle.ns_change.specs.Waiting.{lesser}
+use Rattle.ns_renewal.specs.Losing.{is_of_job, keys_left, least, least_key, least_of, losing, losing_keys, victims_at}
 use Rattle.ns_renewal.specs.Losses.{Lowers, Puts, number_at}
 use Rattle.ns_renewal.specs.declared.losses.Losses.{Losses}
 use Rattle.ns_world.specs.declared.tables.Tables.{Tables}
@@ -124,15 +126,11 @@ module _ (victims : List Victim) where
   all_there [] still = tt
   all_there (v ∷ vs) still = (
     still v (ap (λ b. b || list_any (is_of_job v.0 v.1.1.job) vs) itself),
-    all_there vs (λ y there. still y (later (is_of_job y.0 y.1.1.job v) _ there)),
+    all_there vs (λ y there. still y (or_right (is_of_job y.0 y.1.1.job v) _ there)),
   )
     where
       itself : is_of_job v.0 v.1.1.job v ≡ true
       itself = λ i. same_name_refl v.0 i && same_name_refl v.1.1.job i
-
-      later : (a b : Bool) → b ≡ true → (a || b) ≡ true
-      later true b e = refl
-      later false b e = e
 
   each_key : (vs : List Victim) → Each HasLeast vs →
       flat_map (λ v. option_to_list (key_of (least_of victims) v)) vs ≡ map (least_key victims) vs

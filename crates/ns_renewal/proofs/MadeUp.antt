@@ -26,7 +26,8 @@ use Rattle.ns_types.proofs.Named.{first_of_both, numbers, one_name, one_number, 
 use Rattle.ns_types.proofs.TableRows.{entries_empty}
 use Rattle.ns_types.proofs.Tables.{each_row, none_of_any}
 use Rattle.ns_types.proofs.Tests.{not_Some, same_Some}
-use Rattle.ns_renewal.specs.Losing.{CanMakeUp, least, least_key, lesser, losing, losing_in, losing_keys, numbers_pass, numbers_pass_in, victims_at}
+use Rattle.ns_change.specs.Waiting.{lesser}
+use Rattle.ns_renewal.specs.Losing.{CanMakeUp, least, least_key, losing, losing_in, losing_keys, numbers_pass, numbers_pass_in, victims_at}
 use Rattle.ns_renewal.specs.Renewing.{HasNumbers, SameJobs, SameNumbers, keys_in, renewed}
 use Rattle.ns_renewal.proofs.Made.{IsThere, all_renewed, renewal}
 use Rattle.ns_types.proofs.Bounds.{within_bound}

@@ -9,7 +9,8 @@ use Rattle.ns_types.specs.State.Names.{ByName, Name, name_cmp, same_name}
 use Rattle.ns_types.proofs.Lists.{cond_same}
 use Rattle.ns_types.proofs.Named.{names, one_name}
 use Rattle.ns_types.proofs.Tables.{tied}
-use Rattle.ns_renewal.specs.Losing.{job_number, lesser}
+use Rattle.ns_change.specs.Waiting.{lesser}
+use Rattle.ns_renewal.specs.Losing.{job_number}
 use Rattle.ns_renewal.specs.Losses.{Puts, number_at}
 use Rattle.ns_renewal.specs.declared.losses.Losses.{Losses}
 

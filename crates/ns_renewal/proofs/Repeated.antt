@@ -2,6 +2,7 @@
 use Rattle.std.specs.Prelude.{◌≡◌, ℕ, ◌+◌, ◌<◌, ◌^◌, Bool, true, false, cond, not, ◌&&◌, List, [], ◌∷◌, Option, Some, None, filter, fold}
 use Rattle.std.specs.Prelude.{length, map, min, option_map, unwrap_or}
 use Rattle.std.proofs.Common.{refl, sym, ap, subst, ◌∙◌, arith}
+use Rattle.std.proofs.lemmas.Bool.{not-false}
 use Rattle.std.specs.List.{cons_option, filter_map}
 use Rattle.ns_types.specs.declared.evaluation.Trigger.TheVariants as Trigger
 use Rattle.ns_types.specs.declared.plan.Eviction.{Eviction}
@@ -12,7 +13,8 @@ use Rattle.ns_types.specs.Working.Commit.{Victim, make_up, same_victim_job, vict
 use Rattle.ns_types.proofs.Lists.{each, filter_chosen, filter_inside}
 use Rattle.ns_types.proofs.Named.{same_name_refl}
 use Rattle.ns_types.proofs.Once.{key_is}
-use Rattle.ns_renewal.specs.Losing.{CanMakeUp, least_of, lesser, losing, losing_keys, victims_at}
+use Rattle.ns_change.specs.Waiting.{lesser}
+use Rattle.ns_renewal.specs.Losing.{CanMakeUp, least_of, losing, losing_keys, victims_at}
 use Rattle.ns_renewal.specs.Renewing.{SameJobs, renewed}
 use Rattle.ns_renewal.proofs.Counting.{alike_victims}
 use Rattle.ns_renewal.proofs.Least.{least_first, lesser_assoc, same_turned}
@@ -44,11 +46,7 @@ module _ {A : Type 0} (same : A → A → Bool) (p : A → Bool) (alike : (x y :
       others y = not (same x y)
 
       fails : p x ≡ false → (y : A) → others y ≡ false → p y ≡ false
-      fails e y f = sym (alike x y (is_same (same x y) f)) ∙ e
-        where
-          is_same : (b : Bool) → not b ≡ false → b ≡ true
-          is_same true g = refl
-          is_same false g = sym g
+      fails e y f = sym (alike x y (not-false (same x y) f)) ∙ e
 
       by : (b : Bool) → p x ≡ b → filter p (first_each same xs) ≡ first_each same (filter p xs) →
           cond b (x ∷ filter p (filter others (first_each same xs))) (filter p (filter others (first_each same xs)))

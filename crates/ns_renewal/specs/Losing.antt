@@ -1,6 +1,6 @@
 -- The jobs that lose allocations by preemption.
 use Rattle.std.specs.Prelude.{◌≡◌, ℕ, ◌+◌, ◌<◌, ◌^◌, Bool, false, not, ◌&&◌, List, [], ◌∷◌, Option, Some, None, filter, flat_map}
-use Rattle.std.specs.Prelude.{length, map, min, nat_lt, option_map, unwrap_or}
+use Rattle.std.specs.Prelude.{length, map, nat_lt, option_map, unwrap_or}
 use Rattle.std.specs.List.{filter_map, list_any}
 use Rattle.std.specs.Option.{option_and_then, option_map_or, option_to_list}
 use Rattle.std.specs.FinMap.{get}
@@ -12,6 +12,7 @@ use Rattle.ns_types.specs.State.Rows.{World, Tenant}
 use Rattle.ns_types.specs.State.Tables.{any_row}
 use Rattle.ns_types.specs.Steps.{greatest}
 use Rattle.ns_types.specs.Working.Commit.{Victim, same_victim_job, victim_at}
+use Rattle.ns_change.specs.Waiting.{lesser}
 
 -- the evictions' allocations with their rows, of those that are there
 abbrev pub victims_at : World → List Eviction → List Victim
@@ -50,12 +51,6 @@ CanMakeUp victims x = (ns : Name) (t : Tenant) → get x.tenants ns ≡ Some t �
 
 abbrev pub is_of_job : Name → Name → Victim → Bool
 is_of_job ns job v = same_name ns v.0 && same_name job v.1.1.job
-
--- of two numbers the lesser, where there are two
-abbrev pub lesser : Option ℕ → Option ℕ → Option ℕ
-lesser None n = n
-lesser (Some m) None = Some m
-lesser (Some m) (Some n) = Some (min m n)
 
 abbrev pub least : List ℕ → Option ℕ
 least [] = None

@@ -4,7 +4,8 @@ use Rattle.std.specs.Option.{option_map_or}
 use Rattle.keyed.specs.Table.{row_at}
 use Rattle.ns_types.specs.State.Names.{Key, Name, same_name}
 use Rattle.ns_types.specs.Working.Commit.{Victim}
-use Rattle.ns_renewal.specs.Losing.{is_of_job, job_number, least_of, lesser}
+use Rattle.ns_change.specs.Waiting.{lesser}
+use Rattle.ns_renewal.specs.Losing.{is_of_job, job_number, least_of}
 use Rattle.ns_renewal.specs.declared.losses.Losses.{Losses}
 
 abbrev pub number_at : Losses → Name → Name → Option ℕ

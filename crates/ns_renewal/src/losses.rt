@@ -4,7 +4,8 @@ ghost use Rattle.std.specs.Prelude.{◌≡◌, ◌&&◌, IfOk, OnOk, None, Some,
 ghost use Rattle.std.specs.Option.{option_copied};
 ghost use Rattle.keyed.specs.Table.{row_at};
 ghost use Rattle.ns_types.specs.State.Names.{Name, same_name};
-ghost use Rattle.ns_renewal.specs.Losing.{job_number, lesser};
+ghost use Rattle.ns_change.specs.Waiting.{lesser};
+ghost use Rattle.ns_renewal.specs.Losing.{job_number};
 
 use keyed::NameTable;
 use ns_types::text::Text;

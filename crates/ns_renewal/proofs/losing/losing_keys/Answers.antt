@@ -1,7 +1,8 @@
 use Rattle.std.proofs.Common.{◌≡◌, ap, ◌∙◌, subst, map}
 use Rattle.std.specs.Prelude.{List, IfOk}
 use Rattle.ns_types.specs.State.Names.{Key}
-use Rattle.ns_renewal.specs.Losing.{keys_left, least_of, lesser, victims_at}
+use Rattle.ns_change.specs.Waiting.{lesser}
+use Rattle.ns_renewal.specs.Losing.{keys_left, least_of, victims_at}
 use Rattle.ns_renewal.specs.Losses.{number_at}
 use Rattle.ns_renewal.proofs.Least.{keys_are}
 use Rattle.ns_renewal.proofs.losing.losing_keys.Goals as goal

@@ -1,6 +1,7 @@
 use Rattle.std.proofs.Common.{◌≡◌, drop, map}
 use Rattle.ns_types.specs.State.Names.{Name}
-use Rattle.ns_renewal.specs.Losing.{least_of, lesser, victims_at}
+use Rattle.ns_change.specs.Waiting.{lesser}
+use Rattle.ns_renewal.specs.Losing.{least_of, victims_at}
 use Rattle.ns_renewal.specs.Losses.{number_at}
 use Rattle.ns_renewal.proofs.losing.lower_each.Given as goal
 use Rattle.ns_world.specs.World.{world_of}

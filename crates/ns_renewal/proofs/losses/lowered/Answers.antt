@@ -3,7 +3,8 @@ use Rattle.keyed.specs.Table.{row_at}
 use Rattle.keyed.proofs.Tables.{slot_made}
 use Rattle.ns_types.specs.State.Names.{Name, same_name}
 use Rattle.ns_types.proofs.Named.{names}
-use Rattle.ns_renewal.specs.Losing.{job_number, lesser}
+use Rattle.ns_change.specs.Waiting.{lesser}
+use Rattle.ns_renewal.specs.Losing.{job_number}
 use Rattle.ns_renewal.proofs.Numbered.{job_put, row_nowhere}
 use Rattle.ns_renewal.proofs.losses.lowered.Goals as goal
 use Rattle.ns_renewal.proofs.losses.lowered.Goals.{in-Some, in-None}

@@ -5,7 +5,8 @@ use Rattle.keyed.proofs.Tables.{slot_made}
 use Rattle.ns_types.specs.State.Names.{same_name}
 use Rattle.ns_change.proofs.Opening.{emptied_keeps}
 use Rattle.ns_types.proofs.Named.{names, one_name}
-use Rattle.ns_renewal.specs.Losing.{job_number, lesser}
+use Rattle.ns_change.specs.Waiting.{lesser}
+use Rattle.ns_renewal.specs.Losing.{job_number}
 use Rattle.ns_renewal.proofs.Numbered.{lowered}
 use Rattle.ns_renewal.proofs.losses.Losses.lower.Goals as goal
 
