@@ -27,7 +27,8 @@ use Rattle.ns_types.proofs.Tests.{not_Some, same_Some}
 use Rattle.ns_headroom.specs.Applying.{apply_passes, apply_raise, ended_keys, places_on}
 use Rattle.ns_headroom.specs.Judging.{doing}
 use Rattle.ns_headroom.specs.Raising.{IsRaised, Raises, with_places}
-use Rattle.ns_headroom.specs.Releasing.{EndsAlone, ends_at, lives_at, opens, release_at}
+use Rattle.ns_types.specs.Working.Parts.{lives_at}
+use Rattle.ns_headroom.specs.Releasing.{EndsAlone, ends_at, opens, release_at}
 use Rattle.ns_headroom.proofs.Applied.{apply_pass}
 use Rattle.ns_applied.specs.Counters.{IsAtWork}
 use Rattle.ns_applied.specs.Parts.{IsForJob, applied_world, counted_rows, ended, placed}

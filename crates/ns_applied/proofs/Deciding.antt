@@ -13,7 +13,8 @@ use Rattle.ns_types.specs.State.Resources.{plus}
 use Rattle.ns_types.specs.State.Rows.{World, node_at}
 use Rattle.ns_types.specs.Working.Commit.{Commit, begun, decide, node_name, part_of, size_of, victim_key, victim_keys, victims_in, victims_of}
 use Rattle.ns_types.proofs.Elements.{any_flat, any_map, each_append, each_of, each_passes}
-use Rattle.ns_types.proofs.Gone.{evicted_row, rows_gone}
+use Rattle.ns_types.specs.Settling.Gone.{rows_gone}
+use Rattle.ns_types.proofs.Gone.{evicted_row}
 use Rattle.ns_types.proofs.Less.{gone_alike}
 use Rattle.ns_types.proofs.Lists.{not_both}
 use Rattle.ns_types.proofs.Named.{one_number}

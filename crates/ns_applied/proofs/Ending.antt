@@ -1,5 +1,6 @@
 -- The stops and the victims were live, each is one of the two, and they are live no more.
 use Rattle.std.specs.Prelude.{◌≡◌, ℕ, ◌&&◌, ◌||◌, Bool, true, false, cond, not, List, [], ◌∷◌, Option, Some, None, map, option_map}
+use Rattle.std.proofs.Math.Bool.{and-not_self}
 use Rattle.std.proofs.Common.{refl, sym, ap, subst, ◌∙◌}
 use Rattle.std.proofs.lemmas.List.Folds.{list_any-append}
 use Rattle.std.specs.FinMap.{get}
@@ -26,8 +27,9 @@ use Rattle.ns_types.proofs.Tables.{tied}
 use Rattle.ns_types.proofs.Tests.{is_no}
 use Rattle.ns_plan.specs.After.{stop_keys}
 use Rattle.ns_plan.proofs.Afterwards.{stopped_has}
-use Rattle.ns_headroom.specs.Releasing.{ends_at, lives_at}
-use Rattle.ns_applied.specs.Parts.{IsForJob, IsOutside, ended, placed, placed_in, stopped, stops, victims}
+use Rattle.ns_headroom.specs.Releasing.{ends_at}
+use Rattle.ns_types.specs.Working.Parts.{lives_at, stopped}
+use Rattle.ns_applied.specs.Parts.{IsForJob, IsOutside, ended, placed, placed_in, stops, victims}
 use Rattle.ns_applied.proofs.Whole.{allocations_stay}
 
 -- what holds of each key holds of one that is among them
@@ -141,10 +143,6 @@ module _ (kept : Snapshot) (p : Plan) (w : World) (t : Tenant) where
         left : Bool → Bool → Allocation → Allocation
         left v s a = cond v (record a { desired = DesiredStatus.Evict }) (cond s (record a { desired = DesiredStatus.Stop }) a)
 
-        neither : (l : Bool) → false ≡ (l && not l)
-        neither true = refl
-        neither false = refl
-
         not_live : (b l : Bool) → (b ≡ true → l ≡ true) → l ≡ false → b ≡ false
         not_live true l h e = not_both (h refl) e
         not_live false l h e = refl
@@ -155,7 +153,7 @@ module _ (kept : Snapshot) (p : Plan) (w : World) (t : Tenant) where
         by (Some a) true true live = sym (ap (λ b. b && true) (live refl))
         by (Some a) true false live = sym (ap (λ b. b && true) (live refl))
         by (Some a) false true live = sym (ap (λ b. b && true) (live refl))
-        by (Some a) false false live = neither (is_live a)
+        by (Some a) false false live = sym (and-not_self (is_live a))
 
 -- ---- plans
 

@@ -22,7 +22,8 @@ use Rattle.ns_types.proofs.Lists.{not_both}
 use Rattle.ns_types.proofs.Named.{names, one_name}
 use Rattle.ns_types.proofs.Tables.{get-map_rows, map_rows_idle, tied}
 use Rattle.ns_types.proofs.Tests.{not_Some, same_Some, some_mapped}
-use Rattle.ns_headroom.specs.Applying.{goes_to, places_on}
+use Rattle.ns_types.specs.Working.Parts.{goes_to}
+use Rattle.ns_headroom.specs.Applying.{places_on}
 use Rattle.ns_headroom.specs.Raising.{with_places}
 use Rattle.ns_applied.specs.Parts.{counted_rows}
 use Rattle.ns_applied.proofs.Numbered.{added, allocations_added}

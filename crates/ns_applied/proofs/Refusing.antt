@@ -1,7 +1,7 @@
 -- A plan that does not stand changes the worker's row and the list of plans, and no counter.
 use Rattle.std.specs.Prelude.{◌≡◌, ℕ, ◌+◌, ◌&&◌, ◌||◌, Bool, true, false, cond, not, [], Option, Some, None, nat_lt, option_map}
 use Rattle.std.proofs.Common.{refl, sym, ap, subst, ◌∙◌, arith}
-use Rattle.std.proofs.Math.Bool.{and-false}
+use Rattle.std.proofs.Math.Bool.{and-false, and-not_self}
 use Rattle.std.specs.FinMap.{get, insert}
 use Rattle.std.specs.Option.{option_and_then, option_map_or}
 use Rattle.ns_types.specs.declared.evaluation.Evaluation.{Evaluation}
@@ -13,17 +13,19 @@ use Rattle.ns_types.specs.Settling.Releases.{same_offer}
 use Rattle.ns_types.specs.Settling.Settle.{settle}
 use Rattle.ns_types.specs.State.Names.{ByNumber, Name, same_name}
 use Rattle.ns_types.specs.State.Rows.{Tenant, World, is_free, is_live, node_at}
-use Rattle.ns_types.specs.Steps.{greatest, is_past_bound, is_tenant_past_bound}
+use Rattle.ns_types.specs.Steps.{greatest, is_past_bound}
 use Rattle.ns_types.specs.Working.Commit.{Applied, applied_worker, commit, done, refused_whole, still_stands}
 use Rattle.ns_types.specs.Working.Work.{with_worker, without_key}
 use Rattle.ns_types.specs.Working.Worker.{Worker}
+use Rattle.ns_types.proofs.Bounds.{tenant_within}
 use Rattle.ns_types.proofs.Lists.{left_none, right_none}
 use Rattle.ns_types.proofs.Named.{names, one_name}
-use Rattle.ns_types.proofs.Tables.{any_row-none, none_of_any}
+use Rattle.ns_types.proofs.Tables.{any_row-none}
 use Rattle.ns_types.proofs.Tests.{same_Some}
 use Rattle.ns_headroom.specs.Applying.{Doing, apply_passes, apply_raise, evaluations_pass, own_passes, own_passes_in, places_on}
 use Rattle.ns_headroom.specs.Raising.{IsRaised, Raises, with_places}
-use Rattle.ns_headroom.specs.Releasing.{EndsAlone, lives_at, opens, release_at}
+use Rattle.ns_types.specs.Working.Parts.{lives_at}
+use Rattle.ns_headroom.specs.Releasing.{EndsAlone, opens, release_at}
 use Rattle.ns_headroom.proofs.Applied.{apply_pass}
 use Rattle.ns_headroom.proofs.Shown.{untouched_rows}
 use Rattle.ns_applied.specs.Parts.{applied_world}
@@ -40,13 +42,9 @@ no_more n = omega arith
 module _ (w : World) (within : is_past_bound w ≡ false) (kept : Snapshot) where
   -- ---- no counter is past already
 
-  tenant_within : (ns : Name) (t : Tenant) → get w.tenants ns ≡ Some t → is_tenant_past_bound t ≡ false
-  unfolding is_past_bound
-  tenant_within ns t at = none_of_any one_name (λ _ t. is_tenant_past_bound t) w.tenants ns t (left_none _ _ (left_none _ _ within)) at
-
   evaluations_within : evaluations_pass w [] ≡ false
   evaluations_within = any_row-none names one_name _ w.tenants (λ ns t at. ap (nat_lt greatest) (no_more t.evaluation_number)
-      ∙ right_none (nat_lt greatest t.index) _ (left_none _ _ (tenant_within ns t at)))
+      ∙ right_none (nat_lt greatest t.index) _ (left_none _ _ (tenant_within w ns t within at)))
 
   own_within : own_passes w kept.namespace nothing ≡ false
   own_within = by (get w.tenants kept.namespace) refl
@@ -54,7 +52,7 @@ module _ (w : World) (within : is_past_bound w ≡ false) (kept : Snapshot) wher
       by : (o : Option Tenant) → get w.tenants kept.namespace ≡ o → option_map_or (own_passes_in nothing) o false ≡ false
       by None at = refl
       by (Some t) at = λ i. (ap (nat_lt greatest) (no_more t.allocation_number)
-          ∙ right_none (nat_lt greatest t.index || nat_lt greatest t.evaluation_number) _ (tenant_within kept.namespace t at)) i
+          ∙ right_none (nat_lt greatest t.index || nat_lt greatest t.evaluation_number) _ (tenant_within w kept.namespace t within at)) i
           || and-false (nat_lt greatest (t.index + 1)) i
 
   passes_none : apply_passes w kept nothing ≡ false
@@ -98,7 +96,7 @@ module _ (w : World) (within : is_past_bound w ≡ false) (kept : Snapshot) wher
 
     ends_none : EndsAlone w with_row []
     ends_none = record {
-      ended = λ key. none (lives_at w key) ∙ ap (λ o. lives_at w key && not (option_map_or is_live o false))
+      ended = λ key. sym (and-not_self (lives_at w key)) ∙ ap (λ o. lives_at w key && not (option_map_or is_live o false))
           (sym (then_stays (λ u. get u.allocations key.1) (λ u workers. refl) key.0));
       indexes = stays (λ u. u.index) (λ u workers. refl);
       releases = λ pool. changed_keeps (λ x. release_at x pool) (λ x m. refl) ns (with_worker number row) w;
@@ -108,10 +106,6 @@ module _ (w : World) (within : is_past_bound w ≡ false) (kept : Snapshot) wher
       asleep = λ key _. then_stays (λ u. get u.evaluations key.1) (λ u workers. refl) key.0;
     }
       where
-        none : (l : Bool) → false ≡ (l && not l)
-        none true = refl
-        none false = refl
-
         free : (pool name : Name) (node : Node) → node_at w pool name ≡ Some node → opens w pool name node ≡ false
         free pool name node at = ap (λ o. is_free node && option_map_or (λ old. not (is_free old) || not (same_offer old.offer node.offer)) o true) at
             ∙ opens_not 0 node

@@ -3,6 +3,7 @@ use Rattle.std.specs.Prelude.{filter, ◌≡◌, ℕ, ◌+◌, ◌&&◌, ◌||�
 use Rattle.std.specs.Prelude.{is_some, map, option_map, slice_get}
 use Rattle.std.proofs.Common.{inl, refl, sym, ap, ◌∙◌, arith}
 use Rattle.std.proofs.lemmas.List.Folds.{list_any-append}
+use Rattle.std.proofs.Math.Bool.{or-true}
 use Rattle.std.specs.FinMap.{get}
 use Rattle.std.specs.List.{cons_option}
 use Rattle.std.specs.Option.{option_and_then, option_map_or}
@@ -20,7 +21,8 @@ use Rattle.ns_types.specs.Validity.{IsSound}
 use Rattle.ns_types.specs.Working.Commit.{Victim, done, evicted_rows, live_stops, same_victim_job, stop_all, victim_at, victim_key, victims_of}
 use Rattle.ns_types.specs.Working.Worker.{Worker}
 use Rattle.ns_types.proofs.Elements.{any_map, each_first, map_map}
-use Rattle.ns_types.proofs.Gone.{evicted_row, gone_row, stopped_row}
+use Rattle.ns_types.specs.Settling.Gone.{gone_row}
+use Rattle.ns_types.proofs.Gone.{evicted_row, stopped_row}
 use Rattle.ns_types.proofs.Lists.{filter_none, left_none, not_both, right_none}
 use Rattle.ns_types.proofs.Named.{first_of_both, numbers, one_number, same_number_refl, second_of_both}
 use Rattle.ns_types.proofs.Once.{once_has}
@@ -30,18 +32,14 @@ use Rattle.ns_types.proofs.Tests.{is_no, some_mapped}
 use Rattle.ns_headroom.specs.Applying.{Doing, does_something, ended_keys}
 use Rattle.ns_headroom.specs.Applying as counters
 use Rattle.ns_headroom.specs.Judging.{doing, live_numbers}
-use Rattle.ns_headroom.specs.Releasing.{lives_at}
 use Rattle.ns_headroom.proofs.Shown.{touched_by_end, touched_by_new, untouched_rows}
 use Rattle.ns_plan.proofs.Afterwards.{stopped_has}
-use Rattle.ns_applied.specs.Parts.{IsForJob, ended, evicted, left_row, losers, placed, stopped, stops, victims}
+use Rattle.ns_types.specs.Working.Parts.{lives_at, stopped}
+use Rattle.ns_applied.specs.Parts.{IsForJob, ended, evicted, left_row, losers, placed, stops, victims}
 use Rattle.ns_applied.proofs.Ending.{allocations_end, ended_were_live, victims_live}
 use Rattle.ns_applied.proofs.Numbered.{added, added_row}
 use Rattle.ns_applied.proofs.Placing.{own_rows}
 use Rattle.ns_applied.proofs.Whole.{after, allocations_stay, counted, ended_in, made_in, rows, tenants_after}
-
-or_true : (b : Bool) → (b || true) ≡ true
-or_true true = refl
-or_true false = refl
 
 -- ---- keys of a namespace
 
@@ -53,7 +51,7 @@ some_key ns (k ∷ keys) e = by (same_name ns k.0) refl e (some_key ns keys)
     by : (b : Bool) → same_name ns k.0 ≡ b → (b || has_name (map (λ k. k.0) keys) ns) ≡ true →
         (has_name (map (λ k. k.0) keys) ns ≡ true → (n : ℕ) × (has_key keys (ns, n) ≡ true)) → (n : ℕ) × (has_key (k ∷ keys) (ns, n) ≡ true)
     by true here e later = (k.1, λ i. (here i && same_number_refl k.1 i) || has_key keys (ns, k.1))
-    by false other e later = let found = later e in (found.0, ap (λ b. same_key (ns, found.0) k || b) found.1 ∙ or_true (same_key (ns, found.0) k))
+    by false other e later = let found = later e in (found.0, ap (λ b. same_key (ns, found.0) k || b) found.1 ∙ or-true (same_key (ns, found.0) k))
 
 -- or none is
 pub no_key : (ns : Name) (keys : List Key) → has_name (map (λ k. k.0) keys) ns ≡ false → (n : ℕ) → has_key keys (ns, n) ≡ false
@@ -153,7 +151,7 @@ module _ (kept : Snapshot) (p : Plan) (w : World) (t : Tenant) where
     by_victim : loses q ≡ true → is_touched u then ≡ true
     by_victim e = let found = some_key q keys_lost (ap (λ names. has_name names q) lost_names ∙ e) in
         by_end found.0 (list_any-append (same_key (q, found.0)) (stops kept p w t) (victims kept p w t)
-        ∙ ap (λ b. has_key (stops kept p w t) (q, found.0) || b) (sym (victims_are (q, found.0)) ∙ found.1) ∙ or_true (has_key (stops kept p w t) (q, found.0)))
+        ∙ ap (λ b. has_key (stops kept p w t) (q, found.0) || b) (sym (victims_are (q, found.0)) ∙ found.1) ∙ or-true (has_key (stops kept p w t) (q, found.0)))
 
     -- by a stop, or by an allocation that is new
     by_own : is_own q ≡ true → something ≡ true → is_touched u then ≡ true

@@ -20,7 +20,8 @@ use Rattle.ns_types.specs.State.Tables.{map_rows}
 use Rattle.ns_types.specs.Settling.Making.{with_evaluation}
 use Rattle.ns_types.specs.Working.Commit.{Commit, Victim, begun, decide, done, new_allocation, node_name, nodes_in, place_all}
 use Rattle.ns_types.proofs.Elements.{each_of}
-use Rattle.ns_types.proofs.Gone.{evicted_row, gone_all, gone_in, gone_row, rows_gone, stopped_are, stopped_row}
+use Rattle.ns_types.specs.Settling.Gone.{gone_in, gone_row, rows_gone}
+use Rattle.ns_types.proofs.Gone.{evicted_row, gone_all, stopped_are, stopped_row}
 use Rattle.ns_types.proofs.Named.{names, numbers, one_name, one_number, same_name_refl}
 use Rattle.ns_types.proofs.Tables.{get-map_rows}
 use Rattle.ns_types.proofs.Tests.{not_Some, same_Some}
@@ -28,7 +29,8 @@ use Rattle.ns_applied.specs.Laws.{IsRestKept}
 use Rattle.ns_applied.specs.Parts.{IsForJob, IsNew, IsOutside, counted_rows, evicted, left_row, losers, losers_in, placed, placed_in}
 use Rattle.ns_headroom.specs.Applying.{places_on}
 use Rattle.ns_headroom.specs.Raising.{with_places}
-use Rattle.ns_applied.specs.Parts.{standing, stopped, stops, victims}
+use Rattle.ns_types.specs.Working.Parts.{stopped}
+use Rattle.ns_applied.specs.Parts.{standing, stops, victims}
 use Rattle.ns_applied.proofs.Deciding.{committed_there, decided_there, decided_world}
 use Rattle.ns_applied.proofs.Numbered.{added, added_outside, added_row, evaluations_added}
 use Rattle.ns_applied.proofs.Placing.{IsPlaced, is_placed, own_rows, placed_keeps, with_rows}

@@ -23,7 +23,8 @@ use Rattle.ns_types.specs.Working.Work.{with_worker, without_key}
 use Rattle.ns_types.specs.Working.Worker.{Worker}
 use Rattle.ns_headroom.specs.Applying.{places_on}
 use Rattle.ns_headroom.specs.Raising.{with_places}
-use Rattle.ns_headroom.specs.Releasing.{ends_at, lives_at}
+use Rattle.ns_types.specs.Working.Parts.{lives_at}
+use Rattle.ns_headroom.specs.Releasing.{ends_at}
 use Rattle.ns_applied.specs.Parts.{IsForJob, IsNew, IsOutside, applied_world, counted_rows, ended, evicted, left_row, losers_in, placed}
 use Rattle.ns_applied.specs.Parts.{placed_in, standing, stops, victims}
 

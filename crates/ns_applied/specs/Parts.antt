@@ -12,10 +12,11 @@ use Rattle.ns_types.specs.declared.records.Namespace.{Namespace}
 use Rattle.ns_types.specs.declared.snapshot.Snapshot.{Snapshot}
 use Rattle.ns_types.specs.Settling.Making.{change_tenant}
 use Rattle.ns_types.specs.State.Lists.{first_each}
-use Rattle.ns_types.specs.State.Names.{ByName, ByNumber, Key, Name, has_key, has_number, same_name}
+use Rattle.ns_types.specs.State.Names.{ByName, ByNumber, Key, Name, has_key, same_name}
 use Rattle.ns_types.specs.State.Rows.{PoolRows, Tenant, World}
 use Rattle.ns_types.specs.State.Tables.{map_rows}
-use Rattle.ns_types.specs.Working.Commit.{Applied, Victim, applied_worker, done, evicted_rows, live_stops, same_victim_job, stop_all}
+use Rattle.ns_types.specs.Working.Commit.{Applied, Victim, applied_worker, done, evicted_rows, same_victim_job}
+use Rattle.ns_types.specs.Working.Parts.{placed_on, stopped}
 use Rattle.ns_types.specs.Working.Work.{with_worker, without_key}
 use Rattle.ns_types.specs.Working.Worker.{Worker}
 use Rattle.ns_headroom.specs.Applying.{places_on}
@@ -40,11 +41,7 @@ ended kept p w t = stops kept p w t ++ victims kept p w t
 
 -- the placements of the nodes that do their part, in the order of the plan
 abbrev pub placed : Snapshot → Plan → World → Tenant → List Placement
-placed kept p w t = filter (λ q. has_number (done kept p w t).checked.committed q.node) p.placing.placements
-
--- the state after the stops
-abbrev pub stopped : Snapshot → Plan → World → Tenant → World
-stopped kept p w t = stop_all kept.namespace (live_stops t p.stops) w
+placed kept p w t = placed_on (done kept p w t).checked.committed p.placing.placements
 
 -- the victims with their rows, and of each job the first of them
 abbrev pub evicted : Snapshot → Plan → World → Tenant → List Victim

@@ -13,12 +13,14 @@ use Rattle.ns_types.specs.State.Rows.{World}
 use Rattle.ns_types.specs.Working.Commit.{Commit, accepts_at, begun, counts, decide, evict_all, node_name, part_of, size_of, victim_key}
 use Rattle.ns_types.specs.Working.Commit.{victims_in, victims_of}
 use Rattle.ns_types.proofs.Elements.{any_flat, any_map, any_same}
-use Rattle.ns_types.proofs.Gone.{evicted_are, evicted_row, rows_gone}
+use Rattle.ns_types.specs.Settling.Gone.{rows_gone}
+use Rattle.ns_types.proofs.Gone.{evicted_are, evicted_row}
 use Rattle.ns_types.proofs.Less.{counts_left, gone_alike}
 use Rattle.ns_types.proofs.Lists.{each, filter_none, not_both}
 use Rattle.ns_types.proofs.Once.{key_is}
 use Rattle.ns_types.proofs.Tests.{or_none}
-use Rattle.ns_apply.specs.Writing.{EvictingIsDeciding, evict_victims, placed_on}
+use Rattle.ns_types.specs.Working.Parts.{placed_on}
+use Rattle.ns_apply.specs.Writing.{EvictingIsDeciding, evict_victims}
 
 -- the allocations that the evictions name
 abbrev pub keys : List Eviction → List Key

@@ -18,7 +18,7 @@ use Rattle.ns_types.proofs.TableRows.{get_put}
 use Rattle.ns_types.proofs.Tests.{not_Some, same_Some}
 use Rattle.ns_change.specs.Changed.{HasAllocationLeft, HasPlaceLeft, change_pool, count_place}
 use Rattle.ns_apply.specs.Placing.{CanPlace, on_node}
-use Rattle.ns_apply.specs.Writing.{placed_on}
+use Rattle.ns_types.specs.Working.Parts.{placed_on}
 use Rattle.ns_change.proofs.Nothing.{pool_alone}
 
 -- a change of a namespace leaves the pools

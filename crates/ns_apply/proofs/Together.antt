@@ -15,8 +15,9 @@ use Rattle.ns_renewal.specs.Losing.{CanMakeUp, losing_in}
 use Rattle.ns_renewal.specs.Renewing.{SameJobs}
 use Rattle.ns_renewal.proofs.Stopped.{rows_before}
 use Rattle.ns_apply.specs.Placing.{CanPlace}
-use Rattle.ns_apply.specs.Whole.{CanWrite, IsCleared, stopped}
-use Rattle.ns_apply.specs.Writing.{evict_victims, placed_on}
+use Rattle.ns_apply.specs.Whole.{CanWrite, IsCleared}
+use Rattle.ns_types.specs.Working.Parts.{placed_on, stopped}
+use Rattle.ns_apply.specs.Writing.{evict_victims}
 use Rattle.ns_apply.proofs.Between.{can_still, evicted_keeps, placed_keeps, part_at, still_below, stopped_keeps}
 use Rattle.ns_apply.proofs.NodeByNode.{evicting_is_deciding}
 

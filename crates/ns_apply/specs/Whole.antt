@@ -4,14 +4,10 @@ use Rattle.ns_types.specs.declared.plan.Eviction.{Eviction}
 use Rattle.ns_types.specs.declared.plan.Plan.{Plan}
 use Rattle.ns_types.specs.declared.snapshot.Snapshot.{Snapshot}
 use Rattle.ns_types.specs.State.Rows.{Tenant, World}
-use Rattle.ns_types.specs.Working.Commit.{done, evict_all, evicted_rows, live_stops, stop_all, victims_of}
+use Rattle.ns_types.specs.Working.Commit.{done, evict_all, evicted_rows, victims_of}
 use Rattle.ns_renewal.specs.Losing.{CanMakeUp}
 use Rattle.ns_apply.specs.Placing.{CanPlace}
-use Rattle.ns_apply.specs.Writing.{placed_on}
-
--- the state after the stops of what is live
-abbrev pub stopped : Snapshot → Plan → World → Tenant → World
-stopped kept p w t = stop_all kept.namespace (live_stops t p.stops) w
+use Rattle.ns_types.specs.Working.Parts.{placed_on, stopped}
 
 -- those nodes do their part, and there are numbers and places for all that is new
 pub record CanWrite (kept : Snapshot) (p : Plan) (w : World) (t : Tenant) (nodes : List ℕ) : Type 0 where

@@ -1,16 +1,12 @@
 -- What is written of a plan, by the nodes that do their part.
-use Rattle.std.specs.Prelude.{◌≡◌, ℕ, List, filter, fold}
+use Rattle.std.specs.Prelude.{◌≡◌, ℕ, List, fold}
 use Rattle.ns_types.specs.declared.plan.Placement.{Placement}
 use Rattle.ns_types.specs.declared.snapshot.Snapshot.{Snapshot}
-use Rattle.ns_types.specs.State.Names.{has_number}
 use Rattle.ns_types.specs.State.Rows.{World}
 use Rattle.ns_types.specs.Working.Commit.{Commit, begun, decide, evict_all, victims_of}
+pub use Rattle.ns_types.specs.Working.Parts.{placed_on}
 
--- the placements on those nodes, in the order of the plan
-abbrev pub placed_on : List ℕ → List Placement → List Placement
-placed_on nodes placements = filter (λ p. has_number nodes p.node) placements
-
--- their evictions that count go
+-- the evictions of these placements that count go
 abbrev pub evict_victims : Snapshot → List Placement → World → World
 evict_victims kept placed w = evict_all w (victims_of w kept placed)
 

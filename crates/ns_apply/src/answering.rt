@@ -12,7 +12,7 @@ ghost use Rattle.ns_types.specs.declared.worker.Phase.TheVariants as Phase;
 ghost use Rattle.ns_types.specs.Working.Commit.{Applied, live_stops, names_in, node_name, numbers_after, tries_after};
 ghost use Rattle.ns_types.specs.Working.Work.{tries_for};
 ghost use Rattle.ns_apply.specs.Answering.{IsEffect, marked, with_name};
-ghost use Rattle.ns_apply.specs.Writing.{placed_on};
+ghost use Rattle.ns_types.specs.Working.Parts.{placed_on};
 ghost use Rattle.ns_change.specs.Changed.{Does};
 
 use crate::committed::Committed;

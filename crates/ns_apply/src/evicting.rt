@@ -2,7 +2,7 @@
 
 ghost use Rattle.std.specs.Prelude.{◌≡◌, ◌++◌, IfOk, OnOk, filter, map};
 ghost use Rattle.ns_types.specs.Working.Commit.{counts, evict_all, victims_in, victims_of};
-ghost use Rattle.ns_apply.specs.Writing.{placed_on};
+ghost use Rattle.ns_types.specs.Working.Parts.{placed_on};
 ghost use Rattle.ns_change.specs.Changed.{Does, view};
 
 use crate::committed::Committed;

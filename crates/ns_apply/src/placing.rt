@@ -3,7 +3,7 @@
 ghost use Rattle.std.specs.Prelude.{◌≡◌, ◌+◌, ◌<◌, ◌^◌, IfOk, Some};
 ghost use Rattle.ns_types.specs.Working.Commit.{group_name, new_allocation, node_name, place_all, place_one};
 ghost use Rattle.ns_apply.specs.Placing.{CanPlace};
-ghost use Rattle.ns_apply.specs.Writing.{placed_on};
+ghost use Rattle.ns_types.specs.Working.Parts.{placed_on};
 ghost use Rattle.ns_change.specs.Changed.{Does, HasAllocationLeft, HasPlaceLeft, view};
 
 use crate::committed::Committed;

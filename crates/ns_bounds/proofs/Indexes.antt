@@ -27,6 +27,7 @@ use Rattle.ns_change.specs.declared.change.TenantChange.{TenantChange}
 use Rattle.ns_change.specs.Changed.{changed, changed_tenant, perhaps, unchanged}
 use Rattle.ns_change.proofs.Opening.{unchanged_is}
 use Rattle.ns_change.proofs.Seen.{tenant_after}
+use Rattle.ns_bounds.proofs.Each.{split_last}
 use Rattle.ns_bounds.specs.Bounds.{is_at_bound, is_number_past, is_waking, passes_in, shows_awake, tenant_passes, tenants_pass}
 use Rattle.ns_release.specs.Released.{does_wake, released_quotas, released_rooms}
 use Rattle.ns_bounds.specs.Bounds.{pools_pass, quotas_pass, touches_asleep, waking_passes, waking_passes_in}
@@ -38,7 +39,7 @@ use Rattle.ns_types.proofs.Queue.{queues_keep}
 use Rattle.ns_release.proofs.Model.{woken_is}
 use Rattle.ns_release.proofs.Touched.{allocations_idle, jobs_touched}
 use Rattle.ns_release.proofs.Woken.{woken_tests}
-use Rattle.std.proofs.Math.Bool.{and_comm, and_assoc}
+use Rattle.std.proofs.Math.Bool.{and_comm, and_assoc, and-false, or-false}
 use Rattle.ns_types.proofs.Tests.{and_turned}
 use Rattle.ns_change.proofs.Listed.{any_filter}
 
@@ -79,21 +80,13 @@ module _ (ns : Name) (keys : List Key) where
         ∙ (λ i. at_keys (λ n e. changes_evaluation t n (pending e)) (over t.evaluations x.evaluations) i
         || any_row-over numbers one_number sleeps_shown t.evaluations x.evaluations idle i)
       where
-        or_none : (b : Bool) → b ≡ (b || false)
-        or_none true = refl
-        or_none false = refl
-
         by : (n : ℕ) (e : Evaluation) (b : Bool) → changes_evaluation t n (if b then pending e else e)
             ≡ ((b && changes_evaluation t n (pending e)) || (not b && changes_evaluation t n e))
-        by n e true = or_none _
+        by n e true = sym (or-false _)
         by n e false = refl
 
-        none : (b : Bool) → (b && false) ≡ false
-        none true = refl
-        none false = refl
-
         idle : (n : ℕ) (e : Evaluation) → get t.evaluations n ≡ Some e → contains_key x.evaluations n ≡ false → sleeps_shown n e ≡ false
-        idle n e is _ = ap (λ b. not (has_key keys (ns, n)) && b) (kept_evaluation t n e is) ∙ none (not (has_key keys (ns, n)))
+        idle n e is _ = ap (λ b. not (has_key keys (ns, n)) && b) (kept_evaluation t n e is) ∙ and-false (not (has_key keys (ns, n)))
 
     abbrev sleeps : Bool
     sleeps = list_any (λ e. changes_job_row t e.0 e.1) (entries x.jobs) || list_any (at_slot (λ e. sleeps_shown e.0 e.1)) (entries x.evaluations)
@@ -109,11 +102,7 @@ module _ (ns : Name) (keys : List Key) where
         by false true true a = refl
         by false true false true = refl
         by false true false false = refl
-        by false false s a = or_none ((s || a))
-          where
-            or_none : (b : Bool) → b ≡ (b || false)
-            or_none true = refl
-            or_none false = refl
+        by false false s a = sym (or-false (s || a))
 
 -- ---- past the bound
 
@@ -164,11 +153,6 @@ module _ (ns : Name) (keys : List Key) (t : Tenant) (within : is_tenant_past_bou
   nothing_touched = ap (λ u. is_touched t (unblocked_in keys ns u)) (sym (unchanged_is t)) ∙ awake_touched ns keys t (unchanged t)
       ∙ (λ i. no_entry i || list_any (λ k. same_name ns k.0 && shows_awake t k.1 (get (unchanged_is t i).evaluations k.1)) keys)
 
-  split : (n b s k : Bool) → (n || (b && (s || k))) ≡ ((n || (b && s)) || (b && k))
-  split true b s k = refl
-  split false true s k = refl
-  split false false s k = refl
-
   past_after : (x : Option TenantChange) → is_tenant_past_bound (stamp_tenant (Some t) (unblocked_in keys ns (perhaps changed_tenant x t)))
       ≡ (change_passes x || (is_at_bound t.index && waking_in x))
   past_after None = stamped_past t (unblocked_in keys ns t) (left_none _ _ (left_none _ _ within))
@@ -177,7 +161,7 @@ module _ (ns : Name) (keys : List Key) (t : Tenant) (within : is_tenant_past_bou
       || (is_at_bound t.index && nothing_touched i))
   past_after (Some x) = stamped_past t (awake ns keys t x) (left_none _ _ (left_none _ _ within))
       ∙ ap (λ b. is_number_past x || (is_at_bound t.index && b)) (awake_touched ns keys t x)
-      ∙ split (is_number_past x) (is_at_bound t.index) (sleeps ns keys t x) (waking_in (Some x))
+      ∙ split_last (is_number_past x) (is_at_bound t.index) (sleeps ns keys t x) (waking_in (Some x))
 
 -- ---- all namespaces
 
@@ -244,13 +228,9 @@ module _ (w : World) (c : Change) where
       ∙ any_filter (λ k. option_map_or (shown_at k k.0) (get w.tenants k.0) false) (does_wake w c) w.blocked
       ∙ any_alike _ (waking_passes w c) w.blocked (each _ (λ k. by k (get w.tenants k.0) refl) w.blocked)
     where
-      none : (b : Bool) → (b && false) ≡ false
-      none true = refl
-      none false = refl
-
       by : (k : Key) (t : Option Tenant) → get w.tenants k.0 ≡ t → (does_wake w c k && option_map_or (shown_at k k.0) t false)
           ≡ option_map_or (waking_passes_in w c k) t false
-      by k None is = none (does_wake w c k)
+      by k None is = and-false (does_wake w c k)
       by k (Some t) is = and_turned (does_wake w c k) (is_at_bound t.index) _ ∙ ap (λ row. is_at_bound t.index && (does_wake w c k && shows_awake t k.1 row))
           (sym (ap (option_and_then (λ t. get t.evaluations k.1)) (tenant_after w c k.0 ∙ ap (option_map (perhaps changed_tenant (row_at c.tenants k.0))) is)))
 

@@ -1,5 +1,6 @@
 pub mod Alone
 pub mod Bounded
+pub mod Each
 pub mod GivenLimits
 pub mod GivenRoom
 pub mod Indexes

@@ -9,12 +9,13 @@ use Rattle.ns_types.specs.State.Rows.{World, Tenant, is_live_on}
 use Rattle.ns_types.specs.State.Tables.{map_rows}
 use Rattle.ns_types.proofs.Named.{names, one_name, numbers, one_number}
 use Rattle.ns_types.proofs.Tables.{get-map_rows}
-use Rattle.ns_change.specs.Gone.{lost_row, rows_gone, gone_row, gone_in}
+use Rattle.ns_types.specs.Settling.Gone.{gone_in, gone_row, rows_gone}
+use Rattle.ns_change.specs.Gone.{lost_row}
 use Rattle.ns_types.proofs.Gone.{gone_all}
 
 -- ---- a node that goes down
 
-abbrev lost_rows : Name → Name → Tenant → Tenant
+abbrev pub lost_rows : Name → Name → Tenant → Tenant
 lost_rows pool node t = record t { allocations = map_rows (λ _ a. lost pool node a) t.allocations }
 
 -- keys of a node's live allocations, all of them and no others
@@ -22,7 +23,7 @@ abbrev pub IsLiveSet : World → Name → Name → List Key → Type 0
 IsLiveSet w pool node keys = (ns : Name) (t : Tenant) (n : ℕ) (a : Allocation) → get w.tenants ns ≡ Some t → get t.allocations n ≡ Some a →
     has_key keys (ns, n) ≡ is_live_on pool node a
 
-pub lost_are : (w : World) (pool node : Name) (keys : List Key) → IsLiveSet w pool node keys → lose pool node w ≡ rows_gone lost_row keys w
+pub lost_are : (w : World) (pool node : Name) (keys : List Key) → IsLiveSet w pool node keys → lose pool node w ≡ rows_gone lost_row w keys
 lost_are w pool node keys is = (λ i. record w { tenants = tenants_are i })
     ∙ sym (gone_all lost_row (λ a. refl) keys w)
   where

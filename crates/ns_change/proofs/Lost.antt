@@ -18,7 +18,8 @@ use Rattle.ns_types.proofs.Tests.{same_Some}
 use Rattle.ns_world.specs.declared.tables.Tables.{Tables}
 use Rattle.ns_world.specs.declared.tables.TenantRows.{TenantRows}
 use Rattle.ns_world.specs.World.{tenant_of, world_of}
-use Rattle.ns_change.specs.Gone.{live_key, live_keys, live_keys_in, lost_row, rows_gone}
+use Rattle.ns_types.specs.Settling.Gone.{rows_gone}
+use Rattle.ns_change.specs.Gone.{live_key, live_keys, live_keys_in, lost_row}
 use Rattle.ns_types.proofs.Elements.{any_flat}
 use Rattle.ns_change.proofs.Gone.{IsLiveSet, lost_are}
 
@@ -71,6 +72,6 @@ module _ (pool node : Name) where
       by false out = any_row-none names one_name (λ ns' y. any_row (is_it (ns, n) ns') y.allocations) (world_of t).tenants
           (λ ns' y at'. any_row-none numbers one_number (is_it (ns, n) ns') y.allocations (λ n' a' there'. other ns' y at' n' a' there' out _ refl))
 
-  pub lose_is : (t : Tables) (w : World) → w.tenants ≡ (world_of t).tenants → rows_gone lost_row (live_keys pool node t) w ≡ lose pool node w
+  pub lose_is : (t : Tables) (w : World) → w.tenants ≡ (world_of t).tenants → rows_gone lost_row w (live_keys pool node t) ≡ lose pool node w
   lose_is t w same = sym (lost_are w pool node (live_keys pool node t)
       (λ ns x n a at. live_set t ns x n a (sym (ap (λ m. get m ns) same) ∙ at)))

@@ -4,7 +4,8 @@ ghost use Rattle.std.specs.Prelude.{◌≡◌, ◌++◌, flat_map, IfOk, OnOk};
 ghost use Rattle.ns_types.specs.Asking.Nodes.{lose};
 ghost use Rattle.ns_types.specs.State.Rows.{is_live, is_live_on};
 ghost use Rattle.ns_change.specs.Changed.{Does, view};
-ghost use Rattle.ns_change.specs.Gone.{live_key, live_keys, live_keys_in, lost_row, rows_gone};
+ghost use Rattle.ns_types.specs.Settling.Gone.{rows_gone};
+ghost use Rattle.ns_change.specs.Gone.{live_key, live_keys, live_keys_in, lost_row};
 ghost use Rattle.ns_world.specs.World.{world_of};
 
 use crate::change::Change;
@@ -103,7 +104,7 @@ fn live_keys(tables: &Tables, pool: &Text, node: &Text) -> Result<Rows<EvalKey>,
 }
 
 fn lose_each(tables: &Tables, change: &mut Change, keys: &[EvalKey]) -> Result<(), AllocError>
-    ensures { Does result tables.now change.old change.new (rows_gone lost_row keys.now) }
+    ensures { Does result tables.now change.old change.new (λ w. rows_gone lost_row w keys.now) }
 {
     for key in keys {
         set_client(tables, change, key, ClientStatus::Lost)?;

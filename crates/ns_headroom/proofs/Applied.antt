@@ -23,16 +23,14 @@ use Rattle.ns_types.proofs.Tables.{none_of_any}
 use Rattle.ns_release.proofs.Rooms.{any_row-at}
 use Rattle.ns_bounds.specs.Bounds.{is_at_bound}
 use Rattle.ns_bounds.proofs.Bounded.{any_named, any_row-either, any_with, any_chosen}
-use Rattle.ns_headroom.specs.Applying.{Doing, PassesByApply, apply_raise, does_something, ended_keys, evaluations_pass, goes_to, is_last_index}
+use Rattle.ns_types.specs.Working.Parts.{goes_to}
+use Rattle.ns_headroom.specs.Applying.{Doing, PassesByApply, apply_raise, does_something, ended_keys, evaluations_pass, is_last_index}
 use Rattle.ns_headroom.specs.Applying.{losing_in, own_passes, own_passes_in, place_passes, place_passes_on, places_on, stop_passes, victim_key}
 use Rattle.ns_headroom.specs.Passing.{end_passes}
 use Rattle.ns_headroom.specs.Raising.{places_pass, raises_pass}
+use Rattle.ns_headroom.proofs.Ended.{and_moved}
 use Rattle.ns_headroom.proofs.Raised.{counts_pass}
 use Rattle.std.proofs.Math.Bool.{and-false}
-
-and_moved : (a b c : Bool) → ((a && b) && c) ≡ (b && (a && c))
-and_moved true b c = refl
-and_moved false b c = sym (and-false b)
 
 -- the row at a name, where it passes
 at_owner : {X : Type 0} (name : Name) (p : X → Bool) (m : ByName X) → any_row (λ q x. same_name q name && p x) m ≡ option_map_or p (get m name) false

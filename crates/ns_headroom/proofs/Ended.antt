@@ -28,9 +28,14 @@ use Rattle.ns_types.proofs.Tests.{or_none}
 use Rattle.ns_release.specs.Released.{at_room, quota_left, releases_wake, releases_wake_at, room_at, room_left, woken_by}
 use Rattle.ns_release.proofs.Rooms.{any_and, any_image, any_none, any_row-at, any_swap}
 use Rattle.ns_bounds.proofs.Bounded.{any_named, any_with}
-use Rattle.ns_headroom.specs.Releasing.{EndsAlone, lives_at}
+use Rattle.ns_types.specs.Working.Parts.{lives_at}
+use Rattle.ns_headroom.specs.Releasing.{EndsAlone}
 use Rattle.ns_headroom.proofs.Keys.{any_row-keys}
-use Rattle.std.proofs.Math.Bool.{and-false}
+use Rattle.std.proofs.Math.Bool.{and-false, and-true}
+
+pub and_moved : (a b c : Bool) → ((a && b) && c) ≡ (b && (a && c))
+and_moved true b c = refl
+and_moved false b c = sym (and-false b)
 
 -- the allocation at a key, with its namespace's record
 abbrev pub told_at : World → Key → Option (Namespace × Allocation)
@@ -68,11 +73,7 @@ module _ (w x : World) (keys : List Key) (only : EndsAlone w x keys) where
       passes_at t k = option_map_or (passes t.namespace) (get t.allocations k.1) false
 
       turned : (l p e : Bool) → (l && p && e) ≡ ((l && e) && p)
-      turned true true e = sym (and_true e)
-        where
-          and_true : (b : Bool) → (b && true) ≡ b
-          and_true true = refl
-          and_true false = refl
+      turned true true e = sym (and-true e)
       turned true false e = sym (and-false e)
       turned false p e = refl
 
@@ -181,15 +182,11 @@ module _ (w x : World) (keys : List Key) (only : EndsAlone w x keys) where
 
       on_node : (e : Namespace × Allocation) → any_row (λ n node. is_on name n e.0 e.1 && serves node) p.nodes ≡ left_on (Some p) e
       on_node e = any_row-alike names one_name _ (λ n node. same_name e.1.node n && (same_name name e.1.pool && serves node)) p.nodes
-          (λ n node _. turned (same_name name e.1.pool) (same_name n e.1.node) (serves node)
+          (λ n node _. and_moved (same_name name e.1.pool) (same_name n e.1.node) (serves node)
           ∙ ap (λ b. b && (same_name name e.1.pool && serves node)) ((eq_by_cmp_equiv names).symm n e.1.node))
           ∙ any_row-at names one_name e.1.node (λ _ node. same_name name e.1.pool && serves node) p.nodes
           ∙ by (same_name name e.1.pool) (get p.nodes e.1.node)
         where
-          turned : (a b c : Bool) → ((a && b) && c) ≡ (b && (a && c))
-          turned true b c = refl
-          turned false b c = sym (and-false b)
-
           by : (b : Bool) (o : Option Node) → option_map_or (λ node. b && serves node) o false ≡ (b && option_map_or serves o false)
           by true o = refl
           by false None = refl

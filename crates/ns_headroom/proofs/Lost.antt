@@ -15,7 +15,8 @@ use Rattle.ns_types.specs.Working.Commit.{counts, evicted_rows, node_name, victi
 use Rattle.ns_types.proofs.Elements.{any_flat, any_same}
 use Rattle.std.proofs.Math.Bool.{and_comm}
 use Rattle.ns_headroom.specs.Applying.{victim_passes}
-use Rattle.ns_headroom.specs.Judging.{eviction_passes, evictions_pass_at, placed_on}
+use Rattle.ns_types.specs.Working.Parts.{placed_on}
+use Rattle.ns_headroom.specs.Judging.{eviction_passes, evictions_pass_at}
 use Rattle.ns_change.proofs.Listed.{any_filter}
 
 any_mapped : {A B : Type 0} (f : B → Bool) (h : A → Option B) (xs : List A) → list_any f (filter_map h xs) ≡ list_any (λ x. option_map_or f (h x) false) xs

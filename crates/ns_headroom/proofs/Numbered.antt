@@ -1,6 +1,7 @@
 -- Release numbers and numbers of places, once such a step has settled.
 use Rattle.std.specs.Prelude.{◌≡◌, Bool, true, false, ◌&&◌, ◌||◌, List, [], ◌∷◌, Option, Some, None, is_some, nat_lt, option_map}
 use Rattle.std.proofs.Common.{refl, sym, ap, ◌∙◌}
+use Rattle.std.proofs.Math.Bool.{and-true}
 use Rattle.std.specs.Option.{option_map_or}
 use Rattle.std.specs.List.{list_any}
 use Rattle.std.specs.FinMap.{get}
@@ -76,15 +77,11 @@ module _ (w x : World) (keys : List Key) (only : EndsAlone w x keys) where
       ∙ any_row-alike names one_name _ (λ name p. (list_any (λ r. same_name name r.0) (rooms w x keys only) && is_at_bound p.release) || placed p) x.pools
       (λ name p is. released_past p (there within name p is) (released_classes w x name p)
       ∙ ap (λ b. (b && is_at_bound p.release) || placed p) (pool_is w x keys only name (λ _. true) p is
-      ∙ any_same _ (λ r. same_name name r.0) (λ r. and_true (same_name name r.0)) (rooms w x keys only)))
+      ∙ any_same _ (λ r. same_name name r.0) (λ r. and-true (same_name name r.0)) (rooms w x keys only)))
       ∙ any_row-either (λ name p. list_any (λ r. same_name name r.0) (rooms w x keys only) && is_at_bound p.release) (λ _ p. placed p) x.pools
       ∙ ap (λ b. b || places_past x) (any_chosen (λ r. r.0) (λ p. is_at_bound p.release) x.pools (rooms w x keys only)
       ∙ any_same _ (room_passes w) (λ r. by (get x.pools r.0) (get w.pools r.0) (only.releases r.0)) (rooms w x keys only))
     where
-      and_true : (b : Bool) → (b && true) ≡ b
-      and_true true = refl
-      and_true false = refl
-
       release : (o : Option PoolRows) → option_map_or (λ (p : PoolRows). is_at_bound p.release) o false
           ≡ option_map_or is_at_bound (option_map (λ (p : PoolRows). p.release) o) false
       release None = refl

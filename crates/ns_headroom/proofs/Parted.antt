@@ -15,6 +15,7 @@ use Rattle.ns_types.proofs.Tests.{or_none}
 use Rattle.ns_release.specs.Released.{at_room, releases_wake_at, woken_by}
 use Rattle.ns_release.proofs.Rooms.{any_and, any_none, any_swap}
 use Rattle.ns_release.proofs.Together.{wakes_by_each, wakes_by_quotas}
+use Rattle.ns_bounds.proofs.Each.{split_middle}
 use Rattle.ns_bounds.specs.Bounds.{is_at_bound, quota_passes, room_passes, shows_awake}
 use Rattle.ns_bounds.specs.Given.{given_limits_pass, given_room_passes, given_waking_passes, given_waking_passes_in}
 use Rattle.ns_bounds.proofs.Bounded.{any_with}
@@ -48,14 +49,6 @@ module _ (w : World) where
     each_passes : (key : Key) → given_waking_passes w rooms quotas key ≡ (list_any (λ r. by_room r key) rooms || list_any (λ q. by_quota q key) quotas)
     each_passes key = by (get w.tenants key.0)
       where
-        split : (b a c s : Bool) → (b && ((a || c) && s)) ≡ ((b && (a && s)) || (b && (c && s)))
-        split true true true true = refl
-        split true true true false = refl
-        split true true false true = refl
-        split true true false false = refl
-        split true false c s = refl
-        split false a c s = refl
-
         under : {A : Type 0} (b s : Bool) (f : A → Bool) (xs : List A) → (b && (list_any f xs && s)) ≡ list_any (λ x. b && (f x && s)) xs
         under b s f xs = ap (λ c. b && c) (any_with f s xs) ∙ any_and b (λ x. f x && s) xs
 
@@ -64,7 +57,7 @@ module _ (w : World) where
             || list_any (λ q. option_map_or (given_waking_passes_in w [] (q ∷ []) key) o false) quotas)
         by None = sym (λ i. any_none rooms i || any_none quotas i)
         by (Some t) = ap (λ b. is_at_bound t.index && (b && shows_awake t key.1 (evaluation_at w key))) (each_wakes key)
-            ∙ split (is_at_bound t.index) (list_any (λ r. releases_wake_at w (r ∷ []) [] key) rooms) (list_any (λ q. releases_wake_at w [] (q ∷ []) key) quotas)
+            ∙ split_middle (is_at_bound t.index) (list_any (λ r. releases_wake_at w (r ∷ []) [] key) rooms) (list_any (λ q. releases_wake_at w [] (q ∷ []) key) quotas)
             (shows_awake t key.1 (evaluation_at w key))
             ∙ (λ i. under (is_at_bound t.index) (shows_awake t key.1 (evaluation_at w key)) (λ r. releases_wake_at w (r ∷ []) [] key) rooms i
             || under (is_at_bound t.index) (shows_awake t key.1 (evaluation_at w key)) (λ q. releases_wake_at w [] (q ∷ []) key) quotas i)

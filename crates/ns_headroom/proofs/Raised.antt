@@ -1,6 +1,7 @@
 -- Of a step that counts, the counters after it, by the state before it.
 use Rattle.std.specs.Prelude.{◌≡◌, ℕ, ◌+◌, Bool, true, false, ◌&&◌, ◌||◌, List, Option, Some, None, is_some, nat_lt, option_map}
 use Rattle.std.proofs.Common.{refl, sym, ap, ◌∙◌, Ordering}
+use Rattle.std.proofs.Math.Bool.{or-false}
 use Rattle.std.specs.Cmp.{IsTotalOrder}
 use Rattle.std.specs.Option.{option_and_then, option_map_or}
 use Rattle.std.specs.List.{list_any}
@@ -137,8 +138,4 @@ counts_pass w x keys raise places within only raises = ends_pass w x keys within
     turned true p i e = refl
     turned false true true e = refl
     turned false true false e = refl
-    turned false false i e = sym (ap (λ b. b || e) (or_none i))
-      where
-        or_none : (b : Bool) → (b || false) ≡ b
-        or_none true = refl
-        or_none false = refl
+    turned false false i e = sym (ap (λ b. b || e) (or-false i))

@@ -1,6 +1,7 @@
 -- Rows by which a namespace is touched.
 use Rattle.std.specs.Prelude.{◌≡◌, ℕ, Bool, true, false, not, ◌&&◌, ◌||◌, Some, None, codes}
 use Rattle.std.proofs.Common.{refl, sym, ap, ◌∙◌}
+use Rattle.std.proofs.lemmas.Bool.{or_right}
 use Rattle.std.specs.FinMap.{get}
 use Rattle.ns_types.specs.declared.allocation.Allocation.{Allocation}
 use Rattle.ns_types.specs.declared.allocation.ClientStatus.{ClientStatus}
@@ -50,13 +51,9 @@ ended_shown a b live dead = by (same_allocation a b) refl
 
 module _ (t u : Tenant) (n : ℕ) (b : Allocation) (there : get u.allocations n ≡ Some b) where
   by_row : changes_allocation t n b ≡ true → is_touched t u ≡ true
-  by_row changed = last (any_row (λ id _. changes_job t u id) u.jobs || any_row (λ id _. changes_job t u id) t.jobs
+  by_row changed = or_right (any_row (λ id _. changes_job t u id) u.jobs || any_row (λ id _. changes_job t u id) t.jobs
       || any_row (changes_evaluation t) u.evaluations) _
       (some_row numbers one_number (changes_allocation t) u.allocations n b there changed)
-    where
-      last : (p q : Bool) → q ≡ true → (p || q) ≡ true
-      last true q e = refl
-      last false q e = e
 
   -- one of its allocations ended
   pub touched_by_end : (a : Allocation) → get t.allocations n ≡ Some a → is_live a ≡ true → is_live b ≡ false → is_touched t u ≡ true

@@ -23,6 +23,7 @@ use Rattle.ns_types.proofs.Tables.{none_of_any}
 use Rattle.ns_types.proofs.Tests.{and_turned, or_none, same_Some}
 use Rattle.ns_release.specs.Released.{releases_wake_at}
 use Rattle.ns_release.proofs.Rooms.{any_and}
+use Rattle.ns_bounds.proofs.Each.{split_last}
 use Rattle.ns_bounds.specs.Bounds.{is_at_bound, shows_awake}
 use Rattle.ns_bounds.specs.Given.{given_waking_passes, given_waking_passes_in}
 use Rattle.ns_bounds.proofs.Bounded.{any_named, any_row-either, any_row-mapped}
@@ -163,15 +164,10 @@ module _ (w x : World) (keys : List Key) (only : EndsAlone w x keys) where
         ∙ stamped_past t (unblocked_in awake ns u)
         (ap (nat_lt greatest) index ∙ left_none _ _ (left_none _ _ (none_of_any one_name (λ _ t. is_tenant_past_bound t) w.tenants ns t within is)))
         ∙ ap (λ b. is_number_past u || (is_at_bound t.index && b)) (awake_touched t u ns awake (asleep t is))
-        ∙ split (is_number_past u) (is_at_bound t.index) (is_touched t u)
+        ∙ split_last (is_number_past u) (is_at_bound t.index) (is_touched t u)
         (list_any (λ k. same_name ns k.0 && shows_awake t k.1 (get u.evaluations k.1)) awake)
         ∙ (λ i. (is_number_past u || option_map_or (λ old. is_at_bound old.index && is_touched old u) (sym is i) false) || waking t is i)
       where
-        split : (n b s k : Bool) → (n || (b && (s || k))) ≡ ((n || (b && s)) || (b && k))
-        split true b s k = refl
-        split false true s k = refl
-        split false false s k = refl
-
         asleep : (t : Tenant) → get w.tenants ns ≡ Some t → (n : ℕ) → has_key awake (ns, n) ≡ true → get u.evaluations n ≡ get t.evaluations n
         asleep t is n wakes = sym (ap (option_and_then (λ (t : Tenant). get t.evaluations n)) at) ∙ only.asleep (ns, n) (was_blocked (ns, n) wakes)
             ∙ ap (option_and_then (λ (t : Tenant). get t.evaluations n)) is

@@ -14,6 +14,7 @@ use Rattle.ns_types.specs.State.Rows.{World, Tenant, node_at}
 use Rattle.ns_types.specs.State.Tables.{any_row}
 use Rattle.ns_types.specs.Steps.{greatest, is_past_bound}
 use Rattle.ns_types.specs.Working.Commit.{Victim, node_name, same_victim_job}
+use Rattle.ns_types.specs.Working.Parts.{goes_to}
 use Rattle.ns_bounds.specs.Bounds.{is_at_bound}
 use Rattle.ns_headroom.specs.Passing.{end_passes}
 use Rattle.ns_headroom.specs.Raising.{Raise, Raises}
@@ -49,10 +50,6 @@ apply_raise kept d ns = record {
   allocations = if same_name ns kept.namespace then length d.placed else 0;
   touched = (same_name ns kept.namespace && does_something d) || has_name (map (λ v. v.0) d.victims) ns;
 }
-
--- a placement on the node
-abbrev pub goes_to : Snapshot → Name → Name → Placement → Bool
-goes_to kept pool name p = same_name pool kept.pool && same_name name (node_name kept p.node)
 
 abbrev pub places_on : Snapshot → List Placement → Name → Name → ℕ
 places_on kept placed pool name = length (filter (goes_to kept pool name) placed)

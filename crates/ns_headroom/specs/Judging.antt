@@ -7,14 +7,15 @@ use Rattle.ns_types.specs.declared.plan.Eviction.{Eviction}
 use Rattle.ns_types.specs.declared.plan.Placement.{Placement}
 use Rattle.ns_types.specs.declared.plan.Plan.{Plan}
 use Rattle.ns_types.specs.declared.snapshot.Snapshot.{Snapshot}
-use Rattle.ns_types.specs.State.Names.{Name, has_number}
+use Rattle.ns_types.specs.State.Names.{Name}
 use Rattle.ns_types.specs.State.Rows.{World, node_at}
 use Rattle.ns_types.specs.Steps.{greatest}
 use Rattle.ns_types.specs.Working.Commit.{counts, evicted_rows, node_name, stop_all}
 use Rattle.ns_headroom.specs.Applying.{Doing, is_last_index, own_passes, place_passes, place_passes_on, stop_passes}
 use Rattle.ns_headroom.specs.Applying.{victim_passes}
 use Rattle.ns_headroom.specs.Passing.{end_passes}
-use Rattle.ns_headroom.specs.Releasing.{lives_at}
+use Rattle.ns_types.specs.Working.Parts.{lives_at}
+pub use Rattle.ns_types.specs.Working.Parts.{placed_on}
 
 -- the index of a namespace with a blocked evaluation is at its bound
 abbrev pub any_last_index : World → Bool
@@ -33,9 +34,6 @@ node_passes w pool name count =
 
 abbrev pub live_numbers : World → Name → List ℕ → List ℕ
 live_numbers w ns numbers = filter (λ n. lives_at w (ns, n)) numbers
-
-abbrev pub placed_on : List ℕ → List Placement → List Placement
-placed_on committed placements = filter (λ p. has_number committed p.node) placements
 
 abbrev pub doing : World → Snapshot → Plan → List ℕ → Doing
 doing w kept p committed =

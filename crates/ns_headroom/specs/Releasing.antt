@@ -5,10 +5,8 @@ use Rattle.std.specs.FinMap.{get}
 use Rattle.ns_types.specs.declared.node.Node.{Node}
 use Rattle.ns_types.specs.Settling.Releases.{same_offer}
 use Rattle.ns_types.specs.State.Names.{Name, Key, has_key}
-use Rattle.ns_types.specs.State.Rows.{World, allocation_at, evaluation_at, is_free, is_live, node_at}
-
-abbrev pub lives_at : World → Key → Bool
-lives_at w key = option_map_or is_live (allocation_at w key) false
+use Rattle.ns_types.specs.State.Rows.{World, evaluation_at, is_free, node_at}
+use Rattle.ns_types.specs.Working.Parts.{lives_at}
 
 -- it was live before the step, and is not after it
 abbrev pub ends_at : World → World → Key → Bool

@@ -7,8 +7,8 @@ ghost use Rattle.ns_types.specs.Steps.{is_past_bound};
 ghost use Rattle.ns_types.specs.Working.Commit.{node_name};
 ghost use Rattle.ns_headroom.specs.Applying.{does_something, own_passes, place_passes, stop_passes};
 ghost use Rattle.ns_headroom.specs.Judging.{allocations_pass, committed_passes, doing, live_numbers};
-ghost use Rattle.ns_headroom.specs.Judging.{own_part_passes, placed_on};
-ghost use Rattle.ns_headroom.specs.Releasing.{lives_at};
+ghost use Rattle.ns_types.specs.Working.Parts.{lives_at, placed_on};
+ghost use Rattle.ns_headroom.specs.Judging.{own_part_passes};
 
 use crate::ending::Headroom;
 use ns_marks::Marked;

@@ -11,7 +11,7 @@ ghost use Rattle.ns_bounds.specs.Given.{given_limits_pass, given_room_passes};
 ghost use Rattle.ns_headroom.specs.Applying.{is_last_index};
 ghost use Rattle.ns_headroom.specs.Judging.{allocations_pass, any_last_index, eviction_passes, node_passes};
 ghost use Rattle.ns_headroom.specs.Passing.{end_passes, left_quota_passes, left_room_passes};
-ghost use Rattle.ns_headroom.specs.Releasing.{lives_at};
+ghost use Rattle.ns_types.specs.Working.Parts.{lives_at};
 ghost use Rattle.ns_world.specs.World.{world_of};
 
 use ns_alike::is_free;

@@ -16,8 +16,10 @@ use Rattle.ns_types.specs.State.Resources.{minus, none, same_resources}
 use Rattle.ns_types.specs.State.Rows.{Tenant, World, allocation_at, is_live, is_live_on, node_at}
 use Rattle.ns_types.specs.State.Sums.{names_quota, node_load, quota_use}
 use Rattle.ns_types.specs.Working.Commit.{counts, quota_named, stop_all, victim_key}
+use Rattle.ns_types.specs.Working.Parts.{lives_at}
 use Rattle.ns_types.proofs.Elements.{any_kept, any_map, any_under, filter_map}
-use Rattle.ns_types.proofs.Gone.{rows_gone, stopped_are, stopped_row}
+use Rattle.ns_types.specs.Settling.Gone.{rows_gone}
+use Rattle.ns_types.proofs.Gone.{stopped_are, stopped_row}
 use Rattle.ns_types.proofs.Less.{nodes_stay, quotas_stay, allocation_then, gone_alike, load_less, named_stays, use_less}
 use Rattle.ns_types.proofs.Lists.{not_both}
 use Rattle.ns_types.proofs.Named.{first_of_both, one_number, same_name_refl, second_of_both}
@@ -48,21 +50,17 @@ live_stopped w ns stops key = ap (λ x. live_at x key) (stopped_are ns stops w)
     by (Some a) true = refl
     by (Some a) false = refl
 
--- whether the allocation at the key is live
-abbrev lives : World → Key → Bool
-lives w key = option_map_or is_live (allocation_at w key) false
-
 module _ (w : World) (ns : Name) (stops : List ℕ) where
-  counted_are : stop_keys ns (counted_stops w ns stops) ≡ filter (lives w) (stop_keys ns stops)
-  counted_are = sym (filter_map (lives w) (λ n. (ns, n)) stops)
+  counted_are : stop_keys ns (counted_stops w ns stops) ≡ filter (lives_at w) (stop_keys ns stops)
+  counted_are = sym (filter_map (lives_at w) (λ n. (ns, n)) stops)
 
   pub live_after : (key : Key) → live_at (after_stops w ns stops) key ≡ cond (has_key (stop_keys ns stops) key) None (live_at w key)
   live_after key = live_stopped w ns (counted_stops w ns stops) key ∙ ap (λ b. cond b None (live_at w key)) counted_has
       ∙ by (has_key (stop_keys ns stops) key) (allocation_at w key)
     where
-      counted_has : has_key (stop_keys ns (counted_stops w ns stops)) key ≡ (has_key (stop_keys ns stops) key && lives w key)
+      counted_has : has_key (stop_keys ns (counted_stops w ns stops)) key ≡ (has_key (stop_keys ns stops) key && lives_at w key)
       counted_has = ap (λ l. has_key l key) counted_are
-          ∙ any_kept (same_key key) (lives w) (lives w key) (λ k e. ap (lives w) (sym (key_is key k e))) (stop_keys ns stops)
+          ∙ any_kept (same_key key) (lives_at w) (lives_at w key) (λ k e. ap (lives_at w) (sym (key_is key k e))) (stop_keys ns stops)
 
       row : (a : Allocation) (l : Bool) → cond l None (cond l (Some a) None) ≡ None
       row a true = refl
@@ -151,16 +149,16 @@ first_less whole part b = by (same_resources part none) refl b
 -- ---- what an allocation takes
 
 module _ (amount : Resources → ℕ) (nothing : amount none ≡ 0) where
+  sized : (a : Allocation) (b : Bool) → cond b (amount a.size) 0 ≡ amount (cond b a.size none)
+  sized a true = refl
+  sized a false = sym nothing
+
   pub on_node : (w : World) (pool node : Name) (k : Key) → node_part w pool node amount k ≡ amount (part_on pool node (allocation_at w k))
   on_node w pool node k = by (get w.tenants k.0)
     where
       row : (r : Option Allocation) → option_map_or (row_size (is_live_on pool node) amount) r 0 ≡ amount (part_on pool node r)
       row None = sym nothing
-      row (Some a) = sized (is_live_on pool node a)
-        where
-          sized : (b : Bool) → cond b (amount a.size) 0 ≡ amount (cond b a.size none)
-          sized true = refl
-          sized false = sym nothing
+      row (Some a) = sized a (is_live_on pool node a)
 
       by : (o : Option Tenant) → option_map_or (λ t. size_at (is_live_on pool node) amount t k.1) o 0 ≡
           amount (part_on pool node (option_and_then (λ t. get t.allocations k.1) o))
@@ -173,11 +171,7 @@ module _ (amount : Resources → ℕ) (nothing : amount none ≡ 0) where
       row : (named : Bool) (r : Option Allocation) → cond named (option_map_or (row_size is_live amount) r 0) 0 ≡ amount (part_of_quota named r)
       row true None = sym nothing
       row false None = sym nothing
-      row true (Some a) = sized (is_live a)
-        where
-          sized : (b : Bool) → cond b (amount a.size) 0 ≡ amount (cond b a.size none)
-          sized true = refl
-          sized false = sym nothing
+      row true (Some a) = sized a (is_live a)
       row false (Some a) = sym nothing
 
       by : (o : Option Tenant) → option_map_or (λ t. cond (names_quota quota t.namespace) (size_at is_live amount t k.1) 0) o 0 ≡
@@ -281,12 +275,12 @@ module _ (w : World) (ns : Name) (stops : List ℕ) where
 module _ (w : World) (ns : Name) (stops : List ℕ) where
   pub load_after : (pool node : Name) → node_load (after_stops w ns stops) pool node ≡ load_left w pool node (once (stop_keys ns stops))
   load_after pool node = load_stopped w ns (counted_stops w ns stops) pool node ∙ ap (λ l. load_left w pool node (once l)) (counted_are w ns stops)
-      ∙ sym (skipped (load_left w pool node) (λ k. part_on pool node (allocation_at w k)) (load_next w pool node) (lives w)
+      ∙ sym (skipped (load_left w pool node) (λ k. part_on pool node (allocation_at w k)) (load_next w pool node) (lives_at w)
       (λ k e. dead_part pool node (allocation_at w k) e) (stop_keys ns stops) [] [] refl (λ k t. refl))
 
   pub use_after : (quota : Name) → quota_use (after_stops w ns stops) quota ≡ use_left w quota (once (stop_keys ns stops))
   use_after quota = use_stopped w ns (counted_stops w ns stops) quota ∙ ap (λ l. use_left w quota (once l)) (counted_are w ns stops)
-      ∙ sym (skipped (use_left w quota) (λ k. part_of_quota (names w quota k.0) (allocation_at w k)) (use_next w quota) (lives w)
+      ∙ sym (skipped (use_left w quota) (λ k. part_of_quota (names w quota k.0) (allocation_at w k)) (use_next w quota) (lives_at w)
       (λ k e. dead_share (names w quota k.0) (allocation_at w k) e) (stop_keys ns stops) [] [] refl (λ k t. refl))
 
   -- who names a quota stays

@@ -16,7 +16,8 @@ use Rattle.ns_types.specs.State.Resources.{is_within, limits_allow, limits_in, p
 use Rattle.ns_types.specs.State.Rows.{World}
 use Rattle.ns_types.specs.Working.Commit.{Commit, accepts_at, begun, counts, decide, evict_all, node_name, part_of, size_of, victim_key, victims_in, victims_of}
 use Rattle.ns_types.proofs.Elements.{any_flat, any_map, any_same}
-use Rattle.ns_types.proofs.Gone.{evicted_are, evicted_row, row_gone, rows_gone}
+use Rattle.ns_types.specs.Settling.Gone.{row_gone, rows_gone}
+use Rattle.ns_types.proofs.Gone.{evicted_are, evicted_row}
 use Rattle.ns_types.proofs.Less.{counts_left, gone_alike, load_less, named_stays, nodes_stay, quotas_stay, use_less}
 use Rattle.ns_types.proofs.Lists.{not_both}
 use Rattle.ns_types.proofs.Once.{AllApart, key_is, once_apart, once_has}

@@ -13,6 +13,7 @@ use Rattle.ns_types.specs.declared.plan.Eviction.{Eviction}
 use Rattle.ns_types.specs.declared.resources.Resources.{Resources}
 use Rattle.ns_types.specs.Working.Commit.{evict_all, stop_all, victim_key}
 use Rattle.ns_types.specs.State.Lists.{Each}
+use Rattle.ns_types.specs.Settling.Gone.{gone_in, gone_row, row_gone, rows_gone, with_row}
 use Rattle.ns_types.specs.Settling.Making.{change_tenant, put_tenant, with_desired}
 use Rattle.ns_types.specs.State.Names.{Name, Key, ByName, ByNumber, same_name, same_number, same_key, has_key}
 use Rattle.ns_types.specs.State.Rows.{World, Tenant, is_live, is_live_on}
@@ -22,26 +23,13 @@ use Rattle.ns_types.proofs.Named.{names, one_name, numbers, one_number}
 use Rattle.ns_types.proofs.Tables.{get-map_rows, insert_same, map_rows_idle, tied}
 use Rattle.ns_types.proofs.Once.{AllApart}
 use Rattle.ns_types.proofs.TableRows.{get_put}
-use Rattle.ns_types.proofs.Taken.{node_part, quota_part, row_size, size_at, with_row, node_less, quota_less}
+use Rattle.ns_types.proofs.Taken.{node_part, quota_part, row_size, size_at, node_less, quota_less}
 
 abbrev pub evicted_row : Allocation → Allocation
 evicted_row a = record a { desired = desires.Evict }
 
 abbrev pub stopped_row : Allocation → Allocation
 stopped_row a = record a { desired = desires.Stop }
-
-abbrev pub row_gone : (Allocation → Allocation) → World → Key → World
-row_gone g w key = change_tenant key.0 (with_row key.1 g) w
-
-abbrev pub rows_gone : (Allocation → Allocation) → World → List Key → World
-rows_gone g w keys = fold (row_gone g) w keys
-
--- the same, seen from the rows
-abbrev pub gone_row : (Allocation → Allocation) → List Key → Name → ℕ → Allocation → Allocation
-gone_row g keys ns n a = cond (has_key keys (ns, n)) (g a) a
-
-abbrev pub gone_in : (Allocation → Allocation) → List Key → Name → Tenant → Tenant
-gone_in g keys ns t = record t { allocations = map_rows (gone_row g keys ns) t.allocations }
 
 -- what goes, one after another: a key that comes again takes nothing
 abbrev pub parts_gone : (World → Key → ℕ) → (Allocation → Allocation) → World → List Key → ℕ

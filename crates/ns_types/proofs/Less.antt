@@ -6,6 +6,7 @@ use Rattle.std.specs.FinMap.{get}
 use Rattle.ns_types.specs.declared.allocation.Allocation.{Allocation}
 use Rattle.ns_types.specs.declared.plan.Eviction.{Eviction}
 use Rattle.ns_types.specs.declared.resources.Resources.{Resources}
+use Rattle.ns_types.specs.Settling.Gone.{gone_in, gone_row, rows_gone}
 use Rattle.ns_types.specs.Working.Commit.{counts, quota_named, victim_key}
 use Rattle.ns_types.specs.State.Names.{Name, Key, has_key, same_name, same_number}
 use Rattle.ns_types.specs.State.Resources.{minus}
@@ -15,7 +16,7 @@ use Rattle.ns_types.specs.State.Tables.{map_rows}
 use Rattle.ns_types.proofs.Named.{names, one_name, numbers, one_number}
 use Rattle.ns_types.proofs.Tables.{get-map_rows}
 use Rattle.ns_types.proofs.Once.{AllApart}
-use Rattle.ns_types.proofs.Gone.{gone_in, gone_row, rows_gone, gone_all, node_apart, node_gone, parts_apart, quota_apart, quota_gone}
+use Rattle.ns_types.proofs.Gone.{gone_all, node_apart, node_gone, parts_apart, quota_apart, quota_gone}
 use Rattle.ns_types.proofs.Taken.{node_part, quota_part}
 
 -- what the allocations at the keys take

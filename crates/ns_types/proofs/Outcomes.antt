@@ -5,7 +5,12 @@ use Rattle.std.specs.Option.{option_map_or}
 use Rattle.std.specs.Result.{IsErrAnd}
 use Rattle.ns_types.specs.declared.refusal.Refusal.{Refusal}
 use Rattle.ns_types.specs.declared.reply.Content.{Content}
-use Rattle.ns_types.specs.Settling.Outcome.{Changes, NotEnabled, Outcome, Refused, found, is_done, unless}
+use Rattle.ns_types.specs.Settling.Outcome.{Changes, Done, NotEnabled, Outcome, Refused, found, is_done, unless}
+
+-- the state that an outcome leaves, where it is done
+abbrev pub state_or : {S : Type 0} → S → Outcome S → S
+state_or s (Done content left) = left
+state_or s _ = s
 
 -- what a refused outcome is refused with
 abbrev pub refusal_of : {S : Type 0} → Refusal → Outcome S → Refusal

@@ -9,6 +9,7 @@ use Rattle.std.specs.Option.{option_map_or}
 use Rattle.std.specs.Ordering.{eq_by_cmp}
 use Rattle.ns_types.specs.declared.allocation.Allocation.{Allocation}
 use Rattle.ns_types.specs.declared.resources.Resources.{Resources}
+use Rattle.ns_types.specs.Settling.Gone.{with_row}
 use Rattle.ns_types.specs.Settling.Making.{change_tenant, put_tenant}
 use Rattle.ns_types.specs.State.Names.{Name, Key, same_name}
 use Rattle.ns_types.specs.State.Rows.{World, Tenant, is_live, is_live_on}
@@ -19,7 +20,7 @@ use Rattle.ns_types.proofs.Tests.{first, second}
 
 -- ---- a sum over a table's rows, and one of them
 
-below_unlike : (r : Ordering) → T (is_lt r) → is_eq r ≡ false
+pub below_unlike : (r : Ordering) → T (is_lt r) → is_eq r ≡ false
 below_unlike Less p = refl
 below_unlike Equal p = absurd p
 below_unlike Greater p = absurd p
@@ -107,10 +108,6 @@ row_size counts amount a = cond (counts a) (amount a.size) 0
 
 abbrev pub size_at : (Allocation → Bool) → (Resources → ℕ) → Tenant → ℕ → ℕ
 size_at counts amount t n = option_map_or (row_size counts amount) (get t.allocations n) 0
-
--- a row of a namespace is changed, where it is there
-abbrev pub with_row : ℕ → (Allocation → Allocation) → Tenant → Tenant
-with_row n g t = option_map_or (λ a. record t { allocations = insert t.allocations n (g a) }) (get t.allocations n) t
 
 -- what the allocation at a key takes from a node
 abbrev pub node_part : World → Name → Name → (Resources → ℕ) → Key → ℕ

@@ -4,3 +4,4 @@ pub mod Worker
 pub mod Work
 pub mod Commit
 pub mod Looks
+pub mod Parts

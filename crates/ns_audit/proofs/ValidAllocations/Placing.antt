@@ -33,7 +33,7 @@ use Rattle.ns_audit.proofs.ValidAllocations.Sound.{NodesStay, sound_from}
 use Rattle.ns_audit.proofs.ValidAllocations.Going.{comes_same, Onward, onward_same, onward_change, onward_each, Lasts, lasts_still, lasts_then}
 use Rattle.ns_audit.proofs.ValidAllocations.Nodes.{still_at, put_here}
 use Rattle.ns_audit.proofs.ValidAllocations.Plan.{IsPartOf}
-use Rattle.ns_audit.proofs.ValidAllocations.Room.{goes_to}
+use Rattle.ns_types.specs.Working.Parts.{goes_to}
 use Rattle.ns_audit.proofs.ValidAllocations.Sums.{zero_le, sum_put}
 
 -- ---- what a new allocation rests on

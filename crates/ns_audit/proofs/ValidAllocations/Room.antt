@@ -22,6 +22,7 @@ use Rattle.ns_types.specs.Placing.Plan.{constraints_of}
 use Rattle.ns_types.specs.State.Resources.{plus, is_within}
 use Rattle.ns_types.specs.State.Rows.{World, is_ready, is_free, node_at}
 use Rattle.ns_types.specs.State.Sums.{node_load}
+use Rattle.ns_types.specs.Working.Parts.{goes_to}
 use Rattle.ns_types.proofs.Lists.{not_both}
 use Rattle.ns_types.proofs.Named.{one_number, same_name_is, same_number_refl, first_of_both, second_of_both}
 use Rattle.ns_types.proofs.Sums.{none_more, sum_part}
@@ -106,10 +107,6 @@ each_has P (k ∷ ks) h n e = by (each_has P ks h.1 n) (either_of (same_number n
     by later (inr there) = later there
 
 -- ---- what is decided
-
--- a placement on the node
-abbrev pub goes_to : Snapshot → Name → Name → Placement → Bool
-goes_to kept pool name p = same_name pool kept.pool && same_name name (node_name kept p.node)
 
 -- a node of the snapshot that is there, and ready
 pub record Stands (kept : Snapshot) (w : World) (k : ℕ) : Type 0 where

@@ -13,14 +13,14 @@ use Rattle.ns_types.specs.Working.Snapshot.{nodes_of, live_on}
 use Rattle.ns_types.proofs.Lists.{not_both}
 use Rattle.ns_types.proofs.Named.{names}
 use Rattle.ns_types.proofs.Tests.{not_Some, same_Some, first, second}
-use Rattle.ns_audit.proofs.ValidAllocations.Sums.{unlike}
+use Rattle.ns_types.proofs.Taken.{below_unlike}
 
 module _ {K X : Type 0} {R : K → K → Ordering} (o : IsTotalOrder R) where
   -- what stands in a sorted list is not what its keys are below
   not_below : (k : K) (es : List (K × X)) (i : ℕ) (e : K × X) → T (below_all R k es) → slice_get es i ≡ Some e → k ≡ e.0 → ⊥
   not_below k [] i e below at same = not_Some _ at
   not_below k (x ∷ es) zero e below at same = not_both (ap is_eq (tied_itself o k)) (ap (λ q. is_eq (R k q)) (same ∙ sym (ap (λ e. e.0) (same_Some x e at))) ∙
-      unlike (R k x.0) (first _ _ below))
+      below_unlike (R k x.0) (first _ _ below))
   not_below k (x ∷ es) (suc i) e below at same = not_below k es i e (second _ _ below) at same
 
   entry_once : (es : List (K × X)) → T (is_sorted R es) → (i j : ℕ) (a b : K × X) → slice_get es i ≡ Some a → slice_get es j ≡ Some b → a.0 ≡ b.0 → i ≡ j

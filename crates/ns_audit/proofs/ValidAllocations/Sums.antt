@@ -1,6 +1,6 @@
 -- Sums over the rows of tables, one against another.
 use Rattle.std.specs.Prelude.{◌≡◌, ℕ, ◌+◌, ◌≤◌, Bool, true, false, cond, not, T, List, [], ◌∷◌, Some, None, sum_by}
-use Rattle.std.proofs.Common.{Ordering, Less, Equal, Greater, is_eq, is_lt, refl, sym, ap, subst, ◌∙◌, arith}
+use Rattle.std.proofs.Common.{Ordering, refl, sym, ap, subst, ◌∙◌, arith}
 use Rattle.std.proofs.lemmas.List.Sums.{sum_by-cons}
 use Rattle.std.specs.Cmp.{IsTotalOrder}
 use Rattle.std.specs.FinMap.{FinMap, IsAntisymmetric, empty, entries, entries_sorted, from_entries, get, get-empty, get-entries, get-insert, insert}
@@ -12,6 +12,7 @@ use Rattle.ns_types.proofs.Lists.{not_both}
 use Rattle.ns_types.proofs.Sums.{sum_kept}
 use Rattle.ns_types.proofs.TableRows.{turned}
 use Rattle.ns_types.proofs.Tables.{each_row, tied}
+use Rattle.ns_types.proofs.Taken.{below_unlike}
 use Rattle.ns_types.proofs.Tests.{first, not_Some, second}
 
 -- ---- numbers
@@ -50,11 +51,6 @@ module _ {X : Type 0} (f : X → ℕ) (x : X) (xs : List X) where
   le_sum n h = subst (λ m. n ≤ m) (sym (sum_by-cons f x xs)) h
 
 -- ---- lists of entries
-
-pub unlike : (r : Ordering) → T (is_lt r) → is_eq r ≡ false
-unlike Less p = refl
-unlike Equal p = absurd p
-unlike Greater p = absurd p
 
 module _ {K : Type 0} {R : K → K → Ordering} (o : IsTotalOrder R) (same : IsAntisymmetric R) where
   abbrev elsewhere : K → K → Bool
@@ -98,7 +94,7 @@ module _ {K : Type 0} {R : K → K → Ordering} (o : IsTotalOrder R) (same : Is
             Each (λ x. f x.0 x.1 ≤ at g x.0 (where_key R (elsewhere e.0) fs)) xs
         still [] _ k = tt
         still (x ∷ xs) b k = (
-          subst (λ y. f x.0 x.1 ≤ option_map_or (g x.0) y 0) (sym (found_elsewhere g e.0 x.0 fs (turned o e.0 x.0 (unlike (R e.0 x.0) (first _ _ b))))) k.0,
+          subst (λ y. f x.0 x.1 ≤ option_map_or (g x.0) y 0) (sym (found_elsewhere g e.0 x.0 fs (turned o e.0 x.0 (below_unlike (R e.0 x.0) (first _ _ b))))) k.0,
           still xs (second _ _ b) k.1,
         )
 

@@ -12,7 +12,7 @@ use Rattle.ns_types.proofs.Lists.{any_is}
 use Rattle.ns_types.proofs.Named.{number_ties}
 use Rattle.ns_types.proofs.TableRows.{apart}
 use Rattle.ns_world.specs.World.{tenant_of}
-use Rattle.ns_apply.specs.Writing.{placed_on}
+use Rattle.ns_types.specs.Working.Parts.{placed_on}
 use Rattle.ns_apply.proofs.answering.effect_of.Goals as goal
 use Rattle.ns_apply.proofs.answering.effect_of.Goals.{then-any_live, else-any_live}
 

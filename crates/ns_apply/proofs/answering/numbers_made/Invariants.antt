@@ -1,6 +1,6 @@
 use Rattle.std.proofs.Common.{◌≡◌, ◌+◌, ◌<◌, ◌^◌, ◌++◌, drop, length}
 use Rattle.ns_types.specs.Working.Commit.{numbers_after}
-use Rattle.ns_apply.specs.Writing.{placed_on}
+use Rattle.ns_types.specs.Working.Parts.{placed_on}
 use Rattle.ns_apply.proofs.answering.numbers_made.Given as goal
 
 abbrev pub invariant-loop-placement : goal.invariant-loop-placement

@@ -9,7 +9,7 @@ use Rattle.ns_world.proofs.World.{tenant_at}
 use Rattle.ns_world.specs.World.{tenant_of, world_of}
 use Rattle.ns_apply.specs.Answering.{IsEffect, marked}
 use Rattle.ns_apply.specs.declared.answering.Effect.{Effect}
-use Rattle.ns_apply.specs.Writing.{placed_on}
+use Rattle.ns_types.specs.Working.Parts.{placed_on}
 use Rattle.ns_apply.proofs.applying.write_told.Goals as goal
 
 pub numbers_made-requires : goal.numbers_made-requires

@@ -1,7 +1,7 @@
 use Rattle.std.proofs.Common.{◌≡◌, ◌++◌, drop, map}
 use Rattle.ns_types.specs.Working.Commit.{victims_of}
 use Rattle.ns_change.specs.Changed.{view}
-use Rattle.ns_apply.specs.Writing.{placed_on}
+use Rattle.ns_types.specs.Working.Parts.{placed_on}
 use Rattle.ns_apply.proofs.evicting.victims.Given as goal
 
 abbrev pub invariant-loop-placement : goal.invariant-loop-placement

@@ -1,5 +1,5 @@
 use Rattle.ns_apply.proofs.Placements.{none_placed}
-use Rattle.ns_apply.specs.Writing.{placed_on}
+use Rattle.ns_types.specs.Working.Parts.{placed_on}
 use Rattle.ns_change.specs.Changed.{view}
 use Rattle.ns_apply.proofs.placing.place.Goals as goal
 

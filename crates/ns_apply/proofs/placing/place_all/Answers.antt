@@ -3,7 +3,7 @@ use Rattle.ns_types.specs.declared.plan.Placement.{Placement}
 use Rattle.ns_types.specs.Working.Commit.{place_all}
 use Rattle.ns_change.specs.Changed.{view}
 use Rattle.ns_apply.specs.Placing.{CanPlace}
-use Rattle.ns_apply.specs.Writing.{placed_on}
+use Rattle.ns_types.specs.Working.Parts.{placed_on}
 use Rattle.ns_apply.proofs.Placements.{next_passed, next_placed, place_left, still_left}
 use Rattle.ns_apply.proofs.placing.place_all.Goals as goal
 use Rattle.ns_apply.proofs.placing.place_all.Goals.{then-has+in_ok-place_one, else-has}

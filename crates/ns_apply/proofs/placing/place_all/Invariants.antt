@@ -2,7 +2,7 @@ use Rattle.std.proofs.Common.{◌≡◌, drop}
 use Rattle.ns_types.specs.Working.Commit.{place_all}
 use Rattle.ns_change.specs.Changed.{view}
 use Rattle.ns_apply.specs.Placing.{CanPlace}
-use Rattle.ns_apply.specs.Writing.{placed_on}
+use Rattle.ns_types.specs.Working.Parts.{placed_on}
 use Rattle.ns_apply.proofs.placing.place_all.Given as goal
 
 abbrev pub invariant-loop-placement : goal.invariant-loop-placement

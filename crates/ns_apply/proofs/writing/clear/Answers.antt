@@ -4,7 +4,7 @@ use Rattle.ns_types.specs.State.Rows.{World}
 use Rattle.ns_types.specs.Working.Commit.{evict_all, live_stops, stop_all, victims_of}
 use Rattle.ns_world.proofs.World.{tenant_at}
 use Rattle.ns_world.specs.World.{tenant_of}
-use Rattle.ns_apply.specs.Writing.{placed_on}
+use Rattle.ns_types.specs.Working.Parts.{placed_on}
 use Rattle.ns_apply.proofs.writing.clear.Goals as goal
 
 pub returns : goal.returns

@@ -7,7 +7,7 @@ use Rattle.ns_change.specs.Changed.{view}
 use Rattle.ns_renewal.specs.Losing.{CanMakeUp, victims_at}
 use Rattle.ns_renewal.specs.Renewing.{SameJobs}
 use Rattle.ns_world.specs.World.{tenant_of, world_of}
-use Rattle.ns_apply.specs.Writing.{placed_on}
+use Rattle.ns_types.specs.Working.Parts.{placed_on}
 use Rattle.ns_apply.proofs.Together.{jobs_stay, make_up_still, place_still, written}
 use Rattle.ns_apply.proofs.writing.write.Goals as goal
 

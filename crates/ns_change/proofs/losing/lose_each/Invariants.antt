@@ -1,6 +1,7 @@
 use Rattle.std.proofs.Common.{◌≡◌, fold, drop}
 use Rattle.ns_change.specs.Changed.{view}
-use Rattle.ns_change.specs.Gone.{lost_row, row_gone}
+use Rattle.ns_types.specs.Settling.Gone.{row_gone}
+use Rattle.ns_change.specs.Gone.{lost_row}
 use Rattle.ns_change.proofs.losing.lose_each.Given as goal
 
 abbrev pub invariant-loop-key : goal.invariant-loop-key

@@ -2,7 +2,7 @@ use Rattle.std.proofs.Common.{ap, sym, ◌∙◌, ◌||◌, ℕ}
 use Rattle.std.specs.List.{list_any}
 use Rattle.ns_types.specs.declared.plan.Placement.{Placement}
 use Rattle.ns_types.specs.State.Names.{has_number}
-use Rattle.ns_headroom.specs.Releasing.{lives_at}
+use Rattle.ns_types.specs.Working.Parts.{lives_at}
 use Rattle.ns_headroom.proofs.applying.does_something.Goals as goal
 use Rattle.ns_types.proofs.Lists.{any_is}
 

@@ -1,6 +1,7 @@
 use Rattle.std.proofs.Common.{ap, sym, ◌∙◌, length}
 use Rattle.ns_headroom.specs.Applying.{places_on}
-use Rattle.ns_headroom.specs.Judging.{node_passes, placed_on}
+use Rattle.ns_types.specs.Working.Parts.{placed_on}
+use Rattle.ns_headroom.specs.Judging.{node_passes}
 use Rattle.ns_headroom.proofs.Counting.{counted_on, few_places, fewer_places}
 use Rattle.ns_headroom.proofs.applying.node_passes.Goals as goal
 

@@ -1,5 +1,5 @@
 use Rattle.std.proofs.Common.{sym, ◌∙◌, length}
-use Rattle.ns_headroom.specs.Judging.{placed_on}
+use Rattle.ns_types.specs.Working.Parts.{placed_on}
 use Rattle.ns_headroom.proofs.Counting.{few_placed, fewer_allocations}
 use Rattle.ns_headroom.proofs.applying.numbers_pass.Goals as goal
 

@@ -1,6 +1,7 @@
 use Rattle.std.proofs.Common.{ap, ◌∙◌}
 use Rattle.std.specs.List.{list_any}
-use Rattle.ns_headroom.specs.Judging.{committed_passes, placed_on}
+use Rattle.ns_types.specs.Working.Parts.{placed_on}
+use Rattle.ns_headroom.specs.Judging.{committed_passes}
 use Rattle.ns_headroom.proofs.Counting.{by_committed}
 use Rattle.ns_headroom.proofs.applying.places_pass.Goals as goal
 

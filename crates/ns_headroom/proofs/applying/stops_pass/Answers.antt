@@ -1,7 +1,7 @@
 use Rattle.std.proofs.Common.{ap, sym, ◌∙◌, ◌&&◌}
 use Rattle.std.specs.List.{list_any}
 use Rattle.ns_headroom.specs.Applying.{stop_passes}
-use Rattle.ns_headroom.specs.Releasing.{lives_at}
+use Rattle.ns_types.specs.Working.Parts.{lives_at}
 use Rattle.ns_headroom.proofs.applying.stops_pass.Goals as goal
 use Rattle.ns_change.proofs.Listed.{any_filter}
 

@@ -1,0 +1,26 @@
+-- Allocations that a step ends: the same change of a row at each of some keys.
+use Rattle.std.specs.Prelude.{ℕ, cond, List, fold}
+use Rattle.std.specs.FinMap.{get, insert}
+use Rattle.std.specs.Option.{option_map_or}
+use Rattle.ns_types.specs.declared.allocation.Allocation.{Allocation}
+use Rattle.ns_types.specs.Settling.Making.{change_tenant}
+use Rattle.ns_types.specs.State.Names.{Name, Key, has_key}
+use Rattle.ns_types.specs.State.Rows.{World, Tenant}
+use Rattle.ns_types.specs.State.Tables.{map_rows}
+
+-- the row under that number, if it is there
+abbrev pub with_row : ℕ → (Allocation → Allocation) → Tenant → Tenant
+with_row n g t = option_map_or (λ a. record t { allocations = insert t.allocations n (g a) }) (get t.allocations n) t
+
+abbrev pub row_gone : (Allocation → Allocation) → World → Key → World
+row_gone g w key = change_tenant key.0 (with_row key.1 g) w
+
+abbrev pub rows_gone : (Allocation → Allocation) → World → List Key → World
+rows_gone g w keys = fold (row_gone g) w keys
+
+-- the same, seen from the rows
+abbrev pub gone_row : (Allocation → Allocation) → List Key → Name → ℕ → Allocation → Allocation
+gone_row g keys ns n a = cond (has_key keys (ns, n)) (g a) a
+
+abbrev pub gone_in : (Allocation → Allocation) → List Key → Name → Tenant → Tenant
+gone_in g keys ns t = record t { allocations = map_rows (gone_row g keys ns) t.allocations }
