@@ -1,13 +1,11 @@
 -- The plan of what a valid state keeps places no more than groups and their counts allow.
-use Rattle.std.specs.Prelude.{◌≡◌, ℕ, ◌+◌, ◌*◌, ◌≤◌, Bool, true, false, cond, ◌&&◌, List, [], ◌∷◌, Option, Some, None, length, nat_le, replicate}
+use Rattle.std.specs.Prelude.{◌≡◌, ℕ, ◌+◌, ◌*◌, ◌≤◌, Bool, true, false, cond, List, [], ◌∷◌, Option, Some, None, length, replicate}
 use Rattle.std.specs.List.{list_all}
 use Rattle.std.specs.Option.{option_map_or}
 use Rattle.std.proofs.Common.{refl, arith}
-use Rattle.std.proofs.lemmas.Bool.{leb-true}
 use Rattle.std.proofs.lemmas.List.{length-append, length-replicate}
 use Rattle.ns_types.specs.declared.job.Group.{Group}
 use Rattle.ns_types.specs.declared.job.Job.{Job}
-use Rattle.ns_types.specs.declared.name.NameKind.TheVariants as NameKind
 use Rattle.ns_types.specs.declared.plan.Demand.{Demand}
 use Rattle.ns_types.specs.declared.plan.Placement.{Placement}
 use Rattle.ns_types.specs.declared.snapshot.OwnAllocation.{OwnAllocation}
@@ -16,9 +14,9 @@ use Rattle.ns_types.specs.declared.snapshot.Snapshot.{Snapshot}
 use Rattle.ns_types.specs.Placing.Plan.{opening, plan, placing_of, quota_of}
 use Rattle.ns_types.specs.Placing.Planning.{Site, ended_by_quota, place, placed_one, then_rest, without_one}
 use Rattle.ns_types.specs.Placing.Wanted.{demands, demands_from, group_size, missing, stopping}
-use Rattle.ns_types.specs.State.Limits.{is_between, is_good_constraint, is_good_document, is_good_group, is_good_task, is_pool_name}
-use Rattle.ns_types.specs.State.Name.{is_name}
+use Rattle.ns_types.specs.State.Limits.{is_good_document, is_good_group}
 use Rattle.ns_types.specs.State.Resources.{limits_allow, plus}
+use Rattle.ns_types.proofs.Documents.{few_groups, few_missing, good_groups}
 use Rattle.ns_types.proofs.Named.{first_of_both, second_of_both}
 use Rattle.ns_plan.specs.Laws.{KeptIsBounded}
 
@@ -34,46 +32,26 @@ placed_few q (d ∷ ds) = λ w. by w (placed_few q ds) (limits_allow q.limits (p
     by w rest true None = let h = rest w in omega (arith, h)
     by w rest true (Some s) = let h = rest s.1 in omega (arith, h)
 
-few_missing : (j : Job) (own : List OwnAllocation) (g : Group) → is_good_group g ≡ true → missing j own g ≤ 1000
-few_missing j own g good =
-    let named = is_name NameKind.Group g.name in
-    let counted = named && nat_le g.count 1000 in
-    let bounded = counted && is_between 1 16 (length g.tasks) in
-    let few = leb-true g.count 1000 (second_of_both named (nat_le g.count 1000) (first_of_both counted (is_between 1 16 (length g.tasks))
-    (first_of_both bounded (list_all is_good_task g.tasks) (first_of_both (bounded && list_all is_good_task g.tasks) _ good)))) in
-    omega (arith, few)
-
 few_demands : (i : ℕ) (j : Job) (own : List OwnAllocation) (gs : List Group) → list_all is_good_group gs ≡ true →
     length (demands_from i j own gs) ≤ 1000 * length gs
 few_demands i j own [] good = omega arith
 few_demands i j own (g ∷ gs) good =
     let d : Demand = record { group = i; size = group_size g } in
-    let here = few_missing j own g (first_of_both (is_good_group g) (list_all is_good_group gs) good) in
+    let here = few_missing g (first_of_both (is_good_group g) (list_all is_good_group gs) good) j own in
     let rest = few_demands (i + 1) j own gs (second_of_both (is_good_group g) (list_all is_good_group gs) good) in
     let all = length-append (replicate (missing j own g) d) (demands_from (i + 1) j own gs) in
     let part = length-replicate (missing j own g) d in
     omega (arith, here, rest, all, part)
 
-module _ (j : Job) (own : List OwnAllocation) where
-  abbrev before : Bool
-  before = is_between 1 100 j.document.priority && is_pool_name j.document.pool && nat_le (length j.document.constraints) 16
-      && list_all is_good_constraint j.document.constraints
-
-  job_few : is_good_document j.document ≡ true → length (demands (Some j) own) ≤ 16000
-  job_few good = by j.stop
-    where
-      with_groups : (before && is_between 1 16 (length j.document.groups) && list_all is_good_group j.document.groups) ≡ true
-      with_groups = first_of_both (before && is_between 1 16 (length j.document.groups) && list_all is_good_group j.document.groups) _ good
-
-      few : length j.document.groups ≤ 16
-      few = leb-true (length j.document.groups) 16 (second_of_both (nat_le 1 (length j.document.groups)) _
-          (second_of_both before _ (first_of_both (before && is_between 1 16 (length j.document.groups)) _ with_groups)))
-
-      by : (b : Bool) → length (cond b [] (demands_from 0 j own j.document.groups)) ≤ 16000
-      by true = omega arith
-      by false =
-          let all = few_demands 0 j own j.document.groups (second_of_both (before && is_between 1 16 (length j.document.groups)) _ with_groups) in
-          omega (arith, all, few)
+job_few : (j : Job) (own : List OwnAllocation) → is_good_document j.document ≡ true → length (demands (Some j) own) ≤ 16000
+job_few j own good = by j.stop
+  where
+    by : (b : Bool) → length (cond b [] (demands_from 0 j own j.document.groups)) ≤ 16000
+    by true = omega arith
+    by false =
+        let all = few_demands 0 j own j.document.groups (good_groups j.document good) in
+        let few = few_groups j.document good in
+        omega (arith, all, few)
 
 placing_few : (kept : Snapshot) (o : Option Job) (stops : List OwnAllocation) → ((j : Job) → o ≡ Some j → is_good_document j.document ≡ true) →
     length (placing_of kept o stops).placements ≤ 16000

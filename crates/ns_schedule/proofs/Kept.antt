@@ -1,5 +1,5 @@
 -- What a valid state keeps is far within 64 bits.
-use Rattle.std.specs.Prelude.{◌≡◌, ℕ, ◌+◌, ◌*◌, ◌^◌, ◌≤◌, ◌<◌, Bool, true, false, cond, ◌&&◌, List, [], ◌∷◌, Option, Some, None, length, nat_le, sum_by}
+use Rattle.std.specs.Prelude.{◌≡◌, ℕ, ◌+◌, ◌*◌, ◌^◌, ◌≤◌, ◌<◌, Bool, true, false, cond, List, [], ◌∷◌, Option, Some, None, length, nat_le, sum_by}
 use Rattle.std.specs.List.{list_all}
 use Rattle.std.specs.Option.{unwrap_or}
 use Rattle.std.proofs.Common.{refl, arith}
@@ -18,19 +18,17 @@ use Rattle.ns_types.specs.declared.snapshot.QuotaSeen.{QuotaSeen}
 use Rattle.ns_types.specs.declared.snapshot.Snapshot.{Snapshot}
 use Rattle.ns_types.specs.Placing.Plan.{no_quota, quota_of}
 use Rattle.ns_types.specs.Placing.Wanted.{demands, demands_from, group_size, missing}
-use Rattle.ns_types.specs.State.Limits.{is_amount, is_between, is_good_constraint, is_good_document, is_good_group, is_good_offer, is_good_task}
-use Rattle.ns_types.specs.State.Limits.{is_pool_name}
+use Rattle.ns_types.specs.State.Limits.{is_amount, is_between, is_good_document, is_good_group, is_good_offer, is_good_task}
 use Rattle.ns_types.specs.State.Name.{is_name}
 use Rattle.ns_types.specs.State.Resources.{is_within, plus, total}
 use Rattle.ns_types.specs.Validity.{IsCountable, IsSmall, seen_load}
+use Rattle.ns_types.proofs.Documents.{few_groups, few_missing, few_tasks, good_groups, good_tasks}
 use Rattle.ns_types.proofs.Elements.{all_from, each_from_all, each_of}
+use Rattle.ns_types.proofs.LiveSums.{most_of}
 use Rattle.ns_types.proofs.Named.{first_of_both, second_of_both}
 use Rattle.ns_schedule.specs.Fits.{fits, node_fits}
 use Rattle.ns_schedule.specs.Laws.{KeptFits}
 use Rattle.ns_schedule.proofs.Counts.{counted_true, demanded}
-
-most_of : (n : ℕ) → is_between 1 2147483647 n ≡ true → n ≤ 2147483647
-most_of n e = leb-true n 2147483647 (second_of_both (nat_le 1 n) (nat_le n 2147483647) e)
 
 cpu_of : (r : Resources) → is_amount r ≡ true → r.cpu ≤ 2147483647
 cpu_of r e = most_of r.cpu (first_of_both (is_between 1 2147483647 r.cpu) (is_between 1 2147483647 r.memory) e)
@@ -61,33 +59,16 @@ nodes_small (n ∷ ns) good within =
 
 -- ---- groups
 
-module _ (g : Group) (good : is_good_group g ≡ true) where
-  abbrev counted : Bool
-  counted = is_name NameKind.Group g.name && nat_le g.count 1000
-
-  abbrev bounded : Bool
-  bounded = counted && is_between 1 16 (length g.tasks)
-
-  with_tasks : (bounded && list_all is_good_task g.tasks) ≡ true
-  with_tasks = first_of_both (bounded && list_all is_good_task g.tasks) _ good
-
-  pub few_missing : (j : Job) (own : List OwnAllocation) → missing j own g ≤ 1000
-  few_missing j own =
-      let few = leb-true g.count 1000 (second_of_both (is_name NameKind.Group g.name) _
-      (first_of_both counted _ (first_of_both bounded (list_all is_good_task g.tasks) with_tasks))) in
-      omega (arith, few)
-
-  size_small : (f : Resources → ℕ) → ((r : Resources) → is_amount r ≡ true → f r ≤ 2147483647)
-      → sum_by (λ t. f t.resources) g.tasks ≤ 34359738352
-  size_small f small =
-      let few = leb-true (length g.tasks) 16 (second_of_both (nat_le 1 (length g.tasks)) _
-      (second_of_both counted _ (first_of_both bounded (list_all is_good_task g.tasks) with_tasks))) in
-      let each_small = sum_by-le (λ (t : Task). f t.resources) 2147483647 g.tasks
-      (all_from (λ (t : Task). f t.resources ≤ 2147483647) g.tasks
-      (each_of (λ (t : Task). is_good_task t ≡ true) (λ (t : Task). f t.resources ≤ 2147483647)
-      (λ t e. small t.resources (second_of_both (is_name NameKind.Task t.name) (is_amount t.resources) e)) g.tasks
-      (each_from_all is_good_task g.tasks (second_of_both bounded _ with_tasks)))) in
-      omega (arith, few, each_small)
+size_small : (g : Group) → is_good_group g ≡ true → (f : Resources → ℕ) → ((r : Resources) → is_amount r ≡ true → f r ≤ 2147483647)
+    → sum_by (λ t. f t.resources) g.tasks ≤ 34359738352
+size_small g good f small =
+    let few = few_tasks g good in
+    let each_small = sum_by-le (λ (t : Task). f t.resources) 2147483647 g.tasks
+    (all_from (λ (t : Task). f t.resources ≤ 2147483647) g.tasks
+    (each_of (λ (t : Task). is_good_task t ≡ true) (λ (t : Task). f t.resources ≤ 2147483647)
+    (λ t e. small t.resources (second_of_both (is_name NameKind.Task t.name) (is_amount t.resources) e)) g.tasks
+    (each_from_all is_good_task g.tasks (good_tasks g good)))) in
+    omega (arith, few, each_small)
 
 -- ---- all that is missing
 
@@ -102,24 +83,14 @@ module _ (f : Resources → ℕ) (small : (g : Group) → is_good_group g ≡ tr
       let part = mul-le (missing j own g) (f (group_size g)) 1000 34359738352 (few_missing g here j own) (small g here) in
       omega (arith, parts, rest, part)
 
-  abbrev before : Bool
-  before = is_between 1 100 j.document.priority && is_pool_name j.document.pool && nat_le (length j.document.constraints) 16
-      && list_all is_good_constraint j.document.constraints
-
   job_small : is_good_document j.document ≡ true → sum_by (λ d. f d.size) (demands (Some j) own) < 2 ^ 55
   job_small good = by j.stop
     where
-      with_groups : (before && is_between 1 16 (length j.document.groups) && list_all is_good_group j.document.groups) ≡ true
-      with_groups = first_of_both (before && is_between 1 16 (length j.document.groups) && list_all is_good_group j.document.groups) _ good
-
-      few : length j.document.groups ≤ 16
-      few = leb-true (length j.document.groups) 16 (second_of_both (nat_le 1 (length j.document.groups)) _
-          (second_of_both before _ (first_of_both (before && is_between 1 16 (length j.document.groups)) _ with_groups)))
-
       by : (b : Bool) → sum_by (λ (d : Demand). f d.size) (cond b [] (demands_from 0 j own j.document.groups)) < 2 ^ 55
       by true = omega arith
       by false =
-          let all = groups_small 0 j.document.groups (second_of_both (before && is_between 1 16 (length j.document.groups)) _ with_groups) in
+          let all = groups_small 0 j.document.groups (good_groups j.document good) in
+          let few = few_groups j.document good in
           omega (arith, all, few)
 
 demands_small : (f : Resources → ℕ) → ((g : Group) → is_good_group g ≡ true → f (group_size g) ≤ 34359738352) → (o : Option Job) (own : List OwnAllocation)

@@ -3,6 +3,7 @@ pub mod Bounds
 pub mod Choosing
 pub mod Classes
 pub mod Decided
+pub mod Documents
 pub mod Elements
 pub mod Gone
 pub mod Ids

@@ -171,7 +171,7 @@ cpu_of_within a b e = leb-true a.cpu b.cpu (first_of_both (nat_le a.cpu b.cpu) (
 memory_of_within : (a b : Resources) → is_within a b ≡ true → a.memory ≤ b.memory
 memory_of_within a b e = leb-true a.memory b.memory (second_of_both (nat_le a.cpu b.cpu) (nat_le a.memory b.memory) e)
 
-most_of : (n : ℕ) → is_between 1 2147483647 n ≡ true → n ≤ 2147483647
+pub most_of : (n : ℕ) → is_between 1 2147483647 n ≡ true → n ≤ 2147483647
 most_of n e = leb-true n 2147483647 (second_of_both (nat_le 1 n) (nat_le n 2147483647) e)
 
 cpu_within : (w : World) (pool name : Name) (node : Node) → IsSoundNode w pool name node → node_sum w pool name (λ r. r.cpu) ≤ 2147483647
