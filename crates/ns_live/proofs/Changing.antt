@@ -25,6 +25,7 @@ use Rattle.std.specs.Prelude.{
 use Rattle.std.proofs.Common.{refl, sym, ap, subst, ◌∙◌, drop, get_or, take, take-append-drop}
 use Rattle.std.proofs.lemmas.List.{drop_more, take_more}
 use Rattle.std.proofs.lemmas.List.Sums.{fold_more}
+use Rattle.std.proofs.Math.Bool.{and-false}
 use Rattle.std.specs.Cmp.{eq_by_cmp_equiv}
 use Rattle.std.specs.FinMap.{entries, entries_sorted, get, get-entries}
 use Rattle.std.specs.FinMap.Entries.{below_all, find, is_sorted}
@@ -60,11 +61,7 @@ module _ (namespace : Name) where
   changed_rows slots row_of = fold changed_row row_of slots
 
   apart : (n m : ℕ) → same_number n m ≡ false → same_key (namespace, n) (namespace, m) ≡ false
-  apart n m e = ap (λ b. same_name namespace namespace && b) e ∙ by (same_name namespace namespace)
-    where
-      by : (b : Bool) → (b && false) ≡ false
-      by true = refl
-      by false = refl
+  apart n m e = ap (λ b. same_name namespace namespace && b) e ∙ and-false (same_name namespace namespace)
 
   -- all at once
   rows_are : (slots : Slots) → T (is_sorted nat_cmp slots) → (row_of : Key → Option Allocation) (key : Key) →

@@ -2,6 +2,7 @@
 use Rattle.std.specs.Prelude.{◌≡◌, ℕ, Bool, true, false, ◌&&◌, List, [], ◌∷◌, ◌++◌, Option, Some, None, filter, flat_map, is_some, map}
 use Rattle.std.proofs.Common.{refl, sym, ap, ◌∙◌}
 use Rattle.std.proofs.lemmas.List.{map-append}
+use Rattle.std.proofs.Math.Bool.{and-true}
 use Rattle.std.specs.declared.cmp.Ordering.{Ordering}
 use Rattle.std.specs.Cmp.{IsTotalOrder, tied_itself}
 use Rattle.std.specs.Ordering.{eq_by_cmp, is_eq}
@@ -206,12 +207,8 @@ module _ {K X : Type 0} {R : K → K → Ordering} (o : IsTotalOrder R) (same : 
 
 has_number-keys : {X : Type 0} (m : ByNumber X) (n : ℕ) → has_number (keys m) n ≡ contains_key m n
 has_number-keys {X = X} m n = any_map (same_number n) (λ e. e.0) (entries m) ∙ any_same (λ e. same_number n e.0) (λ e. same_number n e.0 && true)
-    (λ e. sym (and_true (same_number n e.0))) (entries m) ∙ any_at numbers one_number n (λ _. true) m ∙ by (get m n)
+    (λ e. sym (and-true (same_number n e.0))) (entries m) ∙ any_at numbers one_number n (λ _. true) m ∙ by (get m n)
   where
-    and_true : (b : Bool) → (b && true) ≡ b
-    and_true true = refl
-    and_true false = refl
-
     by : (r : Option X) → option_map_or (λ _. true) r false ≡ is_some r
     by None = refl
     by (Some x) = refl

@@ -1,6 +1,7 @@
 -- What a put leaves of an index that was right.
 use Rattle.std.specs.Prelude.{◌≡◌, Bool, true, false, not, ◌&&◌, ◌||◌, if◌then◌else◌, IsTrue, Option, Some, None}
 use Rattle.std.proofs.Common.{refl, sym, ap, subst, ◌∙◌}
+use Rattle.std.proofs.Math.Bool.{and-false}
 use Rattle.std.specs.Option.{option_map_or}
 use Rattle.ns_types.specs.declared.allocation.Allocation.{Allocation}
 use Rattle.ns_types.specs.State.Names.{Name, Key, same_key, same_name}
@@ -92,11 +93,7 @@ module _ (row_of : Key → Option Allocation) (key : Key) (before after : Option
           there : (b : Bool) → on pool node ≡ b → (not b && (lives pool node || (is_live row && b))) ≡ lives pool node
           there true t = sym ((λ i. lives (same_name_is pool row.pool (first_of_both _ _ t) i)
               (same_name_is node row.node (second_of_both (same_name pool row.pool) _ t) i)) ∙ goes)
-          there false t = ap (λ b. lives pool node || b) (neither (is_live row)) ∙ or_none (lives pool node)
-            where
-              neither : (b : Bool) → (b && false) ≡ false
-              neither true = refl
-              neither false = refl
+          there false t = ap (λ b. lives pool node || b) (and-false (is_live row)) ∙ or_none (lives pool node)
 
           joined : (a b c : Bool) → c ≡ true → (a && (b && c)) ≡ (a && b)
           joined true true c e = e
