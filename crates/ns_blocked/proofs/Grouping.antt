@@ -1,6 +1,7 @@
 -- What a change of the table of quotas, or of that of pools, leaves of the groups.
-use Rattle.std.specs.Prelude.{◌≡◌, ℕ, Bool, true, false, ◌&&◌, Option, Some, None}
+use Rattle.std.specs.Prelude.{◌≡◌, ℕ, true, Option, Some, None}
 use Rattle.std.proofs.Common.{refl, sym, ap, subst, ◌∙◌}
+use Rattle.std.proofs.lemmas.Bool.{and_right}
 use Rattle.std.specs.Option.{option_map_or}
 use Rattle.std.specs.FinMap.{empty, get-empty}
 use Rattle.keyed.specs.Table.{flat, row_at}
@@ -17,10 +18,6 @@ use Rattle.ns_types.proofs.Named.{same_name_refl}
 pub same_waits_refl : (waits : Waits) → same_waits waits waits ≡ true
 same_waits_refl (Quota name) = same_name_refl name
 same_waits_refl (Pool name) = same_name_refl name
-
-not_second : (a b : Bool) → b ≡ false → (a && b) ≡ false
-not_second true b e = e
-not_second false b e = refl
 
 -- the slots at a name have its rows
 numbers_row : {V : Type 0} (rows : ByKey V) (name : Name) (n : ℕ) → row_at (numbers_of rows name) n ≡ row_in rows (name, n)
@@ -67,10 +64,10 @@ module _ (old new : Groups) where
 
   pub quota_room_left : (name : Name) (place : ℕ) → KeepsOtherRoom (name, place) old.quotas new.quotas → KeepsRoom old.pools new.pools →
       KeepsOtherGroupRoom place old new
-  quota_room_left name place quotas pools (Quota other) n apart h = quotas (other, n) (not_second (same_name other name) (same_number n place) apart) h
+  quota_room_left name place quotas pools (Quota other) n apart h = quotas (other, n) (and_right (same_name other name) (same_number n place) apart) h
   quota_room_left name place quotas pools (Pool other) n apart h = pools (other, n) h
 
   pub pool_room_left : (name : Name) (place : ℕ) → KeepsOtherRoom (name, place) old.pools new.pools → KeepsRoom old.quotas new.quotas →
       KeepsOtherGroupRoom place old new
   pool_room_left name place pools quotas (Quota other) n apart h = quotas (other, n) h
-  pool_room_left name place pools quotas (Pool other) n apart h = pools (other, n) (not_second (same_name other name) (same_number n place) apart) h
+  pool_room_left name place pools quotas (Pool other) n apart h = pools (other, n) (and_right (same_name other name) (same_number n place) apart) h

@@ -1,7 +1,7 @@
 -- What a release leaves is what the model leaves.
 use Rattle.std.specs.Prelude.{◌≡◌, Bool, true, false, cond, not, ◌&&◌, ◌||◌, List, [], ◌∷◌, map, filter, Option, Some, None, option_map}
 use Rattle.std.proofs.Common.{refl, sym, ap, ◌∙◌}
-use Rattle.std.proofs.Math.Bool.{and-false}
+use Rattle.std.proofs.Math.Bool.{and-false, or-true}
 use Rattle.std.specs.List.{cons_option, filter_map}
 use Rattle.ns_types.specs.declared.evaluation.Evaluation.{Evaluation}
 use Rattle.ns_types.specs.Settling.Releases.{woken}
@@ -16,10 +16,6 @@ use Rattle.ns_blocked.specs.Waking.{entries_in, entries_still_in, entry_of, is_w
 use Rattle.ns_blocked.proofs.Released.{woken_is}
 use Rattle.ns_types.proofs.Once.{key_is}
 
-or_true : (b : Bool) → (b || true) ≡ true
-or_true true = refl
-or_true false = refl
-
 same_filter : {A : Type 0} (f g : A → Bool) (xs : List A) → Each (λ x. f x ≡ g x) xs → filter f xs ≡ filter g xs
 same_filter f g [] h = refl
 same_filter f g (x ∷ xs) h = λ i. cond (h.0 i) (x ∷ same_filter f g xs h.1 i) (same_filter f g xs h.1 i)
@@ -29,7 +25,7 @@ keys_there [] = tt
 keys_there (x ∷ xs) = (
   ap (λ b. b || has_key (map (λ (e : Entry). e.key) xs) x.key) (same_key_refl x.key),
   elements.each_of (λ (e : Entry). has_key (map (λ e. e.key) xs) e.key ≡ true) (λ e. has_key (map (λ e. e.key) (x ∷ xs)) e.key ≡ true)
-      (λ e there. ap (λ b. same_key e.key x.key || b) there ∙ or_true (same_key e.key x.key)) xs (keys_there xs),
+      (λ e there. ap (λ b. same_key e.key x.key || b) there ∙ or-true (same_key e.key x.key)) xs (keys_there xs),
 )
 
 module _ (w : World) where

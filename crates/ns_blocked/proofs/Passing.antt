@@ -2,7 +2,7 @@
 use Rattle.std.specs.Prelude.{◌≡◌, ℕ, ◌<◌, Bool, true, false, cond, not, ◌&&◌, ◌||◌, T, IsTrue, List, [], ◌∷◌, ◌++◌, length, map, filter}
 use Rattle.std.specs.Prelude.{Option, Some, None, is_some, option_map, reverse}
 use Rattle.std.proofs.Common.{refl, sym, ap, subst, ◌∙◌, arith}
-use Rattle.std.proofs.Math.Bool.{and-false}
+use Rattle.std.proofs.Math.Bool.{and-false, and-true}
 use Rattle.std.proofs.lemmas.Map.Lookups.{btree_set_from_contains, exact_unsigned}
 use Rattle.std.specs.declared.cmp.Ordering.TheVariants.{Less}
 use Rattle.std.specs.FinMap.{entries, entries_sorted, values}
@@ -61,10 +61,6 @@ kept_sorted {X = X} passes (e ∷ es) h = by (passes e.1) (kept_sorted passes es
     by true sorted = (kept_below passes e.0 es (tests.first _ _ h), sorted)
     by false sorted = sorted
 
-pub and_true : (b : Bool) → (b && true) ≡ b
-and_true true = refl
-and_true false = refl
-
 pub any_kept : {A : Type 0} (p passes : A → Bool) (xs : List A) → list_any p (filter passes xs) ≡ list_any (λ x. p x && passes x) xs
 any_kept p passes [] = refl
 any_kept {A = A} p passes (x ∷ xs) = by (passes x) (any_kept p passes xs)
@@ -76,7 +72,7 @@ any_kept {A = A} p passes (x ∷ xs) = by (passes x) (any_kept p passes xs)
     others = list_any (λ x. p x && passes x) xs
 
     by : (b : Bool) → list_any p rest ≡ others → list_any p (cond b (x ∷ rest) rest) ≡ ((p x && b) || others)
-    by true same = λ i. sym (and_true (p x)) i || same i
+    by true same = λ i. sym (and-true (p x)) i || same i
     by false same = same ∙ ap (λ b. b || others) (sym (and-false (p x)))
 
 module _ (index : Index) (passes : Entry → Bool) where

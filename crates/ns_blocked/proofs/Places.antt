@@ -5,6 +5,7 @@ use Rattle.std.proofs.Common.{refl, sym, ap, subst, ◌∙◌, add-one, append_a
 use Rattle.std.proofs.Math.Seq.{take-suc}
 use Rattle.std.proofs.lemmas.List.{append-nil, reverse-append}
 use Rattle.std.proofs.lemmas.List.Elements.{filter_map-append}
+use Rattle.std.proofs.Math.Bool.{or-false, or-true, or_assoc}
 use Rattle.std.specs.List.{cons_option, filter_map, list_any}
 use Rattle.std.specs.FinMap.{entries}
 use Rattle.keyed.proofs.Mapped.{take_all}
@@ -25,24 +26,12 @@ use Rattle.ns_blocked.proofs.OneKey.{same_turned, slot_found}
 
 -- ---- places that are found, one after another
 
-or_assoc : (a b c : Bool) → ((a || b) || c) ≡ (a || (b || c))
-or_assoc true b c = refl
-or_assoc false b c = refl
-
 any_last : {A : Type 0} (p : A → Bool) (xs : List A) (x : A) → list_any p (xs ++ x ∷ []) ≡ (list_any p xs || p x)
-any_last p [] x = by (p x)
-  where
-    by : (b : Bool) → (b || false) ≡ b
-    by true = refl
-    by false = refl
+any_last p [] x = or-false (p x)
 any_last p (y ∷ xs) x = ap (λ b. p y || b) (any_last p xs x) ∙ sym (or_assoc (p y) (list_any p xs) (p x))
 
 pub adds_none : {A : Type 0} (more : A → ℕ → Bool) (places : List ℕ) → AddsPlaces (λ n. list_any (λ a. more a n) []) places places
-adds_none more places n = by (has_number places n)
-  where
-    by : (b : Bool) → b ≡ (b || false)
-    by true = refl
-    by false = refl
+adds_none more places n = sym (or-false (has_number places n))
 
 pub adds_next : {A : Type 0} (more : A → ℕ → Bool) (xs : List A) (i : ℕ) (x : A) (old now new : List ℕ) → i < length xs → x ≡ get_or xs i x →
     AddsPlaces (λ n. list_any (λ a. more a n) (take i xs)) old now → AddsPlaces (more x) now new →
@@ -142,11 +131,7 @@ module _ (start now new : BlockedList) (all left rest : List ℕ) (k : ℕ) (key
   among n = ap (λ ns. has_number ns n) is ∙ any_last (same_number n) rest k
 
   pub last_there : IsTrue (is_some (entry_at now.index k))
-  last_there = h.there k (among k ∙ ap (λ b. has_number rest k || b) (same_number_refl k) ∙ by (has_number rest k))
-    where
-      by : (b : Bool) → (b || true) ≡ true
-      by true = refl
-      by false = refl
+  last_there = h.there k (among k ∙ ap (λ b. has_number rest k || b) (same_number_refl k) ∙ or-true (has_number rest k))
 
   module _ (none : has_number rest k ≡ false) (taken : (n : ℕ) → entry_at new.index n ≡ cond (same_number n k) None (entry_at now.index n))
       (room : (es : List Entry) → CanAdd es now → CanAdd es new) where

@@ -1,7 +1,7 @@
 -- What a step releases wakes those that the model wakes.
 use Rattle.std.specs.Prelude.{◌≡◌, Bool, true, false, cond, not, ◌&&◌, ◌||◌, List, [], ◌∷◌, map, filter, Option, Some, None, option_map}
 use Rattle.std.proofs.Common.{refl, sym, ap, ◌∙◌}
-use Rattle.std.proofs.Math.Bool.{and-false}
+use Rattle.std.proofs.Math.Bool.{and-false, and-true}
 use Rattle.std.specs.FinMap.{entries, get}
 use Rattle.std.specs.List.{cons_option, filter_map, list_any}
 use Rattle.std.specs.Option.{option_map_or}
@@ -20,13 +20,13 @@ use Rattle.ns_blocked.specs.declared.entry.Waits.TheVariants.{Pool, Quota}
 use Rattle.ns_blocked.specs.declared.releases.ReleasedPool.{ReleasedPool}
 use Rattle.ns_blocked.specs.Waking.{entries_still_in, entry_of, is_woken, keys_of_passing, released, released_pool, woken_by}
 use Rattle.ns_blocked.proofs.OneKey.{any_row_at, at_that_key}
-use Rattle.ns_blocked.proofs.Passing.{and_true, any_kept}
+use Rattle.ns_blocked.proofs.Passing.{any_kept}
 
 -- a test that finds one needs no look at whether there are any
 some_there : {A : Type 0} (s : Bool) (p : A → Bool) (xs : List A) → ((s && list_any p xs) && not (is_empty xs)) ≡ (s && list_any p xs)
 some_there true p [] = refl
 some_there false p [] = refl
-some_there true p (x ∷ xs) = and_true (list_any p (x ∷ xs))
+some_there true p (x ∷ xs) = and-true (list_any p (x ∷ xs))
 some_there false p (x ∷ xs) = refl
 
 module _ (w w' : World) where
