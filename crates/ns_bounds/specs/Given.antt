@@ -29,3 +29,7 @@ given_room_passes w room = room_passes w room || list_any (given_waking_passes w
 -- the release number of the quota passes, or such an index
 abbrev pub given_limits_pass : World → Name → Bool
 given_limits_pass w quota = quota_passes w quota || list_any (given_waking_passes w [] (quota ∷ [])) w.blocked
+
+-- that one of the namespace, where it has one
+abbrev pub left_quota_passes : World → Tenant → Bool
+left_quota_passes w t = option_map_or (given_limits_pass w) t.namespace.quota false

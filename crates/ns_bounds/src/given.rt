@@ -9,7 +9,7 @@ ghost use Rattle.ns_types.specs.State.Rows.{evaluation_at, offered_class};
 ghost use Rattle.ns_release.specs.Released.{releases_wake, releases_wake_at};
 ghost use Rattle.ns_bounds.specs.Bounds.{shows_awake};
 ghost use Rattle.ns_bounds.specs.Given.{given_limits_pass, given_room_passes, given_waking_passes};
-ghost use Rattle.ns_bounds.specs.Given.{given_waking_passes_in, wakes_shown};
+ghost use Rattle.ns_bounds.specs.Given.{given_waking_passes_in, left_quota_passes, wakes_shown};
 ghost use Rattle.ns_world.specs.World.{tenant_of, world_of};
 
 use crate::awake::changes_awake;
@@ -150,4 +150,14 @@ pub fn given_limits_pass(tables: &Tables, quota: &Text) -> bool
 {
     Counters { tables }.is_quota(quota)
         || any_waking_passes(&Limits { quota }, tables, tables.blocked.as_slice())
+}
+
+/// Whether a counter passes its bound by what an allocation of the namespace leaves of its quota, where it has one.
+pub fn left_quota_passes(tables: &Tables, tenant: &TenantRows) -> bool
+    ensures { result ≡ left_quota_passes (world_of tables.now) (tenant_of tenant.now) }
+{
+    match &tenant.namespace.quota {
+        Some(quota) => given_limits_pass(tables, quota),
+        None => false,
+    }
 }

@@ -10,4 +10,4 @@ mod full;
 mod given;
 
 pub use full::{is_at_bound, is_past_bound};
-pub use given::{given_limits_pass, given_room_passes};
+pub use given::{given_limits_pass, given_room_passes, left_quota_passes};

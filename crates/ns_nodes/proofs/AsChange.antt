@@ -4,6 +4,7 @@ use Rattle.std.specs.Prelude.{length}
 use Rattle.std.specs.Prelude.{option_map, unwrap_or}
 use Rattle.std.proofs.Common.{refl, sym, ap, ◌∙◌, arith, Ordering}
 use Rattle.std.proofs.lemmas.List.{length-map}
+use Rattle.std.proofs.Math.Bool.{or-true}
 use Rattle.std.specs.Option.{option_and_then, option_map_or}
 use Rattle.std.specs.Cmp.{IsTotalOrder}
 use Rattle.std.specs.FinMap.{FinMap, IsAntisymmetric, empty, get, get-empty, get-insert, insert, same_map}
@@ -30,15 +31,13 @@ use Rattle.ns_change.specs.declared.change.Change.{Change}
 use Rattle.ns_change.specs.declared.change.PoolChange.{PoolChange}
 use Rattle.ns_change.specs.declared.change.TenantChange.{TenantChange}
 use Rattle.ns_change.specs.Changed.{changed, changed_pool, changed_quota, changed_tenant, perhaps}
+use Rattle.ns_change.proofs.Gone.{lost_rows}
 use Rattle.ns_change.proofs.Nothing.{no_entries, list_stays}
 use Rattle.ns_renewal.specs.Renewing.{keys_in}
 use Rattle.ns_renewal.proofs.Made.{get_made, made_at, renewal}
 use Rattle.ns_nodes.proofs.Renewed.{all_rows, keys_counted, keys_of, losses_are, lost_tenant}
 
 -- ---- one namespace
-
-abbrev pub lost_in : Name → Name → Tenant → Tenant
-lost_in pool node t = record t { allocations = map_rows (λ _ a. lost pool node a) t.allocations }
 
 -- with an evaluation of each of its losses
 abbrev pub renewed_in : List (Name × Allocation) → Name → Tenant → Tenant
@@ -173,17 +172,13 @@ module _ {K X : Type 0} {R : K → K → Ordering} (o : IsTotalOrder R) (same : 
       by None = refl
       by (Some x) = refl
 
-or_true : (b : Bool) → (b || true) ≡ true
-or_true true = refl
-or_true false = refl
-
 none_left : (base keys : List Key) → ((k : Key) → has_key keys k ≡ true → has_key base k ≡ true)
     → filter (λ key. not (has_key base key)) keys ≡ []
 none_left base [] inside = refl
 none_left base (key ∷ keys) inside =
     ap (λ b. cond (not b) (key ∷ filter (λ key. not (has_key base key)) keys) (filter (λ key. not (has_key base key)) keys))
     (inside key (ap (λ b. b || has_key keys key) (same_key_refl key)))
-    ∙ none_left base keys (λ k is. inside k (ap (λ b. same_key k key || b) is ∙ or_true (same_key k key)))
+    ∙ none_left base keys (λ k is. inside k (ap (λ b. same_key k key || b) is ∙ or-true (same_key k key)))
 
 -- ---- the change
 
@@ -192,7 +187,7 @@ module _ (w : World) (pool name : Name) (p : PoolRows) (at : get w.pools pool �
   down_row = record row { status = NodeStatus.Down }
 
   abbrev pub after : Name → Tenant → Tenant
-  after ns t = renewed_in (losses pool name w) ns (lost_in pool name t)
+  after ns t = renewed_in (losses pool name w) ns (lost_rows pool name t)
 
   abbrev pub with_down : World
   with_down = put_pool pool (with_node name down_row p) w
@@ -205,7 +200,7 @@ module _ (w : World) (pool name : Name) (p : PoolRows) (at : get w.pools pool �
   tenants_then ns = renewed_tenants w (losses pool name w) (lose pool name with_down) ns
       ∙ ap (option_map (renewed_in (losses pool name w) ns)) (lost_tenant pool name with_down ns) ∙ by (get w.tenants ns)
     where
-      by : (o : Option Tenant) → option_map (renewed_in (losses pool name w) ns) (option_map (lost_in pool name) o) ≡ option_map (after ns) o
+      by : (o : Option Tenant) → option_map (renewed_in (losses pool name w) ns) (option_map (lost_rows pool name) o) ≡ option_map (after ns) o
       by None = refl
       by (Some t) = refl
 
@@ -244,10 +239,10 @@ module _ (w : World) (pool name : Name) (p : PoolRows) (at : get w.pools pool �
     allocation_number = t.allocation_number;
     jobs = over-empty names one_name t.jobs i;
     evaluations = over_all numbers one_number t.evaluations (after ns t).evaluations
-        (λ n is. renewed_there (losses pool name w) ns (lost_in pool name t) n is) i;
+        (λ n is. renewed_there (losses pool name w) ns (lost_rows pool name t) n is) i;
     allocations = over_each numbers one_number (lost pool name) t.allocations i;
     workers = over-empty numbers one_number t.workers i;
-  }) ∙ sym (renewed_alone (losses pool name w) ns (lost_in pool name t))
+  }) ∙ sym (renewed_alone (losses pool name w) ns (lost_rows pool name t))
 
   slot_at : (ns : Name) (t : Tenant) → get w.tenants ns ≡ Some t → row_at change.tenants ns ≡ Some (whole ns t)
   slot_at ns t is = ap flat (get-table_of names one_name (λ ns t. Some (whole ns t)) w.tenants ns ∙ ap (option_map (λ t. Some (whole ns t))) is)

@@ -24,7 +24,8 @@ use Rattle.ns_types.proofs.Named.{names, numbers, one_name, one_number}
 use Rattle.ns_types.proofs.Tables.{any_row-none, each_row, entries-table_of, filter-retain, none_of_any}
 use Rattle.ns_change.specs.Changed.{change_pool}
 use Rattle.ns_nodes.specs.Losing.{is_live_at, loses, loss_passes, loss_passes_at, loss_passes_in, numbers_pass, numbers_pass_at, numbers_pass_in}
-use Rattle.ns_nodes.specs.Losing.{release_passes, tenant_passes_at}
+use Rattle.ns_bounds.specs.Given.{left_quota_passes}
+use Rattle.ns_nodes.specs.Losing.{tenant_passes_at}
 use Rattle.ns_live.proofs.Sums.{looked}
 use Rattle.ns_nodes.proofs.Down.{down_node}
 use Rattle.ns_nodes.proofs.LossPast.{down_past, no_jobs}
@@ -85,7 +86,7 @@ module _ (w : World) (pool node : Name) where
             ≡ option_map_or (λ t. tenant_passes_at w pool node t (entries its)) o false
         by None is = refl
         by (Some t) is = λ i. loses_by ns t is its (ap flat at) i
-            && (is_at_bound t.index || numbers_by ns t is its (ap flat at) i || release_passes w t)
+            && (is_at_bound t.index || numbers_by ns t is its (ap flat at) i || left_quota_passes w t)
 
     pub judged : loss_passes w pool node ≡ list_any (loss_passes_at w pool node) (entries keys.numbers)
     judged = any_row-before names one_name tenant_passes w.tenants keys.numbers (λ ns t is out.
@@ -107,7 +108,7 @@ module _ (w : World) (within : is_past_bound w ≡ false) (pool node : Name) whe
   numbers_within none = any_row-none names one_name (λ _ t. numbers_pass_in pool node t) w.tenants (λ ns t is. by ns t is (loses pool node t) refl)
     where
       by : (ns : Name) (t : Tenant) → get w.tenants ns ≡ Some t → (b : Bool) → loses pool node t ≡ b → numbers_pass_in pool node t ≡ false
-      by ns t is true some = right_none (is_at_bound t.index) _ (left_none _ (release_passes w t)
+      by ns t is true some = right_none (is_at_bound t.index) _ (left_none _ (left_quota_passes w t)
           (sym (ap (λ b. b && loss_passes_in w pool node t) some)
           ∙ none_of_any one_name (λ _ t. loses pool node t && loss_passes_in w pool node t) w.tenants ns t none is))
       by ns t is false kept =

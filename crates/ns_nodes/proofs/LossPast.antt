@@ -19,9 +19,10 @@ use Rattle.ns_types.specs.Settling.Settle.{changes_allocation, changes_evaluatio
 use Rattle.ns_types.specs.State.Names.{Name, Key, name_cmp, same_name}
 use Rattle.ns_types.specs.State.Rows.{World, PoolRows, Tenant, class_of, evaluation_at, is_held, is_live, is_live_on, is_run, node_at}
 use Rattle.ns_types.specs.State.Tables.{any_row, table_of}
-use Rattle.ns_types.specs.Steps.{greatest, is_past_bound, is_tenant_past_bound}
+use Rattle.ns_types.specs.Steps.{greatest, is_past_bound}
 use Rattle.ns_types.specs.Wire.Words.{client_text}
 use Rattle.ns_types.proofs.Alike.{same_allocation_refl}
+use Rattle.ns_types.proofs.Bounds.{tenant_within}
 use Rattle.ns_types.proofs.Elements.{any_flat, any_map}
 use Rattle.ns_types.proofs.Lists.{any_alike, each, left_none, not_both, right_none, none_of}
 use Rattle.ns_types.proofs.Named.{first_of_both, names, numbers, one_name, one_number, same_name_is, second_of_both}
@@ -33,14 +34,15 @@ use Rattle.ns_change.specs.declared.change.Change.{Change}
 use Rattle.ns_change.specs.declared.change.PoolChange.{PoolChange}
 use Rattle.ns_change.specs.declared.change.TenantChange.{TenantChange}
 use Rattle.ns_change.specs.Changed.{changed}
-use Rattle.ns_nodes.specs.Losing.{loses, loss_passes, loss_passes_in, numbers_pass_in, release_passes}
-use Rattle.ns_nodes.proofs.AsChange.{after, change, changed_is, down_row, lost_in, losses_counted, node_then, nodes, renewed_none}
+use Rattle.ns_change.proofs.Gone.{lost_rows}
+use Rattle.ns_nodes.specs.Losing.{loses, loss_passes, loss_passes_in, numbers_pass_in}
+use Rattle.ns_nodes.proofs.AsChange.{after, change, changed_is, down_row, losses_counted, node_then, nodes, renewed_none}
 use Rattle.ns_nodes.proofs.AsChange.{renewed_number, tenants_then, then_world, whole}
 use Rattle.ns_nodes.proofs.Within.{places_in}
 use Rattle.ns_release.specs.Released.{does_wake}
 use Rattle.ns_bounds.specs.Bounds.{is_at_bound, is_place_past, is_waking, passes_in, places_pass, quota_passes, room_passes}
 use Rattle.ns_bounds.specs.Bounds.{shows_asleep, shows_awake, tenant_passes, waking_passes, waking_passes_in}
-use Rattle.ns_bounds.specs.Given.{given_limits_pass, given_waking_passes, given_waking_passes_in}
+use Rattle.ns_bounds.specs.Given.{given_limits_pass, given_waking_passes, given_waking_passes_in, left_quota_passes}
 use Rattle.ns_release.specs.Released.{ended_in, ended_of, ended_one, ended_rows, gives_itself, in_pool, quota_left, quota_relimited, quotas_left}
 use Rattle.ns_release.specs.Released.{released_quotas, released_rooms, releases_wake_at, room_left, rooms_left, rooms_of_pool}
 use Rattle.ns_release.specs.Shown.{changes_job_row}
@@ -94,7 +96,7 @@ module _ (pool node : Name) where
         (filter_no_row numbers one_number (λ _ a. is_live_on pool node a) t.allocations no_row)
         ∙ ap (map (λ (e : Name × Allocation). e.1)) (entries_empty names one_name)
 
-    none_lost : lost_in pool node t ≡ t
+    none_lost : lost_rows pool node t ≡ t
     none_lost = λ i. record t {
       allocations = map_rows_idle numbers one_number (λ _ a. lost pool node a) t.allocations
           (λ n a is. ap (λ b. cond b (record a { client = ClientStatus.Lost }) a) (no_row n a is)) i;
@@ -113,17 +115,13 @@ module _ (w : World) (pool name : Name) (p : PoolRows) (at : get w.pools pool �
   abbrev c : Change
   c = change w pool name p at row
 
-  tenant_within : (ns : Name) (t : Tenant) → get w.tenants ns ≡ Some t → is_tenant_past_bound t ≡ false
-  unfolding is_past_bound
-  tenant_within ns t is = none_of_any one_name (λ _ t. is_tenant_past_bound t) w.tenants ns t (left_none _ _ (left_none _ _ within)) is
-
   unchanged : (ns : Name) (t : Tenant) → get w.tenants ns ≡ Some t → loses pool name t ≡ false → then_is ns t ≡ t
-  unchanged ns t is none = renewed_none (losses pool name w) ns (lost_in pool name t)
+  unchanged ns t is none = renewed_none (losses pool name w) ns (lost_rows pool name t)
       (losses_counted w pool name ns t is ∙ ap length (no_jobs pool name t none)) ∙ none_lost pool name t none
 
   number_then : (ns : Name) (t : Tenant) → get w.tenants ns ≡ Some t →
       (then_is ns t).evaluation_number ≡ t.evaluation_number + length (losing_jobs pool name t)
-  number_then ns t is = renewed_number (losses pool name w) ns (lost_in pool name t)
+  number_then ns t is = renewed_number (losses pool name w) ns (lost_rows pool name t)
       ∙ ap (λ n. t.evaluation_number + n) (losses_counted w pool name ns t is)
 
   -- ---- what the change of a namespace passes
@@ -156,11 +154,11 @@ module _ (w : World) (pool name : Name) (p : PoolRows) (at : get w.pools pool �
   change_passes ns t is = by (loses pool name t) refl
     where
       placed : nat_lt greatest t.allocation_number ≡ false
-      placed = right_none (nat_lt greatest t.index || nat_lt greatest t.evaluation_number) (nat_lt greatest t.allocation_number) (tenant_within ns t is)
+      placed = right_none (nat_lt greatest t.index || nat_lt greatest t.evaluation_number) (nat_lt greatest t.allocation_number) (tenant_within w ns t within is)
 
       numbered : nat_lt greatest t.evaluation_number ≡ false
       numbered = right_none (nat_lt greatest t.index) (nat_lt greatest t.evaluation_number)
-          (left_none _ (nat_lt greatest t.allocation_number) (tenant_within ns t is))
+          (left_none _ (nat_lt greatest t.allocation_number) (tenant_within w ns t within is))
 
       jobs : list_any (λ e. changes_job_row t e.0 e.1) (entries (all_of ns t).jobs) ≡ false
       jobs = ap (list_any (λ e. changes_job_row t e.0 e.1)) (entries_empty names one_name)
@@ -332,7 +330,7 @@ module _ (w : World) (pool name : Name) (p : PoolRows) (at : get w.pools pool �
       by true some = refl
       by false quiet = any_alike _ _ w.blocked (each _ (λ key. waking_is key quiet) w.blocked)
 
-  releases_are : (list_any (quota_passes w) quotas || wakings) ≡ any_row (λ _ t. loses pool name t && release_passes w t) w.tenants
+  releases_are : (list_any (quota_passes w) quotas || wakings) ≡ any_row (λ _ t. loses pool name t && left_quota_passes w t) w.tenants
   releases_are = ap (λ b. list_any (quota_passes w) quotas || b) (any_swap (λ key quota. given_waking_passes w [] (quota ∷ []) key) w.blocked quotas)
       ∙ sym (any_both (quota_passes w) (λ quota. list_any (given_waking_passes w [] (quota ∷ [])) w.blocked) quotas)
       ∙ quotas_any (given_limits_pass w)
@@ -345,9 +343,9 @@ module _ (w : World) (pool name : Name) (p : PoolRows) (at : get w.pools pool �
       || list_any (quota_passes w) quotas)
       ∙ ap (λ b. b || list_any (quota_passes w) quotas) (or_none (changes_pass || list_any (waking_passes w c) w.blocked) ∙ wakings_are)
       ∙ turned changes_pass wakings (list_any (quota_passes w) quotas) ∙ ap (λ b. changes_pass || b) releases_are
-      ∙ sym (any_row-either (λ _ t. loses pool name t && own_passes t) (λ _ t. loses pool name t && release_passes w t) w.tenants)
+      ∙ sym (any_row-either (λ _ t. loses pool name t && own_passes t) (λ _ t. loses pool name t && left_quota_passes w t) w.tenants)
       ∙ any_row-alike names one_name _ (λ _ t. loses pool name t && loss_passes_in w pool name t) w.tenants
-      (λ ns t is. shared (loses pool name t) (own_passes t) (release_passes w t))
+      (λ ns t is. shared (loses pool name t) (own_passes t) (left_quota_passes w t))
     where
       turned : (a b q : Bool) → ((a || b) || q) ≡ (a || (q || b))
       turned true b q = refl

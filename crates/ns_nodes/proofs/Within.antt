@@ -1,6 +1,7 @@
 -- Whether a command on one node passes the bound of a counter.
 use Rattle.std.specs.Prelude.{◌≡◌, Bool, true, false, not, ◌&&◌, ◌||◌, Option, Some, None, is_some, nat_lt, option_map}
 use Rattle.std.proofs.Common.{refl, sym, ap, ◌∙◌}
+use Rattle.std.proofs.Math.Bool.{or-false}
 use Rattle.std.specs.Option.{option_and_then, option_map_or}
 use Rattle.std.specs.FinMap.{get}
 use Rattle.keyed.specs.Table.{row_at}
@@ -94,10 +95,6 @@ module _ (t : Tables) (pool name : Name) (within : is_past_bound (world_of t) �
       class : class_of new ≡ class_of node
       class i = offered_class (offer i)
 
-      or_none : (b : Bool) → (b || false) ≡ b
-      or_none true = refl
-      or_none false = refl
-
       gives : (x : StoredPool) → get (pool_of x).nodes name ≡ Some node → gives_itself (pool_of x) name new ≡ (is_free new && not (is_free node))
       gives x row = (λ i. is_free new && option_map_or (λ old. not (is_free old) || not (same_offer old.offer (offer i))) (row i) true)
-          ∙ ap (λ b. is_free new && (not (is_free node) || not b)) (same_offer_refl node.offer) ∙ ap (λ b. is_free new && b) (or_none (not (is_free node)))
+          ∙ ap (λ b. is_free new && (not (is_free node) || not b)) (same_offer_refl node.offer) ∙ ap (λ b. is_free new && b) (or-false (not (is_free node)))

@@ -12,7 +12,7 @@ use Rattle.ns_types.specs.State.Rows.{World, Tenant, is_live_on}
 use Rattle.ns_types.specs.State.Tables.{any_row}
 use Rattle.ns_types.specs.Steps.{greatest}
 use Rattle.ns_bounds.specs.Bounds.{is_at_bound}
-use Rattle.ns_bounds.specs.Given.{given_limits_pass}
+use Rattle.ns_bounds.specs.Given.{left_quota_passes}
 use Rattle.ns_world.specs.declared.tables.TenantRows.{TenantRows}
 
 -- ---- what is asked
@@ -28,13 +28,9 @@ numbers_pass pool node w = any_row (λ _ t. numbers_pass_in pool node t) w.tenan
 abbrev pub loses : Name → Name → Tenant → Bool
 loses pool node t = any_row (λ _ a. is_live_on pool node a) t.allocations
 
--- the release of the namespace's quota, where it has one, passes the bound of a counter
-abbrev pub release_passes : World → Tenant → Bool
-release_passes w t = option_map_or (given_limits_pass w) t.namespace.quota false
-
 -- what the namespace loses passes the bound of a counter: its index, the number of an evaluation, or by its quota's release
 abbrev pub loss_passes_in : World → Name → Name → Tenant → Bool
-loss_passes_in w pool node t = is_at_bound t.index || numbers_pass_in pool node t || release_passes w t
+loss_passes_in w pool node t = is_at_bound t.index || numbers_pass_in pool node t || left_quota_passes w t
 
 abbrev pub loss_passes : World → Name → Name → Bool
 loss_passes w pool node = any_row (λ _ t. loses pool node t && loss_passes_in w pool node t) w.tenants
@@ -104,7 +100,7 @@ numbers_pass_at pool node t slots = nat_lt greatest (t.evaluation_number + lengt
 -- what the namespace loses passes the bound of a counter
 abbrev pub tenant_passes_at : World → Name → Name → Tenant → List (ℕ × Option Unit) → Bool
 tenant_passes_at w pool node t slots = list_any (is_live_at pool node t) slots
-    && (is_at_bound t.index || numbers_pass_at pool node t slots || release_passes w t)
+    && (is_at_bound t.index || numbers_pass_at pool node t slots || left_quota_passes w t)
 
 -- of a namespace with the numbers of its live allocations on the node
 abbrev pub loss_passes_at : World → Name → Name → Name × Option (ByNumber (Option Unit)) → Bool

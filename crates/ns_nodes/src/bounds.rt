@@ -6,17 +6,17 @@ ghost use Rattle.std.specs.List.{list_any};
 ghost use Rattle.ns_types.specs.State.Rows.{class_of, is_free, is_ready, offered_class};
 ghost use Rattle.ns_live.specs.Index.{IsRight};
 ghost use Rattle.ns_nodes.specs.Losing.{is_live_at, loss_passes, loss_passes_at, numbers_pass_at};
-ghost use Rattle.ns_nodes.specs.Losing.{release_passes, tenant_passes_at};
+ghost use Rattle.ns_nodes.specs.Losing.{tenant_passes_at};
 ghost use Rattle.ns_nodes.specs.Registering.{gives_room};
 ghost use Rattle.ns_bounds.specs.Bounds.{is_at_bound};
-ghost use Rattle.ns_bounds.specs.Given.{given_room_passes};
+ghost use Rattle.ns_bounds.specs.Given.{given_room_passes, left_quota_passes};
 ghost use Rattle.ns_world.specs.World.{tenant_of, world_of};
 
 use crate::losing::{NumberSlot, numbers_pass_at};
 use crate::removed::is_ready;
 use keyed::NumberTable;
 use ns_alike::{is_free, same_offer};
-use ns_bounds::{given_limits_pass, given_room_passes, is_at_bound};
+use ns_bounds::{given_room_passes, is_at_bound, left_quota_passes};
 use ns_change::is_live_on;
 use ns_live::Live;
 use ns_types::node::{Node, NodeStatus, Offer};
@@ -85,17 +85,6 @@ fn any_is_live(pool: &Text, node: &Text, tenant: &TenantRows, slots: &[NumberSlo
         .any(|slot| is_live_at(pool, node, tenant, slot))
 }
 
-/// Whether the release of the namespace's quota passes the bound of a counter: its own, or the index of a namespace in which
-/// an evaluation wakes.
-fn release_passes(tables: &Tables, tenant: &TenantRows) -> bool
-    ensures { result ≡ release_passes (world_of tables.now) (tenant_of tenant.now) }
-{
-    match &tenant.namespace.quota {
-        Some(quota) => given_limits_pass(tables, quota),
-        None => false,
-    }
-}
-
 fn own_passes(
     tables: &Tables,
     pool: &Text,
@@ -105,11 +94,11 @@ fn own_passes(
 ) -> bool
     ensures { let t = tenant_of tenant.now in
         result ≡ (is_at_bound t.index || numbers_pass_at pool.now node.now t slots.now
-        || release_passes (world_of tables.now) t) }
+        || left_quota_passes (world_of tables.now) t) }
 {
     is_at_bound(tenant.index)
         || numbers_pass_at(pool, node, tenant, slots)
-        || release_passes(tables, tenant)
+        || left_quota_passes(tables, tenant)
 }
 
 fn tenant_passes(
