@@ -1,6 +1,7 @@
 -- What is asked of a pool keeps a world orderly.
 use Rattle.std.specs.Prelude.{◌≡◌, ℕ, Bool, true, false, cond, not, T, List, [], ◌∷◌, map, Option, Some, None, ◌&&◌, filter, fold, option_map}
 use Rattle.std.proofs.Common.{refl, sym, ap, subst, ◌∙◌}
+use Rattle.std.proofs.Math.Bool.{and-false}
 use Rattle.std.specs.FinMap.{get, entries, from_entries, get-from_entries, insert}
 use Rattle.std.specs.Option.{option_map_or, option_and_then}
 use Rattle.ns_types.specs.declared.allocation.Allocation.{Allocation}
@@ -57,15 +58,15 @@ module _ {A : Type 0} (ns_of : A → Name) (row_of : A → Allocation) (trigger 
 
 -- ---- nodes that go down
 
+pub none_lost : (a : Allocation) → is_live (record a { client = ClientStatus.Lost }) ≡ false
+none_lost a = and-false (is_run a.desired)
+
 lose_orderly : (pool node : Name) (w : World) → IsOrderly w → IsOrderly (lose pool node w)
 lose_orderly pool node w s = map_orderly w (λ _ t. record t { allocations = map_rows (λ _ a. lost pool node a) t.allocations }) s (λ ns t is.
     keeps_rows ns _ _ t t.jobs (map_rows (λ _ a. lost pool node a) t.allocations) t.allocation_number (s.tenant ns t is) (s.tenant ns t is).job
     (λ n a at. let y = row_of_map numbers_ one_number (λ _ a. lost pool node a) t.allocations n a at in
     subst (λ a. is_live a ≡ true → permits t.namespace a.pool ≡ true) y.2 (was t.namespace y.0 ((s.tenant ns t is).allocation n y.0 y.1))))
   where
-    none_lost : (a : Allocation) → is_live (record a { client = ClientStatus.Lost }) ≡ false
-    none_lost a = elim (is_run a.desired) as (λ b. (b && false) ≡ false) [ true ↦ refl | false ↦ refl ]
-
     was : (namespace : Namespace) (a : Allocation) → (is_live a ≡ true → permits namespace a.pool ≡ true) → is_live (lost pool node a) ≡ true →
         permits namespace (lost pool node a).pool ≡ true
     was namespace a h = elim (is_live_on pool node a) as (λ b. is_live (cond b (record a { client = ClientStatus.Lost }) a) ≡ true →

@@ -49,6 +49,14 @@ keeping_orderly w number ns act h = at_work_orderly w number ns (λ t worker e. 
 -- ---- workers come, change and go
 
 module _ (ns : Name) (ready blocked : ℕ → Bool) (t : Tenant) (s : IsOrderlyTenant ns t) where
+  -- a worker's row is put
+  worker_came : (number : ℕ) (new : Worker) (m : ℕ) (x : Worker) → get (insert t.workers number new) m ≡ Some x →
+      ((m ≡ number) × (new ≡ x)) ⊎ (get t.workers m ≡ Some x)
+  worker_came number new m x at = row_of_insert numbers_ one_number t.workers number new m x at
+
+  still_pending : (number : ℕ) (new : Worker) (m : ℕ) → IsPendingIn t m → IsPendingIn (with_worker number new t) m
+  still_pending number new m p = record { row = p.row; is_row = p.is_row; is_pending = p.is_pending }
+
   -- a new worker takes what is ready, which is then listed no more
   pub keeps_taken : (number n : ℕ) (new : Worker) → new.evaluation ≡ n → new.kept ≡ None → IsReadyIn t n → ((m : ℕ) → ready m ≡ true → n ≢ m) →
       KeepsTenant ns ready blocked t (with_worker number new t)
@@ -58,28 +66,22 @@ module _ (ns : Name) (ready blocked : ℕ → Bool) (t : Tenant) (s : IsOrderlyT
       evaluation = s.evaluation;
       allocation = s.allocation;
       numbers = s.numbers;
-      snapshot = λ m x k at has. kept m x k (came m x at) has;
-      held = λ m x at. held m x (came m x at);
-      one_each = λ l m v x a b e. one l m v x (came l v a) (came m x b) e;
+      snapshot = λ m x k at has. kept m x k (worker_came number new m x at) has;
+      held = λ m x at. held m x (worker_came number new m x at);
+      one_each = λ l m v x a b e. one l m v x (worker_came number new l v a) (worker_came number new m x b) e;
     };
-    ready_kept = λ m has r. record { pending = still m r.pending; free = λ l x at. free m has r l x (came l x at) };
+    ready_kept = λ m has r. record { pending = still_pending number new m r.pending; free = λ l x at. free m has r l x (worker_came number new l x at) };
     blocked_kept = λ m has b. record { row = b.row; is_row = b.is_row; is_blocked = b.is_blocked };
   }
     where
-      came : (m : ℕ) (x : Worker) → get (insert t.workers number new) m ≡ Some x → ((m ≡ number) × (new ≡ x)) ⊎ (get t.workers m ≡ Some x)
-      came m x at = row_of_insert numbers_ one_number t.workers number new m x at
-
-      still : (m : ℕ) → IsPendingIn t m → IsPendingIn (with_worker number new t) m
-      still m p = record { row = p.row; is_row = p.is_row; is_pending = p.is_pending }
-
       kept : (m : ℕ) (x : Worker) (k : Snapshot) → ((m ≡ number) × (new ≡ x)) ⊎ (get t.workers m ≡ Some x) → x.kept ≡ Some k →
           IsKeptBy ns (with_worker number new t) k
       kept m x k (inl a) e = absurd (not_Some _ (sym none ∙ ap (λ y. y.kept) a.1 ∙ e))
       kept m x k (inr a) e = let y = s.snapshot m x k a e in record { namespace = y.namespace; allowed = y.allowed }
 
       held : (m : ℕ) (x : Worker) → ((m ≡ number) × (new ≡ x)) ⊎ (get t.workers m ≡ Some x) → IsPendingIn (with_worker number new t) x.evaluation
-      held m x (inl a) = subst (IsPendingIn (with_worker number new t)) (sym same ∙ ap (λ y. y.evaluation) a.1) (still n mine.pending)
-      held m x (inr a) = still x.evaluation (s.held m x a)
+      held m x (inl a) = subst (IsPendingIn (with_worker number new t)) (sym same ∙ ap (λ y. y.evaluation) a.1) (still_pending number new n mine.pending)
+      held m x (inr a) = still_pending number new x.evaluation (s.held m x a)
 
       one : (l m : ℕ) (v x : Worker) → ((l ≡ number) × (new ≡ v)) ⊎ (get t.workers l ≡ Some v) → ((m ≡ number) × (new ≡ x)) ⊎ (get t.workers m ≡ Some x) →
           v.evaluation ≡ x.evaluation → l ≡ m
@@ -101,20 +103,21 @@ module _ (ns : Name) (ready blocked : ℕ → Bool) (t : Tenant) (s : IsOrderlyT
       evaluation = s.evaluation;
       allocation = s.allocation;
       numbers = s.numbers;
-      snapshot = λ n x k at e. let y = kept n x k (came n x at) e in record { namespace = y.namespace; allowed = y.allowed };
-      held = λ n x at. let z = was n x (came n x at) in subst (IsPendingIn (with_worker number new t)) z.2 (still z.0.evaluation (s.held n z.0 z.1));
-      one_each = λ m n v x a b e. let y = was m v (came m v a) in let z = was n x (came n x b) in s.one_each m n y.0 z.0 y.1 z.1 (y.2 ∙ e ∙ sym z.2);
+      snapshot = λ n x k at e. let y = kept n x k (worker_came number new n x at) e in record { namespace = y.namespace; allowed = y.allowed };
+      held =
+          λ n x at. let z = was n x (worker_came number new n x at) in
+          subst (IsPendingIn (with_worker number new t)) z.2 (still_pending number new z.0.evaluation (s.held n z.0 z.1));
+      one_each =
+          λ m n v x a b e. let y = was m v (worker_came number new m v a) in let z = was n x (worker_came number new n x b) in
+          s.one_each m n y.0 z.0 y.1 z.1 (y.2 ∙ e ∙ sym z.2);
     };
-    ready_kept = λ n _ r. record { pending = still n r.pending; free = λ m x at e. let z = was m x (came m x at) in r.free m z.0 z.1 (z.2 ∙ e) };
+    ready_kept = λ n _ r. record {
+      pending = still_pending number new n r.pending;
+      free = λ m x at e. let z = was m x (worker_came number new m x at) in r.free m z.0 z.1 (z.2 ∙ e);
+    };
     blocked_kept = λ n _ b. record { row = b.row; is_row = b.is_row; is_blocked = b.is_blocked };
   }
     where
-      came : (n : ℕ) (x : Worker) → get (insert t.workers number new) n ≡ Some x → ((n ≡ number) × (new ≡ x)) ⊎ (get t.workers n ≡ Some x)
-      came n x at = row_of_insert numbers_ one_number t.workers number new n x at
-
-      still : (m : ℕ) → IsPendingIn t m → IsPendingIn (with_worker number new t) m
-      still m p = record { row = p.row; is_row = p.is_row; is_pending = p.is_pending }
-
       -- the worker as it was, with that evaluation
       was : (n : ℕ) (x : Worker) → ((n ≡ number) × (new ≡ x)) ⊎ (get t.workers n ≡ Some x) → (y : Worker) × (get t.workers n ≡ Some y) ×
           (y.evaluation ≡ x.evaluation)

@@ -28,7 +28,7 @@ use Rattle.ns_types.proofs.Named.{names, one_name, numbers as numbers_, one_numb
 use Rattle.ns_types.proofs.Tests.{not_Some, same_Some, is_yes}
 use Rattle.ns_audit.proofs.ValidAllocations.Statement.{IsAllocated}
 use Rattle.ns_audit.proofs.Steady.Keeping.{row_of_map}
-use Rattle.ns_audit.proofs.Steady.Nodes.{held_before}
+use Rattle.ns_audit.proofs.Steady.Nodes.{held_before, none_lost}
 use Rattle.ns_types.proofs.Leads.{Leads, leads_of, leads_unless, leads_found, leads_if}
 use Rattle.ns_audit.proofs.ValidAllocations.Sound.{itself, le_same, allocation_row, LivesOn, StillThere, NodesStay, NodesHold, allocated_from}
 use Rattle.ns_audit.proofs.ValidAllocations.Going.{onward_same, onward_change, onward_map, onward_then, GoesRow, Goes, goes_still, goes_then, goes_row}
@@ -197,14 +197,11 @@ module _ (w : World) (s : IsAllocated w) (pool : Name) (p : PoolRows) (is : get 
 -- ---- nodes that go down
 
 module _ (pool name : Name) where
-  dead : (a : Allocation) → is_live (record a { client = ClientStatus.Lost }) ≡ false
-  dead a = elim (is_run a.desired) as (λ b. (b && false) ≡ false) [ true ↦ refl | false ↦ refl ]
-
   lost_row : (rows : Tenant) (n : ℕ) (a : Allocation) → get rows.allocations n ≡ Some a → GoesRow rows.allocations n (lost pool name a)
   lost_row rows n a at = by (is_live_on pool name a)
     where
       by : (b : Bool) → GoesRow rows.allocations n (cond b (record a { client = ClientStatus.Lost }) a)
-      by true = record { row = a; is_row = at; same = refl; live = λ live. not_both live (dead a) }
+      by true = record { row = a; is_row = at; same = refl; live = λ live. not_both live (none_lost a) }
       by false = record { row = a; is_row = at; same = refl; live = λ live. live }
 
   lose_goes : (t : Tenant) → Goes t (record t { allocations = map_rows (λ _ a. lost pool name a) t.allocations })
@@ -234,7 +231,7 @@ module _ (pool name : Name) where
     where
       by : (a : Allocation) (b : Bool) → is_live_on pool name a ≡ b → is_live (cond b (record a { client = ClientStatus.Lost }) a) ≡ true →
           (cond b (record a { client = ClientStatus.Lost }) a).pool ≡ pool → (cond b (record a { client = ClientStatus.Lost }) a).node ≡ name → ⊥
-      by a true is_yes live q n = not_both live (dead a)
+      by a true is_yes live q n = not_both live (none_lost a)
       by a false off live q n = not_both (λ i. live i && ((ap (same_name pool) q ∙ same_name_refl pool) i && (ap (same_name name) n ∙ same_name_refl name) i))
           off
 

@@ -27,7 +27,7 @@ use Rattle.ns_types.proofs.Sums.{sum_part}
 use Rattle.ns_types.proofs.Tests.{not_Some, same_Some}
 use Rattle.ns_types.proofs.TableRows.{row_of_insert}
 use Rattle.ns_audit.proofs.ValidAllocations.Statement.{IsAllocated}
-use Rattle.ns_audit.proofs.Steady.Keeping.{at_inserted}
+use Rattle.ns_audit.proofs.Steady.Keeping.{above, at_inserted}
 use Rattle.ns_audit.proofs.ValidAllocations.Sound.{itself, by_le, le_same, le_then, within_less, allocation_row, row_allocation, node_row, node_pool, ComesFrom}
 use Rattle.ns_audit.proofs.ValidAllocations.Sound.{NodesStay, sound_from}
 use Rattle.ns_audit.proofs.ValidAllocations.Going.{comes_same, Onward, onward_same, onward_change, onward_each, Lasts, lasts_still, lasts_then}
@@ -84,9 +84,6 @@ pub record IsReserved (kept : Snapshot) (j : Job) (old w : World) (rest : List P
 
 one_more : (n : ℕ) → n ≤ n + 1
 one_more n = omega arith
-
-not_next : (a n : ℕ) → a ≤ n → a ≡ n + 1 → ⊥
-not_next a n h e = omega arith
 
 added : (x u w v c o : ℕ) → x + u ≤ w + v → v + o ≤ u + c → x ≤ w + c
 added x u w v c o h k = omega arith
@@ -271,7 +268,7 @@ module _ (kept : Snapshot) (j : Job) (p : Placement) (w : World) (s : IsAllocate
         let r = allocation_row w key b l.0 in
         let q = (s.allocation key.0 r.0 key.1 b r.1 r.2).placed l.1 in
         let same = same_Some q.row node (sym q.there ∙ (λ i. node_at w (pool i) (on i)) ∙ at) in
-        not_next b.place node.places (le_then b.place q.row.places node.places q.counted (le_same q.row.places node.places (ap (λ (x : Node). x.places) same)))
+        above b.place node.places (le_then b.place q.row.places node.places q.counted (le_same q.row.places node.places (ap (λ (x : Node). x.places) same)))
         place
 
     one_place_now : (a b : Key) (u v : Allocation) → IsLiveAt x a u → IsLiveAt x b v → u.pool ≡ v.pool → u.node ≡ v.node → u.place ≡ v.place → a ≡ b

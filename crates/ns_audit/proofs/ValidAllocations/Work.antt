@@ -168,6 +168,11 @@ ask_goes w ns command = leads_found (Continues w) (get w.tenants ns) (asked_in n
 
 -- ---- a worker's steps
 
+pub unlisted_tenants : (ns job : Name) (t : Tenant) (w : World) → (without_blocked ns job t w).tenants ≡ w.tenants
+unlisted_tenants ns job t w = elim (blocked_of t job) as
+    (λ (o : Option ℕ). (option_map_or (λ n. record w { blocked = without_key (ns, n) w.blocked }) o w).tenants ≡ w.tenants)
+    [ Some n ↦ refl | None ↦ refl ]
+
 module _ (w : World) (number : ℕ) where
   pub dequeue_goes : (key : Key) → Leads (Continues w) (dequeue number key w)
   unfolding dequeue
@@ -213,11 +218,6 @@ module _ (w : World) (number : ℕ) where
         tenant (Some t) = waiting (first_waiting job t)
 
     module _ (t : Tenant) (is : get w.tenants ns ≡ Some t) (worker : Worker) (e : Evaluation) where
-      tenants_before : (without_blocked ns e.job t w).tenants ≡ w.tenants
-      tenants_before = elim (blocked_of t e.job) as
-          (λ (o : Option ℕ). (option_map_or (λ n. record w { blocked = without_key (ns, n) w.blocked }) o w).tenants ≡ w.tenants)
-          [ Some n ↦ refl | None ↦ refl ]
-
       pools_before : (without_blocked ns e.job t w).pools ≡ w.pools
       pools_before = elim (blocked_of t e.job) as
           (λ (o : Option ℕ). (option_map_or (λ n. record w { blocked = without_key (ns, n) w.blocked }) o w).pools ≡ w.pools) [ Some n ↦ refl | None ↦ refl ]
@@ -227,10 +227,11 @@ module _ (w : World) (number : ℕ) where
       followed_goes t' goes follower true = continues_put w _ ns t (with_follower worker.evaluation (record follower { status = Status.Pending }) t') is
           (goes_then t t' (with_follower worker.evaluation (record follower { status = Status.Pending }) t') goes
           (goes_follower worker.evaluation (record follower { status = Status.Pending }) t'))
-          (ap (λ m. insert m ns (with_follower worker.evaluation (record follower { status = Status.Pending }) t')) tenants_before) pools_before
+          (ap (λ m. insert m ns (with_follower worker.evaluation (record follower { status = Status.Pending }) t'))
+          (unlisted_tenants ns e.job t w)) pools_before
       followed_goes t' goes follower false = continues_put w _ ns t (with_follower worker.evaluation follower t') is
           (goes_then t t' (with_follower worker.evaluation follower t') goes (goes_follower worker.evaluation follower t'))
-          (ap (λ m. insert m ns (with_follower worker.evaluation follower t')) tenants_before) pools_before
+          (ap (λ m. insert m ns (with_follower worker.evaluation follower t')) (unlisted_tenants ns e.job t w)) pools_before
 
       finished_goes : (kept : Snapshot) → Leads (Continues w) (finished number ns w t worker e kept)
       finished_goes kept =
@@ -242,7 +243,8 @@ module _ (w : World) (number : ℕ) where
           (promote ns e.job (followed ns worker (follower_of e worker kept) t' (missed w kept (follower_of e worker kept)) x)))
           (Done (Content.Finished (end_of worker) None) (promote ns e.job (put_tenant ns t' x)))
           (λ _. promote_goes e.job _ (followed_goes t' goes (follower_of e worker kept) (missed w kept (follower_of e worker kept))))
-          (λ _. promote_goes e.job _ (continues_put w (put_tenant ns t' x) ns t t' is goes (ap (λ m. insert m ns t') tenants_before) pools_before))
+          (λ _. promote_goes e.job _ (continues_put w (put_tenant ns t' x) ns t t' is goes (ap (λ m. insert m ns t')
+          (unlisted_tenants ns e.job t w)) pools_before))
 
       nacked : Tenant
       nacked = with_nack worker.evaluation e t

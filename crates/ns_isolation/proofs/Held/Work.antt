@@ -24,13 +24,14 @@ use Rattle.ns_types.specs.State.Rows.{World, Tenant, is_live}
 use Rattle.ns_types.specs.State.Sums.{names_quota, quota_use}
 use Rattle.ns_types.specs.Working.Queue.{is_busy, first_waiting, promote, is_served}
 use Rattle.ns_types.specs.Working.Snapshot.{snapshot_of}
-use Rattle.ns_types.specs.Working.Work.{with_worker, without_worker, without_key, workers_end, is_idle, new_worker, taken, dequeue_in, dequeue}
+use Rattle.ns_types.specs.Working.Work.{with_worker, without_worker, workers_end, is_idle, new_worker, taken, dequeue_in, dequeue}
 use Rattle.ns_types.specs.Working.Work.{may_snap, with_snapshot, snap_for, snap, may_submit, submitted, submit_for, submit, may_finish, end_of, needs_follower}
 use Rattle.ns_types.specs.Working.Work.{follower_of, blocked_of, without_blocked, cancel_blocked, ended, tied_to, with_follower, followed, finished, finish_for}
 use Rattle.ns_types.specs.Working.Work.{finish, is_submitted, most_nacks, with_nack, given_back, given_up, nack_for, nack}
 use Rattle.ns_types.specs.Working.Worker.{Worker}
 use Rattle.ns_types.proofs.Leads.{Leads, leads_unless, leads_refused, leads_found, leads_there, leads_if, leads_at_work, leads_keeping}
 use Rattle.ns_audit.proofs.ValidAllocations.Going.{Onward, onward_same, onward_put, onward_make_in}
+use Rattle.ns_audit.proofs.ValidAllocations.Work.{unlisted_tenants}
 use Rattle.ns_isolation.proofs.Held.Rows.{Ends, ends_quiet, ends_still, ends_then, ends_row}
 
 -- ---- one namespace
@@ -161,23 +162,18 @@ module _ (w : World) (number : ℕ) where
         tenant (Some t) = waiting (first_waiting job t)
 
     module _ (t : Tenant) (is : get w.tenants ns ≡ Some t) (worker : Worker) (e : Evaluation) where
-      tenants_before : (without_blocked ns e.job t w).tenants ≡ w.tenants
-      tenants_before = elim (blocked_of t e.job) as
-          (λ (o : Option ℕ). (option_map_or (λ n. record w { blocked = without_key (ns, n) w.blocked }) o w).tenants ≡ w.tenants)
-          [ Some n ↦ refl | None ↦ refl ]
-
       followed_ends : (t' : Tenant) → t'.allocations ≡ t.allocations → (follower : Evaluation) (b : Bool) →
           Onward Ends w (followed ns worker follower t' b (without_blocked ns e.job t w))
       followed_ends t' same follower true =
           let u = with_follower worker.evaluation (record follower { status = Status.Pending }) t' in
           ends_put w (put_tenant ns u (without_blocked ns e.job t w)) ns t u is
           (ends_quiet t u (tied_leaves worker.evaluation (t'.evaluation_number + 1) t' ∙ same))
-          (ap (λ m. insert m ns u) tenants_before)
+          (ap (λ m. insert m ns u) (unlisted_tenants ns e.job t w))
       followed_ends t' same follower false =
           let u = with_follower worker.evaluation follower t' in
           ends_put w (put_tenant ns u (without_blocked ns e.job t w)) ns t u is
           (ends_quiet t u (tied_leaves worker.evaluation (t'.evaluation_number + 1) t' ∙ same))
-          (ap (λ m. insert m ns u) tenants_before)
+          (ap (λ m. insert m ns u) (unlisted_tenants ns e.job t w))
 
       finished_ends : (kept : Snapshot) → Leads (Onward Ends w) (finished number ns w t worker e kept)
       finished_ends kept =
@@ -189,7 +185,8 @@ module _ (w : World) (number : ℕ) where
           (promote ns e.job (followed ns worker (follower_of e worker kept) t' (missed w kept (follower_of e worker kept)) x)))
           (Done (Content.Finished (end_of worker) None) (promote ns e.job (put_tenant ns t' x)))
           (λ _. promote_ends e.job _ (followed_ends t' same (follower_of e worker kept) (missed w kept (follower_of e worker kept))))
-          (λ _. promote_ends e.job _ (ends_put w (put_tenant ns t' x) ns t t' is (ends_quiet t t' same) (ap (λ m. insert m ns t') tenants_before)))
+          (λ _. promote_ends e.job _ (ends_put w (put_tenant ns t' x) ns t t' is (ends_quiet t t' same)
+          (ap (λ m. insert m ns t') (unlisted_tenants ns e.job t w))))
 
       nack_for_ends : Leads (Onward Ends w) (nack_for number ns w t worker e)
       nack_for_ends =
