@@ -13,7 +13,7 @@ use Rattle.ns_types.specs.declared.reply.Content.{Content}
 use Rattle.ns_types.specs.declared.step.AskCommand.{AskCommand}
 use Rattle.ns_types.specs.Asking.Asks.{asked_in, deregister_job, deregistered, first_refusal, registered_with}
 use Rattle.ns_types.specs.Settling.Making.{evaluation_for, evaluation_of, make_in, put_tenant, with_desired, with_evaluation, with_job}
-use Rattle.ns_types.specs.Settling.Outcome.{Outcome, Done, found, is_done, refused_by, unless}
+use Rattle.ns_types.specs.Settling.Outcome.{Done, found, is_done, refused_by, unless}
 use Rattle.ns_types.specs.Settling.Releases.{woken}
 use Rattle.ns_types.specs.Settling.Same.{same_evaluation}
 use Rattle.ns_types.specs.Settling.Settle.{changes_allocation, changes_evaluation, changes_job, is_changed, is_touched, number_releases, pending, settle}
@@ -23,12 +23,14 @@ use Rattle.ns_types.specs.State.Rows.{World, Tenant, is_live}
 use Rattle.ns_types.specs.State.Tables.{any_row}
 use Rattle.ns_types.specs.Steps.{greatest, is_past_bound, is_pool_past_bound, is_tenant_past_bound}
 use Rattle.ns_types.specs.Working.Queue.{queue}
+use Rattle.ns_types.proofs.Bounds.{tenant_within}
 use Rattle.ns_types.proofs.Lists.{left_none, not_both, right_none}
 use Rattle.ns_types.proofs.Named.{names, numbers, one_name, one_number}
+use Rattle.ns_types.proofs.Outcomes.{state_or}
 use Rattle.ns_types.proofs.Queue.{queue_keeps, queues_keep}
 use Rattle.ns_types.proofs.Settling.{keeps_elsewhere, releases_nothing, stamp_one}
 use Rattle.ns_types.proofs.TableRows.{any_row-put, get_put, some_row}
-use Rattle.ns_types.proofs.Tables.{get-map_rows, none_of_any}
+use Rattle.ns_types.proofs.Tables.{get-map_rows}
 use Rattle.ns_jobs.specs.Counted.{CountingIsSettling, JobsPassNothingElse, passes_bound, writes_jobs}
 use Rattle.ns_jobs.specs.Made.{job_of, stopped_with}
 use Rattle.ns_jobs.specs.Read.{only_reads}
@@ -42,11 +44,6 @@ queues_tenants = queues_keep (λ w. w.tenants) (λ w keys. refl)
 
 first_of_three : (a b c : Bool) → a ≡ true → (a || b || c) ≡ true
 first_of_three a b c is = ap (λ a. a || b || c) is
-
--- the world that is left, or that one
-abbrev world_or : World → Outcome World → World
-world_or w (Done content x) = x
-world_or w _ = w
 
 -- ---- a namespace with a new evaluation
 
@@ -110,12 +107,12 @@ module _ (w : World) (ns : Name) (t : Tenant) (at : get w.tenants ns ≡ Some t)
 
     registers : (r : Registration) (o : Option Refusal) → refused_by o (registered_with ns r w t (job_of r t)) ≡ Done content x → IsPast
     registers r (Some refusal) is = not_both (ap is_done is) refl
-    registers r None is = subst (λ x. is_past_bound (settle w x) ≡ true) (ap (world_or w) is)
+    registers r None is = subst (λ x. is_past_bound (settle w x) ≡ true) (ap (state_or w) is)
         (made_past (with_job r.id (job_of r t) t) (evaluation_of r.id (job_of r t).document Trigger.JobRegister) refl)
 
     deregisters : (id : Name) (purge : Bool) (o : Option Job) → found o (deregister_job ns id purge w t) ≡ Done content x → IsPast
     deregisters id purge None is = not_both (ap is_done is) refl
-    deregisters id purge (Some job) is = subst (λ x. is_past_bound (settle w x) ≡ true) (ap (world_or w) is)
+    deregisters id purge (Some job) is = subst (λ x. is_past_bound (settle w x) ≡ true) (ap (state_or w) is)
         (made_past (deregistered purge id job t) (evaluation_of id job.document Trigger.JobDeregister) (by purge))
       where
         by : (purge : Bool) → (deregistered purge id job t).evaluation_number ≡ t.evaluation_number
@@ -125,7 +122,7 @@ module _ (w : World) (ns : Name) (t : Tenant) (at : get w.tenants ns ≡ Some t)
     stops_live : (n : ℕ) (a : Allocation) (live : Bool) → unless (not live) Refusal.Conflict (stopped_with ns n w t a) ≡ Done content x → IsPast
     unfolding unless
     stops_live n a false is = not_both (ap is_done is) refl
-    stops_live n a true is = subst (λ x. is_past_bound (settle w x) ≡ true) (ap (world_or w) is)
+    stops_live n a true is = subst (λ x. is_past_bound (settle w x) ≡ true) (ap (state_or w) is)
         (made_past (with_desired n DesiredStatus.Stop t) (evaluation_for t a Trigger.AllocStop) (stop_keeps n t))
 
     stops : (n : ℕ) (o : Option Allocation) → found o (λ a. unless (not (is_live a)) Refusal.Conflict (stopped_with ns n w t a)) ≡ Done content x → IsPast
@@ -168,7 +165,7 @@ module _ (w : World) (ns : Name) (t u : Tenant) (e : Evaluation) (at : get w.ten
   parts = within
 
   own : is_tenant_past_bound t ≡ false
-  own = none_of_any one_name (λ _ t. is_tenant_past_bound t) w.tenants ns t (left_none _ _ (left_none _ _ parts)) at
+  own = tenant_within w ns t within at
 
   -- the numbers of the namespace as the step leaves it, whether it was touched or not
   fits_then : is_tenant_past_bound (stamp_tenant (Some t) then) ≡ false
@@ -203,14 +200,14 @@ jobs_fit w ns command t content x jobs at within fits is = asked command jobs (s
     registered : (r : Registration) (o : Option Refusal) → refused_by o (registered_with ns r w t (job_of r t)) ≡ Done content x →
         is_past_bound (settle w x) ≡ false
     registered r (Some refusal) is = not_both (ap is_done is) refl
-    registered r None is = subst (λ x. is_past_bound (settle w x) ≡ false) (ap (world_or w) is)
+    registered r None is = subst (λ x. is_past_bound (settle w x) ≡ false) (ap (state_or w) is)
         (within_made w ns t (with_job r.id (job_of r t) t) (evaluation_of r.id (job_of r t).document Trigger.JobRegister) at within fits refl refl refl refl)
 
     removed : (id : Name) (purge : Bool) (o : Option Job) → found o (deregister_job ns id purge w t) ≡ Done content x → is_past_bound (settle w x) ≡ false
     removed id purge None is = not_both (ap is_done is) refl
-    removed id true (Some job) is = subst (λ x. is_past_bound (settle w x) ≡ false) (ap (world_or w) is)
+    removed id true (Some job) is = subst (λ x. is_past_bound (settle w x) ≡ false) (ap (state_or w) is)
         (within_made w ns t (deregistered true id job t) (evaluation_of id job.document Trigger.JobDeregister) at within fits refl refl refl refl)
-    removed id false (Some job) is = subst (λ x. is_past_bound (settle w x) ≡ false) (ap (world_or w) is)
+    removed id false (Some job) is = subst (λ x. is_past_bound (settle w x) ≡ false) (ap (state_or w) is)
         (within_made w ns t (deregistered false id job t) (evaluation_of id job.document Trigger.JobDeregister) at within fits refl refl refl refl)
 
     asked : (command : AskCommand) → writes_jobs command ≡ true → asked_in ns command w t ≡ Done content x → is_past_bound (settle w x) ≡ false

@@ -3,6 +3,8 @@
 use Rattle.std.specs.Prelude.{◌≡◌, ℕ, ◌+◌, Bool, true, false, cond, not, ◌&&◌, ◌||◌, if◌then◌else◌, List, [], ◌∷◌, ◌++◌, Option, Some, None, flat_map}
 use Rattle.std.specs.Prelude.{nat_lt, option_map}
 use Rattle.std.proofs.Common.{refl, sym, ap, ◌∙◌, append-nil, Ordering}
+use Rattle.std.proofs.Math.Bool.{and-false}
+use Rattle.std.proofs.lemmas.Bool.{or_right}
 use Rattle.std.specs.Cmp.{IsTotalOrder}
 use Rattle.std.specs.List.{list_any}
 use Rattle.std.specs.Option.{option_and_then, option_map_or}
@@ -39,13 +41,14 @@ use Rattle.ns_change.proofs.Opening.{row_set}
 use Rattle.ns_release.specs.Released.{does_wake}
 use Rattle.ns_bounds.specs.Bounds.{is_at_bound, passes_in, places_pass, quota_passes, room_passes, shows_awake}
 use Rattle.ns_bounds.specs.Bounds.{tenant_passes, touches_asleep, waking_passes}
-use Rattle.ns_bounds.specs.Given.{given_limits_pass}
+use Rattle.ns_bounds.specs.Given.{given_limits_pass, given_waking_passes}
+use Rattle.ns_bounds.proofs.Each.{waking_each}
 use Rattle.ns_release.specs.Released.{ended_in, ended_of, ended_one, ended_rows, in_pool, is_woken, quota_left, quota_relimited, released_quotas}
 use Rattle.ns_release.specs.Released.{released_rooms}
 use Rattle.ns_release.specs.Released.{releases_wake_at, room_left, rooms_left, rooms_of_pool}
 use Rattle.ns_bounds.specs.Given.{given_room_passes}
 use Rattle.ns_bounds.proofs.Indexes.{past_bound_is}
-use Rattle.ns_release.proofs.Together.{wakes_by_each, wakes_by_quotas}
+use Rattle.ns_release.proofs.Together.{wakes_by_quotas}
 use Rattle.ns_jobs.specs.Counted.{passes_bound}
 use Rattle.ns_jobs.specs.Ending.{ending_passes}
 
@@ -61,34 +64,9 @@ module _ {K X : Type 0} {R : K → K → Ordering} (o : IsTotalOrder R) (same : 
 
 -- ---- whom releases wake past the index of its namespace
 
-abbrev waking_by : World → List (Name × Class) → List Name → Key → Bool
-waking_by w rooms quotas key = option_map_or
-    (λ t. is_at_bound t.index && (releases_wake_at w rooms quotas key && shows_awake t key.1 (evaluation_at w key))) (get w.tenants key.0) false
-
 module _ (w : World) where
-  waking_each : (rooms : List (Name × Class)) (quotas : List Name) (key : Key) →
-      waking_by w rooms quotas key ≡ (waking_by w rooms [] key || waking_by w [] quotas key)
-  waking_each rooms quotas key =
-      ap (λ b. option_map_or (λ t. is_at_bound t.index && (b && shows_awake t key.1 (evaluation_at w key))) (get w.tenants key.0) false)
-      (wakes_by_each w rooms quotas key) ∙ by (get w.tenants key.0)
-    where
-      split : (i r q s : Bool) → (i && ((r || q) && s)) ≡ ((i && (r && s)) || (i && (q && s)))
-      split true true true true = refl
-      split true true true false = refl
-      split true true false true = refl
-      split true true false false = refl
-      split true false q s = refl
-      split false r q s = refl
-
-      by : (o : Option Tenant) → option_map_or (λ t. is_at_bound t.index
-          && ((releases_wake_at w rooms [] key || releases_wake_at w [] quotas key) && shows_awake t key.1 (evaluation_at w key))) o false
-          ≡ (option_map_or (λ t. is_at_bound t.index && (releases_wake_at w rooms [] key && shows_awake t key.1 (evaluation_at w key))) o false
-          || option_map_or (λ t. is_at_bound t.index && (releases_wake_at w [] quotas key && shows_awake t key.1 (evaluation_at w key))) o false)
-      by None = refl
-      by (Some t) = split (is_at_bound t.index) (releases_wake_at w rooms [] key) (releases_wake_at w [] quotas key) (shows_awake t key.1 (evaluation_at w key))
-
-  none_waking : list_any (waking_by w [] []) w.blocked ≡ false
-  none_waking = any_alike (waking_by w [] []) (λ _. false) w.blocked (each _ (λ key. ap (λ b. option_map_or
+  none_waking : list_any (given_waking_passes w [] []) w.blocked ≡ false
+  none_waking = any_alike (given_waking_passes w [] []) (λ _. false) w.blocked (each _ (λ key. ap (λ b. option_map_or
       (λ t. is_at_bound t.index && (b && shows_awake t key.1 (evaluation_at w key))) (get w.tenants key.0) false) (wakes_by_quotas w [] key) ∙
       by key (get w.tenants key.0)) w.blocked) ∙ none w.blocked
     where
@@ -96,13 +74,9 @@ module _ (w : World) where
       none [] = refl
       none (key ∷ keys) = none keys
 
-      still : (i : Bool) → (i && false) ≡ false
-      still true = refl
-      still false = refl
-
       by : (key : Key) (o : Option Tenant) → option_map_or (λ t. is_at_bound t.index && (false && shows_awake t key.1 (evaluation_at w key))) o false ≡ false
       by key None = refl
-      by key (Some t) = still (is_at_bound t.index)
+      by key (Some t) = and-false (is_at_bound t.index)
 
   turned : (a b : Bool) → (a || (b || false)) ≡ (b || a)
   turned true true = refl
@@ -111,24 +85,24 @@ module _ (w : World) where
   turned false false = refl
 
   rooms_pass : (pool : Name) (o : Option Node) →
-      (list_any (waking_by w (in_pool pool (room_left o)) []) w.blocked || list_any (room_passes w) (in_pool pool (room_left o)))
+      (list_any (given_waking_passes w (in_pool pool (room_left o)) []) w.blocked || list_any (room_passes w) (in_pool pool (room_left o)))
       ≡ option_map_or (λ node. is_free node && given_room_passes w (pool, class_of node)) o false
   rooms_pass pool None = ap (λ b. b || false) none_waking
   rooms_pass pool (Some node) = by (is_free node)
     where
-      by : (b : Bool) → (list_any (waking_by w (in_pool pool (if b then class_of node ∷ [] else [])) []) w.blocked
+      by : (b : Bool) → (list_any (given_waking_passes w (in_pool pool (if b then class_of node ∷ [] else [])) []) w.blocked
           || list_any (room_passes w) (in_pool pool (if b then class_of node ∷ [] else []))) ≡ (b && given_room_passes w (pool, class_of node))
-      by true = turned (list_any (waking_by w ((pool, class_of node) ∷ []) []) w.blocked) (room_passes w (pool, class_of node))
+      by true = turned (list_any (given_waking_passes w ((pool, class_of node) ∷ []) []) w.blocked) (room_passes w (pool, class_of node))
       by false = ap (λ b. b || false) none_waking
 
-  limits_pass : (n : Namespace) → (list_any (waking_by w [] (quota_left n)) w.blocked || list_any (quota_passes w) (quota_left n))
+  limits_pass : (n : Namespace) → (list_any (given_waking_passes w [] (quota_left n)) w.blocked || list_any (quota_passes w) (quota_left n))
       ≡ option_map_or (given_limits_pass w) n.quota false
   limits_pass n = by n.quota
     where
-      by : (o : Option Name) → (list_any (waking_by w [] (option_map_or (λ quota. quota ∷ []) o [])) w.blocked
+      by : (o : Option Name) → (list_any (given_waking_passes w [] (option_map_or (λ quota. quota ∷ []) o [])) w.blocked
           || list_any (quota_passes w) (option_map_or (λ quota. quota ∷ []) o [])) ≡ option_map_or (given_limits_pass w) o false
       by None = ap (λ b. b || false) none_waking
-      by (Some quota) = turned (list_any (waking_by w [] (quota ∷ [])) w.blocked) (quota_passes w quota)
+      by (Some quota) = turned (list_any (given_waking_passes w [] (quota ∷ [])) w.blocked) (quota_passes w quota)
 
 -- ---- the new evaluation's entry among those that are ready
 
@@ -258,12 +232,8 @@ module _ (w : World) (ns : Name) (t : Tenant) (at : get w.tenants ns ≡ Some t)
         (none_of_any one_name (λ _ t. is_tenant_past_bound t) w.tenants ns t (left_none _ _ (left_none _ _ within)) at)
 
     touched : touches_asleep w alone ns t rows ≡ true
-    touched = last _ _ (ap (list_any (at_slot (λ (e : ℕ × Allocation). changes_allocation t e.0 e.1))) (one_entry numbers one_number n (Some b))
+    touched = or_right _ _ (ap (list_any (at_slot (λ (e : ℕ × Allocation). changes_allocation t e.0 e.1))) (one_entry numbers one_number n (Some b))
         ∙ ap (λ b. b || false) (ap (λ o. is_changed same_allocation o b) there ∙ ap not shown))
-      where
-        last : (p q : Bool) → q ≡ true → (p || q) ≡ true
-        last true q is = refl
-        last false q is = is
 
     own : list_any (tenant_passes w alone) (entries alone.tenants) ≡ own_passes
     own = ap (list_any (tenant_passes w alone)) (one_entry names one_name ns (Some rows))
@@ -290,7 +260,7 @@ module _ (w : World) (ns : Name) (t : Tenant) (at : get w.tenants ns ≡ Some t)
 
     module _ (fits : own_passes ≡ false) where
       -- its own namespace's index does not pass, and no evaluation of another one is changed
-      waking_is : (key : Key) → waking_passes w alone key ≡ waking_by w (rooms_if ends) (quotas_if ends) key
+      waking_is : (key : Key) → waking_passes w alone key ≡ given_waking_passes w (rooms_if ends) (quotas_if ends) key
       waking_is key = by (eq_by_cmp name_cmp key.0 ns) refl
         where
           mine : (s : Tenant → Bool) → key.0 ≡ ns → option_map_or (λ x. is_at_bound x.index && s x) (get w.tenants key.0) false ≡ false
@@ -301,7 +271,7 @@ module _ (w : World) (ns : Name) (t : Tenant) (at : get w.tenants ns ≡ Some t)
           stays other = ap (λ x. evaluation_at x key) alone_is
               ∙ ap (option_and_then (λ (t : Tenant). get t.evaluations key.1)) (get_other names one_name w.tenants ns after key.0 other)
 
-          by : (b : Bool) → eq_by_cmp name_cmp key.0 ns ≡ b → waking_passes w alone key ≡ waking_by w (rooms_if ends) (quotas_if ends) key
+          by : (b : Bool) → eq_by_cmp name_cmp key.0 ns ≡ b → waking_passes w alone key ≡ given_waking_passes w (rooms_if ends) (quotas_if ends) key
           by true is = mine (λ x. does_wake w alone key && shows_awake x key.1 (evaluation_at (changed w alone) key)) (tied one_name key.0 ns is)
               ∙ sym (mine (λ x. releases_wake_at w (rooms_if ends) (quotas_if ends) key && shows_awake x key.1 (evaluation_at w key))
               (tied one_name key.0 ns is))
@@ -309,15 +279,15 @@ module _ (w : World) (ns : Name) (t : Tenant) (at : get w.tenants ns ≡ Some t)
               && shows_awake x key.1 (stays other i))) (get w.tenants key.0) false
 
       wakings_are : list_any (waking_passes w alone) w.blocked
-          ≡ (list_any (waking_by w (rooms_if ends) []) w.blocked || list_any (waking_by w [] (quotas_if ends)) w.blocked)
-      wakings_are = any_alike _ (λ key. waking_by w (rooms_if ends) [] key || waking_by w [] (quotas_if ends) key) w.blocked
+          ≡ (list_any (given_waking_passes w (rooms_if ends) []) w.blocked || list_any (given_waking_passes w [] (quotas_if ends)) w.blocked)
+      wakings_are = any_alike _ (λ key. given_waking_passes w (rooms_if ends) [] key || given_waking_passes w [] (quotas_if ends) key) w.blocked
           (each _ (λ key. waking_is key ∙ waking_each w (rooms_if ends) (quotas_if ends) key) w.blocked)
-          ∙ any_both (waking_by w (rooms_if ends) []) (waking_by w [] (quotas_if ends)) w.blocked
+          ∙ any_both (given_waking_passes w (rooms_if ends) []) (given_waking_passes w [] (quotas_if ends)) w.blocked
 
       others_pass : is_past_bound (settle w (changed w alone)) ≡ (ends && ending_passes w t a)
       others_pass = parts
           ∙ (λ i. (fits i || wakings_are i) || (list_any (room_passes w) (rooms_if ends) || false) || list_any (quota_passes w) (quotas_if ends))
-          ∙ grouped (list_any (waking_by w (rooms_if ends) []) w.blocked) (list_any (waking_by w [] (quotas_if ends)) w.blocked)
+          ∙ grouped (list_any (given_waking_passes w (rooms_if ends) []) w.blocked) (list_any (given_waking_passes w [] (quotas_if ends)) w.blocked)
           (list_any (room_passes w) (rooms_if ends)) (list_any (quota_passes w) (quotas_if ends))
           ∙ by ends
         where
@@ -328,8 +298,8 @@ module _ (w : World) (ns : Name) (t : Tenant) (at : get w.tenants ns ≡ Some t)
           grouped false false true l = refl
           grouped false false false l = refl
 
-          by : (ends : Bool) → ((list_any (waking_by w (rooms_if ends) []) w.blocked || list_any (room_passes w) (rooms_if ends))
-              || (list_any (waking_by w [] (quotas_if ends)) w.blocked || list_any (quota_passes w) (quotas_if ends))) ≡ (ends && ending_passes w t a)
+          by : (ends : Bool) → ((list_any (given_waking_passes w (rooms_if ends) []) w.blocked || list_any (room_passes w) (rooms_if ends))
+              || (list_any (given_waking_passes w [] (quotas_if ends)) w.blocked || list_any (quota_passes w) (quotas_if ends))) ≡ (ends && ending_passes w t a)
           by true = λ i. rooms_pass w a.pool (node_at w a.pool a.node) i || limits_pass w t.namespace i
           by false = λ i. (none_waking w i || false) || (none_waking w i || false)
 

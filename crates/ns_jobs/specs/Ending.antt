@@ -3,17 +3,12 @@ use Rattle.std.specs.Prelude.{Bool, false, ◌&&◌, ◌||◌}
 use Rattle.std.specs.Option.{option_map_or}
 use Rattle.ns_types.specs.declared.allocation.Allocation.{Allocation}
 use Rattle.ns_types.specs.State.Rows.{World, Tenant, class_of, is_free, node_at}
-use Rattle.ns_bounds.specs.Given.{given_limits_pass}
-use Rattle.ns_bounds.specs.Given.{given_room_passes}
+use Rattle.ns_bounds.specs.Given.{given_room_passes, left_quota_passes}
 
 -- the room that it leaves, where its node is there, ready and eligible
 abbrev pub left_room_passes : World → Allocation → Bool
 left_room_passes w a =
     option_map_or (λ node. is_free node && given_room_passes w (a.pool, class_of node)) (node_at w a.pool a.node) false
-
--- the quota of its namespace, where that has one
-abbrev pub left_quota_passes : World → Tenant → Bool
-left_quota_passes w t = option_map_or (given_limits_pass w) t.namespace.quota false
 
 -- of an allocation of that namespace
 abbrev pub ending_passes : World → Tenant → Allocation → Bool

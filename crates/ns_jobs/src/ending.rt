@@ -1,12 +1,12 @@
 //! What the end of an allocation releases.
 
 ghost use Rattle.std.specs.Prelude.{◌≡◌};
-ghost use Rattle.ns_jobs.specs.Ending.{ending_passes, left_quota_passes, left_room_passes};
+ghost use Rattle.ns_jobs.specs.Ending.{ending_passes, left_room_passes};
 ghost use Rattle.ns_world.specs.World.{tenant_of, world_of};
 
 use crate::looking::node;
 use ns_alike::is_free;
-use ns_bounds::{given_limits_pass, given_room_passes};
+use ns_bounds::{given_room_passes, left_quota_passes};
 use ns_types::allocation::Allocation;
 use ns_world::{Tables, TenantRows};
 
@@ -17,16 +17,6 @@ fn left_room_passes(tables: &Tables, row: &Allocation) -> bool
 {
     match node(tables, &row.pool, &row.node) {
         Some(node) => is_free(node) && given_room_passes(tables, &row.pool, &node.offer),
-        None => false,
-    }
-}
-
-/// Whether a counter passes its bound by what an allocation of the namespace leaves of its quota.
-fn left_quota_passes(tables: &Tables, tenant: &TenantRows) -> bool
-    ensures { result ≡ left_quota_passes (world_of tables.now) (tenant_of tenant.now) }
-{
-    match &tenant.namespace.quota {
-        Some(quota) => given_limits_pass(tables, quota),
         None => false,
     }
 }
