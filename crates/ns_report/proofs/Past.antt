@@ -1,6 +1,7 @@
 -- Whether a report of another status passes the bound of a counter.
 use Rattle.std.specs.Prelude.{◌≡◌, Bool, true, false, not, ◌&&◌, ◌||◌, Some}
 use Rattle.std.proofs.Common.{refl, ap, sym, ◌∙◌}
+use Rattle.std.proofs.lemmas.Bool.{and_right}
 use Rattle.std.specs.FinMap.{get}
 use Rattle.ns_types.specs.declared.allocation.Allocation.{Allocation}
 use Rattle.ns_types.specs.declared.evaluation.Trigger.TheVariants as Trigger
@@ -24,11 +25,7 @@ module _ (w : World) (r : Report) (t : Tenant) (at : get w.tenants r.namespace �
 
   shown : same_allocation a row ≡ false
   unfolding same_allocation
-  shown = last _ (same_client a.client r.client) other
-    where
-      last : (p q : Bool) → q ≡ false → (p && q) ≡ false
-      last true q is = is
-      last false q is = refl
+  shown = and_right _ (same_client a.client r.client) other
 
   ends_are : (is_live a && not (is_live row)) ≡ ends a r.client
   ends_are = by (is_run a.desired)
