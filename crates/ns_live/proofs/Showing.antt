@@ -3,8 +3,8 @@ use Rattle.std.specs.Prelude.{◌≡◌, Bool, true, false, cond, ◌&&◌, if�
 use Rattle.std.proofs.Common.{refl, sym, ap, ◌∙◌}
 use Rattle.std.specs.FinMap.{empty, get, get-empty, get-insert, get-remove, insert, remove}
 use Rattle.std.specs.Option.{option_and_then}
-use Rattle.keyed.specs.Table.{flat, row_at, rows, with_slot}
-use Rattle.keyed.proofs.Tables.{get-rows, rows-remove, rows-set, rows-with_slot}
+use Rattle.keyed.specs.Table.{emptied, flat, row_at, rows, with_slot}
+use Rattle.keyed.proofs.Tables.{get-rows, rows-emptied, rows-remove, rows-set, rows-with_slot}
 use Rattle.ns_types.specs.declared.snapshot.PoolNode.{PoolNode}
 use Rattle.ns_types.specs.State.Names.{Name, ByName, name_cmp, same_name}
 use Rattle.ns_types.proofs.Named.{names, one_name, same_name_is}
@@ -21,6 +21,10 @@ row_removed : {X : Type 0} (m : ByName (Option X)) (k q : Name) → row_at (remo
 row_removed m k q = sym (get-rows names (remove m k) q) ∙ ap (λ r. get r q) (rows-remove names one_name m k) ∙ get-remove names (rows m) k q
     ∙ ap (cond (same_name q k) None) (get-rows names m q)
 
+row_emptied : {X : Type 0} (m : ByName (Option X)) (k q : Name) → row_at (emptied m k) q ≡ cond (same_name q k) None (row_at m q)
+row_emptied m k q = sym (get-rows names (emptied m k) q) ∙ ap (λ r. get r q) (rows-emptied names one_name m k) ∙ get-remove names (rows m) k q
+    ∙ ap (cond (same_name q k) None) (get-rows names m q)
+
 row_slotted : {X : Type 0} (m : ByName (Option X)) (k q : Name) → row_at (with_slot m k) q ≡ row_at m q
 row_slotted m k q = sym (get-rows names (with_slot m k) q) ∙ ap (λ r. get r q) (rows-with_slot names one_name m k) ∙ get-rows names m q
 
@@ -35,6 +39,10 @@ node_written its made now name node slot put n = ap (λ m. row_at m n) put ∙ r
 pub node_removed : (its now : Nodes) (name : Name) → now ≡ remove its name → (n : Name) →
     row_at now n ≡ (if same_name n name then None else row_at its n)
 node_removed its now name gone n = ap (λ m. row_at m n) gone ∙ row_removed its name n
+
+pub node_emptied : (its now : Nodes) (name : Name) → now ≡ emptied its name → (n : Name) →
+    row_at now n ≡ (if same_name n name then None else row_at its n)
+node_emptied its now name gone n = ap (λ m. row_at m n) gone ∙ row_emptied its name n
 
 -- ---- a change after one that leaves all
 

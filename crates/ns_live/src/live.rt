@@ -175,7 +175,7 @@ impl Live {
         ensures shown { ForgetsNodes pool.now changes.now self.old self.new }
     {
         for slot in changes.as_slice() {
-            self.shown.forget(pool, &slot.0);
+            self.shown.forget(pool, &slot.0, slot.1.is_some());
         }
     }
 

@@ -79,8 +79,8 @@ impl ShownNodes {
         Ok(())
     }
 
-    /// Forgets the node. It takes no memory. The table of a pool goes with its last node.
-    pub(crate) fn forget(&mut self, pool: &Text, name: &Text)
+    /// Forgets the node and takes its room away. It takes no memory. The table of a pool goes with its last node.
+    fn remove(&mut self, pool: &Text, name: &Text)
         ensures { ShowsThere pool.now name.now None self.old self.new }
     {
         let Some(nodes) = self.pools.get_mut(pool) else {
@@ -92,13 +92,33 @@ impl ShownNodes {
         }
     }
 
-    /// Forgets the node on which the row is live, if it is. It takes no memory.
+    /// Forgets the node and keeps its room. It takes no memory.
+    fn vacate(&mut self, pool: &Text, name: &Text)
+        ensures { ShowsThere pool.now name.now None self.old self.new }
+    {
+        if let Some(nodes) = self.pools.get_mut(pool) {
+            nodes.take(name);
+        }
+    }
+
+    /// Forgets the node. One that stays in its pool keeps its room, since it will be shown again. It takes no memory.
+    pub(crate) fn forget(&mut self, pool: &Text, name: &Text, stays: bool)
+        ensures { ShowsThere pool.now name.now None self.old self.new }
+    {
+        if stays {
+            self.vacate(pool, name);
+        } else {
+            self.remove(pool, name);
+        }
+    }
+
+    /// Forgets the node on which the row is live, if it is, and keeps its room. It takes no memory.
     pub(crate) fn forget_row(&mut self, row: Option<&Allocation>)
         ensures { ForgetsRow (option_copied row.entry) self.old self.new }
     {
         if let Some(row) = row {
             if row.is_live() {
-                self.forget(&row.pool, &row.node);
+                self.vacate(&row.pool, &row.node);
             }
         }
     }

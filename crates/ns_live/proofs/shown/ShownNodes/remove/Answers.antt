@@ -4,7 +4,7 @@ use Rattle.std.specs.Option.{option_copied_mut}
 use Rattle.keyed.proofs.Levels.{row_here}
 use Rattle.ns_types.proofs.Named.{names}
 use Rattle.ns_live.proofs.Showing.{node_removed, nothing_there, put_there, table_gone}
-use Rattle.ns_live.proofs.shown.ShownNodes.forget.Goals as goal
+use Rattle.ns_live.proofs.shown.ShownNodes.remove.Goals as goal
 
 pub returns-in_default : goal.returns-in_default
 returns-in_default c = nothing_there c.args.pool.now c.args.self.now c.args.name.now (sym c.get_mut.ensures.value ∙ ap option_copied_mut c.in_default.is)
