@@ -19,7 +19,7 @@ fn evictions(alloc: Global, victims: &[&LiveAllocation]) -> Result<Rows<Eviction
     let mut rows = Rows::new(alloc);
     for a in victims {
         rows.push(Eviction {
-            namespace: a.namespace.clone()?,
+            namespace: a.namespace.get().clone()?,
             number: a.number,
             priority: a.priority,
         })?;
@@ -30,8 +30,9 @@ fn evictions(alloc: Global, victims: &[&LiveAllocation]) -> Result<Rows<Eviction
 fn counts_for(quota: &QuotaSeen, allocation: &LiveAllocation) -> bool
     ensures { result ≡ counts_for quota.now allocation.now }
 {
+    let namespace = allocation.namespace.get();
     let namespaces = quota.namespaces.as_slice();
-    namespaces.iter().any(|n| *n == allocation.namespace)
+    namespaces.iter().any(|n| *n == *namespace)
 }
 
 /// What the quota has in use once those of the victims that count for it are gone.

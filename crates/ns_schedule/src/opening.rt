@@ -31,7 +31,7 @@ fn is_among(stops: &[&OwnAllocation], number: u64) -> bool
 fn stays(namespace: &Text, stops: &[&OwnAllocation], allocation: &LiveAllocation) -> bool
     ensures { result ≡ stays namespace.now (map (λ a. a.now) stops.now) allocation.now }
 {
-    !(allocation.namespace == *namespace && is_among(stops, allocation.number))
+    !(*allocation.namespace.get() == *namespace && is_among(stops, allocation.number))
 }
 
 /// What those that stay leave of the capacity.

@@ -12,6 +12,7 @@ use keyed::{KeySet, NumberTable};
 use ns_live::Live;
 use ns_types::allocation::Allocation;
 use ns_types::rows::Rows;
+use ns_types::shared::Shared;
 use ns_types::snapshot::LiveAllocation;
 use ns_types::text::Text;
 use ns_world::Tables;
@@ -29,11 +30,15 @@ fn has_place(seen: &ByPlace, place: u64) -> bool
     }
 }
 
-fn seen_live(namespace: &Text, number: u64, row: &Allocation) -> Result<LiveAllocation, AllocError>
+fn seen_live(
+    namespace: &Shared<Text>,
+    number: u64,
+    row: &Allocation,
+) -> Result<LiveAllocation, AllocError>
     ensures { IfOk result (λ shown. shown ≡ seen_live (namespace.now, (number, row.now))) }
 {
     Ok(LiveAllocation {
-        namespace: namespace.clone()?,
+        namespace: namespace.share()?,
         number,
         priority: row.priority,
         size: row.size,
@@ -43,7 +48,7 @@ fn seen_live(namespace: &Text, number: u64, row: &Allocation) -> Result<LiveAllo
 /// Of several that have one place the first counts.
 fn add_seen(
     seen: &mut ByPlace,
-    namespace: &Text,
+    namespace: &Shared<Text>,
     number: u64,
     row: &Allocation,
 ) -> Result<(), AllocError>
@@ -61,7 +66,7 @@ fn add_seen(
 
 fn add_number(
     seen: &mut ByPlace,
-    namespace: &Text,
+    namespace: &Shared<Text>,
     allocations: &NumberTable<Allocation>,
     slot: &(u64, Option<()>),
 ) -> Result<(), AllocError>
@@ -79,7 +84,7 @@ fn add_number(
 
 fn add_numbers(
     seen: &mut ByPlace,
-    namespace: &Text,
+    namespace: &Shared<Text>,
     allocations: &NumberTable<Allocation>,
     slots: &[(u64, Option<()>)],
 ) -> Result<(), AllocError>
@@ -103,10 +108,11 @@ fn add_namespace(
     let Some(numbers) = &slot.1 else {
         return Ok(());
     };
-    match tables.tenants.get(&slot.0) {
-        Some(tenant) => add_numbers(seen, &slot.0, &tenant.allocations, numbers.as_slice()),
-        None => Ok(()),
-    }
+    let Some(tenant) = tables.tenants.get(&slot.0) else {
+        return Ok(());
+    };
+    let namespace = Shared::new(tables.alloc, slot.0.clone()?)?;
+    add_numbers(seen, &namespace, &tenant.allocations, numbers.as_slice())
 }
 
 fn add_namespaces(

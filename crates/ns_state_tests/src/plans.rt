@@ -136,10 +136,14 @@ fn linux(rt: &impl Abort, alloc: Global, cpu: u64) -> Node {
     }
 }
 
+fn shared<T: Drop>(rt: &impl Abort, alloc: Global, value: T) -> Shared<T> {
+    Shared::new(alloc, value).expect(rt, "memory")
+}
+
 /// A live allocation of CPU 500 and memory 256.
 fn live(rt: &impl Abort, alloc: Global, priority: u64) -> LiveAllocation {
     LiveAllocation {
-        namespace: text(rt, alloc, "tb"),
+        namespace: shared(rt, alloc, text(rt, alloc, "tb")),
         number: 1,
         priority,
         size: size(500, 256),
@@ -155,7 +159,7 @@ fn node(rt: &impl Abort, alloc: Global, cpu: u64, priority: Option<u64>) -> Shar
             None => Rows::new(alloc),
         },
     };
-    Shared::new(alloc, node).expect(rt, "memory")
+    shared(rt, alloc, node)
 }
 
 fn nodes(rt: &impl Abort, alloc: Global, nodes: &[(u64, Option<u64>)]) -> Rows<Shared<PoolNode>> {

@@ -16,10 +16,10 @@ pub struct OwnAllocation {
     pub row: Allocation,
 }
 
-/// A live allocation of any namespace, as a node holds it.
+/// A live allocation of any namespace, as a node holds it. Those of one namespace share its name.
 #[derive(Drop)]
 pub struct LiveAllocation {
-    pub namespace: Text,
+    pub namespace: Shared<Text>,
     pub number: u64,
     pub priority: u64,
     pub size: Resources,
