@@ -136,7 +136,7 @@ fn in_order(
 ) -> Result<Rows<LiveAllocation>, AllocError>
     ensures { IfOk result (λ shown. shown ≡ map (λ e. e.1) (row_list slots.items)) }
 {
-    let mut shown = Rows::new(alloc);
+    let mut shown = Rows::from_vec(Vec::with_capacity(alloc, slots.len())?);
     for (_, slot) in slots {
         if let Some(row) = slot {
             shown.push(row)?;
@@ -145,13 +145,33 @@ fn in_order(
     Ok(shown)
 }
 
+/// How many keys of these namespaces there are.
+fn count_keys(slots: &[(Text, Option<NumberTable<()>>)]) -> usize {
+    let mut count: usize = 0;
+    for slot in slots {
+        if let Some(numbers) = &slot.1 {
+            count = count.saturating_add(numbers.len());
+        }
+    }
+    count
+}
+
+/// No rows, with memory for so many.
+fn no_rows(alloc: Global, most: usize) -> Result<ByPlace, AllocError>
+    ensures { IfOk result (λ seen. seen ≡ empty) }
+{
+    let slots = Vec::with_capacity(alloc, most)?;
+    Ok(NumberTable::from_slots(slots))
+}
+
 /// The rows at the keys, each at its place.
 fn by_place(tables: &Tables, keys: &KeySet) -> Result<ByPlace, AllocError>
     ensures { IfOk result (λ seen. rows seen
         ≡ fold (add_namespace tables.now.tenants) empty (entries keys.now.numbers)) }
 {
-    let mut seen = NumberTable::new(tables.alloc);
-    add_namespaces(&mut seen, tables, keys.as_slice())?;
+    let slots = keys.as_slice();
+    let mut seen = no_rows(tables.alloc, count_keys(slots))?;
+    add_namespaces(&mut seen, tables, slots)?;
     Ok(seen)
 }
 
