@@ -28,10 +28,11 @@ fn is_among(stops: &[&OwnAllocation], number: u64) -> bool
     has_number(stops, number)
 }
 
+/// The number is looked at first: most plans stop nothing, and then no name has to be compared.
 fn stays(namespace: &Text, stops: &[&OwnAllocation], allocation: &LiveAllocation) -> bool
     ensures { result ≡ stays namespace.now (map (λ a. a.now) stops.now) allocation.now }
 {
-    !(*allocation.namespace.get() == *namespace && is_among(stops, allocation.number))
+    !(is_among(stops, allocation.number) && *allocation.namespace.get() == *namespace)
 }
 
 /// What those that stay leave of the capacity.
