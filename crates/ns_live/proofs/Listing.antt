@@ -12,7 +12,6 @@ use Rattle.std.specs.Option.{option_and_then, option_map_or}
 use Rattle.keyed.specs.Table.{row_at, row_list, rows, with_row}
 use Rattle.keyed.proofs.Tables.{entries-rows, get-rows, rows-empty}
 use Rattle.ns_types.specs.declared.allocation.Allocation.{Allocation}
-use Rattle.ns_types.specs.declared.allocation.ClientStatus.TheVariants as ClientStatus
 use Rattle.ns_types.specs.Asking.Nodes.{losing_jobs, losses}
 use Rattle.ns_types.specs.State.Lists.{Each}
 use Rattle.ns_types.specs.State.Names.{Name, Key, ByNumber, has_key, has_number, name_cmp, same_key, same_name, same_number}
