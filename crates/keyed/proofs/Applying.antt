@@ -17,7 +17,7 @@ use Rattle.keyed.specs.Over.{HasRoomFor, over, put_in}
 use Rattle.keyed.proofs.Over.{get-over}
 
 module _ {K X : Type 0} {R : K → K → Ordering} (o : IsTotalOrder R) (same : IsAntisymmetric R) where
-  get-put_in : (m : FinMap R X) (e : K × Option X) (q : K) → get (put_in m e) q ≡ cond (eq_by_cmp R q e.0) e.1 (get m q)
+  pub get-put_in : (m : FinMap R X) (e : K × Option X) (q : K) → get (put_in m e) q ≡ cond (eq_by_cmp R q e.0) e.1 (get m q)
   get-put_in m (k, None) q = get-remove o m k q
   get-put_in m (k, Some x) q = get-insert o m k x q
 

@@ -6,5 +6,6 @@ pub mod Ordered
 pub mod Over
 pub mod Places
 pub mod Queues
+pub mod Summed
 pub mod Tables
 pub mod Viewing
