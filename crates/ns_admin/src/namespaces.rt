@@ -16,7 +16,7 @@ use ns_events::Events;
 use ns_types::records::Namespace;
 use ns_types::refusal::{Member, Refusal};
 use ns_types::text::Text;
-use ns_world::{EvaluationTable, Tables, TenantRows};
+use ns_world::{AllocationTable, EvaluationTable, Tables, TenantRows};
 use std::alloc::{AllocError, Global};
 
 /// Whether the namespace names a quota that is not there.
@@ -67,7 +67,7 @@ pub(crate) fn new_tenant(alloc: Global, namespace: Namespace) -> Result<TenantRo
         allocation_number: 0,
         jobs: NameTable::new(alloc),
         evaluations: EvaluationTable::new(alloc),
-        allocations: NumberTable::new(alloc),
+        allocations: AllocationTable::new(alloc),
         workers: NumberTable::new(alloc),
         events,
     })

@@ -218,7 +218,7 @@ fn touches_asleep(
             tenant,
             changed.evaluations.as_slice(),
         )
-        || any_row(&tenant.allocations, changed.allocations.as_slice())
+        || any_row(tenant.allocations.rows(), changed.allocations.as_slice())
 }
 
 fn is_number_past(changed: &TenantChange) -> bool

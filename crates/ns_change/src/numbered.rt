@@ -67,7 +67,7 @@ impl NumberedRow for Allocation {
     ghost put_in = { put_allocation };
 
     fn stored(tenant: &TenantRows) -> &NumberTable<Allocation> {
-        &tenant.allocations
+        tenant.allocations.rows()
     }
 
     fn changed(change: &TenantChange) -> &NumberTable<Allocation> {

@@ -5,8 +5,9 @@ ghost use Rattle.keyed.specs.Table.{rows};
 ghost use Rattle.ns_commit.specs.Committed.{IsCleared};
 
 use keyed::{NameTable, NumberTable};
+use ns_types::allocation::Allocation;
 use ns_types::evaluation::Evaluation;
-use ns_world::EvaluationTable;
+use ns_world::{AllocationTable, EvaluationTable};
 
 /// Takes the vacant slots of the changed rows out.
 pub(crate) fn clear_names<V: Drop>(table: &mut NameTable<V>, changes: &NameTable<V>)
@@ -35,5 +36,15 @@ pub(crate) fn clear_evaluations(table: &mut EvaluationTable, changes: &NumberTab
 {
     for slot in changes.as_slice() {
         table.clear_slot(slot);
+    }
+}
+
+/// Takes the vacant slots of the changed allocations out.
+pub(crate) fn clear_allocations(table: &mut AllocationTable, changes: &NumberTable<Allocation>)
+    ensures rows { rows table.new ≡ rows table.old }
+    ensures cleared { IsCleared changes.now table.new }
+{
+    for slot in changes.as_slice() {
+        table.clear_slot(slot.0);
     }
 }

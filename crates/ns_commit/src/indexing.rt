@@ -49,7 +49,7 @@ pub(crate) fn commit_index(
     for slot in changes.as_slice() {
         if let Some(change) = &slot.1 {
             if let Some(tenant) = table.get(&slot.0) {
-                live.put_all(&slot.0, &tenant.allocations, &change.rows.allocations);
+                live.put_all(&slot.0, tenant.allocations.rows(), &change.rows.allocations);
             }
         }
     }

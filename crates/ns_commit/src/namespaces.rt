@@ -8,7 +8,7 @@ ghost use Rattle.ns_types.specs.State.Rows.{Tenant};
 ghost use Rattle.ns_commit.specs.Committed.{CanTell, HasRowRoom, HasTenantRoom, IsTenantCleared};
 ghost use Rattle.ns_world.specs.World.{tenant_of};
 
-use crate::clearing::{clear_evaluations, clear_names, clear_numbers};
+use crate::clearing::{clear_allocations, clear_evaluations, clear_names, clear_numbers};
 use crate::owners::Owner;
 use ns_change::{SettledTenant, TenantChange};
 use ns_types::event::Event;
@@ -80,7 +80,7 @@ impl Owner<SettledTenant> for TenantRows {
     fn clear(&mut self, settled: &SettledTenant) {
         clear_names(&mut self.jobs, &settled.rows.jobs);
         clear_evaluations(&mut self.evaluations, &settled.rows.evaluations);
-        clear_numbers(&mut self.allocations, &settled.rows.allocations);
+        clear_allocations(&mut self.allocations, &settled.rows.allocations);
         clear_numbers(&mut self.workers, &settled.rows.workers);
     }
 

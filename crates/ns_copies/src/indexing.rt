@@ -17,8 +17,9 @@ pub fn live_of(alloc: Global, tables: &Tables) -> Result<Live, AllocError>
     let mut live = Live::new(alloc);
     for slot in tables.tenants.as_slice() {
         if let Some(tenant) = &slot.1 {
-            live.reserve_all(&slot.0, &tenant.allocations)?;
-            live.put_all(&slot.0, &none, &tenant.allocations);
+            let allocations = tenant.allocations.rows();
+            live.reserve_all(&slot.0, allocations)?;
+            live.put_all(&slot.0, &none, allocations);
         }
     }
     Ok(live)

@@ -12,7 +12,7 @@ use crate::tables::{copied_names, copied_numbers};
 use keyed::Series;
 use ns_events::Events;
 use ns_types::node::Class;
-use ns_world::{EvaluationTable, PoolRows, QuotaRows, TenantRows};
+use ns_world::{AllocationTable, EvaluationTable, PoolRows, QuotaRows, TenantRows};
 use std::alloc::{AllocError, Global};
 
 fn copied_events(alloc: Global, events: &Events) -> Result<Events, AllocError>
@@ -30,6 +30,16 @@ fn copied_evaluations(alloc: Global, table: &EvaluationTable) -> Result<Evaluati
 {
     let all = copied_numbers(alloc, table.rows())?;
     let mut copy = EvaluationTable::new(alloc);
+    copy.reserve_all(&all)?;
+    copy.apply(all);
+    Ok(copy)
+}
+
+fn copied_allocations(alloc: Global, table: &AllocationTable) -> Result<AllocationTable, AllocError>
+    ensures { IfOk result (λ copy. rows copy ≡ rows table.now) }
+{
+    let all = copied_numbers(alloc, table.rows())?;
+    let mut copy = AllocationTable::new(alloc);
     copy.reserve_all(&all)?;
     copy.apply(all);
     Ok(copy)
@@ -65,7 +75,7 @@ impl Copies for TenantRows {
             allocation_number: self.allocation_number,
             jobs: copied_names(alloc, &self.jobs, Chosen::All)?,
             evaluations: copied_evaluations(alloc, &self.evaluations)?,
-            allocations: copied_numbers(alloc, &self.allocations)?,
+            allocations: copied_allocations(alloc, &self.allocations)?,
             workers: copied_numbers(alloc, &self.workers)?,
             events: copied_events(alloc, &self.events)?,
         })

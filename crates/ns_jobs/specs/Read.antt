@@ -1,7 +1,6 @@
 -- What a read in a namespace says.
 use Rattle.std.specs.Prelude.{ℕ, ◌+◌, ◌<◌, ◌^◌, Bool, true, false, cond, List, Option, Some, None, Result}
 use Rattle.std.specs.Prelude.{filter, map, sum_by}
-use Rattle.std.specs.FinMap.{entries}
 use Rattle.keyed.specs.Table.{row_list}
 use Rattle.ns_types.specs.declared.allocation.Allocation.{Allocation}
 use Rattle.ns_types.specs.declared.evaluation.Evaluation.{Evaluation}
@@ -20,7 +19,7 @@ use Rattle.ns_types.specs.Settling.Outcome.{Changes}
 use Rattle.ns_types.specs.State.Id.{id_text}
 use Rattle.ns_types.specs.State.Names.{Name, begins_with, same_name}
 use Rattle.ns_types.specs.State.Rows.{World, Tenant, is_live}
-use Rattle.ns_types.specs.State.Sums.{names_quota, quota_use}
+use Rattle.ns_types.specs.State.Sums.{names_quota, quota_use, tenant_sum}
 use Rattle.ns_world.specs.declared.tables.Tables.{Tables}
 use Rattle.ns_world.specs.declared.tables.TenantRows.{TenantRows}
 use Rattle.ns_world.specs.World.{tenant_of, world_of}
@@ -81,21 +80,11 @@ abbrev pub UsageFits : AskCommand → World → Type 0
 UsageFits (AskCommand.QuotaUsage quota) w = UseFits (quota_use w quota)
 UsageFits _ w = Unit {0}
 
-abbrev pub live_amount : (Resources → ℕ) → ℕ × Option Allocation → ℕ
-live_amount amount (n, None) = 0
-live_amount amount (n, Some a) = cond (is_live a) (amount a.size) 0
-
--- with what the live allocations of the slots take
-abbrev pub with_live : Resources → List (ℕ × Option Allocation) → Resources
-with_live used slots = record {
-  cpu = used.cpu + sum_by (live_amount (λ r. r.cpu)) slots;
-  memory = used.memory + sum_by (live_amount (λ r. r.memory)) slots;
-}
-
+-- what the namespace of the slot takes of the quota
 abbrev pub tenant_amount : Name → (Resources → ℕ) → Name × Option TenantRows → ℕ
 tenant_amount quota amount (ns, None) = 0
 tenant_amount quota amount (ns, Some x) =
-    cond (names_quota quota x.namespace) (sum_by (live_amount amount) (entries x.allocations)) 0
+    cond (names_quota quota x.namespace) (tenant_sum is_live amount (tenant_of x)) 0
 
 -- with what the namespaces of the slots take of the quota
 abbrev pub with_tenants : Name → Resources → List (Name × Option TenantRows) → Resources

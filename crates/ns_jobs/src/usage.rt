@@ -4,51 +4,18 @@ ghost use Rattle.std.specs.Prelude.{◌≡◌, ◌+◌, ◌<◌, ◌^◌};
 ghost use Rattle.ns_types.specs.declared.step.AskCommand.TheVariants as AskCommand;
 ghost use Rattle.ns_types.specs.State.Names.{Name};
 ghost use Rattle.ns_types.specs.State.Sums.{quota_use};
-ghost use Rattle.ns_jobs.specs.Read.{ReadsIn, UseFits, live_amount, tenant_amount, with_live, with_tenants};
+ghost use Rattle.ns_jobs.specs.Read.{ReadsIn, UseFits, tenant_amount, with_tenants};
 ghost use Rattle.ns_world.specs.World.{world_of};
 
-use crate::jobs::AllocationSlot;
 use ns_admin::names_quota;
 use ns_types::refusal::Refusal;
 use ns_types::reply::Content;
-use ns_types::resources::Resources;
+use ns_types::resources::{Resources, none, plus};
 use ns_types::text::Text;
 use ns_world::{Tables, TenantRows};
 
 /// A namespace with its rows, or a vacant slot.
 type TenantSlot = (Text, Option<TenantRows>);
-
-fn add_slot(used: Resources, slot: &AllocationSlot) -> Resources
-    requires cpu { used.cpu + live_amount (λ r. r.cpu) slot.now < 2 ^ 64 }
-    requires memory { used.memory + live_amount (λ r. r.memory) slot.now < 2 ^ 64 }
-    ensures { result ≡ record {
-      cpu = used.cpu + live_amount (λ r. r.cpu) slot.now;
-      memory = used.memory + live_amount (λ r. r.memory) slot.now;
-    } }
-{
-    let Some(allocation) = &slot.1 else {
-        return used;
-    };
-    if !allocation.is_live() {
-        return used;
-    }
-    Resources {
-        cpu: used.cpu + allocation.size.cpu,
-        memory: used.memory + allocation.size.memory,
-    }
-}
-
-/// With what the live allocations take.
-fn with_live(used: Resources, slots: &[AllocationSlot]) -> Resources
-    requires { UseFits (with_live used slots.now) }
-    ensures { result ≡ with_live used slots.now }
-{
-    let mut sum = used;
-    for slot in slots {
-        sum = add_slot(sum, slot);
-    }
-    sum
-}
 
 fn add_tenant(quota: &Text, used: Resources, slot: &TenantSlot) -> Resources
     requires cpu { used.cpu + tenant_amount quota.now (λ r. r.cpu) slot.now < 2 ^ 64 }
@@ -64,7 +31,7 @@ fn add_tenant(quota: &Text, used: Resources, slot: &TenantSlot) -> Resources
     if !names_quota(quota, &tenant.namespace) {
         return used;
     }
-    with_live(used, tenant.allocations.as_slice())
+    plus(used, tenant.allocations.live_use())
 }
 
 /// With what the namespaces take of the quota.
@@ -79,14 +46,13 @@ fn with_tenants(quota: &Text, used: Resources, slots: &[TenantSlot]) -> Resource
     sum
 }
 
-/// What the live allocations of all namespaces that name the quota take together. It takes no memory. The premise is that
-/// the sums fit 64 bits.
+/// What the live allocations of all namespaces that name the quota take together. It looks at each namespace, and at no
+/// allocation. It takes no memory. The premise is that the sums fit 64 bits.
 pub fn quota_use(tables: &Tables, quota: &Text) -> Resources
     requires { UseFits (quota_use (world_of tables.now) quota.now) }
     ensures { result ≡ quota_use (world_of tables.now) quota.now }
 {
-    let none = Resources { cpu: 0, memory: 0 };
-    with_tenants(quota, none, tables.tenants.as_slice())
+    with_tenants(quota, none(), tables.tenants.as_slice())
 }
 
 /// What the read of a quota's use says. `NotFound`: it is not the namespace's.

@@ -45,7 +45,7 @@ fn namespace_load(tables: &Tables, slot: &(Text, Option<NumberTable<()>>)) -> Re
         return none();
     };
     match tables.tenants.get(&slot.0) {
-        Some(tenant) => numbers_load(&tenant.allocations, numbers),
+        Some(tenant) => numbers_load(tenant.allocations.rows(), numbers),
         None => none(),
     }
 }

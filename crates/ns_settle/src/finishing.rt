@@ -46,7 +46,7 @@ fn events_at(
     )?;
     tell_rows(
         &mut events,
-        &tenant.allocations,
+        tenant.allocations.rows(),
         index,
         change.allocations.as_slice(),
     )?;
@@ -70,7 +70,7 @@ fn stamp_change(tenant: &TenantRows, index: u64, change: TenantChange) -> Tenant
         allocation_number,
         jobs,
         evaluations: stamp_rows(tenant.evaluations.rows(), index, evaluations),
-        allocations: stamp_rows(&tenant.allocations, index, allocations),
+        allocations: stamp_rows(tenant.allocations.rows(), index, allocations),
         workers,
     }
 }

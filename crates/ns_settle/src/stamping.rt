@@ -133,5 +133,5 @@ pub fn touches(tenant: &TenantRows, change: &TenantChange) -> bool
 {
     any_job(tenant, change.jobs.as_slice())
         || any_row(tenant.evaluations.rows(), change.evaluations.as_slice())
-        || any_row(&tenant.allocations, change.allocations.as_slice())
+        || any_row(tenant.allocations.rows(), change.allocations.as_slice())
 }

@@ -112,7 +112,12 @@ fn add_namespace(
         return Ok(());
     };
     let namespace = Shared::new(tables.alloc, slot.0.clone()?)?;
-    add_numbers(seen, &namespace, &tenant.allocations, numbers.as_slice())
+    add_numbers(
+        seen,
+        &namespace,
+        tenant.allocations.rows(),
+        numbers.as_slice(),
+    )
 }
 
 fn add_namespaces(

@@ -19,7 +19,7 @@ use std::marker::Model;
 /// The tables of the world with an index of live allocations that is right for them. Contracts see the world.
 ///
 /// A look-up of a row costs what the tables' do. The load of a node costs a walk over its live allocations. What a
-/// quota has in use costs a walk over all allocations of the namespaces that name it, until running totals are kept.
+/// quota has in use costs a look at each namespace, and at none of their allocations.
 #[derive(Drop)]
 pub struct Present<'a> {
     tables: &'a Tables,

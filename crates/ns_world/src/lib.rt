@@ -3,8 +3,10 @@
 //! these tables; they are written in one place alone, where a settled change is committed.
 #![tactic(auto)]
 
+mod allocations;
 mod evaluations;
 mod tables;
 
+pub use allocations::AllocationTable;
 pub use evaluations::EvaluationTable;
 pub use tables::{PoolRows, QuotaRows, Tables, TenantRows};

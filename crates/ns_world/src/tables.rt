@@ -5,10 +5,10 @@ ghost use Rattle.std.specs.FinMap.{contains_key};
 ghost use Rattle.ns_types.specs.State.Rows.{evaluation_at};
 ghost use Rattle.ns_world.specs.World.{world_of};
 
+use crate::allocations::AllocationTable;
 use crate::evaluations::EvaluationTable;
 use keyed::{KeyQueue, NameTable, NumberTable, Series};
 use ns_events::Events;
-use ns_types::allocation::Allocation;
 use ns_types::evaluation::Evaluation;
 use ns_types::job::Job;
 use ns_types::node::{Class, Node};
@@ -27,7 +27,7 @@ pub struct TenantRows {
     pub allocation_number: u64,
     pub jobs: NameTable<Job>,
     pub evaluations: EvaluationTable,
-    pub allocations: NumberTable<Allocation>,
+    pub allocations: AllocationTable,
     /// Those that are busy for it.
     pub workers: NumberTable<Worker>,
     pub events: Events,

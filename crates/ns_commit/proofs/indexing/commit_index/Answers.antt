@@ -3,6 +3,7 @@ use Rattle.std.proofs.Math.ListN.{drop_of_length-le}
 use Rattle.std.specs.Option.{option_copied}
 use Rattle.ns_commit.proofs.Following.{all_followed, all_unmoved, begun, nothing_changes, nothing_there, one_followed, room_now, Following}
 use Rattle.keyed.proofs.Queues.{from_here}
+use Rattle.keyed.specs.Table.{row_at}
 use Rattle.ns_commit.proofs.indexing.commit_index.Goals as goal
 use Rattle.ns_commit.proofs.indexing.commit_index.Goals.{in-Some+in-Some-get, in-Some+in_default-get, in_default}
 
@@ -21,7 +22,9 @@ loop-slot-preserved c =
       | in-Some+in-Some-get w ↦ subst (λ live. Following c.args.changes.now c.args.table.now c.args.live.now live _) (sym w.live-is)
           (one_followed c.args.changes.now c.args.table.now c.slot-item.result.0 c.slot-item.result.1 _ _ is c.args.live.now c.loop-slot.live
           c.loop-slot.invariant w.put_all.new.self w.in-Some.change w.in-Some-get.tenant.now w.in-Some.is
-          (sym w.get.ensures ∙ ap option_copied w.in-Some-get.is) w.put_all.ensures.index w.put_all.ensures.shown w.put_all.ensures.room)
+          (sym w.get.ensures ∙ ap option_copied w.in-Some-get.is)
+          (λ row_of right is. w.put_all.ensures.index row_of right (λ n. is n ∙ ap (λ m. row_at m n) (sym w.rows.ensures)))
+          (λ row_of is. w.put_all.ensures.shown row_of (λ n. is n ∙ ap (λ m. row_at m n) (sym w.rows.ensures))) w.put_all.ensures.room)
       | in-Some+in_default-get w ↦ nothing_there c.args.changes.now c.args.table.now c.slot-item.result.0 c.slot-item.result.1 _ _ is c.args.live.now
           c.loop-slot.live c.loop-slot.invariant c.match-slot.live (sym w.get.ensures ∙ ap option_copied w.in_default-get.is) w.live-is
       | in_default w ↦ nothing_changes c.args.changes.now c.args.table.now c.slot-item.result.0 c.slot-item.result.1 _ _ is c.args.live.now

@@ -3,6 +3,8 @@ use Rattle.std.proofs.Math.ListN.{drop_of_length-le}
 use Rattle.std.specs.FinMap.{entries_sorted}
 use Rattle.std.specs.FinMap.Entries.{is_sorted}
 use Rattle.keyed.proofs.Queues.{from_here}
+use Rattle.ns_live.specs.Index.{Indexes, with_changes}
+use Rattle.ns_live.specs.Shown.{ShowsUnmoved}
 use Rattle.ns_types.specs.State.Names.{name_cmp}
 use Rattle.ns_copies.proofs.Indexed.{all_indexed, none_indexed, slot_indexed, slot_passed, nothing_before, rows_but}
 use Rattle.ns_copies.proofs.indexing.live_of.Goals as goal
@@ -23,8 +25,11 @@ loop-slot-preserved c =
           c.new-none.result c.new-none.ensures in
           slot_indexed c.slot-item.result rest _ slots is c.loop-slot.live c.loop-slot.invariant w.in-Some.tenant w.in-Some.is
           c.new-none.result c.new-none.ensures w.reserve_all.new.self w.put_all.new.self c.match-slot.live w.reserve_all.ensures.same
-          w.reserve_all.ensures.shown (λ right. w.put_all.ensures.index (rows_but rest slots) right nothing)
-          (w.put_all.ensures.shown (rows_but rest slots) nothing) w.live-is
+          w.reserve_all.ensures.shown
+          (λ right. subst (λ m. Indexes (with_changes c.slot-item.result.0 m (rows_but rest slots)) w.put_all.new.self) w.rows-allocations.ensures
+          (w.put_all.ensures.index (rows_but rest slots) right nothing))
+          (subst (λ m. ShowsUnmoved (rows_but rest slots) (with_changes c.slot-item.result.0 m (rows_but rest slots)) w.reserve_all.new.self
+          w.put_all.new.self) w.rows-allocations.ensures (w.put_all.ensures.shown (rows_but rest slots) nothing)) w.live-is
       | in_default w ↦ slot_passed c.slot-item.result rest _ slots is c.loop-slot.live c.loop-slot.invariant c.match-slot.live w.in_default.is w.live-is
     ]
 

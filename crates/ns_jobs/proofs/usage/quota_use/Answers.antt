@@ -1,12 +1,12 @@
-use Rattle.std.proofs.Common.{ap, sym, subst, ◌∙◌}
+use Rattle.std.proofs.Common.{sym, subst, ◌∙◌}
 use Rattle.ns_jobs.specs.Read.{UseFits, with_tenants}
 use Rattle.ns_jobs.proofs.Used.{used_is}
 use Rattle.ns_jobs.proofs.usage.quota_use.Goals as goal
 
 pub with_tenants-requires : goal.with_tenants-requires
-with_tenants-requires c = subst UseFits (sym (ap (with_tenants c.args.quota.now (record { cpu = 0; memory = 0 })) c.as_slice.ensures ∙
+with_tenants-requires c = subst UseFits (sym ((λ i. with_tenants c.args.quota.now (c.none.ensures i) (c.as_slice.ensures i)) ∙
     used_is c.args.tables.now c.args.quota.now)) c.requires
 
 pub returns : goal.returns
-returns c = c.with_tenants.ensures ∙ ap (with_tenants c.args.quota.now (record { cpu = 0; memory = 0 })) c.as_slice.ensures ∙
+returns c = c.with_tenants.ensures ∙ (λ i. with_tenants c.args.quota.now (c.none.ensures i) (c.as_slice.ensures i)) ∙
     used_is c.args.tables.now c.args.quota.now

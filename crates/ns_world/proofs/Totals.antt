@@ -1,0 +1,81 @@
+-- What live allocations take together, and the total of it that follows changed rows.
+use Rattle.std.specs.Prelude.{◌≡◌, ℕ, ◌+◌, ◌<◌, ◌≤◌, ◌%◌, ◌^◌, cond, List, Option, length, sum_by}
+use Rattle.std.proofs.Common.{sym, ap, subst, ◌∙◌, arith, get_or, take}
+use Rattle.std.proofs.Math.Nat.{mod-eq_of_lt}
+use Rattle.std.proofs.lemmas.List.{take_all}
+use Rattle.std.proofs.lemmas.List.Sums.{sum_by_more}
+use Rattle.std.specs.FinMap.{empty, entries}
+use Rattle.keyed.proofs.Summed.{before, sum-over}
+use Rattle.keyed.proofs.Tables.{get-rows, rows-empty}
+use Rattle.keyed.specs.Over.{over}
+use Rattle.keyed.specs.Table.{row_at, rows}
+use Rattle.ns_types.proofs.Named.{numbers, one_number}
+use Rattle.ns_types.proofs.TableRows.{entries_empty}
+use Rattle.ns_types.specs.State.Names.{ByNumber}
+use Rattle.ns_types.specs.State.Resources.{IsCounted, none}
+use Rattle.ns_types.specs.State.Rows.{is_live}
+use Rattle.ns_types.specs.declared.allocation.Allocation.{Allocation}
+use Rattle.ns_types.specs.declared.resources.Resources.{Resources}
+use Rattle.ns_world.specs.Allocations.{IsAlike, IsMoved, IsTotalOf, live_sum, live_use, row_amount, use_after, use_before}
+
+-- where the sums fit, nothing was past 64 bits
+pub total_exact : (total : Resources) (slots : ByNumber (Option Allocation)) → IsTotalOf total slots → IsCounted (live_use slots) → total ≡ live_use slots
+total_exact total slots h counted = λ i. record {
+  cpu = (h.0 ∙ mod-eq_of_lt counted.0) i;
+  memory = (h.1 ∙ mod-eq_of_lt counted.1) i;
+}
+
+pub total_counted : (total : Resources) (slots : ByNumber (Option Allocation)) → IsTotalOf total slots → IsCounted total
+total_counted total slots h = (omega (arith, h.0), omega (arith, h.1))
+
+pub total_none : (total : Resources) (slots : ByNumber (Option Allocation)) → total ≡ none → slots ≡ empty → IsTotalOf total slots
+total_none total slots none_yet is = (
+  ap (λ r. r.cpu) none_yet ∙ sym (ap (λ n. n % 2 ^ 64) (no_use (λ r. r.cpu))),
+  ap (λ r. r.memory) none_yet ∙ sym (ap (λ n. n % 2 ^ 64) (no_use (λ r. r.memory))),
+)
+  where
+    no_use : (amount : Resources → ℕ) → live_sum amount (rows slots) ≡ 0
+    no_use amount = ap (live_sum amount) (ap rows is ∙ rows-empty) ∙ ap (sum_by (λ (e : ℕ × Allocation). cond (is_live e.1) (amount e.1.size) 0))
+        (entries_empty numbers one_number)
+
+-- vacant slots take nothing
+pub total_stays : (total : Resources) (slots after : ByNumber (Option Allocation)) → IsTotalOf total slots → rows after ≡ rows slots → IsTotalOf total after
+total_stays total slots after h same = (
+  h.0 ∙ ap (λ m. live_sum (λ r. r.cpu) m % 2 ^ 64) (sym same),
+  h.1 ∙ ap (λ m. live_sum (λ r. r.memory) m % 2 ^ 64) (sym same),
+)
+
+-- ---- changed rows
+
+module _ (amount : Resources → ℕ) (slots : ByNumber (Option Allocation)) (changes : List (ℕ × Option Allocation)) (total : Resources) where
+  pub moved_next : (i : ℕ) (e : ℕ × Option Allocation) (sum next : Resources) (then now : ℕ) → i < length changes → e ≡ get_or changes i e →
+      then ≡ row_amount amount (row_at slots e.0) → now ≡ row_amount amount e.1 → IsAlike (amount next + then) (amount sum + now) →
+      IsMoved amount slots (take i changes) total sum → IsMoved amount slots (take (i + 1) changes) total next
+  moved_next i e sum next then now lt is then_is now_is one h =
+      let gone = sum_by_more (λ (e : ℕ × Option Allocation). row_amount amount (row_at slots e.0)) changes i e lt in
+      let come = sum_by_more (λ (e : ℕ × Option Allocation). row_amount amount e.1) changes i e lt in
+      let gone_is = ap (λ (e : ℕ × Option Allocation). row_amount amount (row_at slots e.0)) is in
+      let come_is = ap (λ (e : ℕ × Option Allocation). row_amount amount e.1) is in
+      omega (arith, gone, come, gone_is, come_is, then_is, now_is, one, h)
+
+  pub moved_all : (i : ℕ) (sum : Resources) → length changes ≤ i → IsMoved amount slots (take i changes) total sum → IsMoved amount slots changes total sum
+  moved_all i sum past h = subst (λ es. IsMoved amount slots es total sum) (take_all i changes past) h
+
+module _ (slots after changes : ByNumber (Option Allocation)) (put : rows after ≡ over (rows slots) changes) where
+  total_amount : (amount : Resources → ℕ) (total new : ℕ) → total ≡ live_sum amount (rows slots) % 2 ^ 64 → new < 2 ^ 64 →
+      IsAlike (new + use_before amount slots (entries changes)) (total + use_after amount (entries changes)) →
+      new ≡ live_sum amount (rows after) % 2 ^ 64
+  total_amount amount total new h small moved =
+      let law = sum-over numbers one_number (λ _ a. cond (is_live a) (amount a.size) 0) (rows slots) changes in
+      let same_before : sum_by (before numbers one_number (λ _ a. cond (is_live a) (amount a.size) 0) (rows slots)) (entries changes)
+      ≡ use_before amount slots (entries changes)
+      = λ i. sum_by (λ e. row_amount amount (get-rows numbers slots e.0 i)) (entries changes) in
+      let there : live_sum amount (rows after) ≡ live_sum amount (over (rows slots) changes) = ap (live_sum amount) put in
+      omega (arith, law, same_before, there, h, small, moved)
+
+  pub total_moved : (es : List (ℕ × Option Allocation)) (total new : Resources) → es ≡ entries changes → IsTotalOf total slots → IsCounted new →
+      IsMoved (λ r. r.cpu) slots es total new → IsMoved (λ r. r.memory) slots es total new → IsTotalOf new after
+  total_moved es total new is h counted cpu memory = (
+    total_amount (λ r. r.cpu) total.cpu new.cpu h.0 counted.0 (subst (λ es. IsMoved (λ r. r.cpu) slots es total new) is cpu),
+    total_amount (λ r. r.memory) total.memory new.memory h.1 counted.1 (subst (λ es. IsMoved (λ r. r.memory) slots es total new) is memory),
+  )

@@ -1,0 +1,9 @@
+use Rattle.std.proofs.Common.{subst, sym, ap, ◌∙◌}
+use Rattle.ns_types.specs.State.Resources.{IsCounted}
+use Rattle.ns_world.specs.Allocations.{live_use}
+use Rattle.ns_world.proofs.Totals.{total_exact}
+use Rattle.ns_world.proofs.allocations.AllocationTable.live_use.Goals as goal
+
+pub returns : goal.returns
+returns c = total_exact c.self.inside.live c.self.inside.slots c.self.invariant
+    (subst (λ t. IsCounted (live_use t)) (sym c.self.view_is) c.requires) ∙ ap live_use c.self.view_is
