@@ -20,8 +20,6 @@ mod owned;
 #[cfg(test)]
 mod plans;
 #[cfg(test)]
-mod quota;
-#[cfg(test)]
 mod runs;
 #[cfg(test)]
 mod server;
