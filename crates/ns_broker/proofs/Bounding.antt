@@ -6,7 +6,7 @@ use Rattle.std.specs.FinMap.{get, insert}
 use Rattle.ns_types.specs.declared.evaluation.Evaluation.{Evaluation}
 use Rattle.ns_types.specs.declared.evaluation.Status.{Status}
 use Rattle.ns_types.specs.Settling.Making.{change_tenant, put_tenant}
-use Rattle.ns_types.specs.Settling.Outcome.{Outcome, Done, is_done}
+use Rattle.ns_types.specs.Settling.Outcome.{is_done}
 use Rattle.ns_types.specs.Settling.Same.{same_evaluation, same_flag}
 use Rattle.ns_types.specs.Settling.Settle.{changes_allocation, changes_evaluation, changes_job, is_changed, is_touched, settle, stamp_tenant, stamped}
 use Rattle.ns_types.specs.State.Names.{Key, Name, same_name, same_number}
@@ -17,11 +17,13 @@ use Rattle.ns_types.specs.Wire.Words.{kind_text, status_text, trigger_text}
 use Rattle.ns_types.specs.Working.Queue.{first_waiting, is_busy, promote}
 use Rattle.ns_types.specs.Working.Work.{new_worker, with_worker}
 use Rattle.ns_types.proofs.Alike.{same_evaluation_refl}
+use Rattle.ns_types.proofs.Bounds.{tenant_within}
 use Rattle.ns_types.proofs.Lists.{left_none, not_both, right_none}
 use Rattle.ns_types.proofs.Named.{names, numbers, one_name, one_number}
+use Rattle.ns_types.proofs.Outcomes.{state_or}
 use Rattle.ns_types.proofs.Settling.{keeps_elsewhere, kept_allocation, kept_evaluation, kept_job, releases_nothing, stamp_one, untouched}
 use Rattle.ns_types.proofs.TableRows.{any_row-put}
-use Rattle.ns_types.proofs.Tables.{any_row-none, none_of_any}
+use Rattle.ns_types.proofs.Tables.{any_row-none}
 use Rattle.ns_types.proofs.Tests.{not_Some, or_none}
 use Rattle.ns_broker.proofs.Dequeued.{nothing_there, stays_out, taken_out}
 use Rattle.ns_broker.specs.Bounded.{DequeuePassesNothing, cannot_fail, is_failed, is_last_index}
@@ -46,12 +48,6 @@ module _ {A : Type 0} (part : World → A) (keeps : (w : World) (keys : List Key
       by true o = refl
       by false None = refl
       by false (Some t) = one (first_waiting job t)
-
--- ---- a namespace of a world that has passed no bound has passed none
-
-pub tenant_within : (w : World) (ns : Name) (t : Tenant) → is_past_bound w ≡ false → get w.tenants ns ≡ Some t → is_tenant_past_bound t ≡ false
-unfolding is_past_bound
-tenant_within w ns t within at = none_of_any one_name (λ _ t. is_tenant_past_bound t) w.tenants ns t (left_none _ _ (left_none _ _ within)) at
 
 -- ---- a step that changes rows of one namespace, but no allocation of it
 
@@ -207,15 +203,11 @@ take_is_unseen w number key e within at = in_its w key.0 key.1 e at _ (λ t is r
     (ap (λ o. (without_ready key (option_map_or (λ t. put_tenant key.0 (with_worker number (new_worker key.1 e) t) w) o w)).quotas) is)
     refl refl refl refl (untouched t))
 
-abbrev pub world_or : World → Outcome World → World
-world_or w (Done content x) = x
-world_or w _ = w
-
 pub dequeue_fits : DequeuePassesNothing
 dequeue_fits number key w content x within is = by (may_dequeue number key w) refl (evaluation_at w key) refl
   where
     by : (b : Bool) → may_dequeue number key w ≡ b → (o : Option Evaluation) → evaluation_at w key ≡ o → is_past_bound (settle w x) ≡ false
     by false off o at = not_both (ap is_done (sym (stays_out number key w off) ∙ is)) refl
     by true on None at = not_both (ap is_done (sym (nothing_there number key w at on) ∙ is)) refl
-    by true on (Some e) at = subst (λ x. is_past_bound (settle w x) ≡ false) (ap (world_or w) (sym (taken_out number key w e at on) ∙ is))
+    by true on (Some e) at = subst (λ x. is_past_bound (settle w x) ≡ false) (ap (state_or w) (sym (taken_out number key w e at on) ∙ is))
         (take_is_unseen w number key e within at)

@@ -26,7 +26,8 @@ use Rattle.ns_broker.specs.declared.snapping.Snapped.{Snapped}
 use Rattle.ns_broker.specs.Snapping.{Snaps, kept_at}
 use Rattle.ns_world.specs.declared.tables.Tables.{Tables}
 use Rattle.ns_world.specs.World.{world_of}
-use Rattle.ns_broker.proofs.Bounding.{settles_unseen, unseen, world_or}
+use Rattle.ns_types.proofs.Outcomes.{state_or}
+use Rattle.ns_broker.proofs.Bounding.{settles_unseen, unseen}
 
 module _ (number : ℕ) (ns : Name) (w : World) where
   abbrev by_evaluation : Tenant → Worker → Option Evaluation → Outcome World
@@ -116,7 +117,7 @@ module _ (number : ℕ) (ns : Name) (w : World) (content : Content) (x : World) 
   pub snap_settles : is_past_bound w ≡ false → settle w x ≡ x
   snap_settles within = looks _ (λ t at worker has e there done.
       let seen = with_worker number (with_snapshot (snapshot_of w ns t worker.evaluation e) worker) t in
-      subst (λ x. settle w x ≡ x) (ap (world_or w) done) (settles_unseen w (put_tenant ns seen w) ns t seen within at refl refl refl refl (untouched t)))
+      subst (λ x. settle w x ≡ x) (ap (state_or w) done) (settles_unseen w (put_tenant ns seen w) ns t seen within at refl refl refl refl (untouched t)))
 
   -- the number that is answered is that of the snapshot
   pub snap_answers : (seen : Snapshot) → kept_at x number ns ≡ Some seen → content ≡ Content.Snapped seen.number
@@ -124,14 +125,14 @@ module _ (number : ℕ) (ns : Name) (w : World) (content : Content) (x : World) 
       let looked = snapshot_of w ns t worker.evaluation e in
       let put = get_put names one_name w.tenants ns (with_worker number (with_snapshot looked worker) t) in
       let row = get_put numbers one_number t.workers number (with_snapshot looked worker) in
-      let keeps_it : kept_at x number ns ≡ Some looked = ap (λ x. kept_at x number ns) (sym (ap (world_or w) done))
+      let keeps_it : kept_at x number ns ≡ Some looked = ap (λ x. kept_at x number ns) (sym (ap (state_or w) done))
       ∙ ap (λ o. option_and_then (λ (x : Worker). x.kept) (option_and_then (λ (t : Tenant). get t.workers number) o)) put
       ∙ ap (option_and_then (λ (x : Worker). x.kept)) row in
       ap (content_or content) (sym done) ∙ ap (λ (s : Snapshot). Content.Snapped s.number) (same_Some looked seen (sym keeps_it ∙ kept)))
 
 pub snap_fits : SnapPassesNothing
 snap_fits number ns w content x within is = looks number ns w content x is _ (λ t at worker has e there done.
-    subst (λ x. is_past_bound (settle w x) ≡ false) (ap (world_or w) done) (fits number ns w t at worker has e there within))
+    subst (λ x. is_past_bound (settle w x) ≡ false) (ap (state_or w) done) (fits number ns w t at worker has e there within))
 
 -- want of memory, where the step would have been made
 pub no_memory : (number : ℕ) (ns : Name) (t : Tables) (r : Result Snapped Refusal) → r ≡ Err Refusal.Memory → is_done (snap number ns (world_of t)) ≡ true →

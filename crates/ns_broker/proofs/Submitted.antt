@@ -24,7 +24,8 @@ use Rattle.ns_types.proofs.Tests.{not_Some}
 use Rattle.ns_change.specs.declared.change.Prepared.{Prepared}
 use Rattle.ns_change.specs.Changed.{with_plan}
 use Rattle.ns_change.specs.Prepared.{Prepares}
-use Rattle.ns_broker.proofs.Bounding.{unseen, world_or}
+use Rattle.ns_types.proofs.Outcomes.{state_or}
+use Rattle.ns_broker.proofs.Bounding.{unseen}
 use Rattle.ns_broker.proofs.AtWork.{no_turn, no_worker, works}
 use Rattle.ns_broker.specs.Bounded.{SubmitPassesNothing}
 use Rattle.ns_broker.specs.Snapping.{kept_at}
@@ -102,7 +103,7 @@ module _ (number : ℕ) (ns : Name) (w : World) (content : Content) (x : World) 
 pub submit_fits : SubmitPassesNothing
 submit_fits number ns w content x within is = handed_over number ns w content x is _ (λ t at worker done.
     let left = with_worker number (record worker { phase = Phase.Submitted }) t in
-    subst (λ x. is_past_bound (settle w x) ≡ false) (ap (world_or w) done)
+    subst (λ x. is_past_bound (settle w x) ≡ false) (ap (state_or w) done)
     (unseen w (submitted number ns w t worker) ns t left within at refl refl refl refl refl refl refl (untouched t)))
 
 -- ---- a step that is not enabled

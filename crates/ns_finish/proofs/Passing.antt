@@ -26,7 +26,8 @@ use Rattle.ns_types.proofs.Named.{numbers, one_number}
 use Rattle.ns_types.proofs.TableRows.{apart, get_other, get_put, some_row}
 use Rattle.ns_types.proofs.Tables.{tied}
 use Rattle.ns_types.proofs.Tests.{or_none, same_Some, third_of_four}
-use Rattle.ns_broker.proofs.Bounding.{past_is, promote_keeps, tenant_within}
+use Rattle.ns_types.proofs.Bounds.{tenant_within}
+use Rattle.ns_broker.proofs.Bounding.{past_is, promote_keeps}
 use Rattle.ns_finish.proofs.Finished.{end_by, ends_in, follows}
 use Rattle.ns_finish.proofs.Kept.{ending_keeps, tying_keeps}
 use Rattle.ns_finish.proofs.Numbered.{ended_stays}
