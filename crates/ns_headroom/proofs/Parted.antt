@@ -57,7 +57,8 @@ module _ (w : World) where
             || list_any (λ q. option_map_or (given_waking_passes_in w [] (q ∷ []) key) o false) quotas)
         by None = sym (λ i. any_none rooms i || any_none quotas i)
         by (Some t) = ap (λ b. is_at_bound t.index && (b && shows_awake t key.1 (evaluation_at w key))) (each_wakes key)
-            ∙ split_middle (is_at_bound t.index) (list_any (λ r. releases_wake_at w (r ∷ []) [] key) rooms) (list_any (λ q. releases_wake_at w [] (q ∷ []) key) quotas)
+            ∙ split_middle (is_at_bound t.index) (list_any (λ r. releases_wake_at w (r ∷ []) [] key) rooms)
+            (list_any (λ q. releases_wake_at w [] (q ∷ []) key) quotas)
             (shows_awake t key.1 (evaluation_at w key))
             ∙ (λ i. under (is_at_bound t.index) (shows_awake t key.1 (evaluation_at w key)) (λ r. releases_wake_at w (r ∷ []) [] key) rooms i
             || under (is_at_bound t.index) (shows_awake t key.1 (evaluation_at w key)) (λ q. releases_wake_at w [] (q ∷ []) key) quotas i)

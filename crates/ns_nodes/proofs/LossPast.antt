@@ -154,7 +154,8 @@ module _ (w : World) (pool name : Name) (p : PoolRows) (at : get w.pools pool �
   change_passes ns t is = by (loses pool name t) refl
     where
       placed : nat_lt greatest t.allocation_number ≡ false
-      placed = right_none (nat_lt greatest t.index || nat_lt greatest t.evaluation_number) (nat_lt greatest t.allocation_number) (tenant_within w ns t within is)
+      placed = right_none (nat_lt greatest t.index || nat_lt greatest t.evaluation_number) (nat_lt greatest t.allocation_number)
+          (tenant_within w ns t within is)
 
       numbered : nat_lt greatest t.evaluation_number ≡ false
       numbered = right_none (nat_lt greatest t.index) (nat_lt greatest t.evaluation_number)

@@ -115,7 +115,8 @@ module _ (w : World) (pool node : Name) (e : Eviction) where
           (counts w pool node x && same_key (victim_key e) (victim_key x)) ≡ (same_key (victim_key e) (victim_key x) && same_number e.priority x.priority)
       by x true same = ap (λ b. counts w pool node x && b) same ∙ and-true (counts w pool node x) ∙ counts_alike a is x same
           ∙ ap (λ b. b && same_number e.priority x.priority) (sym same)
-      by x false same = ap (λ b. counts w pool node x && b) same ∙ and-false (counts w pool node x) ∙ ap (λ b. b && same_number e.priority x.priority) (sym same)
+      by x false same = ap (λ b. counts w pool node x && b) same ∙ and-false (counts w pool node x)
+          ∙ ap (λ b. b && same_number e.priority x.priority) (sym same)
 
 -- ---- one eviction more
 

@@ -94,7 +94,8 @@ module _ {K : Type 0} {R : K → K → Ordering} (o : IsTotalOrder R) (same : Is
             Each (λ x. f x.0 x.1 ≤ at g x.0 (where_key R (elsewhere e.0) fs)) xs
         still [] _ k = tt
         still (x ∷ xs) b k = (
-          subst (λ y. f x.0 x.1 ≤ option_map_or (g x.0) y 0) (sym (found_elsewhere g e.0 x.0 fs (turned o e.0 x.0 (below_unlike (R e.0 x.0) (first _ _ b))))) k.0,
+          subst (λ y. f x.0 x.1 ≤ option_map_or (g x.0) y 0)
+              (sym (found_elsewhere g e.0 x.0 fs (turned o e.0 x.0 (below_unlike (R e.0 x.0) (first _ _ b))))) k.0,
           still xs (second _ _ b) k.1,
         )
 
