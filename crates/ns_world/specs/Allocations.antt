@@ -1,12 +1,16 @@
--- What a namespace's live allocations take together, and the total of it that is kept with the rows.
+-- A namespace's allocations: the job of each, what the live ones take together, and the total of it that is kept with the rows.
 use Rattle.std.specs.Prelude.{◌≡◌, ℕ, ◌+◌, ◌%◌, ◌^◌, cond, List, Option, sum_by}
 use Rattle.std.specs.Option.{option_map_or}
 use Rattle.std.specs.FinMap.{entries}
 use Rattle.keyed.specs.Table.{row_at, rows}
-use Rattle.ns_types.specs.State.Names.{ByNumber}
+use Rattle.ns_types.specs.State.Names.{ByNumber, Name}
 use Rattle.ns_types.specs.State.Rows.{is_live}
 use Rattle.ns_types.specs.declared.allocation.Allocation.{Allocation}
 use Rattle.ns_types.specs.declared.resources.Resources.{Resources}
+
+-- the job that a row names
+abbrev pub job_of : Allocation → Name
+job_of a = a.job
 
 -- over the live rows
 abbrev pub live_sum : (Resources → ℕ) → ByNumber Allocation → ℕ

@@ -17,7 +17,7 @@ tenant_of t = record {
   allocation_number = t.allocation_number;
   jobs = rows t.jobs;
   evaluations = rows t.evaluations.slots;
-  allocations = rows t.allocations;
+  allocations = rows t.allocations.slots;
   workers = rows t.workers;
   events = t.events;
 }

@@ -2,40 +2,51 @@
 
 ghost use Rattle.std.specs.Prelude.{◌≡◌, ◌+◌, OnOk, option_copied};
 ghost use Rattle.std.specs.FinMap.{empty, entries};
-ghost use Rattle.keyed.specs.Over.{HasRoomFor, over};
+ghost use Rattle.keyed.specs.Over.{over};
 ghost use Rattle.keyed.specs.Table.{row_at, rows, without_vacant};
 ghost use Rattle.ns_types.specs.State.Resources.{IsCounted};
-ghost use Rattle.ns_world.specs.Allocations.{IsAlike, IsMoved, live_use, row_use};
+ghost use Rattle.ns_world.specs.Allocations.{IsAlike, IsMoved, job_of, live_use, row_use};
+ghost use Rattle.ns_world.specs.JobTables.{HasNumbersOf, HasRoomIn};
 
+use crate::job_tables::{HasJob, JobTable};
 use keyed::NumberTable;
 use ns_types::allocation::Allocation;
 use ns_types::resources::{Resources, none};
+use ns_types::text::Text;
 use std::alloc::{AllocError, Global};
 use std::marker::Model;
 
-/// Allocations by number, with what the live ones take together. It is counted as rows change.
+impl HasJob for Allocation {
+    ghost job_of = { job_of };
+
+    fn job(&self) -> &Text {
+        &self.job
+    }
+}
+
+/// Allocations by number, with the numbers of each job, and with what the live ones take together. It is counted as rows change.
 #[derive(Drop)]
 pub struct AllocationTable {
-    slots: NumberTable<Allocation>,
+    table: JobTable<Allocation>,
     /// Each sum is that of the live rows, without what is past 64 bits.
     live: Resources,
 }
 
 impl Model for AllocationTable {
-    ghost use Rattle.std.specs.Prelude.{Option};
+    ghost use Rattle.keyed.specs.contracts.key_set.KeySet as set;
     ghost use Rattle.std.specs.FinMap.{code};
     ghost use Rattle.std.specs.Coded.{codes};
-    ghost use Rattle.ns_types.specs.State.Names.{ByNumber};
     ghost use Rattle.ns_types.specs.declared.allocation.Allocation.{Allocation};
     ghost use Rattle.ns_world.specs.Allocations.{IsTotalOf};
+    ghost use Rattle.ns_world.specs.JobTables.{JobTable};
 
-    ghost Value = { ByNumber (Option Allocation) };
+    ghost Value = { JobTable Allocation };
 
-    ghost coded = { Prim.hlevel (codes, code) };
+    ghost coded = { Prim.hlevel (codes, code, set.the_row.coded) };
 
-    ghost view = { λ t. t.slots };
+    ghost view = { λ t. t.table };
 
-    ghost invariant = { λ t. IsTotalOf t.live t.slots };
+    ghost invariant = { λ t. IsTotalOf t.live t.table.slots };
 }
 
 /// An allocation with its number, or a vacant slot.
@@ -84,63 +95,70 @@ fn total_after(
 impl AllocationTable {
     /// No slots. It takes no memory.
     pub fn new(alloc: Global) -> AllocationTable
-        ensures { result ≡ empty }
+        ensures { result.slots ≡ empty }
     {
         AllocationTable {
-            slots: NumberTable::new(alloc),
+            table: JobTable::new(alloc),
             live: none(),
         }
     }
 
     /// The allocations by number.
     pub fn rows(&self) -> &NumberTable<Allocation>
-        ensures { result.now ≡ self.now }
+        ensures { result.now ≡ self.now.slots }
     {
-        &self.slots
+        self.table.rows()
     }
 
     /// The slots with their numbers, which rise.
     pub fn as_slice(&self) -> &[(u64, Option<Allocation>)]
-        ensures { result.now ≡ entries self.now }
+        ensures { result.now ≡ entries self.now.slots }
     {
-        self.slots.as_slice()
+        self.table.rows().as_slice()
     }
 
     pub fn get(&self, number: u64) -> Option<&Allocation>
-        ensures { option_copied result ≡ row_at self.now number }
+        ensures { option_copied result ≡ row_at self.now.slots number }
     {
-        self.slots.get(number)
+        self.table.rows().get(number)
+    }
+
+    /// The numbers of the job's allocations, which rise. There may be others among them.
+    pub fn numbers_of(&self, job: &Text) -> Option<&NumberTable<()>>
+        ensures { HasNumbersOf job_of job.now self.now.slots (option_copied result) }
+    {
+        self.table.numbers_of(job)
     }
 
     /// What the live allocations take together. It looks at none of them. The premise is that the sums fit 64 bits.
     pub fn live_use(&self) -> Resources
-        requires { IsCounted (live_use self.now) }
-        ensures { result ≡ live_use self.now }
+        requires { IsCounted (live_use self.now.slots) }
+        ensures { result ≡ live_use self.now.slots }
     {
         self.live
     }
 
     /// Makes room for each changed row. Want of memory is the only error.
     pub fn reserve_all(&mut self, changes: &NumberTable<Allocation>) -> Result<(), AllocError>
-        ensures rows { rows self.new ≡ rows self.old }
-        ensures room { OnOk result (HasRoomFor changes.now self.new) }
+        ensures rows { rows self.new.slots ≡ rows self.old.slots }
+        ensures room { OnOk result (HasRoomIn job_of changes.now self.new) }
     {
-        self.slots.reserve_all(changes)
+        self.table.reserve_all(changes)
     }
 
     /// Writes the changed rows, and takes away those that are gone. It takes no memory.
     pub fn apply(&mut self, changes: NumberTable<Allocation>)
-        requires { HasRoomFor changes self.old }
-        ensures { rows self.new ≡ over (rows self.old) changes }
+        requires { HasRoomIn job_of changes self.old }
+        ensures { rows self.new.slots ≡ over (rows self.old.slots) changes }
     {
-        self.live = total_after(self.live, &self.slots, changes.as_slice());
-        self.slots.apply(changes);
+        self.live = total_after(self.live, self.table.rows(), changes.as_slice());
+        self.table.apply(changes);
     }
 
-    /// Takes the slot at `number` out, if it is vacant.
-    pub fn clear_slot(&mut self, number: u64)
-        ensures { self.new ≡ without_vacant self.old number }
+    /// Takes the slot of that number out, if it is vacant, with the room that was made for its row.
+    pub fn clear_slot(&mut self, slot: &(u64, Option<Allocation>))
+        ensures { self.new.slots ≡ without_vacant self.old.slots slot.now.0 }
     {
-        self.slots.clear_slot(number);
+        self.table.clear_slot(slot);
     }
 }

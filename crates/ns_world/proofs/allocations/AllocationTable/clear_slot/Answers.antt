@@ -6,5 +6,5 @@ use Rattle.ns_world.proofs.Totals.{total_stays}
 use Rattle.ns_world.proofs.allocations.AllocationTable.clear_slot.Goals as goal
 
 pub invariant_of-self : goal.invariant_of-self
-invariant_of-self c = total_stays c.self.inside.live c.self.inside.slots c.clear_slot.new.self c.self.invariant
-    (ap rows c.clear_slot.ensures ∙ rows-without_vacant numbers one_number c.self.inside.slots c.args.number)
+invariant_of-self c = total_stays c.self.inside.live c.self.inside.table.slots c.clear_slot.new.self.slots c.self.invariant
+    (ap rows c.clear_slot.ensures ∙ rows-without_vacant numbers one_number c.self.inside.table.slots c.args.slot.now.0)
