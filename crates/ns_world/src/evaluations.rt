@@ -1,75 +1,42 @@
 //! A namespace's evaluations.
 
-ghost use Rattle.std.specs.Prelude.{◌≡◌, IsTrue, OnOk, option_copied};
+ghost use Rattle.std.specs.Prelude.{◌≡◌, OnOk, option_copied};
 ghost use Rattle.std.specs.FinMap.{empty};
-ghost use Rattle.keyed.specs.Levels.{holds_key};
 ghost use Rattle.keyed.specs.Over.{over};
 ghost use Rattle.keyed.specs.Table.{rows, without_vacant};
-ghost use Rattle.ns_types.specs.State.Lists.{Each};
-ghost use Rattle.ns_types.specs.State.Names.{Key};
-ghost use Rattle.ns_world.specs.Evaluations.{HasEvaluationRoom, HasJobRoom, HasNumbersOf, IsIndexed};
+ghost use Rattle.ns_world.specs.Evaluations.{HasEvaluationRoom, HasNumbersOf};
+ghost use Rattle.ns_world.specs.Filing.{AreNumbersUnder, waited_pool, waited_quota};
 
-use keyed::{KeySet, NumberTable};
+use crate::filing::Index;
+use keyed::NumberTable;
 use ns_types::evaluation::Evaluation;
 use ns_types::text::Text;
 use std::alloc::{AllocError, Global};
 use std::marker::Model;
 
-/// Evaluations by number, with the numbers of each job. No row is taken away.
+/// Evaluations by number, with the numbers of each job, and of those that are blocked by what they wait for.
 #[derive(Drop)]
 pub struct EvaluationTable {
     alloc: Global,
     slots: NumberTable<Evaluation>,
-    by_job: KeySet,
+    index: Index,
 }
 
 impl Model for EvaluationTable {
-    ghost use Rattle.keyed.specs.contracts.key_set.KeySet as set;
+    ghost use Rattle.keyed.specs.Table.{rows};
     ghost use Rattle.std.specs.FinMap.{code};
     ghost use Rattle.std.specs.Coded.{codes};
-    ghost use Rattle.ns_world.specs.Evaluations.{EvaluationTable, IsIndexOf};
+    ghost use Rattle.ns_world.specs.Evaluations.{EvaluationTable};
+    ghost use Rattle.ns_world.specs.Filing.{IsIndexed};
+    ghost use Rattle.ns_world.specs.contracts.filing.Index as names;
 
     ghost Value = { EvaluationTable };
 
-    ghost coded = { Prim.hlevel (codes, code, set.the_row.coded) };
+    ghost coded = { Prim.hlevel (codes, code, names.the_row.coded) };
 
-    ghost view = { λ t. record { slots = t.slots; by_job = t.by_job } };
+    ghost view = { λ t. record { slots = t.slots; index = t.index } };
 
-    ghost invariant = { λ t. IsIndexOf t.by_job t.slots };
-}
-
-/// An evaluation with its number, or a vacant slot.
-type EvaluationSlot = (u64, Option<Evaluation>);
-
-/// Makes room for the number of each row among those of its job.
-fn reserve_jobs(
-    by_job: &mut KeySet,
-    alloc: Global,
-    slots: &[EvaluationSlot],
-) -> Result<(), AllocError>
-    ensures held { (key : Key) → holds_key by_job.new key ≡ holds_key by_job.old key }
-    ensures ok { OnOk result (Each (HasJobRoom by_job.new) slots.now) }
-{
-    for slot in slots {
-        if let Some(row) = &slot.1 {
-            by_job.reserve(alloc, &row.job, slot.0)?;
-        }
-    }
-    Ok(())
-}
-
-/// Puts the number of each row among those of its job.
-fn index_jobs(by_job: &mut KeySet, slots: &[EvaluationSlot])
-    requires { Each (HasJobRoom by_job.old) slots.now }
-    ensures kept { (key : Key) → IsTrue (holds_key by_job.old key)
-        → IsTrue (holds_key by_job.new key) }
-    ensures indexed { Each (IsIndexed by_job.new) slots.now }
-{
-    for slot in slots {
-        if let Some(row) = &slot.1 {
-            by_job.insert(&row.job, slot.0);
-        }
-    }
+    ghost invariant = { λ t. IsIndexed t.index (rows t.slots) };
 }
 
 impl EvaluationTable {
@@ -80,7 +47,7 @@ impl EvaluationTable {
         EvaluationTable {
             alloc,
             slots: NumberTable::new(alloc),
-            by_job: KeySet::new(alloc),
+            index: Index::new(alloc),
         }
     }
 
@@ -95,7 +62,21 @@ impl EvaluationTable {
     pub fn numbers_of(&self, job: &Text) -> Option<&NumberTable<()>>
         ensures { HasNumbersOf job.now self.now.slots (option_copied result) }
     {
-        self.by_job.numbers_of(job)
+        self.index.jobs.numbers_of(job)
+    }
+
+    /// The numbers of the evaluations that are blocked, with no quota that limits them, in the pool. They rise.
+    pub fn waiting_in_pool(&self, pool: &Text) -> Option<&NumberTable<()>>
+        ensures { AreNumbersUnder waited_pool pool.now self.now.slots (option_copied result) }
+    {
+        self.index.pools.numbers_of(pool)
+    }
+
+    /// The numbers of the evaluations that are blocked and limited by the quota. They rise.
+    pub fn limited_by(&self, quota: &Text) -> Option<&NumberTable<()>>
+        ensures { AreNumbersUnder waited_quota quota.now self.now.slots (option_copied result) }
+    {
+        self.index.quotas.numbers_of(quota)
     }
 
     /// Makes room for each changed row. Want of memory is the only error.
@@ -104,7 +85,7 @@ impl EvaluationTable {
         ensures room { OnOk result (HasEvaluationRoom changes.now self.new) }
     {
         self.slots.reserve_all(changes)?;
-        reserve_jobs(&mut self.by_job, self.alloc, changes.as_slice())
+        self.index.reserve(self.alloc, changes)
     }
 
     /// Writes the changed rows. It takes no memory.
@@ -112,7 +93,7 @@ impl EvaluationTable {
         requires { HasEvaluationRoom changes self.old }
         ensures { rows self.new.slots ≡ over (rows self.old.slots) changes }
     {
-        index_jobs(&mut self.by_job, changes.as_slice());
+        self.index.refile(&self.slots, &changes);
         self.slots.apply(changes);
     }
 
@@ -121,8 +102,6 @@ impl EvaluationTable {
         ensures { self.new.slots ≡ without_vacant self.old.slots slot.now.0 }
     {
         self.slots.clear_slot(slot.0);
-        if let Some(row) = &slot.1 {
-            self.by_job.clear(&row.job, slot.0);
-        }
+        self.index.clear(slot);
     }
 }

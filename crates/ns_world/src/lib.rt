@@ -5,6 +5,7 @@
 
 mod allocations;
 mod evaluations;
+mod filing;
 mod job_tables;
 mod tables;
 

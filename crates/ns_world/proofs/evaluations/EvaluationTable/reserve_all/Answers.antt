@@ -1,21 +1,8 @@
-use Rattle.std.proofs.Common.{◌∙◌}
-use Rattle.keyed.specs.Levels.{has_key_room}
-use Rattle.std.proofs.lemmas.Result.{on_ok_weaker}
-use Rattle.ns_world.proofs.ByJob.{said_at, still_indexed}
+use Rattle.std.proofs.Common.{sym, subst}
+use Rattle.keyed.specs.Table.{rows}
+use Rattle.ns_world.specs.Filing.{IsIndexed}
 use Rattle.ns_world.proofs.evaluations.EvaluationTable.reserve_all.Goals as goal
 
-pub invariant_of-self : goal.invariant_of-self
-invariant_of-self c = still_indexed c.self.inside.by_job c.self.inside.by_job c.self.inside.slots c.reserve_all.new.self c.self.invariant (λ key t. t)
-    c.reserve_all.ensures.rows
-
 pub invariant_of-self-2 : goal.invariant_of-self-2
-invariant_of-self-2 c = still_indexed c.self.inside.by_job c.reserve_jobs.new.by_job c.self.inside.slots c.reserve_all.new.self c.self.invariant
-    (λ key t. c.reserve_jobs.ensures.held key ∙ t) c.reserve_all.ensures.rows
-
-pub returns-clause-room : goal.returns-clause-room
-returns-clause-room c = on_ok_weaker c.reserve_jobs.result
-    (λ all. record {
-      slots = c.in_ok-reserve_all.ensures.room;
-      jobs = said_at has_key_room c.reserve_jobs.new.by_job c.args.changes.now c.as_slice.result.now c.as_slice.ensures all;
-    })
-    c.reserve_jobs.ensures.ok
+invariant_of-self-2 c = subst (IsIndexed c.reserve.new.self) (sym c.reserve_all.ensures.rows)
+    (c.reserve.ensures.same (rows c.self.inside.slots) c.self.invariant)

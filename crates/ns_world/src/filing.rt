@@ -1,0 +1,251 @@
+//! Under which names the numbers of evaluations stand.
+
+ghost use Rattle.std.specs.Prelude.{◌≡◌, ◌&&◌, ◌||◌, IsTrue, not, OnOk, Option, option_copied};
+ghost use Rattle.std.specs.FinMap.{empty, entries};
+ghost use Rattle.std.specs.List.{list_any};
+ghost use Rattle.keyed.specs.Levels.{Keeps, has_key_room, holds_key};
+ghost use Rattle.keyed.specs.Over.{over};
+ghost use Rattle.keyed.specs.Table.{rows};
+ghost use Rattle.ns_types.specs.State.Lists.{Each};
+ghost use Rattle.ns_types.specs.State.Names.{ByNumber, Key, Name};
+ghost use Rattle.ns_types.specs.declared.evaluation.Evaluation.{Evaluation};
+ghost use Rattle.ns_world.specs.Filing.{HasIndexRoom, HasRoomAt, IsIndexOf, IsIndexed, is_filed, is_left, name_at};
+ghost use Rattle.ns_world.specs.Filing.{own_job, stands_under, waited_pool, waited_quota};
+
+use keyed::{KeySet, NumberTable};
+use ns_types::evaluation::{Evaluation, Status};
+use ns_types::text::{Text, same_text};
+use std::alloc::{AllocError, Global};
+
+/// A changed evaluation with its number, or one that is gone.
+type EvaluationSlot = (u64, Option<Evaluation>);
+
+/// A name under which numbers of evaluations stand.
+trait Filing {
+    ghost name_of: { Evaluation → Option Name };
+
+    /// The name of the row, where it has one.
+    fn name_of(row: &Evaluation) -> Option<&Text>
+        ensures { option_copied result ≡ name_of row.now };
+}
+
+/// The job of an evaluation.
+struct OwnJob;
+
+impl Filing for OwnJob {
+    ghost name_of = { own_job };
+
+    fn name_of(row: &Evaluation) -> Option<&Text> {
+        Some(&row.job)
+    }
+}
+
+/// The pool in which an evaluation waits that no quota limits.
+struct WaitedPool;
+
+impl Filing for WaitedPool {
+    ghost name_of = { waited_pool };
+
+    fn name_of(row: &Evaluation) -> Option<&Text> {
+        match (row.status, &row.quota) {
+            (Status::Blocked, None) => Some(&row.pool),
+            _ => None,
+        }
+    }
+}
+
+/// The quota that limits an evaluation that waits.
+struct WaitedQuota;
+
+impl Filing for WaitedQuota {
+    ghost name_of = { waited_quota };
+
+    fn name_of(row: &Evaluation) -> Option<&Text> {
+        match row.status {
+            Status::Blocked => row.quota.as_ref(),
+            _ => None,
+        }
+    }
+}
+
+/// The name of a row that may be there.
+fn name_at<F: Filing>(row: Option<&Evaluation>) -> Option<&Text>
+    ensures { option_copied result ≡ name_at F.name_of (option_copied row.entry) }
+{
+    match row {
+        Some(row) => F::name_of(row),
+        None => None,
+    }
+}
+
+fn stands_under<F: Filing>(name: &Text, row: Option<&Evaluation>) -> bool
+    ensures { result ≡ stands_under F.name_of name.now (option_copied row.entry) }
+{
+    match name_at::<F>(row) {
+        Some(own) => same_text(name, own),
+        None => false,
+    }
+}
+
+// ---- room
+
+fn reserve<F: Filing>(
+    numbers: &mut KeySet,
+    alloc: Global,
+    slot: &EvaluationSlot,
+) -> Result<(), AllocError>
+    ensures same { Keeps holds_key has_key_room numbers.old numbers.new }
+    ensures ok { OnOk result (HasRoomAt F.name_of numbers.new slot.now) }
+{
+    match name_at::<F>(slot.1.as_ref()) {
+        Some(name) => numbers.reserve(alloc, name, slot.0),
+        None => Ok(()),
+    }
+}
+
+/// Makes room for the number of each row under its name.
+fn reserve_all<F: Filing>(
+    numbers: &mut KeySet,
+    alloc: Global,
+    slots: &[EvaluationSlot],
+) -> Result<(), AllocError>
+    ensures same { Keeps holds_key has_key_room numbers.old numbers.new }
+    ensures ok { OnOk result (Each (HasRoomAt F.name_of numbers.new) slots.now) }
+{
+    for slot in slots {
+        reserve::<F>(numbers, alloc, slot)?;
+    }
+    Ok(())
+}
+
+/// Takes the room for the number of the slot's row away again, unless it stands there.
+fn clear<F: Filing>(numbers: &mut KeySet, slot: &EvaluationSlot)
+    ensures { (key : Key) → holds_key numbers.new key ≡ holds_key numbers.old key }
+{
+    if let Some(name) = name_at::<F>(slot.1.as_ref()) {
+        numbers.clear(name, slot.0);
+    }
+}
+
+// ---- changes
+
+fn insert<F: Filing>(numbers: &mut KeySet, slot: &EvaluationSlot)
+    requires { HasRoomAt F.name_of numbers.old slot.now }
+    ensures held { (key : Key) → holds_key numbers.new key
+        ≡ (is_filed F.name_of slot.now key || holds_key numbers.old key) }
+    ensures room { (key : Key) → IsTrue (has_key_room numbers.old key)
+        → IsTrue (has_key_room numbers.new key) }
+{
+    if let Some(name) = name_at::<F>(slot.1.as_ref()) {
+        numbers.insert(name, slot.0);
+    }
+}
+
+fn insert_all<F: Filing>(numbers: &mut KeySet, slots: &[EvaluationSlot])
+    requires { Each (HasRoomAt F.name_of numbers.old) slots.now }
+    ensures { (key : Key) → holds_key numbers.new key
+        ≡ (list_any (λ slot. is_filed F.name_of slot key) slots.now || holds_key numbers.old key) }
+{
+    for slot in slots {
+        insert::<F>(numbers, slot);
+    }
+}
+
+/// Takes the number out from under the name of the row before, unless the slot's row stands there.
+fn leave<F: Filing>(numbers: &mut KeySet, before: &NumberTable<Evaluation>, slot: &EvaluationSlot)
+    ensures { (key : Key) → holds_key numbers.new key
+        ≡ (not (is_left F.name_of before.now slot.now key) && holds_key numbers.old key) }
+{
+    if let Some(name) = name_at::<F>(before.get(slot.0)) {
+        if !stands_under::<F>(name, slot.1.as_ref()) {
+            numbers.remove(name, slot.0);
+        }
+    }
+}
+
+fn leave_all<F: Filing>(
+    numbers: &mut KeySet,
+    before: &NumberTable<Evaluation>,
+    slots: &[EvaluationSlot],
+)
+    ensures { (key : Key) → holds_key numbers.new key
+        ≡ (not (list_any (λ slot. is_left F.name_of before.now slot key) slots.now)
+        && holds_key numbers.old key) }
+{
+    for slot in slots {
+        leave::<F>(numbers, before, slot);
+    }
+}
+
+/// Puts the number of each changed row under its name, and takes it out from under the one before.
+fn refile<F: Filing>(
+    numbers: &mut KeySet,
+    before: &NumberTable<Evaluation>,
+    changes: &NumberTable<Evaluation>,
+)
+    requires room { Each (HasRoomAt F.name_of numbers.old) (entries changes.now) }
+    requires before { IsIndexOf F.name_of numbers.old (rows before.now) }
+    ensures { IsIndexOf F.name_of numbers.new (over (rows before.now) changes.now) }
+{
+    insert_all::<F>(numbers, changes.as_slice());
+    leave_all::<F>(numbers, before, changes.as_slice());
+}
+
+// ---- all three
+
+/// The numbers of evaluations by their job, and of those that are blocked by what they wait for.
+#[derive(Drop)]
+pub struct Index {
+    pub(crate) jobs: KeySet,
+    pub(crate) pools: KeySet,
+    pub(crate) quotas: KeySet,
+}
+
+impl Index {
+    /// No numbers. It takes no memory.
+    pub fn new(alloc: Global) -> Index
+        ensures { IsIndexed result empty }
+    {
+        Index {
+            jobs: KeySet::new(alloc),
+            pools: KeySet::new(alloc),
+            quotas: KeySet::new(alloc),
+        }
+    }
+
+    /// Makes room for the numbers of the changed rows.
+    pub fn reserve(
+        &mut self,
+        alloc: Global,
+        changes: &NumberTable<Evaluation>,
+    ) -> Result<(), AllocError>
+        ensures same { (rows : ByNumber Evaluation) → IsIndexed self.old rows
+            → IsIndexed self.new rows }
+        ensures ok { OnOk result (HasIndexRoom changes.now self.new) }
+    {
+        reserve_all::<OwnJob>(&mut self.jobs, alloc, changes.as_slice())?;
+        reserve_all::<WaitedPool>(&mut self.pools, alloc, changes.as_slice())?;
+        reserve_all::<WaitedQuota>(&mut self.quotas, alloc, changes.as_slice())
+    }
+
+    /// Puts the numbers of the changed rows where they stand from now on. It takes no memory.
+    pub fn refile(&mut self, before: &NumberTable<Evaluation>, changes: &NumberTable<Evaluation>)
+        requires room { HasIndexRoom changes.now self.old }
+        requires before { IsIndexed self.old (rows before.now) }
+        ensures { IsIndexed self.new (over (rows before.now) changes.now) }
+    {
+        refile::<OwnJob>(&mut self.jobs, before, changes);
+        refile::<WaitedPool>(&mut self.pools, before, changes);
+        refile::<WaitedQuota>(&mut self.quotas, before, changes);
+    }
+
+    /// Takes the room for the number of the slot's row away again, where it is not used.
+    pub fn clear(&mut self, slot: &EvaluationSlot)
+        ensures { (rows : ByNumber Evaluation) → IsIndexed self.old rows
+            → IsIndexed self.new rows }
+    {
+        clear::<OwnJob>(&mut self.jobs, slot);
+        clear::<WaitedPool>(&mut self.pools, slot);
+        clear::<WaitedQuota>(&mut self.quotas, slot);
+    }
+}
