@@ -83,8 +83,11 @@ module _ {X : Type 0} (job_of : X → Name) where
 
     pub reserve_step : (row : X) → slot.1 ≡ Some row → Keeps holds_key has_key_room held new → IsTrue (has_key_room new (job_of row, slot.0)) →
         matched ≡ new → IsReservingJobs held old rest slots → IsReservingJobs matched old left slots
-    reserve_step row is k there e h = subst (λ m. IsReservingJobs m old left slots) (sym e)
-        (λ q. k.held q ∙ h.0 q, done_next has_key_room held new slot rest left slots steps (λ key. k.room key) (row_says has_key_room new slot row is there) h.1)
+    reserve_step row is k there e h = subst (λ m. IsReservingJobs m old left slots) (sym e) (
+      λ q. k.held q ∙ h.0 q,
+      done_next has_key_room held new slot rest left slots steps (λ key. k.room key)
+          (row_says has_key_room new slot row is there) h.1,
+    )
 
     pub index_pass : slot.1 ≡ None → matched ≡ held → IsIndexingJobs held old rest slots → IsIndexingJobs matched old left slots
     index_pass none e h = subst (λ m. IsIndexingJobs m old left slots) (sym e) (

@@ -24,7 +24,8 @@ impl HasJob for Allocation {
     }
 }
 
-/// Allocations by number, with the numbers of each job, and with what the live ones take together. It is counted as rows change.
+/// Allocations by number, with the numbers of each job, and with what the live ones take together, which is counted as
+/// rows change.
 #[derive(Drop)]
 pub struct AllocationTable {
     table: JobTable<Allocation>,
