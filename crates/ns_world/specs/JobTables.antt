@@ -1,5 +1,5 @@
 -- Tables by number of rows that name a job, and which numbers each job has.
-use Rattle.std.specs.Prelude.{◌≡◌, ℕ, false, IsTrue, Option, Some}
+use Rattle.std.specs.Prelude.{◌≡◌, ℕ, false, IsTrue, List, Option, Some, map}
 use Rattle.std.specs.Option.{option_map_or}
 use Rattle.keyed.specs.Levels.{holds_key, holds_number, has_key_room}
 use Rattle.keyed.specs.Over.{HasRoomFor}
@@ -11,6 +11,10 @@ pub record JobTable (X : Type 0) : Type 0 where
   pub slots : ByNumber (Option X)
   -- keys of a job and a number
   pub by_job : KeySet
+
+-- what stands at these numbers
+abbrev pub slots_at : {X : Type 0} → ByNumber (Option X) → List (ℕ × Option Unit) → List (ℕ × Option X)
+slots_at slots numbers = map (λ e. (e.0, row_at slots e.0)) numbers
 
 module _ {X : Type 0} (job_of : X → Name) where
   -- each row's number is among those of its job
