@@ -91,10 +91,11 @@ module _ (t : Tables) (pool node : Name) (amount : Resources → ℕ) where
     none_held ns none n = sym (right (ns, n)) ∙ ap (λ r. option_map_or (λ (held : ByNumber (Option Unit)). is_some (row_at held n)) r false) none
 
     right_in : (ns : Name) (tenant : TenantRows) (held : ByNumber (Option Unit)) → row_at t.tenants ns ≡ Some tenant → row_at keys.numbers ns ≡ Some held →
-        (n : ℕ) → is_some (row_at held n) ≡ option_map_or on (row_at tenant.allocations n) false
+        (n : ℕ) → is_some (row_at held n) ≡ option_map_or on (row_at tenant.allocations.slots n) false
     right_in ns tenant held at there n = sym (ap (λ r. option_map_or (λ (held : ByNumber (Option Unit)). is_some (row_at held n)) r false) there)
         ∙ right (ns, n) ∙ ap (λ r. option_map_or on r false)
-        (ap (option_and_then (λ (x : Tenant). get x.allocations n)) (tenant_at t ns ∙ ap (option_map tenant_of) at) ∙ get-rows numbers tenant.allocations n)
+        (ap (option_and_then (λ (x : Tenant). get x.allocations n)) (tenant_at t ns ∙ ap (option_map tenant_of) at)
+        ∙ get-rows numbers tenant.allocations.slots n)
 
     at_namespace : (ns : Name) (slot : Option (ByNumber (Option Unit))) → get keys.numbers ns ≡ Some slot →
         option_map_or (λ tenant. tenant_sum on amount tenant) (get (world_of t).tenants ns) 0 ≡ namespace_amount t.tenants amount (ns, slot)
@@ -106,9 +107,9 @@ module _ (t : Tables) (pool node : Name) (amount : Resources → ℕ) where
     at_namespace ns (Some held) is = ap (λ r. option_map_or (λ tenant. tenant_sum on amount tenant) r 0) (tenant_at t ns) ∙ by (row_at t.tenants ns) refl
       where
         by : (r : Option TenantRows) → row_at t.tenants ns ≡ r → option_map_or (λ tenant. tenant_sum on amount tenant) (option_map tenant_of r) 0
-            ≡ option_map_or (λ tenant. numbers_amount tenant.allocations held amount) r 0
+            ≡ option_map_or (λ tenant. numbers_amount tenant.allocations.slots held amount) r 0
         by None at = refl
-        by (Some tenant) at = rows_counted (world_of t) pool node amount tenant.allocations held (right_in ns tenant held at (ap flat is))
+        by (Some tenant) at = rows_counted (world_of t) pool node amount tenant.allocations.slots held (right_in ns tenant held at (ap flat is))
 
     pub loaded : node_sum (world_of t) pool node amount ≡ keys_amount t.tenants keys amount
     unfolding node_sum

@@ -38,7 +38,7 @@ numbers_amount allocations numbers amount = sum_by (number_amount allocations am
 abbrev pub namespace_amount : ByName (Option TenantRows) → (Resources → ℕ) → Name × Option (ByNumber (Option Unit)) → ℕ
 namespace_amount tenants amount (ns, None) = 0
 namespace_amount tenants amount (ns, Some numbers) =
-    option_map_or (λ tenant. numbers_amount tenant.allocations numbers amount) (row_at tenants ns) 0
+    option_map_or (λ tenant. numbers_amount tenant.allocations.slots numbers amount) (row_at tenants ns) 0
 
 abbrev pub keys_amount : ByName (Option TenantRows) → KeySet → (Resources → ℕ) → ℕ
 keys_amount tenants keys amount = sum_by (namespace_amount tenants amount) (entries keys.numbers)

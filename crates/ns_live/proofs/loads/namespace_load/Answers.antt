@@ -12,4 +12,4 @@ returns-in-Some-get c =
     sym c.get.ensures ∙ ap option_copied c.in-Some-get.is in
     c.numbers_load.ensures ∙ ap (λ m. each_resource (numbers_amount m c.in-Some.numbers.now)) c.rows.ensures
     ∙ sym (ap (λ x. each_resource (λ amount. namespace_amount c.args.tables.now.tenants amount (c.args.slot.now.0, x))) numbers_are
-    ∙ ap (λ r. each_resource (λ amount. option_map_or (λ (t : TenantRows). numbers_amount t.allocations c.in-Some.numbers.now amount) r 0)) tenant_is)
+    ∙ ap (λ r. each_resource (λ amount. option_map_or (λ (t : TenantRows). numbers_amount t.allocations.slots c.in-Some.numbers.now amount) r 0)) tenant_is)
