@@ -46,7 +46,7 @@ module _ (pool node : Name) where
     in_slot : (slot : Name × Option TenantRows) →
         has_key (live_keys_in pool node slot) key ≡ at_slot (λ e. any_row (is_it key e.0) (tenant_of e.1).allocations) slot
     in_slot (ns, None) = refl
-    in_slot (ns, Some x) = in_namespace ns x.allocations
+    in_slot (ns, Some x) = in_namespace ns x.allocations.slots
 
     everywhere : (t : Tables) → has_key (live_keys pool node t) key ≡ any_row (λ ns x. any_row (is_it key ns) x.allocations) (world_of t).tenants
     unfolding world_of

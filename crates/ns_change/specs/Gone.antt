@@ -18,7 +18,7 @@ live_key pool node ns (n, Some a) = if is_live_on pool node a then (ns, n) ∷ [
 
 abbrev pub live_keys_in : Name → Name → Name × Option TenantRows → List Key
 live_keys_in pool node (ns, None) = []
-live_keys_in pool node (ns, Some t) = flat_map (live_key pool node ns) (entries t.allocations)
+live_keys_in pool node (ns, Some t) = flat_map (live_key pool node ns) (entries t.allocations.slots)
 
 abbrev pub live_keys : Name → Name → Tables → List Key
 live_keys pool node t = flat_map (live_keys_in pool node) (entries t.tenants)
