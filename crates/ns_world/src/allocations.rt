@@ -118,6 +118,7 @@ impl AllocationTable {
         self.table.rows().as_slice()
     }
 
+    /// The allocation of that number.
     pub fn get(&self, number: u64) -> Option<&Allocation>
         ensures { option_copied result ≡ row_at self.now.slots number }
     {

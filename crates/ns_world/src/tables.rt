@@ -2,13 +2,15 @@
 
 ghost use Rattle.std.specs.Prelude.{◌≡◌, option_copied};
 ghost use Rattle.std.specs.FinMap.{contains_key};
-ghost use Rattle.ns_types.specs.State.Rows.{evaluation_at};
+ghost use Rattle.ns_types.specs.State.Rows.{allocation_at, evaluation_at, node_at};
+ghost use Rattle.ns_types.specs.Working.Commit.{quota_named};
 ghost use Rattle.ns_world.specs.World.{world_of};
 
 use crate::allocations::AllocationTable;
 use crate::evaluations::EvaluationTable;
 use keyed::{KeyQueue, NameTable, NumberTable, Series};
 use ns_events::Events;
+use ns_types::allocation::Allocation;
 use ns_types::evaluation::Evaluation;
 use ns_types::job::Job;
 use ns_types::node::{Class, Node};
@@ -65,6 +67,7 @@ pub struct Tables {
 }
 
 impl Tables {
+    /// The namespace's evaluation of that number.
     pub fn evaluation(&self, namespace: &Text, number: u64) -> Option<&Evaluation>
         ensures { option_copied result ≡ evaluation_at (world_of self.now) (namespace.now, number) }
     {
@@ -74,6 +77,37 @@ impl Tables {
         }
     }
 
+    /// The namespace's allocation of that number.
+    pub fn allocation(&self, namespace: &Text, number: u64) -> Option<&Allocation>
+        ensures { option_copied result ≡ allocation_at (world_of self.now) (namespace.now, number) }
+    {
+        match self.tenants.get(namespace) {
+            Some(tenant) => tenant.allocations.get(number),
+            None => None,
+        }
+    }
+
+    /// The node of the pool.
+    pub fn node(&self, pool: &Text, name: &Text) -> Option<&Node>
+        ensures { option_copied result ≡ node_at (world_of self.now) pool.now name.now }
+    {
+        match self.pools.get(pool) {
+            Some(rows) => rows.nodes.get(name),
+            None => None,
+        }
+    }
+
+    /// The quota that the namespace names.
+    pub fn quota_named(&self, namespace: &Text) -> Option<&Text>
+        ensures { option_copied result ≡ quota_named (world_of self.now) namespace.now }
+    {
+        match self.tenants.get(namespace) {
+            Some(tenant) => tenant.namespace.quota.as_ref(),
+            None => None,
+        }
+    }
+
+    /// Whether there is a quota of that name.
     pub fn has_quota(&self, name: &Text) -> bool
         ensures { result ≡ contains_key (world_of self.now).quotas name.now }
     {

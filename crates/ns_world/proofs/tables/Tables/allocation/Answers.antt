@@ -6,13 +6,13 @@ use Rattle.ns_types.proofs.Named.{numbers}
 use Rattle.ns_types.specs.State.Rows.{Tenant}
 use Rattle.ns_world.specs.World.{tenant_of}
 use Rattle.ns_world.proofs.World.{tenant_at}
-use Rattle.ns_headroom.proofs.ending.allocation.Goals as goal
+use Rattle.ns_world.proofs.tables.Tables.allocation.Goals as goal
 
 pub returns-in-Some : goal.returns-in-Some
 returns-in-Some c = c.get-in-Some.ensures ∙ sym (ap (option_and_then (λ (t : Tenant). get t.allocations c.args.number))
-    (tenant_at c.args.tables.now c.args.namespace.now ∙ ap (option_map tenant_of) (sym c.get.ensures ∙ ap option_copied c.in-Some.is))
-    ∙ get-rows numbers c.in-Some.tenant.now.allocations c.args.number)
+    (tenant_at c.args.self.now c.args.namespace.now ∙ ap (option_map tenant_of) (sym c.get.ensures ∙ ap option_copied c.in-Some.is))
+    ∙ get-rows numbers c.in-Some.tenant.now.allocations.slots c.args.number)
 
 pub returns-in-None : goal.returns-in-None
 returns-in-None c = sym (ap (option_and_then (λ (t : Tenant). get t.allocations c.args.number))
-    (tenant_at c.args.tables.now c.args.namespace.now ∙ ap (option_map tenant_of) (sym c.get.ensures ∙ ap option_copied c.in-None.is)))
+    (tenant_at c.args.self.now c.args.namespace.now ∙ ap (option_map tenant_of) (sym c.get.ensures ∙ ap option_copied c.in-None.is)))
