@@ -4,4 +4,5 @@ pub mod Each
 pub mod GivenLimits
 pub mod GivenRoom
 pub mod Indexes
+pub mod Last
 pub mod Passing

@@ -30,6 +30,14 @@ is_waking w c key = list_any (λ k. same_key key k && does_wake w c k) w.blocked
 
 -- ---- indexes of namespaces
 
+-- the namespace's index is at its bound
+abbrev pub is_last_index : World → Name → Bool
+is_last_index w ns = option_map_or (λ t. is_at_bound t.index) (get w.tenants ns) false
+
+-- the index of a namespace with a blocked evaluation is
+abbrev pub any_last_index : World → Bool
+any_last_index w = list_any (λ key. is_last_index w key.0) w.blocked
+
 -- the row of a woken evaluation is shown otherwise than before
 abbrev pub shows_awake : Tenant → ℕ → Option Evaluation → Bool
 shows_awake t n row = option_map_or (λ e. changes_evaluation t n (pending e)) row false

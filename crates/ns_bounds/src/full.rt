@@ -14,6 +14,7 @@ ghost use Rattle.ns_bounds.specs.Bounds.{shows_asleep, shows_awake, tenant_passe
 ghost use Rattle.ns_bounds.specs.Bounds.{waking_passes, waking_passes_in};
 ghost use Rattle.ns_world.specs.World.{tenant_of, world_of};
 
+use crate::at_bound::wakes_may_pass;
 use crate::awake::changes_awake;
 use ns_alike::{same_number, same_text};
 use ns_change::{Change, PoolChange, TenantChange, evaluation};
@@ -123,12 +124,20 @@ fn any_waking_passes(tables: &Tables, change: &Change, keys: &[EvalKey]) -> bool
     keys.iter().any(|key| waking_passes(tables, change, key))
 }
 
+/// Whether an index passes by an evaluation that wakes, where something is released.
+fn released_wakings_pass(tables: &Tables, change: &Change) -> bool
+    ensures { result ≡ list_any (waking_passes (world_of tables.now) change.now)
+        (world_of tables.now).blocked }
+{
+    wakes_may_pass(tables) && any_waking_passes(tables, change, tables.blocked.as_slice())
+}
+
 /// Whether an index passes by an evaluation that wakes.
 fn wakings_pass(tables: &Tables, change: &Change) -> bool
     ensures { result ≡ list_any (waking_passes (world_of tables.now) change.now)
         (world_of tables.now).blocked }
 {
-    releases(tables, change) && any_waking_passes(tables, change, tables.blocked.as_slice())
+    releases(tables, change) && released_wakings_pass(tables, change)
 }
 
 // ---- changed rows of namespaces
@@ -327,7 +336,8 @@ fn any_passes(tables: &Tables, change: &Change) -> bool
 }
 
 /// Whether some counter passes its bound by the step, once it has settled. It takes no memory. Its work grows with what
-/// the step changes and, where something is released, with the number of blocked evaluations.
+/// the step changes and, where something is released, with the number of namespaces or that of blocked evaluations,
+/// whichever is less; where an index is at its bound, with the latter.
 pub fn is_past_bound(tables: &Tables, change: &Change) -> bool
     requires { is_past_bound (world_of tables.now) ≡ false }
     ensures { result

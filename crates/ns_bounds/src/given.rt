@@ -12,6 +12,7 @@ ghost use Rattle.ns_bounds.specs.Given.{given_limits_pass, given_room_passes, gi
 ghost use Rattle.ns_bounds.specs.Given.{given_waking_passes_in, left_quota_passes, wakes_shown};
 ghost use Rattle.ns_world.specs.World.{tenant_of, world_of};
 
+use crate::at_bound::wakes_may_pass;
 use crate::awake::changes_awake;
 use crate::full::{Counters, is_at_bound};
 use ns_alike::same_text;
@@ -132,24 +133,32 @@ fn any_waking_passes<G: Given>(given: &G, tables: &Tables, keys: &[EvalKey]) -> 
     keys.iter().any(|key| waking_passes(given, tables, key))
 }
 
+/// Whether an index passes by an evaluation that wakes.
+fn wakings_pass<G: Given>(given: &G, tables: &Tables) -> bool
+    ensures { result ≡ list_any (given_waking_passes (world_of tables.now) (G.rooms given.now)
+        (G.quotas given.now)) (world_of tables.now).blocked }
+{
+    wakes_may_pass(tables) && any_waking_passes(given, tables, tables.blocked.as_slice())
+}
+
 // ---- one thing that is given
 
 /// Whether a counter passes its bound by a step that gives room on a node of such an offer in the pool, and nothing else.
-/// Its work grows with the number of blocked evaluations.
+/// Its work grows with the number of namespaces or that of blocked evaluations, whichever is less; where an index is at its
+/// bound, with the latter.
 pub fn given_room_passes(tables: &Tables, pool: &Text, offer: &Offer) -> bool
     ensures { result ≡ given_room_passes (world_of tables.now) (pool.now, offered_class offer.now) }
 {
-    Counters { tables }.is_room(pool, offer)
-        || any_waking_passes(&Room { pool, offer }, tables, tables.blocked.as_slice())
+    Counters { tables }.is_room(pool, offer) || wakings_pass(&Room { pool, offer }, tables)
 }
 
 /// Whether a counter passes its bound by a step that gives the quota other limits, and does nothing else. Its work grows
-/// with the number of blocked evaluations.
+/// with the number of namespaces or that of blocked evaluations, whichever is less; where an index is at its bound, with
+/// the latter.
 pub fn given_limits_pass(tables: &Tables, quota: &Text) -> bool
     ensures { result ≡ given_limits_pass (world_of tables.now) quota.now }
 {
-    Counters { tables }.is_quota(quota)
-        || any_waking_passes(&Limits { quota }, tables, tables.blocked.as_slice())
+    Counters { tables }.is_quota(quota) || wakings_pass(&Limits { quota }, tables)
 }
 
 /// Whether a counter passes its bound by what an allocation of the namespace leaves of its quota, where it has one.

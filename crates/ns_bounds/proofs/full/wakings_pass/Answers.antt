@@ -1,17 +1,10 @@
-use Rattle.std.proofs.Common.{ap, sym, ◌∙◌}
-use Rattle.std.specs.List.{list_any}
+use Rattle.std.proofs.Common.{sym, ◌∙◌}
 use Rattle.ns_types.proofs.Lists.{left_none, right_none}
-use Rattle.ns_bounds.specs.Bounds.{waking_passes}
 use Rattle.ns_release.specs.Released.{released_quotas, released_rooms}
 use Rattle.ns_world.specs.World.{world_of}
-use Rattle.ns_world.proofs.World.{blocked_seen}
 use Rattle.ns_release.proofs.Woken.{empty_by_any}
 use Rattle.ns_bounds.proofs.Passing.{none_wakes}
 use Rattle.ns_bounds.proofs.full.wakings_pass.Goals as goal
-
-pub returns-then-releases : goal.returns-then-releases
-returns-then-releases c = c.any_waking_passes.ensures ∙ ap (list_any (waking_passes (world_of c.args.tables.now) c.args.change.now))
-    (c.as_slice.ensures ∙ sym (blocked_seen c.args.tables.now))
 
 pub returns-else-releases : goal.returns-else-releases
 returns-else-releases c =

@@ -3,11 +3,9 @@ use Rattle.std.specs.List.{list_any}
 use Rattle.ns_bounds.specs.Given.{given_waking_passes}
 use Rattle.ns_bounds.proofs.given.given_limits_pass.Goals as goal
 use Rattle.ns_world.specs.World.{world_of}
-use Rattle.ns_world.proofs.World.{blocked_seen}
 
 pub returns-else-is_quota : goal.returns-else-is_quota
 returns-else-is_quota c =
     let w = world_of c.args.tables.now in
     let passes = given_waking_passes w [] (c.args.quota.now ∷ []) in
-    c.any_waking_passes.ensures ∙ ap (list_any passes) (c.as_slice.ensures ∙ sym (blocked_seen c.args.tables.now))
-    ∙ ap (λ b. b || list_any passes w.blocked) (sym (sym c.is_quota.ensures ∙ c.if-is_quota.false))
+    c.wakings_pass.ensures ∙ ap (λ b. b || list_any passes w.blocked) (sym (sym c.is_quota.ensures ∙ c.if-is_quota.false))

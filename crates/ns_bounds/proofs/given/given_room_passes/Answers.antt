@@ -4,11 +4,9 @@ use Rattle.ns_types.specs.State.Rows.{offered_class}
 use Rattle.ns_bounds.specs.Given.{given_waking_passes}
 use Rattle.ns_bounds.proofs.given.given_room_passes.Goals as goal
 use Rattle.ns_world.specs.World.{world_of}
-use Rattle.ns_world.proofs.World.{blocked_seen}
 
 pub returns-else-is_room : goal.returns-else-is_room
 returns-else-is_room c =
     let w = world_of c.args.tables.now in
     let passes = given_waking_passes w ((c.args.pool.now, offered_class c.args.offer.now) ∷ []) [] in
-    c.any_waking_passes.ensures ∙ ap (list_any passes) (c.as_slice.ensures ∙ sym (blocked_seen c.args.tables.now))
-    ∙ ap (λ b. b || list_any passes w.blocked) (sym (sym c.is_room.ensures ∙ c.if-is_room.false))
+    c.wakings_pass.ensures ∙ ap (λ b. b || list_any passes w.blocked) (sym (sym c.is_room.ensures ∙ c.if-is_room.false))

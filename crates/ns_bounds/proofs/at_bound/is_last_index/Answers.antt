@@ -3,7 +3,7 @@ use Rattle.std.specs.Option.{option_copied}
 use Rattle.ns_types.specs.State.Rows.{Tenant}
 use Rattle.ns_bounds.specs.Bounds.{is_at_bound}
 use Rattle.ns_bounds.proofs.Passing.{at_tenant}
-use Rattle.ns_headroom.proofs.ending.is_last_index.Goals as goal
+use Rattle.ns_bounds.proofs.at_bound.is_last_index.Goals as goal
 
 pub returns-in-Some : goal.returns-in-Some
 returns-in-Some c = c.is_at_bound.ensures ∙ sym (at_tenant c.args.tables.now c.args.namespace.now (λ (t : Tenant). is_at_bound t.index)
