@@ -62,7 +62,7 @@ pub(crate) fn passes(
     ensures { let w = world_of tables.now in
         result ≡ apply_passes w snapshot.now (doing w snapshot.now plan.now nodes.now) }
 {
-    let headroom = Headroom::new(tables);
+    let headroom = Headroom::new(tables, plan);
     let present = Present::new(tables, live);
     if evaluations_pass(tables, &present, snapshot, plan, nodes) {
         return true;

@@ -15,7 +15,7 @@ use Rattle.ns_types.specs.State.Tables.{any_row, map_rows}
 use Rattle.ns_types.specs.Steps.{greatest, is_tenant_past_bound}
 use Rattle.ns_types.proofs.Elements.{any_same}
 use Rattle.ns_types.proofs.Lists.{left_none, not_both}
-use Rattle.ns_types.proofs.Named.{names, numbers, one_name, one_number}
+use Rattle.ns_types.proofs.Named.{names, numbers, one_name, one_number, second_of_both}
 use Rattle.ns_types.proofs.Queue.{queues_keep}
 use Rattle.ns_types.proofs.Settling.{kept_evaluation}
 use Rattle.ns_types.proofs.TableRows.{any_row-alike}
@@ -104,12 +104,8 @@ module _ (w x : World) (keys : List Key) (only : EndsAlone w x keys) where
   tenants_then = ap (map_rows (λ ns t. stamp_tenant (get w.tenants ns) t)) (queues_keep (λ w. w.tenants) (λ w keys. refl) awake _)
 
   was_blocked : (key : Key) → has_key awake key ≡ true → has_key w.blocked key ≡ true
-  was_blocked key is = second (wakes key) (has_key w.blocked key) (sym (has_filter wakes key w.blocked)
+  was_blocked key is = second_of_both (wakes key) (has_key w.blocked key) (sym (has_filter wakes key w.blocked)
       ∙ ap (λ keys. has_key keys key) (sym (woken_are w x keys only)) ∙ is)
-    where
-      second : (a b : Bool) → (a && b) ≡ true → b ≡ true
-      second true b e = e
-      second false b e = not_both e refl
 
   -- a namespace that was there, with its index
   there : (ns : Name) (u : Tenant) → get x.tenants ns ≡ Some u → (t : Tenant) × (get w.tenants ns ≡ Some t) × (u.index ≡ t.index)

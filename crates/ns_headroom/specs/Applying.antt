@@ -15,7 +15,7 @@ use Rattle.ns_types.specs.State.Tables.{any_row}
 use Rattle.ns_types.specs.Steps.{greatest, is_past_bound}
 use Rattle.ns_types.specs.Working.Commit.{Victim, node_name, same_victim_job}
 use Rattle.ns_types.specs.Working.Parts.{goes_to}
-use Rattle.ns_bounds.specs.Bounds.{is_at_bound}
+use Rattle.ns_bounds.specs.Bounds.{is_at_bound, is_last_index}
 use Rattle.ns_headroom.specs.Passing.{end_passes}
 use Rattle.ns_headroom.specs.Raising.{Raise, Raises}
 use Rattle.ns_headroom.specs.Releasing.{EndsAlone}
@@ -80,9 +80,6 @@ abbrev pub stop_passes : World → Name → ℕ → Bool
 stop_passes w ns n = end_passes w w (ns, n)
 
 -- what an eviction does, or the index of its namespace
-abbrev pub is_last_index : World → Name → Bool
-is_last_index w ns = option_map_or (λ t. is_at_bound t.index) (get w.tenants ns) false
-
 abbrev pub victim_passes : World → Victim → Bool
 victim_passes w v = is_last_index w v.0 || end_passes w w (victim_key v)
 

@@ -11,15 +11,12 @@ use Rattle.ns_types.specs.State.Names.{Name}
 use Rattle.ns_types.specs.State.Rows.{World, node_at}
 use Rattle.ns_types.specs.Steps.{greatest}
 use Rattle.ns_types.specs.Working.Commit.{counts, evicted_rows, node_name, stop_all}
-use Rattle.ns_headroom.specs.Applying.{Doing, is_last_index, own_passes, place_passes, place_passes_on, stop_passes}
+use Rattle.ns_bounds.specs.Bounds.{is_last_index}
+use Rattle.ns_headroom.specs.Applying.{Doing, own_passes, place_passes, place_passes_on, stop_passes}
 use Rattle.ns_headroom.specs.Applying.{victim_passes}
 use Rattle.ns_headroom.specs.Passing.{end_passes}
 use Rattle.ns_types.specs.Working.Parts.{lives_at}
 pub use Rattle.ns_types.specs.Working.Parts.{placed_on}
-
--- the index of a namespace with a blocked evaluation is at its bound
-abbrev pub any_last_index : World → Bool
-any_last_index w = list_any (λ key. is_last_index w key.0) w.blocked
 
 -- the number of the last of so many more allocations passes its bound, and of so many more places
 abbrev pub allocations_pass : World → Name → ℕ → Bool

@@ -1,25 +1,21 @@
 //! What the end of an allocation releases, judged for many of them by the same tables. It takes no memory.
 
-ghost use Rattle.std.specs.Prelude.{◌≡◌, ◌+◌, [], nat_lt, option_copied};
-ghost use Rattle.std.specs.List.{list_any};
+ghost use Rattle.std.specs.Prelude.{◌≡◌, ◌+◌, [], false, nat_lt};
 ghost use Rattle.ns_types.specs.declared.node.Class.{Class};
-ghost use Rattle.ns_types.specs.State.Rows.{allocation_at, node_at, offered_class};
+ghost use Rattle.ns_types.specs.State.Rows.{offered_class};
 ghost use Rattle.ns_types.specs.Steps.{greatest};
-ghost use Rattle.ns_types.specs.Working.Commit.{quota_named};
-ghost use Rattle.ns_bounds.specs.Bounds.{quota_passes, room_passes};
+ghost use Rattle.ns_bounds.specs.Bounds.{is_last_index, quota_passes, room_passes};
 ghost use Rattle.ns_bounds.specs.Given.{given_limits_pass, given_room_passes};
-ghost use Rattle.ns_headroom.specs.Applying.{is_last_index};
-ghost use Rattle.ns_headroom.specs.Judging.{allocations_pass, any_last_index, eviction_passes, node_passes};
+ghost use Rattle.ns_headroom.specs.Judging.{allocations_pass, eviction_passes, node_passes};
 ghost use Rattle.ns_headroom.specs.Passing.{end_passes, left_quota_passes, left_room_passes};
 ghost use Rattle.ns_types.specs.Working.Parts.{lives_at};
 ghost use Rattle.ns_world.specs.World.{world_of};
 
 use ns_alike::is_free;
-use ns_bounds::{given_limits_pass, given_room_passes, is_at_bound};
+use ns_bounds::{given_limits_pass, given_room_passes, is_at_bound, is_last_index, wakes_may_pass};
 use ns_types::allocation::Allocation;
-use ns_types::key::EvalKey;
-use ns_types::node::{Node, Offer};
-use ns_types::plan::Eviction;
+use ns_types::node::Offer;
+use ns_types::plan::{Eviction, Placement, Plan};
 use ns_types::text::Text;
 use ns_world::Tables;
 use std::marker::Model;
@@ -29,30 +25,6 @@ fn is_past(count: u64, more: u64) -> bool
     ensures { result ≡ nat_lt greatest (count + more) }
 {
     more > u64::MAX - count
-}
-
-/// Whether the namespace's index is at its bound.
-fn is_last_index(tables: &Tables, namespace: &Text) -> bool
-    ensures { result ≡ is_last_index (world_of tables.now) namespace.now }
-{
-    match tables.tenants.get(namespace) {
-        Some(tenant) => is_at_bound(tenant.index),
-        None => false,
-    }
-}
-
-fn any_last(tables: &Tables, keys: &[EvalKey]) -> bool
-    ensures { result ≡ list_any (λ key. is_last_index (world_of tables.now) key.0) keys.now }
-{
-    keys.iter()
-        .any(|key| is_last_index(tables, key.namespace()))
-}
-
-/// Whether the index of a namespace with a blocked evaluation is at its bound.
-fn any_last_index(tables: &Tables) -> bool
-    ensures { result ≡ any_last_index (world_of tables.now) }
-{
-    any_last(tables, tables.blocked.as_slice())
 }
 
 fn is_last_release(tables: &Tables, pool: &Text) -> bool
@@ -82,38 +54,22 @@ fn allocations_pass(tables: &Tables, namespace: &Text, count: u64) -> bool
     }
 }
 
-fn node<'a>(tables: &'a Tables, pool: &Text, name: &Text) -> Option<&'a Node>
-    ensures { option_copied result ≡ node_at (world_of tables.now) pool.now name.now }
-{
-    match tables.pools.get(pool) {
-        Some(rows) => rows.nodes.get(name),
-        None => None,
-    }
+/// Whether an allocation ends where the plan is applied: it stops one, or evicts one.
+fn ends_any(plan: &Plan) -> bool {
+    !plan.stops.as_slice().is_empty() || evicts_any(plan.placing.placements.as_slice())
 }
 
-fn allocation<'a>(tables: &'a Tables, namespace: &Text, number: u64) -> Option<&'a Allocation>
-    ensures { option_copied result ≡ allocation_at (world_of tables.now) (namespace.now, number) }
-{
-    match tables.tenants.get(namespace) {
-        Some(tenant) => tenant.allocations.get(number),
-        None => None,
-    }
-}
-
-fn quota_named<'a>(tables: &'a Tables, namespace: &Text) -> Option<&'a Text>
-    ensures { option_copied result ≡ quota_named (world_of tables.now) namespace.now }
-{
-    match tables.tenants.get(namespace) {
-        Some(tenant) => tenant.namespace.quota.as_ref(),
-        None => None,
-    }
+fn evicts_any(placements: &[Placement]) -> bool {
+    placements
+        .iter()
+        .any(|placement| !placement.evictions.as_slice().is_empty())
 }
 
 /// The tables, as the counters that releases may pass are looked at. Contracts see the world.
 ///
 /// Where no blocked evaluation is of a namespace whose index is at its bound, none that wakes passes an index. That is
-/// looked at once, over all blocked evaluations. From then on a release costs a look-up. Only where there is such an
-/// evaluation it costs a walk over the blocked ones.
+/// looked at once, and only for a plan that ends an allocation. From then on a release costs a look-up. Only where an
+/// index may pass it costs a walk over the blocked evaluations.
 #[derive(Drop)]
 pub struct Headroom<'a> {
     tables: &'a Tables,
@@ -121,10 +77,10 @@ pub struct Headroom<'a> {
 }
 
 impl<'a> Model for Headroom<'a> {
-    ghost use Rattle.std.specs.Prelude.{◌≡◌};
+    ghost use Rattle.std.specs.Prelude.{◌≡◌, false};
     ghost use Rattle.std.specs.Coded.{codes};
     ghost use Rattle.std.specs.FinMap.{code};
-    ghost use Rattle.ns_headroom.specs.Judging.{any_last_index};
+    ghost use Rattle.ns_bounds.specs.Bounds.{any_last_index};
     ghost use Rattle.ns_types.specs.State.Rows.{World};
     ghost use Rattle.ns_world.specs.World.{world_of};
 
@@ -134,17 +90,18 @@ impl<'a> Model for Headroom<'a> {
 
     ghost view = { λ h. world_of h.tables.now };
 
-    ghost invariant = { λ h. h.wakes ≡ any_last_index (world_of h.tables.now) };
+    ghost invariant = { λ h. h.wakes ≡ false → any_last_index (world_of h.tables.now) ≡ false };
 }
 
 impl<'a> Headroom<'a> {
-    /// Of the world that the tables hold. It costs a look-up for each blocked evaluation.
-    pub fn new(tables: &'a Tables) -> Headroom<'a>
+    /// Of the world that the tables hold, for the plan that is to be applied to it. Only where that ends an allocation it
+    /// looks at all namespaces, or at all blocked evaluations if these are fewer.
+    pub fn new(tables: &'a Tables, plan: &Plan) -> Headroom<'a>
         ensures { result ≡ world_of tables.now }
     {
         Headroom {
             tables,
-            wakes: any_last_index(tables),
+            wakes: !ends_any(plan) || wakes_may_pass(tables),
         }
     }
 
@@ -159,7 +116,7 @@ impl<'a> Headroom<'a> {
     pub(crate) fn lives_at(&self, namespace: &Text, number: u64) -> bool
         ensures { result ≡ lives_at self.now (namespace.now, number) }
     {
-        match allocation(self.tables, namespace, number) {
+        match self.tables.allocation(namespace, number) {
             Some(row) => row.is_live(),
             None => false,
         }
@@ -183,7 +140,7 @@ impl<'a> Headroom<'a> {
     pub(crate) fn node_passes(&self, pool: &Text, name: &Text, count: u64) -> bool
         ensures { result ≡ node_passes self.now pool.now name.now count }
     {
-        match node(self.tables, pool, name) {
+        match self.tables.node(pool, name) {
             Some(node) => is_past(node.places, count),
             None => false,
         }
@@ -213,7 +170,7 @@ impl<'a> Headroom<'a> {
     fn left_room_passes(&self, row: &Allocation) -> bool
         ensures { result ≡ left_room_passes self.now self.now row.now }
     {
-        match node(self.tables, &row.pool, &row.node) {
+        match self.tables.node(&row.pool, &row.node) {
             Some(node) => is_free(node) && self.room_passes(&row.pool, &node.offer),
             None => false,
         }
@@ -223,7 +180,7 @@ impl<'a> Headroom<'a> {
     fn left_quota_passes(&self, namespace: &Text) -> bool
         ensures { result ≡ left_quota_passes self.now namespace.now }
     {
-        match quota_named(self.tables, namespace) {
+        match self.tables.quota_named(namespace) {
             Some(quota) => self.limits_pass(quota),
             None => false,
         }
@@ -233,7 +190,7 @@ impl<'a> Headroom<'a> {
     pub fn end_passes(&self, namespace: &Text, number: u64) -> bool
         ensures { result ≡ end_passes self.now self.now (namespace.now, number) }
     {
-        match allocation(self.tables, namespace, number) {
+        match self.tables.allocation(namespace, number) {
             Some(row) => self.left_room_passes(row) || self.left_quota_passes(namespace),
             None => false,
         }

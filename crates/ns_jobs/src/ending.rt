@@ -4,7 +4,6 @@ ghost use Rattle.std.specs.Prelude.{◌≡◌};
 ghost use Rattle.ns_jobs.specs.Ending.{ending_passes, left_room_passes};
 ghost use Rattle.ns_world.specs.World.{tenant_of, world_of};
 
-use crate::looking::node;
 use ns_alike::is_free;
 use ns_bounds::{given_room_passes, left_quota_passes};
 use ns_types::allocation::Allocation;
@@ -15,14 +14,13 @@ use ns_world::{Tables, TenantRows};
 fn left_room_passes(tables: &Tables, row: &Allocation) -> bool
     ensures { result ≡ left_room_passes (world_of tables.now) row.now }
 {
-    match node(tables, &row.pool, &row.node) {
+    match tables.node(&row.pool, &row.node) {
         Some(node) => is_free(node) && given_room_passes(tables, &row.pool, &node.offer),
         None => false,
     }
 }
 
-/// Whether a counter passes its bound by what the end of the allocation releases. It takes no memory. Its work grows
-/// with the number of blocked evaluations.
+/// Whether a counter passes its bound by what the end of the allocation releases. It takes no memory.
 pub fn ending_passes(tables: &Tables, tenant: &TenantRows, row: &Allocation) -> bool
     ensures { result ≡ ending_passes (world_of tables.now) (tenant_of tenant.now) row.now }
 {

@@ -17,7 +17,7 @@ mod usage;
 
 pub use deregistration::deregister;
 pub use ending::ending_passes;
-pub use looking::{allocation, job, node};
+pub use looking::{allocation, job};
 pub use reading::read;
 pub use registration::register;
 pub use stopping::stop_allocation;

@@ -1,19 +1,17 @@
-//! Rows of a namespace by id and number, nodes by name, and ids by their beginnings.
+//! Rows of a namespace by id and number, and ids by their beginnings.
 
 ghost use Rattle.std.specs.Prelude.{◌≡◌, option_copied};
 ghost use Rattle.std.specs.FinMap.{get};
 ghost use Rattle.ns_types.specs.State.Id.{id_text};
 ghost use Rattle.ns_types.specs.State.Names.{begins_with};
-ghost use Rattle.ns_types.specs.State.Rows.{node_at};
-ghost use Rattle.ns_world.specs.World.{tenant_of, world_of};
+ghost use Rattle.ns_world.specs.World.{tenant_of};
 
 use ns_types::allocation::Allocation;
 use ns_types::evaluation::Evaluation;
 use ns_types::id::{IdKind, id_str};
 use ns_types::job::Job;
-use ns_types::node::Node;
 use ns_types::text::Text;
-use ns_world::{Tables, TenantRows};
+use ns_world::TenantRows;
 
 /// The job of the namespace.
 pub fn job<'a>(tenant: &'a TenantRows, id: &Text) -> Option<&'a Job>
@@ -33,16 +31,6 @@ pub fn allocation(tenant: &TenantRows, number: u64) -> Option<&Allocation>
     ensures { option_copied result ≡ get (tenant_of tenant.now).allocations number }
 {
     tenant.allocations.get(number)
-}
-
-/// The node of the pool.
-pub fn node<'a>(tables: &'a Tables, pool: &Text, name: &Text) -> Option<&'a Node>
-    ensures { option_copied result ≡ node_at (world_of tables.now) pool.now name.now }
-{
-    match tables.pools.get(pool) {
-        Some(rows) => rows.nodes.get(name),
-        None => None,
-    }
 }
 
 fn text_begins(prefix: &Text, text: &str) -> bool

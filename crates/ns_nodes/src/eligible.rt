@@ -9,7 +9,7 @@ ghost use Rattle.ns_change.specs.Prepared.{Prepares, bounded};
 ghost use Rattle.ns_world.specs.World.{world_of};
 
 use crate::bounds::freed_passes;
-use crate::prepared::{node_of, put_alone};
+use crate::prepared::put_alone;
 use ns_change::{Prepared, copied_node};
 use ns_types::node::NodeStatus;
 use ns_types::refusal::Refusal;
@@ -29,7 +29,7 @@ pub fn set_eligible(
         let w = world_of tables.now in
         Prepares (bounded w (ask_pool pool.now command w)) tables.now result }
 {
-    let Some(row) = node_of(tables, pool, name) else {
+    let Some(row) = tables.node(pool, name) else {
         return Err(Refusal::NotFound);
     };
     if freed_passes(tables, pool, row, row.status, eligible) {
@@ -48,7 +48,7 @@ pub fn set_ready(tables: &Tables, pool: &Text, name: &Text) -> Result<Prepared, 
         let w = world_of tables.now in
         Prepares (bounded w (ask_pool pool.now command w)) tables.now result }
 {
-    let Some(row) = node_of(tables, pool, name) else {
+    let Some(row) = tables.node(pool, name) else {
         return Err(Refusal::NotFound);
     };
     if freed_passes(tables, pool, row, NodeStatus::Ready, row.eligible) {

@@ -1,10 +1,9 @@
 //! Changes of one node.
 
-ghost use Rattle.std.specs.Prelude.{◌≡◌, option_copied};
+ghost use Rattle.std.specs.Prelude.{◌≡◌};
 ghost use Rattle.ns_types.specs.declared.reply.Content.TheVariants as Content;
 ghost use Rattle.ns_types.specs.Settling.Making.{with_node};
 ghost use Rattle.ns_types.specs.Settling.Outcome.{Done};
-ghost use Rattle.ns_types.specs.State.Rows.{node_at};
 ghost use Rattle.ns_change.specs.Changed.{change_pool};
 ghost use Rattle.ns_change.specs.Prepared.{Prepares};
 ghost use Rattle.ns_world.specs.World.{world_of};
@@ -15,16 +14,6 @@ use ns_types::refusal::Refusal;
 use ns_types::reply::Content;
 use ns_types::text::Text;
 use ns_world::Tables;
-
-/// The node before the step.
-pub(crate) fn node_of<'a>(tables: &'a Tables, pool: &Text, name: &Text) -> Option<&'a Node>
-    ensures { option_copied result ≡ node_at (world_of tables.now) pool.now name.now }
-{
-    match tables.pools.get(pool) {
-        Some(rows) => rows.nodes.get(name),
-        None => None,
-    }
-}
 
 /// The node is put into its pool, and nothing else changes.
 pub(crate) fn put_alone(

@@ -8,7 +8,6 @@ ghost use Rattle.ns_types.specs.Steps.{is_past_bound};
 ghost use Rattle.ns_change.specs.Prepared.{Prepares, bounded};
 ghost use Rattle.ns_world.specs.World.{world_of};
 
-use crate::prepared::node_of;
 use ns_change::{Change, Prepared, prepare};
 use ns_types::node::NodeStatus;
 use ns_types::refusal::Refusal;
@@ -33,7 +32,7 @@ pub fn remove_node(tables: &Tables, pool: &Text, name: &Text) -> Result<Prepared
         let outcome = ask_pool pool.now (NodeCommand.DeleteNode name.now) w in
         Prepares (bounded w outcome) tables.now result }
 {
-    let Some(row) = node_of(tables, pool, name) else {
+    let Some(row) = tables.node(pool, name) else {
         return Err(Refusal::NotFound);
     };
     if is_ready(row.status) {

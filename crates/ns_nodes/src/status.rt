@@ -16,7 +16,6 @@ ghost use Rattle.ns_world.specs.World.{world_of};
 
 use crate::bounds::loss_passes;
 use crate::losing::losing_keys;
-use crate::prepared::node_of;
 use ns_change::{Change, Prepared, copied_node, lose, prepare, put_node};
 use ns_live::Live;
 use ns_renewal::renew_each;
@@ -78,7 +77,7 @@ pub fn set_down(tables: &Tables, live: &Live, pool: &Text, name: &Text) -> Resul
         let w = world_of tables.now in
         Prepares (bounded w (ask_pool pool.now command w)) tables.now result }
 {
-    let Some(row) = node_of(tables, pool, name) else {
+    let Some(row) = tables.node(pool, name) else {
         return Err(Refusal::NotFound);
     };
     if loss_passes(tables, live, pool, name) {

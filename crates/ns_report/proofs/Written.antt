@@ -1,7 +1,6 @@
 -- What a report writes, in a namespace that is there.
-use Rattle.std.specs.Prelude.{◌≡◌, ℕ, ◌+◌, ◌<◌, ◌≤◌, ◌^◌, ◌&&◌, Bool, true, false, if◌then◌else◌, Option, Some, None, nat_lt}
-use Rattle.std.proofs.Common.{arith, refl, ap, sym, subst, ◌∙◌}
-use Rattle.std.proofs.lemmas.Bool.{ltb-false}
+use Rattle.std.specs.Prelude.{◌≡◌, ◌+◌, ◌<◌, ◌^◌, ◌&&◌, Bool, true, false, if◌then◌else◌, Option, Some, None}
+use Rattle.std.proofs.Common.{refl, ap, sym, subst, ◌∙◌}
 use Rattle.std.specs.Option.{option_map_or}
 use Rattle.std.specs.FinMap.{get}
 use Rattle.ns_types.specs.declared.allocation.Allocation.{Allocation}
@@ -13,8 +12,8 @@ use Rattle.ns_types.specs.Asking.Nodes.{calls_for_one, reported}
 use Rattle.ns_types.specs.Settling.Making.{change_tenant, evaluation_for, evaluation_of, make, make_in}
 use Rattle.ns_types.specs.Settling.Making.{new_evaluation, put_tenant, with_client, with_evaluation}
 use Rattle.ns_types.specs.State.Rows.{World, Tenant}
-use Rattle.ns_types.specs.Steps.{greatest}
 use Rattle.ns_types.specs.Working.Queue.{queue}
+use Rattle.ns_types.proofs.Bounds.{within_bound}
 use Rattle.ns_types.proofs.Lists.{not_both}
 use Rattle.ns_types.proofs.Named.{names, one_name}
 use Rattle.ns_types.proofs.TableRows.{get_put}
@@ -78,11 +77,8 @@ module _ (w : World) (r : Report) (t : Tenant) (at : get w.tenants r.namespace �
 
   pub left_there : calls_for_one t a r.client ≡ true → number_passes t a r.client ≡ false → HasEvaluationLeft told r.namespace
   left_there calls fits z is = subst (λ n. n + 1 < 2 ^ 64) (sym number_stays ∙ ap (λ t. t.evaluation_number) (same_Some _ _ (sym after_at ∙ is)))
-      (within (t.evaluation_number + 1) (by (is_at_bound t.evaluation_number) calls fits))
+      (within_bound (t.evaluation_number + 1) (by (is_at_bound t.evaluation_number) calls fits))
     where
-      within : (n : ℕ) → nat_lt greatest n ≡ false → n < 2 ^ 64
-      within n e = let le : n ≤ greatest = ltb-false greatest n e in omega arith
-
       by : (past : Bool) → calls_for_one t a r.client ≡ true → (past && calls_for_one t a r.client) ≡ false → past ≡ false
       by true calls fits = not_both calls fits
       by false calls fits = refl

@@ -14,7 +14,7 @@ use crate::bounds::report_passes;
 use crate::statuses::{is_on, may_become, same_client};
 use crate::writing::reported;
 use ns_change::{Change, Prepared};
-use ns_jobs::{allocation, node};
+use ns_jobs::allocation;
 use ns_types::allocation::Allocation;
 use ns_types::refusal::Refusal;
 use ns_types::reply::Content;
@@ -25,7 +25,7 @@ use ns_world::{Tables, TenantRows};
 fn has_node(tables: &Tables, pool: &Text, name: &Text) -> bool
     ensures { result ≡ is_some (node_at (world_of tables.now) pool.now name.now) }
 {
-    node(tables, pool, name).is_some()
+    tables.node(pool, name).is_some()
 }
 
 /// What a report of a stored allocation comes to.

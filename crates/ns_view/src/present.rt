@@ -56,11 +56,11 @@ impl<'a> View for Present<'a> {
     ghost world = { λ w. w };
 
     fn allocation(&self, namespace: &Text, number: u64) -> Option<&Allocation> {
-        looking::allocation(self.tables, namespace, number)
+        self.tables.allocation(namespace, number)
     }
 
     fn node(&self, pool: &Text, name: &Text) -> Option<&Node> {
-        looking::node(self.tables, pool, name)
+        self.tables.node(pool, name)
     }
 
     fn job(&self, namespace: &Text, id: &Text) -> Option<&Job> {
@@ -72,7 +72,7 @@ impl<'a> View for Present<'a> {
     }
 
     fn quota(&self, namespace: &Text) -> Option<&Text> {
-        looking::quota(self.tables, namespace)
+        self.tables.quota_named(namespace)
     }
 
     fn limits(&self, quota: &Text) -> Limits {

@@ -16,14 +16,14 @@ use Rattle.ns_world.specs.World.{world_of}
 
 pub returns-in_default : goal.returns-in_default
 returns-in_default c = still_refused (world_of c.args.tables.now) _ Refusal.NotFound
-    (not_there (world_of c.args.tables.now) c.args.pool.now c.args.name.now c.args.eligible (sym c.node_of.ensures ∙ ap option_copied c.in_default.is))
+    (not_there (world_of c.args.tables.now) c.args.pool.now c.args.name.now c.args.eligible (sym c.node.ensures ∙ ap option_copied c.in_default.is))
 
 pub returns-then-freed_passes : goal.returns-then-freed_passes
 returns-then-freed_passes c =
     let t = c.args.tables.now in
     let row = c.in-Some.row.now in
     let new : Node = record row { eligible = c.args.eligible } in
-    let is = sym c.node_of.ensures ∙ ap option_copied c.in-Some.is in
+    let is = sym c.node.ensures ∙ ap option_copied c.in-Some.is in
     refused_full (world_of t) _ Content.Written (change_pool c.args.pool.now (with_node c.args.name.now new) (world_of t))
     (there (world_of t) c.args.pool.now c.args.name.now c.args.eligible row is)
     (freed_past t c.args.pool.now c.args.name.now c.requires row is new refl refl ∙ sym c.freed_passes.ensures ∙ c.if-freed_passes.true)
@@ -34,7 +34,7 @@ returns-in_err-row c =
     let t = c.args.tables.now in
     let row = c.in-Some.row.now in
     let new : Node = record row { eligible = c.args.eligible } in
-    let is = sym c.node_of.ensures ∙ ap option_copied c.in-Some.is in
+    let is = sym c.node.ensures ∙ ap option_copied c.in-Some.is in
     out_of_memory _ t c.from_residual.result (p.1 ∙ ap Err p.2)
     (ap is_done (done_still (world_of t) _ Content.Written (change_pool c.args.pool.now (with_node c.args.name.now new) (world_of t))
     (there (world_of t) c.args.pool.now c.args.name.now c.args.eligible row is)
@@ -46,7 +46,7 @@ returns c =
     let w = world_of t in
     let row = c.in-Some.row.now in
     let new : Node = record row { eligible = c.args.eligible } in
-    let is = sym c.node_of.ensures ∙ ap option_copied c.in-Some.is in
+    let is = sym c.node.ensures ∙ ap option_copied c.in-Some.is in
     prepares_as _ _ t c.put_alone.result
     (done_still w _ Content.Written (change_pool c.args.pool.now (with_node c.args.name.now new) w)
     (there w c.args.pool.now c.args.name.now c.args.eligible row is)

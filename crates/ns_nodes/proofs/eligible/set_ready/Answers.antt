@@ -17,14 +17,14 @@ use Rattle.ns_world.specs.World.{world_of}
 
 pub returns-in_default : goal.returns-in_default
 returns-in_default c = still_refused (world_of c.args.tables.now) _ Refusal.NotFound
-    (none_ready (world_of c.args.tables.now) c.args.pool.now c.args.name.now (sym c.node_of.ensures ∙ ap option_copied c.in_default.is))
+    (none_ready (world_of c.args.tables.now) c.args.pool.now c.args.name.now (sym c.node.ensures ∙ ap option_copied c.in_default.is))
 
 pub returns-then-freed_passes : goal.returns-then-freed_passes
 returns-then-freed_passes c =
     let t = c.args.tables.now in
     let row = c.in-Some.row.now in
     let new : Node = record row { status = NodeStatus.Ready } in
-    let is = sym c.node_of.ensures ∙ ap option_copied c.in-Some.is in
+    let is = sym c.node.ensures ∙ ap option_copied c.in-Some.is in
     refused_full (world_of t) _ Content.Written (change_pool c.args.pool.now (with_node c.args.name.now new) (world_of t))
     (ready_again (world_of t) c.args.pool.now c.args.name.now row is)
     (freed_past t c.args.pool.now c.args.name.now c.requires row is new refl refl ∙ sym c.freed_passes.ensures ∙ c.if-freed_passes.true)
@@ -35,7 +35,7 @@ returns-in_err-row c =
     let t = c.args.tables.now in
     let row = c.in-Some.row.now in
     let new : Node = record row { status = NodeStatus.Ready } in
-    let is = sym c.node_of.ensures ∙ ap option_copied c.in-Some.is in
+    let is = sym c.node.ensures ∙ ap option_copied c.in-Some.is in
     out_of_memory _ t c.from_residual.result (p.1 ∙ ap Err p.2)
     (ap is_done (done_still (world_of t) _ Content.Written (change_pool c.args.pool.now (with_node c.args.name.now new) (world_of t))
     (ready_again (world_of t) c.args.pool.now c.args.name.now row is)
@@ -47,7 +47,7 @@ returns c =
     let w = world_of t in
     let row = c.in-Some.row.now in
     let new : Node = record row { status = NodeStatus.Ready } in
-    let is = sym c.node_of.ensures ∙ ap option_copied c.in-Some.is in
+    let is = sym c.node.ensures ∙ ap option_copied c.in-Some.is in
     prepares_as _ _ t c.put_alone.result
     (done_still w _ Content.Written (change_pool c.args.pool.now (with_node c.args.name.now new) w)
     (ready_again w c.args.pool.now c.args.name.now row is)

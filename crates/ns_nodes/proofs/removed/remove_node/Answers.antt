@@ -12,18 +12,18 @@ use Rattle.ns_world.specs.World.{world_of}
 
 pub returns-in_default : goal.returns-in_default
 returns-in_default c = still_refused (world_of c.args.tables.now) _ Refusal.NotFound
-    (none_removed (world_of c.args.tables.now) c.args.pool.now c.args.name.now (sym c.node_of.ensures ∙ ap option_copied c.in_default.is))
+    (none_removed (world_of c.args.tables.now) c.args.pool.now c.args.name.now (sym c.node.ensures ∙ ap option_copied c.in_default.is))
 
 pub returns-then-is_ready : goal.returns-then-is_ready
 returns-then-is_ready c = still_refused (world_of c.args.tables.now) _ Refusal.InUse
     (still_ready (world_of c.args.tables.now) c.args.pool.now c.args.name.now c.in-Some.row.now
-    (sym c.node_of.ensures ∙ ap option_copied c.in-Some.is) (sym c.is_ready.ensures ∙ c.if-is_ready.true))
+    (sym c.node.ensures ∙ ap option_copied c.in-Some.is) (sym c.is_ready.ensures ∙ c.if-is_ready.true))
 
 pub returns : goal.returns
 returns c =
     let t = c.args.tables.now in
     let w = world_of t in
-    let there = sym c.node_of.ensures ∙ ap option_copied c.in-Some.is in
+    let there = sym c.node.ensures ∙ ap option_copied c.in-Some.is in
     prepares_as _ _ t c.prepare.result
     (done_still w _ Content.Written (change_pool c.args.pool.now (without_node c.args.name.now) w)
     (removed w c.args.pool.now c.args.name.now c.in-Some.row.now there (sym c.is_ready.ensures ∙ c.if-is_ready.false))

@@ -18,13 +18,13 @@ use Rattle.ns_world.specs.World.{world_of}
 
 pub returns-in_default : goal.returns-in_default
 returns-in_default c = still_refused (world_of c.args.tables.now) _ Refusal.NotFound
-    (not_there (world_of c.args.tables.now) c.args.pool.now c.args.name.now (sym c.node_of.ensures ∙ ap option_copied c.in_default.is))
+    (not_there (world_of c.args.tables.now) c.args.pool.now c.args.name.now (sym c.node.ensures ∙ ap option_copied c.in_default.is))
 
 pub returns-then-loss_passes : goal.returns-then-loss_passes
 returns-then-loss_passes c =
     let w = world_of c.args.tables.now in
     let row = c.in-Some.row.now in
-    let is = sym c.node_of.ensures ∙ ap option_copied c.in-Some.is in
+    let is = sym c.node.ensures ∙ ap option_copied c.in-Some.is in
     refused_full w _ Content.Written (go_down c.args.pool.now c.args.name.now (change_pool c.args.pool.now (down_node w c.args.pool.now c.args.name.now row) w))
     (goes w c.args.pool.now c.args.name.now row is)
     (settled_past w c.requires.bounds c.args.pool.now c.args.name.now row is ∙ sym c.loss_passes.ensures ∙ c.if-loss_passes.true)
@@ -34,7 +34,7 @@ returns-in_err-row c =
     let p = err_from_is_err_and c.from_residual.result c.from_residual.ensures.1 in
     let w = world_of c.args.tables.now in
     let row = c.in-Some.row.now in
-    let is = sym c.node_of.ensures ∙ ap option_copied c.in-Some.is in
+    let is = sym c.node.ensures ∙ ap option_copied c.in-Some.is in
     out_of_memory _ c.args.tables.now c.from_residual.result (p.1 ∙ ap Err p.2)
     (ap is_done (done_still w _ Content.Written
     (go_down c.args.pool.now c.args.name.now (change_pool c.args.pool.now (down_node w c.args.pool.now c.args.name.now row) w))
@@ -49,7 +49,7 @@ pub returns : goal.returns
 returns c =
     let w = world_of c.args.tables.now in
     let row = c.in-Some.row.now in
-    let is = sym c.node_of.ensures ∙ ap option_copied c.in-Some.is in
+    let is = sym c.node.ensures ∙ ap option_copied c.in-Some.is in
     prepares_as _ _ c.args.tables.now c.put_down_alone.result
     (done_still w _ Content.Written
     (go_down c.args.pool.now c.args.name.now (change_pool c.args.pool.now (down_node w c.args.pool.now c.args.name.now row) w))
