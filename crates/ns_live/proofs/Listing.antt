@@ -10,25 +10,25 @@ use Rattle.std.specs.FinMap.{FinMap, IsAntisymmetric, contains_key, empty, entri
 use Rattle.std.specs.List.{list_any}
 use Rattle.std.specs.Option.{option_and_then, option_map_or}
 use Rattle.keyed.specs.Table.{row_at, row_list, rows, with_row}
-use Rattle.keyed.proofs.Tables.{entries-rows, get-rows, rows-empty}
+use Rattle.keyed.proofs.Tables.{get-rows, rows-empty}
 use Rattle.ns_types.specs.declared.allocation.Allocation.{Allocation}
 use Rattle.ns_types.specs.Asking.Nodes.{losing_jobs, losses}
 use Rattle.ns_types.specs.State.Lists.{Each}
 use Rattle.ns_types.specs.State.Names.{Name, Key, ByNumber, has_key, has_number, name_cmp, same_key, same_name, same_number}
 use Rattle.ns_types.specs.State.Rows.{World, Tenant, allocation_at, is_live_on}
-use Rattle.ns_types.specs.State.Tables.{any_row, table_of}
+use Rattle.ns_types.specs.State.Tables.{any_row}
 use Rattle.ns_types.specs.Working.Snapshot.{allocations_on}
 use Rattle.ns_types.proofs.Lists.{filter_all, filter_none}
 use Rattle.ns_types.proofs.Named.{names, numbers, one_name, one_number}
 use Rattle.ns_types.proofs.TableRows.{entries_empty, some_row}
 use Rattle.ns_types.proofs.Tests.{not_Some, same_Some}
 use Rattle.ns_types.proofs.Elements.{any_flat, any_map, any_same, any_under}
-use Rattle.ns_types.proofs.Tables.{any_row-none, chosen, each_row, entries-table_of, filter-retain, flat_map-retain, tied}
+use Rattle.ns_types.proofs.Tables.{any_row-none, chosen, each_row, filter-retain, flat_map-retain, tied}
 use Rattle.keyed.specs.declared.key_set.KeySet.{KeySet}
 use Rattle.keyed.specs.Levels.{holds_key, holds_number}
 use Rattle.ns_live.specs.Listed.{found_at, keys_in}
 use Rattle.keyed.proofs.Levels.{none_there, says_nothing}
-use Rattle.ns_live.proofs.Sums.{looked}
+use Rattle.ns_world.proofs.Looked.{entries_looked}
 
 -- ---- lists
 
@@ -49,21 +49,19 @@ module _ {K X C : Type 0} (look : K → Option X) where
       by (Some x) later = ap (λ l. g e.0 x ++ l) later
 
 module _ {K X C : Type 0} {R : K → K → Ordering} (o : IsTotalOrder R) (same : IsAntisymmetric R) (m : FinMap R X) (c : FinMap R C) where
-  entries_looked : entries (retain_keys m (contains_key c)) ≡ row_list (map (λ e. (e.0, get m e.0)) (entries c))
-  entries_looked = ap entries (looked o same m c) ∙ entries-rows (table_of (λ k _. get m k) c) ∙ ap row_list (entries-table_of (λ k _. get m k) c)
-
   -- where just the rows at these keys pass, they are what is found there
   pub filter_at_keys : (f : K → X → Bool) → ((k : K) (x : X) → get m k ≡ Some x → f k x ≡ contains_key c k) →
       filter (λ e. f e.0 e.1) (entries m) ≡ found_at (get m) (keys c)
   filter_at_keys f passes = filter-retain o same f m (contains_key c) (λ k x is out. passes k x is ∙ out)
       ∙ filter_all (λ e. f e.0 e.1) (entries (retain_keys m (contains_key c))) (each_row o same (λ k x. f k x ≡ true) (retain_keys m (contains_key c))
       (λ k x is. let at = chosen o same m (contains_key c) k x is in passes k x at.0 ∙ at.1))
-      ∙ entries_looked ∙ found_row_list (get m) (entries c)
+      ∙ entries_looked o same m c ∙ found_row_list (get m) (entries c)
 
   -- where rows at other keys make nothing, the rows at these keys are asked
   pub flat_at_keys : {Y : Type 0} (g : K → X → List Y) → ((k : K) (x : X) → get m k ≡ Some x → contains_key c k ≡ false → g k x ≡ [])
       → flat_map (λ e. g e.0 e.1) (entries m) ≡ flat_map (λ e. option_map_or (g e.0) (get m e.0) []) (entries c)
-  flat_at_keys g idle = flat_map-retain o same g m (contains_key c) idle ∙ ap (flat_map (λ e. g e.0 e.1)) entries_looked ∙ flat_looked (get m) g (entries c)
+  flat_at_keys g idle = flat_map-retain o same g m (contains_key c) idle ∙ ap (flat_map (λ e. g e.0 e.1)) (entries_looked o same m c)
+      ∙ flat_looked (get m) g (entries c)
 
 module _ {K X : Type 0} (look : K → Option X) where
   found_append : (xs ys : List K) → found_at look (xs ++ ys) ≡ found_at look xs ++ found_at look ys
