@@ -1,6 +1,7 @@
 pub mod Any
 pub mod Bounded
 pub mod Candidates
+pub mod Counted
 pub mod Gone
 pub mod Listed
 pub mod Lost

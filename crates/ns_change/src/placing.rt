@@ -1,6 +1,6 @@
 //! Nodes, and what is placed on them.
 
-ghost use Rattle.std.specs.Prelude.{IfOk};
+ghost use Rattle.std.specs.Prelude.{◌≡◌, false, IfOk, IsTrue};
 ghost use Rattle.ns_types.specs.Working.Commit.{with_allocation};
 ghost use Rattle.ns_types.specs.Settling.Making.{with_node};
 ghost use Rattle.ns_change.specs.Changed.{Does, DoesIn, DoesInPool, HasAllocationLeft, HasPlaceLeft, count_place, view, without_node};
@@ -75,7 +75,28 @@ pub fn remove_node(
     Ok(())
 }
 
-/// Counts a placement on a node that is there.
+/// Counts a placement on a node of which the change has a row already, where the row stands. Else it answers no, and
+/// nothing changes.
+fn count_again(tables: &Tables, change: &mut Change, pool: &Text, name: &Text) -> bool
+    requires { HasPlaceLeft (view tables.now change.old) pool.now name.now }
+    ensures counted { IsTrue result → view tables.now change.new
+        ≡ count_place pool.now name.now (view tables.now change.old) }
+    ensures same { result ≡ false → change.new ≡ change.old }
+{
+    let Some(_stored) = tables.pools.get(pool) else {
+        return false;
+    };
+    let Some(changed) = change.pools.get_mut(pool) else {
+        return false;
+    };
+    let Some(row) = changed.nodes.get_mut(name) else {
+        return false;
+    };
+    row.places += 1;
+    true
+}
+
+/// Counts a placement on a node that is there. Its row is copied for the first one alone.
 pub fn count_place(
     tables: &Tables,
     change: &mut Change,
@@ -85,6 +106,9 @@ pub fn count_place(
     requires { HasPlaceLeft (view tables.now change.old) pool.now name.now }
     ensures { Does result tables.now change.old change.new (count_place pool.now name.now) }
 {
+    if count_again(tables, change, pool, name) {
+        return Ok(());
+    }
     let Some(row) = node(tables, change, pool, name) else {
         return Ok(());
     };
