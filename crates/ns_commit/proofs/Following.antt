@@ -125,13 +125,13 @@ module _ (changes : FinMap name_cmp (Option SettledTenant)) where
     tenant_at k row at = get-owners tenant_of stored k ∙ ap (option_map tenant_of) at
 
     changed_at : (k : Name) (x : SettledTenant) (row : TenantRows) → row_at changes k ≡ Some x → row_at stored k ≡ Some row → (n : ℕ) →
-        new (k, n) ≡ get (over (rows row.allocations) x.rows.allocations) n
+        new (k, n) ≡ get (over (rows row.allocations.slots) x.rows.allocations) n
     changed_at k x row is at n = new_at (k, n)
         ∙ (λ i. of n (option_map (perhaps settled_tenant (is i)) (tenant_at k row at i)))
         ∙ ap (λ m. get m n) (told_same x.events (changed_tenant (tenant_of row) x.rows))
 
-    old_at : (k : Name) (row : TenantRows) → row_at stored k ≡ Some row → (n : ℕ) → old (k, n) ≡ row_at row.allocations n
-    old_at k row at n = ap (of n) (tenant_at k row at) ∙ get-rows numbers row.allocations n
+    old_at : (k : Name) (row : TenantRows) → row_at stored k ≡ Some row → (n : ℕ) → old (k, n) ≡ row_at row.allocations.slots n
+    old_at k row at n = ap (of n) (tenant_at k row at) ∙ get-rows numbers row.allocations.slots n
 
     -- the changes of namespaces that es names are still to come
     abbrev pub in_time : Option (Option SettledTenant) → Key → Option Allocation
@@ -211,9 +211,9 @@ module _ (changes : FinMap name_cmp (Option SettledTenant)) where
       nothing_there now none same = subst (λ live. Following before live rest) (sym same) (stays (λ n. nowhere_at (k, n) none))
 
       pub one_followed : (now : Live) (x : SettledTenant) (row : TenantRows) → slot ≡ Some x → row_at stored k ≡ Some row →
-          ((row_of : Key → Option Allocation) → Indexes row_of live → ((n : ℕ) → row_of (k, n) ≡ row_at row.allocations n) →
+          ((row_of : Key → Option Allocation) → Indexes row_of live → ((n : ℕ) → row_of (k, n) ≡ row_at row.allocations.slots n) →
           Indexes (with_changes k x.rows.allocations row_of) now) →
-          ((row_of : Key → Option Allocation) → ((n : ℕ) → row_of (k, n) ≡ row_at row.allocations n) →
+          ((row_of : Key → Option Allocation) → ((n : ℕ) → row_of (k, n) ≡ row_at row.allocations.slots n) →
           ShowsUnmoved row_of (with_changes k x.rows.allocations row_of) live now) →
           ((pool node : Name) (key : Key) → same_name key.0 k ≡ false → IsTrue (has_room live pool node key) → IsTrue (has_room now pool node key)) →
           Following before now rest
@@ -228,11 +228,11 @@ module _ (changes : FinMap name_cmp (Option SettledTenant)) where
             let both = later q y found in room r.pool r.node (q, n) both.0 (h.room q y both.1 n r there lives);
       }
         where
-          earlier : (n : ℕ) → rows_now es (k, n) ≡ row_at row.allocations n
+          earlier : (n : ℕ) → rows_now es (k, n) ≡ row_at row.allocations.slots n
           earlier n = ap (λ r. in_time r (k, n)) here ∙ old_at k row at n
 
           as_changed : (key : Key) → rows_now rest key ≡ with_changes k x.rows.allocations (rows_now es) key
           as_changed = at_keys (λ key. rows_now rest key ≡ with_changes k x.rows.allocations (rows_now es) key) k
               (λ n. ap (λ r. in_time r (k, n)) over_now ∙ changed_at k x row (ap flat standing.0 ∙ some) at n
-              ∙ sym (changes_over k row.allocations x.rows.allocations (rows_now es) earlier n))
+              ∙ sym (changes_over k row.allocations.slots x.rows.allocations (rows_now es) earlier n))
               (λ key e. others key e ∙ sym (ap (λ b. if b then unwrap_or (get x.rows.allocations key.1) (rows_now es key) else rows_now es key) e))

@@ -41,10 +41,10 @@ pub(crate) fn clear_evaluations(table: &mut EvaluationTable, changes: &NumberTab
 
 /// Takes the vacant slots of the changed allocations out.
 pub(crate) fn clear_allocations(table: &mut AllocationTable, changes: &NumberTable<Allocation>)
-    ensures rows { rows table.new ≡ rows table.old }
-    ensures cleared { IsCleared changes.now table.new }
+    ensures rows { rows table.new.slots ≡ rows table.old.slots }
+    ensures cleared { IsCleared changes.now table.new.slots }
 {
     for slot in changes.as_slice() {
-        table.clear_slot(slot.0);
+        table.clear_slot(slot);
     }
 }

@@ -4,4 +4,4 @@ use Rattle.ns_commit.proofs.Cleared.{Clearing}
 use Rattle.ns_commit.proofs.clearing.clear_allocations.Given as goal
 
 abbrev pub invariant-loop-slot : goal.invariant-loop-slot
-invariant-loop-slot l = Clearing numbers one_number l.table l.initial.table (drop l.slot-index l.slot-items) l.changes
+invariant-loop-slot l = Clearing numbers one_number l.table.slots l.initial.table.slots (drop l.slot-index l.slot-items) l.changes
