@@ -11,7 +11,6 @@ use Rattle.ns_types.specs.State.Names.{Name}
 use Rattle.ns_types.specs.State.Rows.{node_at}
 use Rattle.ns_types.specs.Working.Commit.{with_place}
 use Rattle.ns_types.proofs.Named.{names, one_name}
-use Rattle.ns_types.proofs.Tests.{same_Some}
 use Rattle.ns_change.specs.declared.change.Change.{Change}
 use Rattle.ns_change.specs.declared.change.PoolChange.{PoolChange}
 use Rattle.ns_world.specs.declared.tables.PoolRows.{PoolRows as StoredPool}

@@ -1,8 +1,8 @@
--- A pool's change that is taken out and put again, and placements.
-use Rattle.std.specs.Prelude.{◌≡◌, ◌+◌, Bool, true, false, cond, Option, Some, None, option_map, IsTrue}
+-- A pool's change that is taken out and put again.
+use Rattle.std.specs.Prelude.{◌≡◌, Bool, true, false, cond, Option, Some, None, option_map, IsTrue}
 use Rattle.std.proofs.Common.{refl, sym, ap, ◌∙◌}
 use Rattle.std.specs.Option.{option_map_or}
-use Rattle.std.specs.Ordering.{eq_by_cmp, nat_cmp}
+use Rattle.std.specs.Ordering.{eq_by_cmp}
 use Rattle.std.specs.FinMap.{FinMap, get, get-insert, insert, same_map}
 use Rattle.keyed.specs.Table.{has_slot, row_at, with_slot}
 use Rattle.std.proofs.Common.{Ordering}
@@ -11,26 +11,23 @@ use Rattle.std.specs.FinMap.{IsAntisymmetric, remove}
 use Rattle.keyed.specs.Table.{emptied}
 use Rattle.keyed.proofs.Tables.{has_slot-with_slot_here}
 use Rattle.keyed.proofs.Over.{over-gone}
-use Rattle.ns_types.specs.declared.allocation.Allocation.{Allocation}
-use Rattle.ns_types.specs.Working.Commit.{with_allocation}
-use Rattle.ns_types.specs.Settling.Making.{change_tenant, put_pool}
+use Rattle.ns_types.specs.Settling.Making.{put_pool}
 use Rattle.ns_types.specs.State.Names.{Name, name_cmp}
 use Rattle.ns_types.specs.State.Rows.{PoolRows}
 use Rattle.ns_types.specs.State.Tables.{map_rows}
-use Rattle.ns_types.proofs.Named.{names, one_name, numbers, one_number}
+use Rattle.ns_types.proofs.Named.{names, one_name}
 use Rattle.ns_types.proofs.Tables.{get-map_rows, tied}
 use Rattle.ns_change.specs.declared.change.Change.{Change}
 use Rattle.ns_change.specs.declared.change.PoolChange.{PoolChange}
-use Rattle.ns_change.specs.declared.change.TenantChange.{TenantChange}
 use Rattle.ns_world.specs.declared.tables.PoolRows.{PoolRows as StoredPool}
 use Rattle.ns_world.specs.declared.tables.Tables.{Tables}
-use Rattle.ns_change.specs.Changed.{changed, changed_pool, changed_tenant, perhaps, unchanged_pool}
-use Rattle.ns_change.specs.Opened.{IsOpenPool, Opened, OpenedPool, with_pool, with_tenant}
+use Rattle.ns_change.specs.Changed.{changed, changed_pool, perhaps, unchanged_pool}
+use Rattle.ns_change.specs.Opened.{IsOpenPool, OpenedPool, with_pool}
 use Rattle.keyed.specs.Over.{over}
 use Rattle.ns_world.specs.World.{pool_of, world_of}
 use Rattle.ns_change.specs.Changed.{view}
 use Rattle.ns_change.specs.Changed.{change_pool}
-use Rattle.ns_change.proofs.Opening.{over-slot, put_open, row_set}
+use Rattle.ns_change.proofs.Opening.{row_set}
 use Rattle.ns_change.proofs.Seen.{pool_seen, seen_as}
 use Rattle.ns_world.proofs.World.{pool_at}
 use Rattle.keyed.proofs.Over.{over-empty}
@@ -71,20 +68,6 @@ module _ (t : Tables) (c left : Change) (name : Name) (f : PoolRows → PoolRows
       view t (with_pool name y left) ≡ change_pool name f (view t c)
   put_open_pool x y is law = is.closes y ∙ ap (λ z. put_pool name z (view t c)) (law is.base) ∙
       sym (ap (λ o. option_map_or (λ z. put_pool name (f z) (view t c)) o (view t c)) is.seen)
-
--- ---- a new allocation
-
-module _ (t : Tables) (c left : Change) (ns : Name) (x : TenantChange) (opened : Opened t c ns (Some x) left) where
-  pub placed_open : (a : Allocation) (m : FinMap nat_cmp (Option Allocation)) →
-      m ≡ insert (with_slot x.allocations (x.allocation_number + 1)) (x.allocation_number + 1) (Some a)
-      → view t (with_tenant ns (record x { allocation_number = x.allocation_number + 1; allocations = m }) left) ≡ change_tenant ns (with_allocation a)
-      (view t c)
-  placed_open a m is = put_open t c left ns (with_allocation a) x (record x { allocation_number = x.allocation_number + 1; allocations = m }) opened
-      (λ base i. record (changed_tenant base x) {
-        allocation_number = x.allocation_number + 1;
-        allocations =
-            (ap (over base.allocations) is ∙ over-slot numbers one_number base.allocations x.allocations (x.allocation_number + 1) a) i;
-      })
 
 -- ---- nodes that go
 

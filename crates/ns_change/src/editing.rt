@@ -17,7 +17,7 @@ use ns_world::{Tables, TenantRows};
 use std::alloc::{AllocError, Global};
 
 /// A change of nothing.
-fn unchanged(alloc: Global, tenant: &TenantRows) -> TenantChange
+pub(crate) fn unchanged(alloc: Global, tenant: &TenantRows) -> TenantChange
     ensures { result ≡ unchanged (tenant_of tenant.now) }
 {
     TenantChange {

@@ -1,14 +1,16 @@
 //! Nodes, and what is placed on them.
 
-ghost use Rattle.std.specs.Prelude.{◌≡◌, false, IfOk, IsTrue};
+ghost use Rattle.std.specs.Prelude.{◌≡◌, ◌+◌, ◌<◌, ◌^◌, false, IfOk, IsTrue, OnOk};
 ghost use Rattle.ns_types.specs.Working.Commit.{with_allocation};
 ghost use Rattle.ns_types.specs.Settling.Making.{with_node};
-ghost use Rattle.ns_change.specs.Changed.{Does, DoesIn, DoesInPool, HasAllocationLeft, HasPlaceLeft, count_place, view, without_node};
+ghost use Rattle.ns_types.specs.State.Rows.{Tenant};
+ghost use Rattle.ns_change.specs.Changed.{Does, DoesIn, DoesInPool, HasAllocationLeft, HasPlaceLeft};
+ghost use Rattle.ns_change.specs.Changed.{changed_tenant, count_place, view, without_node};
 ghost use Rattle.ns_change.specs.Opened.{OpenedPool};
 
-use crate::change::{Change, PoolChange};
+use crate::change::{Change, PoolChange, TenantChange};
 use crate::copying::copied_node;
-use crate::editing::open;
+use crate::editing::unchanged;
 use crate::looking::node;
 use keyed::NameTable;
 use ns_types::allocation::Allocation;
@@ -117,7 +119,20 @@ pub fn count_place(
     put_node(tables, change, pool, name, row)
 }
 
-/// A new allocation under the namespace's next number.
+/// The row stands under the next number.
+fn add_row(tenant: &mut TenantChange, row: Allocation) -> Result<(), AllocError>
+    requires { tenant.old.allocation_number + 1 < 2 ^ 64 }
+    ensures { OnOk result ((base : Tenant) →
+        changed_tenant base tenant.new ≡ with_allocation row (changed_tenant base tenant.old)) }
+{
+    let number = tenant.allocation_number + 1;
+    tenant.allocations.reserve(number)?;
+    tenant.allocations.set(number, row);
+    tenant.allocation_number = number;
+    Ok(())
+}
+
+/// A new allocation under the namespace's next number. A change of the namespace is made where it stands.
 pub fn add_allocation(
     tables: &Tables,
     change: &mut Change,
@@ -127,14 +142,16 @@ pub fn add_allocation(
     requires { HasAllocationLeft (view tables.now change.old) namespace.now }
     ensures { DoesIn namespace.now result tables.now change.old change.new (with_allocation row) }
 {
-    let Some(mut tenant) = open(tables, change, namespace)? else {
+    let Some(stored) = tables.tenants.get(namespace) else {
         drop(row);
         return Ok(());
     };
-    let number = tenant.allocation_number + 1;
-    tenant.allocations.reserve(number)?;
-    tenant.allocations.set(number, row);
-    tenant.allocation_number = number;
+    if let Some(tenant) = change.tenants.get_mut(namespace) {
+        return add_row(tenant, row);
+    }
+    change.tenants.reserve(namespace)?;
+    let mut tenant = unchanged(tables.alloc, stored);
+    add_row(&mut tenant, row)?;
     change.tenants.set(namespace, tenant);
     Ok(())
 }
