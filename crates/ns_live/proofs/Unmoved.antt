@@ -2,6 +2,7 @@
 use Rattle.std.specs.Prelude.{◌≡◌, Bool, true, false, cond, ◌&&◌, ◌||◌, if◌then◌else◌, List, [], ◌∷◌, Option, Some, None, is_some, map, option_map}
 use Rattle.std.specs.Prelude.{unwrap_or}
 use Rattle.std.proofs.Common.{refl, sym, ap, ◌∙◌}
+use Rattle.std.proofs.Math.Bool.{and-false}
 use Rattle.std.specs.FinMap.{empty}
 use Rattle.std.specs.Option.{option_and_then, option_map_or}
 use Rattle.keyed.specs.Levels.{holds_key, holds_number}
@@ -12,7 +13,7 @@ use Rattle.ns_types.specs.declared.allocation.Allocation.{Allocation}
 use Rattle.ns_types.specs.declared.snapshot.PoolNode.{PoolNode}
 use Rattle.ns_types.specs.State.Lists.{by_number}
 use Rattle.ns_types.specs.State.Names.{Name, Key, has_key, same_key, same_name}
-use Rattle.ns_types.specs.State.Rows.{World, allocation_at, is_live_on, node_at}
+use Rattle.ns_types.specs.State.Rows.{World, allocation_at, is_live, is_live_on, node_at}
 use Rattle.ns_types.specs.Working.Snapshot.{allocations_on, live_on, seen_live}
 use Rattle.ns_types.proofs.Named.{same_key_refl, same_name_is, first_of_both, second_of_both}
 use Rattle.ns_live.specs.declared.live.Live.{Live}
@@ -136,6 +137,28 @@ unmoved_as a b c x y same h pool name node is =
 
 pub unmoved_same : (a b : Key → Option Allocation) (x y : Live) → y ≡ x → ((key : Key) → b key ≡ a key) → ShowsUnmoved a b x y
 unmoved_same a b x y stays same pool name node is = (ap (λ l. shown_at l pool name) (sym stays) ∙ is, λ key. ap (live_row pool name) (same key))
+
+-- no node is shown on which the row is live
+abbrev pub HidesNodeOf : Option Allocation → Live → Type 0
+HidesNodeOf row live = (pool name : Name) (node : PoolNode) → shown_at live pool name ≡ Some node → live_row pool name row ≡ None
+
+gone_off : (b : Bool) (row : Allocation) → (if b then Some row else None) ≡ None → b ≡ false
+gone_off true row e = cc
+gone_off false row e = refl
+
+-- a row on the node on which the last one is live is live on no other
+pub beside : (last : Option Allocation) (row : Allocation) → option_map_or (is_live_on row.pool row.node) last false ≡ true → (pool name : Name) →
+    live_row pool name last ≡ None → live_row pool name (Some row) ≡ None
+beside None row there pool name gone = cc
+beside (Some l) row there pool name gone =
+    let lives = first_of_both _ _ there in
+    let here = second_of_both (is_live l) _ there in
+    let pools = same_name_is row.pool l.pool (first_of_both _ _ here) in
+    let nodes = same_name_is row.node l.node (second_of_both (same_name row.pool l.pool) _ here) in
+    let off : (same_name pool l.pool && same_name name l.node) ≡ false =
+    ap (λ b. b && (same_name pool l.pool && same_name name l.node)) (sym lives) ∙ gone_off (is_live_on pool name l) l gone in
+    ap (λ b. if b then Some row else None)
+    (ap (λ b. is_live row && b) ((λ i. same_name pool (pools i) && same_name name (nodes i)) ∙ off) ∙ and-false (is_live row))
 
 -- the row under a key is another
 pub put_unmoved : (row_of : Key → Option Allocation) (key : Key) (before after : Option Allocation) (old made : Live) (mid : ShownNodes) (new : Live) →

@@ -1,9 +1,10 @@
 //! The live allocations on all nodes, and the nodes as they were last shown.
 
-ghost use Rattle.std.specs.Prelude.{◌≡◌, ℕ, false, IsTrue, OnErr, OnOk, Option, Some, is_some, option_copied};
+ghost use Rattle.std.specs.Prelude.{◌≡◌, ℕ, false, IsTrue, None, OnErr, OnOk, Option, Some, is_some, option_copied};
 ghost use Rattle.std.specs.Option.{option_map_or};
 ghost use Rattle.keyed.specs.Table.{row_at};
 ghost use Rattle.ns_types.specs.declared.allocation.Allocation.{Allocation};
+ghost use Rattle.ns_types.specs.declared.snapshot.PoolNode.{PoolNode};
 ghost use Rattle.ns_types.specs.State.Names.{Key, Name, same_key, same_name};
 ghost use Rattle.ns_types.specs.State.Resources.{IsCounted};
 ghost use Rattle.ns_types.specs.State.Rows.{is_live, is_live_on};
@@ -13,7 +14,7 @@ ghost use Rattle.ns_live.specs.Index.{KeepsKeys, KeepsRoom};
 ghost use Rattle.ns_live.specs.Index.{has_room, holds, with_changes, with_row};
 ghost use Rattle.keyed.specs.Levels.{Adds, Drops, Keeps, holds_key, same_at};
 ghost use Rattle.ns_live.specs.Levels.{holds_in_pool, has_pool_room};
-ghost use Rattle.ns_live.specs.Shown.{ForgetsNodes, KeepsShown, ShowsSame, ShowsThere, ShowsUnmoved, shown_at};
+ghost use Rattle.ns_live.specs.Shown.{ForgetsNodes, KeepsShown, ShowsSame, ShowsThere, ShowsUnmoved, live_row, shown_at};
 ghost use Rattle.ns_world.specs.World.{world_of};
 
 use crate::loads::keys_load;
@@ -44,6 +45,18 @@ fn is_live_on(row: Option<&Allocation>, pool: &Text, node: &Text) -> bool
     match row {
         Some(row) => row.is_live() && same_text(pool, &row.pool) && same_text(node, &row.node),
         None => false,
+    }
+}
+
+/// Whether the row is live only on a node on which the last one is live.
+fn is_beside(last: Option<&Allocation>, row: Option<&Allocation>) -> bool
+    ensures { IsTrue result → (pool : Name) (name : Name) →
+        live_row pool name (option_copied last.entry) ≡ None →
+        live_row pool name (option_copied row.entry) ≡ None }
+{
+    match row {
+        Some(row) => is_live_on(last, &row.pool, &row.node),
+        None => true,
     }
 }
 
@@ -99,9 +112,42 @@ impl Live {
             same_key key (namespace.now, number) ≡ false →
             IsTrue (has_room self.old pool node key) → IsTrue (has_room self.new pool node key) }
     {
+        self.put_after(None, namespace, number, before, after);
+    }
+
+    /// The same behind another row, if any, whose node is not shown any more, where it is live.
+    fn put_after(
+        &mut self,
+        last: Option<&Allocation>,
+        namespace: &Text,
+        number: u64,
+        before: Option<&Allocation>,
+        after: Option<&Allocation>,
+    )
+        requires room { HasRoomFor self.old (namespace.now, number) (option_copied after) }
+        requires last { (pool : Name) (name : Name) (node : PoolNode) →
+            shown_at self.old pool name ≡ Some node →
+            live_row pool name (option_copied last) ≡ None }
+        ensures index { (row_of : Key → Option Allocation) → Indexes row_of self.old →
+            row_of (namespace.now, number) ≡ option_copied before.entry →
+            Indexes (with_row (namespace.now, number) (option_copied after.entry) row_of) self.new }
+        ensures shown { (row_of : Key → Option Allocation) →
+            row_of (namespace.now, number) ≡ option_copied before.entry →
+            ShowsUnmoved row_of
+            (with_row (namespace.now, number) (option_copied after.entry) row_of)
+            self.old self.new }
+        ensures room { (pool : Name) (node : Name) (key : Key) →
+            same_key key (namespace.now, number) ≡ false →
+            IsTrue (has_room self.old pool node key) → IsTrue (has_room self.new pool node key) }
+        ensures last { (pool : Name) (name : Name) (node : PoolNode) →
+            shown_at self.new pool name ≡ Some node →
+            live_row pool name (option_copied after.entry) ≡ None }
+    {
         self.put_key(namespace, number, before, after);
         self.shown.forget_row(before);
-        self.shown.forget_row(after);
+        if !is_beside(last, after) {
+            self.shown.forget_row(after);
+        }
     }
 
     /// The same of the index alone.
@@ -164,8 +210,11 @@ impl Live {
             same_name key.0 namespace.now ≡ false →
             IsTrue (has_room self.old pool node key) → IsTrue (has_room self.new pool node key) }
     {
+        let mut last = None;
         for slot in changes.as_slice() {
-            self.put(namespace, slot.0, table.get(slot.0), slot.1.as_ref());
+            let after = slot.1.as_ref();
+            self.put_after(last, namespace, slot.0, table.get(slot.0), after);
+            last = after;
         }
     }
 
@@ -286,8 +335,11 @@ impl Live {
         ensures ok { OnOk result (
             IsTrue (has_pool_room self.new (pool.now, (node.now, (namespace.now, number))))) }
     {
-        self.open(pool)?;
         let alloc = self.alloc;
+        if let Some(nodes) = self.pools.get_mut(pool) {
+            return nodes.reserve(alloc, node, namespace, number);
+        }
+        self.open(pool)?;
         if let Some(nodes) = self.pools.get_mut(pool) {
             nodes.reserve(alloc, node, namespace, number)?;
         }

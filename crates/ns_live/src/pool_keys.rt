@@ -52,7 +52,7 @@ impl PoolKeys {
         Ok(())
     }
 
-    /// Makes room for the key on the node. Want of memory is the only error.
+    /// Makes room for the key on the node. Want of memory is the only error. A node that has keys is looked up once.
     pub(crate) fn reserve(
         &mut self,
         alloc: Global,
@@ -64,6 +64,9 @@ impl PoolKeys {
         ensures ok { OnOk result (
             IsTrue (has_node_room self.new (node.now, (namespace.now, number)))) }
     {
+        if let Some(keys) = self.nodes.get_mut(node) {
+            return keys.reserve(alloc, namespace, number);
+        }
         self.open(alloc, node)?;
         if let Some(keys) = self.nodes.get_mut(node) {
             keys.reserve(alloc, namespace, number)?;

@@ -1,7 +1,8 @@
 use Rattle.std.specs.Prelude.{false}
-use Rattle.std.proofs.Common.{ap, subst, sym, take, ◌∙◌}
+use Rattle.std.proofs.Common.{ap, refl, subst, sym, take, ◌∙◌}
 use Rattle.std.specs.Option.{option_map_or}
 use Rattle.keyed.proofs.Mapped.{take_all}
+use Rattle.ns_types.specs.State.Names.{Key}
 use Rattle.ns_types.specs.State.Rows.{is_live_on}
 use Rattle.ns_live.specs.Index.{Indexes, with_changes, with_row}
 use Rattle.ns_live.specs.Shown.{ShowsUnmoved}
@@ -10,19 +11,27 @@ use Rattle.ns_live.proofs.Unmoved.{unmoved_as}
 use Rattle.ns_live.proofs.live.Live.put_all.Goals as goal
 
 pub loop-slot-init : goal.loop-slot-init
-loop-slot-init c = begun c.args.namespace.now c.args.table.now c.args.changes.now c.args.self.now _ c.as_slice-slot-items.ensures c.requires
+loop-slot-init c = (
+  begun c.args.namespace.now c.args.table.now c.args.changes.now c.args.self.now _ c.as_slice-slot-items.ensures c.requires,
+  λ pool name node is. refl,
+)
 
 pub loop-slot-preserved : goal.loop-slot-preserved
-loop-slot-preserved c = one_changed c.args.namespace.now c.as_slice-slot-items.result.now c.loop-slot.slot-index c.slot-item.result c.loop-slot-test.true
-    c.slot-item.is c.args.changes.now c.args.table.now c.args.self.now c.loop-slot.self c.put.new.self c.as_slice-slot-items.ensures
-    (λ row_of right was. subst (λ r. Indexes (with_row (c.args.namespace.now, c.slot-item.result.0) r row_of) c.put.new.self) c.as_ref.ensures.value
-    (c.put.ensures.index row_of right (was ∙ sym c.get.ensures)))
-    (λ row_of was. subst (λ r. ShowsUnmoved row_of (with_row (c.args.namespace.now, c.slot-item.result.0) r row_of) c.loop-slot.self c.put.new.self)
-    c.as_ref.ensures.value (c.put.ensures.shown row_of (was ∙ sym c.get.ensures)))
-    c.put.ensures.room c.loop-slot.invariant
+loop-slot-preserved c =
+    let key : Key = (c.args.namespace.now, c.slot-item.result.0) in
+    let new = c.put_after.new.self in (
+      one_changed c.args.namespace.now c.as_slice-slot-items.result.now c.loop-slot.slot-index c.slot-item.result c.loop-slot-test.true
+          c.slot-item.is c.args.changes.now c.args.table.now c.args.self.now c.loop-slot.self new c.as_slice-slot-items.ensures
+          (λ row_of right was. subst (λ r. Indexes (with_row key r row_of) new) c.as_ref-after.ensures.value
+          (c.put_after.ensures.index row_of right (was ∙ sym c.get.ensures)))
+          (λ row_of was. subst (λ r. ShowsUnmoved row_of (with_row key r row_of) c.loop-slot.self new) c.as_ref-after.ensures.value
+          (c.put_after.ensures.shown row_of (was ∙ sym c.get.ensures)))
+          c.put_after.ensures.room c.loop-slot.invariant.0,
+      λ pool name node is. c.put_after.ensures.last pool name node is,
+    )
 
 pub returns-clause-index : goal.returns-clause-index
-returns-clause-index c row_of right rows pool node key = c.loop-slot.invariant.index row_of right rows pool node key
+returns-clause-index c row_of right rows pool node key = c.loop-slot.invariant.0.index row_of right rows pool node key
     ∙ ap (λ r. option_map_or (is_live_on pool node) r false)
     (ap (λ xs. changed_rows c.args.namespace.now xs row_of key) (take_all c.as_slice-slot-items.result.now c.loop-slot.slot-index c.loop-slot-test.false)
     ∙ all_changed c.args.namespace.now c.args.changes.now c.as_slice-slot-items.result.now c.as_slice-slot-items.ensures row_of key)
@@ -33,4 +42,4 @@ returns-clause-shown c row_of rows = unmoved_as row_of (changed_rows c.args.name
     (λ key. sym (ap (λ xs. changed_rows c.args.namespace.now xs row_of key)
     (take_all c.as_slice-slot-items.result.now c.loop-slot.slot-index c.loop-slot-test.false)
     ∙ all_changed c.args.namespace.now c.args.changes.now c.as_slice-slot-items.result.now c.as_slice-slot-items.ensures row_of key))
-    (c.loop-slot.invariant.shown row_of rows)
+    (c.loop-slot.invariant.0.shown row_of rows)
