@@ -1,3 +1,4 @@
 pub mod Finished
 pub mod Settling
+pub mod Sleepers
 pub mod Stamped

@@ -9,6 +9,7 @@ ghost use Rattle.ns_types.specs.State.Tables.{table_of};
 ghost use Rattle.ns_change.specs.Changed.{view};
 ghost use Rattle.ns_change.specs.Settled.{settled_world};
 ghost use Rattle.ns_settle.specs.Settles.{is_last, settled_slot};
+ghost use Rattle.ns_settle.specs.Waking.{ListsBlocked};
 ghost use Rattle.ns_settle.specs.Stamped.{events_at, stamp_change};
 ghost use Rattle.ns_world.specs.World.{tenant_of, world_of};
 
@@ -139,7 +140,9 @@ fn settle_tenants(
 
 /// All that a step changes, by what it changes itself. Want of memory is the only error.
 pub fn settle(tables: &Tables, mut change: Change) -> Result<Settled, AllocError>
-    requires { is_past_bound (settle (world_of tables.now) (view tables.now change)) ≡ false }
+    requires listed { ListsBlocked (world_of tables.now) }
+    requires within { is_past_bound (settle (world_of tables.now) (view tables.now change))
+        ≡ false }
     ensures settled { IfOk result (λ settled. settled_world (world_of tables.now) settled
         ≡ settle (world_of tables.now) (view tables.now change)) }
     ensures fits { IfOk result (λ settled.

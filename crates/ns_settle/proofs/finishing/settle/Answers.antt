@@ -15,7 +15,7 @@ settle_tenants-requires c =
     let w = world_of t in
     let woke : view t c.wake.new.change ≡ wake (woken_keys w c.args.change) (view t c.args.change) = c.in_ok-wake.ensures ∙
     ap (λ keys. wake keys (view t c.args.change)) (c.as_slice.ensures ∙ c.in_ok-keys.ensures) in
-    none_last w c.args.change c.wake.new.change woke c.requires
+    none_last w c.args.change c.wake.new.change woke c.requires.within
 
 pub returns : goal.returns
 returns c =
@@ -44,4 +44,4 @@ returns c =
       released = c.in_ok-released.ensures i;
     } in
     let done = finished w c.args.change c.wake.new.change s woke same in
-    record { settled = done; fits = ap is_past_bound done ∙ c.requires }
+    record { settled = done; fits = ap is_past_bound done ∙ c.requires.within }
