@@ -101,8 +101,8 @@ fn place_all(committed: &Committed, change: &mut Change, job: &Job) -> Result<()
 }
 
 /// Places what the plan places on the nodes that do their part, in its order: each is a new allocation, pending under
-/// the next number of the snapshot's namespace, and has the next place of its node. It costs two look-ups and the copy
-/// of a node for each of them.
+/// the next number of the snapshot's namespace, and has the next place of its node. It costs a few look-ups for each of
+/// them, and the copy of a node for the first on it.
 pub(crate) fn place(committed: &Committed, change: &mut Change) -> Result<(), AllocError>
     requires { let placements = committed.now.plan.now.placing.placements in
         let placed = placed_on committed.now.nodes.now placements in

@@ -29,7 +29,7 @@ Slots = List (Name × Option TenantRows)
 
 -- the allocation of a namespace's slot
 abbrev row_in : Option TenantRows → ℕ → Option Allocation
-row_in slot n = option_and_then (λ t. row_at t.allocations n) slot
+row_in slot n = option_and_then (λ t. row_at t.allocations.slots n) slot
 
 abbrev rows_in : Slots → Key → Option Allocation
 rows_in slots key = row_in (flat (find name_cmp key.0 slots)) key.1
@@ -113,7 +113,7 @@ module _ (x : Name × Option TenantRows) (rest left slots : Slots) (is : rest �
     pub nothing_before : (n : ℕ) → rows_but rest slots (x.0, n) ≡ row_at none n
     nothing_before n = own_before n ∙ sym (ap (λ m. row_at m n) no_rows ∙ ap flat (get-empty nat_cmp n))
 
-    put_there : (key : Key) → with_changes x.0 tenant.allocations (rows_but rest slots) key ≡ rows_but left slots key
+    put_there : (key : Key) → with_changes x.0 tenant.allocations.slots (rows_but rest slots) key ≡ rows_but left slots key
     put_there key = by (same_name key.0 x.0) refl ∙ moved key
       where
         own : same_name key.0 x.0 ≡ true → rows_but rest slots key ≡ None
@@ -124,15 +124,15 @@ module _ (x : Name × Option TenantRows) (rest left slots : Slots) (is : rest �
         flatly (Some r) = refl
 
         by : (b : Bool) → same_name key.0 x.0 ≡ b →
-            (if b then unwrap_or (get tenant.allocations key.1) (rows_but rest slots key) else rows_but rest slots key)
+            (if b then unwrap_or (get tenant.allocations.slots key.1) (rows_but rest slots key) else rows_but rest slots key)
             ≡ cond b (row_in x.1 key.1) (rows_but rest slots key)
-        by true e = ap (unwrap_or (get tenant.allocations key.1)) (own e) ∙ flatly (get tenant.allocations key.1)
+        by true e = ap (unwrap_or (get tenant.allocations.slots key.1)) (own e) ∙ flatly (get tenant.allocations.slots key.1)
             ∙ sym (ap (λ slot. row_in slot key.1) at)
         by false e = refl
 
     pub slot_indexed : (made new live : Live) → KeepsKeys old made → KeepsShown old made →
-        (Indexes (rows_but rest slots) made → Indexes (with_changes x.0 tenant.allocations (rows_but rest slots)) new) →
-        ShowsUnmoved (rows_but rest slots) (with_changes x.0 tenant.allocations (rows_but rest slots)) made new → live ≡ new → IsIndexing live left slots
+        (Indexes (rows_but rest slots) made → Indexes (with_changes x.0 tenant.allocations.slots (rows_but rest slots)) new) →
+        ShowsUnmoved (rows_but rest slots) (with_changes x.0 tenant.allocations.slots (rows_but rest slots)) made new → live ≡ new → IsIndexing live left slots
     slot_indexed made new live keys kept index shown same = subst (λ live. IsIndexing live left slots) (sym same) (record {
       index = λ pool node key. index (λ p n k. keys p n k ∙ h.index p n k) pool node key
           ∙ ap (λ r. option_map_or (is_live_on pool node) r false) (put_there key);
@@ -155,7 +155,7 @@ all_indexed t live rest slots is none h = record {
   where
     by : (n : ℕ) (r : Option TenantRows) → option_and_then (λ t. get t.allocations n) (option_map tenant_of r) ≡ row_in r n
     by n None = refl
-    by n (Some tenant) = get-rows numbers tenant.allocations n
+    by n (Some tenant) = get-rows numbers tenant.allocations.slots n
 
     stored : (key : Key) → allocation_at (world_of t) key ≡ rows_in (entries t.tenants) key
     stored key = ap (option_and_then (λ t. get t.allocations key.1)) (tenant_at t key.0) ∙ by key.1 (row_at t.tenants key.0)

@@ -47,7 +47,7 @@ pool_copied copy p pool release classes nodes = λ i. record {
 
 pub tenant_copied : (copy t : TenantRows) → copy.namespace ≡ t.namespace → copy.index ≡ t.index → copy.evaluation_number ≡ t.evaluation_number →
     copy.allocation_number ≡ t.allocation_number → rows copy.jobs ≡ rows t.jobs → rows copy.evaluations.slots ≡ rows t.evaluations.slots →
-    rows copy.allocations ≡ rows t.allocations → rows copy.workers ≡ rows t.workers → copy.events ≡ t.events → tenant_of copy ≡ tenant_of t
+    rows copy.allocations.slots ≡ rows t.allocations.slots → rows copy.workers ≡ rows t.workers → copy.events ≡ t.events → tenant_of copy ≡ tenant_of t
 tenant_copied copy t namespace index evaluation_number allocation_number jobs evaluations allocations workers events = λ i. record {
   namespace = namespace i;
   index = index i;

@@ -36,7 +36,7 @@ fn copied_evaluations(alloc: Global, table: &EvaluationTable) -> Result<Evaluati
 }
 
 fn copied_allocations(alloc: Global, table: &AllocationTable) -> Result<AllocationTable, AllocError>
-    ensures { IfOk result (λ copy. rows copy ≡ rows table.now) }
+    ensures { IfOk result (λ copy. rows copy.slots ≡ rows table.now.slots) }
 {
     let all = copied_numbers(alloc, table.rows())?;
     let mut copy = AllocationTable::new(alloc);

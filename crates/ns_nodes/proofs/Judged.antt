@@ -26,7 +26,7 @@ use Rattle.ns_change.specs.Changed.{change_pool}
 use Rattle.ns_nodes.specs.Losing.{is_live_at, loses, loss_passes, loss_passes_at, loss_passes_in, numbers_pass, numbers_pass_at, numbers_pass_in}
 use Rattle.ns_bounds.specs.Given.{left_quota_passes}
 use Rattle.ns_nodes.specs.Losing.{tenant_passes_at}
-use Rattle.ns_live.proofs.Sums.{looked}
+use Rattle.ns_world.proofs.Looked.{entries_looked}
 use Rattle.ns_nodes.proofs.Down.{down_node}
 use Rattle.ns_nodes.proofs.LossPast.{down_past, no_jobs}
 use Rattle.ns_bounds.specs.Bounds.{is_at_bound}
@@ -70,8 +70,7 @@ module _ (w : World) (pool node : Name) where
       numbers_by = ap (λ rows. nat_lt greatest (t.evaluation_number
           + length (values (from_entries {R = name_cmp} (map (λ (a : ℕ × Allocation). (a.1.job, a.1)) rows)))))
           (filter-retain numbers one_number (λ _ a. is_live_on pool node a) t.allocations (contains_key its) idle
-          ∙ ap (filter (λ (a : ℕ × Allocation). is_live_on pool node a.1)) (ap entries (looked numbers one_number t.allocations its)
-          ∙ entries-rows (table_of (λ n _. get t.allocations n) its) ∙ ap row_list (entries-table_of (λ n _. get t.allocations n) its)))
+          ∙ ap (filter (λ (a : ℕ × Allocation). is_live_on pool node a.1)) (entries_looked numbers one_number t.allocations its))
 
     slot_judged : (ns : Name) (slot : Option (ByNumber (Option Unit))) → get keys.numbers ns ≡ Some slot →
         option_map_or (tenant_passes ns) (get w.tenants ns) false ≡ loss_passes_at w pool node (ns, slot)

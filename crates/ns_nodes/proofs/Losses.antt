@@ -203,12 +203,12 @@ module _ (pool node : Name) where
       ∙ sym (get-table_of names one_name (λ _ a. Some a.0) (firsts slots) q))
 
   keys_at : (ns : Name) (x : TenantRows) → losing_keys_at pool node (ns, Some x) ≡ losing_keys_in pool node ns (tenant_of x)
-  keys_at ns x = ap (λ m. flat_map (key_at ns) (entries m)) (losing_is (entries x.allocations))
-      ∙ ap (flat_map (key_at ns)) (entries-table_of (λ _ a. Some a.0) (firsts (entries x.allocations)))
-      ∙ flat_map-map (key_at ns) (λ e. (e.0, Some e.1.0)) (entries (firsts (entries x.allocations)))
-      ∙ flat_map_single (λ (e : Name × (ℕ × Allocation)). (ns, e.1.0)) (entries (firsts (entries x.allocations)))
-      ∙ sym (map_map (λ a. (ns, a.0)) (λ (e : Name × (ℕ × Allocation)). e.1) (entries (firsts (entries x.allocations))))
-      ∙ ap (λ rows. map (λ (a : ℕ × Allocation). (ns, a.0)) (values (from_entries {R = name_cmp} (jobs_in rows)))) (sym (entries-rows x.allocations))
+  keys_at ns x = ap (λ m. flat_map (key_at ns) (entries m)) (losing_is (entries x.allocations.slots))
+      ∙ ap (flat_map (key_at ns)) (entries-table_of (λ _ a. Some a.0) (firsts (entries x.allocations.slots)))
+      ∙ flat_map-map (key_at ns) (λ e. (e.0, Some e.1.0)) (entries (firsts (entries x.allocations.slots)))
+      ∙ flat_map_single (λ (e : Name × (ℕ × Allocation)). (ns, e.1.0)) (entries (firsts (entries x.allocations.slots)))
+      ∙ sym (map_map (λ a. (ns, a.0)) (λ (e : Name × (ℕ × Allocation)). e.1) (entries (firsts (entries x.allocations.slots))))
+      ∙ ap (λ rows. map (λ (a : ℕ × Allocation). (ns, a.0)) (values (from_entries {R = name_cmp} (jobs_in rows)))) (sym (entries-rows x.allocations.slots))
 
   keys_by_slots : (slots : List (Name × Option TenantRows)) →
       flat_map (losing_keys_at pool node) slots ≡ flat_map (λ e. losing_keys_in pool node e.0 (tenant_of e.1)) (row_list slots)

@@ -77,7 +77,7 @@ key_at ns (job, Some n) = (ns, n) ∷ []
 abbrev pub losing_keys_at : Name → Name → Name × Option TenantRows → List Key
 losing_keys_at pool node (ns, None) = []
 losing_keys_at pool node (ns, Some t) =
-    flat_map (key_at ns) (entries (fold (with_losing pool node) empty (entries t.allocations)))
+    flat_map (key_at ns) (entries (fold (with_losing pool node) empty (entries t.allocations.slots)))
 
 -- ---- by the index of live allocations
 

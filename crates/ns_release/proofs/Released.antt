@@ -22,11 +22,11 @@ use Rattle.ns_world.specs.World.{quota_of, tenant_of, world_of}
 use Rattle.ns_world.proofs.World.{tenant_at}
 
 module _ (t : TenantRows) (n : ℕ) (row : Option Allocation) where
-  pub ended_by : (r : Option Allocation) → row_at t.allocations n ≡ r → (b : Bool) →
+  pub ended_by : (r : Option Allocation) → row_at t.allocations.slots n ≡ r → (b : Bool) →
       option_map_or (λ a. is_live a && not (option_map_or is_live row false)) r false ≡ b
       → ended_one (tenant_of t) n row ≡ (if b then ended_list (tenant_of t) r else [])
   ended_by r at b is = ap (λ r. option_map_or (λ a. if is_live a && not (option_map_or is_live row false) then (t.namespace, a) ∷ [] else []) r [])
-      (get-rows numbers t.allocations n ∙ at) ∙ by r is
+      (get-rows numbers t.allocations.slots n ∙ at) ∙ by r is
     where
       none : (b : Bool) → [] ≡ (if b then ended_list (tenant_of t) None else [])
       none true = refl

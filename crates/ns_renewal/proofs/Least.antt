@@ -168,6 +168,6 @@ module _ (t : Tables) (e : Eviction) where
       (tenant_at t e.namespace ∙ ap (option_map tenant_of) at)
 
   pub victim_there : (tenant : TenantRows) → row_at t.tenants e.namespace ≡ Some tenant →
-      victim_at (world_of t) e ≡ victim_of (row_at tenant.allocations e.number)
+      victim_at (world_of t) e ≡ victim_of (row_at tenant.allocations.slots e.number)
   victim_there tenant at = ap (λ o. victim_of (option_and_then (λ (t : Tenant). get t.allocations e.number) o))
-      (tenant_at t e.namespace ∙ ap (option_map tenant_of) at) ∙ ap victim_of (get-rows numbers tenant.allocations e.number)
+      (tenant_at t e.namespace ∙ ap (option_map tenant_of) at) ∙ ap victim_of (get-rows numbers tenant.allocations.slots e.number)

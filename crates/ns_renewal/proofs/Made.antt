@@ -152,18 +152,18 @@ module _ (trigger : Trigger) (t : Tables) (x : World) (key : Key) where
   nowhere at = ap (λ o. option_map_or (λ t. option_map_or (λ a. make key.0 (λ _. evaluation_for t a trigger) x) (get t.allocations key.1) x) o x)
       (tenant_at t key.0 ∙ ap (option_map tenant_of) at)
 
-  in_namespace : (tenant : TenantRows) (o : Option Allocation) → row_at t.tenants key.0 ≡ Some tenant → row_at tenant.allocations key.1 ≡ o →
+  in_namespace : (tenant : TenantRows) (o : Option Allocation) → row_at t.tenants key.0 ≡ Some tenant → row_at tenant.allocations.slots key.1 ≡ o →
       renewed trigger (world_of t) x key ≡ option_map_or (λ a. make key.0 (λ _. evaluation_for (tenant_of tenant) a trigger) x) o x
   in_namespace tenant o at row =
       ap (λ o. option_map_or (λ t. option_map_or (λ a. make key.0 (λ _. evaluation_for t a trigger) x) (get t.allocations key.1) x) o x)
       (tenant_at t key.0 ∙ ap (option_map tenant_of) at)
       ∙ ap (λ o. option_map_or (λ a. make key.0 (λ _. evaluation_for (tenant_of tenant) a trigger) x) o x)
-      (get-rows numbers tenant.allocations key.1 ∙ row)
+      (get-rows numbers tenant.allocations.slots key.1 ∙ row)
 
-  pub no_row : (tenant : TenantRows) → row_at t.tenants key.0 ≡ Some tenant → row_at tenant.allocations key.1 ≡ None →
+  pub no_row : (tenant : TenantRows) → row_at t.tenants key.0 ≡ Some tenant → row_at tenant.allocations.slots key.1 ≡ None →
       renewed trigger (world_of t) x key ≡ x
   no_row tenant at row = in_namespace tenant None at row
 
-  pub there : (tenant : TenantRows) (a : Allocation) → row_at t.tenants key.0 ≡ Some tenant → row_at tenant.allocations key.1 ≡ Some a →
+  pub there : (tenant : TenantRows) (a : Allocation) → row_at t.tenants key.0 ≡ Some tenant → row_at tenant.allocations.slots key.1 ≡ Some a →
       renewed trigger (world_of t) x key ≡ make key.0 (λ _. evaluation_for (tenant_of tenant) a trigger) x
   there tenant a at row = in_namespace tenant (Some a) at row

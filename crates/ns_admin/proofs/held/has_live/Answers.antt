@@ -3,4 +3,4 @@ use Rattle.ns_admin.proofs.Holdings.{by_slots}
 use Rattle.ns_admin.proofs.held.has_live.Goals as goal
 
 pub returns : goal.returns
-returns c = by_slots (λ _ a. is_live a) c.args.tenant.now.allocations _ _ c.as_slice.ensures c.any_lives.ensures
+returns c = by_slots (λ _ a. is_live a) c.args.tenant.now.allocations.slots _ _ c.as_slice.ensures c.any_lives.ensures

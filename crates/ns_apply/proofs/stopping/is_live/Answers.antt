@@ -7,8 +7,8 @@ use Rattle.ns_apply.proofs.stopping.is_live.Goals as goal
 
 pub returns-in-Some : goal.returns-in-Some
 returns-in-Some c = c.is_live.ensures ∙ sym (ap (λ r. option_map_or is_live r false)
-    (get-rows numbers c.args.tenant.now.allocations c.args.number ∙ sym c.get.ensures ∙ ap option_copied c.in-Some.is))
+    (get-rows numbers c.args.tenant.now.allocations.slots c.args.number ∙ sym c.get.ensures ∙ ap option_copied c.in-Some.is))
 
 pub returns-in-None : goal.returns-in-None
 returns-in-None c = sym (ap (λ r. option_map_or is_live r false)
-    (get-rows numbers c.args.tenant.now.allocations c.args.number ∙ sym c.get.ensures ∙ ap option_copied c.in-None.is))
+    (get-rows numbers c.args.tenant.now.allocations.slots c.args.number ∙ sym c.get.ensures ∙ ap option_copied c.in-None.is))

@@ -7,8 +7,8 @@ use Rattle.ns_nodes.proofs.bounds.is_live_at.Goals as goal
 
 pub returns-in-Some : goal.returns-in-Some
 returns-in-Some c = c.is_live_on.ensures ∙ sym (ap (λ o. option_map_or (is_live_on c.args.pool.now c.args.node.now) o false)
-    (get-rows numbers c.args.tenant.now.allocations c.args.slot.now.0 ∙ sym c.get.ensures ∙ ap option_copied c.in-Some.is))
+    (get-rows numbers c.args.tenant.now.allocations.slots c.args.slot.now.0 ∙ sym c.get.ensures ∙ ap option_copied c.in-Some.is))
 
 pub returns-in-None : goal.returns-in-None
 returns-in-None c = sym (ap (λ o. option_map_or (is_live_on c.args.pool.now c.args.node.now) o false)
-    (get-rows numbers c.args.tenant.now.allocations c.args.slot.now.0 ∙ sym c.get.ensures ∙ ap option_copied c.in-None.is))
+    (get-rows numbers c.args.tenant.now.allocations.slots c.args.slot.now.0 ∙ sym c.get.ensures ∙ ap option_copied c.in-None.is))

@@ -18,9 +18,9 @@ returns-in-Some c =
     c.is_last.ensures
     ∙ ap (λ b. is_live_on pool node row && not b) (sym (any_map (is_losing pool node row.job) (looked t) c.args.later.now))
     ∙ sym (ap (λ o. is_last_of_job pool node (c.args.slot.now.0, o) (map (looked t) c.args.later.now))
-    (get-rows numbers c.args.tenant.now.allocations c.args.slot.now.0 ∙ sym c.get.ensures ∙ ap option_copied c.in-Some.is))
+    (get-rows numbers c.args.tenant.now.allocations.slots c.args.slot.now.0 ∙ sym c.get.ensures ∙ ap option_copied c.in-Some.is))
 
 pub returns-in-None : goal.returns-in-None
 returns-in-None c = sym (ap (λ o. is_last_of_job c.args.pool.now c.args.node.now (c.args.slot.now.0, o)
     (map (looked (tenant_of c.args.tenant.now)) c.args.later.now))
-    (get-rows numbers c.args.tenant.now.allocations c.args.slot.now.0 ∙ sym c.get.ensures ∙ ap option_copied c.in-None.is))
+    (get-rows numbers c.args.tenant.now.allocations.slots c.args.slot.now.0 ∙ sym c.get.ensures ∙ ap option_copied c.in-None.is))

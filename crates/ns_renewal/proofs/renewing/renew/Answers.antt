@@ -14,7 +14,7 @@ returns-in_default c = sym (nowhere c.args.trigger c.args.tables.now (view c.arg
 pub returns-in_default-get : goal.returns-in_default-get
 returns-in_default-get c = sym (no_row c.args.trigger c.args.tables.now (view c.args.tables.now c.args.change.now) c.args.key.now c.in-Some.tenant.now
     (ap (row_at c.args.tables.now.tenants) (sym c.namespace.ensures) ∙ sym c.get.ensures ∙ ap option_copied c.in-Some.is)
-    (ap (row_at c.in-Some.tenant.now.allocations) (sym c.number.ensures) ∙ sym c.get-2.ensures ∙ ap option_copied c.in_default-get.is))
+    (ap (row_at c.in-Some.tenant.now.allocations.slots) (sym c.number.ensures) ∙ sym c.get-2.ensures ∙ ap option_copied c.in_default-get.is))
 
 pub returns : goal.returns
 returns c =
@@ -23,5 +23,5 @@ returns c =
     ((λ i. make (c.namespace-2.ensures i) (λ _. c.in_ok-evaluation.ensures i) x)
     ∙ sym (there c.args.trigger c.args.tables.now x c.args.key.now c.in-Some.tenant.now c.in-Some-get.ended.now
     (ap (row_at c.args.tables.now.tenants) (sym c.namespace.ensures) ∙ sym c.get.ensures ∙ ap option_copied c.in-Some.is)
-    (ap (row_at c.in-Some.tenant.now.allocations) (sym c.number.ensures) ∙ sym c.get-2.ensures ∙ ap option_copied c.in-Some-get.is)))
+    (ap (row_at c.in-Some.tenant.now.allocations.slots) (sym c.number.ensures) ∙ sym c.get-2.ensures ∙ ap option_copied c.in-Some-get.is)))
     c.make.ensures
