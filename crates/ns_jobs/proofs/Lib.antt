@@ -1,4 +1,5 @@
 pub mod Asked
+pub mod Listed
 pub mod Past
 pub mod Prepared
 pub mod Releasing

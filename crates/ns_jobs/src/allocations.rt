@@ -1,14 +1,16 @@
 //! Allocations as replies show them.
 
-ghost use Rattle.std.specs.Prelude.{◌≡◌, IfOk};
+ghost use Rattle.std.specs.Prelude.{◌≡◌, [], ◌∷◌, ◌++◌, IfOk, OnOk, option_copied};
+ghost use Rattle.std.specs.FinMap.{entries};
 ghost use Rattle.ns_types.specs.declared.step.AskCommand.TheVariants as AskCommand;
 ghost use Rattle.ns_types.specs.Asking.Reads.{allocations_where};
 ghost use Rattle.ns_types.specs.State.Names.{Name};
 ghost use Rattle.ns_jobs.specs.Read.{SaysIn, allocations_shown, lists_allocation};
+ghost use Rattle.ns_world.specs.JobTables.{slots_at};
 ghost use Rattle.ns_world.specs.World.{tenant_of};
 
-use crate::jobs::AllocationSlot;
 use crate::looking::{self, id_begins};
+use keyed::NumberTable;
 use ns_alike::same_text;
 use ns_change::copied_allocation;
 use ns_types::allocation::Allocation;
@@ -20,6 +22,9 @@ use ns_types::step::AskCommand;
 use ns_types::text::Text;
 use ns_world::TenantRows;
 use std::alloc::{AllocError, Global};
+
+/// An allocation with its number, or a vacant slot.
+type AllocationSlot = (u64, Option<Allocation>);
 
 fn allocation_shown(
     namespace: &Text,
@@ -47,7 +52,26 @@ fn lists_allocation(command: &AskCommand, number: u64, row: &Allocation) -> bool
     }
 }
 
-/// Those that the command lists, by number.
+/// With the row, if the command lists it.
+fn add_listed(
+    listed: &mut Rows<AllocationShown>,
+    namespace: &Text,
+    command: &AskCommand,
+    number: u64,
+    row: Option<&Allocation>,
+) -> Result<(), AllocError>
+    ensures { OnOk result (listed.new ≡ listed.old ++ allocations_shown namespace.now command.now
+        ((number, option_copied row.entry) ∷ [])) }
+{
+    if let Some(row) = row {
+        if lists_allocation(command, number, row) {
+            listed.push(allocation_shown(namespace, number, row)?)?;
+        }
+    }
+    Ok(())
+}
+
+/// Those of the slots that the command lists.
 fn allocations_shown(
     alloc: Global,
     namespace: &Text,
@@ -58,16 +82,51 @@ fn allocations_shown(
         (λ shown. shown ≡ allocations_shown namespace.now command.now slots.now) }
 {
     let mut listed = Rows::new(alloc);
-    let mut rest = slots;
-    while let Some(((number, row), others)) = rest.split_first() {
-        if let Some(row) = row {
-            if lists_allocation(command, *number, row) {
-                listed.push(allocation_shown(namespace, *number, row)?)?;
-            }
-        }
-        rest = others;
+    for slot in slots {
+        add_listed(&mut listed, namespace, command, slot.0, slot.1.as_ref())?;
     }
     Ok(listed)
+}
+
+/// Those at the numbers.
+fn shown_at_numbers(
+    alloc: Global,
+    namespace: &Text,
+    command: &AskCommand,
+    allocations: &NumberTable<Allocation>,
+    slots: &[(u64, Option<()>)],
+) -> Result<Rows<AllocationShown>, AllocError>
+    ensures { IfOk result (λ shown. shown ≡ allocations_shown namespace.now command.now
+        (slots_at allocations.now slots.now)) }
+{
+    let mut listed = Rows::new(alloc);
+    for slot in slots {
+        let row = allocations.get(slot.0);
+        add_listed(&mut listed, namespace, command, slot.0, row)?;
+    }
+    Ok(listed)
+}
+
+/// Those that the command lists, by number. For those of a job only the job's own numbers are looked up.
+fn listed_allocations(
+    alloc: Global,
+    namespace: &Text,
+    tenant: &TenantRows,
+    command: &AskCommand,
+) -> Result<Rows<AllocationShown>, AllocError>
+    ensures { IfOk result (λ shown. shown
+        ≡ allocations_shown namespace.now command.now (entries tenant.now.allocations.slots)) }
+{
+    let AskCommand::JobAllocations(job) = command else {
+        return allocations_shown(alloc, namespace, command, tenant.allocations.as_slice());
+    };
+    match tenant.allocations.numbers_of(job) {
+        Some(numbers) => {
+            let allocations = tenant.allocations.rows();
+            shown_at_numbers(alloc, namespace, command, allocations, numbers.as_slice())
+        }
+        None => Ok(Rows::new(alloc)),
+    }
 }
 
 /// What the read of an allocation says.
@@ -95,6 +154,6 @@ pub(crate) fn list_allocations(
     ensures { let t = tenant_of tenant.now in IfOk result
         (λ said. said ≡ allocations_where namespace.now t (lists_allocation command.now)) }
 {
-    let shown = allocations_shown(alloc, namespace, command, tenant.allocations.as_slice())?;
+    let shown = listed_allocations(alloc, namespace, tenant, command)?;
     Ok(Content::Allocations(shown))
 }

@@ -1,16 +1,19 @@
 //! Jobs as replies show them, with their statuses.
 
-ghost use Rattle.std.specs.Prelude.{◌≡◌, ◌&&◌, IfOk};
+ghost use Rattle.std.specs.Prelude.{◌≡◌, ◌&&◌, false, IfOk};
 ghost use Rattle.std.specs.List.{list_any};
-ghost use Rattle.keyed.specs.Table.{at_slot};
+ghost use Rattle.std.specs.Option.{option_map_or};
+ghost use Rattle.keyed.specs.Table.{row_at};
 ghost use Rattle.ns_types.specs.declared.step.AskCommand.TheVariants as AskCommand;
 ghost use Rattle.ns_types.specs.Asking.Reads.{job_shown, job_status};
 ghost use Rattle.ns_types.specs.State.Names.{same_name};
 ghost use Rattle.ns_types.specs.State.Rows.{is_live};
+ghost use Rattle.ns_types.specs.State.Tables.{any_row};
 ghost use Rattle.ns_jobs.specs.Read.{SaysIn, jobs_shown};
 ghost use Rattle.ns_world.specs.World.{tenant_of};
 
 use crate::looking::{self, begins};
+use keyed::NumberTable;
 use ns_alike::same_text;
 use ns_types::allocation::Allocation;
 use ns_types::job::Job;
@@ -21,23 +24,36 @@ use ns_types::text::Text;
 use ns_world::TenantRows;
 use std::alloc::{AllocError, Global};
 
-/// An allocation with its number, or a vacant slot.
-pub(crate) type AllocationSlot = (u64, Option<Allocation>);
-
-fn is_live_of(slot: &AllocationSlot, id: &Text) -> bool
-    ensures { result ≡ at_slot (λ e. same_name id.now e.1.job && is_live e.1) slot.now }
+fn is_live_at(allocations: &NumberTable<Allocation>, id: &Text, number: u64) -> bool
+    ensures { result ≡ option_map_or (λ a. same_name id.now a.job && is_live a)
+        (row_at allocations.now number) false }
 {
-    match &slot.1 {
+    match allocations.get(number) {
         Some(allocation) => same_text(id, &allocation.job) && allocation.is_live(),
         None => false,
     }
 }
 
-fn any_live_of(slots: &[AllocationSlot], id: &Text) -> bool
-    ensures { result
-        ≡ list_any (at_slot (λ e. same_name id.now e.1.job && is_live e.1)) slots.now }
+fn any_live_at(
+    allocations: &NumberTable<Allocation>,
+    id: &Text,
+    slots: &[(u64, Option<()>)],
+) -> bool
+    ensures { result ≡ list_any (λ slot. option_map_or (λ a. same_name id.now a.job && is_live a)
+        (row_at allocations.now slot.0) false) slots.now }
 {
-    slots.iter().any(|slot| is_live_of(slot, id))
+    slots.iter().any(|slot| is_live_at(allocations, id, slot.0))
+}
+
+/// Whether the job has a live allocation. Only the job's own numbers are looked up.
+fn any_live_of(tenant: &TenantRows, id: &Text) -> bool
+    ensures { result
+        ≡ any_row (λ _ a. same_name id.now a.job && is_live a) (tenant_of tenant.now).allocations }
+{
+    match tenant.allocations.numbers_of(id) {
+        Some(numbers) => any_live_at(tenant.allocations.rows(), id, numbers.as_slice()),
+        None => false,
+    }
 }
 
 /// Dead if it is stopped, running if it has a live allocation, otherwise pending.
@@ -46,7 +62,7 @@ fn job_status(tenant: &TenantRows, id: &Text, job: &Job) -> JobStatus
 {
     if job.stop {
         JobStatus::Dead
-    } else if any_live_of(tenant.allocations.as_slice(), id) {
+    } else if any_live_of(tenant, id) {
         JobStatus::Running
     } else {
         JobStatus::Pending

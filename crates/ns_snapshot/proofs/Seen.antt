@@ -12,13 +12,14 @@ use Rattle.ns_types.specs.declared.allocation.Allocation.{Allocation}
 use Rattle.ns_types.specs.declared.job.Job.{Job}
 use Rattle.ns_types.specs.declared.node.Node.{Node}
 use Rattle.ns_types.specs.declared.snapshot.LiveAllocation.{LiveAllocation}
+use Rattle.ns_types.specs.declared.snapshot.OwnAllocation.{OwnAllocation}
 use Rattle.ns_types.specs.declared.snapshot.PoolNode.{PoolNode}
 use Rattle.ns_types.specs.State.Names.{Key, Name, ByNumber}
 use Rattle.ns_types.specs.State.Rows.{World, Tenant, allocation_at, is_live_on, node_at}
 use Rattle.ns_types.specs.State.Sums.{names_quota}
 use Rattle.ns_types.specs.State.Tables.{table_of}
 use Rattle.ns_types.specs.Working.Snapshot.{live_on, namespaces_naming, nodes_of, own_allocations, seen_live}
-use Rattle.ns_types.proofs.Named.{names, numbers, one_name, one_number}
+use Rattle.ns_types.proofs.Named.{first_of_both, names, numbers, one_name, one_number, same_name_is}
 use Rattle.ns_types.proofs.TableRows.{entries_empty}
 use Rattle.ns_types.proofs.Tables.{each_row, entries-table_of, get-table_of, tied}
 use Rattle.ns_types.proofs.Tests.{same_Some}
@@ -26,7 +27,10 @@ use Rattle.ns_world.specs.declared.tables.PoolRows.{PoolRows as StoredPool}
 use Rattle.ns_world.specs.declared.tables.Tables.{Tables}
 use Rattle.ns_world.specs.declared.tables.TenantRows.{TenantRows}
 use Rattle.ns_world.specs.World.{pool_of, tenant_of, world_of}
+use Rattle.ns_world.proofs.JobRows.{none_passing, passing_at}
 use Rattle.ns_world.proofs.World.{pool_at, tenant_at}
+use Rattle.ns_world.specs.Allocations.{job_of}
+use Rattle.ns_world.specs.JobTables.{HasNumbersOf, slots_at}
 use Rattle.keyed.specs.Levels.{holds_key}
 use Rattle.keyed.specs.declared.key_set.KeySet.{KeySet}
 use Rattle.ns_live.specs.Listed.{found_at, keys_in}
@@ -54,10 +58,23 @@ module _ {K X Y : Type 0} (g : K × Option X → List Y) (p : K × X → Bool) (
       by true = refl
       by false = refl
 
-pub own_is : (x : TenantRows) (id : Name) (job : Option Job) → flat_map (own_at id job) (entries x.allocations) ≡ own_allocations (tenant_of x) id job
-own_is x id job = flat_shown (own_at id job) (λ a. is_own id job a.1) (λ a. record { number = a.0; row = a.1 }) (λ n. refl) (λ n a. refl)
-    (entries x.allocations)
-    ∙ ap (λ es. map (λ a. record { number = a.0; row = a.1 }) (filter (λ a. is_own id job a.1) es)) (sym (entries-rows x.allocations))
+-- ---- the job's own allocations, by its numbers
+
+module _ (x : TenantRows) (id : Name) (job : Option Job) where
+  abbrev own_rows : List (ℕ × Allocation) → List OwnAllocation
+  own_rows es = map (λ a. record { number = a.0; row = a.1 }) es
+
+  own_names : (n : ℕ) (a : Allocation) → is_own id job a ≡ true → job_of a ≡ id
+  own_names n a own = sym (same_name_is id a.job (first_of_both _ _ own))
+
+  pub own_is : (m : ByNumber (Option Unit)) → HasNumbersOf job_of id x.allocations.slots (Some m) →
+      flat_map (own_at id job) (slots_at x.allocations.slots (entries m)) ≡ own_allocations (tenant_of x) id job
+  own_is m has = flat_shown (own_at id job) (λ a. is_own id job a.1) (λ a. record { number = a.0; row = a.1 }) (λ n. refl) (λ n a. refl)
+      (slots_at x.allocations.slots (entries m))
+      ∙ ap own_rows (passing_at job_of id x.allocations.slots (λ _ a. is_own id job a) own_names m has)
+
+  pub own_none : HasNumbersOf job_of id x.allocations.slots None → own_allocations (tenant_of x) id job ≡ []
+  own_none has = ap own_rows (none_passing job_of id x.allocations.slots (λ _ a. is_own id job a) own_names has)
 
 naming_shown : (quota : Name) (slots : List (Name × Option TenantRows)) → flat_map (naming quota) slots
     ≡ map (λ t. t.0) (filter (λ (t : Name × Tenant). names_quota quota t.1.namespace) (map (λ e. (e.0, tenant_of e.1)) (row_list slots)))
@@ -203,21 +220,21 @@ module _ (t : Tables) where
   abbrev look : Key → Option Allocation
   look = allocation_at (world_of t)
 
-  looked : (ns : Name) (x : TenantRows) (n : ℕ) → row_at t.tenants ns ≡ Some x → look (ns, n) ≡ row_at x.allocations n
+  looked : (ns : Name) (x : TenantRows) (n : ℕ) → row_at t.tenants ns ≡ Some x → look (ns, n) ≡ row_at x.allocations.slots n
   looked ns x n is = ap (option_and_then (λ (y : Tenant). get y.allocations n)) (tenant_at t ns ∙ ap (option_map tenant_of) is)
-      ∙ get-rows numbers x.allocations n
+      ∙ get-rows numbers x.allocations.slots n
 
   abbrev keys_from : Name → List (ℕ × Option Unit) → List Key
   keys_from ns slots = map (λ n. (ns, n)) (map (λ (e : ℕ × Unit). e.0) (row_list slots))
 
   numbers_filled : (ns : Name) (x : TenantRows) → row_at t.tenants ns ≡ Some x
       → (slots : List (ℕ × Option Unit)) (rest : List Key) (m : ByNumber LiveAllocation) →
-      fold add_seen (fold (add_number ns x.allocations) m slots) (map placed (found_at look rest)) ≡ fold add_seen m (map placed (found_at look
+      fold add_seen (fold (add_number ns x.allocations.slots) m slots) (map placed (found_at look rest)) ≡ fold add_seen m (map placed (found_at look
       (keys_from ns slots ++ rest)))
   numbers_filled ns x is [] rest m = refl
   numbers_filled ns x is ((n, None) ∷ slots) rest m = numbers_filled ns x is slots rest m
-  numbers_filled ns x is ((n, Some key) ∷ slots) rest m = numbers_filled ns x is slots rest (add_number ns x.allocations m (n, Some key))
-      ∙ by (row_at x.allocations n) ∙ ap (λ r. fold add_seen m (map placed (with_row (ns, n) r (found_at look (keys_from ns slots ++ rest))))) (sym
+  numbers_filled ns x is ((n, Some key) ∷ slots) rest m = numbers_filled ns x is slots rest (add_number ns x.allocations.slots m (n, Some key))
+      ∙ by (row_at x.allocations.slots n) ∙ ap (λ r. fold add_seen m (map placed (with_row (ns, n) r (found_at look (keys_from ns slots ++ rest))))) (sym
       (looked ns x n is))
     where
       by : (r : Option Allocation) → fold add_seen (option_map_or (λ a. add_seen m (seen_row ns n a)) r m) (map placed (found_at look
@@ -241,7 +258,7 @@ module _ (t : Tables) where
   namespaces_filled ((ns, Some held) ∷ slots) m = namespaces_filled slots (add_namespace t.tenants m (ns, Some held)) ∙ by (row_at t.tenants ns) refl
     where
       by : (r : Option TenantRows) → row_at t.tenants ns ≡ r →
-          fold add_seen (option_map_or (λ x. fold (add_number ns x.allocations) m (entries held)) r m) (map placed (found_at look (flat_map keys_of
+          fold add_seen (option_map_or (λ x. fold (add_number ns x.allocations.slots) m (entries held)) r m) (map placed (found_at look (flat_map keys_of
           (row_list slots))))
           ≡ fold add_seen m (map placed (found_at look (keys_of (ns, held) ++ flat_map keys_of (row_list slots))))
       by None is = ap (λ l. fold add_seen m (map placed l)) (sym (nowhere ns is (keys (rows held)) (flat_map keys_of (row_list slots))))

@@ -46,7 +46,7 @@ abbrev pub add_namespace : ByName (Option TenantRows) → ByNumber LiveAllocatio
     Name × Option (ByNumber (Option Unit)) → ByNumber LiveAllocation
 add_namespace tenants seen (ns, None) = seen
 add_namespace tenants seen (ns, Some numbers) =
-    option_map_or (λ t. fold (add_number ns t.allocations) seen (entries numbers)) (row_at tenants ns) seen
+    option_map_or (λ t. fold (add_number ns t.allocations.slots) seen (entries numbers)) (row_at tenants ns) seen
 
 -- ---- the nodes of a pool
 

@@ -4,8 +4,10 @@ ghost use Rattle.std.specs.Prelude.{◌≡◌, ◌++◌, IfOk, OnOk, flat_map, o
 ghost use Rattle.ns_types.specs.State.Rows.{is_done};
 ghost use Rattle.ns_types.specs.Working.Snapshot.{is_done_for, own_allocations};
 ghost use Rattle.ns_snapshot.specs.Seen.{is_own, own_at};
+ghost use Rattle.ns_world.specs.JobTables.{slots_at};
 ghost use Rattle.ns_world.specs.World.{tenant_of};
 
+use keyed::NumberTable;
 use ns_alike::{same_number, same_text};
 use ns_change::copied_allocation;
 use ns_types::allocation::{Allocation, ClientStatus, DesiredStatus};
@@ -15,9 +17,6 @@ use ns_types::snapshot::OwnAllocation;
 use ns_types::text::Text;
 use ns_world::TenantRows;
 use std::alloc::{AllocError, Global};
-
-/// An allocation with its number, or a vacant slot.
-type AllocationSlot = (u64, Option<Allocation>);
 
 fn is_done(row: &Allocation) -> bool
     ensures { result ≡ is_done row.now }
@@ -47,14 +46,16 @@ fn add_own(
     own: &mut Rows<OwnAllocation>,
     id: &Text,
     job: Option<&Job>,
-    slot: &AllocationSlot,
+    number: u64,
+    row: Option<&Allocation>,
 ) -> Result<(), AllocError>
-    ensures { OnOk result (own.new ≡ own.old ++ own_at id.now (option_copied job.entry) slot.now) }
+    ensures { OnOk result (own.new
+        ≡ own.old ++ own_at id.now (option_copied job.entry) (number, option_copied row.entry)) }
 {
-    if let Some(row) = &slot.1 {
+    if let Some(row) = row {
         if is_own(id, job, row) {
             own.push(OwnAllocation {
-                number: slot.0,
+                number,
                 row: copied_allocation(row)?,
             })?;
         }
@@ -62,23 +63,25 @@ fn add_own(
     Ok(())
 }
 
-fn own_in(
+/// Those at the numbers.
+fn own_at_numbers(
     alloc: Global,
     id: &Text,
     job: Option<&Job>,
-    slots: &[AllocationSlot],
+    allocations: &NumberTable<Allocation>,
+    slots: &[(u64, Option<()>)],
 ) -> Result<Rows<OwnAllocation>, AllocError>
-    ensures { IfOk result
-        (λ own. own ≡ flat_map (own_at id.now (option_copied job.entry)) slots.now) }
+    ensures { IfOk result (λ own. own ≡ flat_map (own_at id.now (option_copied job.entry))
+        (slots_at allocations.now slots.now)) }
 {
     let mut own = Rows::new(alloc);
     for slot in slots {
-        add_own(&mut own, id, job, slot)?;
+        add_own(&mut own, id, job, slot.0, allocations.get(slot.0))?;
     }
     Ok(own)
 }
 
-/// Those that are live or done, by number.
+/// Those that are live or done, by number. Only the job's own numbers are looked up.
 pub(crate) fn own_allocations(
     alloc: Global,
     tenant: &TenantRows,
@@ -88,5 +91,11 @@ pub(crate) fn own_allocations(
     ensures { IfOk result (λ own. own
         ≡ own_allocations (tenant_of tenant.now) id.now (option_copied job.entry)) }
 {
-    own_in(alloc, id, job, tenant.allocations.as_slice())
+    match tenant.allocations.numbers_of(id) {
+        Some(numbers) => {
+            let allocations = tenant.allocations.rows();
+            own_at_numbers(alloc, id, job, allocations, numbers.as_slice())
+        }
+        None => Ok(Rows::new(alloc)),
+    }
 }

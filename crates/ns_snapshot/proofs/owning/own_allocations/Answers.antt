@@ -1,10 +1,22 @@
 use Rattle.std.specs.Option.{option_copied}
 use Rattle.std.specs.Prelude.{flat_map}
-use Rattle.std.proofs.Common.{ap, ◌∙◌}
+use Rattle.std.proofs.Common.{ap, subst, sym, ◌∙◌}
 use Rattle.ns_snapshot.specs.Seen.{own_at}
-use Rattle.ns_snapshot.proofs.Seen.{ok_as, own_is}
+use Rattle.ns_snapshot.proofs.Seen.{ok_as, own_is, own_none}
 use Rattle.ns_snapshot.proofs.owning.own_allocations.Goals as goal
+use Rattle.ns_world.specs.Allocations.{job_of}
+use Rattle.ns_world.specs.JobTables.{HasNumbersOf, slots_at}
 
-pub returns : goal.returns
-returns c = ok_as c.own_in.result _ _ (ap (flat_map (own_at c.args.id.now (option_copied c.args.job))) c.as_slice.ensures
-    ∙ own_is c.args.tenant.now c.args.id.now (option_copied c.args.job)) c.own_in.ensures
+pub returns-in-Some : goal.returns-in-Some
+returns-in-Some c =
+    let x = c.args.tenant.now in
+    ok_as c.own_at_numbers.result _ _
+    ((λ i. flat_map (own_at c.args.id.now (option_copied c.args.job)) (slots_at (c.rows-allocations.ensures i) (c.as_slice.ensures i)))
+    ∙ own_is x c.args.id.now (option_copied c.args.job) c.in-Some.numbers.now
+    (subst (HasNumbersOf job_of c.args.id.now x.allocations.slots) (ap option_copied c.in-Some.is) c.numbers_of.ensures)) c.own_at_numbers.ensures
+
+pub returns-in-None : goal.returns-in-None
+returns-in-None c =
+    let x = c.args.tenant.now in
+    c.new.ensures ∙ sym (own_none x c.args.id.now (option_copied c.args.job)
+    (subst (HasNumbersOf job_of c.args.id.now x.allocations.slots) (ap option_copied c.in-None.is) c.numbers_of.ensures))
