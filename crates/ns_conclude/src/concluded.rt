@@ -6,6 +6,7 @@ ghost use Rattle.ns_types.specs.Steps.{is_past_bound};
 ghost use Rattle.ns_change.specs.Changed.{view};
 ghost use Rattle.ns_conclude.specs.Concludes.{Concludes};
 ghost use Rattle.ns_live.specs.Index.{IsRight, KeepsKeys};
+ghost use Rattle.ns_settle.specs.Waking.{ListsBlocked};
 ghost use Rattle.ns_world.specs.World.{world_of};
 
 use ns_bounds::is_past_bound;
@@ -19,7 +20,9 @@ use std::alloc::AllocError;
 
 /// All that the step changes goes into the tables, or nothing. Want of memory is the only error.
 fn make(tables: &mut Tables, live: &mut Live, change: Change) -> Result<(), AllocError>
-    requires { is_past_bound (settle (world_of tables.old) (view tables.old change)) ≡ false }
+    requires listed { ListsBlocked (world_of tables.old) }
+    requires within { is_past_bound (settle (world_of tables.old) (view tables.old change))
+        ≡ false }
     ensures ok { OnOk result (world_of tables.new
         ≡ settle (world_of tables.old) (view tables.old change)) }
     ensures index { IsRight (world_of tables.old) live.old →
@@ -35,7 +38,8 @@ fn make(tables: &mut Tables, live: &mut Live, change: Change) -> Result<(), Allo
 /// changes nothing. `Full`: a counter would pass its bound, which is judged without memory. `Memory`, which comes last: the
 /// step would have been made.
 pub fn conclude(tables: &mut Tables, live: &mut Live, change: Change) -> Result<(), Refusal>
-    requires { is_past_bound (world_of tables.old) ≡ false }
+    requires listed { ListsBlocked (world_of tables.old) }
+    requires within { is_past_bound (world_of tables.old) ≡ false }
     ensures world { Concludes (world_of tables.old) (view tables.old change) result
         (world_of tables.new) }
     ensures index { IsRight (world_of tables.old) live.old →

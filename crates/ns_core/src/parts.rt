@@ -1,9 +1,10 @@
 //! All that a core holds: the access lists, the tables of the whole world, and the index of live allocations, with the nodes
 //! that snapshots share.
 
-ghost use Rattle.std.specs.Prelude.{◌≡◌, IfOk, None, false, option_map};
+ghost use Rattle.std.specs.Prelude.{◌≡◌, IfOk, None, option_map};
 ghost use Rattle.std.specs.FinMap.{get};
-ghost use Rattle.ns_types.specs.Steps.{is_past_bound, opening};
+ghost use Rattle.ns_types.specs.Steps.{opening};
+ghost use Rattle.ns_types.specs.Validity.{IsValid};
 ghost use Rattle.ns_core.specs.Answering.{MakesPrepared};
 ghost use Rattle.ns_core.specs.Held.{IsIndexed};
 ghost use Rattle.ns_core.specs.Viewed.{state_of, world_of};
@@ -40,7 +41,7 @@ impl Parts {
 
     /// Settles what was prepared for a step, or leaves the parts as they are.
     pub fn make(&mut self, prepared: Result<Prepared, Refusal>) -> Result<Content, Refusal>
-        requires { is_past_bound (world_of self.old) ≡ false }
+        requires { IsValid (state_of self.old) }
         ensures made { MakesPrepared prepared self.old result self.new }
         ensures index { IsIndexed self.old → IsIndexed self.new }
     {

@@ -4,7 +4,14 @@ use Rattle.ns_change.specs.Changed.{view}
 use Rattle.ns_conclude.proofs.Concluding.{makes}
 use Rattle.ns_core.specs.Answering.{PreparesStep}
 use Rattle.ns_core.specs.Viewed.{state_of, world_of}
+use Rattle.ns_core.proofs.Keeping.{lists_blocked, within}
 use Rattle.ns_core.proofs.parts.Parts.make.Goals as goal
+
+pub conclude-requires-clause-listed : goal.conclude-requires-clause-listed
+conclude-requires-clause-listed c = lists_blocked (state_of c.args.self.now) c.requires
+
+pub conclude-requires-clause-within : goal.conclude-requires-clause-within
+conclude-requires-clause-within c = within (state_of c.args.self.now) c.requires
 
 pub returns-in-Err-clause-made : goal.returns-in-Err-clause-made
 returns-in-Err-clause-made c = λ step allowed prepares.

@@ -4,11 +4,10 @@ use Rattle.std.proofs.lemmas.Result.{err_from_is_err_and}
 use Rattle.ns_types.specs.declared.step.Step.TheVariants as Step
 use Rattle.ns_types.specs.Steps.{said}
 use Rattle.ns_core.specs.Viewed.{state_of}
-use Rattle.ns_core.proofs.Keeping.{within}
 use Rattle.ns_core.proofs.parts.Parts.write.Goals as goal
 
 pub make-requires : goal.make-requires
-make-requires c = within (state_of c.args.self.now) c.requires.valid
+make-requires c = c.requires.valid
 
 pub returns-clause-made : goal.returns-clause-made
 returns-clause-made c = λ secret allowed. c.in_ok-content.ensures.made (Step.Ask c.args.namespace.now secret c.args.command.now) allowed
