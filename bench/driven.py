@@ -3,6 +3,7 @@
     python3 bench/driven.py place              100 jobs of 1,000 allocations over 1,000 nodes
     python3 bench/driven.py preempt            8 jobs that fill 1,000 nodes, and 2 that take half of that
     python3 bench/driven.py beside             500 jobs of one allocation, beside 0 and 100,000 of another namespace of its quota
+    python3 bench/driven.py blocked            500 jobs of one allocation, placed and then stopped, beside 0 and 10,000 blocked ones
     python3 bench/driven.py place 10           another number of jobs
     python3 bench/driven.py place 10 --show    prints the requests, and runs nothing
 
@@ -146,6 +147,25 @@ def beside(server, number):
     return server.used("own") == few * MHZ and server.used("other") == others * MHZ
 
 
+def blocked(server, number):
+    """Jobs of one namespace, on one node, beside so many thousand blocked ones of others, which wait in another pool. Each stop
+    gives room in the pool of the first. It answers whether all were placed, and stopped, and nobody else was."""
+    few = 500
+    server.ask(tenants())
+    server.ask([request("PUT", "/v1/node/pool/own/node/n", {"CPU": few * MHZ, "MemoryMB": few * MHZ})])
+    for other in range(number):
+        configuration = {"Default": "other", "Allowed": ["other"]}
+        namespace = {"Name": f"wait-{other}", "NodePoolConfiguration": configuration}
+        server.ask([request("PUT", "/v1/namespace", namespace)])
+        server.ask(jobs("wait", 1_000, 20, 1, f"wait-{other}", 1))
+    seconds = server.timed(jobs("one", few, 20, 1, "own", 1))
+    placed = server.used("own") == few * MHZ
+    told(f"jobs beside {number * 1_000} blocked ones", few, seconds)
+    stops = [request("DELETE", f"/v1/job/one-{job}?namespace=own") for job in range(few)]
+    told(f"stops beside {number * 1_000} blocked ones", few, server.timed(stops))
+    return placed and server.used("own") == 0
+
+
 def inputs(kind, number):
     filling = nodes(places_in(number)) + jobs("job", number, 20, 1)
     return filling if kind == "place" else filling + jobs("high", number // 4, 60, 2)
@@ -154,7 +174,7 @@ def inputs(kind, number):
 def main():
     words = [word for word in sys.argv[1:] if word != "--show"]
     kind = words[0]
-    numbers = [int(word) for word in words[1:]] or {"place": [100], "preempt": [8], "beside": [0, 100]}[kind]
+    numbers = [int(word) for word in words[1:]] or {"place": [100], "preempt": [8], "beside": [0, 100], "blocked": [0, 10]}[kind]
     if "--show" in sys.argv:
         sys.stdout.buffer.write(b"".join(inputs(kind, numbers[0])))
         return 0
@@ -164,7 +184,7 @@ def main():
     are_right = True
     for number in numbers:
         server = Server()
-        are_right &= {"place": place, "preempt": preempt, "beside": beside}[kind](server, number)
+        are_right &= {"place": place, "preempt": preempt, "beside": beside, "blocked": blocked}[kind](server, number)
         server.end()
     if not are_right:
         print("that is not what the input asks for", file=sys.stderr)
