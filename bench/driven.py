@@ -149,7 +149,7 @@ def beside(server, number):
 
 def blocked(server, number):
     """Jobs of one namespace, on one node, beside so many thousand blocked ones of others, which wait in another pool. Each stop
-    gives room in the pool of the first. It answers whether all were placed, and stopped, and nobody else was."""
+    gives room in the pool of the first. It answers whether all were placed, and stopped, and the others were blocked all along."""
     few = 500
     server.ask(tenants())
     server.ask([request("PUT", "/v1/node/pool/own/node/n", {"CPU": few * MHZ, "MemoryMB": few * MHZ})])
@@ -163,7 +163,9 @@ def blocked(server, number):
     told(f"jobs beside {number * 1_000} blocked ones", few, seconds)
     stops = [request("DELETE", f"/v1/job/one-{job}?namespace=own") for job in range(few)]
     told(f"stops beside {number * 1_000} blocked ones", few, server.timed(stops))
-    return placed and server.used("own") == 0
+    lists = (server.ask([request("GET", f"/v1/evaluations?namespace=wait-{other}")]) for other in range(number))
+    waiting = sum(row["Status"] == "blocked" for rows in lists for row in rows)
+    return placed and server.used("own") == 0 and waiting == number * 1_000
 
 
 def inputs(kind, number):
