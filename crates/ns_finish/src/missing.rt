@@ -76,7 +76,8 @@ fn release_seen(kept: &Snapshot) -> u64
 
 /// The number of the quota's last release.
 fn release_of(tables: &Tables, quota: &Text) -> u64
-    ensures { result ≡ option_map_or (λ q. q.release) (get (world_of tables.now).quotas quota.now) 0 }
+    ensures { let quotas = (world_of tables.now).quotas in
+        result ≡ option_map_or (λ q. q.release) (get quotas quota.now) 0 }
 {
     match tables.quotas.get(quota) {
         Some(quota) => quota.release,

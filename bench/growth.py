@@ -1,0 +1,176 @@
+"""Prints what a step costs one namespace beside few and many rows of others, over one connection of `./nsd pipe --drive`.
+
+    python3 bench/growth.py                 all of the following
+    python3 bench/growth.py allocations     a job of one allocation is registered and placed, beside 0 to 1,000,000 of another's
+    python3 bench/growth.py nodes           the same with 1,000 nodes in its own pool, beside 0 and 10,000 in others
+    python3 bench/growth.py namespaces      a job is registered, placed and read in the first and the last of 10,000 namespaces
+    python3 bench/growth.py small           10,000 jobs of one allocation in 10 namespaces
+    python3 bench/growth.py memory          what an allocation keeps resident, between 100,000 and 1,000,000 of them
+    python3 bench/growth.py reads           300,000 pipelined reads of one job
+
+The others share no pool and no quota with it. Of three rounds of 300 jobs each the least time counts. What was placed is counted
+from what the nodes use, and has to be what the input asks for; else the exit status is 1.
+"""
+
+import os
+import subprocess
+import sys
+import tempfile
+import time
+
+from driven import COUNT, MHZ, Server, jobs, nodes, places_in, request, told
+
+FEW = 300
+ROUNDS = 3
+NAMESPACES = 10_000
+READS = 300_000
+
+
+def tenant(name, pool=None):
+    """A namespace, and the one pool that it may use: a pool of its own, or that one, which is there."""
+    configuration = {"Default": pool or name, "Allowed": [pool or name]}
+    namespace = request("PUT", "/v1/namespace", {"Name": name, "NodePoolConfiguration": configuration})
+    return [namespace] if pool else [request("PUT", "/v1/node/pools", {"Name": name}), namespace]
+
+
+def one_node(pool, places):
+    return [request("PUT", f"/v1/node/pool/{pool}/node/n", {"CPU": places * MHZ, "MemoryMB": places * MHZ})]
+
+
+def least(server, what, namespace, requests_of):
+    """The least time of a round, by its requests, in seconds."""
+    times = []
+    for turn in range(ROUNDS):
+        requests = requests_of(turn, namespace)
+        times.append(server.timed(requests) / len(requests))
+    print(f"{what}: {min(times) * 1e6:.1f} microseconds", flush=True)
+    return min(times)
+
+
+def registrations(turn, namespace):
+    return jobs(f"one{turn}", FEW, 20, 1, namespace, 1)
+
+
+def registered(server, what, namespace="own"):
+    return least(server, f"a job is registered and placed, {what}", namespace, registrations)
+
+
+def allocations():
+    is_right = True
+    for thousands in (0, 10, 100, 1000):
+        server = Server()
+        server.ask(tenant("own") + tenant("other") + one_node("own", ROUNDS * FEW))
+        if thousands > 0:
+            server.ask(nodes(places_in(thousands), "other"))
+            server.ask(jobs("job", thousands, 20, 1, "other"))
+        registered(server, f"beside {thousands * COUNT} allocations in another pool")
+        is_right &= server.used("own") == ROUNDS * FEW * MHZ and server.used("other") == thousands * COUNT * MHZ
+        server.end()
+    return is_right
+
+
+def nodes_of_others():
+    is_right = True
+    for pools in (0, 10):
+        server = Server()
+        server.ask(tenant("own"))
+        server.ask(nodes(1, "own"))
+        for other in range(pools):
+            server.ask(tenant(f"other-{other}"))
+            server.ask(nodes(1, f"other-{other}"))
+        registered(server, f"on 1000 nodes, beside {pools * 1000} in other pools")
+        is_right &= server.used("own") == ROUNDS * FEW * MHZ
+        server.end()
+    return is_right
+
+
+def namespaces():
+    """As many as there may be. All but two use the pool `default`, as the namespace `default` does."""
+    is_right = True
+    server = Server()
+    names = [f"n{number:04}" for number in range(NAMESPACES - 1)]
+    ends = (names[0], names[-1])
+    for name in names:
+        server.ask(tenant(name) + one_node(name, ROUNDS * FEW) if name in ends else tenant(name, "default"))
+    for name in ends:
+        registered(server, f"in namespace {name} of {NAMESPACES}", name)
+        is_right &= server.used(name) == ROUNDS * FEW * MHZ
+    for name in ends:
+        read = request("GET", f"/v1/job/one0-0?namespace={name}")
+        least(server, f"a job is read, in namespace {name} of {NAMESPACES}", name, lambda *_: [read] * 10 * FEW)
+    server.end()
+    return is_right
+
+
+def small():
+    server, each, tenants = Server(), 1000, 10
+    for number in range(tenants):
+        server.ask(tenant(f"t{number}") + one_node(f"t{number}", each))
+    seconds = server.timed([it for number in range(tenants) for it in jobs("one", each, 20, 1, f"t{number}", 1)])
+    placed = sum(server.used(f"t{number}") for number in range(tenants)) // MHZ
+    told("jobs of one allocation in 10 namespaces", placed, seconds)
+    server.end()
+    return placed == tenants * each
+
+
+def resident(server):
+    """In bytes."""
+    with open(f"/proc/{server.program.pid}/status", encoding="ascii") as status:
+        line = next(it for it in status if it.startswith("VmRSS:"))
+    return int(line.split()[1]) * 1024
+
+
+def memory():
+    server, taken, is_right = Server(), {}, True
+    server.ask(nodes(places_in(1000)))
+    server.ask(jobs("first", 100, 20, 1))
+    taken[100] = resident(server)
+    server.ask(jobs("job", 900, 20, 1))
+    taken[1000] = resident(server)
+    is_right = server.used() == 1000 * COUNT * MHZ
+    server.end()
+    for thousands, bytes_ in taken.items():
+        print(f"{thousands * COUNT} live allocations: {bytes_ / 2**20:.0f} MiB resident", flush=True)
+    print(f"{(taken[1000] - taken[100]) / (900 * COUNT):.0f} bytes an allocation", flush=True)
+    return is_right
+
+
+def reads():
+    registration, read = jobs("web", 1, 50, 1, count=1), request("GET", "/v1/job/web-0")
+    with tempfile.TemporaryDirectory() as folder:
+        source, target = os.path.join(folder, "requests"), os.path.join(folder, "replies")
+        with open(source, "wb") as file:
+            file.writelines(registration + [read] * READS)
+        with open(source, "rb") as given, open(target, "wb") as written:
+            start = time.perf_counter()
+            subprocess.run(["./nsd", "pipe", "--bootstrap", "root"], stdin=given, stdout=written, check=True)
+            seconds = time.perf_counter() - start
+        with open(target, "rb") as written:
+            served = written.read().count(b"HTTP/1.1 200 OK\r\n") - 1
+    told("pipelined reads of a job", served, seconds)
+    return served == READS
+
+
+KINDS = {
+    "allocations": allocations,
+    "nodes": nodes_of_others,
+    "namespaces": namespaces,
+    "small": small,
+    "memory": memory,
+    "reads": reads,
+}
+
+
+def main():
+    kinds = sys.argv[1:] or list(KINDS)
+    if not os.path.exists("nsd"):
+        print("there is no ./nsd here: build the program first", file=sys.stderr)
+        return 2
+    results = [KINDS[kind]() for kind in kinds]
+    if not all(results):
+        print("that is not what the input asks for", file=sys.stderr)
+    return 0 if all(results) else 1
+
+
+if __name__ == "__main__":
+    sys.exit(main())
