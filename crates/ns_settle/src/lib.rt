@@ -6,10 +6,10 @@
 //! that are blocked is walked only where one of them waits for what is released, or where they are fewer than the namespaces.
 #![tactic(auto)]
 
+mod blocked;
 mod finishing;
 mod quotas;
 mod rooms;
-mod sleeping;
 mod stamping;
 mod waking;
 

@@ -5,7 +5,7 @@ ghost use Rattle.ns_release.specs.Released.{woken_keys};
 ghost use Rattle.ns_settle.specs.Waking.{ListsBlocked};
 ghost use Rattle.ns_world.specs.World.{world_of};
 
-use crate::sleeping::reaches_sleepers;
+use crate::blocked::reaches_blocked;
 use ns_change::Change;
 use ns_release::{does_wake, releases};
 use ns_types::key::EvalKey;
@@ -20,7 +20,7 @@ fn may_wake(tables: &Tables, change: &Change) -> bool
     ensures { result ≡ false → woken_keys (world_of tables.now) change.now ≡ [] }
 {
     let few = tables.blocked.as_slice().len() <= tables.tenants.as_slice().len();
-    releases(tables, change) && (few || reaches_sleepers(tables, change))
+    releases(tables, change) && (few || reaches_blocked(tables, change))
 }
 
 /// The entries of `blocked`, before the step and after its own change, that its releases wake, in their order.

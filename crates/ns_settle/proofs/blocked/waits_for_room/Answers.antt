@@ -4,10 +4,10 @@ use Rattle.std.specs.Option.{option_copied}
 use Rattle.ns_types.specs.State.Names.{Name}
 use Rattle.ns_types.specs.State.Rows.{offered_class}
 use Rattle.ns_types.specs.declared.node.Class.{Class}
-use Rattle.ns_settle.proofs.Sleepers.{number_slots, rooms_under}
+use Rattle.ns_settle.proofs.Blocked.{number_slots, rooms_under}
 use Rattle.ns_settle.specs.Waking.{uses_room}
 use Rattle.ns_world.specs.Filing.{AreNumbersUnder, waited_pool}
-use Rattle.ns_settle.proofs.sleeping.waits_for_room.Goals as goal
+use Rattle.ns_settle.proofs.blocked.waits_for_room.Goals as goal
 
 pub returns-in-Some : goal.returns-in-Some
 returns-in-Some c =

@@ -1,10 +1,10 @@
 use Rattle.std.proofs.Common.{ap, subst, ◌∙◌, Some, None}
 use Rattle.std.specs.List.{list_any}
 use Rattle.std.specs.Option.{option_copied}
-use Rattle.ns_settle.proofs.Sleepers.{number_slots, quotas_under}
+use Rattle.ns_settle.proofs.Blocked.{number_slots, quotas_under}
 use Rattle.ns_settle.specs.Waking.{is_taken}
 use Rattle.ns_world.specs.Filing.{AreNumbersUnder, waited_quota}
-use Rattle.ns_settle.proofs.sleeping.is_limited.Goals as goal
+use Rattle.ns_settle.proofs.blocked.is_limited.Goals as goal
 
 pub returns-in-Some : goal.returns-in-Some
 returns-in-Some c =

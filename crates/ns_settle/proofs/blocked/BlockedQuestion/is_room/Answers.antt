@@ -2,13 +2,13 @@ use Rattle.std.proofs.Common.{ap, sym, ◌∙◌}
 use Rattle.std.specs.List.{list_any}
 use Rattle.keyed.specs.Table.{at_slot}
 use Rattle.ns_types.specs.State.Rows.{offered_class}
-use Rattle.ns_settle.proofs.Sleepers.{sleepers_seen}
+use Rattle.ns_settle.proofs.Blocked.{blocked_seen}
 use Rattle.ns_settle.specs.Waking.{any_of, waits_for_room}
 use Rattle.ns_world.specs.World.{tenant_of}
-use Rattle.ns_settle.proofs.sleeping.SleepersQuestion.is_room.Goals as goal
+use Rattle.ns_settle.proofs.blocked.BlockedQuestion.is_room.Goals as goal
 
 pub returns : goal.returns
 returns c =
     let waits = waits_for_room (c.args.pool.now, offered_class c.args.offer.now) in
     c.any_waits.ensures ∙ ap (list_any (at_slot (λ e. any_of waits (tenant_of e.1)))) c.as_slice.ensures
-    ∙ sym (sleepers_seen c.args.self.now.tables.now waits)
+    ∙ sym (blocked_seen c.args.self.now.tables.now waits)

@@ -99,10 +99,10 @@ pub number_slots : (f : ℕ → Option Unit → Bool) (m : ByNumber (Option Unit
 unfolding any_row
 number_slots f m = refl
 
-pub sleepers_seen : (t : Tables) (passes : Evaluation → Bool) →
+pub blocked_seen : (t : Tables) (passes : Evaluation → Bool) →
     any_evaluation passes (world_of t) ≡ list_any (at_slot (λ e. any_of passes (tenant_of e.1))) (entries t.tenants)
 unfolding world_of
-sleepers_seen t passes = any_row-table_of (λ _ x. tenant_of x) (λ _ x. any_of passes x) t.tenants
+blocked_seen t passes = any_row-table_of (λ _ x. tenant_of x) (λ _ x. any_of passes x) t.tenants
 
 -- ---- whom a step wakes
 
@@ -140,9 +140,9 @@ module _ (w : World) (key : Key) (e : Evaluation) (row : evaluation_at w key ≡
       by false is = refl
       by true is = sym (stands (same_name_is own quota is)) ∙ none_at w (waits_for_quota quota) key e none row
 
-  stays_asleep : (rooms : List (Name × Class)) (quotas : List Name) → list_any (λ room. any_evaluation (waits_for_room room) w) rooms ≡ false →
+  stays_blocked : (rooms : List (Name × Class)) (quotas : List Name) → list_any (λ room. any_evaluation (waits_for_room room) w) rooms ≡ false →
       list_any (λ quota. any_evaluation (waits_for_quota quota) w) quotas ≡ false → woken_by w rooms quotas e e.quota ≡ false
-  stays_asleep rooms quotas no_rooms no_quotas = by e.quota refl
+  stays_blocked rooms quotas no_rooms no_quotas = by e.quota refl
     where
       by : (q : Option Name) → e.quota ≡ q → woken_by w rooms quotas e q ≡ false
       by None is = none_passes (at_room e.pool (can_use e)) (λ room. any_evaluation (waits_for_room room) w) (no_room is) rooms no_rooms
@@ -154,20 +154,20 @@ module _ (w : World) (key : Key) (e : Evaluation) (row : evaluation_at w key ≡
 pub none_woken : (w : World) (c : Change) → ListsBlocked w →
     (list_any (λ room. any_evaluation (waits_for_room room) w) (released_rooms w c)
     || list_any (λ quota. any_evaluation (waits_for_quota quota) w) (released_quotas w c)) ≡ false → woken_keys w c ≡ []
-none_woken w c listed none = filter_none (λ key. has_key (changed w c).blocked key && asleep key) w.blocked
+none_woken w c listed none = filter_none (λ key. has_key (changed w c).blocked key && wakes_at key) w.blocked
     (each_map (λ key member. ap (λ b. has_key (changed w c).blocked key && b) (stays key (listed key member)) ∙ and-false (has_key (changed w c).blocked key))
     w.blocked (each_member w.blocked))
   where
-    asleep : Key → Bool
-    asleep = releases_wake_at w (released_rooms w c) (released_quotas w c)
+    wakes_at : Key → Bool
+    wakes_at = releases_wake_at w (released_rooms w c) (released_quotas w c)
 
-    stays : (key : Key) → option_map_or (λ e. is_blocked e.status) (evaluation_at w key) false ≡ true → asleep key ≡ false
+    stays : (key : Key) → option_map_or (λ e. is_blocked e.status) (evaluation_at w key) false ≡ true → wakes_at key ≡ false
     stays key = by (evaluation_at w key) refl
       where
         by : (o : Option Evaluation) → evaluation_at w key ≡ o → option_map_or (λ e. is_blocked e.status) o false ≡ true →
             option_map_or (λ e. woken_by w (released_rooms w c) (released_quotas w c) e e.quota) o false ≡ false
         by None is blocked = refl
-        by (Some e) is blocked = stays_asleep w key e is blocked (released_rooms w c) (released_quotas w c) (left_none _ _ none) (right_none _ _ none)
+        by (Some e) is blocked = stays_blocked w key e is blocked (released_rooms w c) (released_quotas w c) (left_none _ _ none) (right_none _ _ none)
 
 -- nor does a step that releases nothing
 pub nothing_woken : (w : World) (c : Change) →

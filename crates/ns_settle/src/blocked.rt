@@ -122,12 +122,12 @@ fn any_limited(slots: &[TenantSlot], quota: &Text) -> bool
 
 /// The evaluations that are blocked, of all namespaces.
 #[derive(Drop)]
-struct Sleepers<'a> {
+struct Blocked<'a> {
     tables: &'a Tables,
 }
 
 /// Whether one of them waits for that room, or for that quota.
-impl Question for Sleepers<'_> {
+impl Question for Blocked<'_> {
     ghost of_room = { λ s room. any_evaluation (waits_for_room room) (world_of s.tables.now) };
 
     ghost of_quota = { λ s quota. any_evaluation (waits_for_quota quota) (world_of s.tables.now) };
@@ -143,12 +143,12 @@ impl Question for Sleepers<'_> {
 
 /// Whether the step releases what a blocked evaluation waits for. Its work grows with the namespaces and with the evaluations
 /// that wait in such pools, and not with all that are blocked.
-pub fn reaches_sleepers(tables: &Tables, change: &Change) -> bool
+pub fn reaches_blocked(tables: &Tables, change: &Change) -> bool
     ensures { let w = world_of tables.now in result
         ≡ (list_any (λ room. any_evaluation (waits_for_room room) w) (released_rooms w change.now)
         || list_any (λ quota. any_evaluation (waits_for_quota quota) w)
         (released_quotas w change.now)) }
 {
-    let sleepers = Sleepers { tables };
-    releases_room(&sleepers, tables, change) || releases_quota(&sleepers, tables, change)
+    let blocked = Blocked { tables };
+    releases_room(&blocked, tables, change) || releases_quota(&blocked, tables, change)
 }
