@@ -6,11 +6,15 @@ ghost use Rattle.keyed.specs.Queue.{CanAdd};
 ghost use Rattle.ns_types.specs.State.Names.{Key, has_key};
 
 use crate::key_set::KeySet;
+use ns_alike::has_key;
 use ns_types::key::EvalKey;
 use ns_types::rows::Rows;
 use ns_types::text::Text;
 use std::alloc::{AllocError, Global};
 use std::marker::Model;
+
+/// How many keys cost less to compare with than a look-up in the set does.
+const FEW: usize = 4;
 
 /// Keys in their order, with room for more, which is made before it is needed. Whether it has a key is asked of the set
 /// of its keys.
@@ -126,7 +130,7 @@ impl KeyQueue {
     }
 
     /// Takes those keys out; room for them stays. It takes no memory, and goes through the others only where there are
-    /// keys to take out.
+    /// keys to take out. A few keys are compared with each; of many it is looked up whether the set still has it.
     pub fn take_out(&mut self, keys: &[EvalKey])
         ensures items { self.new.items ≡ filter (λ key. not (has_key keys.now key)) self.old.items }
         ensures room { self.old.room ≤ self.new.room }
@@ -137,9 +141,13 @@ impl KeyQueue {
             return;
         }
         vacate_all(&mut self.held, keys);
-        let held = &self.held;
-        self.keys
-            .retain(|key| held.has(key.namespace(), key.number()));
+        if keys.len() <= FEW {
+            self.keys.retain(|key| !has_key(keys, key));
+        } else {
+            let held = &self.held;
+            self.keys
+                .retain(|key| held.has(key.namespace(), key.number()));
+        }
     }
 
     /// Takes room for those keys away again. Those that are in stay.
