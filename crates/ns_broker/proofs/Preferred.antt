@@ -1,12 +1,16 @@
 -- The one that is served, found along the list.
-use Rattle.std.specs.Prelude.{◌≡◌, ℕ, Bool, true, false, cond, ◌&&◌, List, [], ◌∷◌, Some, None, fold, nat_le}
+use Rattle.std.specs.Prelude.{◌≡◌, ℕ, ◌==◌, Bool, true, false, cond, not, ◌&&◌, if◌then◌else◌, List, [], ◌∷◌, Option, Some, None, fold, is_some, length, nat_le}
 use Rattle.std.proofs.Common.{refl, ap, sym, ◌∙◌, arith}
-use Rattle.std.proofs.lemmas.Bool.{le-leb, leb-true}
+use Rattle.std.proofs.lemmas.Bool.{le-leb, leb-true, ne_eqb}
 use Rattle.std.specs.List.{list_all}
 use Rattle.ns_types.proofs.Named.{first_of_both, second_of_both}
 use Rattle.ns_types.specs.State.Names.{Key}
 use Rattle.ns_types.specs.Working.Queue.{first_of_greatest}
-use Rattle.ns_broker.specs.Serving.{preferred}
+
+-- of two the later one only where its priority is greater
+abbrev pub preferred : (Key → ℕ) → Option Key → Key → Option Key
+preferred priority None later = Some later
+preferred priority (Some first) later = if nat_le (priority later) (priority first) then Some first else Some later
 
 module _ (p : Key → ℕ) where
   abbrev under : Key → List Key → Bool
@@ -46,3 +50,20 @@ module _ (p : Key → ℕ) where
   pub first_is_served : (keys : List Key) → fold (preferred p) None keys ≡ first_of_greatest p keys
   first_is_served [] = refl
   first_is_served (k ∷ keys) = greatest_after k keys
+
+-- ---- whether there is one
+
+module _ (p : Key → ℕ) where
+  some_after : (b : Key) (keys : List Key) → is_some (fold (preferred p) (Some b) keys) ≡ true
+  some_after b [] = refl
+  some_after b (k ∷ keys) = by (some_after b keys) (some_after k keys) (nat_le (p k) (p b))
+    where
+      by : is_some (fold (preferred p) (Some b) keys) ≡ true → is_some (fold (preferred p) (Some k) keys) ≡ true →
+          (c : Bool) → is_some (fold (preferred p) (cond c (Some b) (Some k)) keys) ≡ true
+      by kept later true = kept
+      by kept later false = later
+
+  pub some_is_served : (keys : List Key) → not (length keys == 0) ≡ is_some (first_of_greatest p keys)
+  some_is_served [] = refl
+  some_is_served (k ∷ keys) = ap not (ne_eqb (length (k ∷ keys)) 0 (λ e. omega arith))
+      ∙ sym (ap is_some (sym (first_is_served p (k ∷ keys))) ∙ some_after k keys)

@@ -1,5 +1,5 @@
--- Which evaluation is served, step by step along a list, and when a worker may take one.
-use Rattle.std.specs.Prelude.{ℕ, Bool, ◌&&◌, if◌then◌else◌, List, Option, Some, None, nat_le, nat_lt, is_some}
+-- When an evaluation is the one that is served, and when a worker may take it.
+use Rattle.std.specs.Prelude.{ℕ, Bool, ◌&&◌, if◌then◌else◌, List, Option, Some, None, nat_lt, is_some}
 use Rattle.keyed.specs.Table.{at_slot, row_at}
 use Rattle.ns_types.specs.declared.evaluation.Evaluation.{Evaluation}
 use Rattle.ns_types.specs.Settling.Making.{change_tenant}
@@ -9,11 +9,6 @@ use Rattle.ns_types.specs.Working.Queue.{is_served}
 use Rattle.ns_types.specs.Working.Work.{is_idle, new_worker, with_worker, workers_end}
 use Rattle.ns_change.specs.Changed.{without_ready}
 use Rattle.ns_world.specs.declared.tables.TenantRows.{TenantRows}
-
--- the later one is preferred only where its priority is greater
-abbrev pub preferred : (Key → ℕ) → Option Key → Key → Option Key
-preferred priority None later = Some later
-preferred priority (Some first) later = if nat_le (priority later) (priority first) then Some first else Some later
 
 -- the key, where it is the one of the list that is served next
 abbrev pub served_as : World → List Key → Key → Option Key

@@ -11,7 +11,7 @@ mod snapping;
 mod submitting;
 mod taking;
 
-pub use looking::{Busy, first_plan, phase, row_of, served_ready, worker_at};
+pub use looking::{Busy, first_plan, has_served, phase, row_of, served_ready, worker_at};
 pub use nacking::nack;
 pub use serving::served;
 pub use snapping::{Snapped, snap};

@@ -1,6 +1,6 @@
 //! What can be looked at without a step. Looks change nothing and take no memory.
 
-ghost use Rattle.std.specs.Prelude.{◌≡◌, find, option_copied, option_map};
+ghost use Rattle.std.specs.Prelude.{◌≡◌, find, is_some, option_copied, option_map};
 ghost use Rattle.ns_types.specs.Working.Looks.{first_plan, row_of, served_ready, worker_at};
 ghost use Rattle.ns_broker.specs.Looking.{busy_of, busy_told, row_in};
 ghost use Rattle.ns_broker.specs.Serving.{is_busy_for};
@@ -29,6 +29,13 @@ pub fn served_ready(tables: &Tables) -> Option<&EvalKey>
     ensures { option_copied result ≡ served_ready (world_of tables.now) }
 {
     served(tables, tables.ready.as_slice())
+}
+
+/// Whether one is served. It looks at none.
+pub fn has_served(tables: &Tables) -> bool
+    ensures { result ≡ is_some (served_ready (world_of tables.now)) }
+{
+    !tables.ready.as_slice().is_empty()
 }
 
 /// The evaluation whose plan is served next.

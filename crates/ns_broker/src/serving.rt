@@ -3,7 +3,7 @@
 ghost use Rattle.std.specs.Prelude.{◌≡◌, option_copied};
 ghost use Rattle.ns_types.specs.State.Names.{same_key};
 ghost use Rattle.ns_types.specs.Working.Queue.{priority_at, served};
-ghost use Rattle.ns_broker.specs.Serving.{preferred, served_as};
+ghost use Rattle.ns_broker.specs.Serving.{served_as};
 ghost use Rattle.ns_world.specs.World.{world_of};
 
 use ns_alike::same_number;
@@ -21,32 +21,18 @@ fn priority(tables: &Tables, key: &EvalKey) -> u64
     }
 }
 
-/// The one that comes first of two of a list: the later one only where its priority is greater.
-fn preferred<'a>(
-    tables: &Tables,
-    first: Option<&'a EvalKey>,
-    later: &'a EvalKey,
-) -> Option<&'a EvalKey>
-    ensures { option_copied result ≡
-        preferred (priority_at (world_of tables.now)) (option_copied first.entry) later.now }
-{
-    let Some(best) = first else {
-        return Some(later);
-    };
-    if priority(tables, later) <= priority(tables, best) {
-        Some(best)
-    } else {
-        Some(later)
-    }
-}
-
 /// Of the evaluations with the greatest priority the first in the list. It takes no memory.
 pub fn served<'a>(tables: &Tables, keys: &'a [EvalKey]) -> Option<&'a EvalKey>
     ensures { option_copied result ≡ served (world_of tables.now) keys.now }
 {
     let mut first = None;
+    let mut greatest = 0;
     for key in keys {
-        first = preferred(tables, first, key);
+        let own = priority(tables, key);
+        if first.is_none() || own > greatest {
+            first = Some(key);
+            greatest = own;
+        }
     }
     first
 }

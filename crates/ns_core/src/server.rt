@@ -1,6 +1,6 @@
 //! The server as one value, which contracts see as its state.
 
-ghost use Rattle.std.specs.Prelude.{◌≡◌, IfOk, Some, option_copied, option_map};
+ghost use Rattle.std.specs.Prelude.{◌≡◌, IfOk, Some, is_some, option_copied, option_map};
 ghost use Rattle.ns_types.specs.declared.step.Step.TheVariants as Step;
 ghost use Rattle.ns_types.specs.Access.Rights.{pool_rights_of, rights_of};
 ghost use Rattle.ns_types.specs.Access.Sharing.{is_unshared, shares};
@@ -196,6 +196,13 @@ impl Core {
         ensures { option_copied result ≡ served_ready self.now.world }
     {
         ns_broker::served_ready(&self.parts.tables)
+    }
+
+    /// Whether one is served: a look that costs the same however many are ready.
+    pub fn has_served(&self) -> bool
+        ensures { result ≡ is_some (served_ready self.now.world) }
+    {
+        ns_broker::has_served(&self.parts.tables)
     }
 
     /// The evaluation whose plan is served next.

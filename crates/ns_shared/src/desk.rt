@@ -62,7 +62,7 @@ impl<L: Ledger> Desk<L> {
     fn has_served(&self) -> bool
         ensures { result ≡ is_some (served_ready self.now.kept.held.state.world) }
     {
-        self.kept.held.core().served().is_some()
+        self.kept.held.core().has_served()
     }
 
     /// Whether there is something to do for those whom the call wakes.
