@@ -1,5 +1,6 @@
 pub mod Adding
 pub mod Entries
+pub mod Planners
 pub mod Refusing
 pub mod SettledAlike
 pub mod Crossing

@@ -4,7 +4,7 @@ use Rattle.std.specs.Option.{option_map_or}
 use Rattle.ns_types.specs.declared.worker.Phase.{Phase}
 use Rattle.ns_types.specs.State.Names.{Key, Name, same_name}
 use Rattle.ns_types.specs.State.Rows.{World}
-use Rattle.ns_types.specs.Working.Looks.{first_plan, row_of}
+use Rattle.ns_types.specs.Working.Looks.{first_plan, row_of, worker_at}
 use Rattle.ns_types.specs.Working.Work.{workers_end}
 use Rattle.ns_shared.specs.declared.changes.Busy.{Busy}
 use Rattle.ns_shared.specs.declared.changes.Planner.{Planner}
@@ -17,6 +17,10 @@ told_of b = (b.namespace, b.evaluation, b.phase, b.tries)
 abbrev pub is_busy_with : World → ℕ → Key → Bool
 is_busy_with w worker key =
     option_map_or (λ row. same_name row.0 key.0 && nat_eq row.1.evaluation key.1) (row_of w worker) false
+
+-- its row in the evaluation's namespace has it
+abbrev pub has_evaluation : World → ℕ → Key → Bool
+has_evaluation w worker key = option_map_or (λ row. nat_eq row.evaluation key.1) (worker_at w worker key.0) false
 
 -- the first one, with its namespace, if there is one
 abbrev pub IsFirstAt : World → Key → Option Planner → Type 0

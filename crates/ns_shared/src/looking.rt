@@ -3,7 +3,7 @@
 ghost use Rattle.std.specs.Prelude.{◌≡◌, IfOk, option_map};
 ghost use Rattle.ns_types.specs.Working.Looks.{row_of, served_ready};
 ghost use Rattle.ns_broker.specs.Looking.{busy_of};
-ghost use Rattle.ns_shared.specs.Looking.{IsFirstAt, IsFirstPlanner, is_busy_with, told_of};
+ghost use Rattle.ns_shared.specs.Looking.{IsFirstAt, IsFirstPlanner, has_evaluation, is_busy_with, told_of};
 
 use crate::changes::{Busy, Planner};
 use ns_core::Core;
@@ -40,10 +40,23 @@ pub(crate) fn busy(core: &Core, worker: u64) -> Result<Option<Busy>, AllocError>
     }
 }
 
-/// Whether the worker is busy with this evaluation.
+/// Whether the worker has this evaluation in the namespace: a look-up there.
+fn has_evaluation(core: &Core, worker: u64, key: &EvalKey) -> bool
+    ensures { result ≡ has_evaluation core.now.world worker key.now }
+{
+    match core.worker_at(worker, key.namespace()) {
+        Some(row) => row.evaluation() == key.number(),
+        None => false,
+    }
+}
+
+/// Whether the worker is busy with this evaluation. Only of one that has it there all namespaces are asked.
 fn is_busy_with(core: &Core, worker: u64, key: &EvalKey) -> bool
     ensures { result ≡ is_busy_with core.now.world worker key.now }
 {
+    if !has_evaluation(core, worker, key) {
+        return false;
+    }
     match core.phase(worker) {
         Some(busy) => {
             same_text(busy.namespace, key.namespace()) && busy.evaluation == key.number()
