@@ -63,8 +63,8 @@ impl KeySet {
         ensures same { Keeps holds_key has_key_room self.old self.new }
         ensures ok { OnOk result (IsTrue (is_some (row_at self.new.numbers name.now))) }
     {
-        self.numbers.reserve(name)?;
         if self.numbers.get(name).is_none() {
+            self.numbers.reserve(name)?;
             self.numbers.set(name, NumberTable::new(alloc));
         }
         Ok(())

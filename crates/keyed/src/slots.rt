@@ -248,7 +248,7 @@ impl<K: Ord + SlotKey + Drop, V: Drop> Slots<K, V> {
     {
         if let Ok(i) = self.place(key) {
             if self.slots[i].1.is_none() {
-                self.slots.remove(i);
+                drop(self.slots.remove(i));
             }
         }
     }

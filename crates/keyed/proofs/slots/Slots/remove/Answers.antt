@@ -1,4 +1,5 @@
-use Rattle.std.proofs.Common.{◌≡◌, sym, arith}
+use Rattle.std.proofs.Common.{◌≡◌, ◌∙◌, sym, ap, arith}
+use Rattle.keyed.specs.Slots.{without}
 use Rattle.keyed.proofs.Places.{inside_stands}
 use Rattle.keyed.proofs.Counted.{size, size_none, size_some, left_sorted, left_counted}
 use Rattle.keyed.proofs.slots.Slots.remove.Goals as goal
@@ -36,3 +37,16 @@ invariant_of-self-else-is_some g c =
           c.remove-slot.result c.remove-slot.ensures.value c.self.inside.filled c.self.invariant.0 c.self.invariant.1,
       omega arith,
     )
+
+pub returns-then-is_some : goal.returns-then-is_some
+returns-then-is_some g c =
+    c.remove-slot.ensures.items ∙ (inside_stands g.K.Ord.cmp c.args.key.now _ _ c.in-Ok.i c.self.view_is c.in-Ok.ensures).without_is ∙
+    ap (without g.K.Ord.cmp c.args.key.now) c.self.view_is
+
+pub returns-in-Ok : goal.returns-in-Ok
+returns-in-Ok g c =
+    c.remove-slot.ensures.items ∙ (inside_stands g.K.Ord.cmp c.args.key.now _ _ c.in-Ok.i c.self.view_is c.in-Ok.ensures).without_is ∙
+    ap (without g.K.Ord.cmp c.args.key.now) c.self.view_is
+
+pub returns : goal.returns
+returns g c = sym c.in_default.ensures.without_is
