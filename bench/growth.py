@@ -4,6 +4,7 @@
     python3 bench/growth.py allocations     a job of one allocation is registered and placed, beside 0 to 1,000,000 of another's
     python3 bench/growth.py nodes           the same with 1,000 nodes in its own pool, beside 0 and 10,000 in others
     python3 bench/growth.py namespaces      a job is registered, placed and read in the first and the last of 10,000 namespaces
+    python3 bench/growth.py names           9,999 namespaces are put in the order of their names, and against it
     python3 bench/growth.py small           10,000 jobs of one allocation in 10 namespaces
     python3 bench/growth.py memory          what an allocation keeps resident, between 100,000 and 1,000,000 of them
     python3 bench/growth.py reads           300,000 pipelined reads of one job
@@ -102,6 +103,17 @@ def namespaces():
     return is_right
 
 
+def names():
+    """Rows are sorted by name: each new one comes last in the first case, and first in the second."""
+    for order, step in (("in the order of their names", 1), ("against it", -1)):
+        server = Server()
+        puts = [tenant(f"n{number:04}", "default")[0] for number in range(NAMESPACES - 1)][::step]
+        seconds = server.timed(puts)
+        print(f"{len(puts)} namespaces are put {order}: {seconds / len(puts) * 1e6:.1f} microseconds each", flush=True)
+        server.end()
+    return True
+
+
 def small():
     server, each, tenants = Server(), 1000, 10
     for number in range(tenants):
@@ -155,6 +167,7 @@ KINDS = {
     "allocations": allocations,
     "nodes": nodes_of_others,
     "namespaces": namespaces,
+    "names": names,
     "small": small,
     "memory": memory,
     "reads": reads,
