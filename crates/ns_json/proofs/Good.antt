@@ -26,11 +26,13 @@ use Rattle.ns_types.specs.State.Names.{Name}
 use Rattle.ns_types.specs.Wire.Words.{target_text}
 use Rattle.ns_types.proofs.Named.{second_of_both}
 use Rattle.ns_json.specs.declared.registration.RegistrationDocument.{RegistrationDocument}
+use Rattle.ns_json.specs.declared.registration.JobTerms.{JobTerms}
 use Rattle.ns_json.specs.Reading.{Read, Gives, same, top, present, demanded, or_else, or_refuse, an_object, a_flag, a_number, a_text, a_name}
 use Rattle.ns_json.specs.Reading.{has_name, unless}
 use Rattle.ns_json.specs.Registration.{resources_in, default_resources, no_constraints, task_in, tasks_in, group_in, groups_in, without_prefix}
 use Rattle.ns_json.specs.Registration.{without_suffix, attribute_key, target_of, operand_of, constraint_in, constraint_after, constraints_in, kind_in}
-use Rattle.ns_json.specs.Registration.{name_if_any, not_all, pool_in, absent, job_in, registration_in, max_quantity, max_index}
+use Rattle.ns_json.specs.Registration.{name_if_any, not_all, pool_in, absent, job_groups_in, work_in, terms_in, names_in, job_in, enforced_in}
+use Rattle.ns_json.specs.Registration.{registration_in, max_quantity, max_index, compared_in}
 use Rattle.ns_json.proofs.Distinct.{Distinct, distinct_is, names_more}
 use Rattle.ns_json.proofs.Posts.{Post, post_then, post_any, post_map, post_unless, post_else, read_so, text_good, name_good, name_if_any_good, number_good}
 use Rattle.ns_json.proofs.Posts.{list_of_good}
@@ -163,16 +165,21 @@ target_good m s h = by (bytes_eq s (codes "${node.class}")) (bytes_eq s (codes "
     by false false None e = tt
     by false false (Some k) e = rw (key_fits s k e) h
 
+compared_good : (c : Data) → Post (compared_in c) (λ compared. IsTrue (is_text compared.1))
+unfolding compared_in
+compared_good c =
+    post_any (demanded Member.RightTarget c) _ _ (λ right.
+    post_then (a_text Member.RightTarget right) _ _ (text_good Member.RightTarget right) (λ value l.
+    post_any (demanded Member.Operand c) _ _ (λ named. post_any (a_text Member.Operand named) _ _ (λ word.
+    post_any (or_refuse Member.Operand (operand_of word)) _ _ (λ operand. l)))))
+
 constraint_good : (d : Data) → Post (constraint_in d) (λ c. IsTrue (is_good_constraint c))
 unfolding constraint_in
 constraint_good d =
     post_any (an_object Member.Constraints d) _ _ (λ c. post_any (demanded Member.LeftTarget c) _ _ (λ left.
     post_then (a_text Member.LeftTarget left) _ _ (text_good Member.LeftTarget left) (λ text h.
     post_then (or_refuse Member.LeftTarget (target_of text)) _ _ (target_good Member.LeftTarget text h) (λ target k.
-    post_any (demanded Member.RightTarget c) _ _ (λ right.
-    post_then (a_text Member.RightTarget right) _ _ (text_good Member.RightTarget right) (λ value l.
-    post_any (demanded Member.Operand c) _ _ (λ named. post_any (a_text Member.Operand named) _ _ (λ word.
-    post_any (or_refuse Member.Operand (operand_of word)) _ _ (λ operand. rw (k, l) refl)))))))))
+    post_then (compared_in c) _ _ (compared_good c) (λ compared l. rw (k, l) refl)))))
 
 abbrev AreConstraints : List Constraint → Type 0
 AreConstraints xs = IsTrue (list_all is_good_constraint xs)
@@ -209,34 +216,57 @@ registration_from r h k l m n =
     let few : nat_le (length r.constraints) 16 ≡ true = second_of_both (nat_le 0 (length r.constraints)) (nat_le (length r.constraints) 16) m.1 in
     rw (h, k, l, few, m.0, n.1, n.0.0, distinct_is (map (λ g. g.name) r.groups) n.0.1) refl
 
-job_good : (d : Data) → Post (job_in d) IsGood
-unfolding job_in
-job_good d =
-    post_any (an_object Member.Job d) _ _ (λ j. post_any (demanded Member.Id j) _ _ (λ v.
-    post_then (a_name Member.Id NameKind.Job v) _ _ (name_good Member.Id NameKind.Job v) (λ id h.
-    post_any (or_else None (name_if_any Member.Namespace NameKind.Namespace) (present Member.Namespace j)) _ _ (λ namespace.
+abbrev HasGoodWork : List Constraint × List Group → Type 0
+HasGoodWork work = (AreConstraints work.0 × IsTrue (is_between 0 16 (length work.0))) × (AreGroups work.1 × IsTrue (is_between 1 16 (length work.1)))
+
+job_groups_good : (j : Data) → Post (job_groups_in j) (λ groups. AreGroups groups × IsTrue (is_between 1 16 (length groups)))
+unfolding job_groups_in
+job_groups_good j =
+    post_any (absent Member.Periodic (present Member.Periodic j)) _ _ (λ periodic.
+    post_any (absent Member.ParameterizedJob (present Member.ParameterizedJob j)) _ _ (λ parameterized.
+    post_any (demanded Member.TaskGroups j) _ _ (λ listed. groups_good listed)))
+
+work_good : (j : Data) → Post (work_in j) HasGoodWork
+unfolding work_in
+work_good j =
+    post_then (or_else [] constraints_in (present Member.Constraints j)) _ _
+    (post_else [] constraints_in (λ xs. AreConstraints xs × IsTrue (is_between 0 16 (length xs))) (present Member.Constraints j) (refl, refl) constraints_good)
+    (λ constraints m. post_then (job_groups_in j) _ _ (job_groups_good j) (λ groups n. (m, n)))
+
+abbrev HasGoodTerms : JobTerms → Type 0
+HasGoodTerms t = (name : Name) → IsTrue (is_name NameKind.Job name) →
+    IsTrue (is_good_registration (record { id = name; kind = t.kind; priority = t.priority; pool = t.pool; constraints = t.constraints; groups = t.groups; enforced = None }))
+
+terms_good : (j : Data) → Post (terms_in j) HasGoodTerms
+unfolding terms_in
+terms_good j =
     post_any (or_else JobKind.Service kind_in (present Member.Type j)) _ _ (λ kind.
     post_then (or_else 50 (a_number Member.Priority 1 100) (present Member.Priority j)) _ _
     (post_else 50 (a_number Member.Priority 1 100) (λ n. IsTrue (is_between 1 100 n)) (present Member.Priority j) refl (number_good Member.Priority 1 100))
     (λ priority k.
     post_then (or_else None pool_in (present Member.NodePool j)) _ _
     (post_else None pool_in (λ p. IsTrue (option_map_or is_pool_name p true)) (present Member.NodePool j) refl pool_good) (λ pool l.
-    post_then (or_else [] constraints_in (present Member.Constraints j)) _ _
-    (post_else [] constraints_in (λ xs. AreConstraints xs × IsTrue (is_between 0 16 (length xs))) (present Member.Constraints j) (refl, refl) constraints_good)
-    (λ constraints m.
-    post_any (absent Member.Periodic (present Member.Periodic j)) _ _ (λ periodic.
-    post_any (absent Member.ParameterizedJob (present Member.ParameterizedJob j)) _ _ (λ parameterized.
-    post_any (demanded Member.TaskGroups j) _ _ (λ listed.
-    post_then (groups_in listed) _ _ (groups_good listed) (λ groups n.
-    registration_from (record { id = id; kind = kind; priority = priority; pool = pool; constraints = constraints; groups = groups; enforced = None })
-    h k l m n))))))))))))
+    post_then (work_in j) _ _ (work_good j) (λ work m.
+    λ name h. registration_from
+    (record { id = name; kind = kind; priority = priority; pool = pool; constraints = work.0; groups = work.1; enforced = None }) h k l m.0 m.1))))
+
+names_good : (j : Data) → Post (names_in j) (λ names. IsTrue (is_name NameKind.Job names.0))
+unfolding names_in
+names_good j =
+    post_any (demanded Member.Id j) _ _ (λ v. post_then (a_name Member.Id NameKind.Job v) _ _ (name_good Member.Id NameKind.Job v) (λ id h.
+    post_any (or_else None (name_if_any Member.Namespace NameKind.Namespace) (present Member.Namespace j)) _ _ (λ namespace. h)))
+
+job_good : (d : Data) → Post (job_in d) IsGood
+unfolding job_in
+job_good d =
+    post_any (an_object Member.Job d) _ _ (λ j. post_then (names_in j) _ _ (names_good j) (λ names h.
+    post_then (terms_in j) _ _ (terms_good j) (λ terms k. k names.0 h)))
 
 registration_post : (d : Data) → Post (registration_in d) IsGood
 unfolding registration_in
 registration_post d =
     post_any (top d) _ _ (λ t. post_any (demanded Member.Job t) _ _ (λ v. post_then (job_in v) _ _ (job_good v) (λ job h.
-    post_any (or_else false (a_flag Member.EnforceIndex) (present Member.EnforceIndex t)) _ _ (λ enforce.
-    post_any (or_else 0 (a_number Member.JobModifyIndex 0 max_index) (present Member.JobModifyIndex t)) _ _ (λ index. h)))))
+    post_any (enforced_in t) _ _ (λ index. h))))
 
 -- ---- what is read
 

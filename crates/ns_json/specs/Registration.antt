@@ -19,6 +19,7 @@ use Rattle.ns_types.specs.declared.job.Group.{Group}
 use Rattle.ns_types.specs.declared.job.Constraint.{Constraint}
 use Rattle.ns_types.specs.declared.job.Registration.{Registration}
 use Rattle.ns_json.specs.declared.registration.RegistrationDocument.{RegistrationDocument}
+use Rattle.ns_json.specs.declared.registration.JobTerms.{JobTerms}
 use Rattle.ns_json.specs.Reading.{◌>>=◌, Read, top, present, demanded, or_else, some, or_refuse, an_object, a_flag}
 use Rattle.ns_json.specs.Reading.{a_number, a_text, a_name, has_name, unless, a_list, each}
 
@@ -94,18 +95,24 @@ target_of s =
 unfoldable pub operand_of : List ℕ → Option Operand
 operand_of s = if bytes_eq s (codes "=") then Some Equal else if bytes_eq s (codes "!=") then Some NotEqual else None
 
+-- the operand, and the value that the target is compared with
+unfoldable pub compared_in : Data → Read (Operand × List ℕ)
+compared_in c = do
+  value ← demanded Member.RightTarget c
+  value ← a_text Member.RightTarget value
+  operand ← demanded Member.Operand c
+  operand ← a_text Member.Operand operand
+  operand ← or_refuse Member.Operand (operand_of operand)
+  Ok (operand, value)
+
 unfoldable pub constraint_in : Data → Read Constraint
 constraint_in d = do
   c ← an_object Member.Constraints d
   target ← demanded Member.LeftTarget c
   target ← a_text Member.LeftTarget target
   target ← or_refuse Member.LeftTarget (target_of target)
-  value ← demanded Member.RightTarget c
-  value ← a_text Member.RightTarget value
-  operand ← demanded Member.Operand c
-  operand ← a_text Member.Operand operand
-  operand ← or_refuse Member.Operand (operand_of operand)
-  Ok (record { target = target; operand = operand; value = value })
+  compared ← compared_in c
+  Ok (record { target = target; operand = compared.0; value = compared.1 })
 
 -- ---- the job
 
@@ -149,31 +156,52 @@ groups_in d = do
   ds ← a_list Member.TaskGroups 1 16 d
   each group_in [] ds
 
+-- the groups of a job that is neither periodic nor parameterized
+unfoldable pub job_groups_in : Data → Read (List Group)
+job_groups_in j = do
+  periodic ← absent Member.Periodic (present Member.Periodic j)
+  parameterized ← absent Member.ParameterizedJob (present Member.ParameterizedJob j)
+  groups ← demanded Member.TaskGroups j
+  groups_in groups
+
+unfoldable pub work_in : Data → Read (List Constraint × List Group)
+work_in j = do
+  constraints ← or_else [] constraints_in (present Member.Constraints j)
+  groups ← job_groups_in j
+  Ok (constraints, groups)
+
+-- what a job says beside its name and its namespace
+unfoldable pub terms_in : Data → Read JobTerms
+terms_in j = do
+  kind ← or_else Service kind_in (present Member.Type j)
+  priority ← or_else 50 (a_number Member.Priority 1 100) (present Member.Priority j)
+  pool ← or_else None pool_in (present Member.NodePool j)
+  work ← work_in j
+  Ok (record { kind = kind; priority = priority; pool = pool; constraints = work.0; groups = work.1 })
+
+-- the name of a job, and the namespace that it names
+unfoldable pub names_in : Data → Read (List ℕ × Option (List ℕ))
+names_in j = do
+  id ← demanded Member.Id j
+  id ← a_name Member.Id NameKind.Job id
+  namespace ← or_else None (name_if_any Member.Namespace NameKind.Namespace) (present Member.Namespace j)
+  Ok (id, namespace)
+
 -- what the job says, where no index is demanded
 unfoldable pub job_in : Data → Read RegistrationDocument
 job_in d = do
   j ← an_object Member.Job d
-  id ← demanded Member.Id j
-  id ← a_name Member.Id NameKind.Job id
-  namespace ← or_else None (name_if_any Member.Namespace NameKind.Namespace) (present Member.Namespace j)
-  kind ← or_else Service kind_in (present Member.Type j)
-  priority ← or_else 50 (a_number Member.Priority 1 100) (present Member.Priority j)
-  pool ← or_else None pool_in (present Member.NodePool j)
-  constraints ← or_else [] constraints_in (present Member.Constraints j)
-  periodic ← absent Member.Periodic (present Member.Periodic j)
-  parameterized ← absent Member.ParameterizedJob (present Member.ParameterizedJob j)
-  groups ← demanded Member.TaskGroups j
-  groups ← groups_in groups
+  names ← names_in j
+  terms ← terms_in j
   Ok (record {
-    namespace = namespace;
+    namespace = names.1;
     registration = record {
-      id = id;
-      kind = kind;
-      priority = priority;
-      pool = pool;
-      constraints = constraints;
-      groups =
-          groups;
+      id = names.0;
+      kind = terms.kind;
+      priority = terms.priority;
+      pool = terms.pool;
+      constraints = terms.constraints;
+      groups = terms.groups;
       enforced = None;
     };
   })
@@ -186,11 +214,16 @@ enforced false n = None
 abbrev pub demanding : Option ℕ → Registration → Registration
 demanding index r = record r { enforced = index }
 
+unfoldable pub enforced_in : Data → Read (Option ℕ)
+enforced_in top = do
+  enforce ← or_else false (a_flag Member.EnforceIndex) (present Member.EnforceIndex top)
+  index ← or_else 0 (a_number Member.JobModifyIndex 0 max_index) (present Member.JobModifyIndex top)
+  Ok (enforced enforce index)
+
 unfoldable pub registration_in : Data → Read RegistrationDocument
 registration_in d = do
   top ← top d
   job ← demanded Member.Job top
   job ← job_in job
-  enforce ← or_else false (a_flag Member.EnforceIndex) (present Member.EnforceIndex top)
-  index ← or_else 0 (a_number Member.JobModifyIndex 0 max_index) (present Member.JobModifyIndex top)
-  Ok (record { namespace = job.namespace; registration = demanding (enforced enforce index) job.registration })
+  index ← enforced_in top
+  Ok (record { namespace = job.namespace; registration = demanding index job.registration })

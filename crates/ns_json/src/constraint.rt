@@ -3,7 +3,7 @@
 ghost use Rattle.std.specs.Prelude.{◌≡◌, [], option_map};
 ghost use Rattle.serde_json.specs.View.{view, items_view};
 ghost use Rattle.ns_json.specs.Reading.{Gives, same, each, or_refuse};
-ghost use Rattle.ns_json.specs.Registration.{attribute_key, target_of, operand_of, constraint_in, constraint_after, constraints_in};
+ghost use Rattle.ns_json.specs.Registration.{attribute_key, target_of, operand_of, compared_in, constraint_in, constraint_after, constraints_in};
 
 use crate::member::{demanded, list, object, text};
 use ns_types::job::{Constraint, Operand, Target};
@@ -50,6 +50,18 @@ fn operand(text: &str) -> Result<Operand, Refusal>
     Err(Refusal::BadField(Member::Operand))
 }
 
+/// The operand and the value of a constraint.
+#[tactic(auto, unfolding(crate::specs::Registration::compared_in))]
+fn compared(alloc: Global, constraint: &Value) -> Result<(Operand, Text), Refusal>
+    ensures { Gives same result (compared_in (view constraint.now)) }
+{
+    let right = demanded(constraint, Member::RightTarget)?;
+    let right = text(right, Member::RightTarget)?;
+    let named = demanded(constraint, Member::Operand)?;
+    let operand = operand(text(named, Member::Operand)?)?;
+    Ok((operand, Text::from_str(alloc, right)?))
+}
+
 #[tactic(auto, unfolding(crate::specs::Registration::constraint_in))]
 fn constraint(alloc: Global, value: &Value) -> Result<Constraint, Refusal>
     ensures { Gives same result (constraint_in (view value.now)) }
@@ -57,15 +69,17 @@ fn constraint(alloc: Global, value: &Value) -> Result<Constraint, Refusal>
     let constraint = object(value, Member::Constraints)?;
     let left = demanded(constraint, Member::LeftTarget)?;
     let target = target(alloc, text(left, Member::LeftTarget)?)?;
-    let right = demanded(constraint, Member::RightTarget)?;
-    let value = Text::from_str(alloc, text(right, Member::RightTarget)?)?;
-    let named = demanded(constraint, Member::Operand)?;
-    let operand = operand(text(named, Member::Operand)?)?;
-    Ok(Constraint {
-        target,
-        operand,
-        value,
-    })
+    match compared(alloc, constraint) {
+        Ok((operand, value)) => Ok(Constraint {
+            target,
+            operand,
+            value,
+        }),
+        Err(refusal) => {
+            drop(target);
+            Err(refusal)
+        }
+    }
 }
 
 #[tactic(auto, unfolding(crate::specs::Registration::constraints_in))]

@@ -5,15 +5,15 @@ ghost use Rattle.serde_json.specs.View.{view};
 ghost use Rattle.ns_types.specs.declared.job.JobKind.TheVariants.{Service};
 ghost use Rattle.ns_types.specs.State.Limits.{is_good_registration};
 ghost use Rattle.ns_json.specs.Reading.{Gives, same, present, or_else, body_in, IsOfDocument};
-ghost use Rattle.ns_json.specs.Registration.{name_if_any, pool_in, kind_in, absent, constraints_in, job_in, registration_in};
+ghost use Rattle.ns_json.specs.Registration.{name_if_any, pool_in, kind_in, absent, constraints_in, job_groups_in, work_in, terms_in, names_in, job_in, enforced_in, registration_in};
 
 use crate::constraint::constraints;
 use crate::group::groups;
-use crate::member;
 use crate::member::{
-    demanded, document, flag_or_false, name_if_any, number_or, object, present, read_json, text,
+    demanded, document, flag_or_false, name, name_if_any, number_or, object, present, read_json,
+    text,
 };
-use ns_types::job::{Constraint, JobKind, Registration};
+use ns_types::job::{Constraint, Group, JobKind, Registration};
 use ns_types::name::NameKind;
 use ns_types::refusal::{Member, Refusal};
 use ns_types::rows::Rows;
@@ -101,33 +101,114 @@ fn absent(job: &Value, member: Member) -> Result<(), Refusal>
     }
 }
 
+/// The groups of a job that is neither periodic nor parameterized.
+#[tactic(auto, unfolding(crate::specs::Registration::job_groups_in))]
+fn job_groups(alloc: Global, job: &Value) -> Result<Rows<Group>, Refusal>
+    ensures { Gives same result (job_groups_in (view job.now)) }
+{
+    absent(job, Member::Periodic)?;
+    absent(job, Member::ParameterizedJob)?;
+    groups(alloc, demanded(job, Member::TaskGroups)?)
+}
+
+/// The constraints of a job, and its groups.
+#[tactic(auto, unfolding(crate::specs::Registration::work_in))]
+fn work(alloc: Global, job: &Value) -> Result<(Rows<Constraint>, Rows<Group>), Refusal>
+    ensures { Gives same result (work_in (view job.now)) }
+{
+    let constraints = constraints_or_none(alloc, job)?;
+    match job_groups(alloc, job) {
+        Ok(groups) => Ok((constraints, groups)),
+        Err(refusal) => {
+            drop(constraints);
+            Err(refusal)
+        }
+    }
+}
+
+/// What a job says beside its name and its namespace.
+#[derive(Drop)]
+pub(crate) struct JobTerms {
+    kind: JobKind,
+    priority: u64,
+    pool: Option<Text>,
+    constraints: Rows<Constraint>,
+    groups: Rows<Group>,
+}
+
+#[tactic(auto, unfolding(crate::specs::Registration::terms_in))]
+fn terms(alloc: Global, job: &Value) -> Result<JobTerms, Refusal>
+    ensures { Gives same result (terms_in (view job.now)) }
+{
+    let kind = kind_or_service(job)?;
+    let priority = number_or(job, Member::Priority, 1, 100, 50)?;
+    let pool = node_pool(alloc, job)?;
+    match work(alloc, job) {
+        Ok((constraints, groups)) => Ok(JobTerms {
+            kind,
+            priority,
+            pool,
+            constraints,
+            groups,
+        }),
+        Err(refusal) => {
+            drop(pool);
+            Err(refusal)
+        }
+    }
+}
+
+/// The name of a job, and the namespace that it names.
+#[tactic(auto, unfolding(crate::specs::Registration::names_in))]
+fn names(alloc: Global, job: &Value) -> Result<(Text, Option<Text>), Refusal>
+    ensures { Gives same result (names_in (view job.now)) }
+{
+    let id = name(alloc, demanded(job, Member::Id)?, Member::Id, NameKind::Job)?;
+    match namespace(alloc, job) {
+        Ok(namespace) => Ok((id, namespace)),
+        Err(refusal) => {
+            drop(id);
+            Err(refusal)
+        }
+    }
+}
+
 /// What the job says. No index is demanded yet.
 #[tactic(auto, unfolding(crate::specs::Registration::job_in))]
 fn job(alloc: Global, value: &Value) -> Result<RegistrationDocument, Refusal>
     ensures { Gives same result (job_in (view value.now)) }
 {
     let job = object(value, Member::Job)?;
-    let id = member::name(alloc, demanded(job, Member::Id)?, Member::Id, NameKind::Job)?;
-    let namespace = namespace(alloc, job)?;
-    let kind = kind_or_service(job)?;
-    let priority = number_or(job, Member::Priority, 1, 100, 50)?;
-    let pool = node_pool(alloc, job)?;
-    let constraints = constraints_or_none(alloc, job)?;
-    absent(job, Member::Periodic)?;
-    absent(job, Member::ParameterizedJob)?;
-    let groups = groups(alloc, demanded(job, Member::TaskGroups)?)?;
-    Ok(RegistrationDocument {
-        namespace,
-        registration: Registration {
-            id,
-            kind,
-            priority,
-            pool,
-            constraints,
-            groups,
-            enforced: None,
-        },
-    })
+    let (id, namespace) = names(alloc, job)?;
+    match terms(alloc, job) {
+        Ok(terms) => Ok(RegistrationDocument {
+            namespace,
+            registration: Registration {
+                id,
+                kind: terms.kind,
+                priority: terms.priority,
+                pool: terms.pool,
+                constraints: terms.constraints,
+                groups: terms.groups,
+                enforced: None,
+            },
+        }),
+        Err(refusal) => {
+            drop(id);
+            drop(namespace);
+            Err(refusal)
+        }
+    }
+}
+
+/// The index that is demanded, where one is.
+#[tactic(auto, unfolding(crate::specs::Registration::enforced_in))]
+fn enforced(top: &Value) -> Result<Option<u64>, Refusal>
+    ensures { Gives same result (enforced_in (view top.now)) }
+{
+    let enforce = flag_or_false(top, Member::EnforceIndex)?;
+    let index = number_or(top, Member::JobModifyIndex, 0, u64::MAX, 0)?;
+    Ok(enforce.then_some(index))
 }
 
 #[tactic(auto, unfolding(crate::specs::Registration::registration_in))]
@@ -136,10 +217,16 @@ fn registration(alloc: Global, value: &Value) -> Result<RegistrationDocument, Re
 {
     let top = document(value)?;
     let mut document = job(alloc, demanded(top, Member::Job)?)?;
-    let enforce = flag_or_false(top, Member::EnforceIndex)?;
-    let index = number_or(top, Member::JobModifyIndex, 0, u64::MAX, 0)?;
-    document.registration.enforced = enforce.then_some(index);
-    Ok(document)
+    match enforced(top) {
+        Ok(index) => {
+            document.registration.enforced = index;
+            Ok(document)
+        }
+        Err(refusal) => {
+            drop(document);
+            Err(refusal)
+        }
+    }
 }
 
 /// The registration that a body is, or the first refusal.

@@ -28,8 +28,8 @@ use Rattle.ns_types.proofs.Named.{first_of_both, second_of_both}
 use Rattle.ns_json.specs.Logs.{registration_json}
 use Rattle.ns_json.specs.Reading.{present, demanded, an_object, a_text, has_name, top}
 use Rattle.ns_json.specs.Registration.{resources_in, no_constraints, task_in, tasks_in, group_in, groups_in, attribute_key, target_of, operand_of}
-use Rattle.ns_json.specs.Registration.{constraint_in, constraint_after, constraints_in, kind_of, kind_in, pool_in, job_in, registration_in, demanding}
-use Rattle.ns_json.specs.Registration.{without_suffix}
+use Rattle.ns_json.specs.Registration.{compared_in, constraint_in, constraint_after, constraints_in, kind_of, kind_in, pool_in, names_in, terms_in, work_in}
+use Rattle.ns_json.specs.Registration.{job_groups_in, job_in, enforced_in, registration_in, demanding, without_suffix}
 use Rattle.ns_json.specs.Rendering.{object_of, list_of, text_or_empty, resources_json, task_json, group_json, constraint_json}
 use Rattle.ns_log_read.proofs.Lists.{ReadBack, each_distinct, each_good, list_back}
 use Rattle.ns_log_read.proofs.Values.{text_back, name_back, number_back, if_any_back}
@@ -109,7 +109,7 @@ operand_back Operand.Equal = (refl, refl)
 operand_back Operand.NotEqual = (refl, refl)
 
 constraint_back : (before : List Constraint) (c : Constraint) → is_good_constraint c ≡ true → ReadBack constraint_after constraint_json before c
-unfolding constraint_in constraint_json an_object demanded present
+unfolding constraint_in compared_in constraint_json an_object demanded present
 constraint_back before c h =
     let left = text_back Member.LeftTarget (target_text c.target) (first_of_both (is_target c.target) (is_text c.value) h) in
     let right = text_back Member.RightTarget c.value (second_of_both (is_target c.target) (is_text c.value) h) in
@@ -182,7 +182,7 @@ groups_back r h = list_back Member.TaskGroups 1 16 group_in group_json r.groups 
 
 job_back : (r : Registration) → is_good_registration r ≡ true →
     job_in (registration_json r) ≡ Ok (record { namespace = None; registration = demanding None r })
-unfolding job_in registration_json an_object demanded present
+unfolding job_in names_in terms_in work_in job_groups_in registration_json an_object demanded present
 job_back r h =
     let parts = registration_parts r h in
     let id = name_back Member.Id NameKind.Job r.id parts.id in
@@ -192,5 +192,5 @@ job_back r h =
 -- the body that says the registration as a job
 pub registration_back : (r : Registration) → is_good_registration r ≡ true →
     registration_in (object_of ((codes "Job", registration_json r) ∷ [])) ≡ Ok (record { namespace = None; registration = demanding None r })
-unfolding registration_in registration_json demanded present top
+unfolding registration_in enforced_in registration_json demanded present top
 registration_back r h = rw (job_back r h) refl
