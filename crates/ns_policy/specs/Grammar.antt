@@ -3,6 +3,7 @@ use Rattle.std.specs.Prelude.{ℕ, zero, suc, ◌+◌, ◌-◌, ◌^◌, ◌==�
 use Rattle.std.specs.Prelude.{length, Bool, true, false, Option, Some, None, is_some, Ok, Err, codes, if◌then◌else◌}
 use Rattle.std.specs.Str.{bytes_eq}
 use Rattle.ns_policy.specs.declared.fault.RuleFault.TheVariants.{Syntax, Value}
+use Rattle.ns_types.specs.declared.acl.Pattern.{Pattern}
 use Rattle.ns_types.specs.declared.acl.RuleKind.{RuleKind}
 use Rattle.ns_types.specs.declared.acl.RuleKind.TheVariants.{Namespace, Pool}
 use Rattle.ns_types.specs.declared.acl.Rule.{Rule}
@@ -52,20 +53,24 @@ step_item s (word w) = Ok (at s (Place.Name (role_of s.depth (is_some s.draft) w
 step_item s close_block = leave s
 step_item s _ = Err Syntax
 
+-- a rule begins, which gives nothing yet
+abbrev pub begun : State → RuleKind → Pattern → State
+begun s kind pattern = record s {
+  draft = Some (record {
+    kind = kind;
+    pattern = pattern;
+    grants = no_grants;
+    has_policy =
+        false;
+    has_capabilities = false;
+  });
+  place = Place.Label (Role.Block kind);
+}
+
 unfoldable pub named : State → RuleKind → List ℕ → Read State
 named s kind label = do
   pattern ← pattern_of kind label
-  Ok (record s {
-    draft = Some (record {
-      kind = kind;
-      pattern = pattern;
-      grants = no_grants;
-      has_policy =
-          false;
-      has_capabilities = false;
-    });
-    place = Place.Label (Role.Block kind);
-  })
+  Ok (begun s kind pattern)
 
 unfoldable pub step_name : State → Role → Token → Read State
 step_name s role equals = Ok (at s (Place.Value role))

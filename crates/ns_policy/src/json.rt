@@ -7,7 +7,7 @@ ghost use Rattle.serde_json.specs.Find.{as_array};
 ghost use Rattle.ns_policy.specs.Json.{or_value, present, policy_in, capabilities_in, each_capability, one_capability, json_form, rule_in, with_rule, each_rule, kind_rules, member_name, json_rules, json_text};
 
 use crate::fault::RuleFault;
-use crate::rule::{read_pattern, with_capability, with_policy};
+use crate::rule::{one_more, read_pattern, with_capability, with_policy};
 use ns_types::acl::{Grants, NO_GRANTS, Rule, RuleKind};
 use ns_types::rows::Rows;
 use serde_json::{Map, Value};
@@ -107,10 +107,13 @@ fn add_rule(
     if value.is_null() {
         return Ok(rules);
     }
-    let rule = rule_of(alloc, kind, label, value)?;
-    let mut all = rules;
-    all.push(rule)?;
-    Ok(all)
+    match rule_of(alloc, kind, label, value) {
+        Ok(rule) => one_more(rules, rule),
+        Err(fault) => {
+            drop(rules);
+            Err(fault)
+        }
+    }
 }
 
 fn add_rules(
@@ -139,10 +142,13 @@ fn add_kind(
 {
     match present(text, name_of(kind)) {
         None => Ok(rules),
-        Some(value) => {
-            let members = value.as_object().ok_or(RuleFault::Value)?;
-            add_rules(alloc, rules, kind, members)
-        }
+        Some(value) => match value.as_object() {
+            Some(members) => add_rules(alloc, rules, kind, members),
+            None => {
+                drop(rules);
+                Err(RuleFault::Value)
+            }
+        },
     }
 }
 

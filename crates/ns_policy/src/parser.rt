@@ -1,19 +1,19 @@
 //! Reading rules: one token after the other.
 
-ghost use Rattle.std.specs.Prelude.{◌≡◌, Ok};
+ghost use Rattle.std.specs.Prelude.{◌≡◌, Ok, Err};
 ghost use Rattle.ns_policy.specs.Tokens.{seen};
 ghost use Rattle.ns_policy.specs.Rules.{Gives, same};
-ghost use Rattle.ns_policy.specs.Grammar.{role_of, start, at, blocks, read_on, next, finish, step, with_rule, step_item, step_name, step_label, step_value, step_before, step_after, close_list, set_policy, begin_capabilities, add_capability, enter, leave, named, is_flag};
+ghost use Rattle.ns_policy.specs.Grammar.{role_of, start, at, blocks, read_on, next, finish, step, with_rule, step_item, step_name, step_label, step_value, step_before, step_after, close_list, set_policy, begin_capabilities, add_capability, enter, leave, begun, named, is_flag};
 
 use crate::fault::RuleFault;
 use crate::lex::{Token, skip_blanks, token_at};
-use crate::rule::{read_pattern, with_capability, with_policy};
+use crate::rule::{one_more, read_pattern, with_capability, with_policy};
 use ns_types::acl::{Grants, NO_GRANTS, Pattern, Rule, RuleKind};
 use ns_types::rows::Rows;
 use std::alloc::Global;
 
 /// What the word of an item says.
-#[derive(Clone, Copy, Debug, PartialEq, Eq)]
+#[derive(Clone, Copy, PartialEq, Eq)]
 pub enum Role {
     Block(RuleKind),
     Policy,
@@ -22,7 +22,7 @@ pub enum Role {
 }
 
 /// Where the next token stands.
-#[derive(Clone, Copy, Debug, PartialEq, Eq)]
+#[derive(Clone, Copy, PartialEq, Eq)]
 pub enum Place {
     /// An item may begin here, or the block or the text end.
     Item,
@@ -89,13 +89,30 @@ fn is_flag(word: &[u8]) -> bool
     word == b"true".as_slice() || word == b"false".as_slice()
 }
 
+/// What was read is let go.
+fn refused(state: State, fault: RuleFault) -> Result<State, RuleFault>
+    ensures { result ≡ Err fault }
+{
+    drop(state);
+    Err(fault)
+}
+
+/// What was read is let go, with the rule whose block is open.
+fn refused_in_rule(rules: Rows<Rule>, draft: Draft, fault: RuleFault) -> Result<State, RuleFault>
+    ensures { result ≡ Err fault }
+{
+    drop(rules);
+    drop(draft);
+    Err(fault)
+}
+
 /// A block opens.
 #[tactic(auto, unfolding(crate::specs::Grammar::enter))]
 fn enter(state: State) -> Result<State, RuleFault>
     ensures { Gives same result (enter state) }
 {
     if state.depth >= MAX_DEPTH {
-        return Err(RuleFault::Syntax);
+        return refused(state, RuleFault::Syntax);
     }
     Ok(State {
         depth: state.depth + 1,
@@ -108,15 +125,17 @@ fn enter(state: State) -> Result<State, RuleFault>
 fn with_rule(rules: Rows<Rule>, draft: Option<Draft>) -> Result<Rows<Rule>, RuleFault>
     ensures { Gives same result (Ok (with_rule rules draft)) }
 {
-    let mut rules = rules;
-    if let Some(draft) = draft {
-        rules.push(Rule {
-            kind: draft.kind,
-            pattern: draft.pattern,
-            grants: draft.grants,
-        })?;
+    match draft {
+        None => Ok(rules),
+        Some(draft) => one_more(
+            rules,
+            Rule {
+                kind: draft.kind,
+                pattern: draft.pattern,
+                grants: draft.grants,
+            },
+        ),
     }
-    Ok(rules)
 }
 
 /// A block closes, and with it the rule that it states.
@@ -125,7 +144,7 @@ fn leave(state: State) -> Result<State, RuleFault>
     ensures { Gives same result (leave state) }
 {
     if state.depth == 0 {
-        return Err(RuleFault::Syntax);
+        return refused(state, RuleFault::Syntax);
     }
     if state.depth > 1 {
         return Ok(State {
@@ -155,7 +174,32 @@ fn step_item(state: State, token: Token<'_>) -> Result<State, RuleFault>
             })
         }
         Token::CloseBlock => leave(state),
-        _ => Err(RuleFault::Syntax),
+        _ => refused(state, RuleFault::Syntax),
+    }
+}
+
+/// A rule begins, which gives nothing yet.
+fn begun(state: State, kind: RuleKind, pattern: Pattern) -> State
+    ensures { result ≡ begun state kind pattern }
+{
+    let State {
+        rules,
+        draft,
+        depth,
+        place: _,
+    } = state;
+    drop(draft);
+    State {
+        rules,
+        draft: Some(Draft {
+            kind,
+            pattern,
+            grants: NO_GRANTS,
+            has_policy: false,
+            has_capabilities: false,
+        }),
+        depth,
+        place: Place::Label(Role::Block(kind)),
     }
 }
 
@@ -164,18 +208,10 @@ fn step_item(state: State, token: Token<'_>) -> Result<State, RuleFault>
 fn named(alloc: Global, state: State, kind: RuleKind, label: &[u8]) -> Result<State, RuleFault>
     ensures { Gives same result (named state kind label.now) }
 {
-    let pattern = read_pattern(alloc, kind, label)?;
-    Ok(State {
-        draft: Some(Draft {
-            kind,
-            pattern,
-            grants: NO_GRANTS,
-            has_policy: false,
-            has_capabilities: false,
-        }),
-        place: Place::Label(Role::Block(kind)),
-        ..state
-    })
+    match read_pattern(alloc, kind, label) {
+        Ok(pattern) => Ok(begun(state, kind, pattern)),
+        Err(fault) => refused(state, fault),
+    }
 }
 
 #[tactic(auto, unfolding(crate::specs::Grammar::step_name))]
@@ -193,8 +229,8 @@ fn step_name(alloc: Global, state: State, role: Role, token: Token<'_>) -> Resul
             ..state
         }),
         (Token::OpenBlock, Role::Other) => enter(state),
-        (Token::Text(_) | Token::OpenBlock, _) => Err(RuleFault::Value),
-        _ => Err(RuleFault::Syntax),
+        (Token::Text(_) | Token::OpenBlock, _) => refused(state, RuleFault::Value),
+        _ => refused(state, RuleFault::Syntax),
     }
 }
 
@@ -204,9 +240,9 @@ fn step_label(state: State, role: Role, token: Token<'_>) -> Result<State, RuleF
 {
     match (token, role) {
         (Token::Text(_), Role::Other) => Ok(state),
-        (Token::Text(_), _) => Err(RuleFault::Value),
+        (Token::Text(_), _) => refused(state, RuleFault::Value),
         (Token::OpenBlock, _) => enter(state),
-        _ => Err(RuleFault::Syntax),
+        _ => refused(state, RuleFault::Syntax),
     }
 }
 
@@ -215,20 +251,32 @@ fn step_label(state: State, role: Role, token: Token<'_>) -> Result<State, RuleF
 fn set_policy(state: State, word: &[u8]) -> Result<State, RuleFault>
     ensures { Gives same result (set_policy state word.now) }
 {
-    let draft = state.draft.ok_or(RuleFault::Value)?;
-    if draft.has_policy {
+    let State {
+        rules,
+        draft,
+        depth,
+        place: _,
+    } = state;
+    let Some(draft) = draft else {
+        drop(rules);
         return Err(RuleFault::Value);
+    };
+    if draft.has_policy {
+        return refused_in_rule(rules, draft, RuleFault::Value);
     }
-    let grants = with_policy(draft.kind, draft.grants, word)?;
-    Ok(State {
-        draft: Some(Draft {
-            grants,
-            has_policy: true,
-            ..draft
+    match with_policy(draft.kind, draft.grants, word) {
+        Ok(grants) => Ok(State {
+            rules,
+            draft: Some(Draft {
+                grants,
+                has_policy: true,
+                ..draft
+            }),
+            depth,
+            place: Place::Item,
         }),
-        place: Place::Item,
-        ..state
-    })
+        Err(fault) => refused_in_rule(rules, draft, fault),
+    }
 }
 
 /// The list of capabilities begins.
@@ -236,17 +284,27 @@ fn set_policy(state: State, word: &[u8]) -> Result<State, RuleFault>
 fn begin_capabilities(state: State) -> Result<State, RuleFault>
     ensures { Gives same result (begin_capabilities state) }
 {
-    let draft = state.draft.ok_or(RuleFault::Value)?;
-    if draft.has_capabilities {
+    let State {
+        rules,
+        draft,
+        depth,
+        place: _,
+    } = state;
+    let Some(draft) = draft else {
+        drop(rules);
         return Err(RuleFault::Value);
+    };
+    if draft.has_capabilities {
+        return refused_in_rule(rules, draft, RuleFault::Value);
     }
     Ok(State {
+        rules,
         draft: Some(Draft {
             has_capabilities: true,
             ..draft
         }),
+        depth,
         place: Place::Before(Role::Capabilities, 1),
-        ..state
     })
 }
 
@@ -255,13 +313,25 @@ fn begin_capabilities(state: State) -> Result<State, RuleFault>
 fn add_capability(state: State, word: &[u8]) -> Result<State, RuleFault>
     ensures { Gives same result (add_capability state word.now) }
 {
-    let draft = state.draft.ok_or(RuleFault::Value)?;
-    let grants = with_capability(draft.kind, draft.grants, word)?;
-    Ok(State {
-        draft: Some(Draft { grants, ..draft }),
-        place: Place::After(Role::Capabilities, 1),
-        ..state
-    })
+    let State {
+        rules,
+        draft,
+        depth,
+        place: _,
+    } = state;
+    let Some(draft) = draft else {
+        drop(rules);
+        return Err(RuleFault::Value);
+    };
+    match with_capability(draft.kind, draft.grants, word) {
+        Ok(grants) => Ok(State {
+            rules,
+            draft: Some(Draft { grants, ..draft }),
+            depth,
+            place: Place::After(Role::Capabilities, 1),
+        }),
+        Err(fault) => refused_in_rule(rules, draft, fault),
+    }
 }
 
 fn move_to(state: State, place: Place) -> State
@@ -278,15 +348,15 @@ fn step_value(state: State, role: Role, token: Token<'_>) -> Result<State, RuleF
         (Token::Text(word), Role::Policy) => set_policy(state, word),
         (Token::BeginList, Role::Capabilities) => begin_capabilities(state),
         (Token::Text(_) | Token::Number | Token::BeginList, Role::Policy | Role::Capabilities) => {
-            Err(RuleFault::Value)
+            refused(state, RuleFault::Value)
         }
         (Token::Text(_) | Token::Number, _) => Ok(move_to(state, Place::Item)),
         (Token::BeginList, _) => Ok(move_to(state, Place::Before(role, 1))),
         (Token::Word(word), Role::Policy | Role::Capabilities) if is_flag(word) => {
-            Err(RuleFault::Value)
+            refused(state, RuleFault::Value)
         }
         (Token::Word(word), _) if is_flag(word) => Ok(move_to(state, Place::Item)),
-        _ => Err(RuleFault::Syntax),
+        _ => refused(state, RuleFault::Syntax),
     }
 }
 
@@ -308,15 +378,17 @@ fn step_before(state: State, role: Role, lists: u64, token: Token<'_>) -> Result
     match (token, role) {
         (Token::EndList, _) => Ok(close_list(state, role, lists)),
         (Token::Text(word), Role::Capabilities) => add_capability(state, word),
-        (Token::Number | Token::BeginList, Role::Capabilities) => Err(RuleFault::Value),
+        (Token::Number | Token::BeginList, Role::Capabilities) => refused(state, RuleFault::Value),
         (Token::Text(_) | Token::Number, _) => Ok(move_to(state, Place::After(role, lists))),
         (Token::BeginList, _) => match lists.checked_add(1) {
             Some(lists) => Ok(move_to(state, Place::Before(role, lists))),
-            None => Err(RuleFault::Syntax),
+            None => refused(state, RuleFault::Syntax),
         },
-        (Token::Word(word), Role::Capabilities) if is_flag(word) => Err(RuleFault::Value),
+        (Token::Word(word), Role::Capabilities) if is_flag(word) => {
+            refused(state, RuleFault::Value)
+        }
         (Token::Word(word), _) if is_flag(word) => Ok(move_to(state, Place::After(role, lists))),
-        _ => Err(RuleFault::Syntax),
+        _ => refused(state, RuleFault::Syntax),
     }
 }
 
@@ -327,7 +399,7 @@ fn step_after(state: State, role: Role, lists: u64, token: Token<'_>) -> Result<
     match token {
         Token::Comma => Ok(move_to(state, Place::Before(role, lists))),
         Token::EndList => Ok(close_list(state, role, lists)),
-        _ => Err(RuleFault::Syntax),
+        _ => refused(state, RuleFault::Syntax),
     }
 }
 
@@ -351,8 +423,16 @@ fn finish(state: State) -> Result<Rows<Rule>, RuleFault>
     ensures { Gives same result (finish state) }
 {
     if state.place == Place::Item && state.depth == 0 {
-        Ok(state.rules)
+        let State {
+            rules,
+            draft,
+            depth: _,
+            place: _,
+        } = state;
+        drop(draft);
+        Ok(rules)
     } else {
+        drop(state);
         Err(RuleFault::Syntax)
     }
 }
@@ -394,6 +474,7 @@ fn read_tokens(alloc: Global, text: &[u8], turns: usize) -> Result<State, RuleFa
     if rest.is_empty() {
         Ok(state)
     } else {
+        drop(state);
         Err(RuleFault::Syntax)
     }
 }

@@ -1,11 +1,12 @@
 //! What the words of a rule give, and on which names.
 
-ghost use Rattle.std.specs.Prelude.{◌≡◌};
+ghost use Rattle.std.specs.Prelude.{◌≡◌, ◌∷◌, ◌++◌, [], Ok};
 ghost use Rattle.ns_policy.specs.Rules.{Gives, same, name_kind, namespace_policy, pool_policy, with_policy, namespace_capability, pool_capability, with_capability, pattern_of};
 
 use crate::fault::RuleFault;
-use ns_types::acl::{Grants, Pattern, RuleKind};
+use ns_types::acl::{Grants, Pattern, Rule, RuleKind};
 use ns_types::name::{NameKind, has_name_bytes};
+use ns_types::rows::Rows;
 use ns_types::text::Text;
 use std::alloc::Global;
 
@@ -142,6 +143,20 @@ fn name_kind(kind: RuleKind) -> NameKind
 }
 
 const MAX_NAME: usize = 128;
+
+/// The rules with one more, which stands last.
+pub fn one_more(rules: Rows<Rule>, rule: Rule) -> Result<Rows<Rule>, RuleFault>
+    ensures { Gives same result (Ok (rules ++ rule ∷ [])) }
+{
+    let mut rules = rules;
+    match rules.push(rule) {
+        Ok(()) => Ok(rules),
+        Err(_) => {
+            drop(rules);
+            Err(RuleFault::Memory)
+        }
+    }
+}
 
 /// The pattern that a label is.
 #[tactic(auto, using(crate::proofs::Patterns::names_are_utf8), unfolding(crate::specs::Rules::pattern_of))]
