@@ -1,4 +1,3 @@
-pub mod Members
 pub mod Records
 pub mod Access
 pub mod Nodes

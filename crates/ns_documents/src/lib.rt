@@ -1,7 +1,6 @@
 //! The documents of namespaces, quotas, pools, policies and tokens, and what is told of nodes.
 #![tactic(auto)]
 
-mod members;
 mod namespace;
 mod node;
 mod policy;

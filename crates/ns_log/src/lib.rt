@@ -4,10 +4,12 @@
 mod call;
 mod document;
 mod entry;
+mod line;
 mod log;
 mod member;
 mod registration;
 mod step;
 
 pub use entry::{Entry, entry_line};
+pub use line::line_len;
 pub use log::log_text;

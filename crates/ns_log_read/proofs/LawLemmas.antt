@@ -11,7 +11,8 @@ use Rattle.ns_types.specs.State.Names.{Name}
 use Rattle.ns_json.specs.Logs.{entry_json, line_of, log_text}
 use Rattle.ns_json.specs.Replies.{Entry}
 use Rattle.ns_log_read.specs.Laws.{OneLog, LogHasNoFault, OneFault}
-use Rattle.ns_log_read.specs.Lines.{IsWithin, IsWritable, IsLogOf, HasBadHead, HasBadEntry, IsBadAfter, entry_text, first_text}
+use Rattle.ns_log.specs.Lines.{entry_text}
+use Rattle.ns_log_read.specs.Lines.{IsWithin, IsWritable, IsLogOf, HasBadHead, HasBadEntry, IsBadAfter, first_text}
 use Rattle.ns_log_read.specs.Reading.{entry_in}
 use Rattle.ns_log_read.proofs.Feeds.{Lacks, one_line}
 use Rattle.ns_log_read.proofs.Lines.{written_is_read, entry_lacks, first_lacks, one_value, one_ok, opened, line, lines}

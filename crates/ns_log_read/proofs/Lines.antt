@@ -16,9 +16,10 @@ use Rattle.ns_types.specs.State.Name.{is_name}
 use Rattle.ns_types.specs.State.Names.{Name}
 use Rattle.ns_json.specs.Logs.{entry_json, line_of, log_text}
 use Rattle.ns_json.specs.Replies.{Entry}
+use Rattle.ns_log.specs.Lines.{BeginsWith, IsLineLen, entry_text}
 use Rattle.ns_log_read.specs.declared.fault.LineFault.TheVariants.{Bad}
-use Rattle.ns_log_read.specs.Lines.{IsWithin, IsWritable, IsLogOf, BeginsWith, HasBadHead, HasBadEntry, IsBadAfter, entry_text, first_text}
-use Rattle.ns_log_read.specs.Reading.{Read, Gives, same, entry_in, is_feed, BeginsWithLine, IsLineLen, ReadsBack, IsNoFirst, HasEntries, StopsAfter}
+use Rattle.ns_log_read.specs.Lines.{IsWithin, IsWritable, IsLogOf, HasBadHead, HasBadEntry, IsBadAfter, first_text}
+use Rattle.ns_log_read.specs.Reading.{Read, Gives, same, entry_in, is_feed, BeginsWithLine, ReadsBack, IsNoFirst, HasEntries, StopsAfter}
 use Rattle.ns_log_read.proofs.Spelled.{read_spelled}
 use Rattle.ns_log_read.proofs.Feeds.{Lacks, lacks_both, lacks_by, text_lacks, secret_lacks, one_line}
 use Rattle.ns_log_read.proofs.Steps.{entry_back}
@@ -117,21 +118,6 @@ one_ok x y h = cc
 
 pub bad_candidate : (text : Name) (i : ℕ) → Some i ≡ position is_feed text → ReadsBack (take i text) (Err Bad) → HasBadEntry text
 bad_candidate text i at back = λ e w b. not_bad e (back e w (first_is text i (entry_text e) at (entry_lacks e w.within) b))
-
-begins : (text line : Name) → (starts_with eqb text line ≡ true → text ≡ line ++ drop (length line) text)
-    × ((rest : Name) → text ≡ line ++ rest → starts_with eqb text line ≡ true)
-begins text line = starts_is (λ a b. (eqb-true a b, eq-eqb a b)) text line (starts_with eqb text line) refl
-
--- whether the text begins with the line that was written, and how long that is
-pub line_len_is : (text written : Name) (e : Entry) (begun : Bool) → written ≡ line_of (entry_text e) → begun ≡ starts_with eqb text written →
-    IsLineLen text e (then_some begun (length written))
-line_len_is text written e true is begun =
-    let whole : text ≡ written ++ drop (length written) text = (begins text written).0 (sym begun) in
-    let long : length written ≡ length (entry_text e) + 1 = ap length is ∙ length-append (entry_text e) (10 ∷ []) in
-    let both : length text ≡ length written + length (drop (length written) text) = ap length whole ∙ length-append written (drop (length written) text) in
-    (whole ∙ ap (λ l. l ++ drop (length written) text) is, omega arith, omega arith)
-line_len_is text written e false is begun = λ b.
-    false≢true (begun ∙ (begins text written).1 b.0 (b.1 ∙ ap (λ l. l ++ b.0) (sym is)))
 
 pub other_spelling : (text : Name) (i : ℕ) (x : Entry) → Some i ≡ position is_feed text → ReadsBack (take i text) (Ok x) →
     (BeginsWith text (entry_text x) → ⊥) → HasBadEntry text

@@ -109,9 +109,9 @@ node_call_back (NodeCommand.Report name r) h = rw (client_back r.client) refl
 
 pub step_back : (s : Step) → IsGoodStep s → IsAsRead s → step_in (object_of (step_members s)) ≡ Ok s
 unfolding step_members step_in step_of text_in number_in member_in text_or_null_in ask_in admin_in node_step_in work_of work_in dequeue_in
-step_back (Step.Ask ns secret command) h k = rw (asked_back command h, text_if_any secret) refl
-step_back (Step.Admin secret command) h k = rw (administered_back command h k, text_if_any secret) refl
-step_back (Step.Node pool secret command) h k = rw (node_call_back command h, text_if_any secret) refl
+step_back (Step.Ask ns secret command) h k = rw (text_if_any secret, asked_back command h) refl
+step_back (Step.Admin secret command) h k = rw (text_if_any secret, administered_back command h k) refl
+step_back (Step.Node pool secret command) h k = rw (text_if_any secret, node_call_back command h) refl
 step_back (Step.Dequeue worker ns n) h k = refl
 step_back (Step.Snap worker ns) h k = refl
 step_back (Step.Submit worker ns) h k = refl

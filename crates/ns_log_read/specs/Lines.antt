@@ -2,7 +2,6 @@
 use Rattle.std.specs.Prelude.{◌≡◌, ◌≢◌, ◌⊎◌, ℕ, ◌+◌, ◌^◌, ◌&&◌, nat_lt, Bool, true, List, [], ◌++◌, length, Option, Ok}
 use Rattle.std.specs.Prelude.{codes, IsTrue, IsUtf8}
 use Rattle.std.specs.Option.{option_map_or}
-use Rattle.serde_json.specs.Written.{compact_text}
 use Rattle.ns_types.specs.declared.name.NameKind.TheVariants as NameKind
 use Rattle.ns_types.specs.declared.reply.Rendered.{Rendered}
 use Rattle.ns_types.specs.declared.step.AdminCommand.{AdminCommand}
@@ -14,17 +13,15 @@ use Rattle.ns_types.specs.State.Name.{is_name}
 use Rattle.ns_types.specs.State.Names.{Name}
 use Rattle.ns_types.specs.Within.{IsGoodStep}
 use Rattle.ns_policy.specs.Json.{rules_of}
-use Rattle.ns_json.specs.Logs.{entry_json, line_of, log_text}
+use Rattle.ns_json.specs.Logs.{line_of, log_text}
 use Rattle.ns_json.specs.Replies.{Entry}
+use Rattle.ns_log.specs.Lines.{BeginsWith, entry_text}
 
 -- ---- entries
 
--- the first line of a log, and the line of an entry, without the line feed
+-- the first line of a log, without the line feed
 abbrev pub first_text : Name → Name
 first_text secret = codes "nsd-log 1 " ++ secret
-
-abbrev pub entry_text : Entry → Name
-entry_text e = compact_text (entry_json e)
 
 abbrev pub fits : ℕ → Bool
 fits n = nat_lt n (2 ^ 64)
@@ -90,10 +87,6 @@ pub record IsLogOf (text secret : Name) (entries : List Entry) : Type 0 where
   pub is_text : text ≡ log_text secret entries
 
 -- ---- the first bad line
-
--- the first line of the text is this one, line feed included; it has no other line feed
-abbrev pub BeginsWith : Name → Name → Type 0
-BeginsWith text line = (rest : Name) × (text ≡ line_of line ++ rest)
 
 -- the text begins with the first line of no log
 abbrev pub HasBadHead : Name → Type 0

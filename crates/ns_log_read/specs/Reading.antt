@@ -26,7 +26,8 @@ use Rattle.ns_json.specs.Replies.{Entry}
 use Rattle.ns_documents.specs.Access.{policy_in, token_in}
 use Rattle.ns_documents.specs.Nodes.{node_in, one_of}
 use Rattle.ns_documents.specs.Records.{namespace_in, quota_in, pool_in}
-use Rattle.ns_log_read.specs.Lines.{BeginsWith, IsWritable, HasBadEntry, entry_text, first_text}
+use Rattle.ns_log.specs.Lines.{BeginsWith, entry_text}
+use Rattle.ns_log_read.specs.Lines.{IsWritable, HasBadEntry, first_text}
 use Rattle.ns_log_read.specs.declared.fault.LineFault.{LineFault}
 use Rattle.ns_log_read.specs.declared.fault.LineFault.TheVariants.{Bad, Memory}
 
@@ -250,26 +251,26 @@ unfoldable pub ask_in : Data → Read Step
 ask_in d = do
   arguments ← member_in (codes "Args") d
   word ← text_in (codes "Do") d
-  command ← asked_in word arguments
   namespace ← text_in (codes "Ns") d
   secret ← text_or_null_in (codes "Secret") d
+  command ← asked_in word arguments
   Ok (Step.Ask namespace secret command)
 
 unfoldable pub admin_in : Data → Read Step
 admin_in d = do
   arguments ← member_in (codes "Args") d
   word ← text_in (codes "Do") d
-  command ← administered_in word arguments
   secret ← text_or_null_in (codes "Secret") d
+  command ← administered_in word arguments
   Ok (Step.Admin secret command)
 
 unfoldable pub node_step_in : Data → Read Step
 node_step_in d = do
   arguments ← member_in (codes "Args") d
   word ← text_in (codes "Do") d
-  command ← node_command_in word arguments
   pool ← text_in (codes "Pool") d
   secret ← text_or_null_in (codes "Secret") d
+  command ← node_command_in word arguments
   Ok (Step.Node pool secret command)
 
 unfoldable pub work_of : Name → ℕ → Name → Read Step
@@ -339,11 +340,6 @@ pub record BeginsWithLine (text : Name) (e : Entry) (len : ℕ) : Type 0 where
   pub is_text : text ≡ line_of (entry_text e) ++ drop len text
   pub some : 0 < len
   pub within : len ≤ length text
-
--- so many bytes has the line of the entry, if the text begins with it
-abbrev pub IsLineLen : Name → Entry → Option ℕ → Type 0
-IsLineLen text e (Some len) = (text ≡ line_of (entry_text e) ++ drop len text) × (0 < len) × (len ≤ length text)
-IsLineLen text e None = BeginsWith text (entry_text e) → ⊥
 
 abbrev pub IsNoFirst : Name → Type 0
 IsNoFirst line = (secret : Name) → IsTrue (is_name Kind.Secret secret) → line ≡ first_text secret → ⊥

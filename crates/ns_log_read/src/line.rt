@@ -6,13 +6,13 @@ ghost use Rattle.serde_json.specs.Data.{depth};
 ghost use Rattle.serde_json.specs.Read.{read, max_depth};
 ghost use Rattle.serde_json.specs.View.{view};
 ghost use Rattle.ns_log_read.specs.Lines.{IsWithin, HasBadEntry};
-ghost use Rattle.ns_log_read.specs.Reading.{BeginsWithLine, IsLineLen, ReadsBack, is_feed};
+ghost use Rattle.ns_log_read.specs.Reading.{BeginsWithLine, ReadsBack, is_feed};
 
 use crate::entry::entry;
 use crate::fault::LineFault;
-use ns_log::{Entry, entry_line};
+use ns_log::{Entry, line_len};
 use serde_json::Value;
-use std::alloc::{AllocError, Global};
+use std::alloc::Global;
 
 /// Where the first line feed stands.
 pub fn line_end(text: &[u8]) -> Option<usize>
@@ -48,15 +48,6 @@ fn candidate(alloc: Global, line: &[u8]) -> Result<Entry, LineFault>
 {
     let value = value_of(alloc, line)?;
     entry(alloc, &value)
-}
-
-/// How many bytes the line of the entry has, if the text begins with that line.
-fn line_len(alloc: Global, text: &[u8], entry: &Entry) -> Result<Option<usize>, AllocError>
-    ensures { IfOk result (IsLineLen text.now entry.now) }
-{
-    let written = entry_line(alloc, entry.step(), entry.rendered())?;
-    let line = written.as_bytes();
-    Ok(text.starts_with(line).then_some(line.len()))
 }
 
 /// An entry, and how many bytes its line has.

@@ -30,12 +30,21 @@ fn read_entries(alloc: Global, text: &[u8]) -> Result<Rows<Entry>, LogFault>
     while !rest.is_empty() {
         match next_entry(alloc, rest) {
             Ok(line) => {
-                entries.push(line.entry)?;
+                if entries.push(line.entry).is_err() {
+                    drop(entries);
+                    return Err(LogFault::Memory);
+                }
                 rest = &rest[line.len..];
                 number += 1;
             }
-            Err(LineFault::Bad) => return Err(LogFault::Line(number)),
-            Err(LineFault::Memory) => return Err(LogFault::Memory),
+            Err(LineFault::Bad) => {
+                drop(entries);
+                return Err(LogFault::Line(number));
+            }
+            Err(LineFault::Memory) => {
+                drop(entries);
+                return Err(LogFault::Memory);
+            }
         }
     }
     Ok(entries)

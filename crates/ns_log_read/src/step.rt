@@ -28,9 +28,10 @@ fn ask(alloc: Global, step: &Value) -> Result<Step, LineFault>
     ensures fits { IfOk result (λ s. IsTrue (step_fits s)) }
 {
     let arguments = member(step, "Args")?;
-    let command = asked(alloc, word(step, "Do")?, arguments)?;
+    let word = word(step, "Do")?;
     let namespace = text(alloc, step, "Ns")?;
     let secret = text_or_null(alloc, step, "Secret")?;
+    let command = asked(alloc, word, arguments)?;
     Ok(Step::Ask(namespace, secret, GoodAsk::new(command)))
 }
 
@@ -43,8 +44,9 @@ fn admin(alloc: Global, step: &Value) -> Result<Step, LineFault>
     ensures fits { IfOk result (λ s. IsTrue (step_fits s)) }
 {
     let arguments = member(step, "Args")?;
-    let command = administered(alloc, word(step, "Do")?, arguments)?;
+    let word = word(step, "Do")?;
     let secret = text_or_null(alloc, step, "Secret")?;
+    let command = administered(alloc, word, arguments)?;
     Ok(Step::Admin(secret, GoodAdmin::new(command)))
 }
 
@@ -57,9 +59,10 @@ fn node(alloc: Global, step: &Value) -> Result<Step, LineFault>
     ensures fits { IfOk result (λ s. IsTrue (step_fits s)) }
 {
     let arguments = member(step, "Args")?;
-    let command = node_command(alloc, word(step, "Do")?, arguments)?;
+    let word = word(step, "Do")?;
     let pool = text(alloc, step, "Pool")?;
     let secret = text_or_null(alloc, step, "Secret")?;
+    let command = node_command(alloc, word, arguments)?;
     Ok(Step::Node(pool, secret, GoodTelling::new(command)))
 }
 

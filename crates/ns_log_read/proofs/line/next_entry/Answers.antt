@@ -1,7 +1,8 @@
 use Rattle.std.proofs.Common.{◌≡◌, ◌∙◌, take, sym, subst, None, Some, Ok, Err}
 use Rattle.std.proofs.lemmas.Result.{err_from_is_err_and, IfOk-at_ok}
+use Rattle.ns_log.specs.Lines.{IsLineLen}
 use Rattle.ns_log_read.specs.declared.fault.LineFault.TheVariants.{Bad}
-use Rattle.ns_log_read.specs.Reading.{IsLineLen, ReadsBack}
+use Rattle.ns_log_read.specs.Reading.{ReadsBack}
 use Rattle.ns_log_read.proofs.Lines.{no_entry, bad_candidate, other_spelling, is_line}
 use Rattle.ns_log_read.proofs.line.next_entry.Goals as goal
 

@@ -1,10 +1,11 @@
 //! Members that several documents have.
+#![tactic(auto)]
 
 ghost use Rattle.std.specs.Prelude.{◌≡◌, [], option_copied};
 ghost use Rattle.serde_json.specs.View.{view, items_view};
 ghost use Rattle.ns_json.specs.Reading.{Gives, same, present, or_else, a_text, each, has_name};
-ghost use Rattle.ns_documents.specs.Members.{repeated, named, word_in, description_in};
-ghost use Rattle.ns_documents.specs.Members.{listed_name, names_in};
+ghost use Rattle.ns_members.specs.Members.{repeated, named, word_in, description_in};
+ghost use Rattle.ns_members.specs.Members.{listed_name, names_in};
 
 use ns_json::member;
 use ns_json::member::{demanded, list, present, text};

@@ -1,7 +1,7 @@
 use Rattle.std.proofs.lemmas.Result.{err_from_is_err_and}
-use Rattle.ns_documents.specs.Members.{listed_name}
+use Rattle.ns_members.specs.Members.{listed_name}
 use Rattle.ns_json.proofs.Items.{goes_on, ends, is_done}
-use Rattle.ns_documents.proofs.members.each_name.Goals as goal
+use Rattle.ns_members.proofs.each_name.Goals as goal
 
 pub returns-in_err-name : goal.returns-in_err-name
 returns-in_err-name c =

@@ -1,8 +1,8 @@
 use Rattle.std.proofs.Common.{sym, subst, ◌∙◌}
 use Rattle.ns_log.proofs.Written.{entry_line}
-use Rattle.ns_log_read.specs.Reading.{IsLineLen}
-use Rattle.ns_log_read.proofs.Lines.{line_len_is}
-use Rattle.ns_log_read.proofs.line.line_len.Goals as goal
+use Rattle.ns_log.specs.Lines.{IsLineLen}
+use Rattle.ns_log.proofs.Lines.{line_len_is}
+use Rattle.ns_log.proofs.line.line_len.Goals as goal
 
 pub returns : goal.returns
 returns c =
