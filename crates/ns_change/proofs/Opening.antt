@@ -2,7 +2,7 @@
 use Rattle.std.specs.Prelude.{◌≡◌, ℕ, ◌+◌, Bool, true, false, cond, Option, Some, None, option_map, IsTrue}
 use Rattle.std.proofs.Common.{refl, sym, ap, ◌∙◌, Ordering}
 use Rattle.std.specs.Option.{option_map_or}
-use Rattle.std.specs.Ordering.{eq_by_cmp, nat_cmp}
+use Rattle.std.specs.Ordering.{eq_by_cmp}
 use Rattle.std.specs.Cmp.{IsTotalOrder}
 use Rattle.std.specs.FinMap.{FinMap, IsAntisymmetric, get, get-insert, get-remove, insert, same_map}
 use Rattle.keyed.specs.Table.{flat, rows, row_at, has_slot, emptied, with_slot, KeepsSlots}
@@ -109,17 +109,6 @@ module _ {K X : Type 0} {R : K → K → Ordering} (o : IsTotalOrder R) (same : 
 -- ---- a new evaluation
 
 module _ (t : Tables) (c left : Change) (ns : Name) (x : TenantChange) (opened : Opened t c ns (Some x) left) where
-  pub made_open : (e : Evaluation) (m : FinMap nat_cmp (Option Evaluation)) →
-      m ≡ insert (with_slot x.evaluations (x.evaluation_number + 1)) (x.evaluation_number + 1) (Some e)
-      → view t (with_tenant ns (record x { evaluation_number = x.evaluation_number + 1; evaluations = m }) left)
-      ≡ change_tenant ns (with_evaluation e) (view t c)
-  made_open e m is = put_open t c left ns (with_evaluation e) x (record x { evaluation_number = x.evaluation_number + 1; evaluations = m }) opened
-      (λ base i. record (changed_tenant base x) {
-        evaluation_number = x.evaluation_number + 1;
-        evaluations =
-            (ap (over base.evaluations) is ∙ over-slot numbers one_number base.evaluations x.evaluations (x.evaluation_number + 1) e) i;
-      })
-
   pub next_open : Some (x.evaluation_number + 1) ≡ next_evaluation (view t c) ns
   next_open = sym (ap (option_map (λ (t : Tenant). t.evaluation_number + 1)) opened.seen)
 

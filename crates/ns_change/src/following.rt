@@ -8,7 +8,7 @@ ghost use Rattle.ns_change.specs.Changed.{DoesIn, HasEvaluationLeft, next_evalua
 use crate::change::Change;
 use crate::editing::open;
 use crate::looking::evaluation;
-use crate::numbered::put_row;
+use crate::numbered::{NumberedRow, put_row};
 use ns_types::evaluation::Evaluation;
 use ns_types::key::EvalKey;
 use ns_types::text::Text;
@@ -22,7 +22,8 @@ pub fn set_follower(
     key: &EvalKey,
     follower: u64,
 ) -> Result<(), AllocError>
-    ensures { DoesIn key.now.0 result tables.now change.old change.new (tied_to key.now.1 follower) }
+    ensures { DoesIn key.now.0 result tables.now change.old change.new
+        (tied_to key.now.1 follower) }
 {
     let Some(row) = evaluation(tables, change, key.namespace(), key.number()) else {
         return Ok(());
@@ -50,9 +51,9 @@ pub fn add_evaluation(
         return Ok(None);
     };
     let number = tenant.evaluation_number + 1;
-    tenant.evaluations.reserve(number)?;
-    tenant.evaluations.set(number, row);
+    let put = row.put(&mut tenant, number);
     tenant.evaluation_number = number;
     change.tenants.set(namespace, tenant);
+    put?;
     Ok(Some(number))
 }

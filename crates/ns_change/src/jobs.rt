@@ -1,14 +1,36 @@
 //! Rows of jobs.
 
+ghost use Rattle.std.specs.Prelude.{◌≡◌, OnOk};
 ghost use Rattle.ns_types.specs.Settling.Making.{with_job};
-ghost use Rattle.ns_change.specs.Changed.{DoesIn, without_job};
+ghost use Rattle.ns_types.specs.State.Rows.{Tenant};
+ghost use Rattle.ns_change.specs.Changed.{DoesIn, changed_tenant, without_job};
 
-use crate::change::Change;
+use crate::change::{Change, TenantChange};
 use crate::editing::open;
 use ns_types::job::Job;
 use ns_types::text::Text;
 use ns_world::Tables;
 use std::alloc::AllocError;
+
+/// Puts the job among those that change.
+fn put_among(changed: &mut TenantChange, id: &Text, row: Job) -> Result<(), AllocError>
+    ensures { OnOk result ((base : Tenant) → changed_tenant base changed.new
+        ≡ with_job id.now row (changed_tenant base changed.old)) }
+{
+    changed.jobs.reserve(id)?;
+    changed.jobs.set(id, row);
+    Ok(())
+}
+
+/// Takes the job away among those that change.
+fn remove_among(changed: &mut TenantChange, id: &Text) -> Result<(), AllocError>
+    ensures { OnOk result ((base : Tenant) → changed_tenant base changed.new
+        ≡ without_job id.now (changed_tenant base changed.old)) }
+{
+    changed.jobs.reserve(id)?;
+    drop(changed.jobs.take(id));
+    Ok(())
+}
 
 /// Puts a job of a namespace that is there.
 pub fn put_job(
@@ -24,10 +46,9 @@ pub fn put_job(
         drop(row);
         return Ok(());
     };
-    tenant.jobs.reserve(id)?;
-    tenant.jobs.set(id, row);
+    let put = put_among(&mut tenant, id, row);
     change.tenants.set(namespace, tenant);
-    Ok(())
+    put
 }
 
 /// Takes a job away.
@@ -42,8 +63,7 @@ pub fn remove_job(
     let Some(mut tenant) = open(tables, change, namespace)? else {
         return Ok(());
     };
-    tenant.jobs.reserve(id)?;
-    drop(tenant.jobs.take(id));
+    let removed = remove_among(&mut tenant, id);
     change.tenants.set(namespace, tenant);
-    Ok(())
+    removed
 }

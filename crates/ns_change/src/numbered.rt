@@ -140,7 +140,7 @@ pub fn put_row<R: NumberedRow>(
         drop(row);
         return Ok(());
     };
-    row.put(&mut changed, number)?;
+    let put = row.put(&mut changed, number);
     change.tenants.set(namespace, changed);
-    Ok(())
+    put
 }

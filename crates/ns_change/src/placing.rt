@@ -3,9 +3,9 @@
 ghost use Rattle.std.specs.Prelude.{◌≡◌, ◌+◌, ◌<◌, ◌^◌, false, IfOk, IsTrue, OnOk};
 ghost use Rattle.ns_types.specs.Working.Commit.{with_allocation};
 ghost use Rattle.ns_types.specs.Settling.Making.{with_node};
-ghost use Rattle.ns_types.specs.State.Rows.{Tenant};
+ghost use Rattle.ns_types.specs.State.Rows.{PoolRows, Tenant};
 ghost use Rattle.ns_change.specs.Changed.{Does, DoesIn, DoesInPool, HasAllocationLeft, HasPlaceLeft};
-ghost use Rattle.ns_change.specs.Changed.{changed_tenant, count_place, view, without_node};
+ghost use Rattle.ns_change.specs.Changed.{changed_pool, changed_tenant, count_place, view, without_node};
 ghost use Rattle.ns_change.specs.Opened.{OpenedPool};
 
 use crate::change::{Change, PoolChange, TenantChange};
@@ -39,6 +39,26 @@ fn open_pool(
     }))
 }
 
+/// Puts the node among those that change.
+fn put_among(changed: &mut PoolChange, name: &Text, row: Node) -> Result<(), AllocError>
+    ensures { OnOk result ((base : PoolRows) → changed_pool base changed.new
+        ≡ with_node name.now row (changed_pool base changed.old)) }
+{
+    changed.nodes.reserve(name)?;
+    changed.nodes.set(name, row);
+    Ok(())
+}
+
+/// Takes the node away among those that change.
+fn remove_among(changed: &mut PoolChange, name: &Text) -> Result<(), AllocError>
+    ensures { OnOk result ((base : PoolRows) → changed_pool base changed.new
+        ≡ without_node name.now (changed_pool base changed.old)) }
+{
+    changed.nodes.reserve(name)?;
+    drop(changed.nodes.take(name));
+    Ok(())
+}
+
 /// Puts a node of a pool that is there.
 pub fn put_node(
     tables: &Tables,
@@ -53,10 +73,9 @@ pub fn put_node(
         drop(row);
         return Ok(());
     };
-    changed.nodes.reserve(name)?;
-    changed.nodes.set(name, row);
+    let put = put_among(&mut changed, name, row);
     change.pools.set(pool, changed);
-    Ok(())
+    put
 }
 
 /// Takes a node of a pool away.
@@ -71,10 +90,9 @@ pub fn remove_node(
     let Some(mut changed) = open_pool(tables, change, pool)? else {
         return Ok(());
     };
-    changed.nodes.reserve(name)?;
-    drop(changed.nodes.take(name));
+    let removed = remove_among(&mut changed, name);
     change.pools.set(pool, changed);
-    Ok(())
+    removed
 }
 
 /// Counts a placement on a node of which the change has a row already, where the row stands. Else it answers no, and
@@ -151,7 +169,7 @@ pub fn add_allocation(
     }
     change.tenants.reserve(namespace)?;
     let mut tenant = unchanged(tables.alloc, stored);
-    add_row(&mut tenant, row)?;
+    let added = add_row(&mut tenant, row);
     change.tenants.set(namespace, tenant);
-    Ok(())
+    added
 }

@@ -12,21 +12,22 @@ use ns_types::text::Text;
 use ns_world::TenantRows;
 use std::alloc::{AllocError, Global};
 
+/// A new evaluation with copies of the names.
 fn new_evaluation(
     alloc: Global,
-    job: Text,
+    job: &Text,
     kind: JobKind,
     priority: u64,
-    pool: Text,
+    pool: &Text,
     trigger: Trigger,
-) -> Evaluation
-    ensures { result ≡ new_evaluation job kind priority pool trigger }
+) -> Result<Evaluation, AllocError>
+    ensures { IfOk result (λ e. e ≡ new_evaluation job.now kind priority pool.now trigger) }
 {
-    Evaluation {
-        job,
+    Ok(Evaluation {
+        job: job.clone()?,
         kind,
         priority,
-        pool,
+        pool: pool.clone()?,
         trigger,
         status: Status::Pending,
         previous: None,
@@ -37,7 +38,7 @@ fn new_evaluation(
         nacks: 0,
         create_index: 0,
         modify_index: 0,
-    }
+    })
 }
 
 /// With the job's type, priority and pool; where the job is gone, of type `service` and with those of its allocation.
@@ -49,16 +50,28 @@ pub fn evaluation_for(
 ) -> Result<Evaluation, AllocError>
     ensures { IfOk result (λ e. e ≡ evaluation_for (tenant_of tenant.now) ended.now trigger) }
 {
-    let job = ended.job.clone()?;
-    match tenant.jobs.get(&ended.job) {
+    let job = &ended.job;
+    match tenant.jobs.get(job) {
         Some(row) => {
             let document = &row.document;
-            let pool = document.pool.clone()?;
-            Ok(new_evaluation(alloc, job, document.kind, document.priority, pool, trigger))
+            new_evaluation(
+                alloc,
+                job,
+                document.kind,
+                document.priority,
+                &document.pool,
+                trigger,
+            )
         }
         None => {
-            let pool = ended.pool.clone()?;
-            Ok(new_evaluation(alloc, job, JobKind::Service, ended.priority, pool, trigger))
+            new_evaluation(
+                alloc,
+                job,
+                JobKind::Service,
+                ended.priority,
+                &ended.pool,
+                trigger,
+            )
         }
     }
 }

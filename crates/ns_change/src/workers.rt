@@ -1,13 +1,25 @@
 //! Workers that become idle.
 
+ghost use Rattle.std.specs.Prelude.{◌≡◌, OnOk};
+ghost use Rattle.ns_types.specs.State.Rows.{Tenant};
 ghost use Rattle.ns_types.specs.Working.Work.{without_worker};
-ghost use Rattle.ns_change.specs.Changed.{DoesIn};
+ghost use Rattle.ns_change.specs.Changed.{DoesIn, changed_tenant};
 
-use crate::change::Change;
+use crate::change::{Change, TenantChange};
 use crate::editing::open;
 use ns_types::text::Text;
 use ns_world::Tables;
 use std::alloc::AllocError;
+
+/// Takes the worker away among those that change.
+fn remove_among(changed: &mut TenantChange, number: u64) -> Result<(), AllocError>
+    ensures { OnOk result ((base : Tenant) → changed_tenant base changed.new
+        ≡ without_worker number (changed_tenant base changed.old)) }
+{
+    changed.workers.reserve(number)?;
+    drop(changed.workers.take(number));
+    Ok(())
+}
 
 /// The worker is no longer busy for the namespace.
 pub fn remove_worker(
@@ -21,8 +33,7 @@ pub fn remove_worker(
     let Some(mut tenant) = open(tables, change, namespace)? else {
         return Ok(());
     };
-    tenant.workers.reserve(number)?;
-    drop(tenant.workers.take(number));
+    let removed = remove_among(&mut tenant, number);
     change.tenants.set(namespace, tenant);
-    Ok(())
+    removed
 }

@@ -34,8 +34,8 @@ returns-in-Some-get_mut c =
     (has_slot-row c.args.change.now.tenants c.args.namespace.now _ held)))
     c.add_row.ensures
 
-pub add_row-requires-2 : goal.add_row-requires-2
-add_row-requires-2 c =
+pub add_row-added-requires : goal.add_row-added-requires
+add_row-added-requires c =
     subst (λ n. n + 1 < 2 ^ 64) (sym (ap (λ (x : TenantChange). x.allocation_number) c.unchanged-tenant.ensures))
     (c.requires _ (kept_seen c.args.tables.now c.args.change.now c.args.namespace.now c.in-Some.stored.now
     (sym c.get.ensures ∙ ap option_copied c.in-Some.is) (sym c.get_mut.ensures.value ∙ ap option_copied_mut c.in_default-get_mut.is)))
@@ -48,9 +48,9 @@ pub returns : goal.returns
 returns c =
     let none = sym c.get_mut.ensures.value ∙ ap option_copied_mut c.in_default-get_mut.is in
     let slots = c.in_ok-reserve.ensures.ok in
-    ap (λ m. view c.args.tables.now (record c.args.change.now { tenants = m })) c.set.ensures
+    on_ok c.add_row-added.result (λ law. ap (λ m. view c.args.tables.now (record c.args.change.now { tenants = m })) c.set.ensures
     ∙ put_open c.args.tables.now c.args.change.now (record c.args.change.now { tenants = c.reserve.new.self }) c.args.namespace.now
-    (with_allocation c.args.row) c.unchanged-tenant.result c.add_row-2.new.tenant
+    (with_allocation c.args.row) c.unchanged-tenant.result c.add_row-added.new.tenant
     (opened c.args.tables.now c.args.change.now _ c.args.namespace.now c.in-Some.stored.now c.unchanged-tenant.result
     (sym c.get.ensures ∙ ap option_copied c.in-Some.is)
     (ap (λ r. perhaps changed_tenant r (tenant_of c.in-Some.stored.now)) none ∙
@@ -58,4 +58,5 @@ returns c =
     (λ q e. ap (λ m. row_at m q) slots ∙ row_with_slot names one_name c.args.change.now.tenants c.args.namespace.now q)
     refl
     (subst (λ m. IsTrue (has_slot m c.args.namespace.now)) (sym slots) (has_slot-with_slot_here names c.args.change.now.tenants c.args.namespace.now)))
-    c.in_ok-add_row.ensures
+    law)
+    c.add_row-added.ensures
