@@ -1,5 +1,4 @@
 pub mod Counts
-pub mod Differences
 pub mod Kept
 pub mod Levels
 pub mod Orders

@@ -1,20 +1,10 @@
-//! Sums and differences that may be past 64 bits or below zero, and what limits allow.
+//! Sums that may be past 64 bits, and what limits allow.
 
 ghost use Rattle.std.specs.Prelude.{◌≡◌, ◌+◌, ◌*◌, ◌<◌, ◌^◌, SomeIff};
-ghost use Rattle.ns_types.specs.State.Resources.{IsCounted, limit_allows, limits_allow, minus, plus};
+ghost use Rattle.ns_types.specs.State.Resources.{IsCounted, limit_allows, limits_allow, plus};
 ghost use Rattle.ns_schedule.specs.Fits.{times};
 
 use ns_types::resources::{Limit, Limits, Resources};
-
-/// What is left of `a` without `b`, of each resource nothing where `b` has more.
-pub(crate) fn less(a: Resources, b: Resources) -> Resources
-    ensures { result ≡ minus a b }
-{
-    Resources {
-        cpu: a.cpu.saturating_sub(b.cpu),
-        memory: a.memory.saturating_sub(b.memory),
-    }
-}
 
 /// Both together. None: they are past 64 bits.
 pub(crate) fn checked_plus(a: Resources, b: Resources) -> Option<Resources>

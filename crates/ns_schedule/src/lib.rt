@@ -3,7 +3,6 @@
 
 mod amounts;
 mod choice;
-mod eviction;
 pub mod laws;
 mod opening;
 mod placing;

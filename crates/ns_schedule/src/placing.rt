@@ -9,8 +9,7 @@ ghost use Rattle.ns_schedule.specs.Chosen.{IsChosen, IsNext, IsRefused, IsWithin
 
 use crate::amounts::limits_allow;
 use crate::choice::{Chosen, choose_with_victims};
-use crate::eviction::give_way;
-use ns_place::{Candidate, Order};
+use ns_place::{Candidate, Order, give_way};
 use ns_types::plan::{Demand, Placement, Placing};
 use ns_types::resources::{Resources, plus};
 use ns_types::rows::Rows;

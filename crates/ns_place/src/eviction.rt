@@ -6,7 +6,7 @@ ghost use Rattle.ns_types.specs.Placing.Preemption.{makes_room};
 ghost use Rattle.ns_types.specs.State.Resources.{IsCounted, minus, plus, total};
 
 use crate::amounts::less;
-use ns_place::Candidate;
+use crate::candidate::Candidate;
 use ns_types::plan::Eviction;
 use ns_types::resources::{Resources, plus};
 use ns_types::rows::Rows;
@@ -51,13 +51,13 @@ fn used_without(used: Resources, quota: &QuotaSeen, victims: &[&LiveAllocation])
 
 /// What the plan says of the victims, and what the quota has in use with the size and without them.
 #[derive(Drop)]
-pub(crate) struct GivenWay {
+pub struct GivenWay {
     pub evictions: Rows<Eviction>,
     pub used: Resources,
 }
 
 /// The first `victims` of those whom the job may evict give way to the size.
-pub(crate) fn give_way(
+pub fn give_way(
     alloc: Global,
     candidate: &mut Candidate<'_>,
     quota: &QuotaSeen,
