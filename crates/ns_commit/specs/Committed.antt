@@ -21,9 +21,8 @@ use Rattle.ns_change.specs.declared.change.TenantChange.{TenantChange}
 use Rattle.ns_change.specs.Changed.{changed_pool, changed_quota, perhaps}
 use Rattle.ns_change.specs.Settled.{classes_in, settled_world}
 use Rattle.ns_commit.specs.Owners.{EachChanged}
-use Rattle.ns_world.specs.Allocations.{job_of}
+use Rattle.ns_world.specs.Allocations.{HasAllocationRoom}
 use Rattle.ns_world.specs.Evaluations.{HasEvaluationRoom}
-use Rattle.ns_world.specs.JobTables.{HasRoomIn}
 use Rattle.ns_world.specs.World.{pool_of}
 use Rattle.ns_world.specs.declared.tables.PoolRows.{PoolRows}
 use Rattle.ns_world.specs.declared.tables.QuotaRows.{QuotaRows}
@@ -36,7 +35,7 @@ use Rattle.ns_world.specs.declared.tables.TenantRows.{TenantRows}
 pub record HasRowRoom (x : TenantChange) (t : TenantRows) : Type 0 where
   pub jobs : HasRoomFor x.jobs t.jobs
   pub evaluations : HasEvaluationRoom x.evaluations t.evaluations
-  pub allocations : HasRoomIn job_of x.allocations t.allocations
+  pub allocations : HasAllocationRoom x.allocations t.allocations
   pub workers : HasRoomFor x.workers t.workers
 
 -- where there are events, the index can rise

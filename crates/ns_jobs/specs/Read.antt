@@ -1,5 +1,5 @@
 -- What a read in a namespace says.
-use Rattle.std.specs.Prelude.{ℕ, ◌+◌, ◌<◌, ◌^◌, Bool, true, false, cond, List, Option, Some, None, Result}
+use Rattle.std.specs.Prelude.{◌≡◌, ℕ, ◌+◌, ◌<◌, ◌^◌, Bool, true, false, cond, List, Option, Some, None, Result}
 use Rattle.std.specs.Prelude.{filter, map, sum_by}
 use Rattle.keyed.specs.Table.{row_list}
 use Rattle.ns_types.specs.declared.allocation.Allocation.{Allocation}
@@ -22,6 +22,7 @@ use Rattle.ns_types.specs.State.Rows.{World, Tenant, is_live}
 use Rattle.ns_types.specs.State.Sums.{names_quota, quota_use, tenant_sum}
 use Rattle.ns_world.specs.declared.tables.Tables.{Tables}
 use Rattle.ns_world.specs.declared.tables.TenantRows.{TenantRows}
+use Rattle.ns_world.specs.Filing.{stands_under}
 use Rattle.ns_world.specs.World.{tenant_of, world_of}
 
 -- the command changes nothing
@@ -55,18 +56,27 @@ lists_evaluation (AskCommand.JobEvaluations job) e = same_name job e.row.job
 lists_evaluation (AskCommand.ListEvaluations prefix) e = begins_with prefix (id_text IdKind.Evaluation e.number)
 lists_evaluation _ e = false
 
-abbrev pub evaluations_shown : Name → AskCommand → List (ℕ × Option Evaluation) → List EvaluationShown
-evaluations_shown ns command slots = filter (lists_evaluation command)
-    (map (λ e. record { namespace = ns; number = e.0; row = e.1 }) (row_list slots))
+abbrev pub evaluation_shown : Name → ℕ → Evaluation → EvaluationShown
+evaluation_shown ns n e = record { namespace = ns; number = n; row = e }
 
 abbrev pub lists_allocation : AskCommand → AllocationShown → Bool
 lists_allocation (AskCommand.JobAllocations job) a = same_name job a.row.job
 lists_allocation (AskCommand.ListAllocations prefix) a = begins_with prefix (id_text IdKind.Allocation a.number)
 lists_allocation _ a = false
 
-abbrev pub allocations_shown : Name → AskCommand → List (ℕ × Option Allocation) → List AllocationShown
-allocations_shown ns command slots = filter (lists_allocation command)
-    (map (λ a. record { namespace = ns; number = a.0; row = a.1 }) (row_list slots))
+abbrev pub allocation_shown : Name → ℕ → Allocation → AllocationShown
+allocation_shown ns n a = record { namespace = ns; number = n; row = a }
+
+module _ {X Shown : Type 0} (as_shown : Name → ℕ → X → Shown) (is_listed : AskCommand → Shown → Bool) where
+  -- the rows of the slots that a command lists
+  abbrev pub rows_shown : Name → AskCommand → List (ℕ × Option X) → List Shown
+  rows_shown ns command slots = filter (is_listed command) (map (λ e. as_shown ns e.0 e.1) (row_list slots))
+
+  -- it lists none but rows of the job
+  abbrev pub IsAmongThoseOf : (X → Option Name) → AskCommand → Name → Type 0
+  IsAmongThoseOf job_of command job =
+      (ns : Name) (n : ℕ) (x : X) → is_listed command (as_shown ns n x) ≡ true
+      → stands_under job_of job (Some x) ≡ true
 
 -- ---- the use of a quota
 

@@ -3,72 +3,64 @@
 ghost use Rattle.std.specs.Prelude.{◌≡◌, IfOk};
 ghost use Rattle.ns_types.specs.declared.step.AskCommand.TheVariants as AskCommand;
 ghost use Rattle.ns_types.specs.Asking.Reads.{evaluations_where};
-ghost use Rattle.ns_types.specs.State.Names.{Name};
-ghost use Rattle.ns_jobs.specs.Read.{SaysIn, evaluations_shown, lists_evaluation};
+ghost use Rattle.ns_jobs.specs.Read.{SaysIn, evaluation_shown, lists_evaluation};
+ghost use Rattle.ns_world.specs.Filing.{evaluation_job};
 ghost use Rattle.ns_world.specs.World.{tenant_of};
 
+use crate::listing::{Listed, rows_listed};
 use crate::looking::{self, id_begins};
+use keyed::NumberTable;
 use ns_alike::same_text;
 use ns_types::evaluation::Evaluation;
 use ns_types::id::IdKind;
 use ns_types::refusal::Refusal;
 use ns_types::reply::{Content, EvaluationShown};
-use ns_types::rows::Rows;
 use ns_types::step::AskCommand;
 use ns_types::text::Text;
 use ns_world::TenantRows;
 use std::alloc::{AllocError, Global};
 
-/// An evaluation with its number, or a vacant slot.
-type EvaluationSlot = (u64, Option<Evaluation>);
+impl Listed for Evaluation {
+    type Shown = EvaluationShown;
 
-fn evaluation_shown(
-    namespace: &Text,
-    number: u64,
-    row: &Evaluation,
-) -> Result<EvaluationShown, AllocError>
-    ensures { IfOk result (λ shown. shown
-        ≡ record { namespace = namespace.now; number = number; row = row.now }) }
-{
-    Ok(EvaluationShown {
-        namespace: namespace.clone()?,
-        number,
-        row: row.clone()?,
-    })
-}
+    ghost slots_of = { λ t. t.evaluations.slots };
 
-fn lists_evaluation(command: &AskCommand, number: u64, row: &Evaluation) -> bool
-    ensures { (namespace : Name) → result ≡ lists_evaluation command.now
-        (record { namespace = namespace; number = number; row = row.now }) }
-{
-    match command {
-        AskCommand::JobEvaluations(job) => same_text(job, &row.job),
-        AskCommand::ListEvaluations(prefix) => { id_begins(prefix, IdKind::Evaluation, number) }
-        _ => false,
+    ghost job_of = { evaluation_job };
+
+    ghost as_shown = { evaluation_shown };
+
+    ghost is_listed = { lists_evaluation };
+
+    fn rows(tenant: &TenantRows) -> &NumberTable<Evaluation> {
+        tenant.evaluations.rows()
     }
-}
 
-/// Those that the command lists, by number.
-fn evaluations_shown(
-    alloc: Global,
-    namespace: &Text,
-    command: &AskCommand,
-    slots: &[EvaluationSlot],
-) -> Result<Rows<EvaluationShown>, AllocError>
-    ensures { IfOk result
-        (λ shown. shown ≡ evaluations_shown namespace.now command.now slots.now) }
-{
-    let mut listed = Rows::new(alloc);
-    let mut rest = slots;
-    while let Some(((number, row), others)) = rest.split_first() {
-        if let Some(row) = row {
-            if lists_evaluation(command, *number, row) {
-                listed.push(evaluation_shown(namespace, *number, row)?)?;
-            }
+    fn numbers_of<'a>(tenant: &'a TenantRows, job: &Text) -> Option<&'a NumberTable<()>> {
+        tenant.evaluations.numbers_of(job)
+    }
+
+    fn job_asked(command: &AskCommand) -> Option<&Text> {
+        match command {
+            AskCommand::JobEvaluations(job) => Some(job),
+            _ => None,
         }
-        rest = others;
     }
-    Ok(listed)
+
+    fn show(&self, namespace: &Text, number: u64) -> Result<EvaluationShown, AllocError> {
+        Ok(EvaluationShown {
+            namespace: namespace.clone()?,
+            number,
+            row: self.clone()?,
+        })
+    }
+
+    fn is_listed(&self, command: &AskCommand, number: u64) -> bool {
+        match command {
+            AskCommand::JobEvaluations(job) => same_text(job, &self.job),
+            AskCommand::ListEvaluations(prefix) => id_begins(prefix, IdKind::Evaluation, number),
+            _ => false,
+        }
+    }
 }
 
 /// What the read of an evaluation says.
@@ -82,7 +74,7 @@ pub(crate) fn read_evaluation(
     let Some(row) = looking::evaluation(tenant, number) else {
         return Err(Refusal::NotFound);
     };
-    let shown = evaluation_shown(namespace, number, row)?;
+    let shown = row.show(namespace, number)?;
     Ok(Content::Evaluation(shown))
 }
 
@@ -96,11 +88,6 @@ pub(crate) fn list_evaluations(
     ensures { let t = tenant_of tenant.now in IfOk result
         (λ said. said ≡ evaluations_where namespace.now t (lists_evaluation command.now)) }
 {
-    let shown = evaluations_shown(
-        alloc,
-        namespace,
-        command,
-        tenant.evaluations.rows().as_slice(),
-    )?;
+    let shown = rows_listed::<Evaluation>(alloc, namespace, tenant, command)?;
     Ok(Content::Evaluations(shown))
 }

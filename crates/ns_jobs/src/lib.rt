@@ -8,6 +8,7 @@ mod ending;
 mod evaluations;
 mod jobs;
 pub mod laws;
+mod listing;
 mod looking;
 mod making;
 mod reading;

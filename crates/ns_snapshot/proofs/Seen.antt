@@ -19,7 +19,7 @@ use Rattle.ns_types.specs.State.Rows.{World, Tenant, allocation_at, is_live_on, 
 use Rattle.ns_types.specs.State.Sums.{names_quota}
 use Rattle.ns_types.specs.State.Tables.{table_of}
 use Rattle.ns_types.specs.Working.Snapshot.{live_on, namespaces_naming, nodes_of, own_allocations, seen_live}
-use Rattle.ns_types.proofs.Named.{first_of_both, names, numbers, one_name, one_number, same_name_is}
+use Rattle.ns_types.proofs.Named.{first_of_both, names, numbers, one_name, one_number}
 use Rattle.ns_types.proofs.TableRows.{entries_empty}
 use Rattle.ns_types.proofs.Tables.{each_row, entries-table_of, get-table_of, tied}
 use Rattle.ns_types.proofs.Tests.{same_Some}
@@ -27,10 +27,9 @@ use Rattle.ns_world.specs.declared.tables.PoolRows.{PoolRows as StoredPool}
 use Rattle.ns_world.specs.declared.tables.Tables.{Tables}
 use Rattle.ns_world.specs.declared.tables.TenantRows.{TenantRows}
 use Rattle.ns_world.specs.World.{pool_of, tenant_of, world_of}
-use Rattle.ns_world.proofs.JobRows.{none_passing, passing_at}
+use Rattle.ns_world.proofs.Under.{none_passing, passing_at}
 use Rattle.ns_world.proofs.World.{pool_at, tenant_at}
-use Rattle.ns_world.specs.Allocations.{job_of}
-use Rattle.ns_world.specs.JobTables.{HasNumbersOf, slots_at}
+use Rattle.ns_world.specs.Filing.{AreNumbersUnder, allocation_job, slots_at}
 use Rattle.keyed.specs.Levels.{holds_key}
 use Rattle.keyed.specs.declared.key_set.KeySet.{KeySet}
 use Rattle.ns_live.specs.Listed.{found_at, keys_in}
@@ -64,17 +63,14 @@ module _ (x : TenantRows) (id : Name) (job : Option Job) where
   abbrev own_rows : List (ℕ × Allocation) → List OwnAllocation
   own_rows es = map (λ a. record { number = a.0; row = a.1 }) es
 
-  own_names : (n : ℕ) (a : Allocation) → is_own id job a ≡ true → job_of a ≡ id
-  own_names n a own = sym (same_name_is id a.job (first_of_both _ _ own))
-
-  pub own_is : (m : ByNumber (Option Unit)) → HasNumbersOf job_of id x.allocations.slots (Some m) →
+  pub own_is : (m : ByNumber (Option Unit)) → AreNumbersUnder allocation_job id x.allocations.slots (Some m) →
       flat_map (own_at id job) (slots_at x.allocations.slots (entries m)) ≡ own_allocations (tenant_of x) id job
   own_is m has = flat_shown (own_at id job) (λ a. is_own id job a.1) (λ a. record { number = a.0; row = a.1 }) (λ n. refl) (λ n a. refl)
       (slots_at x.allocations.slots (entries m))
-      ∙ ap own_rows (passing_at job_of id x.allocations.slots (λ _ a. is_own id job a) own_names m has)
+      ∙ ap own_rows (passing_at allocation_job id x.allocations.slots (λ _ a. is_own id job a) (λ n a. first_of_both _ _) m has)
 
-  pub own_none : HasNumbersOf job_of id x.allocations.slots None → own_allocations (tenant_of x) id job ≡ []
-  own_none has = ap own_rows (none_passing job_of id x.allocations.slots (λ _ a. is_own id job a) own_names has)
+  pub own_none : AreNumbersUnder allocation_job id x.allocations.slots None → own_allocations (tenant_of x) id job ≡ []
+  own_none has = ap own_rows (none_passing allocation_job id x.allocations.slots (λ _ a. is_own id job a) (λ n a. first_of_both _ _) has)
 
 naming_shown : (quota : Name) (slots : List (Name × Option TenantRows)) → flat_map (naming quota) slots
     ≡ map (λ t. t.0) (filter (λ (t : Name × Tenant). names_quota quota t.1.namespace) (map (λ e. (e.0, tenant_of e.1)) (row_list slots)))

@@ -4,7 +4,7 @@ ghost use Rattle.std.specs.Prelude.{◌≡◌, ◌++◌, IfOk, OnOk, flat_map, o
 ghost use Rattle.ns_types.specs.State.Rows.{is_done};
 ghost use Rattle.ns_types.specs.Working.Snapshot.{is_done_for, own_allocations};
 ghost use Rattle.ns_snapshot.specs.Seen.{is_own, own_at};
-ghost use Rattle.ns_world.specs.JobTables.{slots_at};
+ghost use Rattle.ns_world.specs.Filing.{slots_at};
 ghost use Rattle.ns_world.specs.World.{tenant_of};
 
 use keyed::NumberTable;

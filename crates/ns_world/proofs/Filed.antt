@@ -1,7 +1,7 @@
--- Numbers of evaluations under the names of their rows.
+-- Numbers of rows under the names of these.
 use Rattle.std.specs.Prelude.{◌≡◌, ℕ, Bool, true, false, not, ◌&&◌, ◌||◌, IsTrue, List, [], ◌∷◌, Option, Some, None, unwrap_or}
 use Rattle.std.proofs.Common.{refl, sym, ap, subst, ◌∙◌}
-use Rattle.std.proofs.Math.Bool.{and-true}
+use Rattle.std.proofs.Math.Bool.{and-false, and-true, or_assoc, or_comm}
 use Rattle.std.specs.Ordering.{nat_cmp}
 use Rattle.std.specs.Option.{option_map_or}
 use Rattle.std.specs.declared.cmp.Ordering.{Ordering}
@@ -16,16 +16,15 @@ use Rattle.keyed.specs.Over.{over}
 use Rattle.keyed.specs.Table.{flat, row_at, rows}
 use Rattle.keyed.specs.declared.key_set.KeySet.{KeySet}
 use Rattle.ns_types.proofs.Lists.{each_map, not_both}
-use Rattle.ns_types.proofs.Named.{first_of_both, numbers, one_number, same_key_is, same_name_refl, same_number_refl}
+use Rattle.ns_types.proofs.Named.{first_of_both, numbers, one_number, same_key_is, same_number_refl}
 use Rattle.ns_types.proofs.Tables.{any_row-none, none_of_any}
 use Rattle.ns_types.proofs.Tests.{not_Some, same_Some}
 use Rattle.ns_types.specs.State.Lists.{Each}
 use Rattle.ns_types.specs.State.Names.{ByNumber, Key, Name, name_cmp, same_key, same_name}
 use Rattle.ns_types.specs.State.Tables.{any_row}
 use Rattle.ns_types.specs.declared.evaluation.Evaluation.{Evaluation}
-use Rattle.ns_world.specs.Evaluations.{HasNumbersOf}
 use Rattle.ns_world.specs.declared.filing.Index.{Index}
-use Rattle.ns_world.specs.Filing.{AreNumbersUnder, HasRoomAt, IsIndexOf, IsIndexed, is_filed, is_left, name_at, own_job, stands_under}
+use Rattle.ns_world.specs.Filing.{AreNumbersUnder, HasRoomAt, IsIndexOf, IsIndexed, is_filed, is_left, name_at, stands_under}
 
 -- ---- a test that only the rows of one key can pass
 
@@ -56,68 +55,58 @@ module _ {K X : Type 0} {R : K → K → Ordering} (o : IsTotalOrder R) (same : 
       by None g = any_row-none o same f m (λ q x is. none g q x is (f q x) refl)
       by (Some y) g = here y g (f k y) refl
 
-module _ (name_of : Evaluation → Option Name) where
+module _ {X : Type 0} (name_of : X → Option Name) where
   -- ---- a row and a key
 
-  filed_number : (n : ℕ) (row : Option Evaluation) (key : Key) → is_filed name_of (n, row) key ≡ true → n ≡ key.1
+  filed_number : (n : ℕ) (row : Option X) (key : Key) → is_filed name_of (n, row) key ≡ true → n ≡ key.1
   filed_number n row key = by (name_at name_of row)
     where
       by : (own : Option Name) → option_map_or (λ name. same_key key (name, n)) own false ≡ true → n ≡ key.1
       by None e = not_both e refl
       by (Some own) e = sym (same_key_is key (own, n) e).1
 
-  filed_here : (key : Key) (row : Option Evaluation) → is_filed name_of (key.1, row) key ≡ stands_under name_of key.0 row
+  filed_here : (key : Key) (row : Option X) → is_filed name_of (key.1, row) key ≡ stands_under name_of key.0 row
   filed_here key row = by (name_at name_of row)
     where
       by : (own : Option Name) → option_map_or (λ name. same_key key (name, key.1)) own false ≡ option_map_or (same_name key.0) own false
       by None = refl
       by (Some own) = ap (λ b. same_name key.0 own && b) (same_number_refl key.1) ∙ and-true (same_name key.0 own)
 
-  -- a row that stands under a name, and one that does not stand under the row's own
-  pub left_one : (n : ℕ) (old row : Option Evaluation) (own : Name) (key : Key) → name_at name_of old ≡ Some own →
-      stands_under name_of own row ≡ false → (is_filed name_of (n, old) key && not (is_filed name_of (n, row) key)) ≡ same_key key (own, n)
-  left_one n old row own key is apart = ap (λ o. option_map_or (λ name. same_key key (name, n)) o false && not (is_filed name_of (n, row) key)) is
+  -- a row that stands under a name leaves that, unless another stands there
+  pub left_one : (n : ℕ) (old row : Option X) (own : Name) (key : Key) (stays : Bool) → name_at name_of old ≡ Some own →
+      stands_under name_of own row ≡ stays → (is_filed name_of (n, old) key && not (is_filed name_of (n, row) key)) ≡ (not stays && same_key key (own, n))
+  left_one n old row own key stays is there = ap (λ o. option_map_or (λ name. same_key key (name, n)) o false && not (is_filed name_of (n, row) key)) is
       ∙ by (same_key key (own, n)) refl
     where
-      by : (b : Bool) → same_key key (own, n) ≡ b → (b && not (is_filed name_of (n, row) key)) ≡ b
-      by false e = refl
+      by : (b : Bool) → same_key key (own, n) ≡ b → (b && not (is_filed name_of (n, row) key)) ≡ (not stays && b)
+      by false e = sym (and-false (not stays))
       by true e = ap not (subst (λ (k : Key). is_filed name_of (k.1, row) key ≡ stands_under name_of k.0 row)
-          (λ i. ((same_key_is key (own, n) e).0 i, (same_key_is key (own, n) e).1 i)) (filed_here key row) ∙ apart)
-
-  pub left_none : (n : ℕ) (old row : Option Evaluation) (own : Name) (key : Key) → name_at name_of old ≡ Some own →
-      stands_under name_of own row ≡ true → (is_filed name_of (n, old) key && not (is_filed name_of (n, row) key)) ≡ false
-  left_none n old row own key is same = ap (λ o. option_map_or (λ name. same_key key (name, n)) o false && not (is_filed name_of (n, row) key)) is
-      ∙ by (same_key key (own, n)) refl
-    where
-      by : (b : Bool) → same_key key (own, n) ≡ b → (b && not (is_filed name_of (n, row) key)) ≡ false
-      by false e = refl
-      by true e = ap not (subst (λ (k : Key). is_filed name_of (k.1, row) key ≡ stands_under name_of k.0 row)
-          (λ i. ((same_key_is key (own, n) e).0 i, (same_key_is key (own, n) e).1 i)) (filed_here key row) ∙ same)
+          (λ i. ((same_key_is key (own, n) e).0 i, (same_key_is key (own, n) e).1 i)) (filed_here key row) ∙ there) ∙ sym (and-true (not stays))
 
   -- ---- the loops, slot by slot
 
   abbrev pub Grows : KeySet → KeySet → Type 0
   Grows a b = (key : Key) → IsTrue (has_key_room a key) → IsTrue (has_key_room b key)
 
-  room_grows : (a b : KeySet) (slot : ℕ × Option Evaluation) → Grows a b → HasRoomAt name_of a slot → HasRoomAt name_of b slot
+  room_grows : (a b : KeySet) (slot : ℕ × Option X) → Grows a b → HasRoomAt name_of a slot → HasRoomAt name_of b slot
   room_grows a b slot grows room name is = grows (name, slot.0) (room name is)
 
   -- there is room for the slots before `rest`
-  abbrev pub IsReserving : KeySet → KeySet → List (ℕ × Option Evaluation) → List (ℕ × Option Evaluation) → Type 0
+  abbrev pub IsReserving : KeySet → KeySet → List (ℕ × Option X) → List (ℕ × Option X) → Type 0
   IsReserving held old rest slots = Keeps holds_key has_key_room old held
       × ((later : KeySet) → Grows held later → Each (HasRoomAt name_of later) rest → Each (HasRoomAt name_of later) slots)
 
   -- the slots before `rest` are in
-  abbrev pub IsInserting : KeySet → KeySet → List (ℕ × Option Evaluation) → List (ℕ × Option Evaluation) → Type 0
+  abbrev pub IsInserting : KeySet → KeySet → List (ℕ × Option X) → List (ℕ × Option X) → Type 0
   IsInserting held old rest slots = ((key : Key) → (list_any (λ slot. is_filed name_of slot key) rest || holds_key held key)
       ≡ (list_any (λ slot. is_filed name_of slot key) slots || holds_key old key)) × Each (HasRoomAt name_of held) rest
 
   -- what the slots before `rest` leave is out
-  abbrev pub IsLeaving : ByNumber (Option Evaluation) → KeySet → KeySet → List (ℕ × Option Evaluation) → List (ℕ × Option Evaluation) → Type 0
+  abbrev pub IsLeaving : ByNumber (Option X) → KeySet → KeySet → List (ℕ × Option X) → List (ℕ × Option X) → Type 0
   IsLeaving before held old rest slots = (key : Key) → (not (list_any (λ slot. is_left name_of before slot key) rest) && holds_key held key)
       ≡ (not (list_any (λ slot. is_left name_of before slot key) slots) && holds_key old key)
 
-  module _ (slot : ℕ × Option Evaluation) (rest left slots : List (ℕ × Option Evaluation)) (steps : rest ≡ slot ∷ left) (old held new : KeySet) where
+  module _ (slot : ℕ × Option X) (rest left slots : List (ℕ × Option X)) (steps : rest ≡ slot ∷ left) (old held new : KeySet) where
     pub reserve_step : Keeps holds_key has_key_room held new → HasRoomAt name_of new slot → IsReserving held old rest slots → IsReserving new old left slots
     reserve_step k here h = (
       keeps_then holds_key has_key_room old held new h.0 k,
@@ -129,18 +118,13 @@ module _ (name_of : Evaluation → Option Name) where
         IsInserting held old rest slots → IsInserting new old left slots
     insert_step is grows h = (
       λ key. ap (λ b. list_any (λ slot. is_filed name_of slot key) left || b) (is key)
-          ∙ by (list_any (λ slot. is_filed name_of slot key) left) (is_filed name_of slot key) (holds_key held key)
+          ∙ sym (or_assoc (list_any (λ slot. is_filed name_of slot key) left) (is_filed name_of slot key) (holds_key held key))
+          ∙ ap (λ b. b || holds_key held key) (or_comm (list_any (λ slot. is_filed name_of slot key) left) (is_filed name_of slot key))
           ∙ ap (λ xs. list_any (λ slot. is_filed name_of slot key) xs || holds_key held key) (sym steps) ∙ h.0 key,
       each_map (λ other. room_grows held new other grows) left (subst (Each (HasRoomAt name_of held)) steps h.1).1,
     )
-      where
-        by : (a b c : Bool) → (a || (b || c)) ≡ ((b || a) || c)
-        by true true c = refl
-        by true false c = refl
-        by false true c = refl
-        by false false c = refl
 
-    pub leave_step : (before : ByNumber (Option Evaluation)) →
+    pub leave_step : (before : ByNumber (Option X)) →
         ((key : Key) → holds_key new key ≡ (not (is_left name_of before slot key) && holds_key held key)) →
         IsLeaving before held old rest slots → IsLeaving before new old left slots
     leave_step before is h key = ap (λ b. not (list_any (λ slot. is_left name_of before slot key) left) && b) (is key)
@@ -153,14 +137,14 @@ module _ (name_of : Evaluation → Option Name) where
         by false true c = refl
         by false false c = refl
 
-  pub reserved_all : (held old : KeySet) (rest slots : List (ℕ × Option Evaluation)) → rest ≡ [] → IsReserving held old rest slots →
+  pub reserved_all : (held old : KeySet) (rest slots : List (ℕ × Option X)) → rest ≡ [] → IsReserving held old rest slots →
       Each (HasRoomAt name_of held) slots
   reserved_all held old rest slots none h = h.1 held (λ key t. t) (subst (Each (HasRoomAt name_of held)) (sym none) tt)
 
   -- ---- the index
 
   -- the numbers of changed rows are put in, and those that they leave are taken out
-  pub refiled : (old mid new : KeySet) (before changes : ByNumber (Option Evaluation)) → IsIndexOf name_of old (rows before) →
+  pub refiled : (old mid new : KeySet) (before changes : ByNumber (Option X)) → IsIndexOf name_of old (rows before) →
       ((key : Key) → holds_key mid key ≡ (list_any (λ slot. is_filed name_of slot key) (entries changes) || holds_key old key)) →
       ((key : Key) → holds_key new key ≡ (not (list_any (λ slot. is_left name_of before slot key) (entries changes)) && holds_key mid key)) →
       IsIndexOf name_of new (over (rows before) changes)
@@ -186,7 +170,7 @@ module _ (name_of : Evaluation → Option Name) where
       cases false true = refl
       cases false false = refl
 
-      by : (r : Option (Option Evaluation)) → (not (option_map_or (λ row. is_left name_of before (key.1, row) key) r false)
+      by : (r : Option (Option X)) → (not (option_map_or (λ row. is_left name_of before (key.1, row) key) r false)
           && (option_map_or (λ row. is_filed name_of (key.1, row) key) r false || holds_key old key))
           ≡ stands_under name_of key.0 (unwrap_or r (get (rows before) key.1))
       by None = is key
@@ -199,7 +183,7 @@ module _ (name_of : Evaluation → Option Name) where
       ∙ ap (λ r. option_map_or (λ m. holds_number m key.1) (flat r) false) (get-empty name_cmp key.0)
       ∙ ap (stands_under name_of key.0) (sym (get-empty nat_cmp key.1))
 
-  pub numbers_under : (set : KeySet) (slots : ByNumber (Option Evaluation)) (name : Name) (r : Option (ByNumber (Option Unit))) →
+  pub numbers_under : (set : KeySet) (slots : ByNumber (Option X)) (name : Name) (r : Option (ByNumber (Option Unit))) →
       IsIndexOf name_of set (rows slots) → r ≡ row_at set.numbers name → AreNumbersUnder name_of name slots r
   numbers_under set slots name r is same n = ap (λ r. option_map_or (λ m. holds_number m n) r false) same ∙ is (name, n)
       ∙ ap (stands_under name_of name) (get-rows numbers slots n)
@@ -213,9 +197,3 @@ still_indexed old new jobs pools quotas rows is = record {
   pools = λ key. pools key ∙ is.pools key;
   quotas = λ key. quotas key ∙ is.quotas key;
 }
-
--- the numbers of a job's rows, by the index
-pub numbers_there : (set : KeySet) (slots : ByNumber (Option Evaluation)) (job : Name) (r : Option (ByNumber (Option Unit))) →
-    IsIndexOf own_job set (rows slots) → r ≡ row_at set.numbers job → HasNumbersOf job slots r
-numbers_there set slots job r is same n e row of = numbers_under own_job set slots job r is same n
-    ∙ ap (stands_under own_job job) row ∙ ap (same_name job) of ∙ same_name_refl job

@@ -7,16 +7,19 @@ use Rattle.std.proofs.lemmas.List.Sums.{sum_by_more}
 use Rattle.std.specs.FinMap.{empty, entries}
 use Rattle.keyed.proofs.Summed.{before, sum-over}
 use Rattle.keyed.proofs.Tables.{get-rows, rows-empty}
+use Rattle.keyed.specs.Levels.{holds_key}
 use Rattle.keyed.specs.Over.{over}
 use Rattle.keyed.specs.Table.{row_at, rows}
+use Rattle.keyed.specs.declared.key_set.KeySet.{KeySet}
 use Rattle.ns_types.proofs.Named.{numbers, one_number}
 use Rattle.ns_types.proofs.TableRows.{entries_empty}
-use Rattle.ns_types.specs.State.Names.{ByNumber}
+use Rattle.ns_types.specs.State.Names.{ByNumber, Key}
 use Rattle.ns_types.specs.State.Resources.{IsCounted, none}
 use Rattle.ns_types.specs.State.Rows.{is_live}
 use Rattle.ns_types.specs.declared.allocation.Allocation.{Allocation}
 use Rattle.ns_types.specs.declared.resources.Resources.{Resources}
-use Rattle.ns_world.specs.Allocations.{IsAlike, IsMoved, IsTotalOf, live_sum, live_use, row_amount, use_after, use_before}
+use Rattle.ns_world.specs.Allocations.{IsAlike, IsKept, IsMoved, IsTotalOf, live_sum, live_use, row_amount, use_after, use_before}
+use Rattle.ns_world.specs.Filing.{IsIndexOf, allocation_job}
 
 -- where the sums fit, nothing was past 64 bits
 pub total_exact : (total : Resources) (slots : ByNumber (Option Allocation)) → IsTotalOf total slots → IsCounted (live_use slots) → total ≡ live_use slots
@@ -39,11 +42,19 @@ total_none total slots none_yet is = (
         (entries_empty numbers one_number)
 
 -- vacant slots take nothing
-pub total_stays : (total : Resources) (slots after : ByNumber (Option Allocation)) → IsTotalOf total slots → rows after ≡ rows slots → IsTotalOf total after
+total_stays : (total : Resources) (slots after : ByNumber (Option Allocation)) → IsTotalOf total slots → rows after ≡ rows slots → IsTotalOf total after
 total_stays total slots after h same = (
   h.0 ∙ ap (λ m. live_sum (λ r. r.cpu) m % 2 ^ 64) (sym same),
   h.1 ∙ ap (λ m. live_sum (λ r. r.memory) m % 2 ^ 64) (sym same),
 )
+
+-- a set of the same keys is right for the same rows
+pub still_kept : (old new : KeySet) (total : Resources) (slots after : ByNumber (Option Allocation)) → IsKept old total slots →
+    ((key : Key) → holds_key new key ≡ holds_key old key) → rows after ≡ rows slots → IsKept new total after
+still_kept old new total slots after h held same = record {
+  jobs = λ key. held key ∙ subst (IsIndexOf allocation_job old) (sym same) h.jobs key;
+  total = total_stays total slots after h.total same;
+}
 
 -- ---- changed rows
 

@@ -1,16 +1,29 @@
--- A namespace's allocations: the job of each, what the live ones take together, and the total of it that is kept with the rows.
+-- A namespace's allocations, by number and by the job under which their numbers stand, and the total that is kept of what
+-- the live ones take together.
 use Rattle.std.specs.Prelude.{◌≡◌, ℕ, ◌+◌, ◌%◌, ◌^◌, cond, List, Option, sum_by}
 use Rattle.std.specs.Option.{option_map_or}
 use Rattle.std.specs.FinMap.{entries}
+use Rattle.keyed.specs.Over.{HasRoomFor}
 use Rattle.keyed.specs.Table.{row_at, rows}
-use Rattle.ns_types.specs.State.Names.{ByNumber, Name}
+use Rattle.keyed.specs.declared.key_set.KeySet.{KeySet}
+use Rattle.ns_types.specs.State.Lists.{Each}
+use Rattle.ns_types.specs.State.Names.{ByNumber}
 use Rattle.ns_types.specs.State.Rows.{is_live}
 use Rattle.ns_types.specs.declared.allocation.Allocation.{Allocation}
 use Rattle.ns_types.specs.declared.resources.Resources.{Resources}
+use Rattle.ns_world.specs.Filing.{HasRoomAt, IsIndexOf, allocation_job}
 
--- the job that a row names
-abbrev pub job_of : Allocation → Name
-job_of a = a.job
+pub record AllocationTable : Type 0 where
+  pub slots : ByNumber (Option Allocation)
+  -- keys of a job and a number
+  pub jobs : KeySet
+
+-- room for each changed row, and for its number among those of its job
+pub record HasAllocationRoom (changes : ByNumber (Option Allocation)) (t : AllocationTable) : Type 0 where
+  pub slots : HasRoomFor changes t.slots
+  pub jobs : Each (HasRoomAt allocation_job t.jobs) (entries changes)
+
+-- ---- the total
 
 -- over the live rows
 abbrev pub live_sum : (Resources → ℕ) → ByNumber Allocation → ℕ
@@ -29,6 +42,11 @@ IsAlike a b = a % 2 ^ 64 ≡ b % 2 ^ 64
 
 abbrev pub IsTotalOf : Resources → ByNumber (Option Allocation) → Type 0
 IsTotalOf total slots = (total.cpu ≡ (live_use slots).cpu % 2 ^ 64) × (total.memory ≡ (live_use slots).memory % 2 ^ 64)
+
+-- the numbers stand by job, and the sum is that of the rows
+pub record IsKept (numbers : KeySet) (sum : Resources) (slots : ByNumber (Option Allocation)) : Type 0 where
+  pub jobs : IsIndexOf allocation_job numbers (rows slots)
+  pub total : IsTotalOf sum slots
 
 -- ---- changed rows
 

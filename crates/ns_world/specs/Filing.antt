@@ -1,6 +1,6 @@
--- Under which names the numbers of evaluations stand: of all under their job, and of those that are blocked under the quota
--- that limits them or, where none does, under the pool that they wait in.
-use Rattle.std.specs.Prelude.{◌≡◌, ℕ, Bool, false, not, ◌&&◌, if◌then◌else◌, IsTrue, Option, Some, None}
+-- Under which names the numbers of rows stand: of all under their job, and of the evaluations that are blocked under the
+-- quota that limits them or, where none does, under the pool that they wait in.
+use Rattle.std.specs.Prelude.{◌≡◌, ℕ, Bool, false, not, ◌&&◌, if◌then◌else◌, IsTrue, List, Option, Some, None, map}
 use Rattle.std.specs.Option.{option_map_or}
 use Rattle.std.specs.FinMap.{entries, get}
 use Rattle.keyed.specs.Levels.{holds_key, holds_number, has_key_room}
@@ -9,13 +9,17 @@ use Rattle.keyed.specs.declared.key_set.KeySet.{KeySet}
 use Rattle.ns_types.specs.State.Lists.{Each}
 use Rattle.ns_types.specs.State.Names.{ByNumber, Key, Name, same_key, same_name}
 use Rattle.ns_types.specs.State.Rows.{is_blocked}
+use Rattle.ns_types.specs.declared.allocation.Allocation.{Allocation}
 use Rattle.ns_types.specs.declared.evaluation.Evaluation.{Evaluation}
 use Rattle.ns_world.specs.declared.filing.Index.{Index}
 
--- ---- the three names of a row
+-- ---- the names of a row
 
-abbrev pub own_job : Evaluation → Option Name
-own_job e = Some e.job
+abbrev pub allocation_job : Allocation → Option Name
+allocation_job a = Some a.job
+
+abbrev pub evaluation_job : Evaluation → Option Name
+evaluation_job e = Some e.job
 
 abbrev pub unlimited : Option Name → Name → Option Name
 unlimited None pool = Some pool
@@ -29,45 +33,49 @@ waited_quota e = if is_blocked e.status then e.quota else None
 
 -- ---- by one of these names
 
-module _ (name_of : Evaluation → Option Name) where
+module _ {X : Type 0} (name_of : X → Option Name) where
   -- of a row that may be there
-  abbrev pub name_at : Option Evaluation → Option Name
+  abbrev pub name_at : Option X → Option Name
   name_at row = option_map_or name_of row None
 
-  abbrev pub stands_under : Name → Option Evaluation → Bool
+  abbrev pub stands_under : Name → Option X → Bool
   stands_under name row = option_map_or (same_name name) (name_at row) false
 
   -- a number is held under a name, just where its row stands under that
-  abbrev pub IsIndexOf : KeySet → ByNumber Evaluation → Type 0
+  abbrev pub IsIndexOf : KeySet → ByNumber X → Type 0
   IsIndexOf set rows = (key : Key) → holds_key set key ≡ stands_under key.0 (get rows key.1)
 
   -- these are the numbers of all rows that stand under the name, and of no others
-  abbrev pub AreNumbersUnder : Name → ByNumber (Option Evaluation) → Option (ByNumber (Option Unit)) → Type 0
+  abbrev pub AreNumbersUnder : Name → ByNumber (Option X) → Option (ByNumber (Option Unit)) → Type 0
   AreNumbersUnder name slots numbers =
       (n : ℕ) → option_map_or (λ m. holds_number m n) numbers false ≡ stands_under name (row_at slots n)
 
   -- room for the number of a slot's row under its name
-  abbrev pub HasRoomAt : KeySet → ℕ × Option Evaluation → Type 0
+  abbrev pub HasRoomAt : KeySet → ℕ × Option X → Type 0
   HasRoomAt set slot = (name : Name) → name_at slot.1 ≡ Some name → IsTrue (has_key_room set (name, slot.0))
 
   -- ---- one change after another
 
   -- the slot's row stands under the key
-  abbrev pub is_filed : ℕ × Option Evaluation → Key → Bool
+  abbrev pub is_filed : ℕ × Option X → Key → Bool
   is_filed slot key = option_map_or (λ name. same_key key (name, slot.0)) (name_at slot.1) false
 
   -- the row before stands under the key, and the slot's does not
-  abbrev pub is_left : ByNumber (Option Evaluation) → ℕ × Option Evaluation → Key → Bool
+  abbrev pub is_left : ByNumber (Option X) → ℕ × Option X → Key → Bool
   is_left before slot key = is_filed (slot.0, row_at before slot.0) key && not (is_filed slot key)
 
--- ---- by all three
+-- what stands at these numbers
+abbrev pub slots_at : {X : Type 0} → ByNumber (Option X) → List (ℕ × Option Unit) → List (ℕ × Option X)
+slots_at slots numbers = map (λ e. (e.0, row_at slots e.0)) numbers
+
+-- ---- evaluations, by all three
 
 pub record IsIndexed (index : Index) (rows : ByNumber Evaluation) : Type 0 where
-  pub jobs : IsIndexOf own_job index.jobs rows
+  pub jobs : IsIndexOf evaluation_job index.jobs rows
   pub pools : IsIndexOf waited_pool index.pools rows
   pub quotas : IsIndexOf waited_quota index.quotas rows
 
 pub record HasIndexRoom (changes : ByNumber (Option Evaluation)) (index : Index) : Type 0 where
-  pub jobs : Each (HasRoomAt own_job index.jobs) (entries changes)
+  pub jobs : Each (HasRoomAt evaluation_job index.jobs) (entries changes)
   pub pools : Each (HasRoomAt waited_pool index.pools) (entries changes)
   pub quotas : Each (HasRoomAt waited_quota index.quotas) (entries changes)

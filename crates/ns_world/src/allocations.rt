@@ -5,30 +5,24 @@ ghost use Rattle.std.specs.FinMap.{empty, entries};
 ghost use Rattle.keyed.specs.Over.{over};
 ghost use Rattle.keyed.specs.Table.{row_at, rows, without_vacant};
 ghost use Rattle.ns_types.specs.State.Resources.{IsCounted};
-ghost use Rattle.ns_world.specs.Allocations.{IsAlike, IsMoved, job_of, live_use, row_use};
-ghost use Rattle.ns_world.specs.JobTables.{HasNumbersOf, HasRoomIn};
+ghost use Rattle.ns_world.specs.Allocations.{HasAllocationRoom, IsAlike, IsMoved, live_use, row_use};
+ghost use Rattle.ns_world.specs.Filing.{AreNumbersUnder, allocation_job};
 
-use crate::job_tables::{HasJob, JobTable};
-use keyed::NumberTable;
+use crate::filing::{AllocationJob, clear, refile, reserve_all};
+use keyed::{KeySet, NumberTable};
 use ns_types::allocation::Allocation;
 use ns_types::resources::{Resources, none};
 use ns_types::text::Text;
 use std::alloc::{AllocError, Global};
 use std::marker::Model;
 
-impl HasJob for Allocation {
-    ghost job_of = { job_of };
-
-    fn job(&self) -> &Text {
-        &self.job
-    }
-}
-
 /// Allocations by number, with the numbers of each job, and with what the live ones take together, which is counted as
 /// rows change.
 #[derive(Drop)]
 pub struct AllocationTable {
-    table: JobTable<Allocation>,
+    alloc: Global,
+    slots: NumberTable<Allocation>,
+    jobs: KeySet,
     /// Each sum is that of the live rows, without what is past 64 bits.
     live: Resources,
 }
@@ -37,17 +31,15 @@ impl Model for AllocationTable {
     ghost use Rattle.keyed.specs.contracts.key_set.KeySet as set;
     ghost use Rattle.std.specs.FinMap.{code};
     ghost use Rattle.std.specs.Coded.{codes};
-    ghost use Rattle.ns_types.specs.declared.allocation.Allocation.{Allocation};
-    ghost use Rattle.ns_world.specs.Allocations.{IsTotalOf};
-    ghost use Rattle.ns_world.specs.JobTables.{JobTable};
+    ghost use Rattle.ns_world.specs.Allocations.{AllocationTable, IsKept};
 
-    ghost Value = { JobTable Allocation };
+    ghost Value = { AllocationTable };
 
     ghost coded = { Prim.hlevel (codes, code, set.the_row.coded) };
 
-    ghost view = { λ t. t.table };
+    ghost view = { λ t. record { slots = t.slots; jobs = t.jobs } };
 
-    ghost invariant = { λ t. IsTotalOf t.live t.table.slots };
+    ghost invariant = { λ t. IsKept t.jobs t.live t.slots };
 }
 
 /// An allocation with its number, or a vacant slot.
@@ -99,7 +91,9 @@ impl AllocationTable {
         ensures { result.slots ≡ empty }
     {
         AllocationTable {
-            table: JobTable::new(alloc),
+            alloc,
+            slots: NumberTable::new(alloc),
+            jobs: KeySet::new(alloc),
             live: none(),
         }
     }
@@ -108,28 +102,28 @@ impl AllocationTable {
     pub fn rows(&self) -> &NumberTable<Allocation>
         ensures { result.now ≡ self.now.slots }
     {
-        self.table.rows()
+        &self.slots
     }
 
     /// The slots with their numbers, which rise.
     pub fn as_slice(&self) -> &[(u64, Option<Allocation>)]
         ensures { result.now ≡ entries self.now.slots }
     {
-        self.table.rows().as_slice()
+        self.slots.as_slice()
     }
 
     /// The allocation of that number.
     pub fn get(&self, number: u64) -> Option<&Allocation>
         ensures { option_copied result ≡ row_at self.now.slots number }
     {
-        self.table.rows().get(number)
+        self.slots.get(number)
     }
 
-    /// The numbers of the job's allocations, which rise. There may be others among them.
+    /// The numbers of the job's allocations. They rise.
     pub fn numbers_of(&self, job: &Text) -> Option<&NumberTable<()>>
-        ensures { HasNumbersOf job_of job.now self.now.slots (option_copied result) }
+        ensures { AreNumbersUnder allocation_job job.now self.now.slots (option_copied result) }
     {
-        self.table.numbers_of(job)
+        self.jobs.numbers_of(job)
     }
 
     /// What the live allocations take together. It looks at none of them. The premise is that the sums fit 64 bits.
@@ -143,24 +137,27 @@ impl AllocationTable {
     /// Makes room for each changed row. Want of memory is the only error.
     pub fn reserve_all(&mut self, changes: &NumberTable<Allocation>) -> Result<(), AllocError>
         ensures rows { rows self.new.slots ≡ rows self.old.slots }
-        ensures room { OnOk result (HasRoomIn job_of changes.now self.new) }
+        ensures room { OnOk result (HasAllocationRoom changes.now self.new) }
     {
-        self.table.reserve_all(changes)
+        self.slots.reserve_all(changes)?;
+        reserve_all::<AllocationJob>(&mut self.jobs, self.alloc, changes.as_slice())
     }
 
     /// Writes the changed rows, and takes away those that are gone. It takes no memory.
     pub fn apply(&mut self, changes: NumberTable<Allocation>)
-        requires { HasRoomIn job_of changes self.old }
+        requires { HasAllocationRoom changes self.old }
         ensures { rows self.new.slots ≡ over (rows self.old.slots) changes }
     {
-        self.live = total_after(self.live, self.table.rows(), changes.as_slice());
-        self.table.apply(changes);
+        self.live = total_after(self.live, &self.slots, changes.as_slice());
+        refile::<AllocationJob>(&mut self.jobs, &self.slots, &changes);
+        self.slots.apply(changes);
     }
 
     /// Takes the slot of that number out, if it is vacant, with the room that was made for its row.
     pub fn clear_slot(&mut self, slot: &(u64, Option<Allocation>))
         ensures { self.new.slots ≡ without_vacant self.old.slots slot.now.0 }
     {
-        self.table.clear_slot(slot);
+        self.slots.clear_slot(slot.0);
+        clear::<AllocationJob>(&mut self.jobs, slot);
     }
 }

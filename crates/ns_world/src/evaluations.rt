@@ -4,8 +4,8 @@ ghost use Rattle.std.specs.Prelude.{◌≡◌, OnOk, option_copied};
 ghost use Rattle.std.specs.FinMap.{empty};
 ghost use Rattle.keyed.specs.Over.{over};
 ghost use Rattle.keyed.specs.Table.{rows, without_vacant};
-ghost use Rattle.ns_world.specs.Evaluations.{HasEvaluationRoom, HasNumbersOf};
-ghost use Rattle.ns_world.specs.Filing.{AreNumbersUnder, waited_pool, waited_quota};
+ghost use Rattle.ns_world.specs.Evaluations.{HasEvaluationRoom};
+ghost use Rattle.ns_world.specs.Filing.{AreNumbersUnder, evaluation_job, waited_pool, waited_quota};
 
 use crate::filing::Index;
 use keyed::NumberTable;
@@ -58,9 +58,9 @@ impl EvaluationTable {
         &self.slots
     }
 
-    /// The numbers of the job's evaluations, which rise.
+    /// The numbers of the job's evaluations. They rise.
     pub fn numbers_of(&self, job: &Text) -> Option<&NumberTable<()>>
-        ensures { HasNumbersOf job.now self.now.slots (option_copied result) }
+        ensures { AreNumbersUnder evaluation_job job.now self.now.slots (option_copied result) }
     {
         self.index.jobs.numbers_of(job)
     }

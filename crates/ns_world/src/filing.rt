@@ -1,4 +1,4 @@
-//! Under which names the numbers of evaluations stand.
+//! Under which names the numbers of rows stand.
 
 ghost use Rattle.std.specs.Prelude.{◌≡◌, ◌&&◌, ◌||◌, IsTrue, not, OnOk, Option, option_copied};
 ghost use Rattle.std.specs.FinMap.{empty, entries};
@@ -9,31 +9,49 @@ ghost use Rattle.keyed.specs.Table.{rows};
 ghost use Rattle.ns_types.specs.State.Lists.{Each};
 ghost use Rattle.ns_types.specs.State.Names.{ByNumber, Key, Name};
 ghost use Rattle.ns_types.specs.declared.evaluation.Evaluation.{Evaluation};
-ghost use Rattle.ns_world.specs.Filing.{HasIndexRoom, HasRoomAt, IsIndexOf, IsIndexed, is_filed, is_left, name_at};
-ghost use Rattle.ns_world.specs.Filing.{own_job, stands_under, waited_pool, waited_quota};
+ghost use Rattle.ns_world.specs.Filing.{HasIndexRoom, HasRoomAt, IsIndexOf, IsIndexed, allocation_job, evaluation_job};
+ghost use Rattle.ns_world.specs.Filing.{is_filed, is_left, name_at, stands_under, waited_pool, waited_quota};
 
 use keyed::{KeySet, NumberTable};
+use ns_types::allocation::Allocation;
 use ns_types::evaluation::{Evaluation, Status};
 use ns_types::text::{Text, same_text};
 use std::alloc::{AllocError, Global};
 
-/// A changed evaluation with its number, or one that is gone.
-type EvaluationSlot = (u64, Option<Evaluation>);
+/// A changed row with its number, or one that is gone.
+type Slot<V> = (u64, Option<V>);
 
-/// A name under which numbers of evaluations stand.
-trait Filing {
-    ghost name_of: { Evaluation → Option Name };
+/// A name under which numbers of rows stand.
+pub(crate) trait Filing {
+    type Row: Drop;
+
+    ghost name_of: { Self.Row → Option Name };
 
     /// The name of the row, where it has one.
-    fn name_of(row: &Evaluation) -> Option<&Text>
+    fn name_of(row: &Self::Row) -> Option<&Text>
         ensures { option_copied result ≡ name_of row.now };
 }
 
-/// The job of an evaluation.
-struct OwnJob;
+/// The job of an allocation.
+pub(crate) struct AllocationJob;
 
-impl Filing for OwnJob {
-    ghost name_of = { own_job };
+impl Filing for AllocationJob {
+    type Row = Allocation;
+
+    ghost name_of = { allocation_job };
+
+    fn name_of(row: &Allocation) -> Option<&Text> {
+        Some(&row.job)
+    }
+}
+
+/// The job of an evaluation.
+struct EvaluationJob;
+
+impl Filing for EvaluationJob {
+    type Row = Evaluation;
+
+    ghost name_of = { evaluation_job };
 
     fn name_of(row: &Evaluation) -> Option<&Text> {
         Some(&row.job)
@@ -44,6 +62,8 @@ impl Filing for OwnJob {
 struct WaitedPool;
 
 impl Filing for WaitedPool {
+    type Row = Evaluation;
+
     ghost name_of = { waited_pool };
 
     fn name_of(row: &Evaluation) -> Option<&Text> {
@@ -58,6 +78,8 @@ impl Filing for WaitedPool {
 struct WaitedQuota;
 
 impl Filing for WaitedQuota {
+    type Row = Evaluation;
+
     ghost name_of = { waited_quota };
 
     fn name_of(row: &Evaluation) -> Option<&Text> {
@@ -69,7 +91,7 @@ impl Filing for WaitedQuota {
 }
 
 /// The name of a row that may be there.
-fn name_at<F: Filing>(row: Option<&Evaluation>) -> Option<&Text>
+fn name_at<F: Filing>(row: Option<&F::Row>) -> Option<&Text>
     ensures { option_copied result ≡ name_at F.name_of (option_copied row.entry) }
 {
     match row {
@@ -78,7 +100,7 @@ fn name_at<F: Filing>(row: Option<&Evaluation>) -> Option<&Text>
     }
 }
 
-fn stands_under<F: Filing>(name: &Text, row: Option<&Evaluation>) -> bool
+fn stands_under<F: Filing>(name: &Text, row: Option<&F::Row>) -> bool
     ensures { result ≡ stands_under F.name_of name.now (option_copied row.entry) }
 {
     match name_at::<F>(row) {
@@ -92,7 +114,7 @@ fn stands_under<F: Filing>(name: &Text, row: Option<&Evaluation>) -> bool
 fn reserve<F: Filing>(
     numbers: &mut KeySet,
     alloc: Global,
-    slot: &EvaluationSlot,
+    slot: &Slot<F::Row>,
 ) -> Result<(), AllocError>
     ensures same { Keeps holds_key has_key_room numbers.old numbers.new }
     ensures ok { OnOk result (HasRoomAt F.name_of numbers.new slot.now) }
@@ -104,10 +126,10 @@ fn reserve<F: Filing>(
 }
 
 /// Makes room for the number of each row under its name.
-fn reserve_all<F: Filing>(
+pub(crate) fn reserve_all<F: Filing>(
     numbers: &mut KeySet,
     alloc: Global,
-    slots: &[EvaluationSlot],
+    slots: &[Slot<F::Row>],
 ) -> Result<(), AllocError>
     ensures same { Keeps holds_key has_key_room numbers.old numbers.new }
     ensures ok { OnOk result (Each (HasRoomAt F.name_of numbers.new) slots.now) }
@@ -119,7 +141,7 @@ fn reserve_all<F: Filing>(
 }
 
 /// Takes the room for the number of the slot's row away again, unless it stands there.
-fn clear<F: Filing>(numbers: &mut KeySet, slot: &EvaluationSlot)
+pub(crate) fn clear<F: Filing>(numbers: &mut KeySet, slot: &Slot<F::Row>)
     ensures { (key : Key) → holds_key numbers.new key ≡ holds_key numbers.old key }
 {
     if let Some(name) = name_at::<F>(slot.1.as_ref()) {
@@ -129,7 +151,7 @@ fn clear<F: Filing>(numbers: &mut KeySet, slot: &EvaluationSlot)
 
 // ---- changes
 
-fn insert<F: Filing>(numbers: &mut KeySet, slot: &EvaluationSlot)
+fn insert<F: Filing>(numbers: &mut KeySet, slot: &Slot<F::Row>)
     requires { HasRoomAt F.name_of numbers.old slot.now }
     ensures held { (key : Key) → holds_key numbers.new key
         ≡ (is_filed F.name_of slot.now key || holds_key numbers.old key) }
@@ -141,7 +163,7 @@ fn insert<F: Filing>(numbers: &mut KeySet, slot: &EvaluationSlot)
     }
 }
 
-fn insert_all<F: Filing>(numbers: &mut KeySet, slots: &[EvaluationSlot])
+fn insert_all<F: Filing>(numbers: &mut KeySet, slots: &[Slot<F::Row>])
     requires { Each (HasRoomAt F.name_of numbers.old) slots.now }
     ensures { (key : Key) → holds_key numbers.new key
         ≡ (list_any (λ slot. is_filed F.name_of slot key) slots.now || holds_key numbers.old key) }
@@ -152,7 +174,7 @@ fn insert_all<F: Filing>(numbers: &mut KeySet, slots: &[EvaluationSlot])
 }
 
 /// Takes the number out from under the name of the row before, unless the slot's row stands there.
-fn leave<F: Filing>(numbers: &mut KeySet, before: &NumberTable<Evaluation>, slot: &EvaluationSlot)
+fn leave<F: Filing>(numbers: &mut KeySet, before: &NumberTable<F::Row>, slot: &Slot<F::Row>)
     ensures { (key : Key) → holds_key numbers.new key
         ≡ (not (is_left F.name_of before.now slot.now key) && holds_key numbers.old key) }
 {
@@ -163,11 +185,7 @@ fn leave<F: Filing>(numbers: &mut KeySet, before: &NumberTable<Evaluation>, slot
     }
 }
 
-fn leave_all<F: Filing>(
-    numbers: &mut KeySet,
-    before: &NumberTable<Evaluation>,
-    slots: &[EvaluationSlot],
-)
+fn leave_all<F: Filing>(numbers: &mut KeySet, before: &NumberTable<F::Row>, slots: &[Slot<F::Row>])
     ensures { (key : Key) → holds_key numbers.new key
         ≡ (not (list_any (λ slot. is_left F.name_of before.now slot key) slots.now)
         && holds_key numbers.old key) }
@@ -178,10 +196,10 @@ fn leave_all<F: Filing>(
 }
 
 /// Puts the number of each changed row under its name, and takes it out from under the one before.
-fn refile<F: Filing>(
+pub(crate) fn refile<F: Filing>(
     numbers: &mut KeySet,
-    before: &NumberTable<Evaluation>,
-    changes: &NumberTable<Evaluation>,
+    before: &NumberTable<F::Row>,
+    changes: &NumberTable<F::Row>,
 )
     requires room { Each (HasRoomAt F.name_of numbers.old) (entries changes.now) }
     requires before { IsIndexOf F.name_of numbers.old (rows before.now) }
@@ -223,7 +241,7 @@ impl Index {
             → IsIndexed self.new rows }
         ensures ok { OnOk result (HasIndexRoom changes.now self.new) }
     {
-        reserve_all::<OwnJob>(&mut self.jobs, alloc, changes.as_slice())?;
+        reserve_all::<EvaluationJob>(&mut self.jobs, alloc, changes.as_slice())?;
         reserve_all::<WaitedPool>(&mut self.pools, alloc, changes.as_slice())?;
         reserve_all::<WaitedQuota>(&mut self.quotas, alloc, changes.as_slice())
     }
@@ -234,17 +252,17 @@ impl Index {
         requires before { IsIndexed self.old (rows before.now) }
         ensures { IsIndexed self.new (over (rows before.now) changes.now) }
     {
-        refile::<OwnJob>(&mut self.jobs, before, changes);
+        refile::<EvaluationJob>(&mut self.jobs, before, changes);
         refile::<WaitedPool>(&mut self.pools, before, changes);
         refile::<WaitedQuota>(&mut self.quotas, before, changes);
     }
 
     /// Takes the room for the number of the slot's row away again, where it is not used.
-    pub fn clear(&mut self, slot: &EvaluationSlot)
+    pub fn clear(&mut self, slot: &Slot<Evaluation>)
         ensures { (rows : ByNumber Evaluation) → IsIndexed self.old rows
             → IsIndexed self.new rows }
     {
-        clear::<OwnJob>(&mut self.jobs, slot);
+        clear::<EvaluationJob>(&mut self.jobs, slot);
         clear::<WaitedPool>(&mut self.pools, slot);
         clear::<WaitedQuota>(&mut self.quotas, slot);
     }

@@ -6,10 +6,8 @@
 mod allocations;
 mod evaluations;
 mod filing;
-mod job_tables;
 mod tables;
 
 pub use allocations::AllocationTable;
 pub use evaluations::EvaluationTable;
-pub use job_tables::{HasJob, JobTable};
 pub use tables::{PoolRows, QuotaRows, Tables, TenantRows};

@@ -5,6 +5,9 @@ use Rattle.std.specs.Option.{option_copied, option_map_or}
 use Rattle.std.specs.Ordering.{nat_cmp}
 use Rattle.std.specs.Prelude.{is_some}
 use Rattle.keyed.specs.Levels.{holds_number}
+use Rattle.ns_types.proofs.Named.{same_name_refl}
+use Rattle.ns_types.specs.State.Names.{same_name}
+use Rattle.ns_world.specs.Filing.{evaluation_job, stands_under}
 use Rattle.ns_change.proofs.Candidates.{in_slots, number_left, out_slots}
 use Rattle.ns_change.proofs.Waiting.{has_slot_of}
 use Rattle.ns_change.specs.Queued.{is_left_in}
@@ -19,11 +22,13 @@ returns-in-Some-clause-sound c is =
 pub returns-in-Some-clause-complete : goal.returns-in-Some-clause-complete
 returns-in-Some-clause-complete c n e row of left =
     let here = is_left_in c.args.tables.now c.args.change.now c.args.base.now.items c.args.taken.now c.args.namespace.now c.args.job.now in
+    let own = ap (stands_under evaluation_job c.args.job.now) row ∙ ap (same_name c.args.job.now) of ∙ same_name_refl c.args.job.now in
     c.is_among_left.ensures ∙ in_slots here c.as_slice-slots.result.now n
     (ap (λ es. is_some (find nat_cmp n es)) c.as_slice-slots.ensures ∙ ap is_some (sym (get-entries c.in-Some.numbers.now n))
     ∙ has_slot_of c.in-Some.numbers.now n
-    (subst (λ r. IsTrue (option_map_or (λ m. holds_number m n) r false)) (ap option_copied c.in-Some.is) (c.numbers_of.ensures n e row of))) left
+    (subst (λ r. IsTrue (option_map_or (λ m. holds_number m n) r false)) (ap option_copied c.in-Some.is) (c.numbers_of.ensures n ∙ own))) left
 
 pub returns-in-None-clause-complete : goal.returns-in-None-clause-complete
-returns-in-None-clause-complete c n e row of left = subst (λ r. IsTrue (option_map_or (λ m. holds_number m n) r false)) (ap option_copied c.in-None.is)
-    (c.numbers_of.ensures n e row of)
+returns-in-None-clause-complete c n e row of left =
+    let own = ap (stands_under evaluation_job c.args.job.now) row ∙ ap (same_name c.args.job.now) of ∙ same_name_refl c.args.job.now in
+    subst (λ r. IsTrue (option_map_or (λ m. holds_number m n) r false)) (ap option_copied c.in-None.is) (c.numbers_of.ensures n ∙ own)

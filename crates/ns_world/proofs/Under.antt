@@ -1,4 +1,4 @@
--- A job's rows that pass a test, by the job's numbers.
+-- Rows under a name that pass a test, by the numbers under it.
 use Rattle.std.specs.Prelude.{◌≡◌, ℕ, Bool, true, false, [], Option, Some, None, filter, is_some, map}
 use Rattle.std.proofs.Common.{refl, sym, ap, ◌∙◌}
 use Rattle.std.specs.FinMap.{contains_key, entries, get}
@@ -15,18 +15,18 @@ use Rattle.ns_types.proofs.Tables.{any_row-none, filter-retain}
 use Rattle.ns_types.specs.State.Names.{ByNumber, Name}
 use Rattle.ns_types.specs.State.Tables.{any_row}
 use Rattle.ns_world.proofs.Looked.{entries_looked}
-use Rattle.ns_world.specs.JobTables.{HasNumbersOf, slots_at}
+use Rattle.ns_world.specs.Filing.{AreNumbersUnder, slots_at, stands_under}
 
-module _ {X : Type 0} (job_of : X → Name) (job : Name) (slots : ByNumber (Option X)) (p : ℕ → X → Bool)
-    (asks : (n : ℕ) (x : X) → p n x ≡ true → job_of x ≡ job) where
+module _ {X : Type 0} (name_of : X → Option Name) (name : Name) (slots : ByNumber (Option X)) (p : ℕ → X → Bool)
+    (asks : (n : ℕ) (x : X) → p n x ≡ true → stands_under name_of name (Some x) ≡ true) where
   -- a row outside the numbers does not pass
-  outside : (m : Option (ByNumber (Option Unit))) → HasNumbersOf job_of job slots m → (n : ℕ) (x : X) → get (rows slots) n ≡ Some x →
+  outside : (m : Option (ByNumber (Option Unit))) → AreNumbersUnder name_of name slots m → (n : ℕ) (x : X) → get (rows slots) n ≡ Some x →
       option_map_or (λ m. holds_number m n) m false ≡ false → p n x ≡ false
   outside m has n x is out = by (p n x) refl
     where
       by : (b : Bool) → p n x ≡ b → p n x ≡ false
       by false passes = passes
-      by true passes = not_both (has n x (sym (get-rows numbers slots n) ∙ is) (asks n x passes)) out
+      by true passes = not_both (has n ∙ ap (stands_under name_of name) (sym (get-rows numbers slots n) ∙ is) ∙ asks n x passes) out
 
   not_held : (m : ByNumber (Option Unit)) (n : ℕ) → contains_key m n ≡ false → holds_number m n ≡ false
   not_held m n out = by (get m n) out
@@ -35,7 +35,7 @@ module _ {X : Type 0} (job_of : X → Name) (job : Name) (slots : ByNumber (Opti
       by None out = refl
       by (Some r) out = not_both refl out
 
-  module _ (m : ByNumber (Option Unit)) (has : HasNumbersOf job_of job slots (Some m)) where
+  module _ (m : ByNumber (Option Unit)) (has : AreNumbersUnder name_of name slots (Some m)) where
     -- those of the table are those at the numbers, in the order of the table
     pub passing_at : filter (λ e. p e.0 e.1) (row_list (slots_at slots (entries m))) ≡ filter (λ e. p e.0 e.1) (entries (rows slots))
     passing_at = sym (filter-retain numbers one_number p (rows slots) (contains_key m) (λ n x is out. outside (Some m) has n x is (not_held m n out))
@@ -46,7 +46,7 @@ module _ {X : Type 0} (job_of : X → Name) (job : Name) (slots : ByNumber (Opti
     any_at = any_row-before numbers one_number p (rows slots) m (λ n x is out. outside (Some m) has n x is (not_held m n out))
         ∙ (λ i. list_any (λ e. option_map_or (p e.0) (get-rows numbers slots e.0 i) false) (entries m))
 
-  module _ (has : HasNumbersOf job_of job slots None) where
+  module _ (has : AreNumbersUnder name_of name slots None) where
     pub none_passing : filter (λ e. p e.0 e.1) (entries (rows slots)) ≡ []
     none_passing = filter_no_row numbers one_number p (rows slots) (λ n x is. outside None has n x is refl)
 

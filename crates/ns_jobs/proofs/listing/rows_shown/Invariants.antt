@@ -1,0 +1,8 @@
+use Rattle.std.proofs.Common.{◌≡◌, ◌++◌, drop}
+use Rattle.ns_jobs.specs.Read.{rows_shown}
+use Rattle.ns_jobs.proofs.listing.rows_shown.Given as goal
+
+abbrev pub invariant-loop-slot : goal.invariant-loop-slot
+invariant-loop-slot g l =
+    let listed = rows_shown g.V.Listed.as_shown g.V.Listed.is_listed l.namespace l.command in
+    l.listed ++ listed (drop l.slot-index l.slots) ≡ listed l.slots
