@@ -2,7 +2,6 @@ pub mod Ids
 pub mod Parts
 pub mod Rules
 pub mod Targets
-pub mod Queries
 pub mod Numbers
 pub mod Seeking
 pub mod Spelling

@@ -4,7 +4,6 @@ pub mod Endpoints
 pub mod Routes
 pub mod Targets
 pub mod Queries
-pub mod Values
 pub mod Secrets
 pub mod Gives
 pub mod Finding

@@ -1,33 +1,21 @@
 -- Queries, as form data.
-use Rattle.std.specs.Prelude.{ℕ, ◌==◌, ◌^◌, Bool, true, false, not, ◌&&◌, ◌||◌, List, [], length, find}
-use Rattle.std.specs.Prelude.{Option, Some, None, option_map, unwrap_or, Result, Ok, Err, if◌then◌else◌, nat_lt, bytes_eq, codes}
+use Rattle.std.specs.Prelude.{ℕ, ◌==◌, ◌^◌, Bool, true, false, not, ◌&&◌, ◌||◌, List, [], length}
+use Rattle.std.specs.Prelude.{Option, Some, None, unwrap_or, Result, Ok, Err, if◌then◌else◌, nat_lt, bytes_eq, codes}
 use Rattle.std.specs.Char.{is_ascii_digit}
 use Rattle.std.specs.List.{list_all}
 use Rattle.std.specs.Option.{option_map_or}
-use Rattle.std.specs.Str.Lossy.{utf8_lossy}
 use Rattle.std.specs.Str.Parse.{digits_value}
-use Rattle.form_urlencoded.specs.Form.{raw_pairs, decode}
 use Rattle.ns_types.specs.declared.name.NameKind.TheVariants as NameKind
 use Rattle.ns_types.specs.declared.refusal.Member.TheVariants as Member
 use Rattle.ns_types.specs.declared.refusal.Refusal.{Refusal}
 use Rattle.ns_types.specs.declared.refusal.Refusal.TheVariants.{BadField}
 use Rattle.ns_types.specs.State.Name.{is_name}
 use Rattle.ns_types.specs.State.Names.{Name}
+use Rattle.ns_parameters.specs.Parameters.{parameter}
 use Rattle.ns_request.specs.declared.endpoint.Endpoint.{Endpoint}
 use Rattle.ns_request.specs.declared.endpoint.Endpoint.TheVariants.{EventStream}
 use Rattle.ns_request.specs.declared.method.Method.{Method}
 use Rattle.ns_request.specs.declared.method.Method.TheVariants.{Get, Write, Delete}
-
--- a name or a value as text, with U+FFFD for what is not UTF-8
-abbrev pub text_of : List ℕ → List ℕ
-text_of encoded = utf8_lossy (decode encoded)
-
--- of several values of a name the first counts
-abbrev pub value_in : List ℕ → List (List ℕ × List ℕ) → Option (List ℕ)
-value_in name pairs = option_map (λ pair. text_of pair.1) (find (λ pair. bytes_eq (text_of pair.0) name) pairs)
-
-unfoldable pub parameter : List ℕ → List ℕ → Option (List ℕ)
-parameter name query = value_in name (raw_pairs query)
 
 -- ---- what no path serves
 

@@ -1,9 +1,9 @@
 //! The parameters of a query.
 
-ghost use Rattle.std.specs.Prelude.{◌≡◌, IfOk, None, OnOk, Some, false, if◌then◌else◌};
+ghost use Rattle.std.specs.Prelude.{◌≡◌, IfOk, None, Some, false, if◌then◌else◌};
 ghost use Rattle.std.specs.Char.{is_ascii_digit};
 ghost use Rattle.std.specs.List.{list_all};
-ghost use Rattle.std.specs.Option.{option_copied, option_map_or, option_or};
+ghost use Rattle.std.specs.Option.{option_copied, option_map_or};
 ghost use Rattle.std.specs.Str.Parse.{digits_value};
 ghost use Rattle.ns_json.specs.Reading.{same};
 ghost use Rattle.ns_request.specs.Gives.{Gives};
@@ -11,64 +11,12 @@ ghost use Rattle.ns_request.specs.Queries.{index_in, is_awaited, is_not_empty, i
 
 use crate::endpoint::Endpoint;
 use crate::method::Method;
-use form_urlencoded::parse;
+use ns_parameters::Values;
 use ns_types::name::{Name, NameKind};
 use ns_types::refusal::{Member, Refusal};
 use ns_types::text::Text;
 use std::alloc::{AllocError, Global};
 use std::marker::Model;
-
-/// The values of the names that are known, of each name the first one.
-#[derive(Drop)]
-struct Values {
-    namespace: Option<Text>,
-    filter: Option<Text>,
-    per_page: Option<Text>,
-    next_token: Option<Text>,
-    index: Option<Text>,
-    prefix: Option<Text>,
-    purge: Option<Text>,
-}
-
-const NO_VALUES: Values = Values {
-    namespace: None,
-    filter: None,
-    per_page: None,
-    next_token: None,
-    index: None,
-    prefix: None,
-    purge: None,
-};
-
-/// Keeps the value, where there is none yet.
-fn keep_first(alloc: Global, kept: &mut Option<Text>, value: &str) -> Result<(), AllocError>
-    ensures { OnOk result (kept.new ≡ option_or kept.old (Some value.now)) }
-{
-    if kept.is_none() {
-        *kept = Some(Text::from_str(alloc, value)?);
-    }
-    Ok(())
-}
-
-impl Values {
-    ghost use Rattle.ns_request.specs.Values.{values_with};
-
-    /// Keeps the value of a name that has none yet.
-    fn keep(&mut self, alloc: Global, name: &str, value: &str) -> Result<(), AllocError>
-        ensures { OnOk result (self.new ≡ values_with name.now value.now self.old) }
-    {
-        match name {
-            "namespace" => keep_first(alloc, &mut self.namespace, value),
-            "filter" => keep_first(alloc, &mut self.filter, value),
-            "per_page" => keep_first(alloc, &mut self.per_page, value),
-            "next_token" => keep_first(alloc, &mut self.next_token, value),
-            "index" => keep_first(alloc, &mut self.index, value),
-            "prefix" => keep_first(alloc, &mut self.prefix, value),
-            "purge" => keep_first(alloc, &mut self.purge, value),
-            _ => Ok(()),
-        }
-    }
-}
 
 /// The parameters of a query, found once. Contracts see the query.
 #[derive(Drop)]
@@ -83,7 +31,7 @@ impl<'a> Model for Query<'a> {
     ghost Value = { List ℕ };
 
     ghost use Rattle.std.specs.Prelude.{◌≡◌};
-    ghost use Rattle.ns_request.specs.Values.{values_of};
+    ghost use Rattle.ns_parameters.specs.Values.{values_of};
 
     ghost view = { λ query. query.text.now };
 
@@ -141,11 +89,7 @@ impl<'a> Query<'a> {
     pub fn read(alloc: Global, text: &'a str) -> Result<Query<'a>, AllocError>
         ensures { IfOk result (λ query. query ≡ text.now) }
     {
-        let mut values = NO_VALUES;
-        for pair in parse(alloc, text.as_bytes()) {
-            let (name, value) = pair?;
-            values.keep(alloc, name.as_str(), value.as_str())?;
-        }
+        let values = Values::read(alloc, text)?;
         Ok(Query { text, values })
     }
 

@@ -3,9 +3,9 @@ use Rattle.std.proofs.Common.{◌≡◌, ℕ, List, ◌∷◌, Option, Some, Non
 use Rattle.std.specs.Option.{option_or}
 use Rattle.std.specs.Prelude.{bytes_eq, codes, find, option_map}
 use Rattle.form_urlencoded.specs.Form.{DecodesTo, raw_pairs}
-use Rattle.ns_request.specs.declared.query.Values.{Values}
-use Rattle.ns_request.specs.Queries.{value_in, text_of, parameter}
-use Rattle.ns_request.specs.Values.{kept, values_of, values_with}
+use Rattle.ns_parameters.specs.declared.Values.{Values}
+use Rattle.ns_parameters.specs.Parameters.{value_in, text_of, parameter}
+use Rattle.ns_parameters.specs.Values.{kept, values_of, values_with}
 
 abbrev Pairs : Type 0
 Pairs = List (List ℕ × List ℕ)

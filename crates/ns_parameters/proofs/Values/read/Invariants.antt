@@ -1,8 +1,8 @@
 use Rattle.std.proofs.Common.{◌≡◌}
 use Rattle.form_urlencoded.specs.Parse.{pairs_left}
-use Rattle.ns_request.specs.Values.{values_of}
-use Rattle.ns_request.proofs.Queries.{joined}
-use Rattle.ns_request.proofs.query.Query.read.Given as goal
+use Rattle.ns_parameters.specs.Values.{values_of}
+use Rattle.ns_parameters.proofs.Parameters.{joined}
+use Rattle.ns_parameters.proofs.Values.read.Given as goal
 
 abbrev pub invariant-loop-pair : goal.invariant-loop-pair
 invariant-loop-pair l =

@@ -1,8 +1,8 @@
 -- The values of the names that are known.
 use Rattle.std.specs.Prelude.{ℕ, List, Option, Some, bytes_eq, codes, if◌then◌else◌}
 use Rattle.std.specs.Option.{option_or}
-use Rattle.ns_request.specs.declared.query.Values.{Values}
-use Rattle.ns_request.specs.Queries.{parameter}
+use Rattle.ns_parameters.specs.declared.Values.{Values}
+use Rattle.ns_parameters.specs.Parameters.{parameter}
 
 -- the names that are known
 abbrev pub values_of : List ℕ → Values

@@ -2,9 +2,9 @@ use Rattle.std.proofs.Common.{◌≡◌, rules}
 use Rattle.std.specs.Cow.{cow_str_bytes}
 use Rattle.form_urlencoded.specs.Form.{raw_pairs}
 use Rattle.form_urlencoded.specs.Parse.{pairs_left}
-use Rattle.ns_request.specs.Values.{values_of}
-use Rattle.ns_request.proofs.Queries.{joined-none, joined-first}
-use Rattle.ns_request.proofs.query.Query.read.Goals as goal
+use Rattle.ns_parameters.specs.Values.{values_of}
+use Rattle.ns_parameters.proofs.Parameters.{joined-none, joined-first}
+use Rattle.ns_parameters.proofs.Values.read.Goals as goal
 
 pub loop-pair-init : goal.loop-pair-init
 loop-pair-init c =

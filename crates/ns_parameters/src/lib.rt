@@ -1,0 +1,73 @@
+//! The values of a query's parameters, of each name the first one.
+#![tactic(auto)]
+
+ghost use Rattle.std.specs.Prelude.{◌≡◌, IfOk, OnOk, Some};
+ghost use Rattle.std.specs.Option.{option_or};
+
+use form_urlencoded::parse;
+use ns_types::text::Text;
+use std::alloc::{AllocError, Global};
+
+/// The values of the names that are known, of each name the first one.
+#[derive(Drop)]
+pub struct Values {
+    pub namespace: Option<Text>,
+    pub filter: Option<Text>,
+    pub per_page: Option<Text>,
+    pub next_token: Option<Text>,
+    pub index: Option<Text>,
+    pub prefix: Option<Text>,
+    pub purge: Option<Text>,
+}
+
+const NO_VALUES: Values = Values {
+    namespace: None,
+    filter: None,
+    per_page: None,
+    next_token: None,
+    index: None,
+    prefix: None,
+    purge: None,
+};
+
+/// Keeps the value, where there is none yet.
+fn keep_first(alloc: Global, kept: &mut Option<Text>, value: &str) -> Result<(), AllocError>
+    ensures { OnOk result (kept.new ≡ option_or kept.old (Some value.now)) }
+{
+    if kept.is_none() {
+        *kept = Some(Text::from_str(alloc, value)?);
+    }
+    Ok(())
+}
+
+impl Values {
+    ghost use Rattle.ns_parameters.specs.Values.{values_of, values_with};
+
+    /// Keeps the value of a name that has none yet.
+    fn keep(&mut self, alloc: Global, name: &str, value: &str) -> Result<(), AllocError>
+        ensures { OnOk result (self.new ≡ values_with name.now value.now self.old) }
+    {
+        match name {
+            "namespace" => keep_first(alloc, &mut self.namespace, value),
+            "filter" => keep_first(alloc, &mut self.filter, value),
+            "per_page" => keep_first(alloc, &mut self.per_page, value),
+            "next_token" => keep_first(alloc, &mut self.next_token, value),
+            "index" => keep_first(alloc, &mut self.index, value),
+            "prefix" => keep_first(alloc, &mut self.prefix, value),
+            "purge" => keep_first(alloc, &mut self.purge, value),
+            _ => Ok(()),
+        }
+    }
+
+    /// The values of the query.
+    pub fn read(alloc: Global, text: &str) -> Result<Values, AllocError>
+        ensures { IfOk result (λ values. values ≡ values_of text.now) }
+    {
+        let mut values = NO_VALUES;
+        for pair in parse(alloc, text.as_bytes()) {
+            let (name, value) = pair?;
+            values.keep(alloc, name.as_str(), value.as_str())?;
+        }
+        Ok(values)
+    }
+}
