@@ -9,9 +9,9 @@ ghost use Rattle.ns_plan.specs.After.{after_stops, counted, names, part_of_quota
 ghost use Rattle.ns_plan.specs.Looks.{AreCounted, if_live, live_at};
 ghost use Rattle.ns_plan.specs.Reader.{quota_left};
 
-use crate::amounts::less;
 use crate::view::View;
 use ns_alike::same_resources;
+use ns_place::less;
 use ns_types::allocation::Allocation;
 use ns_types::plan::Eviction;
 use ns_types::resources::Resources;

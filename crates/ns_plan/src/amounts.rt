@@ -2,7 +2,7 @@
 
 ghost use Rattle.std.specs.Prelude.{◌≡◌, ℕ};
 ghost use Rattle.ns_types.specs.declared.resources.Resources.{Resources};
-ghost use Rattle.ns_types.specs.State.Resources.{is_within, limit_allows, limits_allow, minus};
+ghost use Rattle.ns_types.specs.State.Resources.{is_within, limit_allows, limits_allow};
 ghost use Rattle.ns_plan.specs.Amounts.{added, amount_of, capped};
 
 use ns_types::resources::{Limit, Limits, Resources};
@@ -31,16 +31,6 @@ pub(crate) fn amount_of(size: Resources) -> Amount
     Amount {
         cpu: u128::from(size.cpu),
         memory: u128::from(size.memory),
-    }
-}
-
-/// What is left of `a` without `b`, or nothing where `b` is more.
-pub(crate) fn less(a: Resources, b: Resources) -> Resources
-    ensures { result ≡ minus a b }
-{
-    Resources {
-        cpu: a.cpu.saturating_sub(b.cpu),
-        memory: a.memory.saturating_sub(b.memory),
     }
 }
 

@@ -12,8 +12,8 @@ ghost use Rattle.ns_plan.specs.Reader.{AreElsewhere, Leaves, evictions_of, left_
 ghost use Rattle.ns_plan.specs.Reader.{same_eviction, with_gone};
 
 use crate::after::{counted, load, shares};
-use crate::amounts::less;
 use crate::view::View;
+use ns_place::less;
 use ns_types::allocation::Allocation;
 use ns_types::plan::{Eviction, Placement};
 use ns_types::resources::Resources;
