@@ -247,7 +247,8 @@ has_slot_of m q held = by (get m q) held
 
 module _ (is : Status → Bool) (job : Name) (slots : FinMap nat_cmp (Option Evaluation)) (g : ℕ → Bool)
     (passing : (q : ℕ) → g q ≡ true → row_passes (of_job is job) (rows slots) q ≡ true) where
-  pub led_by : (m : FinMap nat_cmp (Option Unit)) (es : List (ℕ × Option Unit)) (r : Option ℕ) → AreNumbersUnder evaluation_job job slots (Some m) → es ≡ entries m →
+  pub led_by : (m : FinMap nat_cmp (Option Unit)) (es : List (ℕ × Option Unit)) (r : Option ℕ) →
+      AreNumbersUnder evaluation_job job slots (Some m) → es ≡ entries m →
       r ≡ option_map (λ e. e.0) (find (λ e. g e.0) es) → Leads g r
   led_by m es r covers listed is_first = subst (Leads g) (sym (is_first ∙ ap (λ es. option_map (λ e. e.0) (find (λ e. g e.0) es)) listed))
       (numbered g m (λ q t. has_slot_of m q (passing_has is job slots (Some m) covers q (passing q t))))

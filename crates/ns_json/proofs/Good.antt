@@ -235,7 +235,15 @@ work_good j =
 
 abbrev HasGoodTerms : JobTerms → Type 0
 HasGoodTerms t = (name : Name) → IsTrue (is_name NameKind.Job name) →
-    IsTrue (is_good_registration (record { id = name; kind = t.kind; priority = t.priority; pool = t.pool; constraints = t.constraints; groups = t.groups; enforced = None }))
+    IsTrue (is_good_registration (record {
+      id = name;
+      kind = t.kind;
+      priority = t.priority;
+      pool = t.pool;
+      constraints = t.constraints;
+      groups = t.groups;
+      enforced = None;
+    }))
 
 terms_good : (j : Data) → Post (terms_in j) HasGoodTerms
 unfolding terms_in

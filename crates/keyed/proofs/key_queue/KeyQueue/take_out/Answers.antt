@@ -27,7 +27,8 @@ pub invariant_of-self-else-keys-le-FEW : goal.invariant_of-self-else-keys-le-FEW
 invariant_of-self-else-keys-le-FEW c key =
     let inside = c.self.inside in
     set_taken inside.held c.vacate_all.new.held c.args.keys.now inside.keys.items c.self.invariant c.vacate_all.ensures.held key
-    ∙ ap (λ l. has_key l key) (sym (filter_same _ (λ key. holds_key c.vacate_all.new.held key) _ (λ x b f h. search rules) _ _ c.retain-else-keys-le-FEW.ensures.filtered
+    ∙ ap (λ l. has_key l key) (sym (filter_same _ (λ key. holds_key c.vacate_all.new.held key) _ (λ x b f h. search rules) _ _
+    c.retain-else-keys-le-FEW.ensures.filtered
     ∙ taken_items inside.held c.vacate_all.new.held c.args.keys.now inside.keys.items c.self.invariant c.vacate_all.ensures.held))
 
 pub returns-else-keys-le-FEW-clause-items : goal.returns-else-keys-le-FEW-clause-items
