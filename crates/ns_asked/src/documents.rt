@@ -91,8 +91,9 @@ pub fn put_policy(alloc: Global, request: &Request<'_>, name: &Text) -> Result<W
     ensures wanted { Wants request.now result policy_put }
     ensures served { IfOk result IsServedWanted }
 {
+    let name = name.clone()?;
     let policy = read_policy(alloc, request.body)?;
-    Ok(administers(AdminCommand::PutPolicy(name.clone()?, policy)))
+    Ok(administers(AdminCommand::PutPolicy(name, policy)))
 }
 
 /// A new token, whose two texts are drawn afterwards.

@@ -30,8 +30,10 @@ pub fn put_node(
     ensures wanted { Wants request.now result node_put }
     ensures served { IfOk result IsServedWanted }
 {
+    let pool = pool.clone()?;
+    let node = node.clone()?;
     let offer = read_node(alloc, request.body)?;
-    Ok(tells(pool.clone()?, NodeCommand::PutNode(node.clone()?, offer)))
+    Ok(tells(pool, NodeCommand::PutNode(node, offer)))
 }
 
 /// The same of its status.
