@@ -5,7 +5,7 @@ use Rattle.std.specs.Prelude.{bytes_eq, codes, find, option_map}
 use Rattle.form_urlencoded.specs.Form.{DecodesTo, raw_pairs}
 use Rattle.ns_parameters.specs.declared.Values.{Values}
 use Rattle.ns_parameters.specs.Parameters.{value_in, text_of, parameter}
-use Rattle.ns_parameters.specs.Values.{kept, values_of, values_with}
+use Rattle.ns_parameters.specs.Values.{kept, no_values, values_of, values_with}
 
 abbrev Pairs : Type 0
 Pairs = List (List ℕ × List ℕ)
@@ -49,7 +49,7 @@ joined values left = record {
 }
 
 pub joined-none : (query : List ℕ) (left : Pairs) → left ≡ raw_pairs query →
-    joined (record { namespace = None; filter = None; per_page = None; next_token = None; index = None; prefix = None; purge = None }) left ≡ values_of query
+    joined no_values left ≡ values_of query
 unfolding parameter
 joined-none query left is = rw is
 

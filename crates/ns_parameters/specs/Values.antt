@@ -1,8 +1,11 @@
 -- The values of the names that are known.
-use Rattle.std.specs.Prelude.{ℕ, List, Option, Some, bytes_eq, codes, if◌then◌else◌}
+use Rattle.std.specs.Prelude.{ℕ, List, Option, Some, None, bytes_eq, codes, if◌then◌else◌}
 use Rattle.std.specs.Option.{option_or}
 use Rattle.ns_parameters.specs.declared.Values.{Values}
 use Rattle.ns_parameters.specs.Parameters.{parameter}
+
+abbrev pub no_values : Values
+no_values = record { namespace = None; filter = None; per_page = None; next_token = None; index = None; prefix = None; purge = None }
 
 -- the names that are known
 abbrev pub values_of : List ℕ → Values

@@ -41,7 +41,7 @@ fn keep_first(alloc: Global, kept: &mut Option<Text>, value: &str) -> Result<(),
 }
 
 impl Values {
-    ghost use Rattle.ns_parameters.specs.Values.{values_of, values_with};
+    ghost use Rattle.ns_parameters.specs.Values.{no_values, values_of, values_with};
 
     /// Keeps the value of a name that has none yet.
     fn keep(&mut self, alloc: Global, name: &str, value: &str) -> Result<(), AllocError>
@@ -59,15 +59,29 @@ impl Values {
         }
     }
 
+    /// Keeps the values of the query, where none is kept yet.
+    fn keep_all(&mut self, alloc: Global, text: &str) -> Result<(), AllocError>
+        requires { self.old ≡ no_values }
+        ensures { OnOk result (self.new ≡ values_of text.now) }
+    {
+        for pair in parse(alloc, text.as_bytes()) {
+            let (name, value) = pair?;
+            self.keep(alloc, name.as_str(), value.as_str())?;
+        }
+        Ok(())
+    }
+
     /// The values of the query.
     pub fn read(alloc: Global, text: &str) -> Result<Values, AllocError>
         ensures { IfOk result (λ values. values ≡ values_of text.now) }
     {
         let mut values = NO_VALUES;
-        for pair in parse(alloc, text.as_bytes()) {
-            let (name, value) = pair?;
-            values.keep(alloc, name.as_str(), value.as_str())?;
+        match values.keep_all(alloc, text) {
+            Ok(()) => Ok(values),
+            Err(error) => {
+                drop(values);
+                Err(error)
+            }
         }
-        Ok(values)
     }
 }

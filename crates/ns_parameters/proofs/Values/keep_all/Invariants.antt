@@ -2,10 +2,10 @@ use Rattle.std.proofs.Common.{◌≡◌}
 use Rattle.form_urlencoded.specs.Parse.{pairs_left}
 use Rattle.ns_parameters.specs.Values.{values_of}
 use Rattle.ns_parameters.proofs.Parameters.{joined}
-use Rattle.ns_parameters.proofs.Values.read.Given as goal
+use Rattle.ns_parameters.proofs.Values.keep_all.Given as goal
 
 abbrev pub invariant-loop-pair : goal.invariant-loop-pair
 invariant-loop-pair l =
     (goal.iterator-loop-pair).can_next l.pair-iterator ×
     (goal.iterator-loop-pair).is_finite l.pair-iterator ×
-    (joined l.values (pairs_left l.pair-iterator) ≡ values_of l.text)
+    (joined l.self (pairs_left l.pair-iterator) ≡ values_of l.text)

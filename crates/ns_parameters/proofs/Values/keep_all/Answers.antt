@@ -4,12 +4,12 @@ use Rattle.form_urlencoded.specs.Form.{raw_pairs}
 use Rattle.form_urlencoded.specs.Parse.{pairs_left}
 use Rattle.ns_parameters.specs.Values.{values_of}
 use Rattle.ns_parameters.proofs.Parameters.{joined-none, joined-first}
-use Rattle.ns_parameters.proofs.Values.read.Goals as goal
+use Rattle.ns_parameters.proofs.Values.keep_all.Goals as goal
 
 pub loop-pair-init : goal.loop-pair-init
 loop-pair-init c =
     let left : pairs_left c.into_iter-pair-iterator.result ≡ raw_pairs c.args.text.now = search rules in
-    (tt, tt, joined-none c.args.text.now (pairs_left c.into_iter-pair-iterator.result) left)
+    (tt, tt, rw c.requires (joined-none c.args.text.now (pairs_left c.into_iter-pair-iterator.result) left))
 
 pub loop-pair-preserved-in_ok-keep : goal.loop-pair-preserved-in_ok-keep
 loop-pair-preserved-in_ok-keep c =
@@ -19,7 +19,7 @@ loop-pair-preserved-in_ok-keep c =
     let left = pairs_left c.loop-pair.pair-iterator in (
       tt,
       tt,
-      joined-first pair.0 pair.1 (cow_str_bytes c.in_ok-name.name) (cow_str_bytes c.in_ok-name.value) c.loop-pair.values c.keep.new.self
+      joined-first pair.0 pair.1 (cow_str_bytes c.in_ok-name.name) (cow_str_bytes c.in_ok-name.value) c.loop-pair.self c.keep.new.self
           (values_of c.args.text.now) left (pairs_left c.next.new.self) pair.2 decodes.0 decodes.1 kept c.loop-pair.invariant.2,
     )
 
@@ -31,6 +31,6 @@ loop-pair-preserved c =
     let left = pairs_left c.loop-pair.pair-iterator in (
       tt,
       tt,
-      joined-first pair.0 pair.1 (cow_str_bytes c.in_ok-name.name) (cow_str_bytes c.in_ok-name.value) c.loop-pair.values c.keep.new.self
+      joined-first pair.0 pair.1 (cow_str_bytes c.in_ok-name.name) (cow_str_bytes c.in_ok-name.value) c.loop-pair.self c.keep.new.self
           (values_of c.args.text.now) left (pairs_left c.next.new.self) pair.2 decodes.0 decodes.1 kept c.loop-pair.invariant.2,
     )
