@@ -1,13 +1,11 @@
 -- The lines of entries, and the first line.
 use Rattle.std.proofs.Common.{◌≡◌, ℕ, zero, suc, ◌+◌, ◌<◌, ◌≤◌, List, [], ◌∷◌, ◌++◌, length, take, drop, get_or, Bool, true, false, nat_lt}
-use Rattle.std.proofs.Common.{Option, Some, None, Ok, Err, eqb, refl, sym, ap, subst, ◌∙◌, arith, length-append, append_assoc, append-nil, codes}
+use Rattle.std.proofs.Common.{Option, Some, None, Ok, Err, refl, sym, ap, subst, ◌∙◌, arith, append_assoc, append-nil, codes}
 use Rattle.std.specs.Prelude.{IsUtf8}
-use Rattle.std.specs.Bool.{then_some}
-use Rattle.std.specs.List.{flat_map, position, position_or_len, starts_with}
-use Rattle.std.proofs.lemmas.Bool.{eqb-true, eqb-false, ltb-false, eq-eqb, false≢true}
+use Rattle.std.specs.List.{flat_map, position, position_or_len}
+use Rattle.std.proofs.lemmas.Bool.{eqb-true, eqb-false, ltb-false}
 use Rattle.std.proofs.lemmas.List.{take-append-drop, drop_more}
 use Rattle.std.proofs.lemmas.List.Quantifiers.{position-Some}
-use Rattle.std.proofs.lemmas.Slice.Eq.{starts_is}
 use Rattle.serde_json.specs.Data.{Data}
 use Rattle.serde_json.specs.Read.{read}
 use Rattle.ns_types.specs.declared.name.NameKind.TheVariants as NameKind

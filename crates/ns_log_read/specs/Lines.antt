@@ -13,7 +13,7 @@ use Rattle.ns_types.specs.State.Name.{is_name}
 use Rattle.ns_types.specs.State.Names.{Name}
 use Rattle.ns_types.specs.Within.{IsGoodStep}
 use Rattle.ns_policy.specs.Json.{rules_of}
-use Rattle.ns_json.specs.Logs.{line_of, log_text}
+use Rattle.ns_json.specs.Logs.{log_text}
 use Rattle.ns_json.specs.Replies.{Entry}
 use Rattle.ns_log.specs.Lines.{BeginsWith, entry_text}
 

@@ -26,7 +26,7 @@ use Rattle.ns_json.specs.Replies.{Entry}
 use Rattle.ns_documents.specs.Access.{policy_in, token_in}
 use Rattle.ns_documents.specs.Nodes.{node_in, one_of}
 use Rattle.ns_documents.specs.Records.{namespace_in, quota_in, pool_in}
-use Rattle.ns_log.specs.Lines.{BeginsWith, entry_text}
+use Rattle.ns_log.specs.Lines.{entry_text}
 use Rattle.ns_log_read.specs.Lines.{IsWritable, HasBadEntry, first_text}
 use Rattle.ns_log_read.specs.declared.fault.LineFault.{LineFault}
 use Rattle.ns_log_read.specs.declared.fault.LineFault.TheVariants.{Bad, Memory}
