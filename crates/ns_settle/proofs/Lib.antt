@@ -1,4 +1,4 @@
-pub mod Blocked
 pub mod Finished
 pub mod Settling
 pub mod Stamped
+pub mod Waiting

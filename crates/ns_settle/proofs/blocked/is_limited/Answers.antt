@@ -1,7 +1,7 @@
 use Rattle.std.proofs.Common.{ap, subst, ◌∙◌, Some, None}
 use Rattle.std.specs.List.{list_any}
 use Rattle.std.specs.Option.{option_copied}
-use Rattle.ns_settle.proofs.Blocked.{number_slots, quotas_under}
+use Rattle.ns_settle.proofs.Waiting.{number_slots, quotas_under}
 use Rattle.ns_settle.specs.Waking.{is_taken}
 use Rattle.ns_world.specs.Filing.{AreNumbersUnder, waited_quota}
 use Rattle.ns_settle.proofs.blocked.is_limited.Goals as goal

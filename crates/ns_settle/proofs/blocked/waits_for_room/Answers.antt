@@ -4,7 +4,7 @@ use Rattle.std.specs.Option.{option_copied}
 use Rattle.ns_types.specs.State.Names.{Name}
 use Rattle.ns_types.specs.State.Rows.{offered_class}
 use Rattle.ns_types.specs.declared.node.Class.{Class}
-use Rattle.ns_settle.proofs.Blocked.{number_slots, rooms_under}
+use Rattle.ns_settle.proofs.Waiting.{number_slots, rooms_under}
 use Rattle.ns_settle.specs.Waking.{uses_room}
 use Rattle.ns_world.specs.Filing.{AreNumbersUnder, waited_pool}
 use Rattle.ns_settle.proofs.blocked.waits_for_room.Goals as goal

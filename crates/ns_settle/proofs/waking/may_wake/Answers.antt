@@ -1,5 +1,5 @@
 use Rattle.std.proofs.Common.{sym, ◌∙◌}
-use Rattle.ns_settle.proofs.Blocked.{none_woken, nothing_woken}
+use Rattle.ns_settle.proofs.Waiting.{none_woken, nothing_woken}
 use Rattle.ns_world.specs.World.{world_of}
 use Rattle.ns_settle.proofs.waking.may_wake.Goals as goal
 

@@ -1,7 +1,7 @@
 use Rattle.std.proofs.Common.{ap, sym, ◌∙◌}
 use Rattle.std.specs.List.{list_any}
 use Rattle.keyed.specs.Table.{at_slot}
-use Rattle.ns_settle.proofs.Blocked.{blocked_seen}
+use Rattle.ns_settle.proofs.Waiting.{blocked_seen}
 use Rattle.ns_settle.specs.Waking.{any_of, waits_for_quota}
 use Rattle.ns_world.specs.World.{tenant_of}
 use Rattle.ns_settle.proofs.blocked.BlockedQuestion.is_quota.Goals as goal

@@ -2,7 +2,7 @@ use Rattle.std.proofs.Common.{ap, sym, ◌∙◌}
 use Rattle.std.specs.List.{list_any}
 use Rattle.keyed.specs.Table.{at_slot}
 use Rattle.ns_types.specs.State.Rows.{offered_class}
-use Rattle.ns_settle.proofs.Blocked.{blocked_seen}
+use Rattle.ns_settle.proofs.Waiting.{blocked_seen}
 use Rattle.ns_settle.specs.Waking.{any_of, waits_for_room}
 use Rattle.ns_world.specs.World.{tenant_of}
 use Rattle.ns_settle.proofs.blocked.BlockedQuestion.is_room.Goals as goal
