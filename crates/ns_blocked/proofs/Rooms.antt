@@ -49,16 +49,17 @@ reserved_next old new n i m es x lt is at bound keeps r h =
 
 -- ---- entries that are appended, one after another
 
--- the list with the rest behind it comes out as `all`; there is room for the rest, and it is new
-abbrev pub IsAppending : BlockedList → List Entry → List Entry → Type 0
-IsAppending b rest all = (entries_of b ++ rest ≡ all) × CanAdd rest b × IsTrue (are_new (keys_of b) rest)
+-- the list with the rest behind it comes out as `all`, and there is room for the rest
+abbrev pub IsFilling : BlockedList → List Entry → List Entry → Type 0
+IsFilling b rest all = (entries_of b ++ rest ≡ all) × CanAdd rest b
 
-module _ (old new : BlockedList) (e : Entry) (rest left all : List Entry) (steps : rest ≡ e ∷ left) (h : IsAppending old rest all) where
+-- and the rest is new
+abbrev pub IsAppending : BlockedList → List Entry → List Entry → Type 0
+IsAppending b rest all = IsFilling b rest all × IsTrue (are_new (keys_of b) rest)
+
+module _ (old new : BlockedList) (e : Entry) (rest left all : List Entry) (steps : rest ≡ e ∷ left) (h : IsFilling old rest all) where
   can_next : CanAdd (e ∷ left) old
   can_next = subst (λ es. CanAdd es old) steps h.1
-
-  new_next : IsTrue (are_new (keys_of old) (e ∷ left))
-  new_next = subst (λ es. IsTrue (are_new (keys_of old) es)) steps h.2
 
   pub place_left : old.next + 1 < 2 ^ 64
   place_left = can_next.0
@@ -66,13 +67,22 @@ module _ (old new : BlockedList) (e : Entry) (rest left all : List Entry) (steps
   pub room_there : HasRoomAt old.next e old.index
   room_there = can_next.1
 
+  pub filled : entries_of new ≡ entries_of old ++ e ∷ [] → new.next ≡ old.next + 1 → KeepsIndexRoom old.index new.index → IsFilling new left all
+  filled entries next keeps = (
+    ap (λ l. l ++ left) entries ∙ append_assoc (entries_of old) (e ∷ []) left ∙ ap (λ l. entries_of old ++ l) (sym steps) ∙ h.0,
+    subst (λ n. HasRoomFrom n left new.index) (sym next) (room_from old.index new.index keeps (old.next + 1) left can_next.2),
+  )
+
+module _ (old new : BlockedList) (e : Entry) (rest left all : List Entry) (steps : rest ≡ e ∷ left) (h : IsAppending old rest all) where
+  new_next : IsTrue (are_new (keys_of old) (e ∷ left))
+  new_next = subst (λ es. IsTrue (are_new (keys_of old) es)) steps h.1
+
   pub is_fresh : has_key (keys_of old) e.key ≡ false
   is_fresh = is_no _ (first_of_both _ _ new_next)
 
   pub appended : entries_of new ≡ entries_of old ++ e ∷ [] → new.next ≡ old.next + 1 → KeepsIndexRoom old.index new.index → IsAppending new left all
   appended entries next keeps = (
-    ap (λ l. l ++ left) entries ∙ append_assoc (entries_of old) (e ∷ []) left ∙ ap (λ l. entries_of old ++ l) (sym steps) ∙ h.0,
-    subst (λ n. HasRoomFrom n left new.index) (sym next) (room_from old.index new.index keeps (old.next + 1) left can_next.2),
+    filled old new e rest left all steps h.0 entries next keeps,
     subst (λ keys. IsTrue (are_new keys left))
         (sym (ap (map (λ (e : Entry). e.key)) entries ∙ map-append (λ (e : Entry). e.key) (entries_of old) (e ∷ []))) (second_of_both _ _ new_next),
   )

@@ -1,12 +1,12 @@
 //! Which entries wait for the same quota or pool, by their places in the list.
 
-ghost use Rattle.std.specs.Prelude.{◌≡◌, ℕ, IsTrue, None, OnOk, Some};
+ghost use Rattle.std.specs.Prelude.{◌≡◌, ℕ, IsTrue, None, OnOk, Some, option_copied};
 ghost use Rattle.std.specs.FinMap.{entries};
 ghost use Rattle.ns_blocked.specs.declared.entry.Waits.{Waits};
 ghost use Rattle.ns_blocked.specs.Groups.{KeepsGroupRoom, KeepsGroups, KeepsOtherGroupRoom};
 ghost use Rattle.ns_blocked.specs.Groups.{WritesGroup, group_of, group_room, group_row};
 
-use crate::by_key::{ByKey, clear_row, remove_row, reserve_row, set_row, slots_of};
+use crate::by_key::{ByKey, clear_row, get_row, remove_row, reserve_row, set_row, slots_of};
 use crate::entry::{Waiting, Waits};
 use keyed::NameTable;
 use ns_types::text::Text;
@@ -41,6 +41,16 @@ impl Groups {
         ensures { result.now ≡ entries (group_of self.now (Waits.Pool pool.now)) }
     {
         slots_of(&self.pools, pool)
+    }
+
+    /// The one that waits at this place.
+    pub(crate) fn get(&self, waits: &Waits, place: u64) -> Option<&Waiting>
+        ensures { option_copied result ≡ group_row self.now waits.now place }
+    {
+        match waits {
+            Waits::Quota(name) => get_row(&self.quotas, name, place),
+            Waits::Pool(name) => get_row(&self.pools, name, place),
+        }
     }
 
     /// Makes room for an entry at this place. Want of memory is the only error.

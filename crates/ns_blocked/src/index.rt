@@ -1,6 +1,6 @@
 //! The entries by their places, by what they wait for, and by their keys.
 
-ghost use Rattle.std.specs.Prelude.{◌≡◌, ℕ, None, OnOk, Some, option_map};
+ghost use Rattle.std.specs.Prelude.{◌≡◌, ℕ, None, OnOk, Some, option_copied, option_map};
 ghost use Rattle.std.specs.FinMap.{empty};
 ghost use Rattle.ns_blocked.specs.Blocked.{HasRoomAt, KeepsIndexRoom, KeepsRoomBut};
 ghost use Rattle.ns_blocked.specs.Blocked.{PutsEntry, SameIndex, TakesEntry, entry_at};
@@ -34,6 +34,15 @@ impl Index {
             groups: Groups::new(alloc),
             places: NameTable::new(alloc),
         }
+    }
+
+    /// The key of the entry at this place.
+    pub(crate) fn key_at(&self, place: u64) -> Option<&EvalKey>
+        ensures { option_copied result ≡ option_map (λ e. e.key) (entry_at self.now place) }
+    {
+        let waits = self.waits.get(place)?;
+        let row = self.groups.get(waits, place)?;
+        Some(&row.key)
     }
 
     /// Makes room for the entry at this place. Want of memory is the only error.

@@ -1,6 +1,6 @@
 //! The list of blocked evaluations.
 
-ghost use Rattle.std.specs.Prelude.{◌≡◌, ℕ, ◌+◌, ◌<◌, ◌^◌, ◌++◌, ◌∷◌, [], cond, false};
+ghost use Rattle.std.specs.Prelude.{◌≡◌, ℕ, ◌+◌, ◌<◌, ◌^◌, ◌++◌, ◌∷◌, [], cond, false, true};
 ghost use Rattle.std.specs.Prelude.{IsTrue, List, None, OnOk, filter, is_some, not, option_map};
 ghost use Rattle.keyed.specs.Table.{row_list};
 ghost use Rattle.ns_blocked.specs.Blocked.{CanAdd, HasRoomAt, KeepsIndexRoom, are_new};
@@ -144,6 +144,21 @@ impl BlockedList {
         for entry in entries.into_vec() {
             self.push(entry);
         }
+    }
+
+    /// Puts those entries at the end, if none of them is in and none comes twice, and answers whether it did. Where it did
+    /// not, some of them may be in. It takes no memory.
+    pub fn append_new(&mut self, entries: Rows<Entry>) -> bool
+        requires { CanAdd entries self.old }
+        ensures { result ≡ true → entries_of self.new ≡ entries_of self.old ++ entries }
+    {
+        for entry in entries.into_vec() {
+            if self.has(entry.key.namespace(), entry.key.number()) {
+                return false;
+            }
+            self.push(entry);
+        }
+        true
     }
 
     /// Takes the entry at this place out, and answers its key. It takes no memory, and looks at no other.

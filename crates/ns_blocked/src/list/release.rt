@@ -1,4 +1,4 @@
-//! What a release takes out of the list.
+//! What a release finds in the list, and takes out of it.
 
 ghost use Rattle.std.specs.Prelude.{◌≡◌, IfOk, List, OnErr, OnOk};
 ghost use Rattle.ns_blocked.specs.Blocked.{CanAdd, entries_of};
@@ -12,11 +12,21 @@ use crate::finding::{add_pool, add_pools, add_quota, add_quotas};
 use crate::releases::Releases;
 use ns_types::key::EvalKey;
 use ns_types::node::Class;
+use ns_types::rows::Rows;
 use ns_types::text::Text;
 use std::alloc::AllocError;
 use std::collections::BTreeSet;
 
 impl BlockedList {
+    /// The keys of those that the releases wake, in their order. Want of memory is the only error. It looks at those alone
+    /// that wait for what is released, and nothing is changed.
+    pub fn woken(&self, releases: &Releases) -> Result<Rows<EvalKey>, AllocError>
+        ensures { IfOk result (λ keys. keys ≡ woken_by releases.now (entries_of self.now)) }
+    {
+        let places = self.find_woken(releases)?;
+        self.keys_at(places)
+    }
+
     /// Takes those out that the releases wake, and answers their keys in their order. Want of memory is the only error, and
     /// then nothing is changed. It looks at those alone that wait for what is released; room for others stays, also for
     /// these keys (`clear_keys`).
@@ -89,6 +99,19 @@ impl BlockedList {
         let mut places = BTreeSet::new(self.alloc);
         add_quota(&self.index.groups, quota, &mut places)?;
         Ok(places)
+    }
+
+    /// The keys of the entries at these places, in their order.
+    fn keys_at(&self, mut places: BTreeSet<u64>) -> Result<Rows<EvalKey>, AllocError>
+        ensures { IfOk result (λ keys. AreKeysAt places.keys self.now keys) }
+    {
+        let mut keys = Vec::with_capacity(self.alloc, places.len())?;
+        while let Some(place) = places.pop_first() {
+            if let Some(key) = self.index.key_at(place) {
+                keys.push(key.clone()?)?;
+            }
+        }
+        Ok(Rows::from_vec(keys))
     }
 
     /// Takes the entries at these places out, from the last to the first, and answers their keys in their order.

@@ -1,0 +1,12 @@
+use Rattle.ns_blocked.proofs.Rooms.{filled, place_left, room_there}
+use Rattle.ns_blocked.proofs.list.BlockedList.append_new.Goals as goal
+
+pub push-requires-clause-places : goal.push-requires-clause-places
+push-requires-clause-places c = place_left c.loop-entry.self c.loop-entry.self _ _ _ _ c.in-Some.ensures.steps.0 c.loop-entry.invariant
+
+pub push-requires-clause-room : goal.push-requires-clause-room
+push-requires-clause-room c = room_there c.loop-entry.self c.loop-entry.self _ _ _ _ c.in-Some.ensures.steps.0 c.loop-entry.invariant
+
+pub loop-entry-preserved : goal.loop-entry-preserved
+loop-entry-preserved c = filled c.loop-entry.self c.push.new.self _ _ _ _ c.in-Some.ensures.steps.0 c.loop-entry.invariant c.push.ensures.entries
+    c.push.ensures.next c.push.ensures.room
