@@ -1,0 +1,15 @@
+pub mod Administered
+pub mod BusyNames
+pub mod BusyRoom
+pub mod BusyRows
+pub mod BusyWorld
+pub mod Carried
+pub mod Grouped
+pub mod Highest
+pub mod Holding
+pub mod Leveled
+pub mod Moved
+pub mod Stepped
+pub mod Taken
+pub mod Together
+pub mod Waiting
