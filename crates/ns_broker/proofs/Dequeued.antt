@@ -1,32 +1,32 @@
 -- When a worker may take an evaluation, and what it changes.
-use Rattle.std.specs.Prelude.{◌≡◌, ℕ, Bool, true, false, cond, not, List, Option, Some, None, is_some}
+use Rattle.std.specs.Prelude.{◌≡◌, ℕ, Bool, true, false, cond, not, List, Option, Some, None, is_some, option_map}
 use Rattle.std.proofs.Common.{refl, ap, sym, ◌∙◌}
 use Rattle.std.specs.Option.{option_and_then, option_map_or}
-use Rattle.std.specs.List.{list_any}
-use Rattle.std.specs.FinMap.{contains_key, entries, get}
-use Rattle.keyed.specs.Table.{at_slot}
-use Rattle.keyed.proofs.Tables.{get-rows}
-use Rattle.keyed.proofs.Viewing.{any_row-table_of}
+use Rattle.std.specs.FinMap.{get}
 use Rattle.ns_types.specs.declared.evaluation.Evaluation.{Evaluation}
 use Rattle.ns_types.specs.declared.reply.Content.TheVariants as Content
-use Rattle.ns_types.proofs.Named.{numbers, same_key_is}
+use Rattle.ns_types.proofs.Named.{same_key_is}
 use Rattle.ns_types.proofs.Tests.{not_Some, same_Some}
 use Rattle.ns_types.specs.Settling.Making.{change_tenant, put_tenant}
 use Rattle.ns_types.specs.Settling.Outcome.{NotEnabled, Done}
 use Rattle.ns_types.specs.State.Names.{Key, Name, same_key}
 use Rattle.ns_types.specs.State.Rows.{World, Tenant, evaluation_at}
+use Rattle.ns_types.specs.Working.Looks.{row_of}
 use Rattle.ns_types.specs.Working.Queue.{served}
 use Rattle.ns_types.specs.Working.Work.{dequeue, dequeue_in, is_idle, new_worker, taken, with_worker}
-use Rattle.ns_broker.specs.Serving.{is_busy_for, may_dequeue, served_as}
+use Rattle.ns_types.specs.Working.Worker.{Worker}
+use Rattle.ns_broker.specs.Looking.{busy_for}
+use Rattle.ns_broker.specs.Serving.{may_dequeue, served_as}
 use Rattle.ns_change.specs.Changed.{without_ready}
-use Rattle.ns_world.specs.declared.tables.Tables.{Tables}
-use Rattle.ns_world.specs.declared.tables.TenantRows.{TenantRows}
-use Rattle.ns_world.specs.World.{tenant_of, world_of}
+use Rattle.ns_turns.proofs.Holding.{idle_is}
 
-pub idle_is : (t : Tables) (number : ℕ) → not (list_any (is_busy_for number) (entries t.tenants)) ≡ is_idle (world_of t) number
-unfolding world_of
-idle_is t number = ap not (sym (any_row-table_of (λ (_ : Name) (x : TenantRows). tenant_of x) (λ _ tenant. contains_key tenant.workers number) t.tenants
-    ∙ (λ i. list_any (at_slot (λ (e : Name × TenantRows). is_some (get-rows numbers e.1.workers number i))) (entries t.tenants))))
+-- a worker is idle where it is busy for no namespace
+pub idle_by : (w : World) (number : ℕ) → not (is_some (busy_for w number)) ≡ is_idle w number
+idle_by w number = by (row_of w number) refl
+  where
+    by : (r : Option (Name × Worker)) → row_of w number ≡ r → not (is_some (option_map (λ row. row.0) r)) ≡ is_idle w number
+    by None is = ap (λ r. not (is_some r)) (sym is) ∙ sym (idle_is w number)
+    by (Some row) is = ap (λ r. not (is_some r)) (sym is) ∙ sym (idle_is w number)
 
 -- ---- the key that a test lets through
 

@@ -1,16 +1,15 @@
 -- A worker's row, with the namespace for which it is busy, and what is told of it.
-use Rattle.std.specs.Prelude.{ℕ, Option, Some, None, option_map}
-use Rattle.keyed.specs.Table.{row_at}
+use Rattle.std.specs.Prelude.{ℕ, Option, option_map}
 use Rattle.ns_types.specs.declared.worker.Phase.{Phase}
 use Rattle.ns_types.specs.Working.Worker.{Worker}
 use Rattle.ns_types.specs.State.Names.{Name}
+use Rattle.ns_types.specs.State.Rows.{World}
+use Rattle.ns_types.specs.Working.Looks.{row_of}
 use Rattle.ns_broker.specs.declared.looking.Busy.{Busy}
-use Rattle.ns_world.specs.declared.tables.TenantRows.{TenantRows}
 
--- the worker's row in the namespace of that slot
-abbrev pub row_in : ℕ → Name × Option TenantRows → Option (Name × Worker)
-row_in number (ns, None) = None
-row_in number (ns, Some tenant) = option_map (λ worker. (ns, worker)) (row_at tenant.workers number)
+-- the namespace for which the worker is busy
+abbrev pub busy_for : World → ℕ → Option Name
+busy_for w number = option_map (λ row. row.0) (row_of w number)
 
 -- of a busy worker its namespace, its evaluation, how far it is, and its tries
 abbrev pub busy_of : Name × Worker → Name × ℕ × Phase × ℕ

@@ -2,16 +2,20 @@
 
 ghost use Rattle.std.specs.Prelude.{◌≡◌, find, is_some, option_copied, option_map};
 ghost use Rattle.ns_types.specs.Working.Looks.{first_plan, row_of, served_ready, worker_at};
-ghost use Rattle.ns_broker.specs.Looking.{busy_of, busy_told, row_in};
+ghost use Rattle.ns_broker.specs.Looking.{busy_for, busy_of, busy_told};
 ghost use Rattle.ns_broker.specs.Serving.{is_busy_for};
+ghost use Rattle.ns_turns.specs.Turns.{IsRight};
 ghost use Rattle.ns_world.specs.World.{world_of};
 
 use crate::serving::served;
-use crate::taking::{TenantSlot, is_busy_for};
+use ns_turns::Turns;
 use ns_types::key::EvalKey;
 use ns_types::text::Text;
 use ns_types::worker::{Phase, Worker};
-use ns_world::Tables;
+use ns_world::{Tables, TenantRows};
+
+/// A namespace with what it owns, or a vacant slot.
+type TenantSlot = (Text, Option<TenantRows>);
 
 /// What a worker is busy with.
 #[derive(Clone, Copy, Debug)]
@@ -25,10 +29,15 @@ pub struct Busy<'a> {
 }
 
 /// The evaluation that is served next.
-pub fn served_ready(tables: &Tables) -> Option<&EvalKey>
+pub fn served_ready<'a>(tables: &'a Tables, turns: &'a Turns) -> Option<&'a EvalKey>
+    requires { IsRight (world_of tables.now) turns.now }
     ensures { option_copied result ≡ served_ready (world_of tables.now) }
 {
-    served(tables, tables.ready.as_slice())
+    if turns.is_known() {
+        turns.served()
+    } else {
+        served(tables, tables.ready.as_slice())
+    }
 }
 
 /// Whether one is served. It looks at none.
@@ -55,6 +64,16 @@ pub fn worker_at<'a>(tables: &'a Tables, number: u64, namespace: &Text) -> Optio
     }
 }
 
+/// Whether the worker has an evaluation of the namespace.
+fn is_busy_for(slot: &TenantSlot, number: u64) -> bool
+    ensures { result ≡ is_busy_for number slot.now }
+{
+    match &slot.1 {
+        Some(tenant) => tenant.workers.get(number).is_some(),
+        None => false,
+    }
+}
+
 /// The first namespace for which the worker is busy.
 fn busy_slot(slots: &[TenantSlot], number: u64) -> Option<&TenantSlot>
     ensures { option_copied result ≡ find (is_busy_for number) slots.now }
@@ -62,35 +81,57 @@ fn busy_slot(slots: &[TenantSlot], number: u64) -> Option<&TenantSlot>
     slots.iter().find(|slot| is_busy_for(slot, number))
 }
 
-/// The worker's row in the namespace, with the namespace's name.
-fn row_in(slot: &TenantSlot, number: u64) -> Option<(&Text, &Worker)>
-    ensures { option_map (λ r. (r.0.now, r.1.now)) result ≡ row_in number slot.now }
+/// The same by its name, found along all namespaces.
+fn busy_along(tables: &Tables, number: u64) -> Option<&Text>
+    ensures { option_copied result ≡ busy_for (world_of tables.now) number }
 {
-    let Some(tenant) = &slot.1 else {
-        return None;
-    };
-    match tenant.workers.get(number) {
-        Some(worker) => Some((&slot.0, worker)),
+    match busy_slot(tables.tenants.as_slice(), number) {
+        Some(slot) => Some(&slot.0),
         None => None,
     }
 }
 
+/// The namespace for which the worker is busy. None: it is idle.
+pub(crate) fn namespace_of<'a>(
+    tables: &'a Tables,
+    turns: &'a Turns,
+    number: u64,
+) -> Option<&'a Text>
+    requires { IsRight (world_of tables.now) turns.now }
+    ensures { option_copied result ≡ busy_for (world_of tables.now) number }
+{
+    if turns.is_known() {
+        turns.namespace_of(number)
+    } else {
+        busy_along(tables, number)
+    }
+}
+
 /// The namespace for which the worker is busy, with the worker's row. None: it is idle.
-pub fn row_of(tables: &Tables, number: u64) -> Option<(&Text, &Worker)>
+pub fn row_of<'a>(
+    tables: &'a Tables,
+    turns: &'a Turns,
+    number: u64,
+) -> Option<(&'a Text, &'a Worker)>
+    requires { IsRight (world_of tables.now) turns.now }
     ensures { option_map (λ r. (r.0.now, r.1.now)) result ≡ row_of (world_of tables.now) number }
 {
-    match busy_slot(tables.tenants.as_slice(), number) {
-        Some(slot) => row_in(slot, number),
+    let Some(namespace) = namespace_of(tables, turns, number) else {
+        return None;
+    };
+    match worker_at(tables, number, namespace) {
+        Some(worker) => Some((namespace, worker)),
         None => None,
     }
 }
 
 /// What the worker is busy with, and how far it is. None: it is idle.
-pub fn phase(tables: &Tables, number: u64) -> Option<Busy<'_>>
+pub fn phase<'a>(tables: &'a Tables, turns: &'a Turns, number: u64) -> Option<Busy<'a>>
+    requires { IsRight (world_of tables.now) turns.now }
     ensures { option_map busy_told result
         ≡ option_map busy_of (row_of (world_of tables.now) number) }
 {
-    match row_of(tables, number) {
+    match row_of(tables, turns, number) {
         Some((namespace, worker)) => Some(Busy {
             namespace,
             evaluation: worker.evaluation(),

@@ -1,52 +1,40 @@
 //! A worker takes an evaluation.
 
 ghost use Rattle.std.specs.Prelude.{◌≡◌, nat_lt, option_copied};
-ghost use Rattle.std.specs.List.{list_any};
+ghost use Rattle.ns_turns.specs.Turns.{IsRight};
+ghost use Rattle.ns_types.specs.State.Names.{same_key};
 ghost use Rattle.ns_types.specs.Working.Work.{dequeue, is_idle, new_worker, tries_for, workers_end};
-ghost use Rattle.ns_broker.specs.Serving.{is_busy_for, key_for, take};
+ghost use Rattle.ns_broker.specs.Serving.{key_for, served_as, take};
 ghost use Rattle.ns_change.specs.Changed.{Does};
 ghost use Rattle.ns_change.specs.Prepared.{Prepares};
 ghost use Rattle.ns_world.specs.World.{world_of};
 
-use crate::serving::served_as;
+use crate::looking::{namespace_of, served_ready};
+use ns_alike::same_number;
 use ns_change::{Change, Prepared, prepare, put_row, take_ready};
+use ns_turns::Turns;
 use ns_types::evaluation::Evaluation;
 use ns_types::job::JobKind;
 use ns_types::key::EvalKey;
 use ns_types::refusal::Refusal;
 use ns_types::reply::Content;
-use ns_types::text::Text;
+use ns_types::text::{Text, same_text};
 use ns_types::worker::Worker;
-use ns_world::{Tables, TenantRows};
+use ns_world::Tables;
 use std::alloc::AllocError;
 
 /// How many workers there are: their numbers are less than this.
 const WORKERS: u64 = 64;
 
-/// A namespace with what it owns, or a vacant slot.
-pub(crate) type TenantSlot = (Text, Option<TenantRows>);
-
-/// Whether the worker has an evaluation of the namespace.
-pub(crate) fn is_busy_for(slot: &TenantSlot, number: u64) -> bool
-    ensures { result ≡ is_busy_for number slot.now }
-{
-    match &slot.1 {
-        Some(tenant) => tenant.workers.get(number).is_some(),
-        None => false,
-    }
-}
-
-fn any_busy_for(slots: &[TenantSlot], number: u64) -> bool
-    ensures { result ≡ list_any (is_busy_for number) slots.now }
-{
-    slots.iter().any(|slot| is_busy_for(slot, number))
-}
-
 /// Whether the worker has no evaluation.
-fn is_idle(tables: &Tables, number: u64) -> bool
+fn is_idle(tables: &Tables, turns: &Turns, number: u64) -> bool
+    requires { IsRight (world_of tables.now) turns.now }
     ensures { result ≡ is_idle (world_of tables.now) number }
 {
-    !any_busy_for(tables.tenants.as_slice(), number)
+    match namespace_of(tables, turns, number) {
+        Some(_) => false,
+        None => true,
+    }
 }
 
 /// How often a plan for such a job is tried.
@@ -73,23 +61,53 @@ fn is_worker(number: u64) -> bool
     number < WORKERS
 }
 
+/// Whether the key is that of the evaluation.
+fn is_key(namespace: &Text, number: u64, key: &EvalKey) -> bool
+    ensures { result ≡ same_key (namespace.now, number) key.now }
+{
+    same_text(namespace, key.namespace()) && same_number(number, key.number())
+}
+
+/// The evaluation's key, where it is the one that is served next.
+fn served_as<'a>(
+    tables: &'a Tables,
+    turns: &'a Turns,
+    namespace: &Text,
+    number: u64,
+) -> Option<&'a EvalKey>
+    requires { IsRight (world_of tables.now) turns.now }
+    ensures { let w = world_of tables.now in
+        option_copied result ≡ served_as w w.ready (namespace.now, number) }
+{
+    let Some(next) = served_ready(tables, turns) else {
+        return None;
+    };
+    if is_key(namespace, number, next) {
+        Some(next)
+    } else {
+        None
+    }
+}
+
 /// The evaluation's key, where there is such a worker, it has no evaluation, and this one is served next.
 fn key_for<'a>(
     tables: &'a Tables,
+    turns: &'a Turns,
     number: u64,
     namespace: &Text,
     evaluation: u64,
 ) -> Option<&'a EvalKey>
+    requires { IsRight (world_of tables.now) turns.now }
     ensures { option_copied result ≡
         key_for number (namespace.now, evaluation) (world_of tables.now) }
 {
     if !is_worker(number) {
         return None;
     }
-    if !is_idle(tables, number) {
+    if !is_idle(tables, turns, number) {
         return None;
     }
-    served_as(tables, tables.ready.as_slice(), namespace, evaluation)
+    served_as(tables, turns, namespace, evaluation)
 }
 
 /// The worker has the evaluation, which is no longer ready.
@@ -111,14 +129,16 @@ fn take(
 /// worker, it has an evaluation, or another one is served next.
 pub fn dequeue(
     tables: &Tables,
+    turns: &Turns,
     number: u64,
     namespace: &Text,
     evaluation: u64,
 ) -> Result<Prepared, Refusal>
+    requires { IsRight (world_of tables.now) turns.now }
     ensures { let w = world_of tables.now in
         Prepares (dequeue number (namespace.now, evaluation) w) tables.now result }
 {
-    let Some(key) = key_for(tables, number, namespace, evaluation) else {
+    let Some(key) = key_for(tables, turns, number, namespace, evaluation) else {
         return Err(Refusal::NotEnabled);
     };
     let Some(row) = tables.evaluation(namespace, evaluation) else {

@@ -1,8 +1,8 @@
 //! A settled change goes into the tables: rows of namespaces with their indexes and events, nodes, records of quotas, release
 //! numbers of pools, classes and quotas, and the three lists; and the index of live allocations follows the rows. `reserve` makes
 //! room for all of it, which may be refused and leaves the world and the index's keys as they were; `commit` moves it in
-//! and takes no memory; `apply` is both. Each looks up what the change has. Only a list that entries leave is gone through
-//! whole, and of a pool with releases its classes.
+//! and takes no memory. Each looks up what the change has. Only a list that entries leave is gone through whole, and of a pool
+//! with releases its classes.
 #![tactic(auto)]
 
 mod clearing;
@@ -14,4 +14,4 @@ mod pools;
 mod quotas;
 mod settled;
 
-pub use settled::{apply, commit, reserve};
+pub use settled::{commit, reserve};

@@ -94,19 +94,3 @@ pub fn commit(tables: &mut Tables, live: &mut Live, settled: Settled)
     commit_list(&mut tables.blocked, blocked);
     drop(released);
 }
-
-/// Moves all that a settled step changes in, or nothing. Want of memory is the only error; what is left of slots then is
-/// said at `reserve`.
-pub fn apply(tables: &mut Tables, live: &mut Live, settled: Settled) -> Result<(), AllocError>
-    requires { Fits (world_of tables.old) settled }
-    ensures ok { OnOk result (world_of tables.new ≡ settled_world (world_of tables.old) settled) }
-    ensures index { IsRight (world_of tables.old) live.old →
-        IsRight (world_of tables.new) live.new }
-    ensures err { OnErr result (world_of tables.new ≡ world_of tables.old) }
-    ensures keys { OnErr result (KeepsKeys live.old live.new) }
-    ensures cleared { OnErr result (AreCleared settled tables.new) }
-{
-    reserve(tables, live, &settled)?;
-    commit(tables, live, settled);
-    Ok(())
-}

@@ -12,14 +12,18 @@ use Rattle.ns_types.specs.Settling.Outcome.{Changes, Outcome, lift}
 use Rattle.ns_types.specs.State.Names.{Name}
 use Rattle.ns_types.specs.State.Rows.{World}
 use Rattle.ns_types.specs.Steps.{act}
+use Rattle.ns_types.specs.Validity.{IsValid}
 use Rattle.ns_admin.specs.declared.record.RecordChange.{RecordChange}
 use Rattle.ns_admin.specs.Laws.{relimits}
 use Rattle.ns_admin.specs.Recorded.{PreparesRecord}
 use Rattle.ns_change.specs.declared.change.Prepared.{Prepared}
 use Rattle.ns_change.specs.Prepared.{Prepares, bounded}
 use Rattle.ns_change.proofs.Making.{does, refuses}
-use Rattle.ns_live.specs.Index.{IsRight}
+use Rattle.ns_live.specs.Index as live
 use Rattle.ns_live.proofs.Administered.{administration_right}
+use Rattle.ns_turns.specs.Turns as turns
+use Rattle.ns_turns.proofs.Administered.{administration_keeps_work}
+use Rattle.ns_turns.proofs.Together.{right_still}
 use Rattle.ns_steps.proofs.Reading.{changes_lift}
 use Rattle.ns_world.specs.declared.tables.Tables.{Tables}
 use Rattle.ns_core.specs.declared.parts.Parts.{Parts}
@@ -35,10 +39,15 @@ limits_stay w _ other = refl
 
 -- ---- a command that settles as it is
 
-pub index_stays : (secret : Option Name) (command : AdminCommand) (old new : Parts) (result : Result Content Refusal)
-    → ChangesBy secret command old result new → new.live ≡ old.live → IsIndexed old → IsIndexed new
-index_stays secret command old new result changes live right = subst (IsRight (world_of new)) (sym live)
-    (administration_right secret command (state_of old) (state_of new) result old.live changes right)
+pub index_stays : (secret : Option Name) (command : AdminCommand) (old new : Parts) (result : Result Content Refusal) → IsValid (state_of old)
+    → ChangesBy secret command old result new → new.live ≡ old.live → new.turns ≡ old.turns → IsIndexed old → IsIndexed new
+index_stays secret command old new result valid changes same_live same_turns right = record {
+  live = subst (live.IsRight (world_of new)) (sym same_live)
+      (administration_right secret command (state_of old) (state_of new) result old.live changes right.live);
+  turns = subst (turns.IsRight (world_of new)) (sym same_turns)
+      (right_still (world_of old) (world_of new) old.turns
+      (administration_keeps_work secret command (state_of old) (state_of new) result valid changes) right.turns);
+}
 
 -- ---- a command on a record
 

@@ -4,7 +4,6 @@ use Rattle.std.proofs.Common.{sym, subst}
 use Rattle.ns_types.specs.Access.Sharing.{is_unshared}
 use Rattle.ns_types.specs.Isolation.{alone, alone_in, part_of}
 use Rattle.ns_types.specs.State.Names.{Name}
-use Rattle.ns_types.specs.State.Rows.{State}
 use Rattle.ns_types.specs.Validity.{IsValid}
 use Rattle.ns_alone.proofs.Valid.{alone_is_valid}
 use Rattle.ns_core.specs.declared.parts.Parts.{Parts}

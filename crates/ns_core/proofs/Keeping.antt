@@ -1,14 +1,11 @@
 -- What is true of every core stays true: each step within the limits keeps the state valid.
-use Rattle.std.specs.Prelude.{◌≡◌, ℕ, true, false, Ok, Err, Option, Some, None, is_some}
-use Rattle.std.specs.FinMap.{get}
-use Rattle.std.specs.Option.{option_and_then, option_map_or}
-use Rattle.std.proofs.Common.{refl, sym, subst, ◌∙◌}
-use Rattle.ns_types.specs.declared.evaluation.Evaluation.{Evaluation}
+use Rattle.std.specs.Prelude.{◌≡◌, ℕ, false, Ok, Err}
+use Rattle.std.proofs.Common.{sym, subst}
 use Rattle.ns_types.specs.declared.refusal.Refusal.TheVariants as Refusal
 use Rattle.ns_types.specs.declared.snapshot.Snapshot.{Snapshot}
 use Rattle.ns_types.specs.declared.step.Step.{Step}
-use Rattle.ns_types.specs.State.Names.{Key, Name, has_key}
-use Rattle.ns_types.specs.State.Rows.{State, Tenant, evaluation_at, is_blocked}
+use Rattle.ns_types.specs.State.Names.{Name}
+use Rattle.ns_types.specs.State.Rows.{State}
 use Rattle.ns_types.specs.Steps.{Answer, Makes, is_past_bound}
 use Rattle.ns_types.specs.Within.{IsGoodStep}
 use Rattle.ns_audit.proofs.Valid.{valid_step}
@@ -39,21 +36,6 @@ module _ (worker : ℕ) (ns : Name) (planned : Snapshot) (s s' : State) (valid :
 -- ---- what it says
 
 module _ (s : State) (valid : IsValid s) where
-  -- the list of blocked evaluations names such ones alone
-  pub lists_blocked : (key : Key) → has_key s.world.blocked key ≡ true →
-      option_map_or (λ e. is_blocked e.status) (evaluation_at s.world key) false ≡ true
-  lists_blocked key listed = by (get s.world.tenants key.0) refl (valid.world.blocked key listed)
-    where
-      row : (t : Tenant) → get s.world.tenants key.0 ≡ Some t → (o : Option Evaluation) → get t.evaluations key.1 ≡ o → is_some o ≡ true →
-          option_map_or (λ e. is_blocked e.status) o false ≡ true
-      row t is None at there = there
-      row t is (Some e) at there = sym ((valid.world.tenant key.0 t is).blocked_listed key.1 e at) ∙ listed
-
-      by : (o : Option Tenant) → get s.world.tenants key.0 ≡ o → is_some (option_and_then (λ t. get t.evaluations key.1) o) ≡ true →
-          option_map_or (λ e. is_blocked e.status) (option_and_then (λ t. get t.evaluations key.1) o) false ≡ true
-      by None is there = there
-      by (Some t) is there = row t is (get t.evaluations key.1) refl there
-
   pub within : is_past_bound s.world ≡ false
   within = valid.world.within
 

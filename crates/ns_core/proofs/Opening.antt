@@ -4,18 +4,27 @@ use Rattle.std.proofs.Common.{sym, subst}
 use Rattle.ns_types.specs.State.Names.{Name}
 use Rattle.ns_types.specs.State.Rows.{Acl}
 use Rattle.ns_types.specs.Steps.{opening, opening_acl, opening_world}
-use Rattle.ns_live.specs.declared.live.Live.{Live}
-use Rattle.ns_live.specs.Index.{IsEmpty, IsRight}
+use Rattle.ns_live.specs.Index as live
+use Rattle.ns_live.specs.Index.{IsEmpty}
 use Rattle.ns_live.proofs.Administered.{empty_right}
+use Rattle.ns_turns.specs.Turns as turns
+use Rattle.ns_turns.specs.Turns.{IsNew}
+use Rattle.ns_turns.proofs.Together.{new_is_right}
 use Rattle.ns_world.specs.declared.tables.Tables.{Tables}
-use Rattle.ns_world.specs.World.{world_of}
+use Rattle.ns_world.specs.World as tables
+use Rattle.ns_core.specs.declared.parts.Parts.{Parts}
+use Rattle.ns_core.specs.Held.{IsIndexed}
+use Rattle.ns_core.specs.Viewed.{world_of}
 
-pub opening_parts : (secret : Name) (acl : Acl) (tables : Tables) → acl ≡ opening_acl secret → world_of tables ≡ opening_world →
-    record { acl = acl; world = world_of tables } ≡ opening secret
+pub opening_parts : (secret : Name) (acl : Acl) (held : Tables) → acl ≡ opening_acl secret → tables.world_of held ≡ opening_world →
+    record { acl = acl; world = tables.world_of held } ≡ opening secret
 unfolding opening
-opening_parts secret acl tables a w = λ i. record { acl = a i; world = w i }
+opening_parts secret acl held a w = λ i. record { acl = a i; world = w i }
 
-pub opening_indexed : (secret : Name) (tables : Tables) (live : Live) → world_of tables ≡ opening_world
-    → IsEmpty live → IsRight (world_of tables) live
-unfolding opening
-opening_indexed secret tables live w none = subst (λ x. IsRight x live) (sym w) (empty_right secret live none)
+module _ (secret : Name) (parts : Parts) (is : world_of parts ≡ opening_world) where
+  pub opening_indexed : IsEmpty parts.live → IsNew parts.turns → IsIndexed parts
+  unfolding opening
+  opening_indexed none new = record {
+    live = subst (λ w. live.IsRight w parts.live) (sym is) (empty_right secret parts.live none);
+    turns = subst (λ w. turns.IsRight w parts.turns) (sym is) (new_is_right secret parts.turns new);
+  }

@@ -8,7 +8,7 @@ ghost use Rattle.ns_types.specs.Asking.Policies.{may_administer};
 ghost use Rattle.ns_admin.specs.Laws.{relimits};
 ghost use Rattle.ns_core.specs.Answering.{ChangesBy, MakesAdmin, MakesStep, ReadsBy, WritesPrepared, sees, sees_pool};
 ghost use Rattle.ns_types.specs.Validity.{IsValid};
-ghost use Rattle.ns_core.specs.Held.{IsIndexed};
+ghost use Rattle.ns_core.specs.Held.{IsIndexed, IsKept};
 ghost use Rattle.ns_core.specs.Viewed.{state_of, world_of};
 
 use crate::parts::{Parts, plain};
@@ -71,6 +71,7 @@ impl Parts {
     ) -> Result<Content, Refusal>
         ensures made { ChangesBy (option_copied secret.entry) command.now self.old result self.new }
         ensures live { self.new.live ≡ self.old.live }
+        ensures turns { self.new.turns ≡ self.old.turns }
     {
         match command {
             AdminCommand::ListNamespaces => self.list_namespaces(secret),
@@ -116,11 +117,12 @@ impl Parts {
         command: &AdminCommand,
     ) -> Result<Reply, Refusal>
         requires valid { IsValid (state_of self.old) }
+        requires index { IsIndexed self.old }
         requires allowed { may_administer self.old.acl (option_copied secret) command.now ≡ true }
         requires same { relimits command.now (world_of self.old) ≡ false }
         ensures made { let step = Step.Admin (option_copied secret.entry) command.now in
             MakesStep step self.old result self.new }
-        ensures index { IsIndexed self.old → IsIndexed self.new }
+        ensures index { IsIndexed self.new }
     {
         let content = self.administer(secret, command)?;
         Ok(plain(content))
@@ -129,10 +131,11 @@ impl Parts {
     /// Makes the step in which a quota gets other limits, by a secret that may.
     fn relimit(&mut self, name: &Text, quota: &Quota) -> Result<Reply, Refusal>
         requires valid { IsValid (state_of self.old) }
+        requires index { IsIndexed self.old }
         requires other { is_relimited name.now quota.now (world_of self.old) ≡ true }
         ensures made { let command = AdminCommand.PutQuota name.now quota.now in
             MakesAdmin command self.old result self.new }
-        ensures index { IsIndexed self.old → IsIndexed self.new }
+        ensures index { IsIndexed self.new }
     {
         let prepared = change_limits(&self.tables, name, quota);
         self.work(prepared)
@@ -140,10 +143,10 @@ impl Parts {
 
     /// Makes the step that an administrator asks, or leaves the state as it is.
     pub fn admin(&mut self, secret: Option<&Text>, command: &AdminCommand) -> Result<Reply, Refusal>
-        requires { IsValid (state_of self.old) }
+        requires { IsKept self.old }
         ensures made { let step = Step.Admin (option_copied secret.entry) command.now in
             MakesStep step self.old result self.new }
-        ensures index { IsIndexed self.old → IsIndexed self.new }
+        ensures index { IsIndexed self.new }
     {
         if !self.may_administer(secret, command) {
             return Err(Refusal::Denied);

@@ -7,7 +7,7 @@ ghost use Rattle.ns_types.specs.Asking.Asks.{right_of};
 ghost use Rattle.ns_jobs.specs.Read.{only_reads};
 ghost use Rattle.ns_core.specs.Answering.{MakesAsk, MakesStep, PreparesAsk};
 ghost use Rattle.ns_types.specs.Validity.{IsValid};
-ghost use Rattle.ns_core.specs.Held.{IsIndexed};
+ghost use Rattle.ns_core.specs.Held.{IsIndexed, IsKept};
 ghost use Rattle.ns_core.specs.Viewed.{state_of};
 
 use crate::parts::Parts;
@@ -67,9 +67,10 @@ impl Parts {
     /// Makes the step of a command that writes, by a secret that may.
     fn write(&mut self, namespace: &Text, command: &AskCommand) -> Result<Reply, Refusal>
         requires valid { IsValid (state_of self.old) }
+        requires index { IsIndexed self.old }
         requires writes { only_reads command.now ≡ false }
         ensures made { MakesAsk namespace.now command.now self.old result self.new }
-        ensures index { IsIndexed self.old → IsIndexed self.new }
+        ensures index { IsIndexed self.new }
     {
         let prepared = self.prepare(namespace, command);
         let content = self.make(prepared)?;
@@ -83,10 +84,10 @@ impl Parts {
         secret: Option<&Text>,
         command: &AskCommand,
     ) -> Result<Reply, Refusal>
-        requires { IsValid (state_of self.old) }
+        requires { IsKept self.old }
         ensures made { let step = Step.Ask namespace.now (option_copied secret.entry) command.now in
             MakesStep step self.old result self.new }
-        ensures index { IsIndexed self.old → IsIndexed self.new }
+        ensures index { IsIndexed self.new }
     {
         if !self.may_ask(namespace, secret, command) {
             return Err(Refusal::Denied);

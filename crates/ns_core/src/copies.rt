@@ -9,6 +9,7 @@ ghost use Rattle.ns_core.specs.Viewed.{state_of, world_of};
 use crate::parts::Parts;
 use crate::server::Core;
 use ns_copies::live_of;
+use ns_turns::Turns;
 use ns_types::text::Text;
 use std::alloc::{AllocError, Global};
 
@@ -22,7 +23,13 @@ impl Parts {
         let acl = self.acl.copy(alloc)?;
         let tables = ns_copies::copy(alloc, &self.tables)?;
         let live = live_of(alloc, &tables)?;
-        Ok(Parts { acl, tables, live })
+        let turns = Turns::unknown(alloc);
+        Ok(Parts {
+            acl,
+            tables,
+            live,
+            turns,
+        })
     }
 
     /// The parts of a server that holds that namespace alone.
@@ -36,7 +43,13 @@ impl Parts {
         let acl = self.acl.copy(alloc)?;
         let tables = ns_copies::alone(alloc, &self.tables, namespace)?;
         let live = live_of(alloc, &tables)?;
-        Ok(Parts { acl, tables, live })
+        let turns = Turns::unknown(alloc);
+        Ok(Parts {
+            acl,
+            tables,
+            live,
+            turns,
+        })
     }
 }
 

@@ -1,18 +1,18 @@
-//! All that a core holds: the access lists, the tables of the whole world, and the index of live allocations, with the nodes
-//! that snapshots share.
+//! All that a core holds: the access lists, the tables of the whole world, the index of live allocations, with the nodes that
+//! snapshots share, and whose turn it is.
 
 ghost use Rattle.std.specs.Prelude.{◌≡◌, IfOk, None, option_map};
 ghost use Rattle.std.specs.FinMap.{get};
 ghost use Rattle.ns_types.specs.Steps.{opening};
-ghost use Rattle.ns_types.specs.Validity.{IsValid};
 ghost use Rattle.ns_core.specs.Answering.{MakesPrepared};
-ghost use Rattle.ns_core.specs.Held.{IsIndexed};
+ghost use Rattle.ns_core.specs.Held.{IsIndexed, IsKept};
 ghost use Rattle.ns_core.specs.Viewed.{state_of, world_of};
 
 use ns_acl::Acl;
 use ns_change::Prepared;
 use ns_conclude::conclude;
 use ns_live::Live;
+use ns_turns::Turns;
 use ns_types::refusal::Refusal;
 use ns_types::reply::{Content, Reply};
 use ns_types::text::Text;
@@ -24,6 +24,7 @@ pub struct Parts {
     pub acl: Acl,
     pub tables: Tables,
     pub live: Live,
+    pub turns: Turns,
 }
 
 impl Parts {
@@ -36,17 +37,19 @@ impl Parts {
             acl: Acl::new(alloc, bootstrap)?,
             tables: ns_admin::opening(alloc)?,
             live: Live::new(alloc),
+            turns: Turns::new(alloc),
         })
     }
 
     /// Settles what was prepared for a step, or leaves the parts as they are.
     pub fn make(&mut self, prepared: Result<Prepared, Refusal>) -> Result<Content, Refusal>
-        requires { IsValid (state_of self.old) }
+        requires { IsKept self.old }
         ensures made { MakesPrepared prepared self.old result self.new }
-        ensures index { IsIndexed self.old → IsIndexed self.new }
+        ensures index { IsIndexed self.new }
     {
         let Prepared { content, change } = prepared?;
-        if let Err(refusal) = conclude(&mut self.tables, &mut self.live, change) {
+        let concluded = conclude(&mut self.tables, &mut self.live, &mut self.turns, change);
+        if let Err(refusal) = concluded {
             drop(content);
             return Err(refusal);
         }

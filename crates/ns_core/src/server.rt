@@ -195,7 +195,7 @@ impl Core {
     pub fn served(&self) -> Option<&EvalKey>
         ensures { option_copied result ≡ served_ready self.now.world }
     {
-        ns_broker::served_ready(&self.parts.tables)
+        ns_broker::served_ready(&self.parts.tables, &self.parts.turns)
     }
 
     /// Whether one is served: a look that costs the same however many are ready.
@@ -217,7 +217,7 @@ impl Core {
         ensures { option_map busy_told result
             ≡ option_map busy_of (row_of self.now.world worker) }
     {
-        ns_broker::phase(&self.parts.tables, worker)
+        ns_broker::phase(&self.parts.tables, &self.parts.turns, worker)
     }
 
     /// The worker's row in that namespace. It has the snapshot that the worker took last, and from Submit on the plan of it.

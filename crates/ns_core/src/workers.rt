@@ -4,7 +4,6 @@ ghost use Rattle.std.specs.Prelude.{◌≡◌, IfOk, Some};
 ghost use Rattle.ns_types.specs.declared.step.Step.TheVariants as Step;
 ghost use Rattle.ns_broker.specs.Snapping.{kept_at};
 ghost use Rattle.ns_core.specs.Answering.{MakesStep};
-ghost use Rattle.ns_types.specs.Validity.{IsValid};
 ghost use Rattle.ns_core.specs.Held.{IsIndexed, IsKept};
 ghost use Rattle.ns_core.specs.Viewed.{state_of, world_of};
 ghost use Rattle.ns_core.specs.Working.{MakesWork};
@@ -25,9 +24,9 @@ use ns_types::text::Text;
 impl Parts {
     /// Makes the step that was prepared, or leaves the state as it is.
     pub fn work(&mut self, prepared: Result<Prepared, Refusal>) -> Result<Reply, Refusal>
-        requires { IsValid (state_of self.old) }
+        requires { IsKept self.old }
         ensures made { MakesWork prepared self.old result self.new }
-        ensures index { IsIndexed self.old → IsIndexed self.new }
+        ensures index { IsIndexed self.new }
     {
         let content = self.make(prepared)?;
         Ok(plain(content))
@@ -40,12 +39,12 @@ impl Parts {
         namespace: &Text,
         evaluation: u64,
     ) -> Result<Reply, Refusal>
-        requires { IsValid (state_of self.old) }
+        requires { IsKept self.old }
         ensures made { let step = Step.Dequeue worker namespace.now evaluation in
             MakesStep step self.old result self.new }
-        ensures index { IsIndexed self.old → IsIndexed self.new }
+        ensures index { IsIndexed self.new }
     {
-        let prepared = dequeue(&self.tables, worker, namespace, evaluation);
+        let prepared = dequeue(&self.tables, &self.turns, worker, namespace, evaluation);
         self.work(prepared)
     }
 
@@ -56,7 +55,7 @@ impl Parts {
             MakesStep step self.old (snapped result) self.new }
         ensures kept { let w = world_of self.new in
             IfOk result (λ seen. kept_at w worker namespace.now ≡ Some seen) }
-        ensures index { IsIndexed self.old → IsIndexed self.new }
+        ensures index { IsIndexed self.new }
     {
         let Snapped { prepared, snapshot } = snap(&self.tables, &mut self.live, worker, namespace)?;
         let content = self.make(Ok(prepared))?;
@@ -71,10 +70,10 @@ impl Parts {
         namespace: &Text,
         planned: Planned,
     ) -> Result<Reply, Refusal>
-        requires { IsValid (state_of self.old) }
+        requires { IsKept self.old }
         ensures made { HandsIn worker namespace.now planned
             (state_of self.old) result (state_of self.new) }
-        ensures index { IsIndexed self.old → IsIndexed self.new }
+        ensures index { IsIndexed self.new }
     {
         let prepared = submit(&self.tables, worker, namespace, planned)?;
         self.work(Ok(prepared))
@@ -84,7 +83,7 @@ impl Parts {
     pub fn apply(&mut self, worker: u64, namespace: &Text) -> Result<Reply, Refusal>
         requires { IsKept self.old }
         ensures made { MakesStep (Step.Apply worker namespace.now) self.old result self.new }
-        ensures index { IsIndexed self.old → IsIndexed self.new }
+        ensures index { IsIndexed self.new }
     {
         let prepared = apply(&self.tables, &self.live, worker, namespace);
         self.work(prepared)
@@ -97,10 +96,10 @@ impl Parts {
         namespace: &Text,
         planned: &Planned,
     ) -> Result<Reply, Refusal>
-        requires { IsValid (state_of self.old) }
+        requires { IsKept self.old }
         ensures made { FinishesBy worker namespace.now planned.now
             (state_of self.old) result (state_of self.new) }
-        ensures index { IsIndexed self.old → IsIndexed self.new }
+        ensures index { IsIndexed self.new }
     {
         let prepared = finish(&self.tables, worker, namespace, planned)?;
         self.work(Ok(prepared))
@@ -108,9 +107,9 @@ impl Parts {
 
     /// Makes the step in which a worker gives its evaluation back, or leaves the state as it is.
     pub fn nack(&mut self, worker: u64, namespace: &Text) -> Result<Reply, Refusal>
-        requires { IsValid (state_of self.old) }
+        requires { IsKept self.old }
         ensures made { MakesStep (Step.Nack worker namespace.now) self.old result self.new }
-        ensures index { IsIndexed self.old → IsIndexed self.new }
+        ensures index { IsIndexed self.new }
     {
         let prepared = nack(&self.tables, worker, namespace);
         self.work(prepared)

@@ -1,4 +1,5 @@
 pub mod Finished
+pub mod Reaching
 pub mod Settling
 pub mod Stamped
 pub mod Waiting

@@ -1,3 +1,3 @@
+pub mod Reached
 pub mod Settles
 pub mod Stamped
-pub mod Waking

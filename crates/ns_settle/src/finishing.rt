@@ -9,8 +9,8 @@ ghost use Rattle.ns_types.specs.State.Tables.{table_of};
 ghost use Rattle.ns_change.specs.Changed.{view};
 ghost use Rattle.ns_change.specs.Settled.{settled_world};
 ghost use Rattle.ns_settle.specs.Settles.{is_last, settled_slot};
-ghost use Rattle.ns_settle.specs.Waking.{ListsBlocked};
 ghost use Rattle.ns_settle.specs.Stamped.{events_at, stamp_change};
+ghost use Rattle.ns_turns.specs.Turns.{IsRight};
 ghost use Rattle.ns_world.specs.World.{tenant_of, world_of};
 
 use crate::quotas::released_quotas;
@@ -19,6 +19,7 @@ use crate::stamping::{stamp_rows, tell_jobs, tell_rows, touches};
 use crate::waking::woken_keys;
 use keyed::NameTable;
 use ns_change::{Change, Settled, SettledTenant, TenantChange, wake};
+use ns_turns::Turns;
 use ns_types::event::Event;
 use ns_types::rows::Rows;
 use ns_types::text::Text;
@@ -139,8 +140,8 @@ fn settle_tenants(
 }
 
 /// All that a step changes, by what it changes itself. Want of memory is the only error.
-pub fn settle(tables: &Tables, mut change: Change) -> Result<Settled, AllocError>
-    requires listed { ListsBlocked (world_of tables.now) }
+pub fn settle(tables: &Tables, turns: &Turns, mut change: Change) -> Result<Settled, AllocError>
+    requires right { IsRight (world_of tables.now) turns.now }
     requires within { is_past_bound (settle (world_of tables.now) (view tables.now change))
         ≡ false }
     ensures settled { IfOk result (λ settled. settled_world (world_of tables.now) settled
@@ -150,7 +151,7 @@ pub fn settle(tables: &Tables, mut change: Change) -> Result<Settled, AllocError
 {
     let rooms = released_rooms(tables, &change)?;
     let released = released_quotas(tables, &change)?;
-    let keys = woken_keys(tables, &change)?;
+    let keys = woken_keys(tables, turns, &change, &rooms, &released)?;
     wake(tables, &mut change, keys.as_slice())?;
     let Change {
         tenants,

@@ -1,4 +1,4 @@
-use Rattle.std.proofs.Common.{ap, not, sym, ◌∙◌, length, ◌==◌}
+use Rattle.std.proofs.Common.{ap, not, ◌∙◌, length, ◌==◌}
 use Rattle.ns_types.specs.Working.Queue.{priority_at}
 use Rattle.ns_broker.proofs.Preferred.{some_is_served}
 use Rattle.ns_broker.proofs.looking.has_served.Goals as goal

@@ -1,8 +1,14 @@
-use Rattle.std.proofs.Common.{ap, ◌∙◌, not}
-use Rattle.std.specs.List.{list_any}
-use Rattle.ns_broker.specs.Serving.{is_busy_for}
-use Rattle.ns_broker.proofs.Dequeued.{idle_is}
+use Rattle.std.proofs.Common.{ap, not, sym, ◌∙◌}
+use Rattle.std.specs.Option.{option_copied}
+use Rattle.std.specs.Prelude.{is_some}
+use Rattle.ns_broker.proofs.Dequeued.{idle_by}
 use Rattle.ns_broker.proofs.taking.is_idle.Goals as goal
+use Rattle.ns_world.specs.World.{world_of}
 
-pub returns : goal.returns
-returns c = ap not (c.any_busy_for.ensures ∙ ap (list_any (is_busy_for c.args.number)) c.as_slice.ensures) ∙ idle_is c.args.tables.now c.args.number
+pub returns-in-Some : goal.returns-in-Some
+returns-in-Some c = ap (λ ns. not (is_some ns)) (sym (ap option_copied c.in-Some.is) ∙ c.namespace_of.ensures)
+    ∙ idle_by (world_of c.args.tables.now) c.args.number
+
+pub returns-in-None : goal.returns-in-None
+returns-in-None c = ap (λ ns. not (is_some ns)) (sym (ap option_copied c.in-None.is) ∙ c.namespace_of.ensures)
+    ∙ idle_by (world_of c.args.tables.now) c.args.number

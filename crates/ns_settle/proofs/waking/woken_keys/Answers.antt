@@ -1,20 +1,8 @@
-use Rattle.std.proofs.Common.{ap, sym, ◌∙◌, ◌++◌, filter}
-use Rattle.std.proofs.lemmas.List.{append-nil}
-use Rattle.ns_release.specs.Released.{does_wake, released_quotas, released_rooms}
-use Rattle.ns_world.specs.World.{world_of}
-use Rattle.ns_change.proofs.Listed.{at_end}
-use Rattle.ns_world.proofs.World.{blocked_seen}
-use Rattle.ns_release.proofs.Woken.{woken_tests}
+use Rattle.std.proofs.Common.{sym, subst, ◌∙◌}
+use Rattle.ns_turns.specs.Waiting.{IsBlockedIndex}
 use Rattle.ns_settle.proofs.waking.woken_keys.Goals as goal
+use Rattle.ns_world.specs.World.{world_of}
 
-pub returns-then-not-may_wake : goal.returns-then-not-may_wake
-returns-then-not-may_wake c = c.new-keys.ensures ∙ sym (c.may_wake.ensures c.if-not-may_wake.true)
-
-pub returns : goal.returns
-returns c =
-    let w = world_of c.args.tables.now in
-    let wakes = does_wake w c.args.change.now in
-    sym (ap (λ l. c.loop-key.keys ++ filter wakes l) (at_end c.as_slice-key-items.result.now c.loop-key.key-index c.loop-key-test.false) ∙
-    append-nil c.loop-key.keys)
-    ∙ c.loop-key.invariant ∙ ap (filter wakes) (c.as_slice-key-items.ensures ∙ sym (blocked_seen c.args.tables.now))
-    ∙ woken_tests w c.args.change.now (released_rooms w c.args.change.now) (released_quotas w c.args.change.now)
+pub woken_through-requires-clause-index : goal.woken_through-requires-clause-index
+woken_through-requires-clause-index c = subst (IsBlockedIndex (world_of c.args.tables.now)) (sym c.blocked.ensures)
+    (c.requires.right (sym c.is_known.ensures ∙ c.if-is_known.true)).blocked

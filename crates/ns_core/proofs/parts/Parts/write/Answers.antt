@@ -7,7 +7,7 @@ use Rattle.ns_core.specs.Viewed.{state_of}
 use Rattle.ns_core.proofs.parts.Parts.write.Goals as goal
 
 pub make-requires : goal.make-requires
-make-requires c = c.requires.valid
+make-requires c = record { valid = c.requires.valid; index = c.requires.index }
 
 pub returns-clause-made : goal.returns-clause-made
 returns-clause-made c = λ secret allowed. c.in_ok-content.ensures.made (Step.Ask c.args.namespace.now secret c.args.command.now) allowed

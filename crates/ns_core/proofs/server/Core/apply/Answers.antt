@@ -11,5 +11,5 @@ pub invariant_of-self : goal.invariant_of-self
 invariant_of-self c = record {
   valid = keeps (Step.Apply c.args.worker c.args.namespace.now) (state_of c.self.inside.parts) (state_of c.apply.new.self)
       tt c.self.invariant.valid c.apply.result c.apply.ensures.made;
-  index = c.apply.ensures.index c.self.invariant.index;
+  index = c.apply.ensures.index;
 }

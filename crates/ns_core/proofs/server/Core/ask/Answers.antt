@@ -8,11 +8,11 @@ use Rattle.ns_core.proofs.Keeping.{keeps}
 use Rattle.ns_core.proofs.server.Core.ask.Goals as goal
 
 pub ask-requires : goal.ask-requires
-ask-requires c = c.self.invariant.valid
+ask-requires c = c.self.invariant
 
 pub invariant_of-self : goal.invariant_of-self
 invariant_of-self c = record {
   valid = keeps (Step.Ask c.args.namespace.now (option_copied c.args.secret) c.get.result.now) (state_of c.self.inside.parts) (state_of c.ask.new.self)
       (subst (λ command. IsTrue (is_good_ask command)) (sym c.get.ensures.same) c.get.ensures.good) c.self.invariant.valid c.ask.result c.ask.ensures.made;
-  index = c.ask.ensures.index c.self.invariant.index;
+  index = c.ask.ensures.index;
 }

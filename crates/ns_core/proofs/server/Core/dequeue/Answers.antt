@@ -5,11 +5,11 @@ use Rattle.ns_core.proofs.Keeping.{keeps}
 use Rattle.ns_core.proofs.server.Core.dequeue.Goals as goal
 
 pub dequeue-requires : goal.dequeue-requires
-dequeue-requires c = c.self.invariant.valid
+dequeue-requires c = c.self.invariant
 
 pub invariant_of-self : goal.invariant_of-self
 invariant_of-self c = record {
   valid = keeps (Step.Dequeue c.args.worker c.args.namespace.now c.args.evaluation) (state_of c.self.inside.parts) (state_of c.dequeue.new.self)
       tt c.self.invariant.valid c.dequeue.result c.dequeue.ensures.made;
-  index = c.dequeue.ensures.index c.self.invariant.index;
+  index = c.dequeue.ensures.index;
 }

@@ -5,11 +5,11 @@ use Rattle.ns_core.proofs.Keeping.{keeps}
 use Rattle.ns_core.proofs.server.Core.nack.Goals as goal
 
 pub nack-requires : goal.nack-requires
-nack-requires c = c.self.invariant.valid
+nack-requires c = c.self.invariant
 
 pub invariant_of-self : goal.invariant_of-self
 invariant_of-self c = record {
   valid = keeps (Step.Nack c.args.worker c.args.namespace.now) (state_of c.self.inside.parts) (state_of c.nack.new.self)
       tt c.self.invariant.valid c.nack.result c.nack.ensures.made;
-  index = c.nack.ensures.index c.self.invariant.index;
+  index = c.nack.ensures.index;
 }

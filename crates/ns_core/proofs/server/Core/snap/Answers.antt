@@ -12,5 +12,5 @@ pub invariant_of-self : goal.invariant_of-self
 invariant_of-self c = record {
   valid = keeps (Step.Snap c.args.worker c.args.namespace.now) (state_of c.self.inside.parts) (state_of c.snap.new.self)
       tt c.self.invariant.valid (snapped c.snap.result) c.snap.ensures.made;
-  index = c.snap.ensures.index c.self.invariant.index;
+  index = c.snap.ensures.index;
 }
