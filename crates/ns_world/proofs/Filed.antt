@@ -22,9 +22,7 @@ use Rattle.ns_types.proofs.Tests.{not_Some, same_Some}
 use Rattle.ns_types.specs.State.Lists.{Each}
 use Rattle.ns_types.specs.State.Names.{ByNumber, Key, Name, name_cmp, same_key, same_name}
 use Rattle.ns_types.specs.State.Tables.{any_row}
-use Rattle.ns_types.specs.declared.evaluation.Evaluation.{Evaluation}
-use Rattle.ns_world.specs.declared.filing.Index.{Index}
-use Rattle.ns_world.specs.Filing.{AreNumbersUnder, HasRoomAt, IsIndexOf, IsIndexed, is_filed, is_left, name_at, stands_under}
+use Rattle.ns_world.specs.Filing.{AreNumbersUnder, HasRoomAt, IsIndexOf, is_filed, is_left, name_at, stands_under}
 
 -- ---- a test that only the rows of one key can pass
 
@@ -188,12 +186,7 @@ module _ {X : Type 0} (name_of : X → Option Name) where
   numbers_under set slots name r is same n = ap (λ r. option_map_or (λ m. holds_number m n) r false) same ∙ is (name, n)
       ∙ ap (stands_under name_of name) (get-rows numbers slots n)
 
--- an index that holds the same numbers is one of the same rows
-pub still_indexed : (old new : Index) → ((key : Key) → holds_key new.jobs key ≡ holds_key old.jobs key) →
-    ((key : Key) → holds_key new.pools key ≡ holds_key old.pools key) → ((key : Key) → holds_key new.quotas key ≡ holds_key old.quotas key) →
-    (rows : ByNumber Evaluation) → IsIndexed old rows → IsIndexed new rows
-still_indexed old new jobs pools quotas rows is = record {
-  jobs = λ key. jobs key ∙ is.jobs key;
-  pools = λ key. pools key ∙ is.pools key;
-  quotas = λ key. quotas key ∙ is.quotas key;
-}
+  -- a set of the same numbers is of the same rows, where they are the same
+  pub still_indexed : (old new : KeySet) (before after : ByNumber X) → ((key : Key) → holds_key new key ≡ holds_key old key) → after ≡ before →
+      IsIndexOf name_of old before → IsIndexOf name_of new after
+  still_indexed old new before after held same is key = held key ∙ is key ∙ ap (λ m. stands_under name_of key.0 (get m key.1)) (sym same)

@@ -1,19 +1,15 @@
--- Under which names the numbers of rows stand: of all under their job, and of the evaluations that are blocked under the
--- quota that limits them or, where none does, under the pool that they wait in.
-use Rattle.std.specs.Prelude.{◌≡◌, ℕ, Bool, false, not, ◌&&◌, if◌then◌else◌, IsTrue, List, Option, Some, None, map}
+-- Under which name the numbers of rows stand: that of their job.
+use Rattle.std.specs.Prelude.{◌≡◌, ℕ, Bool, false, not, ◌&&◌, IsTrue, List, Option, Some, None, map}
 use Rattle.std.specs.Option.{option_map_or}
-use Rattle.std.specs.FinMap.{entries, get}
+use Rattle.std.specs.FinMap.{get}
 use Rattle.keyed.specs.Levels.{holds_key, holds_number, has_key_room}
 use Rattle.keyed.specs.Table.{row_at}
 use Rattle.keyed.specs.declared.key_set.KeySet.{KeySet}
-use Rattle.ns_types.specs.State.Lists.{Each}
 use Rattle.ns_types.specs.State.Names.{ByNumber, Key, Name, same_key, same_name}
-use Rattle.ns_types.specs.State.Rows.{is_blocked}
 use Rattle.ns_types.specs.declared.allocation.Allocation.{Allocation}
 use Rattle.ns_types.specs.declared.evaluation.Evaluation.{Evaluation}
-use Rattle.ns_world.specs.declared.filing.Index.{Index}
 
--- ---- the names of a row
+-- ---- the name of a row
 
 abbrev pub allocation_job : Allocation → Option Name
 allocation_job a = Some a.job
@@ -21,17 +17,7 @@ allocation_job a = Some a.job
 abbrev pub evaluation_job : Evaluation → Option Name
 evaluation_job e = Some e.job
 
-abbrev pub unlimited : Option Name → Name → Option Name
-unlimited None pool = Some pool
-unlimited (Some _) pool = None
-
-abbrev pub waited_pool : Evaluation → Option Name
-waited_pool e = if is_blocked e.status then unlimited e.quota e.pool else None
-
-abbrev pub waited_quota : Evaluation → Option Name
-waited_quota e = if is_blocked e.status then e.quota else None
-
--- ---- by one of these names
+-- ---- by this name
 
 module _ {X : Type 0} (name_of : X → Option Name) where
   -- of a row that may be there
@@ -67,15 +53,3 @@ module _ {X : Type 0} (name_of : X → Option Name) where
 -- what stands at these numbers
 abbrev pub slots_at : {X : Type 0} → ByNumber (Option X) → List (ℕ × Option Unit) → List (ℕ × Option X)
 slots_at slots numbers = map (λ e. (e.0, row_at slots e.0)) numbers
-
--- ---- evaluations, by all three
-
-pub record IsIndexed (index : Index) (rows : ByNumber Evaluation) : Type 0 where
-  pub jobs : IsIndexOf evaluation_job index.jobs rows
-  pub pools : IsIndexOf waited_pool index.pools rows
-  pub quotas : IsIndexOf waited_quota index.quotas rows
-
-pub record HasIndexRoom (changes : ByNumber (Option Evaluation)) (index : Index) : Type 0 where
-  pub jobs : Each (HasRoomAt evaluation_job index.jobs) (entries changes)
-  pub pools : Each (HasRoomAt waited_pool index.pools) (entries changes)
-  pub quotas : Each (HasRoomAt waited_quota index.quotas) (entries changes)

@@ -5,38 +5,38 @@ ghost use Rattle.std.specs.FinMap.{empty};
 ghost use Rattle.keyed.specs.Over.{over};
 ghost use Rattle.keyed.specs.Table.{rows, without_vacant};
 ghost use Rattle.ns_world.specs.Evaluations.{HasEvaluationRoom};
-ghost use Rattle.ns_world.specs.Filing.{AreNumbersUnder, evaluation_job, waited_pool, waited_quota};
+ghost use Rattle.ns_world.specs.Filing.{AreNumbersUnder, evaluation_job};
 
-use crate::filing::Index;
-use keyed::NumberTable;
+use crate::filing::{EvaluationJob, clear, refile, reserve_all};
+use keyed::{KeySet, NumberTable};
 use ns_types::evaluation::Evaluation;
 use ns_types::text::Text;
 use std::alloc::{AllocError, Global};
 use std::marker::Model;
 
-/// Evaluations by number, with the numbers of each job, and of those that are blocked by what they wait for.
+/// Evaluations by number, with the numbers of each job.
 #[derive(Drop)]
 pub struct EvaluationTable {
     alloc: Global,
     slots: NumberTable<Evaluation>,
-    index: Index,
+    jobs: KeySet,
 }
 
 impl Model for EvaluationTable {
     ghost use Rattle.keyed.specs.Table.{rows};
+    ghost use Rattle.keyed.specs.contracts.key_set.KeySet as set;
     ghost use Rattle.std.specs.FinMap.{code};
     ghost use Rattle.std.specs.Coded.{codes};
     ghost use Rattle.ns_world.specs.Evaluations.{EvaluationTable};
-    ghost use Rattle.ns_world.specs.Filing.{IsIndexed};
-    ghost use Rattle.ns_world.specs.contracts.filing.Index as names;
+    ghost use Rattle.ns_world.specs.Filing.{IsIndexOf, evaluation_job};
 
     ghost Value = { EvaluationTable };
 
-    ghost coded = { Prim.hlevel (codes, code, names.the_row.coded) };
+    ghost coded = { Prim.hlevel (codes, code, set.the_row.coded) };
 
-    ghost view = { λ t. record { slots = t.slots; index = t.index } };
+    ghost view = { λ t. record { slots = t.slots; jobs = t.jobs } };
 
-    ghost invariant = { λ t. IsIndexed t.index (rows t.slots) };
+    ghost invariant = { λ t. IsIndexOf evaluation_job t.jobs (rows t.slots) };
 }
 
 impl EvaluationTable {
@@ -47,7 +47,7 @@ impl EvaluationTable {
         EvaluationTable {
             alloc,
             slots: NumberTable::new(alloc),
-            index: Index::new(alloc),
+            jobs: KeySet::new(alloc),
         }
     }
 
@@ -62,21 +62,7 @@ impl EvaluationTable {
     pub fn numbers_of(&self, job: &Text) -> Option<&NumberTable<()>>
         ensures { AreNumbersUnder evaluation_job job.now self.now.slots (option_copied result) }
     {
-        self.index.jobs.numbers_of(job)
-    }
-
-    /// The numbers of the evaluations that are blocked, with no quota that limits them, in the pool. They rise.
-    pub fn waiting_in_pool(&self, pool: &Text) -> Option<&NumberTable<()>>
-        ensures { AreNumbersUnder waited_pool pool.now self.now.slots (option_copied result) }
-    {
-        self.index.pools.numbers_of(pool)
-    }
-
-    /// The numbers of the evaluations that are blocked and limited by the quota. They rise.
-    pub fn limited_by(&self, quota: &Text) -> Option<&NumberTable<()>>
-        ensures { AreNumbersUnder waited_quota quota.now self.now.slots (option_copied result) }
-    {
-        self.index.quotas.numbers_of(quota)
+        self.jobs.numbers_of(job)
     }
 
     /// Makes room for each changed row. Want of memory is the only error.
@@ -85,7 +71,7 @@ impl EvaluationTable {
         ensures room { OnOk result (HasEvaluationRoom changes.now self.new) }
     {
         self.slots.reserve_all(changes)?;
-        self.index.reserve(self.alloc, changes)
+        reserve_all::<EvaluationJob>(&mut self.jobs, self.alloc, changes.as_slice())
     }
 
     /// Writes the changed rows. It takes no memory.
@@ -93,7 +79,7 @@ impl EvaluationTable {
         requires { HasEvaluationRoom changes self.old }
         ensures { rows self.new.slots ≡ over (rows self.old.slots) changes }
     {
-        self.index.refile(&self.slots, &changes);
+        refile::<EvaluationJob>(&mut self.jobs, &self.slots, &changes);
         self.slots.apply(changes);
     }
 
@@ -102,6 +88,6 @@ impl EvaluationTable {
         ensures { self.new.slots ≡ without_vacant self.old.slots slot.now.0 }
     {
         self.slots.clear_slot(slot.0);
-        self.index.clear(slot);
+        clear::<EvaluationJob>(&mut self.jobs, slot);
     }
 }

@@ -1,7 +1,7 @@
 //! Under which names the numbers of rows stand.
 
 ghost use Rattle.std.specs.Prelude.{◌≡◌, ◌&&◌, ◌||◌, IsTrue, not, OnOk, Option, option_copied};
-ghost use Rattle.std.specs.FinMap.{empty, entries};
+ghost use Rattle.std.specs.FinMap.{entries};
 ghost use Rattle.std.specs.List.{list_any};
 ghost use Rattle.keyed.specs.Levels.{Keeps, has_key_room, holds_key};
 ghost use Rattle.keyed.specs.Over.{over};
@@ -9,12 +9,12 @@ ghost use Rattle.keyed.specs.Table.{rows};
 ghost use Rattle.ns_types.specs.State.Lists.{Each};
 ghost use Rattle.ns_types.specs.State.Names.{ByNumber, Key, Name};
 ghost use Rattle.ns_types.specs.declared.evaluation.Evaluation.{Evaluation};
-ghost use Rattle.ns_world.specs.Filing.{HasIndexRoom, HasRoomAt, IsIndexOf, IsIndexed, allocation_job, evaluation_job};
-ghost use Rattle.ns_world.specs.Filing.{is_filed, is_left, name_at, stands_under, waited_pool, waited_quota};
+ghost use Rattle.ns_world.specs.Filing.{HasRoomAt, IsIndexOf, allocation_job, evaluation_job};
+ghost use Rattle.ns_world.specs.Filing.{is_filed, is_left, name_at, stands_under};
 
 use keyed::{KeySet, NumberTable};
 use ns_types::allocation::Allocation;
-use ns_types::evaluation::{Evaluation, Status};
+use ns_types::evaluation::Evaluation;
 use ns_types::text::{Text, same_text};
 use std::alloc::{AllocError, Global};
 
@@ -46,7 +46,7 @@ impl Filing for AllocationJob {
 }
 
 /// The job of an evaluation.
-struct EvaluationJob;
+pub(crate) struct EvaluationJob;
 
 impl Filing for EvaluationJob {
     type Row = Evaluation;
@@ -55,38 +55,6 @@ impl Filing for EvaluationJob {
 
     fn name_of(row: &Evaluation) -> Option<&Text> {
         Some(&row.job)
-    }
-}
-
-/// The pool in which an evaluation waits that no quota limits.
-struct WaitedPool;
-
-impl Filing for WaitedPool {
-    type Row = Evaluation;
-
-    ghost name_of = { waited_pool };
-
-    fn name_of(row: &Evaluation) -> Option<&Text> {
-        match (row.status, &row.quota) {
-            (Status::Blocked, None) => Some(&row.pool),
-            _ => None,
-        }
-    }
-}
-
-/// The quota that limits an evaluation that waits.
-struct WaitedQuota;
-
-impl Filing for WaitedQuota {
-    type Row = Evaluation;
-
-    ghost name_of = { waited_quota };
-
-    fn name_of(row: &Evaluation) -> Option<&Text> {
-        match row.status {
-            Status::Blocked => row.quota.as_ref(),
-            _ => None,
-        }
     }
 }
 
@@ -207,63 +175,4 @@ pub(crate) fn refile<F: Filing>(
 {
     insert_all::<F>(numbers, changes.as_slice());
     leave_all::<F>(numbers, before, changes.as_slice());
-}
-
-// ---- all three
-
-/// The numbers of evaluations by their job, and of those that are blocked by what they wait for.
-#[derive(Drop)]
-pub struct Index {
-    pub(crate) jobs: KeySet,
-    pub(crate) pools: KeySet,
-    pub(crate) quotas: KeySet,
-}
-
-impl Index {
-    /// No numbers. It takes no memory.
-    pub fn new(alloc: Global) -> Index
-        ensures { IsIndexed result empty }
-    {
-        Index {
-            jobs: KeySet::new(alloc),
-            pools: KeySet::new(alloc),
-            quotas: KeySet::new(alloc),
-        }
-    }
-
-    /// Makes room for the numbers of the changed rows.
-    pub fn reserve(
-        &mut self,
-        alloc: Global,
-        changes: &NumberTable<Evaluation>,
-    ) -> Result<(), AllocError>
-        ensures same { (rows : ByNumber Evaluation) → IsIndexed self.old rows
-            → IsIndexed self.new rows }
-        ensures ok { OnOk result (HasIndexRoom changes.now self.new) }
-    {
-        reserve_all::<EvaluationJob>(&mut self.jobs, alloc, changes.as_slice())?;
-        reserve_all::<WaitedPool>(&mut self.pools, alloc, changes.as_slice())?;
-        reserve_all::<WaitedQuota>(&mut self.quotas, alloc, changes.as_slice())
-    }
-
-    /// Puts the numbers of the changed rows where they stand from now on. It takes no memory.
-    pub fn refile(&mut self, before: &NumberTable<Evaluation>, changes: &NumberTable<Evaluation>)
-        requires room { HasIndexRoom changes.now self.old }
-        requires before { IsIndexed self.old (rows before.now) }
-        ensures { IsIndexed self.new (over (rows before.now) changes.now) }
-    {
-        refile::<EvaluationJob>(&mut self.jobs, before, changes);
-        refile::<WaitedPool>(&mut self.pools, before, changes);
-        refile::<WaitedQuota>(&mut self.quotas, before, changes);
-    }
-
-    /// Takes the room for the number of the slot's row away again, where it is not used.
-    pub fn clear(&mut self, slot: &Slot<Evaluation>)
-        ensures { (rows : ByNumber Evaluation) → IsIndexed self.old rows
-            → IsIndexed self.new rows }
-    {
-        clear::<EvaluationJob>(&mut self.jobs, slot);
-        clear::<WaitedPool>(&mut self.pools, slot);
-        clear::<WaitedQuota>(&mut self.quotas, slot);
-    }
 }
