@@ -1,17 +1,20 @@
 //! Copies of the tables.
 
-ghost use Rattle.std.specs.Prelude.{◌≡◌, IfOk, option_copied};
+ghost use Rattle.std.specs.Prelude.{◌≡◌, IfOk, filter, option_copied};
+ghost use Rattle.std.specs.FinMap.{retain_keys};
 ghost use Rattle.ns_types.specs.Isolation.{alone_in, namespace_at, part_of};
 ghost use Rattle.ns_types.specs.Validity.{IsSound};
-ghost use Rattle.ns_copies.specs.Chosen.{chosen_part};
-ghost use Rattle.ns_world.specs.World.{world_of};
+ghost use Rattle.ns_copies.specs.Chosen.{chosen_part, is_chosen};
+ghost use Rattle.ns_copies.specs.Copied.{seen_rows};
+ghost use Rattle.ns_world.specs.World.{pool_of, quota_of, tenant_of, world_of};
 
 use crate::choosing::Chosen;
 use crate::lists::copied_keys;
 use crate::tables::copied_names;
+use keyed::{KeyQueue, NameTable};
 use ns_types::records::Namespace;
 use ns_types::text::Text;
-use ns_world::Tables;
+use ns_world::{PoolRows, QuotaRows, Tables, TenantRows};
 use std::alloc::{AllocError, Global};
 
 /// The namespace's record, if it is there.
@@ -22,6 +25,59 @@ fn namespace_at<'a>(tables: &'a Tables, name: &Text) -> Option<&'a Namespace>
         Some(tenant) => Some(&tenant.namespace),
         None => None,
     }
+}
+
+/// The three ordered lists.
+#[derive(Drop)]
+struct Lists {
+    ready: KeyQueue,
+    plans: KeyQueue,
+    blocked: KeyQueue,
+}
+
+/// The owners, by name.
+#[derive(Drop)]
+struct Owners {
+    tenants: NameTable<TenantRows>,
+    pools: NameTable<PoolRows>,
+    quotas: NameTable<QuotaRows>,
+}
+
+fn copied_lists(alloc: Global, tables: &Tables, spaces: Chosen<'_>) -> Result<Lists, AllocError>
+    ensures ready { IfOk result (λ lists. lists.ready.items
+        ≡ filter (λ key. is_chosen spaces.entry key.0) tables.now.ready.items) }
+    ensures plans { IfOk result (λ lists. lists.plans.items
+        ≡ filter (λ key. is_chosen spaces.entry key.0) tables.now.plans.items) }
+    ensures blocked { IfOk result (λ lists. lists.blocked.items
+        ≡ filter (λ key. is_chosen spaces.entry key.0) tables.now.blocked.items) }
+{
+    Ok(Lists {
+        ready: copied_keys(alloc, &tables.ready, spaces)?,
+        plans: copied_keys(alloc, &tables.plans, spaces)?,
+        blocked: copied_keys(alloc, &tables.blocked, spaces)?,
+    })
+}
+
+fn copied_owners(
+    alloc: Global,
+    tables: &Tables,
+    spaces: Chosen<'_>,
+    pools: Chosen<'_>,
+    quotas: Chosen<'_>,
+) -> Result<Owners, AllocError>
+    requires { IsSound (world_of tables.now) }
+    ensures tenants { IfOk result (λ owners. seen_rows tenant_of owners.tenants
+        ≡ retain_keys (seen_rows tenant_of tables.now.tenants) (is_chosen spaces.entry)) }
+    ensures pools { IfOk result (λ owners. seen_rows pool_of owners.pools
+        ≡ retain_keys (seen_rows pool_of tables.now.pools) (is_chosen pools.entry)) }
+    ensures quotas { IfOk result (λ owners. seen_rows quota_of owners.quotas
+        ≡ retain_keys (seen_rows quota_of tables.now.quotas) (is_chosen quotas.entry)) }
+{
+    Ok(Owners {
+        quotas: copied_names(alloc, &tables.quotas, quotas)?,
+        pools: copied_names(alloc, &tables.pools, pools)?,
+        tenants: copied_names(alloc, &tables.tenants, spaces)?,
+    })
 }
 
 /// The rows and entries of the chosen owners.
@@ -36,15 +92,22 @@ fn copied(
     ensures { let part = chosen_part spaces.entry pools.entry quotas.entry in
         IfOk result (λ copy. world_of copy ≡ alone_in part (world_of tables.now)) }
 {
-    Ok(Tables {
-        alloc,
-        tenants: copied_names(alloc, &tables.tenants, spaces)?,
-        pools: copied_names(alloc, &tables.pools, pools)?,
-        quotas: copied_names(alloc, &tables.quotas, quotas)?,
-        ready: copied_keys(alloc, &tables.ready, spaces)?,
-        plans: copied_keys(alloc, &tables.plans, spaces)?,
-        blocked: copied_keys(alloc, &tables.blocked, spaces)?,
-    })
+    let lists = copied_lists(alloc, tables, spaces)?;
+    match copied_owners(alloc, tables, spaces, pools, quotas) {
+        Ok(owners) => Ok(Tables {
+            alloc,
+            tenants: owners.tenants,
+            pools: owners.pools,
+            quotas: owners.quotas,
+            ready: lists.ready,
+            plans: lists.plans,
+            blocked: lists.blocked,
+        }),
+        Err(error) => {
+            drop(lists);
+            Err(error)
+        }
+    }
 }
 
 /// A copy of all tables. Want of memory is the only error.

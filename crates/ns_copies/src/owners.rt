@@ -9,9 +9,12 @@ ghost use Rattle.ns_copies.specs.Whole.{IsWholeTenant};
 use crate::choosing::Chosen;
 use crate::copies::Copies;
 use crate::tables::{copied_names, copied_numbers};
-use keyed::Series;
+use keyed::{NameTable, NumberTable, Series};
 use ns_events::Events;
+use ns_types::job::Job;
 use ns_types::node::Class;
+use ns_types::records::Namespace;
+use ns_types::worker::Worker;
 use ns_world::{AllocationTable, EvaluationTable, PoolRows, QuotaRows, TenantRows};
 use std::alloc::{AllocError, Global};
 
@@ -60,6 +63,50 @@ fn copied_classes(
     Ok(copy)
 }
 
+/// What is known of a namespace beside its work.
+#[derive(Drop)]
+struct Records {
+    namespace: Namespace,
+    jobs: NameTable<Job>,
+    events: Events,
+}
+
+/// The work of a namespace, by number.
+#[derive(Drop)]
+struct Work {
+    evaluations: EvaluationTable,
+    allocations: AllocationTable,
+    workers: NumberTable<Worker>,
+}
+
+fn copied_records(alloc: Global, tenant: &TenantRows) -> Result<Records, AllocError>
+    requires { IsWholeTenant (tenant_of tenant.now) }
+    ensures namespace { IfOk result (λ records. records.namespace ≡ tenant.now.namespace) }
+    ensures jobs { IfOk result (λ records. rows records.jobs ≡ rows tenant.now.jobs) }
+    ensures events { IfOk result (λ records. records.events ≡ tenant.now.events) }
+{
+    Ok(Records {
+        events: copied_events(alloc, &tenant.events)?,
+        jobs: copied_names(alloc, &tenant.jobs, Chosen::All)?,
+        namespace: tenant.namespace.clone()?,
+    })
+}
+
+fn copied_work(alloc: Global, tenant: &TenantRows) -> Result<Work, AllocError>
+    requires { IsWholeTenant (tenant_of tenant.now) }
+    ensures evaluations { IfOk result (λ work.
+        rows work.evaluations.slots ≡ rows tenant.now.evaluations.slots) }
+    ensures allocations { IfOk result (λ work.
+        rows work.allocations.slots ≡ rows tenant.now.allocations.slots) }
+    ensures workers { IfOk result (λ work. rows work.workers ≡ rows tenant.now.workers) }
+{
+    Ok(Work {
+        workers: copied_numbers(alloc, &tenant.workers)?,
+        evaluations: copied_evaluations(alloc, &tenant.evaluations)?,
+        allocations: copied_allocations(alloc, &tenant.allocations)?,
+    })
+}
+
 impl Copies for TenantRows {
     ghost Seen = { Rows.Tenant };
 
@@ -68,17 +115,24 @@ impl Copies for TenantRows {
     ghost IsWhole = { λ t. IsWholeTenant (tenant_of t) };
 
     fn copied(&self, alloc: Global) -> Result<TenantRows, AllocError> {
-        Ok(TenantRows {
-            namespace: self.namespace.clone()?,
-            index: self.index,
-            evaluation_number: self.evaluation_number,
-            allocation_number: self.allocation_number,
-            jobs: copied_names(alloc, &self.jobs, Chosen::All)?,
-            evaluations: copied_evaluations(alloc, &self.evaluations)?,
-            allocations: copied_allocations(alloc, &self.allocations)?,
-            workers: copied_numbers(alloc, &self.workers)?,
-            events: copied_events(alloc, &self.events)?,
-        })
+        let work = copied_work(alloc, self)?;
+        match copied_records(alloc, self) {
+            Ok(records) => Ok(TenantRows {
+                namespace: records.namespace,
+                index: self.index,
+                evaluation_number: self.evaluation_number,
+                allocation_number: self.allocation_number,
+                jobs: records.jobs,
+                evaluations: work.evaluations,
+                allocations: work.allocations,
+                workers: work.workers,
+                events: records.events,
+            }),
+            Err(error) => {
+                drop(work);
+                Err(error)
+            }
+        }
     }
 }
 

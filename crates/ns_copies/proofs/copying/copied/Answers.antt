@@ -1,10 +1,7 @@
 use Rattle.ns_copies.specs.Chosen.{chosen_part}
-use Rattle.ns_copies.proofs.Parted.{whole_tenants, world_copied}
+use Rattle.ns_copies.proofs.Parted.{world_copied}
 use Rattle.ns_copies.proofs.copying.copied.Goals as goal
 
-pub copied_names-requires : goal.copied_names-requires
-copied_names-requires c = whole_tenants c.args.tables.now c.requires
-
-pub returns : goal.returns
-returns c = world_copied _ c.args.tables.now (chosen_part c.args.spaces c.args.pools c.args.quotas) c.in_ok-copied_names.ensures c.in_ok-copied_names-2.ensures
-    c.in_ok-copied_names-3.ensures c.in_ok-copied_keys.ensures c.in_ok-copied_keys-2.ensures c.in_ok-copied_keys-3.ensures
+pub returns-in-Ok : goal.returns-in-Ok
+returns-in-Ok c = world_copied _ c.args.tables.now (chosen_part c.args.spaces c.args.pools c.args.quotas) c.in-Ok.ensures.tenants
+    c.in-Ok.ensures.pools c.in-Ok.ensures.quotas c.in_ok-lists.ensures.ready c.in_ok-lists.ensures.plans c.in_ok-lists.ensures.blocked
