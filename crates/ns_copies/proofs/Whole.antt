@@ -1,4 +1,4 @@
--- Whole tables, and rows that are copied by the steps that made them.
+-- Whole tables.
 use Rattle.std.specs.Prelude.{◌≡◌, true, Option, Some, None, unwrap_or}
 use Rattle.std.proofs.Common.{refl, sym, ap, ◌∙◌}
 use Rattle.std.specs.declared.cmp.Ordering.{Ordering}
@@ -8,11 +8,7 @@ use Rattle.keyed.specs.Over.{over}
 use Rattle.keyed.specs.Table.{flat, rows}
 use Rattle.keyed.proofs.Over.{get-over}
 use Rattle.keyed.proofs.Tables.{get-rows}
-use Rattle.ns_types.specs.declared.snapshot.Snapshot.{Snapshot}
-use Rattle.ns_types.specs.declared.worker.Phase.{Phase}
-use Rattle.ns_types.specs.Working.Work.{planned_in}
 use Rattle.ns_types.proofs.Tables.{get-retain, map_rows_idle}
-use Rattle.ns_types.proofs.Tests.{not_Some}
 use Rattle.ns_copies.specs.Copied.{seen_rows}
 
 module _ {K X : Type 0} {R : K → K → Ordering} (o : IsTotalOrder R) (same : IsAntisymmetric R) where
@@ -30,14 +26,3 @@ module _ {K X : Type 0} {R : K → K → Ordering} (o : IsTotalOrder R) (same : 
       by : (r : Option (Option X)) → unwrap_or r None ≡ flat r
       by None = refl
       by (Some r) = refl
-
--- ---- workers
-
--- a plan that is handed in is of the kept snapshot
-pub plan_is_kept : (phase : Phase) (kept : Option Snapshot) (snapshot planned : Snapshot) → kept ≡ Some snapshot → planned_in phase kept ≡ Some planned →
-    Some snapshot ≡ Some planned
-plan_is_kept Phase.Took kept snapshot planned is made = absurd (not_Some planned made)
-plan_is_kept Phase.Snapped kept snapshot planned is made = absurd (not_Some planned made)
-plan_is_kept Phase.Submitted kept snapshot planned is made = sym is ∙ made
-plan_is_kept Phase.Applied kept snapshot planned is made = sym is ∙ made
-plan_is_kept Phase.Dropped kept snapshot planned is made = sym is ∙ made
