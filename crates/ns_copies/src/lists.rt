@@ -5,10 +5,29 @@ ghost use Rattle.ns_copies.specs.Chosen.{is_chosen};
 
 use crate::choosing::Chosen;
 use keyed::KeyQueue;
+use ns_types::key::EvalKey;
 use ns_types::rows::Rows;
 use std::alloc::{AllocError, Global};
 
 /// The keys of the chosen namespaces, in their order.
+fn chosen_keys(
+    alloc: Global,
+    queue: &KeyQueue,
+    spaces: Chosen<'_>,
+) -> Result<Rows<EvalKey>, AllocError>
+    ensures { IfOk result (λ keys.
+        keys ≡ filter (λ key. is_chosen spaces.entry key.0) queue.now.items) }
+{
+    let mut keys = Rows::new(alloc);
+    for key in queue.as_slice() {
+        if spaces.has(key.namespace()) {
+            keys.push(key.clone()?)?;
+        }
+    }
+    Ok(keys)
+}
+
+/// A list of them.
 pub(crate) fn copied_keys(
     alloc: Global,
     queue: &KeyQueue,
@@ -17,12 +36,7 @@ pub(crate) fn copied_keys(
     ensures { IfOk result (λ copy.
         copy.items ≡ filter (λ key. is_chosen spaces.entry key.0) queue.now.items) }
 {
-    let mut keys = Rows::new(alloc);
-    for key in queue.as_slice() {
-        if spaces.has(key.namespace()) {
-            keys.push(key.clone()?)?;
-        }
-    }
+    let keys = chosen_keys(alloc, queue, spaces)?;
     let mut copy = KeyQueue::new(alloc);
     copy.reserve(keys.as_slice())?;
     copy.append(keys);
