@@ -4,6 +4,7 @@
     python3 bench/driven.py preempt            8 jobs that fill 1,000 nodes, and 2 that take half of that
     python3 bench/driven.py beside             500 jobs of one allocation, beside 0 and 100,000 of another namespace of its quota
     python3 bench/driven.py blocked            500 jobs of one allocation, placed and then stopped, beside 0 and 10,000 blocked ones
+    python3 bench/driven.py waking             500 jobs, each of which waits for the stop of the one before, beside 0 and 10,000
     python3 bench/driven.py place 10           another number of jobs
     python3 bench/driven.py place 10 --show    prints the requests, and runs nothing
 
@@ -147,25 +148,52 @@ def beside(server, number):
     return server.used("own") == few * MHZ and server.used("other") == others * MHZ
 
 
+def block_others(server, number):
+    """So many thousand evaluations of other namespaces are blocked, in another pool than `own`."""
+    for other in range(number):
+        configuration = {"Default": "other", "Allowed": ["other"]}
+        namespace = {"Name": f"wait-{other}", "NodePoolConfiguration": configuration}
+        server.ask([request("PUT", "/v1/namespace", namespace)])
+        server.ask(jobs("wait", 1_000, 20, 1, f"wait-{other}", 1))
+
+
+def still_blocked(server, number):
+    lists = (server.ask([request("GET", f"/v1/evaluations?namespace=wait-{other}")]) for other in range(number))
+    return sum(row["Status"] == "blocked" for rows in lists for row in rows) == number * 1_000
+
+
+def stop(job):
+    return request("DELETE", f"/v1/job/one-{job}?namespace=own")
+
+
 def blocked(server, number):
     """Jobs of one namespace, on one node, beside so many thousand blocked ones of others, which wait in another pool. Each stop
     gives room in the pool of the first. It answers whether all were placed, and stopped, and the others were blocked all along."""
     few = 500
     server.ask(tenants())
     server.ask([request("PUT", "/v1/node/pool/own/node/n", {"CPU": few * MHZ, "MemoryMB": few * MHZ})])
-    for other in range(number):
-        configuration = {"Default": "other", "Allowed": ["other"]}
-        namespace = {"Name": f"wait-{other}", "NodePoolConfiguration": configuration}
-        server.ask([request("PUT", "/v1/namespace", namespace)])
-        server.ask(jobs("wait", 1_000, 20, 1, f"wait-{other}", 1))
+    block_others(server, number)
     seconds = server.timed(jobs("one", few, 20, 1, "own", 1))
     placed = server.used("own") == few * MHZ
     told(f"jobs beside {number * 1_000} blocked ones", few, seconds)
-    stops = [request("DELETE", f"/v1/job/one-{job}?namespace=own") for job in range(few)]
+    stops = [stop(job) for job in range(few)]
     told(f"stops beside {number * 1_000} blocked ones", few, server.timed(stops))
-    lists = (server.ask([request("GET", f"/v1/evaluations?namespace=wait-{other}")]) for other in range(number))
-    waiting = sum(row["Status"] == "blocked" for rows in lists for row in rows)
-    return placed and server.used("own") == 0 and waiting == number * 1_000
+    return placed and server.used("own") == 0 and still_blocked(server, number)
+
+
+def waking(server, number):
+    """Jobs of one namespace, on a node that has room for one. Each but the first is blocked until the one before is stopped, which
+    wakes it, beside so many thousand blocked ones of others. It answers whether the last is placed, and the others are blocked."""
+    few = 500
+    server.ask(tenants())
+    server.ask([request("PUT", "/v1/node/pool/own/node/n", {"CPU": MHZ, "MemoryMB": MHZ})])
+    block_others(server, number)
+    first, *others = jobs("one", few, 20, 1, "own", 1)
+    server.ask([first])
+    pairs = [step for job, other in enumerate(others) for step in (other, stop(job))]
+    told(f"jobs blocked and woken beside {number * 1_000} blocked ones", few - 1, server.timed(pairs))
+    last = server.ask([request("GET", f"/v1/job/one-{few - 1}/allocations?namespace=own")])
+    return server.used("own") == MHZ and len(last) == 1 and still_blocked(server, number)
 
 
 def inputs(kind, number):
@@ -173,10 +201,14 @@ def inputs(kind, number):
     return filling if kind == "place" else filling + jobs("high", number // 4, 60, 2)
 
 
+KINDS = {"place": place, "preempt": preempt, "beside": beside, "blocked": blocked, "waking": waking}
+
+
 def main():
     words = [word for word in sys.argv[1:] if word != "--show"]
     kind = words[0]
-    numbers = [int(word) for word in words[1:]] or {"place": [100], "preempt": [8], "beside": [0, 100], "blocked": [0, 10]}[kind]
+    usual = {"place": [100], "preempt": [8], "beside": [0, 100], "blocked": [0, 10], "waking": [0, 10]}
+    numbers = [int(word) for word in words[1:]] or usual[kind]
     if "--show" in sys.argv:
         sys.stdout.buffer.write(b"".join(inputs(kind, numbers[0])))
         return 0
@@ -186,7 +218,7 @@ def main():
     are_right = True
     for number in numbers:
         server = Server()
-        are_right &= {"place": place, "preempt": preempt, "beside": beside, "blocked": blocked}[kind](server, number)
+        are_right &= KINDS[kind](server, number)
         server.end()
     if not are_right:
         print("that is not what the input asks for", file=sys.stderr)
