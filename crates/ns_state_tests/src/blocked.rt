@@ -14,7 +14,7 @@ use std::alloc::Global;
 use std::process::Abort;
 
 /// A key, as its namespace and its number.
-type KeyText<'a> = (&'a str, u64);
+pub(crate) type KeyText<'a> = (&'a str, u64);
 
 /// A class, as its name and the value of its attribute `os`.
 type Named<'a> = (&'a str, &'a str);
@@ -135,7 +135,7 @@ fn blocked(rt: &impl Abort, alloc: Global, waiters: &[Waiter]) -> BlockedList {
 
 // ---- what comes out of it
 
-fn is_key(key: &EvalKey, (namespace, number): KeyText) -> bool {
+pub(crate) fn is_key(key: &EvalKey, (namespace, number): KeyText) -> bool {
     key.namespace().as_str() == namespace && key.number() == number
 }
 

@@ -1,4 +1,8 @@
 // One namespace with ample memory and as many jobs as it may have: one more is refused as too many, and changes nothing.
+ghost use Rattle.std.specs.Prelude.{IsTrue, true};
+ghost use Rattle.std.specs.Option.{option_map_or};
+ghost use Rattle.ns_types.specs.State.Limits.{is_between, is_pool_name};
+
 use crate::made::{numbered, text};
 use crate::owned::{seen, with};
 use crate::server::{asked, groups, refusal, registered, root};
@@ -17,18 +21,32 @@ use std::process::Abort;
 /// The number after that of the last job that has room.
 const END: u64 = 1001;
 
-/// A job whose id is the number.
-pub(crate) fn registration(rt: &impl Abort, alloc: Global, number: u64) -> GoodAsk {
+/// A job whose id is the number, of that priority, in that pool or else in its namespace's own.
+pub(crate) fn registration_of(
+    rt: &impl Abort,
+    alloc: Global,
+    number: u64,
+    priority: u64,
+    pool: Option<Text>,
+) -> GoodAsk
+    requires priority { IsTrue (is_between 1 100 priority) }
+    requires pool { IsTrue (option_map_or is_pool_name pool true) }
+{
     let registration = Registration {
         id: numbered(rt, alloc, NameKind::Job, number),
         kind: JobKind::Batch,
-        priority: 50,
-        pool: None,
+        priority,
+        pool,
         constraints: Rows::new(alloc),
         groups: groups(rt, alloc),
         enforced: None,
     };
     GoodAsk::new(AskCommand::Register(registration))
+}
+
+/// A job whose id is the number.
+pub(crate) fn registration(rt: &impl Abort, alloc: Global, number: u64) -> GoodAsk {
+    registration_of(rt, alloc, number, 50, None)
 }
 
 /// All jobs of a namespace.

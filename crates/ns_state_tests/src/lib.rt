@@ -26,4 +26,6 @@ mod server;
 #[cfg(test)]
 mod sharing;
 #[cfg(test)]
+mod turns;
+#[cfg(test)]
 mod workers;

@@ -23,7 +23,7 @@ use std::process::Abort;
 const ROUNDS: u64 = 200;
 
 /// An answer is told by its kind, two numbers of it, and its index. A step out of turn has the kind 0, and a refusal 1.
-type Told = (u64, u64, u64, u64);
+pub(crate) type Told = (u64, u64, u64, u64);
 
 fn told_content(content: &Content) -> (u64, u64, u64) {
     match content {
@@ -52,7 +52,7 @@ fn told_refusal(refusal: Refusal) -> Told {
     }
 }
 
-fn told(answer: &Result<Reply, Refusal>) -> Told {
+pub(crate) fn told(answer: &Result<Reply, Refusal>) -> Told {
     match answer {
         Ok(reply) => {
             let (kind, first, second) = told_content(&reply.content);
@@ -65,7 +65,7 @@ fn told(answer: &Result<Reply, Refusal>) -> Told {
 // ---- the script
 
 /// What is told of the only node: in the first round that it is there, and later that it is eligible.
-fn telling(rt: &impl Abort, alloc: Global, round: u64) -> GoodTelling {
+pub(crate) fn telling(rt: &impl Abort, alloc: Global, round: u64) -> GoodTelling {
     let name = text(rt, alloc, "n1");
     if round > 0 {
         return nodes::eligibility(rt, &name, true);
@@ -130,7 +130,7 @@ fn push_round(
 }
 
 /// The namespace beside `default` is put.
-fn team(rt: &impl Abort, alloc: Global, root: &Text) -> Step {
+pub(crate) fn team(rt: &impl Abort, alloc: Global, root: &Text) -> Step {
     let record = Namespace {
         description: text(rt, alloc, ""),
         quota: None,
