@@ -20,12 +20,12 @@ spawn-requires-send-F g c κs within =
     let five : NamedLft = record { mir = Syntax.named 5; lft = κs.1.1.1.1.1.0 } in
     let six : NamedLft = record { mir = Syntax.named 6; lft = κs.1.1.1.1.1.1.0 } in
     let seven : NamedLft = record { mir = Syntax.named 7; lft = κs.1.1.1.1.1.1.1.0 } in
-    let sent : IsSend (Lts.of-38 g.row.L g.row.R g.row.D g.L.laws g.R.laws g.D.laws g.L.Ledger g.L.Ledger-dict g.R.Threads
+    let sent : IsSend (Lts.of-40 g.row.L g.row.R g.row.D g.L.laws g.R.laws g.D.laws g.L.Ledger g.L.Ledger-dict g.R.Threads
     g.R.Threads-dict g.R.Wait g.R.Wait-dict g.R.Clock g.R.Clock-dict g.D.Draws g.D.Draws-dict g.D.Destruct-dict five six seven) =
     declared_send (Tuple.type_at
-    (Lts.name-35 g.row.L g.row.R g.row.D g.L.laws g.R.laws g.D.laws g.L.Ledger g.L.Ledger-dict g.R.Threads
+    (Lts.name-39 g.row.L g.row.R g.row.D g.L.laws g.R.laws g.D.laws g.L.Ledger g.L.Ledger-dict g.R.Threads
     g.R.Threads-dict g.R.Wait g.R.Wait-dict g.R.Clock g.R.Clock-dict g.D.Draws g.D.Draws-dict g.D.Destruct-dict)
-    (Lts.of-36 g.row.L g.row.R g.row.D g.L.laws g.R.laws g.D.laws g.L.Ledger g.L.Ledger-dict g.R.Threads
+    (Lts.of-38 g.row.L g.row.R g.row.D g.L.laws g.R.laws g.D.laws g.L.Ledger g.L.Ledger-dict g.R.Threads
     g.R.Threads-dict g.R.Wait g.R.Wait-dict g.R.Clock g.R.Clock-dict g.D.Draws g.D.Draws-dict g.D.Destruct-dict five six seven)) (
       search (sendable, c.requires.0) depth 6,
       (
@@ -40,5 +40,5 @@ spawn-requires-send-F g c κs within =
         ),
       ),
     ) in
-    param_send 1 _ (arg_send _ Exit.no (Lts.of-38 g.row.L g.row.R g.row.D g.L.laws g.R.laws g.D.laws g.L.Ledger g.L.Ledger-dict g.R.Threads
+    param_send 1 _ (arg_send _ Exit.no (Lts.of-40 g.row.L g.row.R g.row.D g.L.laws g.R.laws g.D.laws g.L.Ledger g.L.Ledger-dict g.R.Threads
     g.R.Threads-dict g.R.Wait g.R.Wait-dict g.R.Clock g.R.Clock-dict g.D.Draws g.D.Draws-dict g.D.Destruct-dict five six seven) sent)
