@@ -7,12 +7,12 @@ use Rattle.std.specs.declared.cmp.Ordering.{Ordering}
 use Rattle.std.specs.Cmp.{IsTotalOrder, tied_itself}
 use Rattle.std.specs.Ordering.{eq_by_cmp, is_eq, nat_cmp}
 use Rattle.std.specs.FinMap.{FinMap, IsAntisymmetric, empty, empty_of_len, entries, len-entries, get, get-empty, get-insert, get-remove, insert, remove}
-use Rattle.keyed.specs.Table.{emptied, flat, has_slot, row_at, with_slot}
+use Rattle.keyed.specs.Table.{flat, has_slot, row_at, with_slot}
 use Rattle.keyed.proofs.Tables.{has_slot-insert, has_slot-with_slot}
-use Rattle.ns_types.specs.State.Names.{Name, Key, ByName, ByNumber, name_cmp, same_key, same_name, same_number}
-use Rattle.ns_types.proofs.Named.{first_of_both, names, numbers, one_name, one_number, same_name_refl, second_of_both}
+use Rattle.ns_types.specs.State.Names.{Name, Key, ByName, ByNumber, same_key, same_number}
+use Rattle.ns_types.proofs.Named.{first_of_both, names, numbers, one_name, one_number, second_of_both}
 use Rattle.ns_types.proofs.Tables.{tied}
-use Rattle.keyed.specs.Levels.{Adds, Drops, Keeps, Vacates, at_name, has_key_room, holds_key, holds_number, same_at}
+use Rattle.keyed.specs.Levels.{Adds, Drops, Keeps, at_key, at_name, has_key_room, holds_key, holds_number, same_at, same_by}
 use Rattle.keyed.specs.declared.key_set.KeySet.{KeySet}
 use Rattle.ns_types.proofs.Once.{key_is}
 
@@ -30,13 +30,13 @@ flat_none true y = refl
 flat_none false y = refl
 
 module _ {K V : Type 0} {R : K → K → Ordering} (o : IsTotalOrder R) where
-  row-insert : (m : FinMap R (Option V)) (k : K) (x : Option V) (q : K) → row_at (insert m k x) q ≡ cond (eq_by_cmp R q k) x (row_at m q)
+  pub row-insert : (m : FinMap R (Option V)) (k : K) (x : Option V) (q : K) → row_at (insert m k x) q ≡ cond (eq_by_cmp R q k) x (row_at m q)
   row-insert m k x q = ap flat (get-insert o m k x q) ∙ flat_one (eq_by_cmp R q k) x (get m q)
 
   row-remove : (m : FinMap R (Option V)) (k : K) (q : K) → row_at (remove m k) q ≡ cond (eq_by_cmp R q k) None (row_at m q)
   row-remove m k q = ap flat (get-remove o m k q) ∙ flat_none (eq_by_cmp R q k) (get m q)
 
-  row-with_slot : IsAntisymmetric R → (m : FinMap R (Option V)) (k : K) (q : K) → row_at (with_slot m k) q ≡ row_at m q
+  pub row-with_slot : IsAntisymmetric R → (m : FinMap R (Option V)) (k : K) (q : K) → row_at (with_slot m k) q ≡ row_at m q
   row-with_slot same m k q = by (get m k) refl
     where
       by : (r : Option (Option V)) → get m k ≡ r → row_at (cond (is_some r) m (insert m k None)) q ≡ row_at m q
@@ -88,24 +88,6 @@ module _ (m new : ByNumber (Option Unit)) (n : ℕ) where
       by k true = refl
       by k false = refl
 
-  pub number_vacated : new ≡ emptied m n → Vacates holds_number has_slot same_number n m new
-  number_vacated e = subst (Vacates holds_number has_slot same_number n m) (sym e) (by (get m n) refl)
-    where
-      less : (k : ℕ) (b : Bool) → is_some (cond b None (row_at m k)) ≡ (not b && is_some (row_at m k))
-      less k true = refl
-      less k false = refl
-
-      apart : (k : ℕ) → get m n ≡ None → (b : Bool) → same_number k n ≡ b → is_some (row_at m k) ≡ (not b && is_some (row_at m k))
-      apart k is true t = ap (λ k. is_some (row_at m k)) (tied one_number k n t) ∙ ap (λ r. is_some (flat r)) is
-      apart k is false t = refl
-
-      by : (r : Option (Option Unit)) → get m n ≡ r → Vacates holds_number has_slot same_number n m (cond (is_some r) (insert m n None) m)
-      by (Some r) is = record {
-        held = λ k. ap is_some (row-insert numbers m n None k) ∙ less k (same_number k n);
-        room = has_slot-insert numbers m n None;
-      }
-      by None is = record { held = λ k. apart k is (same_number k n) refl; room = λ k h. h }
-
   pub number_dropped : new ≡ remove m n → Drops holds_number has_slot same_number n m new
   number_dropped e = subst (Drops holds_number has_slot same_number n m) (sym e) (record {
     held = λ k. ap is_some (row-remove numbers m n k) ∙ by k (same_number k n);
@@ -117,179 +99,206 @@ module _ (m new : ByNumber (Option Unit)) (n : ℕ) where
       by k true = refl
       by k false = refl
 
--- ---- what a table of sets says, where one of its rows is another
+-- ---- tables by any key: what a table of sets says, where one of its rows is another
+
+module _ {K : Type 0} {R : K → K → Ordering} (o : IsTotalOrder R) (one : IsAntisymmetric R) where
+  module _ {S I A : Type 0} (table : S → FinMap R (Option I)) (says : I → A → Bool) where
+    abbrev at : S → K × A → Bool
+    at s = at_key says (table s)
+
+    at_row : (s : S) (q : K × A) (r : Option I) → row_at (table s) q.0 ≡ r → at s q ≡ option_map_or (λ set. says set q.1) r false
+    at_row s q r is = ap (λ r. option_map_or (λ set. says set q.1) r false) is
+
+    there : (s : S) (k : K) (set : I) → row_at (table s) k ≡ Some set → (q : K × A) → eq_by_cmp R q.0 k ≡ true → at s q ≡ says set q.1
+    there s k set is q t = at_row s q (Some set) (ap (row_at (table s)) (tied one q.0 k t) ∙ is)
+
+    put_here : (old new : S) (k : K) (set : I) → table new ≡ insert (table old) k (Some set) → (q : K × A) → eq_by_cmp R q.0 k ≡ true → at new q ≡
+        says set q.1
+    put_here old new k set e q t = at_row new q (Some set)
+        (ap (λ m. row_at m q.0) e ∙ row-insert o (table old) k (Some set) q.0 ∙ ap (λ b. cond b (Some set) (row_at (table old) q.0)) t)
+
+    put_apart : (old new : S) (k : K) (set : I) → table new ≡ insert (table old) k (Some set) → (q : K × A) → eq_by_cmp R q.0 k ≡ false → at new q ≡
+        at old q
+    put_apart old new k set e q t = at_row new q (row_at (table old) q.0)
+        (ap (λ m. row_at m q.0) e ∙ row-insert o (table old) k (Some set) q.0 ∙ ap (λ b. cond b (Some set) (row_at (table old) q.0)) t)
+
+    gone_here : (old new : S) (k : K) → table new ≡ remove (table old) k → (q : K × A) → eq_by_cmp R q.0 k ≡ true → at new q ≡ false
+    gone_here old new k e q t = at_row new q None
+        (ap (λ m. row_at m q.0) e ∙ row-remove o (table old) k q.0 ∙ ap (λ b. cond b None (row_at (table old) q.0)) t)
+
+    gone_apart : (old new : S) (k : K) → table new ≡ remove (table old) k → (q : K × A) → eq_by_cmp R q.0 k ≡ false → at new q ≡ at old q
+    gone_apart old new k e q t = at_row new q (row_at (table old) q.0)
+        (ap (λ m. row_at m q.0) e ∙ row-remove o (table old) k q.0 ∙ ap (λ b. cond b None (row_at (table old) q.0)) t)
+
+    -- a vacant slot says nothing
+    pub slot_made_in : (old new : S) (k : K) → table new ≡ with_slot (table old) k → (q : K × A) → at new q ≡ at old q
+    slot_made_in old new k e q = at_row new q (row_at (table old) q.0) (ap (λ m. row_at m q.0) e ∙ row-with_slot o one (table old) k q.0)
+
+    -- where all slots are gone, nothing is said
+    pub nothing_in : (s : S) → table s ≡ empty → (q : K × A) → at s q ≡ false
+    nothing_in s e q = at_row s q None (ap (λ m. row_at m q.0) e ∙ ap flat (get-empty R q.0))
+
+  -- ---- what a change of one set leaves of all
+
+  module _ {S I A : Type 0} (table : S → FinMap R (Option I)) (holds has_room : I → A → Bool) where
+    abbrev held_at : S → K × A → Bool
+    held_at s = at_key holds (table s)
+
+    abbrev room_at : S → K × A → Bool
+    room_at s = at_key has_room (table s)
+
+    -- a set that says nothing, where none was
+    pub begun_in : (old made new : S) (k : K) (set : I) → table made ≡ with_slot (table old) k → row_at (table made) k ≡ None →
+        ((key : A) → holds set key ≡ false) → table new ≡ insert (table made) k (Some set) → Keeps held_at room_at old new
+    begun_in old made new k set e none nothing f = record { held = λ q. held q (eq_by_cmp R q.0 k) refl; room = λ q h. room q h (eq_by_cmp R q.0 k) refl }
+      where
+        nowhere : (says : I → A → Bool) (q : K × A) → eq_by_cmp R q.0 k ≡ true → at_key says (table old) q ≡ false
+        nowhere says q t = sym (slot_made_in table says old made k e q) ∙ at_row table says made q None (ap (row_at (table made)) (tied one q.0 k t)
+            ∙ none)
+
+        held : (q : K × A) (b : Bool) → eq_by_cmp R q.0 k ≡ b → held_at new q ≡ held_at old q
+        held q true t = put_here table holds made new k set f q t ∙ nothing q.1 ∙ sym (nowhere holds q t)
+        held q false t = put_apart table holds made new k set f q t ∙ slot_made_in table holds old made k e q
+
+        room : (q : K × A) → IsTrue (room_at old q) → (b : Bool) → eq_by_cmp R q.0 k ≡ b → IsTrue (room_at new q)
+        room q h true t = not_true (subst IsTrue (nowhere has_room q t) h)
+        room q h false t = subst IsTrue (sym (put_apart table has_room made new k set f q t ∙ slot_made_in table has_room old made k e q)) h
+
+    pub only_slot_in : (old made : S) (k : K) → table made ≡ with_slot (table old) k → Keeps held_at room_at old made
+    only_slot_in old made k e = record {
+      held = slot_made_in table holds old made k e;
+      room = λ q h. subst IsTrue (sym (slot_made_in table has_room old made k e q)) h;
+    }
+
+    module _ (old new : S) (k : K) (before after : I) (is : row_at (table old) k ≡ Some before) where
+      module _ (e : table new ≡ insert (table old) k (Some after)) where
+        pub keeps_in : Keeps holds has_room before after → Keeps held_at room_at old new
+        keeps_in kept = record { held = λ q. held q (eq_by_cmp R q.0 k) refl; room = λ q h. room q h (eq_by_cmp R q.0 k) refl }
+          where
+            held : (q : K × A) (b : Bool) → eq_by_cmp R q.0 k ≡ b → held_at new q ≡ held_at old q
+            held q true t = put_here table holds old new k after e q t ∙ kept.held q.1 ∙ sym (there table holds old k before is q t)
+            held q false t = put_apart table holds old new k after e q t
+
+            room : (q : K × A) → IsTrue (room_at old q) → (b : Bool) → eq_by_cmp R q.0 k ≡ b → IsTrue (room_at new q)
+            room q h true t = subst IsTrue (sym (put_here table has_room old new k after e q t))
+                (kept.room q.1 (subst IsTrue (there table has_room old k before is q t) h))
+            room q h false t = subst IsTrue (sym (put_apart table has_room old new k after e q t)) h
+
+        pub room_in : (a : A) → IsTrue (has_room after a) → IsTrue (room_at new (k, a))
+        room_in a h = subst IsTrue (sym (put_here table has_room old new k after e (k, a) (ap is_eq (tied_itself o k)))) h
+
+        module _ (same : A → A → Bool) (a : A) where
+          pub adds_in : Adds holds has_room same a before after → Adds held_at room_at (same_by R same) (k, a) old new
+          adds_in added = record { held = λ q. held q (eq_by_cmp R q.0 k) refl; room = λ q h. room q h (eq_by_cmp R q.0 k) refl }
+            where
+              held : (q : K × A) (b : Bool) → eq_by_cmp R q.0 k ≡ b → held_at new q ≡ ((eq_by_cmp R q.0 k && same q.1 a) || held_at old q)
+              held q true t = put_here table holds old new k after e q t ∙ added.held q.1
+                  ∙ (λ i. (sym t i && same q.1 a) || sym (there table holds old k before is q t) i)
+              held q false t = put_apart table holds old new k after e q t ∙ (λ i. (sym t i && same q.1 a) || held_at old q)
+
+              room : (q : K × A) → IsTrue (room_at old q) → (b : Bool) → eq_by_cmp R q.0 k ≡ b → IsTrue (room_at new q)
+              room q h true t = subst IsTrue (sym (put_here table has_room old new k after e q t))
+                  (added.room q.1 (subst IsTrue (there table has_room old k before is q t) h))
+              room q h false t = subst IsTrue (sym (put_apart table has_room old new k after e q t)) h
+
+          pub drops_in : Drops holds has_room same a before after → Drops held_at room_at (same_by R same) (k, a) old new
+          drops_in dropped = record {
+            held = λ q. held q (eq_by_cmp R q.0 k) refl;
+            room = λ q apart h. room q apart h (eq_by_cmp R q.0 k) refl;
+            gone = λ q t. put_here table has_room old new k after e q (first_of_both (eq_by_cmp R q.0 k) (same q.1 a) t)
+                ∙ dropped.gone q.1 (second_of_both (eq_by_cmp R q.0 k) (same q.1 a) t);
+          }
+            where
+              held : (q : K × A) (b : Bool) → eq_by_cmp R q.0 k ≡ b → held_at new q ≡ (not (eq_by_cmp R q.0 k && same q.1 a) && held_at old q)
+              held q true t = put_here table holds old new k after e q t ∙ dropped.held q.1
+                  ∙ (λ i. not (sym t i && same q.1 a) && sym (there table holds old k before is q t) i)
+              held q false t = put_apart table holds old new k after e q t ∙ (λ i. not (sym t i && same q.1 a) && held_at old q)
+
+              room : (q : K × A) → (eq_by_cmp R q.0 k && same q.1 a) ≡ false → IsTrue (room_at old q) → (b : Bool) → eq_by_cmp R q.0 k ≡ b →
+                  IsTrue (room_at new q)
+              room q apart h true t = subst IsTrue (sym (put_here table has_room old new k after e q t))
+                  (dropped.room q.1 (sym (ap (λ b. b && same q.1 a) t) ∙ apart) (subst IsTrue (there table has_room old k before is q t) h))
+              room q apart h false t = subst IsTrue (sym (put_apart table has_room old new k after e q t)) h
+
+    -- a set that says nothing any more goes with its name
+    pub drops_all_in : (old left new : S) (k : K) (a : A) (same : A → A → Bool) → Drops held_at room_at (same_by R same) (k, a) old left → (after : I) →
+        row_at (table left) k ≡ Some after → ((key : A) → holds after key ≡ false) → ((key : A) → has_room after key ≡ false) →
+        table new ≡ remove (table left) k → Drops held_at room_at (same_by R same) (k, a) old new
+    drops_all_in old left new k a same dropped after is nothing no_room e = record {
+      held = λ q. held q (eq_by_cmp R q.0 k) refl ∙ dropped.held q;
+      room = λ q apart h. room q (dropped.room q apart h) (eq_by_cmp R q.0 k) refl;
+      gone = λ q t. gone_here table has_room left new k e q (first_of_both (eq_by_cmp R q.0 k) (same q.1 a) t);
+    }
+      where
+        held : (q : K × A) (b : Bool) → eq_by_cmp R q.0 k ≡ b → held_at new q ≡ held_at left q
+        held q true t = gone_here table holds left new k e q t ∙ sym (there table holds left k after is q t ∙ nothing q.1)
+        held q false t = gone_apart table holds left new k e q t
+
+        room : (q : K × A) → IsTrue (room_at left q) → (b : Bool) → eq_by_cmp R q.0 k ≡ b → IsTrue (room_at new q)
+        room q h true t = not_true (subst IsTrue (there table has_room left k after is q t ∙ no_room q.1) h)
+        room q h false t = subst IsTrue (sym (gone_apart table has_room left new k e q t)) h
+
+    -- where there is no set, nothing goes
+    pub drops_none_in : (s : S) (k : K) (a : A) (same : A → A → Bool) → row_at (table s) k ≡ None → Drops held_at room_at (same_by R same) (k, a) s s
+    drops_none_in s k a same none = record {
+      held = λ q. held q (eq_by_cmp R q.0 k) refl;
+      room = λ q apart h. h;
+      gone = λ q t. at_row table has_room s q None
+          (ap (row_at (table s)) (tied one q.0 k (first_of_both (eq_by_cmp R q.0 k) (same q.1 a) t)) ∙ none);
+    }
+      where
+        held : (q : K × A) (b : Bool) → eq_by_cmp R q.0 k ≡ b → held_at s q ≡ (not (eq_by_cmp R q.0 k && same q.1 a) && held_at s q)
+        held q true t = nothing ∙ sym (by (not (eq_by_cmp R q.0 k && same q.1 a)) ∙ refl)
+          where
+            nothing : held_at s q ≡ false
+            nothing = at_row table holds s q None (ap (row_at (table s)) (tied one q.0 k t) ∙ none)
+
+            by : (b : Bool) → (b && held_at s q) ≡ false
+            by true = nothing
+            by false = refl
+        held q false t = λ i. not (sym t i && same q.1 a) && held_at s q
+
+-- ---- tables by name
 
 module _ {S I A : Type 0} (table : S → ByName (Option I)) (says : I → A → Bool) where
-  abbrev at : S → Name × A → Bool
-  at s = at_name says (table s)
-
-  at_row : (s : S) (q : Name × A) (r : Option I) → row_at (table s) q.0 ≡ r → at s q ≡ option_map_or (λ set. says set q.1) r false
-  at_row s q r is = ap (λ r. option_map_or (λ set. says set q.1) r false) is
-
-  there : (s : S) (k : Name) (set : I) → row_at (table s) k ≡ Some set → (q : Name × A) → same_name q.0 k ≡ true → at s q ≡ says set q.1
-  there s k set is q t = at_row s q (Some set) (ap (row_at (table s)) (tied one_name q.0 k t) ∙ is)
-
-  put_here : (old new : S) (k : Name) (set : I) → table new ≡ insert (table old) k (Some set) → (q : Name × A) → same_name q.0 k ≡ true → at new q ≡
-      says set q.1
-  put_here old new k set e q t = at_row new q (Some set)
-      (ap (λ m. row_at m q.0) e ∙ row-insert names (table old) k (Some set) q.0 ∙ ap (λ b. cond b (Some set) (row_at (table old) q.0)) t)
-
-  put_apart : (old new : S) (k : Name) (set : I) → table new ≡ insert (table old) k (Some set) → (q : Name × A) → same_name q.0 k ≡ false → at new q ≡
-      at old q
-  put_apart old new k set e q t = at_row new q (row_at (table old) q.0)
-      (ap (λ m. row_at m q.0) e ∙ row-insert names (table old) k (Some set) q.0 ∙ ap (λ b. cond b (Some set) (row_at (table old) q.0)) t)
-
-  gone_here : (old new : S) (k : Name) → table new ≡ remove (table old) k → (q : Name × A) → same_name q.0 k ≡ true → at new q ≡ false
-  gone_here old new k e q t = at_row new q None
-      (ap (λ m. row_at m q.0) e ∙ row-remove names (table old) k q.0 ∙ ap (λ b. cond b None (row_at (table old) q.0)) t)
-
-  gone_apart : (old new : S) (k : Name) → table new ≡ remove (table old) k → (q : Name × A) → same_name q.0 k ≡ false → at new q ≡ at old q
-  gone_apart old new k e q t = at_row new q (row_at (table old) q.0)
-      (ap (λ m. row_at m q.0) e ∙ row-remove names (table old) k q.0 ∙ ap (λ b. cond b None (row_at (table old) q.0)) t)
-
-  -- a vacant slot says nothing
-  pub slot_made_says : (old new : S) (k : Name) → table new ≡ with_slot (table old) k → (q : Name × A) → at new q ≡ at old q
-  slot_made_says old new k e q = at_row new q (row_at (table old) q.0) (ap (λ m. row_at m q.0) e ∙ row-with_slot names one_name (table old) k q.0)
-
   -- where all slots are gone, nothing is said
-  pub says_nothing : (s : S) → table s ≡ empty → (q : Name × A) → at s q ≡ false
-  says_nothing s e q = at_row s q None (ap (λ m. row_at m q.0) e ∙ ap flat (get-empty name_cmp q.0))
-
--- ---- what a change of one set leaves of all
+  pub says_nothing : (s : S) → table s ≡ empty → (q : Name × A) → at_name says (table s) q ≡ false
+  says_nothing = nothing_in names one_name table says
 
 module _ {S I A : Type 0} (table : S → ByName (Option I)) (holds has_room : I → A → Bool) where
-  abbrev held_at : S → Name × A → Bool
-  held_at s = at_name holds (table s)
+  abbrev named_held : S → Name × A → Bool
+  named_held s = at_name holds (table s)
 
-  abbrev room_at : S → Name × A → Bool
-  room_at s = at_name has_room (table s)
+  abbrev named_room : S → Name × A → Bool
+  named_room s = at_name has_room (table s)
 
-  -- a set that says nothing, where none was
   pub begun : (old made new : S) (k : Name) (set : I) → table made ≡ with_slot (table old) k → row_at (table made) k ≡ None →
-      ((key : A) → holds set key ≡ false) → table new ≡ insert (table made) k (Some set) → Keeps held_at room_at old new
-  begun old made new k set e none nothing f = record { held = λ q. held q (same_name q.0 k) refl; room = λ q h. room q h (same_name q.0 k) refl }
-    where
-      nowhere : (says : I → A → Bool) (q : Name × A) → same_name q.0 k ≡ true → at_name says (table old) q ≡ false
-      nowhere says q t = sym (slot_made_says table says old made k e q) ∙ at_row table says made q None (ap (row_at (table made)) (tied one_name q.0 k t)
-          ∙ none)
+      ((key : A) → holds set key ≡ false) → table new ≡ insert (table made) k (Some set) → Keeps named_held named_room old new
+  begun = begun_in names one_name table holds has_room
 
-      held : (q : Name × A) (b : Bool) → same_name q.0 k ≡ b → held_at new q ≡ held_at old q
-      held q true t = put_here table holds made new k set f q t ∙ nothing q.1 ∙ sym (nowhere holds q t)
-      held q false t = put_apart table holds made new k set f q t ∙ slot_made_says table holds old made k e q
+  pub only_slot : (old made : S) (k : Name) → table made ≡ with_slot (table old) k → Keeps named_held named_room old made
+  only_slot = only_slot_in names one_name table holds has_room
 
-      room : (q : Name × A) → IsTrue (room_at old q) → (b : Bool) → same_name q.0 k ≡ b → IsTrue (room_at new q)
-      room q h true t = not_true (subst IsTrue (nowhere has_room q t) h)
-      room q h false t = subst IsTrue (sym (put_apart table has_room made new k set f q t ∙ slot_made_says table has_room old made k e q)) h
+  module _ (old new : S) (k : Name) (before after : I) (is : row_at (table old) k ≡ Some before) (e : table new ≡ insert (table old) k (Some after)) where
+    pub keeps_at : Keeps holds has_room before after → Keeps named_held named_room old new
+    keeps_at = keeps_in names one_name table holds has_room old new k before after is e
 
-  pub only_slot : (old made : S) (k : Name) → table made ≡ with_slot (table old) k → Keeps held_at room_at old made
-  only_slot old made k e = record {
-    held = slot_made_says table holds old made k e;
-    room = λ q h. subst IsTrue (sym (slot_made_says table has_room old made k e q)) h;
-  }
+    pub room_here : (a : A) → IsTrue (has_room after a) → IsTrue (named_room new (k, a))
+    room_here = room_in names one_name table holds has_room old new k before after is e
 
-  module _ (old new : S) (k : Name) (before after : I) (is : row_at (table old) k ≡ Some before) where
-    module _ (e : table new ≡ insert (table old) k (Some after)) where
-      pub keeps_at : Keeps holds has_room before after → Keeps held_at room_at old new
-      keeps_at kept = record { held = λ q. held q (same_name q.0 k) refl; room = λ q h. room q h (same_name q.0 k) refl }
-        where
-          held : (q : Name × A) (b : Bool) → same_name q.0 k ≡ b → held_at new q ≡ held_at old q
-          held q true t = put_here table holds old new k after e q t ∙ kept.held q.1 ∙ sym (there table holds old k before is q t)
-          held q false t = put_apart table holds old new k after e q t
+    pub adds_at : (same : A → A → Bool) (a : A) → Adds holds has_room same a before after → Adds named_held named_room (same_at same) (k, a) old new
+    adds_at = adds_in names one_name table holds has_room old new k before after is e
 
-          room : (q : Name × A) → IsTrue (room_at old q) → (b : Bool) → same_name q.0 k ≡ b → IsTrue (room_at new q)
-          room q h true t = subst IsTrue (sym (put_here table has_room old new k after e q t))
-              (kept.room q.1 (subst IsTrue (there table has_room old k before is q t) h))
-          room q h false t = subst IsTrue (sym (put_apart table has_room old new k after e q t)) h
+    pub drops_at : (same : A → A → Bool) (a : A) → Drops holds has_room same a before after → Drops named_held named_room (same_at same) (k, a) old new
+    drops_at = drops_in names one_name table holds has_room old new k before after is e
 
-      pub room_here : (a : A) → IsTrue (has_room after a) → IsTrue (room_at new (k, a))
-      room_here a h = subst IsTrue (sym (put_here table has_room old new k after e (k, a) (same_name_refl k))) h
-
-      module _ (same : A → A → Bool) (a : A) where
-        pub adds_at : Adds holds has_room same a before after → Adds held_at room_at (same_at same) (k, a) old new
-        adds_at added = record { held = λ q. held q (same_name q.0 k) refl; room = λ q h. room q h (same_name q.0 k) refl }
-          where
-            held : (q : Name × A) (b : Bool) → same_name q.0 k ≡ b → held_at new q ≡ ((same_name q.0 k && same q.1 a) || held_at old q)
-            held q true t = put_here table holds old new k after e q t ∙ added.held q.1
-                ∙ (λ i. (sym t i && same q.1 a) || sym (there table holds old k before is q t) i)
-            held q false t = put_apart table holds old new k after e q t ∙ (λ i. (sym t i && same q.1 a) || held_at old q)
-
-            room : (q : Name × A) → IsTrue (room_at old q) → (b : Bool) → same_name q.0 k ≡ b → IsTrue (room_at new q)
-            room q h true t = subst IsTrue (sym (put_here table has_room old new k after e q t))
-                (added.room q.1 (subst IsTrue (there table has_room old k before is q t) h))
-            room q h false t = subst IsTrue (sym (put_apart table has_room old new k after e q t)) h
-
-        pub vacates_at : Vacates holds has_room same a before after → Vacates held_at room_at (same_at same) (k, a) old new
-        vacates_at vacated = record { held = λ q. held q (same_name q.0 k) refl; room = λ q h. room q h (same_name q.0 k) refl }
-          where
-            held : (q : Name × A) (b : Bool) → same_name q.0 k ≡ b → held_at new q ≡ (not (same_name q.0 k && same q.1 a) && held_at old q)
-            held q true t = put_here table holds old new k after e q t ∙ vacated.held q.1
-                ∙ (λ i. not (sym t i && same q.1 a) && sym (there table holds old k before is q t) i)
-            held q false t = put_apart table holds old new k after e q t ∙ (λ i. not (sym t i && same q.1 a) && held_at old q)
-
-            room : (q : Name × A) → IsTrue (room_at old q) → (b : Bool) → same_name q.0 k ≡ b → IsTrue (room_at new q)
-            room q h true t = subst IsTrue (sym (put_here table has_room old new k after e q t))
-                (vacated.room q.1 (subst IsTrue (there table has_room old k before is q t) h))
-            room q h false t = subst IsTrue (sym (put_apart table has_room old new k after e q t)) h
-
-        pub drops_at : Drops holds has_room same a before after → Drops held_at room_at (same_at same) (k, a) old new
-        drops_at dropped = record {
-          held = λ q. held q (same_name q.0 k) refl;
-          room = λ q apart h. room q apart h (same_name q.0 k) refl;
-          gone = λ q t. put_here table has_room old new k after e q (first_of_both (same_name q.0 k) (same q.1 a) t)
-              ∙ dropped.gone q.1 (second_of_both (same_name q.0 k) (same q.1 a) t);
-        }
-          where
-            held : (q : Name × A) (b : Bool) → same_name q.0 k ≡ b → held_at new q ≡ (not (same_name q.0 k && same q.1 a) && held_at old q)
-            held q true t = put_here table holds old new k after e q t ∙ dropped.held q.1
-                ∙ (λ i. not (sym t i && same q.1 a) && sym (there table holds old k before is q t) i)
-            held q false t = put_apart table holds old new k after e q t ∙ (λ i. not (sym t i && same q.1 a) && held_at old q)
-
-            room : (q : Name × A) → (same_name q.0 k && same q.1 a) ≡ false → IsTrue (room_at old q) → (b : Bool) → same_name q.0 k ≡ b →
-                IsTrue (room_at new q)
-            room q apart h true t = subst IsTrue (sym (put_here table has_room old new k after e q t))
-                (dropped.room q.1 (sym (ap (λ b. b && same q.1 a) t) ∙ apart) (subst IsTrue (there table has_room old k before is q t) h))
-            room q apart h false t = subst IsTrue (sym (put_apart table has_room old new k after e q t)) h
-
-  -- a set that says nothing any more goes with its name
-  pub drops_all : (old left new : S) (k : Name) (a : A) (same : A → A → Bool) → Drops held_at room_at (same_at same) (k, a) old left → (after : I) →
+  pub drops_all : (old left new : S) (k : Name) (a : A) (same : A → A → Bool) → Drops named_held named_room (same_at same) (k, a) old left → (after : I) →
       row_at (table left) k ≡ Some after → ((key : A) → holds after key ≡ false) → ((key : A) → has_room after key ≡ false) →
-      table new ≡ remove (table left) k → Drops held_at room_at (same_at same) (k, a) old new
-  drops_all old left new k a same dropped after is nothing no_room e = record {
-    held = λ q. held q (same_name q.0 k) refl ∙ dropped.held q;
-    room = λ q apart h. room q (dropped.room q apart h) (same_name q.0 k) refl;
-    gone = λ q t. gone_here table has_room left new k e q (first_of_both (same_name q.0 k) (same q.1 a) t);
-  }
-    where
-      held : (q : Name × A) (b : Bool) → same_name q.0 k ≡ b → held_at new q ≡ held_at left q
-      held q true t = gone_here table holds left new k e q t ∙ sym (there table holds left k after is q t ∙ nothing q.1)
-      held q false t = gone_apart table holds left new k e q t
+      table new ≡ remove (table left) k → Drops named_held named_room (same_at same) (k, a) old new
+  drops_all = drops_all_in names one_name table holds has_room
 
-      room : (q : Name × A) → IsTrue (room_at left q) → (b : Bool) → same_name q.0 k ≡ b → IsTrue (room_at new q)
-      room q h true t = not_true (subst IsTrue (there table has_room left k after is q t ∙ no_room q.1) h)
-      room q h false t = subst IsTrue (sym (gone_apart table has_room left new k e q t)) h
-
-  -- where there is no set, nothing goes
-  pub drops_none : (s : S) (k : Name) (a : A) (same : A → A → Bool) → row_at (table s) k ≡ None → Drops held_at room_at (same_at same) (k, a) s s
-  drops_none s k a same none = record {
-    held = λ q. held q (same_name q.0 k) refl;
-    room = λ q apart h. h;
-    gone = λ q t. at_row table has_room s q None
-        (ap (row_at (table s)) (tied one_name q.0 k (first_of_both (same_name q.0 k) (same q.1 a) t)) ∙ none);
-  }
-    where
-      held : (q : Name × A) (b : Bool) → same_name q.0 k ≡ b → held_at s q ≡ (not (same_name q.0 k && same q.1 a) && held_at s q)
-      held q true t = nothing ∙ sym (by (not (same_name q.0 k && same q.1 a)) ∙ refl)
-        where
-          nothing : held_at s q ≡ false
-          nothing = at_row table holds s q None (ap (row_at (table s)) (tied one_name q.0 k t) ∙ none)
-
-          by : (b : Bool) → (b && held_at s q) ≡ false
-          by true = nothing
-          by false = refl
-      held q false t = λ i. not (sym t i && same q.1 a) && held_at s q
-
-  pub vacates_none : (s : S) (k : Name) (a : A) (same : A → A → Bool) → row_at (table s) k ≡ None → Vacates held_at room_at (same_at same) (k, a) s s
-  vacates_none s k a same none = record { held = λ q. (drops_none s k a same none).held q; room = λ q h. h }
+  pub drops_none : (s : S) (k : Name) (a : A) (same : A → A → Bool) → row_at (table s) k ≡ None → Drops named_held named_room (same_at same) (k, a) s s
+  drops_none = drops_none_in names one_name table holds has_room
 
 -- ---- one change after another
 

@@ -1,11 +1,16 @@
 pub mod Applying
+pub mod AtBound
 pub mod Counted
 pub mod Levels
 pub mod Mapped
+pub mod NextRow
 pub mod Ordered
 pub mod Over
+pub mod Passing
 pub mod Places
+pub mod Queued
 pub mod Queues
+pub mod RoomLeft
 pub mod Summed
 pub mod Tables
 pub mod Viewing

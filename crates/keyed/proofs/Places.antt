@@ -8,7 +8,7 @@ use Rattle.std.specs.declared.cmp.Ordering.TheVariants.{Less, Equal, Greater}
 use Rattle.std.specs.Ordering.{eq_by_cmp, is_eq, ordering_reverse}
 use Rattle.std.specs.Cmp.{IsTotalOrder}
 use Rattle.std.specs.FinMap.Entries.{find, put, by_order, is_sorted, below_all, is_sorted-put}
-use Rattle.keyed.specs.Slots.{Stands, Belongs, without}
+use Rattle.keyed.specs.Slots.{Passed, Stands, Belongs, without}
 use Rattle.ns_types.proofs.Tables.{less_by}
 use Rattle.ns_types.proofs.Tests.{first, second}
 use Rattle.keyed.proofs.Ordered.{kept, is_sorted-filter, not_there, not_left}
@@ -21,10 +21,6 @@ module _ {K : Type 0} (R : K → K → Ordering) (o : IsTotalOrder R) where
   back x y t = o.antisymm y x ∙ ap ordering_reverse t
 
 module _ {K X : Type 0} (R : K → K → Ordering) where
-  -- the key is above those of the entries before n
-  abbrev pub Passed : K → List (K × X) → ℕ → Type 0
-  Passed k es n = (j : ℕ) (d : K × X) → j < n → j < length es → R k (get_or es j d).0 ≡ Greater
-
   -- the key is below those of the entries from n on
   abbrev pub Ahead : K → List (K × X) → ℕ → Type 0
   Ahead k es n = (j : ℕ) (d : K × X) → n ≤ j → j < length es → R k (get_or es j d).0 ≡ Less
@@ -34,7 +30,7 @@ module _ {K X : Type 0} (R : K → K → Ordering) where
   below_at x (e ∷ es) zero d h l = less_by _ (first _ _ h)
   below_at x (e ∷ es) (suc i) d h l = below_at x es i d (second _ _ h) (omega arith)
 
-  rises : (es : List (K × X)) (i j : ℕ) (c d : K × X) → T (is_sorted R es) → i < j → j < length es → R (get_or es i c).0 (get_or es j d).0 ≡ Less
+  pub rises : (es : List (K × X)) (i j : ℕ) (c d : K × X) → T (is_sorted R es) → i < j → j < length es → R (get_or es i c).0 (get_or es j d).0 ≡ Less
   rises [] i j c d s l m = absurd (omega arith)
   rises (e ∷ es) i zero c d s l m = absurd (omega arith)
   rises (e ∷ es) zero (suc j) c d s l m = below_at e.0 es j d (first _ _ s) (omega arith)
@@ -54,7 +50,8 @@ module _ {K X : Type 0} (R : K → K → Ordering) where
             o.trans k (get_or es m c).0 (get_or es j d).0 t (rises es m j c d s further lt)
 
     -- above an entry, and so above those before it
-    pub passed_by : (k : K) (es : List (K × X)) (m : ℕ) (c : K × X) → T (is_sorted R es) → m < length es → R k (get_or es m c).0 ≡ Greater → Passed k es (m + 1)
+    pub passed_by : (k : K) (es : List (K × X)) (m : ℕ) (c : K × X) → T (is_sorted R es) → m < length es → R k (get_or es m c).0 ≡ Greater →
+        Passed R k es (m + 1)
     passed_by k es m c s l t j d lt in_es = or_before (nat_eq j m) refl
       where
         or_before : (b : Bool) → nat_eq j m ≡ b → R k (get_or es j d).0 ≡ Greater
@@ -76,6 +73,10 @@ module _ {K X : Type 0} (R : K → K → Ordering) where
     left_sorted : (k : K) (es : List (K × X)) → T (is_sorted R es) → T (is_sorted R (without R k es))
     left_sorted k es s = is_sorted-filter R (λ e. not (eq_by_cmp R k e.0)) es s
 
+    one_more : (k : K) (e : K × X) (es : List (K × X)) (i : ℕ) → R k e.0 ≡ Greater → Passed R k es i → Passed R k (e ∷ es) (suc i)
+    one_more k e es i before rest zero d lt in_es = before
+    one_more k e es i before rest (suc j) d lt in_es = rest j d (omega arith) (omega arith)
+
     -- the entry of a key stands where an entry's key ties
     pub stands : (k : K) (es : List (K × X)) (i : ℕ) (d : K × X) → T (is_sorted R es) → i < length es → R k (get_or es i d).0 ≡ Equal → Stands R k es i
     stands k [] i d s l t = absurd (omega arith)
@@ -86,6 +87,7 @@ module _ {K X : Type 0} (R : K → K → Ordering) where
       without_is = sym (ap (λ r. cond (not (is_eq r)) (e ∷ without R k es) (without R k es)) t ∙ (not_left R o k e es s t).1);
       put_sorted = λ v. is_sorted-put R o k v (e ∷ es) s;
       without_sorted = left_sorted k (e ∷ es) s;
+      passed = λ j c lt in_es. absurd (omega arith);
     }
     stands k (e ∷ es) (suc i) d s l t =
         let before : R k e.0 ≡ Greater = o.congr k (get_or es i d).0 e.0 t ∙ turned R o _ _ (below_at e.0 es i d (first _ _ s) (omega arith)) in
@@ -97,11 +99,19 @@ module _ {K X : Type 0} (R : K → K → Ordering) where
           without_is = ap (λ fs. e ∷ fs) rest.without_is ∙ sym (kept R k e es Greater before refl);
           put_sorted = λ v. is_sorted-put R o k v (e ∷ es) s;
           without_sorted = left_sorted k (e ∷ es) s;
+          passed = one_more k e es i before rest.passed;
         }
 
     -- a key between the entries before i and those from i on belongs there
-    pub belongs : (k : K) (es : List (K × X)) (i : ℕ) → T (is_sorted R es) → i ≤ length es → Passed k es i → Ahead k es i → Belongs R k es i
-    belongs k [] zero s l p a = record { within = l; find_is = refl; put_is = λ v. refl; without_is = refl; put_sorted = λ v. is_sorted-put R o k v [] s }
+    pub belongs : (k : K) (es : List (K × X)) (i : ℕ) → T (is_sorted R es) → i ≤ length es → Passed R k es i → Ahead k es i → Belongs R k es i
+    belongs k [] zero s l p a = record {
+      within = l;
+      find_is = refl;
+      put_is = λ v. refl;
+      without_is = refl;
+      put_sorted = λ v. is_sorted-put R o k v [] s;
+      passed = p;
+    }
     belongs k [] (suc i) s l p a = absurd (omega arith)
     belongs k (e ∷ es) zero s l p a =
         let after : R k e.0 ≡ Less = a 0 e (omega arith) (omega arith) in
@@ -112,6 +122,7 @@ module _ {K X : Type 0} (R : K → K → Ordering) where
           put_is = λ v. put_here k v e es Less after;
           without_is = kept R k e es Less after refl ∙ ap (λ fs. e ∷ fs) none.1;
           put_sorted = λ v. is_sorted-put R o k v (e ∷ es) s;
+          passed = p;
         }
     belongs k (e ∷ es) (suc i) s l p a =
         let before : R k e.0 ≡ Greater = p 0 e (omega arith) (omega arith) in
@@ -123,6 +134,7 @@ module _ {K X : Type 0} (R : K → K → Ordering) where
           put_is = λ v. ap (λ fs. e ∷ fs) (rest.put_is v) ∙ put_here k v e es Greater before;
           without_is = kept R k e es Greater before refl ∙ ap (λ fs. e ∷ fs) rest.without_is;
           put_sorted = λ v. is_sorted-put R o k v (e ∷ es) s;
+          passed = p;
         }
 
 module _ {K X : Type 0} (R : K → K → Ordering) (k : K) where

@@ -1,24 +1,113 @@
--- Keys in their order, how many can be added without memory, and the set of them.
-use Rattle.std.specs.Prelude.{◌≡◌, ℕ, ◌-◌, ◌≤◌, IsTrue, List, length}
-use Rattle.std.specs.Vec.{vec_capacity, vec_len}
-use Rattle.std.specs.declared.vec.Vec.{Vec}
-use Rattle.keyed.specs.Levels.{holds_key, has_key_room}
-use Rattle.keyed.specs.declared.key_set.KeySet.{KeySet}
-use Rattle.ns_types.specs.State.Names.{Key, has_key}
+-- Keys in their order, each at a place, and which can be added without memory.
+use Rattle.std.specs.Prelude.{◌≡◌, ℕ, ◌+◌, ◌<◌, ◌≤◌, ◌^◌, Bool, false, IsTrue, List, [], ◌∷◌}
+use Rattle.std.specs.Prelude.{cond, filter, map, Option, Some, None}
+use Rattle.std.specs.FinMap.{entries}
+use Rattle.std.specs.Option.{option_map_or}
+use Rattle.keyed.specs.Levels.{Adds, Drops, Keeps, has_place_room, holds_place, same_place}
+use Rattle.keyed.specs.Table.{KeepsSlots, has_slot, row_at, row_list}
+use Rattle.keyed.specs.declared.key_places.KeyPlaces.{KeyPlaces}
+use Rattle.keyed.specs.declared.place_set.PlaceSet.{PlaceSet}
+use Rattle.ns_types.specs.State.Names.{Key, Name, has_key, same_key, same_number}
+
+-- ---- the keys
+
+-- the keys of slots, in their order
+abbrev pub keys_in : List (ℕ × Option Key) → List Key
+keys_in slots = map (λ e. e.1) (row_list slots)
+
+-- the key of a slot, where it passes the test
+abbrev pub passing_at : (Key → Bool) → ℕ × Option Key → List Key
+passing_at passes (place, None) = []
+passing_at passes (place, Some key) = filter passes (key ∷ [])
 
 pub record KeyQueue : Type 0 where
   pub items : List Key
-  pub room : ℕ
-  pub held : KeySet
+  -- the place that the next key gets
+  pub next : ℕ
+  pub placed : KeyPlaces
 
-abbrev pub queue_of : {A : Type 0} → Vec Key A → KeySet → KeyQueue
-queue_of v held = record { items = v.items; room = vec_capacity v - vec_len v; held = held }
+abbrev pub queue_of : ℕ → KeyPlaces → KeyQueue
+queue_of next placed =
+    record { items = keys_in (entries placed.keys); next = next; placed = placed }
 
--- the set holds the keys of the list, and no other
-abbrev pub IsSetOf : KeySet → List Key → Type 0
-IsSetOf held keys = (key : Key) → holds_key held key ≡ has_key keys key
+-- ---- room
 
--- the keys can be added without memory
-pub record CanAdd (keys : List Key) (q : KeyQueue) : Type 0 where
-  pub places : length keys ≤ q.room
-  pub slots : (key : Key) → IsTrue (has_key keys key) → IsTrue (has_key_room q.held key)
+-- a key with a place
+abbrev pub at : Key → ℕ → Name × (ℕ × ℕ)
+at key place = (key.0, (key.1, place))
+
+-- the key can be put at this place without memory
+pub record HasRoomAt (place : ℕ) (key : Key) (placed : KeyPlaces) : Type 0 where
+  pub slot : IsTrue (has_slot placed.keys place)
+  pub held : IsTrue (has_place_room placed.places (at key place))
+
+abbrev pub HasRoomFrom : ℕ → List Key → KeyPlaces → Type 0
+HasRoomFrom place [] placed = Unit {0}
+HasRoomFrom place (key ∷ keys) placed =
+    (place + 1 < 2 ^ 64) × HasRoomAt place key placed × HasRoomFrom (place + 1) keys placed
+
+-- the keys can be appended without memory
+abbrev pub CanAdd : List Key → KeyQueue → Type 0
+CanAdd keys q = HasRoomFrom q.next keys q.placed
+
+-- ---- what holds of every queue
+
+-- the key stands there
+abbrev pub is_at : Key → Option Key → Bool
+is_at key stands = option_map_or (same_key key) stands false
+
+pub record IsPlaced (first next : ℕ) (placed : KeyPlaces) : Type 0 where
+  -- the set holds a key with a place exactly where the key stands there
+  pub held : (key : Key) (n : ℕ) →
+      holds_place placed.places (at key n) ≡ is_at key (row_at placed.keys n)
+  -- the places to come are behind
+  pub behind : (n : ℕ) → next ≤ n → row_at placed.keys n ≡ None
+  -- the first is before the others, and where there is none, it is the next
+  pub before : (n : ℕ) → n < first → row_at placed.keys n ≡ None
+  pub at_first : row_at placed.keys first ≡ None → first ≡ next
+
+-- ---- what a look-up answers
+
+-- a place at which the set holds the key
+abbrev pub IsHeldAt : PlaceSet → Key → Option ℕ → Type 0
+IsHeldAt places key None = (n : ℕ) → holds_place places (at key n) ≡ false
+IsHeldAt places key (Some n) = IsTrue (holds_place places (at key n))
+
+-- a place of the key, where it is in the queue
+abbrev pub IsPlaceOf : Key → KeyQueue → Option ℕ → Type 0
+IsPlaceOf key q None = has_key q.items key ≡ false
+IsPlaceOf key q (Some n) = IsTrue (has_key q.items key) × (row_at q.placed.keys n ≡ Some key)
+
+-- ---- what a change leaves
+
+pub record KeepsKeys (old new : KeyPlaces) : Type 0 where
+  pub keys : (n : ℕ) → row_at new.keys n ≡ row_at old.keys n
+  pub slots : KeepsSlots old.keys new.keys
+  pub places : Keeps holds_place has_place_room old.places new.places
+
+pub record KeepsRoom (old new : KeyPlaces) : Type 0 where
+  pub slots : KeepsSlots old.keys new.keys
+  pub places : (key : Key) (n : ℕ) →
+      IsTrue (has_place_room old.places (at key n)) → IsTrue (has_place_room new.places (at key n))
+
+-- the key is at this place afterwards
+pub record PutsKey (place : ℕ) (key : Key) (old new : KeyPlaces) : Type 0 where
+  pub keys : (n : ℕ) → row_at new.keys n ≡ cond (same_number n place) (Some key) (row_at old.keys n)
+  pub slots : KeepsSlots old.keys new.keys
+  pub places : Adds holds_place has_place_room same_place (at key place) old.places new.places
+
+-- none is at this place afterwards
+pub record TakesKey (place : ℕ) (key : Key) (old new : KeyPlaces) : Type 0 where
+  pub keys : (n : ℕ) → row_at new.keys n ≡ cond (same_number n place) None (row_at old.keys n)
+  pub slots : KeepsSlots old.keys new.keys
+  pub places : Drops holds_place has_place_room same_place (at key place) old.places new.places
+
+-- there is no room for it at this place afterwards
+pub record ClearsRoom (place : ℕ) (key : Key) (old new : KeyPlaces) : Type 0 where
+  pub keys : (n : ℕ) → row_at new.keys n ≡ row_at old.keys n
+  pub places : Drops holds_place has_place_room same_place (at key place) old.places new.places
+
+-- the others stay, in their order
+abbrev pub LeavesOthers : Key → List Key → List Key → Type 0
+LeavesOthers key old new =
+    (passes : Key → Bool) → passes key ≡ false → filter passes new ≡ filter passes old

@@ -2,6 +2,7 @@
 use Rattle.std.specs.Prelude.{◌≡◌, ℕ, ◌<◌, ◌≤◌, T, length, Bool, cond, not, List, is_some, Result, Ok, Err, Option}
 use Rattle.std.specs.Prelude.{Some, None}
 use Rattle.std.specs.declared.cmp.Ordering.{Ordering}
+use Rattle.std.specs.declared.cmp.Ordering.TheVariants.{Greater}
 use Rattle.std.specs.Ordering.{eq_by_cmp}
 use Rattle.std.specs.List.{filter, insert, remove}
 use Rattle.std.proofs.Common.{get_or, set}
@@ -19,6 +20,10 @@ module _ {K V : Type 0} (R : K → K → Ordering) where
   IsTable es filled = T (is_sorted R es) × (filled ≡ length (row_list es))
 
 module _ {K X : Type 0} (R : K → K → Ordering) where
+  -- the key is above those of the entries before n
+  abbrev pub Passed : K → List (K × X) → ℕ → Type 0
+  Passed k es n = (j : ℕ) (d : K × X) → j < n → j < length es → R k (get_or es j d).0 ≡ Greater
+
   -- the entry of the key stands at i
   pub record Stands (k : K) (es : List (K × X)) (i : ℕ) : Type 0 where
     pub within : i < length es
@@ -27,6 +32,7 @@ module _ {K X : Type 0} (R : K → K → Ordering) where
     pub without_is : remove es i ≡ without R k es
     pub put_sorted : (v : X) → T (is_sorted R (put R k v es))
     pub without_sorted : T (is_sorted R (without R k es))
+    pub passed : Passed k es i
 
   -- no entry has the key, which belongs at i
   pub record Belongs (k : K) (es : List (K × X)) (i : ℕ) : Type 0 where
@@ -35,6 +41,7 @@ module _ {K X : Type 0} (R : K → K → Ordering) where
     pub put_is : (v : X) → insert es i (k, v) ≡ put R k v es
     pub without_is : without R k es ≡ es
     pub put_sorted : (v : X) → T (is_sorted R (put R k v es))
+    pub passed : Passed k es i
 
   -- what a search for the key found
   abbrev pub Placed : K → List (K × X) → Result ℕ ℕ → Type 0

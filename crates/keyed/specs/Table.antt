@@ -1,5 +1,6 @@
 -- Words on tables: finite maps from keys to slots. A slot has a row, or is vacant: room for a row.
-use Rattle.std.specs.Prelude.{IsTrue, Bool, false, cond, List, [], ◌∷◌, is_some, Option, Some, None}
+use Rattle.std.specs.Prelude.{◌≡◌, ℕ, ◌<◌, ◌≤◌, IsTrue, Bool, false, cond, List, [], ◌∷◌, is_some, Option, Some, None}
+use Rattle.std.specs.Ordering.{nat_cmp}
 use Rattle.std.specs.declared.cmp.Ordering.{Ordering}
 use Rattle.std.specs.FinMap.{contains_key, entries, FinMap, from_sorted, get, insert, remove}
 
@@ -51,3 +52,10 @@ module _ {K V : Type 0} {R : K → K → Ordering} where
   -- no room is lost
   abbrev pub KeepsSlots : FinMap R (Option V) → FinMap R (Option V) → Type 0
   KeepsSlots old new = (k : K) → IsTrue (has_slot old k) → IsTrue (has_slot new k)
+
+module _ {V : Type 0} where
+  -- the first row from the number on
+  abbrev pub IsNextRow : FinMap nat_cmp (Option V) → ℕ → Option ℕ → Type 0
+  IsNextRow m from None = (n : ℕ) → from ≤ n → row_at m n ≡ None
+  IsNextRow m from (Some k) =
+      (from ≤ k) × IsTrue (is_some (row_at m k)) × ((n : ℕ) → from ≤ n → n < k → row_at m n ≡ None)

@@ -1,75 +1,43 @@
 //! Keys in their order.
 
-ghost use Rattle.std.specs.Prelude.{◌≡◌, ◌+◌, ◌<◌, ◌≤◌, ◌++◌, ◌∷◌, [], ◌&&◌, IsTrue, OnOk, filter, not};
-ghost use Rattle.keyed.specs.Levels.{has_key_room, holds_key};
-ghost use Rattle.keyed.specs.Queue.{CanAdd};
-ghost use Rattle.ns_types.specs.State.Names.{Key, has_key};
+ghost use Rattle.std.specs.Prelude.{◌≡◌, ◌+◌, ◌<◌, ◌≤◌, ◌^◌, ◌++◌, ◌∷◌, [], Bool, List, OnOk};
+ghost use Rattle.std.specs.Prelude.{Some, filter, length, not, option_copied, slice_get};
+ghost use Rattle.keyed.specs.Queue.{CanAdd, HasRoomAt, IsPlaceOf, KeepsRoom, LeavesOthers, keys_in};
+ghost use Rattle.keyed.specs.Table.{row_at};
+ghost use Rattle.ns_types.specs.State.Lists.{is_empty};
+ghost use Rattle.ns_types.specs.State.Names.{Key, has_key, same_key};
 
-use crate::key_set::KeySet;
-use ns_alike::has_key;
+use crate::key_places::KeyPlaces;
 use ns_types::key::EvalKey;
 use ns_types::rows::Rows;
 use ns_types::text::Text;
 use std::alloc::{AllocError, Global};
 use std::marker::Model;
 
-/// How many keys cost less to compare with than a look-up in the set does.
-const FEW: usize = 4;
-
-/// Keys in their order, with room for more, which is made before it is needed. Whether it has a key is asked of the set
-/// of its keys.
+/// Keys in their order, with room for more, which is made before it is needed. Each has a place, a number that rises
+/// along the queue and is given once; a key may stand at several. The places of a key are looked up.
 #[derive(Drop)]
 pub struct KeyQueue {
     alloc: Global,
-    keys: Vec<EvalKey>,
-    held: KeySet,
+    /// The place of the first key; the next place where there is none.
+    first: u64,
+    /// The place that the next key gets.
+    next: u64,
+    placed: KeyPlaces,
 }
 
 impl Model for KeyQueue {
-    ghost use Rattle.keyed.specs.Queue.{IsSetOf, KeyQueue, queue_of};
-    ghost use Rattle.keyed.specs.contracts.key_set.KeySet as set;
+    ghost use Rattle.keyed.specs.Queue.{IsPlaced, KeyQueue, queue_of};
+    ghost use Rattle.keyed.specs.contracts.key_places.KeyPlaces as table;
     ghost use Rattle.std.specs.Coded.{codes};
 
     ghost Value = { KeyQueue };
 
-    ghost coded = { Prim.hlevel (codes, set.the_row.coded) };
+    ghost coded = { Prim.hlevel (codes, table.the_row.coded) };
 
-    ghost view = { λ q. queue_of q.keys q.held };
+    ghost view = { λ q. queue_of q.next q.placed };
 
-    ghost invariant = { λ q. IsSetOf q.held q.keys.items };
-}
-
-/// Takes the keys out of the set, and keeps room for them.
-fn vacate_all(held: &mut KeySet, keys: &[EvalKey])
-    ensures held { (key : Key) → holds_key held.new key
-        ≡ (not (has_key keys.now key) && holds_key held.old key) }
-    ensures room { (key : Key) → IsTrue (has_key_room held.old key)
-        → IsTrue (has_key_room held.new key) }
-{
-    for key in keys {
-        held.vacate(key.namespace(), key.number());
-    }
-}
-
-/// Makes room for the keys in the set.
-fn reserve_all(held: &mut KeySet, alloc: Global, keys: &[EvalKey]) -> Result<(), AllocError>
-    ensures held { (key : Key) → holds_key held.new key ≡ holds_key held.old key }
-    ensures ok { OnOk result ((key : Key) → IsTrue (has_key keys.now key)
-        → IsTrue (has_key_room held.new key)) }
-{
-    for key in keys {
-        held.reserve(alloc, key.namespace(), key.number())?;
-    }
-    Ok(())
-}
-
-/// Takes the room for keys that the set does not hold away again.
-fn clear_all(held: &mut KeySet, keys: &[EvalKey])
-    ensures { (key : Key) → holds_key held.new key ≡ holds_key held.old key }
-{
-    for key in keys {
-        held.clear(key.namespace(), key.number());
-    }
+    ghost invariant = { λ q. IsPlaced q.first q.next q.placed };
 }
 
 impl KeyQueue {
@@ -79,47 +47,103 @@ impl KeyQueue {
     {
         KeyQueue {
             alloc,
-            keys: Vec::new(alloc),
-            held: KeySet::new(alloc),
+            first: 0,
+            next: 0,
+            placed: KeyPlaces::new(alloc),
         }
     }
 
-    pub fn as_slice(&self) -> &[EvalKey]
-        ensures { result.now ≡ self.now.items }
+    /// The places in their order, each with its key. A vacant one has none.
+    pub fn slots(&self) -> &[(u64, Option<EvalKey>)]
+        ensures { keys_in result.now ≡ self.now.items }
     {
-        self.keys.as_slice()
+        self.placed.keys.as_slice()
     }
 
-    /// Whether the key is among them: a look-up in the set.
+    /// How many keys there are. It goes through none.
+    pub fn len(&self) -> usize
+        ensures { result ≡ length self.now.items }
+    {
+        self.placed.keys.len()
+    }
+
+    pub fn is_empty(&self) -> bool
+        ensures { result ≡ is_empty self.now.items }
+    {
+        self.len() == 0
+    }
+
+    /// The first key: a look-up.
+    pub fn first(&self) -> Option<&EvalKey>
+        ensures { option_copied result ≡ slice_get self.now.items 0 }
+    {
+        self.placed.keys.get(self.first)
+    }
+
+    /// The first place of the key: a look-up.
+    fn place_of(&self, namespace: &Text, number: u64) -> Option<u64>
+        ensures { IsPlaceOf (namespace.now, number) self.now result }
+    {
+        self.placed.places.first_of(namespace, number)
+    }
+
+    /// Whether the key is among them: a look-up.
     pub fn has(&self, namespace: &Text, number: u64) -> bool
         ensures { result ≡ has_key self.now.items (namespace.now, number) }
     {
-        self.held.has(namespace, number)
+        self.place_of(namespace, number).is_some()
     }
 
-    /// Makes room for those keys. Want of memory is the only error.
+    /// Takes vacant slots away, where they are more than the keys.
+    fn compact(&mut self)
+        ensures items { self.new.items ≡ self.old.items }
+        ensures next { self.new.next ≡ self.old.next }
+    {
+        self.placed.compact();
+    }
+
+    /// Makes room for the key at this place. Want of memory is the only error.
+    fn reserve_at(&mut self, place: u64, key: &EvalKey) -> Result<(), AllocError>
+        ensures items { self.new.items ≡ self.old.items }
+        ensures next { self.new.next ≡ self.old.next }
+        ensures room { KeepsRoom self.old.placed self.new.placed }
+        ensures ok { OnOk result (HasRoomAt place key.now self.new.placed) }
+    {
+        self.placed.reserve(self.alloc, place, key)
+    }
+
+    /// Makes room for those keys. Want of memory is the only error, or of places: there are 2^64, each given once.
+    /// Where vacant slots are more than the keys, it takes them away first. Only then does it go through the keys, once
+    /// for at least as many that were taken out.
     pub fn reserve(&mut self, keys: &[EvalKey]) -> Result<(), AllocError>
         ensures items { self.new.items ≡ self.old.items }
         ensures ok { OnOk result (CanAdd keys.now self.new) }
     {
-        reserve_all(&mut self.held, self.alloc, keys)?;
-        self.keys.reserve(keys.len())
+        self.compact();
+        let mut place = self.next;
+        for key in keys {
+            if place >= u64::MAX {
+                return Err(AllocError);
+            }
+            self.reserve_at(place, key)?;
+            place += 1;
+        }
+        Ok(())
     }
 
     /// Puts a key at the end. It takes no memory.
     fn push(&mut self, key: EvalKey)
-        requires place { 0 < self.old.room }
-        requires slot { IsTrue (has_key_room self.old.held key) }
+        requires places { self.old.next + 1 < 2 ^ 64 }
+        requires room { HasRoomAt self.old.next key self.old.placed }
         ensures items { self.new.items ≡ self.old.items ++ key ∷ [] }
-        ensures room { self.old.room ≤ self.new.room + 1 }
-        ensures slots { (k : Key) → IsTrue (has_key_room self.old.held k)
-            → IsTrue (has_key_room self.new.held k) }
+        ensures next { self.new.next ≡ self.old.next + 1 }
+        ensures room { KeepsRoom self.old.placed self.new.placed }
     {
-        self.held.insert(key.namespace(), key.number());
-        self.keys.push_reserved(key);
+        self.placed.put(self.next, key);
+        self.next += 1;
     }
 
-    /// Puts those keys at the end. It takes no memory.
+    /// Puts those keys at the end. It takes no memory, and looks at no other key.
     pub fn append(&mut self, keys: Rows<EvalKey>)
         requires { CanAdd keys self.old }
         ensures { self.new.items ≡ self.old.items ++ keys }
@@ -129,31 +153,60 @@ impl KeyQueue {
         }
     }
 
-    /// Takes those keys out; room for them stays. It takes no memory, and goes through the others only where there are
-    /// keys to take out. A few keys are compared with each; of many it is looked up whether the set still has it.
-    pub fn take_out(&mut self, keys: &[EvalKey])
-        ensures items { self.new.items ≡ filter (λ key. not (has_key keys.now key)) self.old.items }
-        ensures room { self.old.room ≤ self.new.room }
-        ensures slots { (key : Key) → IsTrue (has_key_room self.old.held key)
-            → IsTrue (has_key_room self.new.held key) }
+    /// Takes that key out of this place. Where it was the first, it goes on over the vacant slots to the next one that
+    /// has a key, and so over each slot once.
+    fn take_at(&mut self, place: u64, key: &EvalKey)
+        requires { row_at self.old.placed.keys place ≡ Some key.now }
+        ensures items { LeavesOthers key.now self.old.items self.new.items }
+        ensures fewer { length self.new.items < length self.old.items }
+        ensures room { (more : List Key) → CanAdd more self.old → CanAdd more self.new }
     {
-        if keys.is_empty() {
-            return;
-        }
-        vacate_all(&mut self.held, keys);
-        if keys.len() <= FEW {
-            self.keys.retain(|key| !has_key(keys, key));
-        } else {
-            let held = &self.held;
-            self.keys
-                .retain(|key| held.has(key.namespace(), key.number()));
+        self.placed.take(place, key);
+        if place == self.first {
+            self.first = self.placed.keys.next_row(place).unwrap_or(self.next);
         }
     }
 
-    /// Takes room for those keys away again. Those that are in stay.
+    /// Takes that key out, wherever it stands.
+    fn take_key(&mut self, key: &EvalKey)
+        ensures items { self.new.items ≡ filter (λ k. not (same_key k key.now)) self.old.items }
+        ensures room { (more : List Key) → CanAdd more self.old → CanAdd more self.new }
+    {
+        while let Some(place) = self.place_of(key.namespace(), key.number()) {
+            self.take_at(place, key);
+        }
+    }
+
+    /// Takes those keys out; room for others stays. It takes no memory, and looks at no other key: the slot of each that
+    /// is taken stays, vacant, and its places go from those of its namespace.
+    pub fn take_out(&mut self, keys: &[EvalKey])
+        ensures items { self.new.items ≡ filter (λ key. not (has_key keys.now key)) self.old.items }
+        ensures room { (more : List Key) → CanAdd more self.old → CanAdd more self.new }
+    {
+        for key in keys {
+            self.take_key(key);
+        }
+    }
+
+    /// Takes the room for the key at this place away again.
+    fn clear_at(&mut self, place: u64, key: &EvalKey)
+        requires { self.old.next ≤ place }
+        ensures items { self.new.items ≡ self.old.items }
+        ensures next { self.new.next ≡ self.old.next }
+    {
+        self.placed.clear(place, key);
+    }
+
+    /// Takes room for those keys away again, which `reserve` made. It looks at no other key.
     pub fn clear_room(&mut self, keys: &[EvalKey])
         ensures { self.new.items ≡ self.old.items }
     {
-        clear_all(&mut self.held, keys);
+        let mut place = self.next;
+        for key in keys {
+            self.clear_at(place, key);
+            if place < u64::MAX {
+                place += 1;
+            }
+        }
     }
 }

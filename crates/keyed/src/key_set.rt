@@ -2,7 +2,7 @@
 
 ghost use Rattle.std.specs.Prelude.{◌≡◌, IsTrue, OnOk, is_some, option_copied};
 ghost use Rattle.std.specs.FinMap.{empty, entries};
-ghost use Rattle.keyed.specs.Levels.{Adds, Drops, Keeps, Vacates, holds_key, has_key_room};
+ghost use Rattle.keyed.specs.Levels.{Adds, Drops, Keeps, holds_key, has_key_room};
 ghost use Rattle.keyed.specs.Table.{row_at};
 ghost use Rattle.ns_types.specs.State.Names.{Key, same_key};
 
@@ -102,15 +102,6 @@ impl KeySet {
         numbers.remove(number);
         if numbers.as_slice().is_empty() {
             self.numbers.remove(name);
-        }
-    }
-
-    /// Holds the key no longer, and keeps room for it. It takes no memory.
-    pub fn vacate(&mut self, name: &Text, number: u64)
-        ensures { Vacates holds_key has_key_room same_key (name.now, number) self.old self.new }
-    {
-        if let Some(numbers) = self.numbers.get_mut(name) {
-            numbers.take(number);
         }
     }
 

@@ -3,10 +3,14 @@
 //! they have.
 #![tactic(auto)]
 
+mod key_places;
 mod key_queue;
 mod key_set;
 mod names;
+mod number_places;
 mod numbers;
+mod owner_table;
+mod place_set;
 mod series;
 mod slots;
 
@@ -14,4 +18,5 @@ pub use key_queue::KeyQueue;
 pub use key_set::KeySet;
 pub use names::NameTable;
 pub use numbers::NumberTable;
+pub use owner_table::{Bounded, OwnerTable};
 pub use series::Series;

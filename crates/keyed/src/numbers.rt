@@ -3,8 +3,9 @@ ghost use Rattle.std.specs.Prelude.{◌≡◌, ℕ, IsTrue, T, OnOk, OnErr, is_s
 ghost use Rattle.std.specs.FinMap.{empty, entries, from_sorted, get, insert, len, remove};
 ghost use Rattle.std.specs.FinMap.Entries.{is_sorted};
 ghost use Rattle.std.specs.Ordering.{nat_cmp};
-ghost use Rattle.keyed.specs.Table.{rows, row_at, has_slot, with_slot, emptied, without_vacant};
+ghost use Rattle.keyed.specs.Table.{IsNextRow, rows, row_at, has_slot, with_slot, emptied, without_vacant};
 ghost use Rattle.keyed.specs.Over.{HasRoomFor, over};
+ghost use Rattle.keyed.specs.Slots.{Passed};
 
 use crate::slots::Slots;
 use std::alloc::{AllocError, Global};
@@ -31,6 +32,23 @@ impl<V> Model for NumberTable<V> {
     ghost view = { λ t. from_sorted t.slots };
 
     ghost invariant = { λ t. T (is_sorted nat_cmp t.slots) };
+}
+
+/// The number of the first row from `from` on, where the slots before `start` have smaller numbers.
+fn row_from<V>(slots: &[(u64, Option<V>)], start: usize, from: u64) -> Option<u64>
+    requires sorted { T (is_sorted nat_cmp slots.now) }
+    requires start { Passed nat_cmp from slots.now start }
+    ensures { IsNextRow (from_sorted slots.now) from result }
+{
+    let mut place = start;
+    while place < slots.len() {
+        let slot = &slots[place];
+        if slot.0 >= from && slot.1.is_some() {
+            return Some(slot.0);
+        }
+        place += 1;
+    }
+    None
 }
 
 impl<V: Drop> NumberTable<V> {
@@ -84,6 +102,14 @@ impl<V: Drop> NumberTable<V> {
         ensures { option_copied result ≡ row_at self.now key }
     {
         self.slots.get(&key)
+    }
+
+    /// The number of the first row from `from` on. It looks up where that stands, and goes over vacant slots.
+    pub fn next_row(&self, from: u64) -> Option<u64>
+        ensures { IsNextRow self.now from result }
+    {
+        let start = self.slots.count_below(&from);
+        row_from(self.slots.as_slice(), start, from)
     }
 
     /// The slot of `key`, with its row or vacant.

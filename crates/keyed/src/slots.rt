@@ -1,7 +1,7 @@
 // Slots in the order of their keys, in a plain `Vec`.
 ghost use Rattle.std.specs.Prelude.{◌≡◌, ◌<◌, ◌≤◌, [], IsTrue, T, OnOk, OnErr, length, option_copied};
 ghost use Rattle.std.specs.FinMap.Entries.{find, put, is_sorted};
-ghost use Rattle.keyed.specs.Slots.{Placed, has_slot, with_slot, row, without, without_vacant, emptied, filled};
+ghost use Rattle.keyed.specs.Slots.{Passed, Placed, has_slot, with_slot, row, without, without_vacant, emptied, filled};
 ghost use Rattle.keyed.specs.Table.{row_list};
 
 use ns_types::text::Text;
@@ -149,6 +149,16 @@ impl<K: Ord + SlotKey + Drop, V: Drop> Slots<K, V> {
         ensures { Placed K.cmp key.now self.now result }
     {
         place_in(self.slots.as_slice(), key)
+    }
+
+    /// How many slots have smaller keys.
+    pub(crate) fn count_below(&self, key: &K) -> usize
+        ensures { Passed K.cmp key.now self.now result }
+    {
+        match self.place(key) {
+            Ok(i) => i,
+            Err(i) => i,
+        }
     }
 
     pub(crate) fn has_slot(&self, key: &K) -> bool

@@ -1,5 +1,6 @@
 use Rattle.std.proofs.Common.{◌≤◌, ◌-◌, length}
-use Rattle.keyed.proofs.Places.{Passed, Ahead}
+use Rattle.keyed.specs.Slots.{Passed}
+use Rattle.keyed.proofs.Places.{Ahead}
 use Rattle.keyed.proofs.slots.place_in.Given as goal
 
 abbrev pub decreases-loop-low : goal.decreases-loop-low

@@ -1,0 +1,95 @@
+//! Sets of numbers with places.
+
+ghost use Rattle.std.specs.Prelude.{◌≡◌, IsTrue, OnOk, is_some, option_copied};
+ghost use Rattle.std.specs.FinMap.{empty};
+ghost use Rattle.keyed.specs.Levels.{Adds, Drops, Keeps};
+ghost use Rattle.keyed.specs.Levels.{has_numbered_room, holds_numbered, same_numbered};
+ghost use Rattle.keyed.specs.Table.{row_at};
+
+use crate::numbers::NumberTable;
+use std::alloc::{AllocError, Global};
+
+/// A set of numbers with places: by number, then by place.
+#[derive(Drop)]
+pub(crate) struct NumberPlaces {
+    numbers: NumberTable<NumberTable<()>>,
+}
+
+impl NumberPlaces {
+    /// No places. It takes no memory.
+    pub(crate) fn new(alloc: Global) -> NumberPlaces
+        ensures { result.numbers ≡ empty }
+    {
+        NumberPlaces {
+            numbers: NumberTable::new(alloc),
+        }
+    }
+
+    /// Whether it holds no place and has room for none.
+    pub(crate) fn is_empty(&self) -> bool
+        ensures { IsTrue result → self.now.numbers ≡ empty }
+    {
+        self.numbers.as_slice().is_empty()
+    }
+
+    /// The places of the number. A vacant slot is none.
+    pub(crate) fn places_of(&self, number: u64) -> Option<&NumberTable<()>>
+        ensures { option_copied result ≡ row_at self.now.numbers number }
+    {
+        self.numbers.get(number)
+    }
+
+    /// Makes a table for the number, unless it is there.
+    fn open(&mut self, alloc: Global, number: u64) -> Result<(), AllocError>
+        ensures same { Keeps holds_numbered has_numbered_room self.old self.new }
+        ensures ok { OnOk result (IsTrue (is_some (row_at self.new.numbers number))) }
+    {
+        if self.numbers.get(number).is_none() {
+            self.numbers.reserve(number)?;
+            self.numbers.set(number, NumberTable::new(alloc));
+        }
+        Ok(())
+    }
+
+    /// Makes room for the place of the number. Want of memory is the only error.
+    pub(crate) fn reserve(
+        &mut self,
+        alloc: Global,
+        number: u64,
+        place: u64,
+    ) -> Result<(), AllocError>
+        ensures same { Keeps holds_numbered has_numbered_room self.old self.new }
+        ensures ok { OnOk result (IsTrue (has_numbered_room self.new (number, place))) }
+    {
+        self.open(alloc, number)?;
+        if let Some(places) = self.numbers.get_mut(number) {
+            places.reserve(place)?;
+        }
+        Ok(())
+    }
+
+    /// Holds the place of the number from now on. It takes no memory.
+    pub(crate) fn insert(&mut self, number: u64, place: u64)
+        requires { IsTrue (has_numbered_room self.old (number, place)) }
+        ensures { Adds holds_numbered has_numbered_room same_numbered (number, place)
+            self.old self.new }
+    {
+        if let Some(places) = self.numbers.get_mut(number) {
+            places.set(place, ());
+        }
+    }
+
+    /// Holds the place of the number no longer, and has no room for it. It takes no memory.
+    pub(crate) fn remove(&mut self, number: u64, place: u64)
+        ensures { Drops holds_numbered has_numbered_room same_numbered (number, place)
+            self.old self.new }
+    {
+        let Some(places) = self.numbers.get_mut(number) else {
+            return;
+        };
+        places.remove(place);
+        if places.as_slice().is_empty() {
+            self.numbers.remove(number);
+        }
+    }
+}

@@ -1,0 +1,149 @@
+//! Tables by name of owners, which know whether the counter of one may be at its bound.
+
+ghost use Rattle.std.specs.Prelude.{◌≡◌, Bool, IsTrue, OnErr, OnOk, false, option_copied};
+ghost use Rattle.std.specs.List.{list_any};
+ghost use Rattle.std.specs.FinMap.{empty, entries, insert, remove};
+ghost use Rattle.keyed.specs.Owned.{NoneAtBound};
+ghost use Rattle.keyed.specs.Table.{at_slot, emptied, has_slot, row_at, with_slot};
+
+use crate::names::NameTable;
+use ns_types::text::Text;
+use std::alloc::{AllocError, Global};
+use std::marker::Model;
+
+/// A row with a counter.
+pub trait Bounded {
+    /// Whether the counter can not rise any more.
+    ghost at_bound: { Self → Bool };
+
+    /// Whether the counter can not rise any more.
+    fn is_at_bound(&self) -> bool
+        ensures { result ≡ at_bound self.now };
+}
+
+/// A table by name of rows with a counter. It remembers whether it ever was given a row whose counter is at its bound, so
+/// it lends none out to be changed where it stands.
+#[derive(Drop)]
+pub struct OwnerTable<V: Bounded> {
+    table: NameTable<V>,
+    /// It is never taken back, not even where the row goes: an owner whose counter is at its bound can do next to nothing
+    /// any more.
+    ever_at_bound: bool,
+}
+
+impl<V: Bounded> Model for OwnerTable<V> {
+    ghost use Rattle.std.specs.Prelude.{◌≡◌, Option, false};
+    ghost use Rattle.std.specs.Coded.{codes};
+    ghost use Rattle.std.specs.FinMap.{FinMap, code};
+    ghost use Rattle.keyed.specs.Owned.{NoneAtBound};
+    ghost use Rattle.ns_types.specs.State.Names.{name_cmp};
+
+    ghost Value = { FinMap name_cmp (Option V) };
+
+    ghost coded = { Prim.hlevel (codes, code, V.code) };
+
+    ghost view = { λ t. t.table };
+
+    ghost invariant = { λ t. t.ever_at_bound ≡ false → NoneAtBound V.at_bound t.table };
+}
+
+/// Whether the slot's row is at its bound.
+fn is_slot_at_bound<V: Bounded>(slot: &(Text, Option<V>)) -> bool
+    ensures { result ≡ at_slot (λ e. V.at_bound e.1) slot.now }
+{
+    match &slot.1 {
+        Some(row) => row.is_at_bound(),
+        None => false,
+    }
+}
+
+fn any_at_bound<V: Bounded>(slots: &[(Text, Option<V>)]) -> bool
+    ensures { result ≡ list_any (at_slot (λ e. V.at_bound e.1)) slots.now }
+{
+    slots.iter().any(|slot| is_slot_at_bound(slot))
+}
+
+impl<V: Bounded + Drop> OwnerTable<V> {
+    /// No slots. It takes no memory.
+    pub fn new(alloc: Global) -> OwnerTable<V>
+        ensures { result ≡ empty }
+    {
+        OwnerTable {
+            table: NameTable::new(alloc),
+            ever_at_bound: false,
+        }
+    }
+
+    /// A table of those slots. It looks at each row, and takes no memory.
+    pub fn from_table(table: NameTable<V>) -> OwnerTable<V>
+        ensures { result ≡ table }
+    {
+        let ever_at_bound = any_at_bound(table.as_slice());
+        OwnerTable {
+            table,
+            ever_at_bound,
+        }
+    }
+
+    /// The slots, to be looked at.
+    pub fn as_table(&self) -> &NameTable<V>
+        ensures { result.now ≡ self.now }
+    {
+        &self.table
+    }
+
+    /// The slots with their keys, which rise.
+    pub fn as_slice(&self) -> &[(Text, Option<V>)]
+        ensures { result.now ≡ entries self.now }
+    {
+        self.table.as_slice()
+    }
+
+    /// Whether a row may be at its bound: if not, none is. That is one look, however many rows there are.
+    pub fn may_be_at_bound(&self) -> bool
+        ensures { result ≡ false → NoneAtBound V.at_bound self.now }
+    {
+        self.ever_at_bound
+    }
+
+    /// The row at `key`.
+    pub fn get(&self, key: &Text) -> Option<&V>
+        ensures { option_copied result ≡ row_at self.now key.now }
+    {
+        self.table.get(key)
+    }
+
+    /// Makes room for a row at `key`, unless it is there: the key is copied only where it is not.
+    /// Want of memory is the only error.
+    pub fn reserve(&mut self, key: &Text) -> Result<(), AllocError>
+        ensures ok { OnOk result (self.new ≡ with_slot self.old key.now) }
+        ensures err { OnErr result (self.new ≡ self.old) }
+    {
+        self.table.reserve(key)?;
+        Ok(())
+    }
+
+    /// Writes the row at `key`. It takes no memory.
+    pub fn set(&mut self, key: &Text, row: V)
+        requires { IsTrue (has_slot self.old key.now) }
+        ensures { self.new ≡ insert self.old key.now (Some row) }
+    {
+        self.ever_at_bound |= row.is_at_bound();
+        self.table.set(key, row);
+    }
+
+    /// Takes the row at `key` out, to be changed and set again. Its slot stays, vacant.
+    pub fn take(&mut self, key: &Text) -> Option<V>
+        ensures row { result ≡ row_at self.old key.now }
+        ensures slots { self.new ≡ emptied self.old key.now }
+    {
+        self.table.take(key)
+    }
+
+    /// Takes the slot at `key` out, with its row.
+    pub fn remove(&mut self, key: &Text)
+        ensures { self.new ≡ remove self.old key.now }
+    {
+        self.table.remove(key);
+    }
+}

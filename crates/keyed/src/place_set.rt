@@ -1,0 +1,95 @@
+//! Sets of keys with places.
+
+ghost use Rattle.std.specs.Prelude.{◌≡◌, IsTrue, OnOk, is_some};
+ghost use Rattle.std.specs.FinMap.{empty};
+ghost use Rattle.keyed.specs.Levels.{Adds, Drops, Keeps};
+ghost use Rattle.keyed.specs.Levels.{has_place_room, holds_place, same_place};
+ghost use Rattle.keyed.specs.Queue.{IsHeldAt};
+ghost use Rattle.keyed.specs.Table.{row_at};
+
+use crate::names::NameTable;
+use crate::number_places::NumberPlaces;
+use ns_types::text::Text;
+use std::alloc::{AllocError, Global};
+
+/// A set of keys with places: by name, then by number, then by place.
+#[derive(Drop)]
+pub(crate) struct PlaceSet {
+    names: NameTable<NumberPlaces>,
+}
+
+impl PlaceSet {
+    /// No places. It takes no memory.
+    pub(crate) fn new(alloc: Global) -> PlaceSet
+        ensures { result.names ≡ empty }
+    {
+        PlaceSet {
+            names: NameTable::new(alloc),
+        }
+    }
+
+    /// The first place of the key: a look-up.
+    pub(crate) fn first_of(&self, name: &Text, number: u64) -> Option<u64>
+        ensures { IsHeldAt self.now (name.now, number) result }
+    {
+        let numbers = self.names.get(name)?;
+        let places = numbers.places_of(number)?;
+        places.next_row(0)
+    }
+
+    /// Makes a set for the name, unless it is there.
+    fn open(&mut self, alloc: Global, name: &Text) -> Result<(), AllocError>
+        ensures same { Keeps holds_place has_place_room self.old self.new }
+        ensures ok { OnOk result (IsTrue (is_some (row_at self.new.names name.now))) }
+    {
+        if self.names.get(name).is_none() {
+            self.names.reserve(name)?;
+            self.names.set(name, NumberPlaces::new(alloc));
+        }
+        Ok(())
+    }
+
+    /// Makes room for the place of the key. Want of memory is the only error.
+    pub(crate) fn reserve(
+        &mut self,
+        alloc: Global,
+        name: &Text,
+        number: u64,
+        place: u64,
+    ) -> Result<(), AllocError>
+        ensures same { Keeps holds_place has_place_room self.old self.new }
+        ensures ok { OnOk result (
+            IsTrue (has_place_room self.new (name.now, (number, place)))) }
+    {
+        self.open(alloc, name)?;
+        if let Some(numbers) = self.names.get_mut(name) {
+            numbers.reserve(alloc, number, place)?;
+        }
+        Ok(())
+    }
+
+    /// Holds the place of the key from now on. It takes no memory.
+    pub(crate) fn insert(&mut self, name: &Text, number: u64, place: u64)
+        requires { IsTrue (has_place_room self.old (name.now, (number, place))) }
+        ensures { Adds holds_place has_place_room same_place (name.now, (number, place))
+            self.old self.new }
+    {
+        if let Some(numbers) = self.names.get_mut(name) {
+            numbers.insert(number, place);
+        }
+    }
+
+    /// Holds the place of the key no longer, and has no room for it. It takes no memory.
+    pub(crate) fn remove(&mut self, name: &Text, number: u64, place: u64)
+        ensures { Drops holds_place has_place_room same_place (name.now, (number, place))
+            self.old self.new }
+    {
+        let Some(numbers) = self.names.get_mut(name) else {
+            return;
+        };
+        numbers.remove(number, place);
+        if numbers.is_empty() {
+            self.names.remove(name);
+        }
+    }
+}
