@@ -1,6 +1,7 @@
 pub mod Alone
 pub mod Bounded
 pub mod Each
+pub mod Entries
 pub mod GivenLimits
 pub mod GivenRoom
 pub mod Indexes

@@ -1,5 +1,5 @@
 -- Whether a step passes the bound of a counter, by its change alone.
-use Rattle.std.specs.Prelude.{ℕ, ◌+◌, Bool, false, not, ◌&&◌, ◌||◌, Option, nat_lt}
+use Rattle.std.specs.Prelude.{ℕ, Bool, false, not, ◌&&◌, ◌||◌, Option, nat_lt}
 use Rattle.std.specs.Option.{option_map_or}
 use Rattle.std.specs.List.{list_any}
 use Rattle.std.specs.FinMap.{get, entries}
@@ -17,10 +17,7 @@ use Rattle.ns_change.specs.declared.change.TenantChange.{TenantChange}
 use Rattle.ns_change.specs.Changed.{changed}
 use Rattle.ns_release.specs.Released.{does_wake, released_quotas, released_rooms}
 use Rattle.ns_release.specs.Shown.{changes_job_row}
-
--- a counter can not rise any more
-abbrev pub is_at_bound : ℕ → Bool
-is_at_bound n = nat_lt greatest (n + 1)
+pub use Rattle.ns_world.specs.Bound.{is_at_bound}
 
 -- ---- whom the step wakes
 

@@ -2,13 +2,14 @@
 
 ghost use Rattle.std.specs.Prelude.{◌≡◌, ◌&&◌, ◌||◌, false, nat_lt};
 ghost use Rattle.std.specs.List.{list_any};
+ghost use Rattle.keyed.specs.Table.{at_slot};
 ghost use Rattle.ns_types.specs.State.Names.{same_key};
 ghost use Rattle.ns_types.specs.State.Rows.{evaluation_at};
 ghost use Rattle.ns_types.specs.Settling.Settle.{settle};
 ghost use Rattle.ns_types.specs.Steps.{greatest, is_past_bound};
 ghost use Rattle.ns_change.specs.Changed.{view};
 ghost use Rattle.ns_release.specs.Released.{does_wake};
-ghost use Rattle.ns_bounds.specs.Bounds.{is_at_bound, is_number_past, is_place_past, is_waking};
+ghost use Rattle.ns_bounds.specs.Bounds.{is_number_past, is_place_past, is_waking};
 ghost use Rattle.ns_bounds.specs.Bounds.{passes_in, places_pass, pools_pass, quota_passes, quotas_pass, room_passes};
 ghost use Rattle.ns_bounds.specs.Bounds.{shows_asleep, shows_awake, tenant_passes, tenants_pass, touches_asleep};
 ghost use Rattle.ns_bounds.specs.Bounds.{waking_passes, waking_passes_in};
@@ -25,7 +26,7 @@ use ns_types::evaluation::Evaluation;
 use ns_types::key::EvalKey;
 use ns_types::node::{Node, Offer};
 use ns_types::text::Text;
-use ns_world::{Tables, TenantRows};
+use ns_world::{Tables, TenantRows, is_at_bound};
 
 /// A changed node with its name, or one that is gone.
 type NodeSlot = (Text, Option<Node>);
@@ -36,15 +37,11 @@ type PoolSlot = (Text, Option<PoolChange>);
 /// A changed evaluation with its number, or one that is gone.
 type EvaluationSlot = (u64, Option<Evaluation>);
 
+/// An entry of `blocked` with its place, or a vacant slot.
+type EntrySlot = (u64, Option<EvalKey>);
+
 /// A changed namespace with its name.
 type TenantSlot = (Text, Option<TenantChange>);
-
-/// Whether a counter can not rise any more.
-pub fn is_at_bound(count: u64) -> bool
-    ensures { result ≡ is_at_bound count }
-{
-    count == u64::MAX
-}
 
 /// Whether a number has passed the bound. None has that fits its type.
 fn is_past(number: u64) -> bool
@@ -118,10 +115,20 @@ fn waking_passes(tables: &Tables, change: &Change, key: &EvalKey) -> bool
     }
 }
 
-fn any_waking_passes(tables: &Tables, change: &Change, keys: &[EvalKey]) -> bool
-    ensures { result ≡ list_any (waking_passes (world_of tables.now) change.now) keys.now }
+fn slot_passes(tables: &Tables, change: &Change, slot: &EntrySlot) -> bool
+    ensures { result ≡ at_slot (λ e. waking_passes (world_of tables.now) change.now e.1) slot.now }
 {
-    keys.iter().any(|key| waking_passes(tables, change, key))
+    match &slot.1 {
+        Some(key) => waking_passes(tables, change, key),
+        None => false,
+    }
+}
+
+fn any_waking_passes(tables: &Tables, change: &Change, slots: &[EntrySlot]) -> bool
+    ensures { result
+        ≡ list_any (at_slot (λ e. waking_passes (world_of tables.now) change.now e.1)) slots.now }
+{
+    slots.iter().any(|slot| slot_passes(tables, change, slot))
 }
 
 /// Whether an index passes by an evaluation that wakes, where something is released.
@@ -129,7 +136,7 @@ fn released_wakings_pass(tables: &Tables, change: &Change) -> bool
     ensures { result ≡ list_any (waking_passes (world_of tables.now) change.now)
         (world_of tables.now).blocked }
 {
-    wakes_may_pass(tables) && any_waking_passes(tables, change, tables.blocked.as_slice())
+    wakes_may_pass(tables) && any_waking_passes(tables, change, tables.blocked.slots())
 }
 
 /// Whether an index passes by an evaluation that wakes.
@@ -157,24 +164,41 @@ fn is_waking_key(
         && does_wake(tables, change, key)
 }
 
-fn any_waking_key(
+fn is_waking_slot(
     tables: &Tables,
     change: &Change,
     namespace: &Text,
     number: u64,
-    keys: &[EvalKey],
+    slot: &EntrySlot,
 ) -> bool
-    ensures { result ≡ list_any (λ key. same_key (namespace.now, number) key
-        && does_wake (world_of tables.now) change.now key) keys.now }
+    ensures { result ≡ at_slot (λ e. same_key (namespace.now, number) e.1
+        && does_wake (world_of tables.now) change.now e.1) slot.now }
 {
-    keys.iter().any(|key| is_waking_key(tables, change, namespace, number, key))
+    match &slot.1 {
+        Some(key) => is_waking_key(tables, change, namespace, number, key),
+        None => false,
+    }
 }
 
-/// Whether the evaluation wakes.
+fn any_waking_slot(
+    tables: &Tables,
+    change: &Change,
+    namespace: &Text,
+    number: u64,
+    slots: &[EntrySlot],
+) -> bool
+    ensures { result ≡ list_any (at_slot (λ e. same_key (namespace.now, number) e.1
+        && does_wake (world_of tables.now) change.now e.1)) slots.now }
+{
+    slots.iter().any(|slot| is_waking_slot(tables, change, namespace, number, slot))
+}
+
+/// Whether the evaluation wakes. One that is not blocked is not looked for.
 fn is_waking(tables: &Tables, change: &Change, namespace: &Text, number: u64) -> bool
     ensures { result ≡ is_waking (world_of tables.now) change.now (namespace.now, number) }
 {
-    any_waking_key(tables, change, namespace, number, tables.blocked.as_slice())
+    tables.blocked.has(namespace, number)
+        && any_waking_slot(tables, change, namespace, number, tables.blocked.slots())
 }
 
 /// Whether a changed evaluation does not wake, and is shown otherwise than before.
@@ -336,8 +360,7 @@ fn any_passes(tables: &Tables, change: &Change) -> bool
 }
 
 /// Whether some counter passes its bound by the step, once it has settled. It takes no memory. Its work grows with what
-/// the step changes and, where something is released, with the number of namespaces or that of blocked evaluations,
-/// whichever is less; where an index is at its bound, with the latter.
+/// the step changes alone, unless an index ever was at its bound: then with the number of blocked evaluations too.
 pub fn is_past_bound(tables: &Tables, change: &Change) -> bool
     requires { is_past_bound (world_of tables.now) ≡ false }
     ensures { result

@@ -3,6 +3,7 @@
 
 ghost use Rattle.std.specs.Prelude.{◌≡◌, ◌∷◌, [], List};
 ghost use Rattle.std.specs.List.{list_any};
+ghost use Rattle.keyed.specs.Table.{at_slot};
 ghost use Rattle.ns_types.specs.declared.node.Class.{Class};
 ghost use Rattle.ns_types.specs.State.Names.{Name};
 ghost use Rattle.ns_types.specs.State.Rows.{evaluation_at, offered_class};
@@ -14,14 +15,17 @@ ghost use Rattle.ns_world.specs.World.{tenant_of, world_of};
 
 use crate::at_bound::wakes_may_pass;
 use crate::awake::changes_awake;
-use crate::full::{Counters, is_at_bound};
+use crate::full::Counters;
 use ns_alike::same_text;
 use ns_release::Question;
 use ns_types::evaluation::Evaluation;
 use ns_types::key::EvalKey;
 use ns_types::node::Offer;
 use ns_types::text::Text;
-use ns_world::{Tables, TenantRows};
+use ns_world::{Tables, TenantRows, is_at_bound};
+
+/// An entry of `blocked` with its place, or a vacant slot.
+type EntrySlot = (u64, Option<EvalKey>);
 
 /// What a step gives, and nothing else.
 trait Given {
@@ -126,11 +130,21 @@ fn waking_passes<G: Given>(given: &G, tables: &Tables, key: &EvalKey) -> bool
     }
 }
 
-fn any_waking_passes<G: Given>(given: &G, tables: &Tables, keys: &[EvalKey]) -> bool
-    ensures { result ≡ list_any (given_waking_passes (world_of tables.now) (G.rooms given.now)
-        (G.quotas given.now)) keys.now }
+fn slot_passes<G: Given>(given: &G, tables: &Tables, slot: &EntrySlot) -> bool
+    ensures { result ≡ at_slot (λ e. given_waking_passes (world_of tables.now) (G.rooms given.now)
+        (G.quotas given.now) e.1) slot.now }
 {
-    keys.iter().any(|key| waking_passes(given, tables, key))
+    match &slot.1 {
+        Some(key) => waking_passes(given, tables, key),
+        None => false,
+    }
+}
+
+fn any_waking_passes<G: Given>(given: &G, tables: &Tables, slots: &[EntrySlot]) -> bool
+    ensures { result ≡ list_any (at_slot (λ e. given_waking_passes (world_of tables.now)
+        (G.rooms given.now) (G.quotas given.now) e.1)) slots.now }
+{
+    slots.iter().any(|slot| slot_passes(given, tables, slot))
 }
 
 /// Whether an index passes by an evaluation that wakes.
@@ -138,23 +152,21 @@ fn wakings_pass<G: Given>(given: &G, tables: &Tables) -> bool
     ensures { result ≡ list_any (given_waking_passes (world_of tables.now) (G.rooms given.now)
         (G.quotas given.now)) (world_of tables.now).blocked }
 {
-    wakes_may_pass(tables) && any_waking_passes(given, tables, tables.blocked.as_slice())
+    wakes_may_pass(tables) && any_waking_passes(given, tables, tables.blocked.slots())
 }
 
 // ---- one thing that is given
 
 /// Whether a counter passes its bound by a step that gives room on a node of such an offer in the pool, and nothing else.
-/// Its work grows with the number of namespaces or that of blocked evaluations, whichever is less; where an index is at its
-/// bound, with the latter.
+/// It goes through nothing, unless an index ever was at its bound: then through all blocked evaluations.
 pub fn given_room_passes(tables: &Tables, pool: &Text, offer: &Offer) -> bool
     ensures { result ≡ given_room_passes (world_of tables.now) (pool.now, offered_class offer.now) }
 {
     Counters { tables }.is_room(pool, offer) || wakings_pass(&Room { pool, offer }, tables)
 }
 
-/// Whether a counter passes its bound by a step that gives the quota other limits, and does nothing else. Its work grows
-/// with the number of namespaces or that of blocked evaluations, whichever is less; where an index is at its bound, with
-/// the latter.
+/// Whether a counter passes its bound by a step that gives the quota other limits, and does nothing else. It goes through
+/// nothing, unless an index ever was at its bound: then through all blocked evaluations.
 pub fn given_limits_pass(tables: &Tables, quota: &Text) -> bool
     ensures { result ≡ given_limits_pass (world_of tables.now) quota.now }
 {

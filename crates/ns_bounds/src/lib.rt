@@ -2,8 +2,7 @@
 //!
 //! `is_past_bound` asks it of any step, by its change. `given_room_passes` and `given_limits_pass` ask it of a step that gives
 //! one thing and does nothing else, before it is a change. None of them takes memory. Their work grows with what the step
-//! changes, and, where something is released, with the number of namespaces or that of blocked evaluations, whichever is less.
-//! Only where an index is at its bound, all blocked evaluations are looked at.
+//! changes alone. Only where an index ever was at its bound, all blocked evaluations are looked at.
 #![tactic(auto)]
 
 mod at_bound;
@@ -12,5 +11,6 @@ mod full;
 mod given;
 
 pub use at_bound::{is_last_index, wakes_may_pass};
-pub use full::{is_at_bound, is_past_bound};
+pub use full::is_past_bound;
 pub use given::{given_limits_pass, given_room_passes, left_quota_passes};
+pub use ns_world::is_at_bound;

@@ -23,6 +23,7 @@ use Rattle.ns_commit.specs.Owners.{changed_owners, owners}
 use Rattle.ns_commit.proofs.Owned.{at_each, found_here, found_other, get-changed, get-owners, no_more, none_changed, rest_sorted}
 use Rattle.ns_live.specs.declared.live.Live.{Live}
 use Rattle.ns_live.specs.Index.{HasRoomForAll, Indexes, KeepsKeys, KeepsRoom, has_room, with_changes}
+use Rattle.ns_live.specs.Naming.{KeepsNames}
 use Rattle.ns_live.specs.Shown.{KeepsShown, ShowsUnmoved}
 use Rattle.ns_live.proofs.Changing.{changes_over}
 use Rattle.ns_live.proofs.Puts.{indexes_same}
@@ -62,7 +63,7 @@ module _ (changes : FinMap name_cmp (Option SettledTenant)) where
   pub none_made : (live : Live) (es : Slots) → es ≡ entries changes → Reserving live live es
   none_made live es is = record {
     same = λ pool node key. refl;
-    shown = refl;
+    shown = (refl, refl);
     stand = stand_all es is;
     room = λ q x none at. absurd (not_Some x (sym (ap flat (found_in es is q ∙ none)) ∙ at));
   }
@@ -78,7 +79,7 @@ module _ (changes : FinMap name_cmp (Option SettledTenant)) where
         HasRoomForAll now k x.rows.allocations → Reserving before now rest
     one_made now x some same shown room made = record {
       same = λ pool node key. same pool node key ∙ h.same pool node key;
-      shown = shown ∙ h.shown;
+      shown = (shown.0 ∙ h.shown.0, shown.1 ∙ h.shown.1);
       stand = stand.1;
       room = at_each (λ q. (y : SettledTenant) → find name_cmp q rest ≡ None → row_at changes q ≡ Some y → HasRoomForAll now q y.rows.allocations) k
           (λ y _ at. subst (λ x. HasRoomForAll now k x.rows.allocations) (same_Some x y (sym (ap flat stand.0 ∙ some) ∙ at)) made)
@@ -144,6 +145,7 @@ module _ (changes : FinMap name_cmp (Option SettledTenant)) where
     pub record Following (before live : Live) (es : Slots) : Type 0 where
       pub index : IsRightFor (owners tenant_of stored) before → Indexes (rows_now es) live
       pub shown : ShowsUnmoved old (rows_now es) before live
+      pub names : KeepsNames before live
       pub sorted : T (is_sorted name_cmp es)
       pub stand : Each (λ e. get changes e.0 ≡ Some e.1) es
       pub room : (q : Name) (x : SettledTenant) → flat (find name_cmp q es) ≡ Some x → HasRoomForAll live q x.rows.allocations
@@ -152,6 +154,7 @@ module _ (changes : FinMap name_cmp (Option SettledTenant)) where
     begun live es is room = record {
       index = λ right. indexes_same old (rows_now es) live right (λ key. by key (find name_cmp key.0 es) refl);
       shown = unmoved_same old (rows_now es) live live refl (λ key. by key (find name_cmp key.0 es) refl);
+      names = refl;
       sorted = subst (λ es. T (is_sorted name_cmp es)) (sym is) (entries_sorted changes);
       stand = stand_all es is;
       room = λ q x at. room q x (ap flat (found_in es is q) ∙ at);
@@ -194,6 +197,7 @@ module _ (changes : FinMap name_cmp (Option SettledTenant)) where
       stays alike = record {
         index = λ right. indexes_same (rows_now es) (rows_now rest) live (h.index right) as_now;
         shown = unmoved_as old (rows_now es) (rows_now rest) before live as_now h.shown;
+        names = h.names;
         sorted = rest_sorted k slot es rest is h.sorted;
         stand = standing.1;
         room = λ q x at. h.room q x (later q x at).1;
@@ -214,14 +218,15 @@ module _ (changes : FinMap name_cmp (Option SettledTenant)) where
           ((row_of : Key → Option Allocation) → Indexes row_of live → ((n : ℕ) → row_of (k, n) ≡ row_at row.allocations.slots n) →
           Indexes (with_changes k x.rows.allocations row_of) now) →
           ((row_of : Key → Option Allocation) → ((n : ℕ) → row_of (k, n) ≡ row_at row.allocations.slots n) →
-          ShowsUnmoved row_of (with_changes k x.rows.allocations row_of) live now) →
+          ShowsUnmoved row_of (with_changes k x.rows.allocations row_of) live now) → KeepsNames live now →
           ((pool node : Name) (key : Key) → same_name key.0 k ≡ false → IsTrue (has_room live pool node key) → IsTrue (has_room now pool node key)) →
           Following before now rest
-      one_followed now x row some at index shown room = record {
+      one_followed now x row some at index shown names room = record {
         index = λ right. indexes_same (with_changes k x.rows.allocations (rows_now es)) (rows_now rest) now (index (rows_now es) (h.index right) earlier)
             as_changed;
         shown = unmoved_as old (with_changes k x.rows.allocations (rows_now es)) (rows_now rest) before now as_changed
             (unmoved_then old (rows_now es) (with_changes k x.rows.allocations (rows_now es)) before live now h.shown (shown (rows_now es) earlier));
+        names = names ∙ h.names;
         sorted = rest_sorted k slot es rest is h.sorted;
         stand = standing.1;
         room = λ q y found n r there lives.

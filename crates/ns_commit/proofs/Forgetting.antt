@@ -14,6 +14,7 @@ use Rattle.ns_change.specs.declared.change.PoolChange.{PoolChange}
 use Rattle.ns_commit.specs.Indexed.{ForgetsChanged}
 use Rattle.ns_live.specs.declared.live.Live.{Live}
 use Rattle.ns_live.specs.Index.{KeepsKeys}
+use Rattle.ns_live.specs.Naming.{KeepsNames}
 use Rattle.ns_live.specs.Shown.{ForgetsNodes, shown_at}
 
 abbrev Slots : Type 0
@@ -25,18 +26,20 @@ IsOther pool name slot = (x : PoolChange) → slot.1 ≡ Some x → same_name po
 
 pub record IsForgetting (old now : Live) (done : Slots) : Type 0 where
   pub keys : KeepsKeys old now
+  pub names : KeepsNames old now
   pub shown : (pool name : Name) (node : PoolNode) → shown_at now pool name ≡ Some node →
       (shown_at old pool name ≡ Some node) × Each (IsOther pool name) done
 
 pub begun : (live : Live) → IsForgetting live live []
-begun live = record { keys = λ pool name key. refl; shown = λ pool name node is. (is, tt) }
+begun live = record { keys = λ pool name key. refl; names = refl; shown = λ pool name node is. (is, tt) }
 
 module _ (slots : Slots) (i : ℕ) (e : Name × Option PoolChange) (lt : i < length slots) (is : e ≡ get_or slots i e) (old now : Live)
     (h : IsForgetting old now (take i slots)) where
-  one_more : (new : Live) → KeepsKeys now new → ((pool name : Name) (node : PoolNode) → shown_at new pool name ≡ Some node →
+  one_more : (new : Live) → KeepsKeys now new → KeepsNames now new → ((pool name : Name) (node : PoolNode) → shown_at new pool name ≡ Some node →
       (shown_at now pool name ≡ Some node) × IsOther pool name e) → IsForgetting old new (take (i + 1) slots)
-  one_more new keys forgets = record {
+  one_more new keys names forgets = record {
     keys = λ pool name key. keys pool name key ∙ h.keys pool name key;
+    names = names ∙ h.names;
     shown = λ pool name node at.
         let g = forgets pool name node at in
         let before = h.shown pool name node g.0 in (
@@ -46,15 +49,15 @@ module _ (slots : Slots) (i : ℕ) (e : Name × Option PoolChange) (lt : i < len
         );
   }
 
-  pub one_forgotten : (new : Live) (x : PoolChange) → e.1 ≡ Some x → KeepsKeys now new → ForgetsNodes e.0 x.nodes now new →
+  pub one_forgotten : (new : Live) (x : PoolChange) → e.1 ≡ Some x → KeepsKeys now new → KeepsNames now new → ForgetsNodes e.0 x.nodes now new →
       IsForgetting old new (take (i + 1) slots)
-  one_forgotten new x some keys forgets = one_more new keys (λ pool name node at.
+  one_forgotten new x some keys names forgets = one_more new keys names (λ pool name node at.
       let g = forgets pool name node at in
       (g.0, λ y there own. subst (λ x. get x.nodes name ≡ None) (same_Some x y (sym some ∙ there)) (g.1 own)))
 
   pub none_forgotten : (new : Live) → e.1 ≡ None → new ≡ now → IsForgetting old new (take (i + 1) slots)
   none_forgotten new none stays = subst (λ live. IsForgetting old live (take (i + 1) slots)) (sym stays)
-      (one_more now (λ pool name key. refl) (λ pool name node at. (at, λ y there own. absurd (not_Some y (sym none ∙ there)))))
+      (one_more now (λ pool name key. refl) refl (λ pool name node at. (at, λ y there own. absurd (not_Some y (sym none ∙ there)))))
 
 other_all : (pool name : Name) (es : Slots) → Each (IsOther pool name) es → (x : PoolChange) → flat (find name_cmp pool es) ≡ Some x →
     get x.nodes name ≡ None

@@ -5,10 +5,11 @@ ghost use Rattle.ns_change.specs.Settled.{settled_tenant};
 ghost use Rattle.ns_commit.specs.Indexed.{ForgetsChanged, HasIndexRoom, IsRightFor, allocation_in};
 ghost use Rattle.ns_commit.specs.Owners.{changed_owners, owners};
 ghost use Rattle.ns_live.specs.Index.{KeepsKeys};
+ghost use Rattle.ns_live.specs.Naming.{KeepsNames};
 ghost use Rattle.ns_live.specs.Shown.{KeepsShown, ShowsUnmoved};
 ghost use Rattle.ns_world.specs.World.{tenant_of};
 
-use keyed::NameTable;
+use keyed::{NameTable, OwnerTable};
 use ns_change::{PoolChange, SettledTenant};
 use ns_live::Live;
 use ns_world::TenantRows;
@@ -35,7 +36,7 @@ pub(crate) fn reserve_index(
 /// changed row is live, before or after, is not shown any more. It takes no memory.
 pub(crate) fn commit_index(
     live: &mut Live,
-    table: &NameTable<TenantRows>,
+    table: &OwnerTable<TenantRows>,
     changes: &NameTable<SettledTenant>,
 )
     requires { HasIndexRoom changes.now live.old }
@@ -45,6 +46,7 @@ pub(crate) fn commit_index(
     ensures shown { let before = owners tenant_of table.now in
         let after = changed_owners settled_tenant changes.now before in
         ShowsUnmoved (allocation_in before) (allocation_in after) live.old live.new }
+    ensures names { KeepsNames live.old live.new }
 {
     for slot in changes.as_slice() {
         if let Some(change) = &slot.1 {
@@ -59,6 +61,7 @@ pub(crate) fn commit_index(
 pub(crate) fn forget_nodes(live: &mut Live, changes: &NameTable<PoolChange>)
     ensures keys { KeepsKeys live.old live.new }
     ensures shown { ForgetsChanged changes.now live.old live.new }
+    ensures names { KeepsNames live.old live.new }
 {
     for slot in changes.as_slice() {
         if let Some(change) = &slot.1 {

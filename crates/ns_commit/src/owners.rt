@@ -5,7 +5,7 @@ ghost use Rattle.std.specs.Prelude.{◌≡◌, IfSome, OnOk};
 ghost use Rattle.keyed.specs.Table.{row_at};
 ghost use Rattle.ns_commit.specs.Owners.{ChangesRow, EachChanged, changed_owners, owners};
 
-use keyed::NameTable;
+use keyed::{Bounded, NameTable, OwnerTable};
 use ns_types::text::Text;
 use std::alloc::AllocError;
 
@@ -50,8 +50,8 @@ pub(crate) trait Owner<OwnerChange: Drop>: Drop {
 }
 
 /// Makes room for what changes of the owner, if it is there.
-fn reserve_one<OwnerChange: Drop, Row: Owner<OwnerChange>>(
-    table: &mut NameTable<Row>,
+fn reserve_one<OwnerChange: Drop, Row: Owner<OwnerChange> + Bounded>(
+    table: &mut OwnerTable<Row>,
     name: &Text,
     change: &OwnerChange,
 ) -> Result<(), AllocError>
@@ -68,8 +68,8 @@ fn reserve_one<OwnerChange: Drop, Row: Owner<OwnerChange>>(
 }
 
 /// Makes room for what changes of all owners. Where it is refused, they are as they were.
-pub(crate) fn reserve_all<OwnerChange: Drop, Row: Owner<OwnerChange>>(
-    table: &mut NameTable<Row>,
+pub(crate) fn reserve_all<OwnerChange: Drop, Row: Owner<OwnerChange> + Bounded>(
+    table: &mut OwnerTable<Row>,
     changes: &NameTable<OwnerChange>,
 ) -> Result<(), AllocError>
     requires { EachChanged Row.CanChange changes.now table.old }
@@ -85,8 +85,8 @@ pub(crate) fn reserve_all<OwnerChange: Drop, Row: Owner<OwnerChange>>(
 }
 
 /// Takes the vacant slots of the owner's changed rows out again, if it is there.
-fn clear_one<OwnerChange: Drop, Row: Owner<OwnerChange>>(
-    table: &mut NameTable<Row>,
+fn clear_one<OwnerChange: Drop, Row: Owner<OwnerChange> + Bounded>(
+    table: &mut OwnerTable<Row>,
     name: &Text,
     change: &OwnerChange,
 )
@@ -100,8 +100,8 @@ fn clear_one<OwnerChange: Drop, Row: Owner<OwnerChange>>(
 }
 
 /// Takes the vacant slots of all changed rows out again.
-pub(crate) fn clear_all<OwnerChange: Drop, Row: Owner<OwnerChange>>(
-    table: &mut NameTable<Row>,
+pub(crate) fn clear_all<OwnerChange: Drop, Row: Owner<OwnerChange> + Bounded>(
+    table: &mut OwnerTable<Row>,
     changes: &NameTable<OwnerChange>,
 )
     ensures rows { owners Row.seen table.new ≡ owners Row.seen table.old }
@@ -115,8 +115,8 @@ pub(crate) fn clear_all<OwnerChange: Drop, Row: Owner<OwnerChange>>(
 }
 
 /// Moves what changed of the owner in, if it is there.
-fn commit_one<OwnerChange: Drop, Row: Owner<OwnerChange>>(
-    table: &mut NameTable<Row>,
+fn commit_one<OwnerChange: Drop, Row: Owner<OwnerChange> + Bounded>(
+    table: &mut OwnerTable<Row>,
     name: &Text,
     change: OwnerChange,
 )
@@ -134,8 +134,8 @@ fn commit_one<OwnerChange: Drop, Row: Owner<OwnerChange>>(
 }
 
 /// Moves what changed of all owners in. It takes no memory.
-pub(crate) fn commit_all<OwnerChange: Drop, Row: Owner<OwnerChange>>(
-    table: &mut NameTable<Row>,
+pub(crate) fn commit_all<OwnerChange: Drop, Row: Owner<OwnerChange> + Bounded>(
+    table: &mut OwnerTable<Row>,
     changes: NameTable<OwnerChange>,
 )
     requires { EachChanged Row.HasRoom changes table.old }

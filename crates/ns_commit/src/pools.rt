@@ -15,7 +15,7 @@ ghost use Rattle.ns_world.specs.World.{pool_of};
 
 use crate::clearing::clear_names;
 use crate::owners::{Owner, commit_all, reserve_all};
-use keyed::NameTable;
+use keyed::{NameTable, OwnerTable};
 use ns_alike::{same_class, same_text};
 use ns_change::PoolChange;
 use ns_types::node::Class;
@@ -45,7 +45,7 @@ fn count_classes(rooms: &[Room], pool: &Text) -> usize
 
 /// Makes a place for each of the pool's released classes.
 fn reserve_classes_in(
-    table: &mut NameTable<PoolRows>,
+    table: &mut OwnerTable<PoolRows>,
     name: &Text,
     rooms: &[Room],
 ) -> Result<(), AllocError>
@@ -62,7 +62,7 @@ fn reserve_classes_in(
 }
 
 /// Makes a place for each released class.
-fn reserve_classes(table: &mut NameTable<PoolRows>, rooms: &[Room]) -> Result<(), AllocError>
+fn reserve_classes(table: &mut OwnerTable<PoolRows>, rooms: &[Room]) -> Result<(), AllocError>
     ensures pools { owners pool_of table.new ≡ owners pool_of table.old }
     ensures nodes { KeepsNodes table.old table.new }
     ensures room { OnOk result (HaveClassRoom rooms.now table.new) }
@@ -106,7 +106,7 @@ impl Owner<PoolChange> for PoolRows {
 
 /// Makes room for what changes of all pools. Where it is refused, the pools are as they were.
 pub(crate) fn reserve_pools(
-    table: &mut NameTable<PoolRows>,
+    table: &mut OwnerTable<PoolRows>,
     changes: &NameTable<PoolChange>,
     rooms: &[Room],
 ) -> Result<(), AllocError>
@@ -121,7 +121,7 @@ pub(crate) fn reserve_pools(
 // ---- release numbers
 
 /// The pool has one more release.
-fn raise_pool(table: &mut NameTable<PoolRows>, name: &Text)
+fn raise_pool(table: &mut OwnerTable<PoolRows>, name: &Text)
     requires { IfSome (row_at table.old name.now) (λ pool. pool.release + 1 < 2 ^ 64) }
     ensures { ChangesRow (λ a b. b ≡ raised_pool true a) name.now table.old table.new }
 {
@@ -132,7 +132,7 @@ fn raise_pool(table: &mut NameTable<PoolRows>, name: &Text)
 }
 
 /// Each pool of which classes are released has one more release.
-fn raise_pools(table: &mut NameTable<PoolRows>, rooms: &[Room])
+fn raise_pools(table: &mut OwnerTable<PoolRows>, rooms: &[Room])
     requires { CanRise (λ pool. pool.release) (releases rooms.now) table.old }
     ensures { (name : Name) → row_at table.new name
         ≡ option_map (raised_pool (releases rooms.now name)) (row_at table.old name) }
@@ -154,7 +154,7 @@ fn put_class(pool: &mut PoolRows, class: Class)
     pool.classes.push((class, number));
 }
 
-fn put_class_in(table: &mut NameTable<PoolRows>, name: &Text, class: Class)
+fn put_class_in(table: &mut OwnerTable<PoolRows>, name: &Text, class: Class)
     requires { IfSome (row_at table.old name.now) (λ pool. 0 < pool.classes.room) }
     ensures { ChangesRow (ClassPut class) name.now table.old table.new }
 {
@@ -168,7 +168,7 @@ fn put_class_in(table: &mut NameTable<PoolRows>, name: &Text, class: Class)
 }
 
 /// Each released class has the number of its pool's last release.
-fn put_classes(table: &mut NameTable<PoolRows>, rooms: Rows<Room>)
+fn put_classes(table: &mut OwnerTable<PoolRows>, rooms: Rows<Room>)
     requires { HaveClassRoom rooms table.old }
     ensures pools { owners pool_of table.new ≡ numbered_pools rooms (owners pool_of table.old) }
     ensures nodes { KeepsNodes table.old table.new }
@@ -180,7 +180,7 @@ fn put_classes(table: &mut NameTable<PoolRows>, rooms: Rows<Room>)
 
 /// Moves what changed of all pools in: release numbers, classes with their numbers, nodes. It takes no memory.
 pub(crate) fn commit_pools(
-    table: &mut NameTable<PoolRows>,
+    table: &mut OwnerTable<PoolRows>,
     changes: NameTable<PoolChange>,
     rooms: Rows<Room>,
 )

@@ -4,45 +4,15 @@ ghost use Rattle.std.specs.Prelude.{◌≡◌, ◌+◌, ◌<◌, ◌^◌, true, 
 ghost use Rattle.keyed.specs.Table.{row_at};
 ghost use Rattle.ns_change.specs.Changed.{changed_quota};
 ghost use Rattle.ns_types.specs.State.Names.{has_name};
-ghost use Rattle.ns_types.specs.State.Rows;
 ghost use Rattle.ns_commit.specs.Committed.{CanRise, raised_quota, released_quotas, settled_quotas};
-ghost use Rattle.ns_commit.specs.Owners.{Always, ChangesRow, owners};
+ghost use Rattle.ns_commit.specs.Owners.{ChangesRow, changed_owners, owners};
 ghost use Rattle.ns_world.specs.World.{quota_of};
 
-use crate::owners::{Owner, commit_all};
 use keyed::NameTable;
 use ns_alike::has_name;
 use ns_types::records::Quota;
 use ns_types::text::Text;
 use ns_world::QuotaRows;
-use std::alloc::AllocError;
-
-/// A record goes over the one that is there, and needs no room.
-impl Owner<Quota> for QuotaRows {
-    ghost Seen = { Rows.QuotaRows };
-
-    ghost seen = { quota_of };
-
-    ghost changed = { changed_quota };
-
-    ghost CanChange = { Always };
-
-    ghost HasRoom = { Always };
-
-    ghost IsCleared = { Always };
-
-    fn reserve(&mut self, _change: &Quota) -> Result<(), AllocError> {
-        Ok(())
-    }
-
-    fn clear(&mut self, _change: &Quota) {}
-
-    fn commit(&mut self, change: Quota) {
-        self.quota = change;
-    }
-
-    ghost carries = { λ x a b is can. can };
-}
 
 /// The quota has one more release.
 fn raise_quota(table: &mut NameTable<QuotaRows>, name: &Text)
@@ -68,6 +38,32 @@ fn raise_quotas(table: &mut NameTable<QuotaRows>, released: &[Text])
     }
 }
 
+/// The record goes over that of the quota, if it is there.
+fn put_quota(table: &mut NameTable<QuotaRows>, name: &Text, quota: Quota)
+    ensures { ChangesRow (λ a b. quota_of b ≡ changed_quota (quota_of a) quota)
+        name.now table.old table.new }
+{
+    match table.take(name) {
+        Some(mut row) => {
+            row.quota = quota;
+            table.set(name, row);
+        }
+        None => drop(quota),
+    }
+}
+
+/// Moves the changed records in. It takes no memory.
+fn put_quotas(table: &mut NameTable<QuotaRows>, changes: NameTable<Quota>)
+    ensures { owners quota_of table.new
+        ≡ changed_owners changed_quota changes (owners quota_of table.old) }
+{
+    for (name, slot) in changes.into_slots() {
+        if let Some(quota) = slot {
+            put_quota(table, &name, quota);
+        }
+    }
+}
+
 /// Moves the changed records in, and each released quota has one more release. It takes no memory.
 pub(crate) fn commit_quotas(
     table: &mut NameTable<QuotaRows>,
@@ -79,5 +75,5 @@ pub(crate) fn commit_quotas(
         ≡ settled_quotas changes released.now (owners quota_of table.old) }
 {
     raise_quotas(table, released);
-    commit_all(table, changes);
+    put_quotas(table, changes);
 }

@@ -4,10 +4,12 @@
 #![tactic(auto)]
 
 mod allocations;
+mod bounded;
 mod evaluations;
 mod filing;
 mod tables;
 
 pub use allocations::AllocationTable;
+pub use bounded::is_at_bound;
 pub use evaluations::EvaluationTable;
 pub use tables::{PoolRows, QuotaRows, Tables, TenantRows};

@@ -8,7 +8,7 @@ ghost use Rattle.ns_world.specs.World.{world_of};
 
 use crate::allocations::AllocationTable;
 use crate::evaluations::EvaluationTable;
-use keyed::{KeyQueue, NameTable, NumberTable, Series};
+use keyed::{KeyQueue, NameTable, NumberTable, OwnerTable, Series};
 use ns_events::Events;
 use ns_types::allocation::Allocation;
 use ns_types::evaluation::Evaluation;
@@ -58,8 +58,8 @@ pub struct QuotaRows {
 #[derive(Drop)]
 pub struct Tables {
     pub alloc: Global,
-    pub tenants: NameTable<TenantRows>,
-    pub pools: NameTable<PoolRows>,
+    pub tenants: OwnerTable<TenantRows>,
+    pub pools: OwnerTable<PoolRows>,
     pub quotas: NameTable<QuotaRows>,
     pub ready: KeyQueue,
     pub plans: KeyQueue,

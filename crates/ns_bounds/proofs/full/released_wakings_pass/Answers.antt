@@ -1,14 +1,13 @@
-use Rattle.std.proofs.Common.{ap, sym, ◌∙◌}
-use Rattle.std.specs.List.{list_any}
+use Rattle.std.proofs.Common.{sym, ◌∙◌}
 use Rattle.ns_bounds.specs.Bounds.{waking_passes}
 use Rattle.ns_world.specs.World.{world_of}
-use Rattle.ns_world.proofs.World.{blocked_seen}
+use Rattle.ns_bounds.proofs.Entries.{any_entry}
 use Rattle.ns_bounds.proofs.Last.{no_waking_passes}
 use Rattle.ns_bounds.proofs.full.released_wakings_pass.Goals as goal
 
 pub returns-then-wakes_may_pass : goal.returns-then-wakes_may_pass
-returns-then-wakes_may_pass c = c.any_waking_passes.ensures ∙ ap (list_any (waking_passes (world_of c.args.tables.now) c.args.change.now))
-    (c.as_slice.ensures ∙ sym (blocked_seen c.args.tables.now))
+returns-then-wakes_may_pass c = c.any_waking_passes.ensures
+    ∙ any_entry c.args.tables.now (waking_passes (world_of c.args.tables.now) c.args.change.now) c.slots.result.now c.slots.ensures
 
 pub returns-else-wakes_may_pass : goal.returns-else-wakes_may_pass
 returns-else-wakes_may_pass c = c.if-wakes_may_pass.false

@@ -24,7 +24,8 @@ loop-slot-preserved c =
           c.loop-slot.invariant w.put_all.new.self w.in-Some.change w.in-Some-get.tenant.now w.in-Some.is
           (sym w.get.ensures ∙ ap option_copied w.in-Some-get.is)
           (λ row_of right is. w.put_all.ensures.index row_of right (λ n. is n ∙ ap (λ m. row_at m n) (sym w.rows.ensures)))
-          (λ row_of is. w.put_all.ensures.shown row_of (λ n. is n ∙ ap (λ m. row_at m n) (sym w.rows.ensures))) w.put_all.ensures.room)
+          (λ row_of is. w.put_all.ensures.shown row_of (λ n. is n ∙ ap (λ m. row_at m n) (sym w.rows.ensures))) w.put_all.ensures.names
+          w.put_all.ensures.room)
       | in-Some+in_default-get w ↦ nothing_there c.args.changes.now c.args.table.now c.slot-item.result.0 c.slot-item.result.1 _ _ is c.args.live.now
           c.loop-slot.live c.loop-slot.invariant c.match-slot.live (sym w.get.ensures ∙ ap option_copied w.in_default-get.is) w.live-is
       | in_default w ↦ nothing_changes c.args.changes.now c.args.table.now c.slot-item.result.0 c.slot-item.result.1 _ _ is c.args.live.now
@@ -38,3 +39,6 @@ returns-clause-shown c = all_unmoved c.args.changes.now c.args.table.now c.args.
 pub returns-clause-index : goal.returns-clause-index
 returns-clause-index c = all_followed c.args.changes.now c.args.table.now c.args.live.now c.loop-slot.live _
     (drop_of_length-le c.as_slice-slot-items.result.now c.loop-slot-test.false) c.loop-slot.invariant
+
+pub returns-clause-names : goal.returns-clause-names
+returns-clause-names c = c.loop-slot.invariant.names

@@ -1,15 +1,9 @@
-use Rattle.std.proofs.Common.{ap, arith, filter, not, ◌∙◌, ◌++◌}
+use Rattle.std.proofs.Common.{ap, filter, not, ◌∙◌, ◌++◌}
 use Rattle.ns_types.specs.State.Names.{has_key}
 use Rattle.ns_commit.proofs.lists.commit_list.Goals as goal
 
 pub append-requires : goal.append-requires
-append-requires c = record {
-  places =
-      let places = c.requires.places in
-      let room = c.take_out.ensures.room in
-      omega arith;
-  slots = λ key has. c.take_out.ensures.slots key (c.requires.slots key has);
-}
+append-requires c = c.take_out.ensures.room c.args.change.added c.requires
 
 pub returns : goal.returns
 returns c = c.clear_room.ensures ∙ c.append.ensures ∙ ap (λ l. l ++ c.args.change.added)

@@ -5,9 +5,6 @@ use Rattle.ns_world.specs.World.{quota_of}
 use Rattle.ns_commit.proofs.Whole.{records_are}
 use Rattle.ns_commit.proofs.quotas.commit_quotas.Goals as goal
 
-pub commit_all-requires : goal.commit_all-requires
-commit_all-requires c = λ name x row at there. tt
-
 pub returns : goal.returns
-returns c = c.commit_all.ensures ∙ ap (changed_owners changed_quota c.args.changes) c.raise_quotas.ensures
+returns c = c.put_quotas.ensures ∙ ap (changed_owners changed_quota c.args.changes) c.raise_quotas.ensures
     ∙ records_are c.args.changes c.args.released.now (owners quota_of c.args.table.now)
