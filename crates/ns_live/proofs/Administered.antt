@@ -26,7 +26,10 @@ use Rattle.ns_types.proofs.Tables.{none_of_any, tied}
 use Rattle.ns_types.proofs.Tests.{not_Some}
 use Rattle.ns_live.specs.Index.{IsRight}
 use Rattle.ns_live.specs.Laws.{AdministrationKeepsRight, EmptyIsRightAtFirst, SoundLoadsFit}
-use Rattle.ns_live.specs.Shown.{live_row}
+use Rattle.ns_live.specs.Levels.{holds_on_node}
+use Rattle.ns_live.specs.Naming.{AreNamed, KeepsNodes, is_quota}
+use Rattle.ns_live.specs.Shown.{live_row, shown_in}
+use Rattle.keyed.specs.Levels.{at_name}
 use Rattle.ns_live.specs.declared.live.Live.{Live}
 use Rattle.ns_live.proofs.Bounded.{load_counted, sound_within}
 use Rattle.ns_live.proofs.Unmoved.{is_live_there, live_alike, no_live_row, shown_still}
@@ -41,12 +44,13 @@ record SameLive (w w' : World) : Type 0 where
   pub rows : (pool node ns : Name) (n : ℕ) → lives_in (get w'.tenants ns) pool node n ≡ lives_in (get w.tenants ns) pool node n
   pub nodes : (pool name : Name) → node_at w' pool name ≡ node_at w pool name
 
-right_again : (w w' : World) (live : Live) → SameLive w w' → IsRight w live → IsRight w' live
-right_again w w' live same right = record {
-  index = λ pool node key. right.index pool node key
+right_again : (w w' : World) (live live' : Live) → SameLive w w' → IsRight w live → KeepsNodes live live' → AreNamed w' live' → IsRight w' live'
+right_again w w' live live' same right nodes named = record {
+  index = λ pool node key. ap (λ pools. at_name holds_on_node pools (pool, (node, key))) nodes.0 ∙ right.index pool node key
       ∙ sym (live_alike pool node (allocation_at w key) (allocation_at w' key) (same.rows pool node key.0 key.1));
-  shown = shown_still w w' live live right
-      (λ pool name node is. (is, ((λ key. same.rows pool name key.0 key.1), same.nodes pool name)));
+  shown = shown_still w w' live live' right (λ pool name node is.
+      (ap (λ shown. shown_in shown pool name) (sym nodes.1) ∙ is, ((λ key. same.rows pool name key.0 key.1), same.nodes pool name)));
+  quotas = named;
 }
 
 module _ (tenants : ByName Tenant) (name : Name) where
@@ -194,8 +198,8 @@ module _ (s : State) where
   changed_alike o (Err refusal) s' h is = subst Alike (sym is.1) (here s.world)
 
 pub administration_right : AdministrationKeepsRight
-administration_right secret command s s' result live changes right =
-    right_again s.world s'.world live (changed_alike s (administer secret command s) result s' (administered s secret command) changes) right
+administration_right secret command s s' result live live' changes =
+    right_again s.world s'.world live live' (changed_alike s (administer secret command s) result s' (administered s secret command) changes)
 
 -- ---- at first
 
@@ -206,8 +210,15 @@ empty_right secret live none = record {
       ∙ ap is_some (put_same empty default_name opening_tenant at_first pool node key.0 key.1
       ∙ ap (λ r. lives_in r pool node key.1) (get-empty name_cmp key.0)));
   shown = λ pool name node is. absurd (not_Some node (sym (none.shown pool name) ∙ is));
+  quotas = λ quota ns. none.names quota ns ∙ sym (ap (λ r. is_quota (option_and_then (λ (t : Tenant). t.namespace.quota) r) quota)
+      (get-insert names empty default_name opening_tenant ns) ∙ unnamed quota ns (same_name ns default_name));
 }
   where
+    unnamed : (quota ns : Name) (b : Bool) →
+        is_quota (option_and_then (λ (t : Tenant). t.namespace.quota) (cond b (Some opening_tenant) (get (empty {X = Tenant} {R = name_cmp}) ns))) quota ≡ false
+    unnamed quota ns true = refl
+    unnamed quota ns false = ap (λ r. is_quota (option_and_then (λ (t : Tenant). t.namespace.quota) r) quota) (get-empty name_cmp ns)
+
     at_first : (pool node : Name) (n : ℕ)
         → lives_in (Some opening_tenant) pool node n ≡ lives_in (get (empty {X = Tenant} {R = name_cmp}) default_name) pool node n
     at_first pool node n = ap (live_row pool node) (get-empty nat_cmp n)

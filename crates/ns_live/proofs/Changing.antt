@@ -45,6 +45,7 @@ use Rattle.ns_types.proofs.Tables.{each_row, less_by, tied}
 use Rattle.ns_types.proofs.Tests.{first, not_Some, same_Some, second}
 use Rattle.ns_live.specs.declared.live.Live.{Live}
 use Rattle.ns_live.specs.Index.{HasRoomFor, HasRoomForAll, Indexes, has_room, holds, with_changes, with_row}
+use Rattle.ns_live.specs.Naming.{KeepsNames}
 use Rattle.ns_live.specs.Shown.{KeepsShown, ShowsUnmoved}
 use Rattle.ns_live.proofs.Unmoved.{unmoved_same, unmoved_then}
 
@@ -122,6 +123,7 @@ module _ (namespace : Name) where
         Indexes (changed_rows done row_of) new
     pub shown : (row_of : Key → Option Allocation) → ((n : ℕ) → row_of (namespace, n) ≡ row_at table n) →
         ShowsUnmoved row_of (changed_rows done row_of) old new
+    pub names : KeepsNames old new
     pub others : (pool node : Name) (key : Key) → same_name key.0 namespace ≡ false → IsTrue (has_room old pool node key) →
         IsTrue (has_room new pool node key)
     pub room : Each (λ e. HasRoomFor new (namespace, e.0) e.1) left
@@ -156,6 +158,7 @@ module _ (namespace : Name) where
   begun table changes live slots is room = record {
     index = λ row_of right rows. right;
     shown = λ row_of rows. unmoved_same row_of row_of live live refl (λ key. refl);
+    names = refl;
     others = λ pool node key other h. h;
     room = subst (Each (λ e. HasRoomFor live (namespace, e.0) e.1)) (sym is)
         (each_row numbers one_number (λ n slot. HasRoomFor live (namespace, n) slot) changes by);
@@ -179,10 +182,10 @@ module _ (namespace : Name) where
         ((row_of : Key → Option Allocation) → Indexes row_of now → row_of (namespace, e.0) ≡ row_at table e.0 →
         Indexes (with_row (namespace, e.0) e.1 row_of) new) →
         ((row_of : Key → Option Allocation) → row_of (namespace, e.0) ≡ row_at table e.0 →
-        ShowsUnmoved row_of (with_row (namespace, e.0) e.1 row_of) now new) →
+        ShowsUnmoved row_of (with_row (namespace, e.0) e.1 row_of) now new) → KeepsNames now new →
         ((pool node : Name) (key : Key) → same_key key (namespace, e.0) ≡ false → IsTrue (has_room now pool node key) → IsTrue (has_room new pool node key)) →
         IsChanging table old now (take i slots) (drop i slots) → IsChanging table old new (take (i + 1) slots) (drop (i + 1) slots)
-    one_changed changes table old now new all put moved room h =
+    one_changed changes table old now new all put moved names room h =
         let sorted : T (is_sorted nat_cmp (take i slots ++ e ∷ drop (i + 1) slots)) =
         subst (λ xs. T (is_sorted nat_cmp xs)) (sym (parts ∙ all)) (entries_sorted changes) in record {
           index = λ row_of right rows. subst (λ f. Indexes f new) (sym (one_more row_of))
@@ -192,6 +195,7 @@ module _ (namespace : Name) where
               (unmoved_then row_of (changed_rows (take i slots) row_of) (changed_row (changed_rows (take i slots) row_of) e) old now new
               (h.shown row_of rows) (moved (changed_rows (take i slots) row_of)
               (not_changed (take i slots) e.0 (earlier (take i slots) e (drop (i + 1) slots) sorted) row_of ∙ rows e.0)));
+          names = names ∙ h.names;
           others = λ pool node key other has. room pool node key (ap (λ b. b && same_number key.1 e.0) other) (h.others pool node key other has);
           room = room_still e.0 now new room (drop (i + 1) slots) (later_in (take i slots) e (drop (i + 1) slots) sorted)
               (subst (Each (λ e. HasRoomFor now (namespace, e.0) e.1)) rest_is h.room).1;
@@ -204,7 +208,7 @@ module _ (namespace : Name) where
         HasRoomFor new (namespace, e.0) e.1 → IsReserving old now (take i slots) → IsReserving old new (take (i + 1) slots)
     reserved_more old now new same shown room made h = record {
       same = λ pool node key. same pool node key ∙ h.same pool node key;
-      shown = shown ∙ h.shown;
+      shown = (shown.0 ∙ h.shown.0, shown.1 ∙ h.shown.1);
       room = λ pool node key has. room pool node key (h.room pool node key has);
       made = subst (Each (λ e. HasRoomFor new (namespace, e.0) e.1)) (sym (take_more slots i e lt ∙ ap (λ x. take i slots ++ x ∷ []) (sym is)))
           (each_append (λ e. HasRoomFor new (namespace, e.0) e.1) (take i slots) (e ∷ []) (still (take i slots) h.made) (made, tt));

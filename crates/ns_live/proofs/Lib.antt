@@ -4,7 +4,9 @@ pub mod Changing
 pub mod Forgetting
 pub mod Listing
 pub mod Loaded
+pub mod NamedQuotas
 pub mod Puts
+pub mod QuotaLevels
 pub mod Showing
 pub mod Sums
 pub mod Unmoved

@@ -23,6 +23,7 @@ use Rattle.ns_live.specs.Index.{Indexes, IsRight, KeepsKeys, holds}
 use Rattle.ns_live.specs.Index
 use Rattle.ns_live.specs.Levels.{holds_on_node}
 use Rattle.ns_live.specs.Listed.{found_at, keys_in}
+use Rattle.ns_live.specs.Naming.{KeepsNames, holds_at}
 use Rattle.ns_live.specs.Shown.{AreShown, ForgetsRow, KeepsShown, SameOn, ShowsSame, ShowsThere, ShowsUnmoved, live_row, node_seen, shown_at, shown_in}
 use Rattle.ns_live.proofs.Listing.{allocations_are, has_key-keys_in, shown}
 use Rattle.ns_types.proofs.Once.{key_is}
@@ -167,7 +168,7 @@ pub put_unmoved : (row_of : Key → Option Allocation) (key : Key) (before after
 put_unmoved row_of key before after old made mid new was kept first later pool name node is =
     let h = later pool name node is in
     let g = first pool name node h.0 in (
-      ap (λ s. shown_in s pool name) (sym kept) ∙ g.0,
+      ap (λ s. shown_in s pool name) (sym kept.0) ∙ g.0,
       λ other. by h.1 g.1 other (same_key other key) refl,
     )
   where
@@ -179,10 +180,11 @@ put_unmoved row_of key before after old made mid new was kept first later pool n
 -- ---- what stays right
 
 -- one node is shown as it is
-pub shown_right : (w : World) (old new : Live) (pool name : Name) (node : PoolNode) → KeepsKeys old new →
+pub shown_right : (w : World) (old new : Live) (pool name : Name) (node : PoolNode) → KeepsKeys old new → KeepsNames old new →
     ShowsThere pool name (Some node) old.shown new.shown → node_seen w pool name ≡ Some node → IsRight w old → IsRight w new
-shown_right w old new pool name node keys there seen right = record {
+shown_right w old new pool name node keys names there seen right = record {
   index = λ p n key. keys p n key ∙ right.index p n key;
+  quotas = λ quota ns. ap (λ held. holds_at held (quota, ns)) names ∙ right.quotas quota ns;
   shown = λ p n other is. by p n other (same_name p pool && same_name n name) refl (sym (there p n) ∙ is);
 }
   where
@@ -193,8 +195,9 @@ shown_right w old new pool name node keys there seen right = record {
     by p n other false t is = right.shown p n other is
 
 -- the same keys, and the same is shown
-pub still_right : (w : World) (old new : Live) → KeepsKeys old new → ShowsSame old.shown new.shown → IsRight w old → IsRight w new
-still_right w old new keys same right = record {
+pub still_right : (w : World) (old new : Live) → KeepsKeys old new → KeepsNames old new → ShowsSame old.shown new.shown → IsRight w old → IsRight w new
+still_right w old new keys names same right = record {
   index = λ p n key. keys p n key ∙ right.index p n key;
+  quotas = λ quota ns. ap (λ held. holds_at held (quota, ns)) names ∙ right.quotas quota ns;
   shown = λ p n node is. right.shown p n node (sym (same p n) ∙ is);
 }

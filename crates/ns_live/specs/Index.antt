@@ -9,6 +9,7 @@ use Rattle.ns_types.specs.State.Names.{Name, Key, ByNumber, same_key, same_name}
 use Rattle.ns_types.specs.State.Rows.{World, allocation_at, is_live, is_live_on}
 use Rattle.ns_live.specs.declared.live.Live.{Live}
 use Rattle.ns_live.specs.Levels.{has_pool_room, holds_in_pool}
+use Rattle.ns_live.specs.Naming.{AreNamed, holds_at}
 use Rattle.ns_live.specs.Shown.{AreShown, shown_at}
 
 -- whether the index holds the key on this node of this pool
@@ -33,16 +34,18 @@ abbrev pub Indexes : (Key → Option Allocation) → Live → Type 0
 Indexes row_of live = (pool node : Name) (key : Key) →
     holds live pool node key ≡ option_map_or (is_live_on pool node) (row_of key) false
 
--- The index is right, and so is what is shown: nothing is presumed of the world, whose allocations may name pools and
--- nodes that are not there.
+-- The index is right, and so is what is shown, and which namespaces name which quota: nothing is presumed of the world,
+-- whose allocations may name pools and nodes that are not there.
 pub record IsRight (w : World) (live : Live) : Type 0 where
   pub index : Indexes (allocation_at w) live
   pub shown : AreShown w live
+  pub quotas : AreNamed w live
 
--- no keys, and no node is shown
+-- no keys, no node is shown, and no namespace is held to name a quota
 pub record IsEmpty (live : Live) : Type 0 where
   pub keys : (pool node : Name) (key : Key) → holds live pool node key ≡ false
   pub shown : (pool name : Name) → shown_at live pool name ≡ None
+  pub names : (quota ns : Name) → holds_at live.quotas (quota, ns) ≡ false
 
 -- the rows with another one, or none, under the key
 abbrev pub with_row : Key → Option Allocation → (Key → Option Allocation) → Key → Option Allocation

@@ -13,16 +13,17 @@ use Rattle.ns_types.specs.Steps.{opening}
 use Rattle.ns_types.specs.Validity.{IsSound}
 use Rattle.ns_live.specs.declared.live.Live.{Live}
 use Rattle.ns_live.specs.Index.{IsEmpty, IsRight}
+use Rattle.ns_live.specs.Naming.{AreNamed, KeepsNodes}
 
--- nothing is live or shown at first
+-- nothing is live or shown at first, and no quota is named
 abbrev pub EmptyIsRightAtFirst : Type 0
 EmptyIsRightAtFirst = (secret : Name) (live : Live) → IsEmpty live → IsRight (opening secret).world live
 
--- administrators move no live allocation and change no node
+-- administrators move no live allocation and change no node: only which namespaces name which quota is to be put right
 abbrev pub AdministrationKeepsRight : Type 0
 AdministrationKeepsRight = (secret : Option Name) (command : AdminCommand) (s s' : State)
-    (result : Result Content Refusal) (live : Live) → Changes (administer secret command s) s result s' →
-    IsRight s.world live → IsRight s'.world live
+    (result : Result Content Refusal) (live live' : Live) → Changes (administer secret command s) s result s' →
+    IsRight s.world live → KeepsNodes live live' → AreNamed s'.world live' → IsRight s'.world live'
 
 -- the load of each node fits 64 bits, be it there or not
 abbrev pub SoundLoadsFit : Type 0

@@ -3,4 +3,5 @@ pub mod Laws
 pub mod Levels
 pub mod Listed
 pub mod Loads
+pub mod Naming
 pub mod Shown

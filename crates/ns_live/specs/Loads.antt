@@ -10,7 +10,8 @@ use Rattle.ns_types.specs.State.Limits.{is_amount}
 use Rattle.ns_types.specs.State.Names.{Name, Key, ByName, ByNumber}
 use Rattle.ns_types.specs.State.Resources.{is_within}
 use Rattle.ns_types.specs.State.Rows.{World, allocation_at, is_live, node_at}
-use Rattle.ns_types.specs.State.Sums.{node_load}
+use Rattle.ns_types.specs.State.Sums.{node_load, tenant_sum}
+use Rattle.ns_world.specs.World.{tenant_of}
 use Rattle.ns_world.specs.declared.tables.TenantRows.{TenantRows}
 use Rattle.keyed.specs.declared.key_set.KeySet.{KeySet}
 
@@ -42,3 +43,13 @@ namespace_amount tenants amount (ns, Some numbers) =
 
 abbrev pub keys_amount : ByName (Option TenantRows) → KeySet → (Resources → ℕ) → ℕ
 keys_amount tenants keys amount = sum_by (namespace_amount tenants amount) (entries keys.numbers)
+
+-- ---- what namespaces take together: a vacant slot is no name
+
+abbrev pub name_amount : ByName (Option TenantRows) → (Resources → ℕ) → Name × Option Unit → ℕ
+name_amount tenants amount (ns, None) = 0
+name_amount tenants amount (ns, Some row) =
+    option_map_or (λ tenant. tenant_sum is_live amount (tenant_of tenant)) (row_at tenants ns) 0
+
+abbrev pub names_amount : ByName (Option TenantRows) → ByName (Option Unit) → (Resources → ℕ) → ℕ
+names_amount tenants names amount = sum_by (name_amount tenants amount) (entries names)

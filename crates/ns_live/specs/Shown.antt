@@ -11,6 +11,7 @@ use Rattle.ns_types.specs.State.Rows.{World, is_live_on, node_at}
 use Rattle.ns_types.specs.Working.Snapshot.{live_on}
 use Rattle.ns_live.specs.declared.live.Live.{Live}
 use Rattle.ns_live.specs.declared.shown.ShownNodes.{ShownNodes}
+use Rattle.ns_live.specs.Naming.{KeepsNames}
 
 -- ---- what is shown
 
@@ -67,6 +68,6 @@ abbrev pub ForgetsNodes : Name → ByName (Option Node) → Live → Live → Ty
 ForgetsNodes pool changes old new = (p n : Name) (node : PoolNode) → shown_at new p n ≡ Some node →
     (shown_at old p n ≡ Some node) × (same_name p pool ≡ true → get changes n ≡ None)
 
--- nothing was shown or forgotten
+-- nothing was shown or forgotten, and which namespaces name which quota stays
 abbrev pub KeepsShown : Live → Live → Type 0
-KeepsShown old new = new.shown ≡ old.shown
+KeepsShown old new = (new.shown ≡ old.shown) × KeepsNames old new

@@ -2,13 +2,13 @@
 
 ghost use Rattle.ns_live.specs.Laws.{AdministrationKeepsRight, EmptyIsRightAtFirst, SoundLoadsFit};
 
-/// An index of no keys that shows no node is right for the opening world.
+/// An index of no keys that shows no node and holds no quota is right for the opening world.
 pub fn empty_is_right_at_first()
     ensures { EmptyIsRightAtFirst }
 {}
 
-/// An index that is right stays so over what administrators ask: no namespace goes that has a live allocation, and no node
-/// changes.
+/// An index that is right stays so over what administrators ask, where it follows which namespaces name which quota: no
+/// namespace goes that has a live allocation, and no node changes.
 pub fn administration_keeps_right()
     ensures { AdministrationKeepsRight }
 {}

@@ -1,41 +1,48 @@
-//! The live allocations on all nodes, and the nodes as they were last shown.
+//! The live allocations on all nodes, the nodes as they were last shown, and which namespaces name which quota.
 
-ghost use Rattle.std.specs.Prelude.{◌≡◌, ℕ, false, IsTrue, None, OnErr, OnOk, Option, Some, is_some, option_copied};
+ghost use Rattle.std.specs.Prelude.{◌≡◌, ℕ, false, IfOk, IsTrue, None, OnErr, OnOk, Option, Some, is_some};
+ghost use Rattle.std.specs.Prelude.{option_copied};
 ghost use Rattle.std.specs.Option.{option_map_or};
 ghost use Rattle.keyed.specs.Table.{row_at};
 ghost use Rattle.ns_types.specs.declared.allocation.Allocation.{Allocation};
 ghost use Rattle.ns_types.specs.declared.snapshot.PoolNode.{PoolNode};
 ghost use Rattle.ns_types.specs.State.Names.{Key, Name, same_key, same_name};
 ghost use Rattle.ns_types.specs.State.Resources.{IsCounted};
-ghost use Rattle.ns_types.specs.State.Rows.{is_live, is_live_on};
-ghost use Rattle.ns_types.specs.State.Sums.{node_load};
+ghost use Rattle.ns_types.specs.State.Rows.{World, is_live, is_live_on};
+ghost use Rattle.ns_types.specs.State.Sums.{node_load, quota_use};
+ghost use Rattle.ns_types.specs.Working.Snapshot.{namespaces_naming};
 ghost use Rattle.ns_live.specs.Index.{AddsRow, HasRoomFor, HasRoomForAll, Indexes, IsEmpty, IsRight};
 ghost use Rattle.ns_live.specs.Index.{KeepsKeys, KeepsRoom};
 ghost use Rattle.ns_live.specs.Index.{has_room, holds, with_changes, with_row};
 ghost use Rattle.keyed.specs.Levels.{Adds, Drops, Keeps, holds_key, same_at};
 ghost use Rattle.ns_live.specs.Levels.{holds_in_pool, has_pool_room};
+ghost use Rattle.ns_live.specs.Naming.{AreNamed, HasNameRoom, HoldsSame, KeepsNames, KeepsNodes, PutsQuota};
 ghost use Rattle.ns_live.specs.Shown.{ForgetsNodes, KeepsShown, ShowsSame, ShowsThere, ShowsUnmoved, live_row, shown_at};
 ghost use Rattle.ns_world.specs.World.{world_of};
 
 use crate::loads::keys_load;
+use crate::naming::{QuotaNames, copied_names, names_use};
 use crate::pool_keys::PoolKeys;
 use crate::shown::ShownNodes;
 use keyed::{KeySet, NameTable, NumberTable};
 use ns_types::allocation::Allocation;
 use ns_types::node::Node;
 use ns_types::resources::{Resources, none};
+use ns_types::rows::Rows;
 use ns_types::shared::Shared;
 use ns_types::snapshot::PoolNode;
 use ns_types::text::{Text, same_text};
 use ns_world::Tables;
 use std::alloc::{AllocError, Global};
 
-/// The keys of all live allocations, by the pool and the node that they are on, and the nodes that are shown.
+/// The keys of all live allocations, by the pool and the node that they are on, the nodes that are shown, and the names of
+/// the namespaces, by the quota that they name.
 #[derive(Drop)]
 pub struct Live {
     alloc: Global,
     pools: NameTable<PoolKeys>,
     shown: ShownNodes,
+    quotas: QuotaNames,
 }
 
 fn is_live_on(row: Option<&Allocation>, pool: &Text, node: &Text) -> bool
@@ -61,7 +68,7 @@ fn is_beside(last: Option<&Allocation>, row: Option<&Allocation>) -> bool
 }
 
 impl Live {
-    /// No keys, and no node is shown. It takes no memory.
+    /// No keys and no names, and no node is shown. It takes no memory.
     pub fn new(alloc: Global) -> Live
         ensures { IsEmpty result }
     {
@@ -69,6 +76,7 @@ impl Live {
             alloc,
             pools: NameTable::new(alloc),
             shown: ShownNodes::new(alloc),
+            quotas: QuotaNames::new(alloc),
         }
     }
 
@@ -108,6 +116,7 @@ impl Live {
             ShowsUnmoved row_of
             (with_row (namespace.now, number) (option_copied after.entry) row_of)
             self.old self.new }
+        ensures names { KeepsNames self.old self.new }
         ensures room { (pool : Name) (node : Name) (key : Key) →
             same_key key (namespace.now, number) ≡ false →
             IsTrue (has_room self.old pool node key) → IsTrue (has_room self.new pool node key) }
@@ -136,6 +145,7 @@ impl Live {
             ShowsUnmoved row_of
             (with_row (namespace.now, number) (option_copied after.entry) row_of)
             self.old self.new }
+        ensures names { KeepsNames self.old self.new }
         ensures room { (pool : Name) (node : Name) (key : Key) →
             same_key key (namespace.now, number) ≡ false →
             IsTrue (has_room self.old pool node key) → IsTrue (has_room self.new pool node key) }
@@ -206,6 +216,7 @@ impl Live {
         ensures shown { (row_of : Key → Option Allocation) →
             ((n : ℕ) → row_of (namespace.now, n) ≡ row_at table.now n) →
             ShowsUnmoved row_of (with_changes namespace.now changes.now row_of) self.old self.new }
+        ensures names { KeepsNames self.old self.new }
         ensures room { (pool : Name) (node : Name) (key : Key) →
             same_name key.0 namespace.now ≡ false →
             IsTrue (has_room self.old pool node key) → IsTrue (has_room self.new pool node key) }
@@ -222,6 +233,7 @@ impl Live {
     pub fn forget_all(&mut self, pool: &Text, changes: &NameTable<Node>)
         ensures keys { KeepsKeys self.old self.new }
         ensures shown { ForgetsNodes pool.now changes.now self.old self.new }
+        ensures names { KeepsNames self.old self.new }
     {
         for slot in changes.as_slice() {
             self.shown.forget(pool, &slot.0, slot.1.is_some());
@@ -243,6 +255,7 @@ impl Live {
         node: Shared<PoolNode>,
     ) -> Result<(), AllocError>
         ensures keys { KeepsKeys self.old self.new }
+        ensures names { KeepsNames self.old self.new }
         ensures ok { OnOk result (
             ShowsThere pool.now name.now (Some node) self.old.shown self.new.shown) }
         ensures err { OnErr result (ShowsSame self.old.shown self.new.shown) }
@@ -272,6 +285,56 @@ impl Live {
     {
         match self.keys_on(pool, node) {
             Some(keys) => keys_load(tables, keys),
+            None => none(),
+        }
+    }
+
+    // ---- which namespaces name which quota
+
+    /// Makes room for the namespace at the quota that it names, if any. Want of memory is the only error.
+    pub fn reserve_quota(
+        &mut self,
+        namespace: &Text,
+        quota: Option<&Text>,
+    ) -> Result<(), AllocError>
+        ensures nodes { KeepsNodes self.old self.new }
+        ensures same { HoldsSame self.old.quotas self.new.quotas }
+        ensures ok { OnOk result (
+            HasNameRoom self.new.quotas namespace.now (option_copied quota.entry)) }
+    {
+        self.quotas.reserve(self.alloc, namespace, quota)
+    }
+
+    /// The namespace named the quota `before`, and names `after` from now on. It takes no memory: there has to be room.
+    pub fn put_quota(&mut self, namespace: &Text, before: Option<&Text>, after: Option<&Text>)
+        requires { HasNameRoom self.old.quotas namespace.now (option_copied after) }
+        ensures nodes { KeepsNodes self.old self.new }
+        ensures names { PutsQuota namespace.now (option_copied before.entry)
+            (option_copied after.entry) self.old.quotas self.new.quotas }
+    {
+        self.quotas.put(namespace, before, after);
+    }
+
+    /// The namespaces that name the quota, by name. It looks at no other. Want of memory is the only error.
+    pub fn namespaces_naming(&self, quota: &Text) -> Result<Rows<Text>, AllocError>
+        ensures { (w : World) → AreNamed w self.now →
+            IfOk result (λ names. names ≡ namespaces_naming w quota.now) }
+    {
+        match self.quotas.names_of(quota) {
+            Some(names) => copied_names(self.alloc, names.as_slice()),
+            None => Ok(Rows::new(self.alloc)),
+        }
+    }
+
+    /// What the live allocations of all namespaces that name the quota take together, by names that are right for the
+    /// tables. It looks at no other namespace, and at no allocation. It takes no memory. The premise is that the sums fit.
+    pub fn quota_use(&self, tables: &Tables, quota: &Text) -> Resources
+        requires named { AreNamed (world_of tables.now) self.now }
+        requires fits { IsCounted (quota_use (world_of tables.now) quota.now) }
+        ensures { result ≡ quota_use (world_of tables.now) quota.now }
+    {
+        match self.quotas.names_of(quota) {
+            Some(names) => names_use(tables, names),
             None => none(),
         }
     }

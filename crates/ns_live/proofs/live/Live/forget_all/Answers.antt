@@ -8,11 +8,14 @@ loop-slot-init c = begun c.args.pool.now c.args.self.now
 
 pub loop-slot-preserved : goal.loop-slot-preserved
 loop-slot-preserved c = one_forgotten c.args.pool.now c.as_slice-slot-items.result.now c.loop-slot.slot-index c.slot-item.result c.loop-slot-test.true
-    c.slot-item.is c.args.self.now c.loop-slot.self (record c.loop-slot.self { shown = c.forget.new.self }) (λ p n key. refl) c.forget.ensures
+    c.slot-item.is c.args.self.now c.loop-slot.self (record c.loop-slot.self { shown = c.forget.new.self }) (λ p n key. refl) refl c.forget.ensures
     c.loop-slot.invariant
 
 pub returns-clause-keys : goal.returns-clause-keys
 returns-clause-keys c = c.loop-slot.invariant.keys
+
+pub returns-clause-names : goal.returns-clause-names
+returns-clause-names c = c.loop-slot.invariant.names
 
 pub returns-clause-shown : goal.returns-clause-shown
 returns-clause-shown c = all_forgotten c.args.pool.now c.args.changes.now c.as_slice-slot-items.result.now c.as_slice-slot-items.ensures c.args.self.now

@@ -1,12 +1,16 @@
 use Rattle.ns_live.specs.declared.live.Live.{Live}
+use Rattle.ns_live.specs.declared.naming.QuotaNames.{QuotaNames}
 use Rattle.ns_live.specs.Levels.{holds_on_node}
+use Rattle.ns_live.specs.Naming.{holds_name}
 use Rattle.keyed.proofs.Levels.{says_nothing}
 use Rattle.ns_live.proofs.Showing.{shows_none}
 use Rattle.ns_live.proofs.live.Live.new.Goals as goal
 
 pub returns : goal.returns
 returns c = record {
-  keys = λ pool node key. says_nothing (λ (s : Live). s.pools) holds_on_node (record { alloc = c.args.alloc; pools = c.new.result; shown = c.new-2.result })
+  keys = λ pool node key. says_nothing (λ (s : Live). s.pools) holds_on_node
+      (record { alloc = c.args.alloc; pools = c.new.result; shown = c.new-2.result; quotas = c.new-3.result })
       c.new.ensures (pool, (node, key));
   shown = λ pool name. shows_none c.new-2.result c.new-2.ensures pool name;
+  names = λ quota ns. says_nothing (λ (s : QuotaNames). s.quotas) holds_name c.new-3.result c.new-3.ensures (quota, ns);
 }

@@ -14,5 +14,11 @@ returns-else-not-is_beside-clause-shown c row_of was = put_unmoved row_of (c.arg
     (λ pool name node is. (
       is,
       c.is_beside.ensures c.if-not-is_beside.false pool name (c.requires.last pool name node
-          (ap (λ s. shown_in s pool name) (sym c.put_key.ensures.shown) ∙ (c.forget_row.ensures pool name node is).0)),
+          (ap (λ s. shown_in s pool name) (sym c.put_key.ensures.shown.0) ∙ (c.forget_row.ensures pool name node is).0)),
     ))
+
+pub returns-then-not-is_beside-clause-names : goal.returns-then-not-is_beside-clause-names
+returns-then-not-is_beside-clause-names c = c.put_key.ensures.shown.1
+
+pub returns-else-not-is_beside-clause-names : goal.returns-else-not-is_beside-clause-names
+returns-else-not-is_beside-clause-names c = c.put_key.ensures.shown.1

@@ -26,7 +26,7 @@ loop-slot-preserved c =
           (c.put_after.ensures.index row_of right (was ∙ sym c.get.ensures)))
           (λ row_of was. subst (λ r. ShowsUnmoved row_of (with_row key r row_of) c.loop-slot.self new) c.as_ref-after.ensures.value
           (c.put_after.ensures.shown row_of (was ∙ sym c.get.ensures)))
-          c.put_after.ensures.room c.loop-slot.invariant.0,
+          c.put_after.ensures.names c.put_after.ensures.room c.loop-slot.invariant.0,
       λ pool name node is. c.put_after.ensures.last pool name node is,
     )
 
@@ -35,6 +35,9 @@ returns-clause-index c row_of right rows pool node key = c.loop-slot.invariant.0
     ∙ ap (λ r. option_map_or (is_live_on pool node) r false)
     (ap (λ xs. changed_rows c.args.namespace.now xs row_of key) (take_all c.as_slice-slot-items.result.now c.loop-slot.slot-index c.loop-slot-test.false)
     ∙ all_changed c.args.namespace.now c.args.changes.now c.as_slice-slot-items.result.now c.as_slice-slot-items.ensures row_of key)
+
+pub returns-clause-names : goal.returns-clause-names
+returns-clause-names c = c.loop-slot.invariant.0.names
 
 pub returns-clause-shown : goal.returns-clause-shown
 returns-clause-shown c row_of rows = unmoved_as row_of (changed_rows c.args.namespace.now (take c.loop-slot.slot-index c.as_slice-slot-items.result.now) row_of)
