@@ -2,9 +2,8 @@ pub mod Any
 pub mod Bounded
 pub mod Candidates
 pub mod Counted
-pub mod Gone
+pub mod First
 pub mod Listed
-pub mod Lost
 pub mod Making
 pub mod Nothing
 pub mod NumberedRows

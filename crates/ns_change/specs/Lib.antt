@@ -1,5 +1,4 @@
 pub mod Changed
-pub mod Gone
 pub mod Opened
 pub mod Prepared
 pub mod Queued

@@ -4,6 +4,7 @@ ghost use Rattle.std.specs.Prelude.{◌≡◌, IfOk};
 
 use ns_types::allocation::Allocation;
 use ns_types::node::{Node, Offer};
+use ns_types::text::Text;
 use std::alloc::AllocError;
 
 /// A copy of what a node offers.
@@ -29,16 +30,24 @@ pub fn copied_node(row: &Node) -> Result<Node, AllocError>
     })
 }
 
+fn copied_pair(first: &Text, second: &Text) -> Result<(Text, Text), AllocError>
+    ensures { IfOk result (λ copies. copies ≡ (first.now, second.now)) }
+{
+    Ok((first.clone()?, second.clone()?))
+}
+
 /// A copy of the row.
 pub fn copied_allocation(row: &Allocation) -> Result<Allocation, AllocError>
     ensures { IfOk result (λ copy. copy ≡ row.now) }
 {
+    let (job, group) = copied_pair(&row.job, &row.group)?;
+    let (pool, node) = copied_pair(&row.pool, &row.node)?;
     Ok(Allocation {
-        job: row.job.clone()?,
-        group: row.group.clone()?,
+        job,
+        group,
         evaluation: row.evaluation,
-        pool: row.pool.clone()?,
-        node: row.node.clone()?,
+        pool,
+        node,
         place: row.place,
         size: row.size,
         priority: row.priority,

@@ -7,6 +7,7 @@ ghost use Rattle.ns_change.specs.Changed.{DoesIn, changed_tenant, without_job};
 
 use crate::change::{Change, TenantChange};
 use crate::editing::open;
+use crate::numbered::put_name;
 use ns_types::job::Job;
 use ns_types::text::Text;
 use ns_world::Tables;
@@ -17,9 +18,7 @@ fn put_among(changed: &mut TenantChange, id: &Text, row: Job) -> Result<(), Allo
     ensures { OnOk result ((base : Tenant) → changed_tenant base changed.new
         ≡ with_job id.now row (changed_tenant base changed.old)) }
 {
-    changed.jobs.reserve(id)?;
-    changed.jobs.set(id, row);
-    Ok(())
+    put_name(&mut changed.jobs, id, row)
 }
 
 /// Takes the job away among those that change.
@@ -42,13 +41,21 @@ pub fn put_job(
 ) -> Result<(), AllocError>
     ensures { DoesIn namespace.now result tables.now change.old change.new (with_job id.now row) }
 {
-    let Some(mut tenant) = open(tables, change, namespace)? else {
-        drop(row);
-        return Ok(());
-    };
-    let put = put_among(&mut tenant, id, row);
-    change.tenants.set(namespace, tenant);
-    put
+    match open(tables, change, namespace) {
+        Ok(Some(mut tenant)) => {
+            let put = put_among(&mut tenant, id, row);
+            change.tenants.set(namespace, tenant);
+            put
+        }
+        Ok(None) => {
+            drop(row);
+            Ok(())
+        }
+        Err(error) => {
+            drop(row);
+            Err(error)
+        }
+    }
 }
 
 /// Takes a job away.

@@ -1,6 +1,6 @@
 //! What goes out of the lists of evaluations, and what is put at their ends.
 
-ghost use Rattle.std.specs.Prelude.{OnOk};
+ghost use Rattle.std.specs.Prelude.{◌≡◌, ◌++◌, OnOk};
 ghost use Rattle.ns_types.specs.Working.Work.{without_key};
 ghost use Rattle.ns_change.specs.Changed.{Does, DoesToList, with_blocked_key, with_key, with_plan, with_ready};
 ghost use Rattle.ns_change.specs.Changed.{without_blocked_key, without_keys, without_plan, without_ready};
@@ -11,6 +11,41 @@ use ns_alike::has_key;
 use ns_types::key::EvalKey;
 use ns_types::rows::Rows;
 use std::alloc::{AllocError, Global};
+use std::slice;
+
+/// Puts a copy of the key at the end.
+fn push_copy(keys: &mut Rows<EvalKey>, key: &EvalKey) -> Result<(), AllocError>
+    ensures { OnOk result (keys.new ≡ with_key key.now keys.old) }
+{
+    let key = key.clone()?;
+    keys.push(key)
+}
+
+/// Puts copies of all keys at the end.
+fn push_all(keys: &mut Rows<EvalKey>, more: &[EvalKey]) -> Result<(), AllocError>
+    ensures { OnOk result (keys.new ≡ keys.old ++ more.now) }
+{
+    for key in more {
+        push_copy(keys, key)?;
+    }
+    Ok(())
+}
+
+/// Puts copies of those at the end that are not to be taken.
+fn push_others(
+    keys: &mut Rows<EvalKey>,
+    more: &[EvalKey],
+    taken: &[EvalKey],
+) -> Result<(), AllocError>
+    ensures { OnOk result (keys.new ≡ keys.old ++ without_keys taken.now more.now) }
+{
+    for key in more {
+        if !has_key(taken, key) {
+            push_copy(keys, key)?;
+        }
+    }
+    Ok(())
+}
 
 /// Takes those keys out of a list.
 pub(crate) fn take_out(
@@ -21,24 +56,16 @@ pub(crate) fn take_out(
     ensures { OnOk result (DoesToList (without_keys keys.now) list.old list.new) }
 {
     let mut added = Rows::new(alloc);
-    for key in list.added.as_slice() {
-        if !has_key(keys, key) {
-            added.push(key.clone()?)?;
-        }
-    }
+    push_others(&mut added, list.added.as_slice(), keys)?;
     list.added = added;
-    for key in keys {
-        list.taken.push(key.clone()?)?;
-    }
-    Ok(())
+    push_all(&mut list.taken, keys)
 }
 
 /// Takes one key out of a list.
 fn take_key(alloc: Global, list: &mut ListChange, key: &EvalKey) -> Result<(), AllocError>
     ensures { OnOk result (DoesToList (without_key key.now) list.old list.new) }
 {
-    let keys = [key.clone()?];
-    take_out(alloc, list, &keys)
+    take_out(alloc, list, slice::from_ref(key))
 }
 
 /// Puts a key at a list's end.

@@ -1,11 +1,12 @@
-//! Rows as a change leaves them: the change's own first.
+//! Rows as a change leaves them: the change's own first. And whether an allocation is live on a node.
 
 ghost use Rattle.std.specs.Prelude.{◌≡◌, option_copied};
-ghost use Rattle.ns_types.specs.State.Rows.{allocation_at, evaluation_at, node_at};
+ghost use Rattle.ns_types.specs.State.Rows.{allocation_at, evaluation_at, is_live, is_live_on, node_at};
 ghost use Rattle.ns_change.specs.Changed.{view};
 
 use crate::change::Change;
 use crate::numbered::row;
+use ns_alike::same_text;
 use ns_types::allocation::Allocation;
 use ns_types::evaluation::Evaluation;
 use ns_types::node::Node;
@@ -54,4 +55,11 @@ pub fn allocation<'a>(
         ≡ allocation_at (view tables.now change.now) (namespace.now, number) }
 {
     row(tables, change, namespace, number)
+}
+
+/// Whether the allocation is live and on that node of the pool.
+pub fn is_live_on(pool: &Text, node: &Text, allocation: &Allocation) -> bool
+    ensures { result ≡ is_live_on pool.now node.now allocation.now }
+{
+    allocation.is_live() && (same_text(pool, &allocation.pool) && same_text(node, &allocation.node))
 }

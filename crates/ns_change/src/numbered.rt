@@ -5,6 +5,7 @@ ghost use Rattle.std.specs.FinMap.{FinMap, insert};
 ghost use Rattle.std.specs.Ordering.{nat_cmp};
 ghost use Rattle.keyed.specs.Over.{over};
 ghost use Rattle.keyed.specs.Table.{rows};
+ghost use Rattle.ns_types.specs.State.Names.{name_cmp};
 ghost use Rattle.ns_types.specs.State.Rows.{Tenant};
 ghost use Rattle.ns_types.specs.Working.Work.{with_worker};
 ghost use Rattle.ns_change.specs.Changed.{DoesIn, changed_tenant, put_allocation, put_evaluation, row_in, view};
@@ -12,7 +13,7 @@ ghost use Rattle.ns_world.specs.World.{tenant_of};
 
 use crate::change::{Change, TenantChange};
 use crate::editing::open;
-use keyed::NumberTable;
+use keyed::{NameTable, NumberTable};
 use ns_types::allocation::Allocation;
 use ns_types::evaluation::Evaluation;
 use ns_types::text::Text;
@@ -123,6 +124,20 @@ fn put_slot<V: Drop>(changed: &mut NumberTable<V>, number: u64, row: V) -> Resul
 {
     changed.reserve(number)?;
     changed.set(number, row);
+    Ok(())
+}
+
+/// The same under a name.
+pub(crate) fn put_name<V: Drop>(
+    changed: &mut NameTable<V>,
+    name: &Text,
+    row: V,
+) -> Result<(), AllocError>
+    ensures { OnOk result ((m : FinMap name_cmp V) → over m changed.new
+        ≡ insert (over m changed.old) name.now row) }
+{
+    changed.reserve(name)?;
+    changed.set(name, row);
     Ok(())
 }
 

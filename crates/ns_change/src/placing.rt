@@ -12,6 +12,7 @@ use crate::change::{Change, PoolChange, TenantChange};
 use crate::copying::copied_node;
 use crate::editing::unchanged;
 use crate::looking::node;
+use crate::numbered::put_name;
 use keyed::NameTable;
 use ns_types::allocation::Allocation;
 use ns_types::node::Node;
@@ -44,9 +45,7 @@ fn put_among(changed: &mut PoolChange, name: &Text, row: Node) -> Result<(), All
     ensures { OnOk result ((base : PoolRows) → changed_pool base changed.new
         ≡ with_node name.now row (changed_pool base changed.old)) }
 {
-    changed.nodes.reserve(name)?;
-    changed.nodes.set(name, row);
-    Ok(())
+    put_name(&mut changed.nodes, name, row)
 }
 
 /// Takes the node away among those that change.
@@ -69,13 +68,21 @@ pub fn put_node(
 ) -> Result<(), AllocError>
     ensures { DoesInPool pool.now result tables.now change.old change.new (with_node name.now row) }
 {
-    let Some(mut changed) = open_pool(tables, change, pool)? else {
-        drop(row);
-        return Ok(());
-    };
-    let put = put_among(&mut changed, name, row);
-    change.pools.set(pool, changed);
-    put
+    match open_pool(tables, change, pool) {
+        Ok(Some(mut changed)) => {
+            let put = put_among(&mut changed, name, row);
+            change.pools.set(pool, changed);
+            put
+        }
+        Ok(None) => {
+            drop(row);
+            Ok(())
+        }
+        Err(error) => {
+            drop(row);
+            Err(error)
+        }
+    }
 }
 
 /// Takes a node of a pool away.

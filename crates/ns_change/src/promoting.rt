@@ -52,10 +52,12 @@ fn is_of(slot: &EvaluationSlot, job: &Text, wanted: Status) -> bool
 fn first_in(slots: &[EvaluationSlot], job: &Text, wanted: Status) -> Option<u64>
     ensures { result ≡ first_slot (at_slot (standing wanted job.now)) slots.now }
 {
-    slots
-        .iter()
-        .find(|slot| is_of(slot, job, wanted))
-        .map(|slot| slot.0)
+    for slot in slots {
+        if is_of(slot, job, wanted) {
+            return Some(slot.0);
+        }
+    }
+    None
 }
 
 /// Whether the row of that number, as it was before the step, is of the job and stands so.
@@ -81,10 +83,12 @@ fn first_numbered(
     ensures { result ≡ first_slot (λ slot. row_passes (of_job (stands wanted) job.now)
         (rows tenant.now.evaluations.slots) slot.0) slots.now }
 {
-    slots
-        .iter()
-        .find(|slot| is_stored(tenant, job, wanted, slot.0))
-        .map(|slot| slot.0)
+    for slot in slots {
+        if is_stored(tenant, job, wanted, slot.0) {
+            return Some(slot.0);
+        }
+    }
+    None
 }
 
 /// Of those that are not changed the first.
@@ -98,10 +102,12 @@ fn first_unchanged(
     ensures { result ≡ first_slot (λ slot. unheld_passes (of_job (stands wanted) job.now)
         (rows tenant.now.evaluations.slots) changed.now slot.0) slots.now }
 {
-    slots
-        .iter()
-        .find(|slot| !changed.has_slot(slot.0) && is_stored(tenant, job, wanted, slot.0))
-        .map(|slot| slot.0)
+    for slot in slots {
+        if !changed.has_slot(slot.0) && is_stored(tenant, job, wanted, slot.0) {
+            return Some(slot.0);
+        }
+    }
+    None
 }
 
 /// The job's first before the step: only the job's own numbers are looked up.

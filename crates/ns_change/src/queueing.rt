@@ -49,8 +49,12 @@ fn is_of_job(
 fn has_number(keys: &[EvalKey], namespace: &Text, number: u64) -> bool
     ensures { result ≡ has_key keys.now (namespace.now, number) }
 {
-    keys.iter().any(|key| same_text(namespace, key.namespace())
-        && same_number(number, key.number()))
+    for key in keys {
+        if same_text(namespace, key.namespace()) && same_number(number, key.number()) {
+            return true;
+        }
+    }
+    false
 }
 
 /// Whether the evaluation of that number stays in the list, and is of the job.
@@ -84,7 +88,12 @@ fn is_among_left<T>(
     ensures { result ≡ list_any (λ slot. is_left_in tables.now change.now base.now.items taken.now
         namespace.now job.now slot.0) slots.now }
 {
-    slots.iter().any(|slot| is_left(tables, change, base, taken, namespace, job, slot.0))
+    for slot in slots {
+        if is_left(tables, change, base, taken, namespace, job, slot.0) {
+            return true;
+        }
+    }
+    false
 }
 
 /// Whether one of the job's numbers in the namespace's table stays in the list.
@@ -135,25 +144,6 @@ fn any_left(
     among_stored || is_among_left(tables, change, base, taken, namespace, job, slots)
 }
 
-fn is_key_of_job(
-    tables: &Tables,
-    change: &Change,
-    namespace: &Text,
-    job: &Text,
-    key: &EvalKey,
-) -> bool
-    ensures { result ≡ is_of tables.now change.now namespace.now job.now key.now }
-{
-    is_of_job(
-        tables,
-        change,
-        namespace,
-        job,
-        key.namespace(),
-        key.number(),
-    )
-}
-
 fn is_among(
     tables: &Tables,
     change: &Change,
@@ -163,8 +153,19 @@ fn is_among(
 ) -> bool
     ensures { result ≡ list_any (is_of tables.now change.now namespace.now job.now) keys.now }
 {
-    keys.iter()
-        .any(|key| is_key_of_job(tables, change, namespace, job, key))
+    for key in keys {
+        if is_of_job(
+            tables,
+            change,
+            namespace,
+            job,
+            key.namespace(),
+            key.number(),
+        ) {
+            return true;
+        }
+    }
+    false
 }
 
 /// Whether a list has an evaluation of the job.
@@ -220,9 +221,12 @@ fn any_works(
 ) -> bool
     ensures { result ≡ list_any (works_on tables.now change.now namespace.now job.now) slots.now }
 {
-    slots
-        .iter()
-        .any(|slot| works_on(tables, change, namespace, job, slot))
+    for slot in slots {
+        if works_on(tables, change, namespace, job, slot) {
+            return true;
+        }
+    }
+    false
 }
 
 /// Whether one that is not changed works on the job.
@@ -237,8 +241,12 @@ fn another_works(
     ensures { result ≡ list_any (is_left changed.now
         (works_on tables.now change.now namespace.now job.now)) slots.now }
 {
-    slots.iter().any(|slot| !changed.has_slot(slot.0)
-        && works_on(tables, change, namespace, job, slot))
+    for slot in slots {
+        if !changed.has_slot(slot.0) && works_on(tables, change, namespace, job, slot) {
+            return true;
+        }
+    }
+    false
 }
 
 /// Whether some worker of the namespace has an evaluation of the job.

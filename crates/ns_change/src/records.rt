@@ -12,8 +12,8 @@ use std::alloc::AllocError;
 pub fn put_quota(change: &mut Change, name: &Text, quota: &Quota) -> Result<(), AllocError>
     ensures { (t : Tables) → Does result t change.old change.new (with_record name.now quota.now) }
 {
-    let row = quota.clone()?;
     change.quotas.reserve(name)?;
+    let row = quota.clone()?;
     change.quotas.set(name, row);
     Ok(())
 }

@@ -1,20 +1,6 @@
-use Rattle.std.proofs.Common.{ap, sym, ◌∙◌, subst}
-use Rattle.std.specs.Prelude.{Some, IsTrue}
-use Rattle.std.specs.FinMap.{insert}
-use Rattle.keyed.specs.Over.{over}
-use Rattle.keyed.specs.Table.{has_slot}
-use Rattle.keyed.proofs.Tables.{has_slot-with_slot_here}
-use Rattle.ns_types.proofs.Named.{names, one_name}
+use Rattle.ns_types.proofs.Results.{on_ok}
 use Rattle.ns_change.specs.Changed.{changed_pool}
-use Rattle.ns_change.proofs.Opening.{over-slot}
 use Rattle.ns_change.proofs.placing.put_among.Goals as goal
 
-pub set-requires : goal.set-requires
-set-requires c = subst (λ m. IsTrue (has_slot m c.args.name.now)) (sym c.in_ok-reserve.ensures.ok)
-    (has_slot-with_slot_here names c.args.changed.now.nodes c.args.name.now)
-
 pub returns : goal.returns
-returns c = λ base i. record (changed_pool base c.args.changed.now) {
-  nodes = (ap (over base.nodes) (c.set.ensures ∙ ap (λ m. insert m c.args.name.now (Some c.args.row)) c.in_ok-reserve.ensures.ok) ∙
-      over-slot names one_name base.nodes c.args.changed.now.nodes c.args.name.now c.args.row) i;
-}
+returns c = on_ok c.put_name.result (λ puts base i. record (changed_pool base c.args.changed.now) { nodes = puts base.nodes i }) c.put_name.ensures

@@ -1,0 +1,9 @@
+use Rattle.std.proofs.Common.{◌≡◌, drop}
+use Rattle.keyed.specs.Table.{rows}
+use Rattle.ns_change.specs.Waiting.{of_job, row_passes, stands}
+use Rattle.ns_change.specs.Queued.{first_slot}
+use Rattle.ns_change.proofs.promoting.first_numbered.Given as goal
+
+abbrev pub invariant-loop-slot : goal.invariant-loop-slot
+invariant-loop-slot l = first_slot (λ slot. row_passes (of_job (stands l.wanted) l.job) (rows l.tenant.evaluations.slots) slot.0) (drop l.slot-index l.slots)
+    ≡ first_slot (λ slot. row_passes (of_job (stands l.wanted) l.job) (rows l.tenant.evaluations.slots) slot.0) l.slots
