@@ -31,7 +31,7 @@ use Rattle.ns_change.specs.declared.change.Change.{Change}
 use Rattle.ns_change.specs.declared.change.PoolChange.{PoolChange}
 use Rattle.ns_change.specs.declared.change.TenantChange.{TenantChange}
 use Rattle.ns_change.specs.Changed.{changed, changed_pool, changed_quota, changed_tenant, perhaps}
-use Rattle.ns_change.proofs.Gone.{lost_rows}
+use Rattle.ns_nodes.proofs.Gone.{lost_rows}
 use Rattle.ns_change.proofs.Nothing.{no_entries, list_stays}
 use Rattle.ns_renewal.specs.Renewing.{keys_in}
 use Rattle.ns_renewal.proofs.Made.{get_made, made_at, renewal}

@@ -23,7 +23,7 @@ use Rattle.ns_types.proofs.Lists.{any_alike, left_none, not_both, right_none}
 use Rattle.ns_types.proofs.Named.{names, numbers, one_name, one_number}
 use Rattle.ns_types.proofs.Tables.{any_row-none, each_row, entries-table_of, filter-retain, none_of_any}
 use Rattle.ns_change.specs.Changed.{change_pool}
-use Rattle.ns_nodes.specs.Losing.{is_live_at, loses, loss_passes, loss_passes_at, loss_passes_in, numbers_pass, numbers_pass_at, numbers_pass_in}
+use Rattle.ns_nodes.specs.Losing.{is_live_at, looked, loses, loss_passes, loss_passes_at, loss_passes_in, numbers_pass, numbers_pass_at, numbers_pass_in}
 use Rattle.ns_bounds.specs.Given.{left_quota_passes}
 use Rattle.ns_nodes.specs.Losing.{tenant_passes_at}
 use Rattle.ns_world.proofs.Looked.{entries_looked}
@@ -50,7 +50,7 @@ module _ (w : World) (pool node : Name) where
       (λ ns t is. ap (λ b. b && loss_passes_in w pool node t) (none_lives ns t is (λ n. none (ns, n))))
 
   module _ (keys : KeySet) (right : (key : Key) → holds_key keys key ≡ lives_at key) where
-    none_held : (ns : Name) (t : Tenant) → get w.tenants ns ≡ Some t → row_at keys.numbers ns ≡ None → loses pool node t ≡ false
+    pub none_held : (ns : Name) (t : Tenant) → get w.tenants ns ≡ Some t → row_at keys.numbers ns ≡ None → loses pool node t ≡ false
     none_held ns t is none = none_lives ns t is (λ n. sym (right (ns, n))
         ∙ ap (λ r. option_map_or (λ (s : ByNumber (Option Unit)). is_some (row_at s n)) r false) none)
 
@@ -66,11 +66,15 @@ module _ (w : World) (pool node : Name) where
       loses_by : loses pool node t ≡ list_any (is_live_at pool node t) (entries its)
       loses_by = any_row-before numbers one_number (λ _ a. is_live_on pool node a) t.allocations its idle
 
+      -- the live allocations are among the rows at the numbers, in their order
+      pub rows_by : filter (λ a. is_live_on pool node a.1) (entries t.allocations)
+          ≡ filter (λ a. is_live_on pool node a.1) (row_list (map (looked t) (entries its)))
+      rows_by = filter-retain numbers one_number (λ _ a. is_live_on pool node a) t.allocations (contains_key its) idle
+          ∙ ap (filter (λ (a : ℕ × Allocation). is_live_on pool node a.1)) (entries_looked numbers one_number t.allocations its)
+
       numbers_by : numbers_pass_in pool node t ≡ numbers_pass_at pool node t (entries its)
       numbers_by = ap (λ rows. nat_lt greatest (t.evaluation_number
-          + length (values (from_entries {R = name_cmp} (map (λ (a : ℕ × Allocation). (a.1.job, a.1)) rows)))))
-          (filter-retain numbers one_number (λ _ a. is_live_on pool node a) t.allocations (contains_key its) idle
-          ∙ ap (filter (λ (a : ℕ × Allocation). is_live_on pool node a.1)) (entries_looked numbers one_number t.allocations its))
+          + length (values (from_entries {R = name_cmp} (map (λ (a : ℕ × Allocation). (a.1.job, a.1)) rows))))) rows_by
 
     slot_judged : (ns : Name) (slot : Option (ByNumber (Option Unit))) → get keys.numbers ns ≡ Some slot →
         option_map_or (tenant_passes ns) (get w.tenants ns) false ≡ loss_passes_at w pool node (ns, slot)

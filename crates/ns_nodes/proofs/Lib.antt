@@ -1,6 +1,8 @@
 pub mod AsChange
 pub mod Asked
 pub mod Down
+pub mod Gone
+pub mod Indexed
 pub mod Judged
 pub mod Listed
 pub mod LossPast

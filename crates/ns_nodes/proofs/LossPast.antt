@@ -34,7 +34,7 @@ use Rattle.ns_change.specs.declared.change.Change.{Change}
 use Rattle.ns_change.specs.declared.change.PoolChange.{PoolChange}
 use Rattle.ns_change.specs.declared.change.TenantChange.{TenantChange}
 use Rattle.ns_change.specs.Changed.{changed}
-use Rattle.ns_change.proofs.Gone.{lost_rows}
+use Rattle.ns_nodes.proofs.Gone.{lost_rows}
 use Rattle.ns_nodes.specs.Losing.{loses, loss_passes, loss_passes_in, numbers_pass_in}
 use Rattle.ns_nodes.proofs.AsChange.{after, change, changed_is, down_row, losses_counted, node_then, nodes, renewed_none}
 use Rattle.ns_nodes.proofs.AsChange.{renewed_number, tenants_then, then_world, whole}

@@ -1,6 +1,6 @@
 -- The jobs that lose an allocation with a node, slot by slot.
 use Rattle.std.specs.Prelude.{◌≡◌, ℕ, ◌+◌, Bool, true, false, cond, ◌&&◌, ◌||◌, not, List, [], ◌∷◌, Option, Some, None, filter, flat_map, fold, is_some}
-use Rattle.std.specs.Prelude.{length, map, option_map, ◌++◌, ◌<◌, ◌≤◌, ◌^◌, T}
+use Rattle.std.specs.Prelude.{length, map, option_map, ◌<◌, ◌≤◌, ◌^◌, T}
 use Rattle.std.proofs.Common.{refl, sym, ap, subst, ◌∙◌, arith}
 use Rattle.std.proofs.lemmas.List.{length-map}
 use Rattle.std.proofs.lemmas.List.Concat.{flat_map_single}
@@ -10,8 +10,7 @@ use Rattle.std.specs.Option.{option_or}
 use Rattle.std.specs.FinMap.{empty, entries, find, from_entries, get}
 use Rattle.std.specs.FinMap.{get-empty, get-from_entries, get-insert, insert, len, len-empty, len-entries, len-insert}
 use Rattle.std.specs.FinMap.{same_map, values}
-use Rattle.keyed.specs.Table.{has_slot, row_list, rows, with_slot}
-use Rattle.keyed.proofs.Tables.{entries-rows}
+use Rattle.keyed.specs.Table.{has_slot, row_list, with_slot}
 use Rattle.ns_types.specs.declared.allocation.Allocation.{Allocation}
 use Rattle.ns_types.specs.Asking.Nodes.{losing_jobs}
 use Rattle.ns_types.specs.State.Names.{Name, ByName, name_cmp, same_name}
@@ -21,11 +20,8 @@ use Rattle.ns_types.specs.Steps.{greatest}
 use Rattle.ns_types.proofs.Elements.{map_map}
 use Rattle.ns_types.proofs.Named.{names, one_name}
 use Rattle.ns_types.proofs.Tables.{entries-table_of, get-table_of, tied}
-use Rattle.ns_nodes.specs.Losing.{is_last_of_job, is_losing, key_at, looked, losing_jobs_at, losing_keys, losing_keys_at}
-use Rattle.ns_nodes.specs.Losing.{losing_keys_in, losing_rows, numbers_pass_at, with_losing}
-use Rattle.ns_world.specs.declared.tables.Tables.{Tables}
-use Rattle.ns_world.specs.declared.tables.TenantRows.{TenantRows}
-use Rattle.ns_world.specs.World.{tenant_of, world_of}
+use Rattle.ns_nodes.specs.Losing.{is_last_of_job, is_losing, job_keys_at, key_at, looked, losing_jobs_at}
+use Rattle.ns_nodes.specs.Losing.{losing_rows, numbers_pass_at, with_losing}
 use Rattle.ns_types.proofs.Bounds.{past_bound, not_past}
 
 -- ---- tables of entries
@@ -202,24 +198,10 @@ module _ (pool node : Name) where
       ∙ ap (option_map (λ a. Some a.0)) (sym (get-from_entries names (jobs_in (row_list slots)) q))
       ∙ sym (get-table_of names one_name (λ _ a. Some a.0) (firsts slots) q))
 
-  keys_at : (ns : Name) (x : TenantRows) → losing_keys_at pool node (ns, Some x) ≡ losing_keys_in pool node ns (tenant_of x)
-  keys_at ns x = ap (λ m. flat_map (key_at ns) (entries m)) (losing_is (entries x.allocations.slots))
-      ∙ ap (flat_map (key_at ns)) (entries-table_of (λ _ a. Some a.0) (firsts (entries x.allocations.slots)))
-      ∙ flat_map-map (key_at ns) (λ e. (e.0, Some e.1.0)) (entries (firsts (entries x.allocations.slots)))
-      ∙ flat_map_single (λ (e : Name × (ℕ × Allocation)). (ns, e.1.0)) (entries (firsts (entries x.allocations.slots)))
-      ∙ sym (map_map (λ a. (ns, a.0)) (λ (e : Name × (ℕ × Allocation)). e.1) (entries (firsts (entries x.allocations.slots))))
-      ∙ ap (λ rows. map (λ (a : ℕ × Allocation). (ns, a.0)) (values (from_entries {R = name_cmp} (jobs_in rows)))) (sym (entries-rows x.allocations.slots))
-
-  keys_by_slots : (slots : List (Name × Option TenantRows)) →
-      flat_map (losing_keys_at pool node) slots ≡ flat_map (λ e. losing_keys_in pool node e.0 (tenant_of e.1)) (row_list slots)
-  keys_by_slots [] = refl
-  keys_by_slots ((ns, None) ∷ slots) = keys_by_slots slots
-  keys_by_slots ((ns, Some x) ∷ slots) = λ i. keys_at ns x i ++ keys_by_slots slots i
-
-  pub keys_are : (t : Tables) → flat_map (losing_keys_at pool node) (entries t.tenants) ≡ losing_keys pool node (world_of t)
-  unfolding world_of
-  keys_are t = keys_by_slots (entries t.tenants)
-      ∙ sym (flat_map-map (λ (e : Name × Tenant). losing_keys_in pool node e.0 e.1) (λ (e : Name × TenantRows). (e.0, tenant_of e.1)) (row_list
-      (entries t.tenants)))
-      ∙ ap (flat_map (λ (e : Name × Tenant). losing_keys_in pool node e.0 e.1)) (sym (entries-table_of (λ _ x. tenant_of x) (rows t.tenants)
-      ∙ ap (map (λ (e : Name × TenantRows). (e.0, tenant_of e.1))) (entries-rows t.tenants)))
+  pub keys_at : (ns : Name) (t : Tenant) (slots : List (ℕ × Option Unit)) →
+      job_keys_at pool node ns t slots ≡ map (λ a. (ns, a.0)) (values (firsts (map (looked t) slots)))
+  keys_at ns t slots = ap (λ m. flat_map (key_at ns) (entries m)) (losing_is (map (looked t) slots))
+      ∙ ap (flat_map (key_at ns)) (entries-table_of (λ _ a. Some a.0) (firsts (map (looked t) slots)))
+      ∙ flat_map-map (key_at ns) (λ e. (e.0, Some e.1.0)) (entries (firsts (map (looked t) slots)))
+      ∙ flat_map_single (λ (e : Name × (ℕ × Allocation)). (ns, e.1.0)) (entries (firsts (map (looked t) slots)))
+      ∙ sym (map_map (λ a. (ns, a.0)) (λ (e : Name × (ℕ × Allocation)). e.1) (entries (firsts (map (looked t) slots))))

@@ -1,19 +1,19 @@
 -- What goes with a node: each job that loses an allocation gets an evaluation, if no counter passes its bound by all that.
-use Rattle.std.specs.Prelude.{ℕ, ◌+◌, Bool, false, ◌&&◌, ◌||◌, not, List, [], ◌∷◌, Option, Some, None, filter}
+use Rattle.std.specs.Prelude.{◌≡◌, ℕ, ◌+◌, Bool, false, ◌&&◌, ◌||◌, not, List, [], ◌∷◌, Option, Some, None, filter}
 use Rattle.std.specs.Prelude.{flat_map, fold, length, map, nat_lt, if◌then◌else◌}
 use Rattle.std.specs.List.{list_any}
 use Rattle.std.specs.Option.{option_map_or}
 use Rattle.std.specs.FinMap.{empty, entries, from_entries, get, insert, values}
 use Rattle.keyed.specs.Table.{has_slot, row_list, with_slot}
 use Rattle.ns_types.specs.declared.allocation.Allocation.{Allocation}
+use Rattle.ns_types.specs.declared.allocation.ClientStatus.TheVariants as ClientStatus
 use Rattle.ns_types.specs.Asking.Nodes.{losing_jobs}
-use Rattle.ns_types.specs.State.Names.{Name, Key, ByName, ByNumber, name_cmp, same_name}
+use Rattle.ns_types.specs.State.Names.{Name, Key, ByName, ByNumber, has_key, name_cmp, same_name}
 use Rattle.ns_types.specs.State.Rows.{World, Tenant, is_live_on}
 use Rattle.ns_types.specs.State.Tables.{any_row}
 use Rattle.ns_types.specs.Steps.{greatest}
 use Rattle.ns_bounds.specs.Bounds.{is_at_bound}
 use Rattle.ns_bounds.specs.Given.{left_quota_passes}
-use Rattle.ns_world.specs.declared.tables.TenantRows.{TenantRows}
 
 -- ---- what is asked
 
@@ -73,12 +73,6 @@ abbrev pub key_at : Name → Name × Option ℕ → List Key
 key_at ns (job, None) = []
 key_at ns (job, Some n) = (ns, n) ∷ []
 
--- the same of a namespace's slot
-abbrev pub losing_keys_at : Name → Name → Name × Option TenantRows → List Key
-losing_keys_at pool node (ns, None) = []
-losing_keys_at pool node (ns, Some t) =
-    flat_map (key_at ns) (entries (fold (with_losing pool node) empty (entries t.allocations.slots)))
-
 -- ---- by the index of live allocations
 
 -- the row at a number
@@ -107,3 +101,34 @@ abbrev pub loss_passes_at : World → Name → Name → Name × Option (ByNumber
 loss_passes_at w pool node (ns, None) = false
 loss_passes_at w pool node (ns, Some numbers) =
     option_map_or (λ t. tenant_passes_at w pool node t (entries numbers)) (get w.tenants ns) false
+
+-- ---- the lists of keys, by the same
+
+-- of the losing jobs among the rows at such numbers
+abbrev pub job_keys_at : Name → Name → Name → Tenant → List (ℕ × Option Unit) → List Key
+job_keys_at pool node ns t slots =
+    flat_map (key_at ns) (entries (fold (with_losing pool node) empty (map (looked t) slots)))
+
+abbrev pub losing_keys_at : World → Name → Name → Name × Option (ByNumber (Option Unit)) → List Key
+losing_keys_at w pool node (ns, None) = []
+losing_keys_at w pool node (ns, Some numbers) =
+    option_map_or (λ t. job_keys_at pool node ns t (entries numbers)) (get w.tenants ns) []
+
+-- the key of a number: a vacant slot is none
+abbrev pub slot_key : Name → ℕ × Option Unit → List Key
+slot_key ns (n, None) = []
+slot_key ns (n, Some key) = (ns, n) ∷ []
+
+abbrev pub slot_keys : Name × Option (ByNumber (Option Unit)) → List Key
+slot_keys (ns, None) = []
+slot_keys (ns, Some numbers) = flat_map (slot_key ns) (entries numbers)
+
+-- ---- the allocations that are lost
+
+-- keys of a node's live allocations, all of them and no others
+abbrev pub IsLiveSet : World → Name → Name → List Key → Type 0
+IsLiveSet w pool node keys = (ns : Name) (t : Tenant) (n : ℕ) (a : Allocation) → get w.tenants ns ≡ Some t →
+    get t.allocations n ≡ Some a → has_key keys (ns, n) ≡ is_live_on pool node a
+
+abbrev pub lost_row : Allocation → Allocation
+lost_row a = record a { client = ClientStatus.Lost }

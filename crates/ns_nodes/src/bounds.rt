@@ -12,9 +12,8 @@ ghost use Rattle.ns_bounds.specs.Bounds.{is_at_bound};
 ghost use Rattle.ns_bounds.specs.Given.{given_room_passes, left_quota_passes};
 ghost use Rattle.ns_world.specs.World.{tenant_of, world_of};
 
-use crate::losing::{NumberSlot, numbers_pass_at};
+use crate::losing::{NumberSlot, NumbersSlot, numbers_pass_at};
 use crate::removed::is_ready;
-use keyed::NumberTable;
 use ns_alike::{is_free, same_offer};
 use ns_bounds::{given_room_passes, is_at_bound, left_quota_passes};
 use ns_change::is_live_on;
@@ -22,9 +21,6 @@ use ns_live::Live;
 use ns_types::node::{Node, NodeStatus, Offer};
 use ns_types::text::Text;
 use ns_world::{Tables, TenantRows};
-
-/// A namespace with the numbers of its allocations that are live on the node, or a vacant slot.
-type NumbersSlot = (Text, Option<NumberTable<()>>);
 
 // ---- room that is given
 

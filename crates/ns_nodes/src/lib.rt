@@ -7,6 +7,7 @@ mod bounds;
 mod eligible;
 mod listing;
 mod losing;
+mod lost;
 mod prepared;
 mod registered;
 mod removed;

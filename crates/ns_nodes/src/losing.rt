@@ -5,13 +5,15 @@ ghost use Rattle.std.specs.FinMap.{empty};
 ghost use Rattle.std.specs.List.{list_any};
 ghost use Rattle.ns_types.specs.State.Names.{same_name};
 ghost use Rattle.ns_types.specs.State.Rows.{is_live_on};
+ghost use Rattle.ns_live.specs.Index.{IsRight};
 ghost use Rattle.ns_nodes.specs.Losing.{is_last_of_job, is_losing, key_at, losing_keys, losing_keys_at};
 ghost use Rattle.ns_nodes.specs.Losing.{looked, numbers_pass_at, with_losing};
 ghost use Rattle.ns_world.specs.World.{tenant_of, world_of};
 
-use keyed::NameTable;
+use keyed::{NameTable, NumberTable};
 use ns_alike::same_text;
 use ns_change::is_live_on;
+use ns_live::Live;
 use ns_types::allocation::Allocation;
 use ns_types::key::EvalKey;
 use ns_types::rows::Rows;
@@ -22,11 +24,8 @@ use std::alloc::{AllocError, Global};
 /// The number of an allocation that is live on the node, or a vacant slot.
 pub(crate) type NumberSlot = (u64, Option<()>);
 
-/// An allocation with its number, or a vacant slot.
-type AllocationSlot = (u64, Option<Allocation>);
-
-/// A namespace with what it owns, or a vacant slot.
-type TenantSlot = (Text, Option<TenantRows>);
+/// A namespace with the numbers of its allocations that are live on the node, or a vacant slot.
+pub(crate) type NumbersSlot = (Text, Option<NumberTable<()>>);
 
 /// A job's id with the number of its allocation, or a vacant slot.
 type JobSlot = (Text, Option<u64>);
@@ -125,38 +124,55 @@ pub(crate) fn numbers_pass_at(
 
 // ---- keys
 
-/// Puts the number of an allocation that is live on the node under its job, where there is none before it.
+/// Puts the number of an allocation under its job, where that is live on the node and the job has none yet.
 fn put_losing(
     losing: &mut NameTable<u64>,
     pool: &Text,
     node: &Text,
-    slot: &AllocationSlot,
+    number: u64,
+    row: &Allocation,
 ) -> Result<(), AllocError>
-    ensures { OnOk result (losing.new ≡ with_losing pool.now node.now losing.old slot.now) }
+    ensures { OnOk result (losing.new
+        ≡ with_losing pool.now node.now losing.old (number, Some row.now)) }
 {
-    let Some(allocation) = &slot.1 else {
-        return Ok(());
-    };
-    if is_live_on(pool, node, allocation) && !losing.has_slot(&allocation.job) {
-        losing.reserve(&allocation.job)?;
-        losing.set(&allocation.job, slot.0);
+    if is_live_on(pool, node, row) && !losing.has_slot(&row.job) {
+        losing.reserve(&row.job)?;
+        losing.set(&row.job, number);
     }
     Ok(())
 }
 
-/// Of each job the first allocation that is live on the node.
+/// The same of the row at the number.
+fn put_losing_at(
+    losing: &mut NameTable<u64>,
+    pool: &Text,
+    node: &Text,
+    tenant: &TenantRows,
+    slot: &NumberSlot,
+) -> Result<(), AllocError>
+    ensures { let row = looked (tenant_of tenant.now) slot.now in
+        OnOk result (losing.new ≡ with_losing pool.now node.now losing.old row) }
+{
+    match tenant.allocations.get(slot.0) {
+        Some(row) => put_losing(losing, pool, node, slot.0, row),
+        None => Ok(()),
+    }
+}
+
+/// Of each job the first allocation that is live on the node, by the numbers of those that are.
 fn losing_numbers(
     alloc: Global,
     pool: &Text,
     node: &Text,
-    slots: &[AllocationSlot],
+    tenant: &TenantRows,
+    slots: &[NumberSlot],
 ) -> Result<NameTable<u64>, AllocError>
-    ensures { IfOk result
-        (λ losing. losing ≡ fold (with_losing pool.now node.now) empty slots.now) }
+    ensures { let rows = map (looked (tenant_of tenant.now)) slots.now in
+        IfOk result (λ losing. losing ≡ fold (with_losing pool.now node.now) empty rows) }
 {
     let mut losing = NameTable::new(alloc);
     for slot in slots {
-        put_losing(&mut losing, pool, node, slot)?;
+        put_losing_at(&mut losing, pool, node, tenant, slot)?;
     }
     Ok(losing)
 }
@@ -181,51 +197,55 @@ fn add_keys(keys: &mut Rows<EvalKey>, namespace: &Text, slots: &[JobSlot]) -> Re
 
 fn add_keys_at(
     keys: &mut Rows<EvalKey>,
-    alloc: Global,
+    tables: &Tables,
     pool: &Text,
     node: &Text,
-    slot: &TenantSlot,
+    slot: &NumbersSlot,
 ) -> Result<(), AllocError>
-    ensures { OnOk result (keys.new ≡ keys.old ++ losing_keys_at pool.now node.now slot.now) }
+    ensures { OnOk result (keys.new
+        ≡ keys.old ++ losing_keys_at (world_of tables.now) pool.now node.now slot.now) }
 {
-    let Some(tenant) = &slot.1 else {
+    let Some(numbers) = &slot.1 else {
         return Ok(());
     };
-    let losing = losing_numbers(alloc, pool, node, tenant.allocations.as_slice())?;
+    let Some(tenant) = tables.tenants.get(&slot.0) else {
+        return Ok(());
+    };
+    let losing = losing_numbers(tables.alloc, pool, node, tenant, numbers.as_slice())?;
     add_keys(keys, &slot.0, losing.as_slice())
 }
 
 fn add_all_keys(
     keys: &mut Rows<EvalKey>,
-    alloc: Global,
+    tables: &Tables,
     pool: &Text,
     node: &Text,
-    slots: &[TenantSlot],
+    slots: &[NumbersSlot],
 ) -> Result<(), AllocError>
-    ensures { OnOk result (keys.new
-        ≡ keys.old ++ flat_map (losing_keys_at pool.now node.now) slots.now) }
+    ensures { OnOk result (keys.new ≡ keys.old
+        ++ flat_map (losing_keys_at (world_of tables.now) pool.now node.now) slots.now) }
 {
     for slot in slots {
-        add_keys_at(keys, alloc, pool, node, slot)?;
+        add_keys_at(keys, tables, pool, node, slot)?;
     }
     Ok(())
 }
 
-/// Of each job that has live allocations on the node the one with the least number, by namespace, then job id.
+/// Of each job that has live allocations on the node the one with the least number, by namespace, then job id. Its work
+/// grows with the number of the node's live allocations, and with no other.
 pub(crate) fn losing_keys(
     tables: &Tables,
+    live: &Live,
     pool: &Text,
     node: &Text,
 ) -> Result<Rows<EvalKey>, AllocError>
+    requires { IsRight (world_of tables.now) live.now }
     ensures { IfOk result (λ keys. keys ≡ losing_keys pool.now node.now (world_of tables.now)) }
 {
     let mut keys = Rows::new(tables.alloc);
-    add_all_keys(
-        &mut keys,
-        tables.alloc,
-        pool,
-        node,
-        tables.tenants.as_slice(),
-    )?;
+    let Some(held) = live.keys_on(pool, node) else {
+        return Ok(keys);
+    };
+    add_all_keys(&mut keys, tables, pool, node, held.as_slice())?;
     Ok(keys)
 }

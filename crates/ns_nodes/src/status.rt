@@ -16,7 +16,8 @@ ghost use Rattle.ns_world.specs.World.{world_of};
 
 use crate::bounds::loss_passes;
 use crate::losing::losing_keys;
-use ns_change::{Change, Prepared, copied_node, lose, prepare, put_node};
+use crate::lost::lose;
+use ns_change::{Change, Prepared, copied_node, prepare, put_node};
 use ns_live::Live;
 use ns_renewal::renew_each;
 use ns_types::evaluation::Trigger;
@@ -28,20 +29,28 @@ use ns_world::Tables;
 use std::alloc::AllocError;
 
 /// The live allocations on the node are lost, and each job that had one gets an evaluation. The premises are that no
-/// namespace was changed before, and that each has the numbers for its evaluations.
-fn go_down(tables: &Tables, change: &mut Change, pool: &Text, name: &Text) -> Result<(), AllocError>
+/// namespace was changed before, that each has the numbers for its evaluations, and that the index is right.
+fn go_down(
+    tables: &Tables,
+    live: &Live,
+    change: &mut Change,
+    pool: &Text,
+    name: &Text,
+) -> Result<(), AllocError>
     requires first { (view tables.now change.old).tenants ≡ (world_of tables.now).tenants }
     requires numbers { numbers_pass pool.now name.now (world_of tables.now) ≡ false }
+    requires right { IsRight (world_of tables.now) live.now }
     ensures { Does result tables.now change.old change.new (go_down pool.now name.now) }
 {
-    let keys = losing_keys(tables, pool, name)?;
-    lose(tables, change, pool, name)?;
+    let keys = losing_keys(tables, live, pool, name)?;
+    lose(tables, live, change, pool, name)?;
     renew_each(tables, change, keys.as_slice(), Trigger::NodeUpdate)
 }
 
 /// The node is put, and then it goes down.
 fn put_down(
     tables: &Tables,
+    live: &Live,
     change: &mut Change,
     pool: &Text,
     name: &Text,
@@ -49,20 +58,28 @@ fn put_down(
 ) -> Result<(), AllocError>
     requires first { view tables.now change.old ≡ world_of tables.now }
     requires numbers { numbers_pass pool.now name.now (world_of tables.now) ≡ false }
+    requires right { IsRight (world_of tables.now) live.now }
     ensures { Does result tables.now change.old change.new
         (λ w. go_down pool.now name.now (change_pool pool.now (with_node name.now row) w)) }
 {
     put_node(tables, change, pool, name, row)?;
-    go_down(tables, change, pool, name)
+    go_down(tables, live, change, pool, name)
 }
 
-fn put_down_alone(tables: &Tables, pool: &Text, name: &Text, row: Node) -> Result<Prepared, Refusal>
-    requires { numbers_pass pool.now name.now (world_of tables.now) ≡ false }
+fn put_down_alone(
+    tables: &Tables,
+    live: &Live,
+    pool: &Text,
+    name: &Text,
+    row: Node,
+) -> Result<Prepared, Refusal>
+    requires numbers { numbers_pass pool.now name.now (world_of tables.now) ≡ false }
+    requires right { IsRight (world_of tables.now) live.now }
     ensures { let put = change_pool pool.now (with_node name.now row) (world_of tables.now) in
         Prepares (Done Content.Written (go_down pool.now name.now put)) tables.now result }
 {
     let mut change = Change::new(tables.alloc);
-    let made = put_down(tables, &mut change, pool, name, row);
+    let made = put_down(tables, live, &mut change, pool, name, row);
     prepare(Content::Written, change, made)
 }
 
@@ -85,5 +102,5 @@ pub fn set_down(tables: &Tables, live: &Live, pool: &Text, name: &Text) -> Resul
     }
     let mut row = copied_node(row)?;
     row.status = NodeStatus::Down;
-    put_down_alone(tables, pool, name, row)
+    put_down_alone(tables, live, pool, name, row)
 }

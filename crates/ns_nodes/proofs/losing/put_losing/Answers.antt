@@ -6,5 +6,5 @@ use Rattle.ns_types.proofs.Named.{names}
 use Rattle.ns_nodes.proofs.losing.put_losing.Goals as goal
 
 pub set-requires : goal.set-requires
-set-requires c = subst (λ m. IsTrue (has_slot m c.in-Some.allocation.job)) (sym c.in_ok-reserve.ensures.ok)
-    (has_slot-with_slot_here names c.args.losing.now c.in-Some.allocation.job)
+set-requires c = subst (λ m. IsTrue (has_slot m c.args.row.now.job)) (sym c.in_ok-reserve.ensures.ok)
+    (has_slot-with_slot_here names c.args.losing.now c.args.row.now.job)

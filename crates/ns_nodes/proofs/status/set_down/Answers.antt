@@ -41,8 +41,8 @@ returns-in_err-row c =
     (goes w c.args.pool.now c.args.name.now row is)
     (settled_past w c.requires.bounds c.args.pool.now c.args.name.now row is ∙ sym c.loss_passes.ensures ∙ c.if-loss_passes.false)))
 
-pub put_down_alone-requires : goal.put_down_alone-requires
-put_down_alone-requires c = numbers_within (world_of c.args.tables.now) c.requires.bounds c.args.pool.now c.args.name.now
+pub put_down_alone-requires-clause-numbers : goal.put_down_alone-requires-clause-numbers
+put_down_alone-requires-clause-numbers c = numbers_within (world_of c.args.tables.now) c.requires.bounds c.args.pool.now c.args.name.now
     (sym c.loss_passes.ensures ∙ c.if-loss_passes.false)
 
 pub returns : goal.returns

@@ -1,0 +1,8 @@
+use Rattle.std.proofs.Common.{◌≡◌, ◌++◌, drop}
+use Rattle.std.specs.Prelude.{flat_map}
+use Rattle.ns_nodes.specs.Losing.{slot_key}
+use Rattle.ns_nodes.proofs.lost.add_slots.Given as goal
+
+abbrev pub invariant-loop-slot : goal.invariant-loop-slot
+invariant-loop-slot l = l.keys ++ flat_map (slot_key l.namespace) (drop l.slot-index l.slots)
+    ≡ l.initial.keys ++ flat_map (slot_key l.namespace) l.slots
