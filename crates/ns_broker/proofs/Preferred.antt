@@ -4,13 +4,11 @@ use Rattle.std.proofs.Common.{refl, ap, sym, ◌∙◌, arith}
 use Rattle.std.proofs.lemmas.Bool.{le-leb, leb-true, ne_eqb}
 use Rattle.std.specs.List.{list_all}
 use Rattle.ns_types.proofs.Named.{first_of_both, second_of_both}
+use Rattle.keyed.specs.Queue.{keys_in}
+use Rattle.ns_broker.specs.Serving.{preferred, preferred_at}
+use Rattle.ns_types.specs.State.Lists.{is_empty}
 use Rattle.ns_types.specs.State.Names.{Key}
 use Rattle.ns_types.specs.Working.Queue.{first_of_greatest}
-
--- of two the later one only where its priority is greater
-abbrev pub preferred : (Key → ℕ) → Option Key → Key → Option Key
-preferred priority None later = Some later
-preferred priority (Some first) later = if nat_le (priority later) (priority first) then Some first else Some later
 
 module _ (p : Key → ℕ) where
   abbrev under : Key → List Key → Bool
@@ -51,6 +49,14 @@ module _ (p : Key → ℕ) where
   first_is_served [] = refl
   first_is_served (k ∷ keys) = greatest_after k keys
 
+-- ---- slot by slot
+
+pub along_slots : (p : Key → ℕ) (first : Option Key) (slots : List (ℕ × Option Key)) →
+    fold (preferred_at p) first slots ≡ fold (preferred p) first (keys_in slots)
+along_slots p first [] = refl
+along_slots p first ((n, None) ∷ slots) = along_slots p first slots
+along_slots p first ((n, Some key) ∷ slots) = along_slots p (preferred p first key) slots
+
 -- ---- whether there is one
 
 module _ (p : Key → ℕ) where
@@ -63,7 +69,6 @@ module _ (p : Key → ℕ) where
       by kept later true = kept
       by kept later false = later
 
-  pub some_is_served : (keys : List Key) → not (length keys == 0) ≡ is_some (first_of_greatest p keys)
+  pub some_is_served : (keys : List Key) → not (is_empty keys) ≡ is_some (first_of_greatest p keys)
   some_is_served [] = refl
-  some_is_served (k ∷ keys) = ap not (ne_eqb (length (k ∷ keys)) 0 (λ e. omega arith))
-      ∙ sym (ap is_some (sym (first_is_served p (k ∷ keys))) ∙ some_after k keys)
+  some_is_served (k ∷ keys) = sym (ap is_some (sym (first_is_served p (k ∷ keys))) ∙ some_after k keys)

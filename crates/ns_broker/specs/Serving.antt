@@ -1,5 +1,5 @@
 -- When an evaluation is the one that is served, and when a worker may take it.
-use Rattle.std.specs.Prelude.{ℕ, Bool, ◌&&◌, if◌then◌else◌, List, Option, Some, None, nat_lt, is_some}
+use Rattle.std.specs.Prelude.{ℕ, Bool, ◌&&◌, if◌then◌else◌, List, Option, Some, None, nat_le, nat_lt, is_some}
 use Rattle.keyed.specs.Table.{at_slot, row_at}
 use Rattle.ns_types.specs.declared.evaluation.Evaluation.{Evaluation}
 use Rattle.ns_types.specs.Settling.Making.{change_tenant}
@@ -13,6 +13,17 @@ use Rattle.ns_world.specs.declared.tables.TenantRows.{TenantRows}
 -- the key, where it is the one of the list that is served next
 abbrev pub served_as : World → List Key → Key → Option Key
 served_as w keys key = if is_served w keys key then Some key else None
+
+-- of two the later one only where its priority is greater
+abbrev pub preferred : (Key → ℕ) → Option Key → Key → Option Key
+preferred priority None later = Some later
+preferred priority (Some first) later =
+    if nat_le (priority later) (priority first) then Some first else Some later
+
+-- the same of a list's slot, which may be vacant
+abbrev pub preferred_at : (Key → ℕ) → Option Key → ℕ × Option Key → Option Key
+preferred_at priority first (place, None) = first
+preferred_at priority first (place, Some later) = preferred priority first later
 
 -- a worker has an evaluation of the namespace of that slot
 abbrev pub is_busy_for : ℕ → Name × Option TenantRows → Bool

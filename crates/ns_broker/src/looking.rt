@@ -36,7 +36,7 @@ pub fn served_ready<'a>(tables: &'a Tables, turns: &'a Turns) -> Option<&'a Eval
     if turns.is_known() {
         turns.served()
     } else {
-        served(tables, tables.ready.as_slice())
+        served(tables, &tables.ready)
     }
 }
 
@@ -44,14 +44,14 @@ pub fn served_ready<'a>(tables: &'a Tables, turns: &'a Turns) -> Option<&'a Eval
 pub fn has_served(tables: &Tables) -> bool
     ensures { result ≡ is_some (served_ready (world_of tables.now)) }
 {
-    !tables.ready.as_slice().is_empty()
+    !tables.ready.is_empty()
 }
 
 /// The evaluation whose plan is served next.
 pub fn first_plan(tables: &Tables) -> Option<&EvalKey>
     ensures { option_copied result ≡ first_plan (world_of tables.now) }
 {
-    served(tables, tables.plans.as_slice())
+    served(tables, &tables.plans)
 }
 
 /// The worker's row in that namespace.

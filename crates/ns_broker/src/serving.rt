@@ -2,10 +2,15 @@
 
 ghost use Rattle.std.specs.Prelude.{◌≡◌, option_copied};
 ghost use Rattle.ns_types.specs.Working.Queue.{priority_at, served};
+ghost use Rattle.ns_broker.specs.Serving.{preferred_at};
 ghost use Rattle.ns_world.specs.World.{world_of};
 
+use keyed::KeyQueue;
 use ns_types::key::EvalKey;
 use ns_world::Tables;
+
+/// A place of a list with its key, or a vacant one.
+type KeySlot = (u64, Option<EvalKey>);
 
 /// The priority of an evaluation, or none.
 fn priority(tables: &Tables, key: &EvalKey) -> u64
@@ -17,18 +22,31 @@ fn priority(tables: &Tables, key: &EvalKey) -> u64
     }
 }
 
+/// Of the first one so far and the one at this place: the later only where its priority is greater.
+fn preferred<'a>(
+    tables: &Tables,
+    first: Option<&'a EvalKey>,
+    slot: &'a KeySlot,
+) -> Option<&'a EvalKey>
+    ensures { option_copied result
+        ≡ preferred_at (priority_at (world_of tables.now)) (option_copied first.entry) slot.now }
+{
+    let Some(later) = &slot.1 else {
+        return first;
+    };
+    match first {
+        Some(first) if priority(tables, later) <= priority(tables, first) => Some(first),
+        _ => Some(later),
+    }
+}
+
 /// Of the evaluations with the greatest priority the first in the list, which it goes through. It takes no memory.
-pub fn served<'a>(tables: &Tables, keys: &'a [EvalKey]) -> Option<&'a EvalKey>
-    ensures { option_copied result ≡ served (world_of tables.now) keys.now }
+pub fn served<'a>(tables: &Tables, queue: &'a KeyQueue) -> Option<&'a EvalKey>
+    ensures { option_copied result ≡ served (world_of tables.now) queue.now.items }
 {
     let mut first = None;
-    let mut greatest = 0;
-    for key in keys {
-        let own = priority(tables, key);
-        if first.is_none() || own > greatest {
-            first = Some(key);
-            greatest = own;
-        }
+    for slot in queue.slots() {
+        first = preferred(tables, first, slot);
     }
     first
 }

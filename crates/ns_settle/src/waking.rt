@@ -1,7 +1,8 @@
 //! Whom a step wakes.
 
-ghost use Rattle.std.specs.Prelude.{◌≡◌, IfOk};
-ghost use Rattle.ns_release.specs.Released.{released_quotas, released_rooms, woken_keys};
+ghost use Rattle.std.specs.Prelude.{◌≡◌, ◌++◌, IfOk, OnOk};
+ghost use Rattle.keyed.specs.Queue.{passing_at};
+ghost use Rattle.ns_release.specs.Released.{does_wake, released_quotas, released_rooms, woken_keys};
 ghost use Rattle.ns_turns.specs.Turns.{IsRight};
 ghost use Rattle.ns_world.specs.World.{world_of};
 
@@ -16,6 +17,27 @@ use ns_types::text::Text;
 use ns_world::Tables;
 use std::alloc::AllocError;
 
+/// A place of a list with its key, or a vacant one.
+type KeySlot = (u64, Option<EvalKey>);
+
+/// Puts the entry at this place behind the others, where the step wakes it.
+fn add_woken(
+    keys: &mut Rows<EvalKey>,
+    tables: &Tables,
+    change: &Change,
+    slot: &KeySlot,
+) -> Result<(), AllocError>
+    ensures { OnOk result (keys.new
+        ≡ keys.old ++ passing_at (does_wake (world_of tables.now) change.now) slot.now) }
+{
+    if let Some(key) = &slot.1 {
+        if does_wake(tables, change, key) {
+            keys.push(key.clone()?)?;
+        }
+    }
+    Ok(())
+}
+
 /// The entries of `blocked`, before the step and after its own change, that its releases wake, in their order, found along
 /// the list where the step releases anything.
 fn woken_along(tables: &Tables, change: &Change) -> Result<Rows<EvalKey>, AllocError>
@@ -25,10 +47,8 @@ fn woken_along(tables: &Tables, change: &Change) -> Result<Rows<EvalKey>, AllocE
     if !releases(tables, change) {
         return Ok(keys);
     }
-    for key in tables.blocked.as_slice() {
-        if does_wake(tables, change, key) {
-            keys.push(key.clone()?)?;
-        }
+    for slot in tables.blocked.slots() {
+        add_woken(&mut keys, tables, change, slot)?;
     }
     Ok(keys)
 }

@@ -1,19 +1,22 @@
 -- One level that is made, written or taken away.
-use Rattle.std.specs.Prelude.{◌≡◌, ℕ, ◌≤◌, ◌==◌, Bool, true, false, cond, IsTrue, List, [], length, Option, Some, None}
-use Rattle.std.proofs.Common.{refl, sym, ap, subst, ◌∙◌, arith}
-use Rattle.std.proofs.lemmas.Bool.{eqb-true}
+use Rattle.std.specs.Prelude.{◌≡◌, ℕ, Bool, true, false, cond, IsTrue, List, [], ◌∷◌, Option, Some, None}
+use Rattle.std.proofs.Common.{refl, sym, ap, subst, ◌∙◌}
 use Rattle.std.specs.FinMap.{get, get-insert, get-remove, insert, remove}
-use Rattle.keyed.specs.Levels.{has_key_room}
 use Rattle.keyed.specs.Queue.{CanAdd, KeyQueue}
 use Rattle.keyed.specs.Table.{flat, row_at, with_slot}
 use Rattle.keyed.proofs.Levels.{row_here}
 use Rattle.keyed.proofs.Tables.{get-rows, rows-with_slot}
 use Rattle.ns_types.proofs.Named.{numbers, one_number, same_number_refl}
-use Rattle.ns_types.proofs.TableRows.{no_entries}
+use Rattle.ns_types.proofs.Lists.{not_both}
 use Rattle.ns_types.proofs.Tables.{tied}
+use Rattle.ns_types.specs.State.Lists.{is_empty}
 use Rattle.ns_types.specs.State.Names.{ByNumber, Key, has_key, same_number}
 use Rattle.ns_turns.specs.Ready.{CanAddTo, KeepsOthers, KeepsRoom, Levels, SameKeys, items_of, left_of, level_at}
 use Rattle.ns_change.specs.Changed.{without_keys}
+
+nothing : (keys : List Key) → IsTrue (is_empty keys) → keys ≡ []
+nothing [] none = refl
+nothing (key ∷ keys) none = not_both none refl
 
 -- what holds at the number and at the others holds at each
 pub at_each : (P : ℕ → Type 0) (k : ℕ) → P k → ((q : ℕ) → same_number q k ≡ false → P q) → (q : ℕ) → P q
@@ -52,21 +55,17 @@ module _ (old : Levels) (k : ℕ) (was now : KeyQueue) (there : row_at old k ≡
   pub room_written : (keys : List Key) → CanAdd keys now → CanAddTo (row_at (insert old k (Some now)) k) keys
   room_written keys can = subst (λ r. CanAddTo r keys) (sym (row_here numbers old (insert old k (Some now)) k now refl)) can
 
-  pub room_kept : was.room ≤ now.room → ((key : Key) → IsTrue (has_key_room was.held key) → IsTrue (has_key_room now.held key)) →
-      KeepsRoom old (insert old k (Some now))
-  room_kept places slots = at_each (λ q. (keys : List Key) → CanAddTo (row_at old q) keys → CanAddTo (row_at (insert old k (Some now)) q) keys) k
+  pub room_kept : ((keys : List Key) → CanAdd keys was → CanAdd keys now) → KeepsRoom old (insert old k (Some now))
+  room_kept more = at_each (λ q. (keys : List Key) → CanAddTo (row_at old q) keys → CanAddTo (row_at (insert old k (Some now)) q) keys) k
       (λ keys can. room_written keys (more keys (subst (λ r. CanAddTo r keys) there can)))
       (λ q e keys can. subst (λ r. CanAddTo r keys) (sym (row_other old k (Some now) q e)) can)
-    where
-      more : (keys : List Key) → CanAdd keys was → CanAdd keys now
-      more keys can = record { places = let fits = can.places in omega arith; slots = λ key has. slots key (can.slots key has) }
 
   -- and taken away, since it is empty
-  pub same_removed : (gone : Levels) (keys : List Key) → gone ≡ remove (insert old k (Some now)) k → now.items ≡ was.items → keys ≡ now.items →
-      IsTrue (length keys == 0) → SameKeys old gone
-  same_removed gone keys is same all none = subst (SameKeys old) (sym is)
+  pub same_removed : (gone : Levels) → gone ≡ remove (insert old k (Some now)) k → now.items ≡ was.items → IsTrue (is_empty now.items) →
+      SameKeys old gone
+  same_removed gone is same none = subst (SameKeys old) (sym is)
       (at_each (λ q. level_at (remove (insert old k (Some now)) k) q ≡ level_at old q) k
-      (ap items_of (row_gone (insert old k (Some now)) k) ∙ sym (no_entries keys (eqb-true (length keys) 0 none)) ∙ all ∙ same ∙ sym was_at)
+      (ap items_of (row_gone (insert old k (Some now)) k) ∙ sym (nothing now.items none) ∙ same ∙ sym was_at)
       (λ q e. ap items_of (row_left (insert old k (Some now)) k q e ∙ row_other old k (Some now) q e)))
 
 -- ---- a level that is made

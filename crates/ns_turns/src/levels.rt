@@ -110,7 +110,7 @@ pub(crate) fn clear(levels: &mut NumberTable<KeyQueue>, priority: u64, keys: &[E
         return;
     };
     queue.clear_room(keys);
-    if queue.as_slice().is_empty() {
+    if queue.is_empty() {
         levels.remove(priority);
     }
 }
@@ -120,7 +120,7 @@ fn first_of(slot: &(u64, Option<KeyQueue>)) -> Option<&EvalKey>
     ensures { option_copied result ≡ first_key slot.now.1 }
 {
     match &slot.1 {
-        Some(queue) => queue.as_slice().first(),
+        Some(queue) => queue.first(),
         None => None,
     }
 }

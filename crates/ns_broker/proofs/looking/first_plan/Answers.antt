@@ -5,4 +5,4 @@ use Rattle.ns_world.specs.World.{world_of}
 
 pub returns : goal.returns
 unfolding world_of
-returns c = c.served.ensures ∙ ap (served (world_of c.args.tables.now)) c.as_slice.ensures
+returns c = c.served.ensures

@@ -1,4 +1,4 @@
-use Rattle.std.proofs.Common.{ap, not, ◌∙◌, length, ◌==◌}
+use Rattle.std.proofs.Common.{ap, not, ◌∙◌}
 use Rattle.ns_types.specs.Working.Queue.{priority_at}
 use Rattle.ns_broker.proofs.Preferred.{some_is_served}
 use Rattle.ns_broker.proofs.looking.has_served.Goals as goal
@@ -7,4 +7,4 @@ use Rattle.ns_world.specs.World.{world_of}
 pub returns : goal.returns
 unfolding world_of
 returns c = let w = world_of c.args.tables.now in
-    ap not c.is_empty.ensures ∙ ap (λ keys. not (length keys == 0)) c.as_slice.ensures ∙ some_is_served (priority_at w) w.ready
+    ap not c.is_empty.ensures ∙ some_is_served (priority_at w) w.ready

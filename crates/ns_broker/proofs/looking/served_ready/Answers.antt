@@ -8,4 +8,4 @@ returns-then-is_known c = c.served.ensures (world_of c.args.tables.now) (c.requi
 
 pub returns-else-is_known : goal.returns-else-is_known
 unfolding world_of
-returns-else-is_known c = c.served-else-is_known.ensures ∙ ap (served (world_of c.args.tables.now)) c.as_slice.ensures
+returns-else-is_known c = c.served-else-is_known.ensures

@@ -1,8 +1,11 @@
 use Rattle.std.proofs.Common.{ap, sym, ◌∙◌, ◌++◌, filter}
-use Rattle.std.proofs.lemmas.List.{append-nil}
+use Rattle.std.specs.Prelude.{ℕ, List, Option, flat_map}
+use Rattle.std.proofs.lemmas.List.{append-nil, drop_all}
+use Rattle.keyed.specs.Queue.{passing_at}
+use Rattle.keyed.proofs.Passing.{passing_is}
 use Rattle.ns_release.specs.Released.{does_wake, released_quotas, released_rooms}
+use Rattle.ns_types.specs.State.Names.{Key}
 use Rattle.ns_world.specs.World.{world_of}
-use Rattle.ns_change.proofs.Listed.{at_end}
 use Rattle.ns_world.proofs.World.{blocked_seen}
 use Rattle.ns_release.proofs.Woken.{woken_tests}
 use Rattle.ns_settle.proofs.Waiting.{nothing_woken}
@@ -16,7 +19,9 @@ pub returns : goal.returns
 returns c =
     let w = world_of c.args.tables.now in
     let wakes = does_wake w c.args.change.now in
-    sym (ap (λ l. c.loop-key.keys ++ filter wakes l) (at_end c.as_slice-key-items.result.now c.loop-key.key-index c.loop-key-test.false) ∙
-    append-nil c.loop-key.keys)
-    ∙ c.loop-key.invariant ∙ ap (filter wakes) (c.as_slice-key-items.ensures ∙ sym (blocked_seen c.args.tables.now))
+    sym (ap (λ (l : List (ℕ × Option Key)). c.loop-slot.keys ++ flat_map (passing_at wakes) l)
+    (drop_all c.loop-slot.slot-index c.slots-slot-items.result.now c.loop-slot-test.false) ∙
+    append-nil c.loop-slot.keys)
+    ∙ c.loop-slot.invariant ∙ passing_is wakes c.slots-slot-items.result.now
+    ∙ ap (filter wakes) (c.slots-slot-items.ensures ∙ sym (blocked_seen c.args.tables.now))
     ∙ woken_tests w c.args.change.now (released_rooms w c.args.change.now) (released_quotas w c.args.change.now)

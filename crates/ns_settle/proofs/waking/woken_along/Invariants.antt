@@ -1,9 +1,10 @@
-use Rattle.std.proofs.Common.{◌≡◌, ◌++◌, filter, drop}
+use Rattle.std.proofs.Common.{◌≡◌, ◌++◌, drop}
+use Rattle.std.specs.Prelude.{flat_map}
+use Rattle.keyed.specs.Queue.{passing_at}
 use Rattle.ns_release.specs.Released.{does_wake}
 use Rattle.ns_world.specs.World.{world_of}
 use Rattle.ns_settle.proofs.waking.woken_along.Given as goal
 
-abbrev pub invariant-loop-key : goal.invariant-loop-key
-invariant-loop-key l = l.keys ++ filter (does_wake (world_of l.tables) l.change) (drop l.key-index l.key-items)
-    ≡ filter (does_wake (world_of l.tables) l.change)
-    l.key-items
+abbrev pub invariant-loop-slot : goal.invariant-loop-slot
+invariant-loop-slot l = let woken = passing_at (does_wake (world_of l.tables) l.change) in
+    l.keys ++ flat_map woken (drop l.slot-index l.slot-items) ≡ flat_map woken l.slot-items

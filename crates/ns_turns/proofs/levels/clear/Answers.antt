@@ -5,8 +5,8 @@ use Rattle.ns_turns.proofs.levels.clear.Goals as goal
 
 pub returns-then-is_empty : goal.returns-then-is_empty
 returns-then-is_empty c = same_removed c.args.levels.now c.args.priority c.in-Some.queue.now c.clear_room.new.self
-    (sym c.get_mut.ensures.value ∙ ap option_copied_mut c.in-Some.is) c.remove.new.self c.as_slice.result.now c.remove.ensures c.clear_room.ensures
-    c.as_slice.ensures (sym c.is_empty.ensures ∙ c.if-is_empty.true)
+    (sym c.get_mut.ensures.value ∙ ap option_copied_mut c.in-Some.is) c.remove.new.self c.remove.ensures c.clear_room.ensures
+    (sym c.is_empty.ensures ∙ c.if-is_empty.true)
 
 pub returns-else-is_empty : goal.returns-else-is_empty
 returns-else-is_empty c = same_written c.args.levels.now c.args.priority c.in-Some.queue.now c.clear_room.new.self

@@ -14,7 +14,7 @@ returns-then-has-clause-here c = taken_out c.args.levels.now c.args.priority c.i
 
 pub returns-then-has-clause-room : goal.returns-then-has-clause-room
 returns-then-has-clause-room c = room_kept c.args.levels.now c.args.priority c.in-Some.queue.now c.take_out.new.self
-    (sym c.get_mut.ensures.value ∙ ap option_copied_mut c.in-Some.is) c.take_out.ensures.room c.take_out.ensures.slots
+    (sym c.get_mut.ensures.value ∙ ap option_copied_mut c.in-Some.is) c.take_out.ensures.room
 
 pub returns-else-has-clause-others : goal.returns-else-has-clause-others
 returns-else-has-clause-others c = row_other c.args.levels.now c.args.priority (Some c.in-Some.queue.now)
@@ -26,4 +26,4 @@ returns-else-has-clause-here c = not_taken c.args.levels.now c.args.priority c.i
 
 pub returns-else-has-clause-room : goal.returns-else-has-clause-room
 returns-else-has-clause-room c = room_kept c.args.levels.now c.args.priority c.in-Some.queue.now c.in-Some.queue.now
-    (sym c.get_mut.ensures.value ∙ ap option_copied_mut c.in-Some.is) (omega arith) (λ key has. has)
+    (sym c.get_mut.ensures.value ∙ ap option_copied_mut c.in-Some.is) (λ keys can. can)
