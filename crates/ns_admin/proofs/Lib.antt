@@ -4,6 +4,7 @@ pub mod Concluding
 pub mod Holdings
 pub mod Limits
 pub mod Listing
+pub mod Naming
 pub mod Recording
 pub mod Resting
 pub mod Sharers

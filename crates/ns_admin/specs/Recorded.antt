@@ -9,12 +9,12 @@ use Rattle.ns_types.specs.State.Rows.{World}
 use Rattle.ns_world.specs.declared.tables.Tables.{Tables}
 use Rattle.ns_world.specs.World.{world_of}
 use Rattle.ns_admin.specs.declared.record.RecordChange.{RecordChange}
-use Rattle.ns_admin.specs.Viewed.{with_namespace_put, with_pool_put, with_quota_put}
+use Rattle.ns_admin.specs.Viewed.{with_namespace_put, with_pool_put, with_quota_put, without_namespace}
 
 -- the record of one owner, and nothing else; an owner goes with all that it has
 abbrev pub recorded : RecordChange → World → World
 recorded (RecordChange.Namespace name namespace) w = with_namespace_put name namespace w
-recorded (RecordChange.NoNamespace name) w = record w { tenants = remove w.tenants name }
+recorded (RecordChange.NoNamespace name) w = without_namespace name w
 recorded (RecordChange.Quota name quota) w = with_quota_put name quota w
 recorded (RecordChange.NoQuota name) w = record w { quotas = remove w.quotas name }
 recorded (RecordChange.Pool name pool) w = with_pool_put name pool w

@@ -1,6 +1,6 @@
 -- What administrators' commands change in the world, and what they ask of it.
 use Rattle.std.specs.Prelude.{ℕ, Bool, true, false, not, ◌&&◌, ◌||◌}
-use Rattle.std.specs.FinMap.{get, insert}
+use Rattle.std.specs.FinMap.{get, insert, remove}
 use Rattle.std.specs.Option.{option_map_or}
 use Rattle.ns_types.specs.declared.allocation.Allocation.{Allocation}
 use Rattle.ns_types.specs.declared.evaluation.Evaluation.{Evaluation}
@@ -30,6 +30,10 @@ use Rattle.ns_world.specs.World.{tenant_of}
 
 abbrev pub with_namespace_put : Name → Namespace → World → World
 with_namespace_put name namespace w = put_tenant name (with_namespace namespace (get w.tenants name)) w
+
+-- it goes with all that it has
+abbrev pub without_namespace : Name → World → World
+without_namespace name w = record w { tenants = remove w.tenants name }
 
 abbrev pub with_pool_put : Name → Pool → World → World
 with_pool_put name pool w = put_pool name (with_pool pool (get w.pools name)) w

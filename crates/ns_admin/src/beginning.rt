@@ -9,7 +9,7 @@ ghost use Rattle.ns_world.specs.World.{pool_of, tenant_of, world_of};
 use crate::looking::DEFAULT;
 use crate::namespaces::new_tenant;
 use crate::pools::new_pool;
-use keyed::{KeyQueue, NameTable};
+use keyed::{Bounded, KeyQueue, NameTable, OwnerTable};
 use ns_types::records::{Namespace, Pool};
 use ns_types::rows::Rows;
 use ns_types::text::Text;
@@ -39,10 +39,10 @@ fn opening_pool(alloc: Global) -> Result<PoolRows, AllocError>
 }
 
 /// A table with one row.
-fn single<V: Drop>(alloc: Global, key: &Text, row: V) -> Result<NameTable<V>, AllocError>
+fn single<V: Bounded + Drop>(alloc: Global, key: &Text, row: V) -> Result<OwnerTable<V>, AllocError>
     ensures { IfOk result (λ table. rows table ≡ insert empty key.now row) }
 {
-    let mut table = NameTable::new(alloc);
+    let mut table = OwnerTable::new(alloc);
     table.reserve(key)?;
     table.set(key, row);
     Ok(table)

@@ -95,7 +95,7 @@ pub fn put_namespace(
     if forbids_in(tables, name, namespace) {
         return Err(Refusal::InUse);
     }
-    if is_full(&tables.tenants, name) {
+    if is_full(tables.tenants.as_table(), name) {
         return Err(Refusal::Full);
     }
     Ok(RecordChange::Namespace(name.clone()?, namespace.clone()?))

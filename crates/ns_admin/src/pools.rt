@@ -69,7 +69,7 @@ pub(crate) fn new_pool(alloc: Global, pool: Pool) -> PoolRows
 pub fn put_pool(tables: &Tables, name: &Text, pool: &Pool) -> Result<RecordChange, Refusal>
     ensures { PreparesRecord (put_pool_record name.now pool.now) tables.now result }
 {
-    if is_full(&tables.pools, name) {
+    if is_full(tables.pools.as_table(), name) {
         return Err(Refusal::Full);
     }
     Ok(RecordChange::Pool(name.clone()?, pool.clone()?))

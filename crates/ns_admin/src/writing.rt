@@ -1,30 +1,80 @@
 //! The one place that writes what administrators' commands come to.
 
-ghost use Rattle.std.specs.Prelude.{◌≡◌, OnErr};
+ghost use Rattle.std.specs.Prelude.{◌≡◌, IsTrue, OnErr, is_some};
+ghost use Rattle.keyed.specs.Table.{row_at};
 ghost use Rattle.ns_admin.specs.Recorded.{Writes, recorded};
 ghost use Rattle.ns_admin.specs.Viewed.{with_namespace_put, with_pool_put, with_quota_put};
+ghost use Rattle.ns_admin.specs.Viewed.{without_namespace};
+ghost use Rattle.ns_live.specs.Naming.{AreNamed, HasNameRoom, KeepsNodes};
+ghost use Rattle.ns_world.specs.World.{world_of};
 
 use crate::namespaces::new_tenant;
 use crate::pools::new_pool;
 use crate::record::RecordChange;
+use ns_live::Live;
 use ns_types::records::{Namespace, Pool, Quota};
 use ns_types::text::Text;
 use ns_world::{QuotaRows, Tables};
 use std::alloc::AllocError;
 
-/// Writes the record, over what the namespace of that name has, or over nothing.
-fn write_namespace(tables: &mut Tables, name: &Text, namespace: Namespace) -> Result<(), AllocError>
+/// Writes the record over what the namespace has, and holds the namespace at its quota. It takes no memory.
+fn replace_namespace(tables: &mut Tables, live: &mut Live, name: &Text, namespace: Namespace)
+    requires there { IsTrue (is_some (row_at tables.old.tenants name.now)) }
+    requires room { HasNameRoom live.old.quotas name.now namespace.quota }
+    ensures written { world_of tables.new
+        ≡ with_namespace_put name.now namespace (world_of tables.old) }
+    ensures nodes { KeepsNodes live.old live.new }
+    ensures named { AreNamed (world_of tables.old) live.old →
+        AreNamed (world_of tables.new) live.new }
+{
+    match tables.tenants.take(name) {
+        Some(mut tenant) => {
+            live.put_quota(
+                name,
+                tenant.namespace.quota.as_ref(),
+                namespace.quota.as_ref(),
+            );
+            tenant.namespace = namespace;
+            tables.tenants.set(name, tenant);
+        }
+        None => drop(namespace),
+    }
+}
+
+/// Writes the record, over what the namespace of that name has, or over nothing, and holds the namespace at its quota.
+fn write_namespace(
+    tables: &mut Tables,
+    live: &mut Live,
+    name: &Text,
+    namespace: Namespace,
+) -> Result<(), AllocError>
     ensures written { Writes (with_namespace_put name.now namespace) tables.old result tables.new }
     ensures refused { OnErr result (tables.new ≡ tables.old) }
+    ensures nodes { KeepsNodes live.old live.new }
+    ensures named { AreNamed (world_of tables.old) live.old →
+        AreNamed (world_of tables.new) live.new }
 {
-    if let Some(tenant) = tables.tenants.get_mut(name) {
-        tenant.namespace = namespace;
+    live.reserve_quota(name, namespace.quota.as_ref())?;
+    if let Some(_) = tables.tenants.get(name) {
+        replace_namespace(tables, live, name, namespace);
         return Ok(());
     }
     let tenant = new_tenant(tables.alloc, namespace)?;
     tables.tenants.reserve(name)?;
+    live.put_quota(name, None, tenant.namespace.quota.as_ref());
     tables.tenants.set(name, tenant);
     Ok(())
+}
+
+/// Takes the namespace out with all that it has, and holds it at no quota. It takes no memory.
+fn remove_namespace(tables: &mut Tables, live: &mut Live, name: &Text)
+    ensures written { world_of tables.new ≡ without_namespace name.now (world_of tables.old) }
+    ensures nodes { KeepsNodes live.old live.new }
+    ensures named { AreNamed (world_of tables.old) live.old →
+        AreNamed (world_of tables.new) live.new }
+{
+    live.put_quota(name, tables.quota_named(name), None);
+    tables.tenants.remove(name);
 }
 
 /// Writes the record, over that of the quota of that name, or over nothing.
@@ -41,13 +91,27 @@ fn write_quota(tables: &mut Tables, name: &Text, quota: Quota) -> Result<(), All
     Ok(())
 }
 
+/// Writes the record over what the pool has. It takes no memory.
+fn replace_pool(tables: &mut Tables, name: &Text, pool: Pool)
+    requires { IsTrue (is_some (row_at tables.old.pools name.now)) }
+    ensures { world_of tables.new ≡ with_pool_put name.now pool (world_of tables.old) }
+{
+    match tables.pools.take(name) {
+        Some(mut rows) => {
+            rows.pool = pool;
+            tables.pools.set(name, rows);
+        }
+        None => drop(pool),
+    }
+}
+
 /// Writes the record, over what the pool of that name has, or over nothing.
 fn write_pool(tables: &mut Tables, name: &Text, pool: Pool) -> Result<(), AllocError>
     ensures written { Writes (with_pool_put name.now pool) tables.old result tables.new }
     ensures refused { OnErr result (tables.new ≡ tables.old) }
 {
-    if let Some(row) = tables.pools.get_mut(name) {
-        row.pool = pool;
+    if let Some(_) = tables.pools.get(name) {
+        replace_pool(tables, name, pool);
         return Ok(());
     }
     tables.pools.reserve(name)?;
@@ -55,16 +119,22 @@ fn write_pool(tables: &mut Tables, name: &Text, pool: Pool) -> Result<(), AllocE
     Ok(())
 }
 
-/// Writes what a command comes to. The room of a new owner comes first, and where memory for it is refused, the tables are
-/// as they were, slots and room too. All else takes no memory.
-pub fn write(tables: &mut Tables, change: RecordChange) -> Result<(), AllocError>
+/// Writes what a command comes to, and which namespaces name which quota stays right in the index. The room of a new owner,
+/// and of a namespace at its quota, comes first, and where memory for it is refused, the tables are as they were, slots and
+/// room too. All else takes no memory.
+pub fn write(tables: &mut Tables, live: &mut Live, change: RecordChange) -> Result<(), AllocError>
     ensures written { Writes (recorded change) tables.old result tables.new }
     ensures refused { OnErr result (tables.new ≡ tables.old) }
+    ensures nodes { KeepsNodes live.old live.new }
+    ensures named { AreNamed (world_of tables.old) live.old →
+        AreNamed (world_of tables.new) live.new }
 {
     match change {
-        RecordChange::Namespace(name, namespace) => write_namespace(tables, &name, namespace),
+        RecordChange::Namespace(name, namespace) => {
+            write_namespace(tables, live, &name, namespace)
+        }
         RecordChange::NoNamespace(name) => {
-            tables.tenants.remove(&name);
+            remove_namespace(tables, live, &name);
             Ok(())
         }
         RecordChange::Quota(name, quota) => write_quota(tables, &name, quota),

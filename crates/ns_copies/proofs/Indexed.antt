@@ -5,6 +5,7 @@ use Rattle.std.specs.FinMap.{empty, entries, get, get-empty, get-entries}
 use Rattle.std.specs.FinMap.Entries.{find, is_sorted}
 use Rattle.std.specs.Option.{option_and_then, option_map_or}
 use Rattle.std.specs.Ordering.{nat_cmp}
+use Rattle.keyed.specs.Levels.{at_name}
 use Rattle.keyed.specs.Table.{flat, row_at}
 use Rattle.keyed.proofs.Ordered.{absent, below_tied}
 use Rattle.keyed.proofs.Tables.{get-rows}
@@ -12,12 +13,15 @@ use Rattle.ns_types.specs.declared.allocation.Allocation.{Allocation}
 use Rattle.ns_types.specs.declared.snapshot.PoolNode.{PoolNode}
 use Rattle.ns_types.specs.State.Names.{ByNumber, Key, Name, name_cmp, same_name}
 use Rattle.ns_types.specs.State.Rows.{allocation_at, is_live_on}
+use Rattle.ns_types.specs.Working.Commit.{quota_named}
 use Rattle.ns_types.proofs.Lists.{not_both}
 use Rattle.ns_types.proofs.Named.{names, numbers, same_name_refl}
 use Rattle.ns_types.proofs.Tables.{equal_by}
 use Rattle.ns_types.proofs.Tests.{first, not_Some, second}
 use Rattle.ns_live.specs.declared.live.Live.{Live}
 use Rattle.ns_live.specs.Index.{Indexes, IsEmpty, IsRight, KeepsKeys, with_changes}
+use Rattle.ns_live.specs.Levels.{holds_on_node}
+use Rattle.ns_live.specs.Naming.{AreNames, HoldsSame, KeepsNames, KeepsNodes, PutsQuota, holds_at, is_quota}
 use Rattle.ns_live.specs.Shown.{KeepsShown, ShowsUnmoved, shown_at, shown_in}
 use Rattle.ns_world.specs.declared.tables.Tables.{Tables}
 use Rattle.ns_world.specs.declared.tables.TenantRows.{TenantRows}
@@ -34,13 +38,26 @@ row_in slot n = option_and_then (λ t. row_at t.allocations.slots n) slot
 abbrev rows_in : Slots → Key → Option Allocation
 rows_in slots key = row_in (flat (find name_cmp key.0 slots)) key.1
 
+module _ {A : Type 0} (of : Option TenantRows → Option A) where
+  -- of a namespace that is not among those
+  abbrev but : Slots → Slots → Name → Option A
+  but rest slots k = cond (is_some (find name_cmp k rest)) None (of (flat (find name_cmp k slots)))
+
 -- the rows of the namespaces that are not among those
 abbrev pub rows_but : Slots → Slots → Key → Option Allocation
 rows_but rest slots key = cond (is_some (find name_cmp key.0 rest)) None (rows_in slots key)
 
+-- the quota that a namespace's slot names
+abbrev quota_in : Option TenantRows → Option Name
+quota_in slot = option_and_then (λ t. t.namespace.quota) slot
+
+abbrev quotas_but : Slots → Slots → Name → Option Name
+quotas_but = but quota_in
+
 pub record IsIndexing (live : Live) (rest slots : Slots) : Type 0 where
   pub index : Indexes (rows_but rest slots) live
   pub shown : (pool name : Name) → shown_at live pool name ≡ None
+  pub quotas : AreNames (quotas_but rest slots) live.quotas
   pub sorted : T (is_sorted name_cmp rest)
   pub found : (k : Name) → is_some (find name_cmp k rest) ≡ true → find name_cmp k slots ≡ find name_cmp k rest
 
@@ -48,10 +65,15 @@ pub none_indexed : (live : Live) (slots : Slots) → T (is_sorted name_cmp slots
 none_indexed live slots sorted none = record {
   index = λ pool node key. none.keys pool node key ∙ by pool node key.1 (find name_cmp key.0 slots);
   shown = none.shown;
+  quotas = λ quota ns. none.names quota ns ∙ unnamed quota (find name_cmp ns slots);
   sorted = sorted;
   found = λ k is. refl;
 }
   where
+    unnamed : (quota : Name) (r : Option (Option TenantRows)) → false ≡ is_quota (cond (is_some r) None (quota_in (flat r))) quota
+    unnamed quota None = refl
+    unnamed quota (Some slot) = refl
+
     by : (pool node : Name) (n : ℕ) (r : Option (Option TenantRows)) → false
         ≡ option_map_or (is_live_on pool node) (cond (is_some r) None (row_in (flat r) n)) false
     by pool node n None = refl
@@ -77,37 +99,52 @@ module _ (x : Name × Option TenantRows) (rest left slots : Slots) (is : rest �
           let here = before k ∙ ap (λ b. cond b (Some x.1) (find name_cmp k left)) e in
           h.found k (ap is_some here ∙ there) ∙ here
 
+  module _ {A : Type 0} (of : Option TenantRows → Option A) where
+    -- what is told of it is told of the slot
+    moved_as : (k : Name) → cond (same_name k x.0) (of x.1) (but of rest slots k) ≡ but of left slots k
+    moved_as k = by (same_name k x.0) refl
+      where
+        by : (b : Bool) → same_name k x.0 ≡ b → cond b (of x.1) (but of rest slots k) ≡ but of left slots k
+        by true e =
+            let here = before k ∙ ap (λ b. cond b (Some x.1) (find name_cmp k left)) e in
+            sym (ap (λ r. cond (is_some r) None (of (flat (find name_cmp k slots)))) (gone k e)
+            ∙ ap (λ r. of (flat r)) (h.found k (ap is_some here) ∙ here))
+        by false e = ap (λ r. cond (is_some r) None (of (flat (find name_cmp k slots))))
+            (before k ∙ ap (λ b. cond b (Some x.1) (find name_cmp k left)) e)
+
+    -- nothing is told of it before
+    untold : (k : Name) → same_name k x.0 ≡ true → but of rest slots k ≡ None
+    untold k e = ap (λ r. cond (is_some r) None (of (flat (find name_cmp k slots))))
+        (before k ∙ ap (λ b. cond b (Some x.1) (find name_cmp k left)) e)
+
+    -- nor of a vacant slot
+    still_as : of x.1 ≡ None → (k : Name) → but of rest slots k ≡ cond (same_name k x.0) (of x.1) (but of rest slots k)
+    still_as none k = by (same_name k x.0) refl
+      where
+        by : (b : Bool) → same_name k x.0 ≡ b → but of rest slots k ≡ cond b (of x.1) (but of rest slots k)
+        by true e = untold k e ∙ sym none
+        by false e = refl
+
   -- its rows are those of the slot
   moved : (key : Key) → cond (same_name key.0 x.0) (row_in x.1 key.1) (rows_but rest slots key) ≡ rows_but left slots key
-  moved key = by (same_name key.0 x.0) refl
-    where
-      by : (b : Bool) → same_name key.0 x.0 ≡ b → cond b (row_in x.1 key.1) (rows_but rest slots key) ≡ rows_but left slots key
-      by true e =
-          let here = before key.0 ∙ ap (λ b. cond b (Some x.1) (find name_cmp key.0 left)) e in
-          sym (ap (λ r. cond (is_some r) None (rows_in slots key)) (gone key.0 e)
-          ∙ ap (λ r. row_in (flat r) key.1) (h.found key.0 (ap is_some here) ∙ here))
-      by false e = ap (λ r. cond (is_some r) None (rows_in slots key)) (before key.0 ∙ ap (λ b. cond b (Some x.1) (find name_cmp key.0 left)) e)
+  moved key = moved_as (λ slot. row_in slot key.1) key.0
 
   own_before : (n : ℕ) → rows_but rest slots (x.0, n) ≡ None
-  own_before n = ap (λ r. cond (is_some r) None (rows_in slots (x.0, n)))
-      (before x.0 ∙ ap (λ b. cond b (Some x.1) (find name_cmp x.0 left)) (same_name_refl x.0))
+  own_before n = untold (λ slot. row_in slot n) x.0 (same_name_refl x.0)
+
+  pub unnamed_before : quotas_but rest slots x.0 ≡ None
+  unnamed_before = untold quota_in x.0 (same_name_refl x.0)
 
   -- a vacant slot has no rows
   pub slot_passed : (new : Live) → x.1 ≡ None → new ≡ old → IsIndexing new left slots
   slot_passed new none same = subst (λ live. IsIndexing live left slots) (sym same) (record {
-    index = λ pool node key. h.index pool node key ∙ ap (λ r. option_map_or (is_live_on pool node) r false) (still key ∙ moved key);
+    index = λ pool node key. h.index pool node key ∙ ap (λ r. option_map_or (is_live_on pool node) r false)
+        (still_as (λ slot. row_in slot key.1) (ap (λ slot. row_in slot key.1) none) key.0 ∙ moved key);
     shown = h.shown;
+    quotas = λ quota ns. h.quotas quota ns ∙ ap (λ r. is_quota r quota) (still_as quota_in (ap quota_in none) ns ∙ moved_as quota_in ns);
     sorted = second _ _ rises;
     found = found_later;
   })
-    where
-      still : (key : Key) → rows_but rest slots key ≡ cond (same_name key.0 x.0) (row_in x.1 key.1) (rows_but rest slots key)
-      still key = by (same_name key.0 x.0) refl
-        where
-          by : (b : Bool) → same_name key.0 x.0 ≡ b → rows_but rest slots key ≡ cond b (row_in x.1 key.1) (rows_but rest slots key)
-          by true e = ap (λ r. cond (is_some r) None (rows_in slots key)) (before key.0 ∙ ap (λ b. cond b (Some x.1) (find name_cmp key.0 left)) e)
-              ∙ sym (ap (λ slot. row_in slot key.1) none)
-          by false e = refl
 
   module _ (tenant : TenantRows) (at : x.1 ≡ Some tenant) (none : ByNumber (Option Allocation)) (no_rows : none ≡ empty) where
     pub nothing_before : (n : ℕ) → rows_but rest slots (x.0, n) ≡ row_at none n
@@ -130,20 +167,26 @@ module _ (x : Name × Option TenantRows) (rest left slots : Slots) (is : rest �
             ∙ sym (ap (λ slot. row_in slot key.1) at)
         by false e = refl
 
-    pub slot_indexed : (made new live : Live) → KeepsKeys old made → KeepsShown old made →
+    pub slot_indexed : (made new mid done live : Live) → KeepsKeys old made → KeepsShown old made →
         (Indexes (rows_but rest slots) made → Indexes (with_changes x.0 tenant.allocations.slots (rows_but rest slots)) new) →
-        ShowsUnmoved (rows_but rest slots) (with_changes x.0 tenant.allocations.slots (rows_but rest slots)) made new → live ≡ new → IsIndexing live left slots
-    slot_indexed made new live keys kept index shown same = subst (λ live. IsIndexing live left slots) (sym same) (record {
-      index = λ pool node key. index (λ p n k. keys p n k ∙ h.index p n k) pool node key
-          ∙ ap (λ r. option_map_or (is_live_on pool node) r false) (put_there key);
-      shown = λ pool name. by pool name (shown_at new pool name) refl;
-      sorted = second _ _ rises;
-      found = found_later;
-    })
+        ShowsUnmoved (rows_but rest slots) (with_changes x.0 tenant.allocations.slots (rows_but rest slots)) made new → KeepsNames made new →
+        KeepsNodes new mid → HoldsSame new.quotas mid.quotas → (after : Option Name) → after ≡ tenant.namespace.quota →
+        KeepsNodes mid done → PutsQuota x.0 None after mid.quotas done.quotas → live ≡ done → IsIndexing live left slots
+    slot_indexed made new mid done live keys kept index shown names room room_names after its put put_names same =
+        subst (λ live. IsIndexing live left slots) (sym same) (record {
+          index = λ pool node key. ap (λ pools. at_name holds_on_node pools (pool, (node, key))) (put.0 ∙ room.0)
+              ∙ index (λ p n k. keys p n k ∙ h.index p n k) pool node key ∙ ap (λ r. option_map_or (is_live_on pool node) r false) (put_there key);
+          shown = λ pool name. ap (λ shown. shown_in shown pool name) (put.1 ∙ room.1) ∙ by pool name (shown_at new pool name) refl;
+          quotas = λ quota ns. put_names (quotas_but rest slots) (λ q n. room_names q n ∙ ap (λ held. holds_at held (q, n)) (names ∙ kept.1) ∙ h.quotas q n)
+              unnamed_before quota ns ∙ ap (λ r. is_quota r quota)
+              (ap (λ r. cond (same_name ns x.0) r (quotas_but rest slots ns)) (its ∙ sym (ap quota_in at)) ∙ moved_as quota_in ns);
+          sorted = second _ _ rises;
+          found = found_later;
+        })
       where
         by : (pool name : Name) (r : Option PoolNode) → shown_at new pool name ≡ r → shown_at new pool name ≡ None
         by pool name None e = e
-        by pool name (Some node) e = absurd (not_Some node (sym (h.shown pool name) ∙ sym (ap (λ s. shown_in s pool name) kept) ∙ (shown pool name node e).0))
+        by pool name (Some node) e = absurd (not_Some node (sym (h.shown pool name) ∙ sym (ap (λ s. shown_in s pool name) kept.0) ∙ (shown pool name node e).0))
 
 pub all_indexed : (t : Tables) (live : Live) (rest slots : Slots) → slots ≡ entries t.tenants → rest ≡ [] → IsIndexing live rest slots →
     IsRight (world_of t) live
@@ -151,6 +194,8 @@ all_indexed t live rest slots is none h = record {
   index = λ pool node key. h.index pool node key ∙ ap (λ r. option_map_or (is_live_on pool node) r false)
       (ap (λ l. rows_but l slots key) none ∙ ap (λ l. rows_in l key) is ∙ sym (stored key));
   shown = λ pool name node e. absurd (not_Some node (sym (h.shown pool name) ∙ e));
+  quotas = λ quota ns. h.quotas quota ns ∙ ap (λ r. is_quota r quota)
+      (ap (λ l. quotas_but l slots ns) none ∙ ap (λ l. quota_in (flat (find name_cmp ns l))) is ∙ sym (named ns));
 }
   where
     by : (n : ℕ) (r : Option TenantRows) → option_and_then (λ t. get t.allocations n) (option_map tenant_of r) ≡ row_in r n
@@ -160,3 +205,11 @@ all_indexed t live rest slots is none h = record {
     stored : (key : Key) → allocation_at (world_of t) key ≡ rows_in (entries t.tenants) key
     stored key = ap (option_and_then (λ t. get t.allocations key.1)) (tenant_at t key.0) ∙ by key.1 (row_at t.tenants key.0)
         ∙ ap (λ r. row_in (flat r) key.1) (get-entries t.tenants key.0)
+
+    quota_seen : (r : Option TenantRows) → option_and_then (λ t. t.namespace.quota) (option_map tenant_of r) ≡ quota_in r
+    quota_seen None = refl
+    quota_seen (Some tenant) = refl
+
+    named : (ns : Name) → quota_named (world_of t) ns ≡ quota_in (flat (find name_cmp ns (entries t.tenants)))
+    named ns = ap (option_and_then (λ t. t.namespace.quota)) (tenant_at t ns) ∙ quota_seen (row_at t.tenants ns) ∙ ap (λ r. quota_in (flat r))
+        (get-entries t.tenants ns)

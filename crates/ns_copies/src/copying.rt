@@ -11,7 +11,7 @@ ghost use Rattle.ns_world.specs.World.{pool_of, quota_of, tenant_of, world_of};
 use crate::choosing::Chosen;
 use crate::lists::copied_keys;
 use crate::tables::copied_names;
-use keyed::{KeyQueue, NameTable};
+use keyed::{KeyQueue, NameTable, OwnerTable};
 use ns_types::records::Namespace;
 use ns_types::text::Text;
 use ns_world::{PoolRows, QuotaRows, Tables, TenantRows};
@@ -38,8 +38,8 @@ struct Lists {
 /// The owners, by name.
 #[derive(Drop)]
 struct Owners {
-    tenants: NameTable<TenantRows>,
-    pools: NameTable<PoolRows>,
+    tenants: OwnerTable<TenantRows>,
+    pools: OwnerTable<PoolRows>,
     quotas: NameTable<QuotaRows>,
 }
 
@@ -75,8 +75,8 @@ fn copied_owners(
 {
     Ok(Owners {
         quotas: copied_names(alloc, &tables.quotas, quotas)?,
-        pools: copied_names(alloc, &tables.pools, pools)?,
-        tenants: copied_names(alloc, &tables.tenants, spaces)?,
+        pools: OwnerTable::from_table(copied_names(alloc, tables.pools.as_table(), pools)?),
+        tenants: OwnerTable::from_table(copied_names(alloc, tables.tenants.as_table(), spaces)?),
     })
 }
 

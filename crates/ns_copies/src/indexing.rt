@@ -1,4 +1,4 @@
-//! The index of live allocations, made anew.
+//! The index of live allocations and of the namespaces that name a quota, made anew.
 
 ghost use Rattle.std.specs.Prelude.{IfOk};
 ghost use Rattle.ns_live.specs.Index.{IsRight};
@@ -9,7 +9,8 @@ use ns_live::Live;
 use ns_world::Tables;
 use std::alloc::{AllocError, Global};
 
-/// The index of the tables' live allocations. No node is shown. Want of memory is the only error.
+/// The index of the tables' live allocations, with which namespaces name which quota. No node is shown. Want of memory is the
+/// only error.
 pub fn live_of(alloc: Global, tables: &Tables) -> Result<Live, AllocError>
     ensures { IfOk result (IsRight (world_of tables.now)) }
 {
@@ -18,8 +19,11 @@ pub fn live_of(alloc: Global, tables: &Tables) -> Result<Live, AllocError>
     for slot in tables.tenants.as_slice() {
         if let Some(tenant) = &slot.1 {
             let allocations = tenant.allocations.rows();
+            let quota = tenant.namespace.quota.as_ref();
             live.reserve_all(&slot.0, allocations)?;
             live.put_all(&slot.0, &none, allocations);
+            live.reserve_quota(&slot.0, quota)?;
+            live.put_quota(&slot.0, None, quota);
         }
     }
     Ok(live)

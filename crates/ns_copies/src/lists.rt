@@ -1,6 +1,7 @@
 //! Copies of the lists of keys.
 
-ghost use Rattle.std.specs.Prelude.{◌≡◌, IfOk, filter};
+ghost use Rattle.std.specs.Prelude.{◌≡◌, ◌++◌, IfOk, OnOk, filter};
+ghost use Rattle.keyed.specs.Queue.{passing_at};
 ghost use Rattle.ns_copies.specs.Chosen.{is_chosen};
 
 use crate::choosing::Chosen;
@@ -8,6 +9,26 @@ use keyed::KeyQueue;
 use ns_types::key::EvalKey;
 use ns_types::rows::Rows;
 use std::alloc::{AllocError, Global};
+
+/// A place of a list with its key, or a vacant one.
+type KeySlot = (u64, Option<EvalKey>);
+
+/// Puts the key at this place behind the others, where its namespace is chosen.
+fn add_chosen(
+    keys: &mut Rows<EvalKey>,
+    slot: &KeySlot,
+    spaces: Chosen<'_>,
+) -> Result<(), AllocError>
+    ensures { OnOk result (keys.new
+        ≡ keys.old ++ passing_at (λ key. is_chosen spaces.entry key.0) slot.now) }
+{
+    if let Some(key) = &slot.1 {
+        if spaces.has(key.namespace()) {
+            keys.push(key.clone()?)?;
+        }
+    }
+    Ok(())
+}
 
 /// The keys of the chosen namespaces, in their order.
 fn chosen_keys(
@@ -19,10 +40,8 @@ fn chosen_keys(
         keys ≡ filter (λ key. is_chosen spaces.entry key.0) queue.now.items) }
 {
     let mut keys = Rows::new(alloc);
-    for key in queue.as_slice() {
-        if spaces.has(key.namespace()) {
-            keys.push(key.clone()?)?;
-        }
+    for slot in queue.slots() {
+        add_chosen(&mut keys, slot, spaces)?;
     }
     Ok(keys)
 }

@@ -19,7 +19,7 @@ use Rattle.ns_admin.specs.Recorded.{PreparesRecord}
 use Rattle.ns_change.specs.declared.change.Prepared.{Prepared}
 use Rattle.ns_change.specs.Prepared.{Prepares, bounded}
 use Rattle.ns_change.proofs.Making.{does, refuses}
-use Rattle.ns_live.specs.Index as live
+use Rattle.ns_live.specs.Naming.{KeepsNodes}
 use Rattle.ns_live.proofs.Administered.{administration_right}
 use Rattle.ns_turns.specs.Turns as turns
 use Rattle.ns_turns.proofs.Administered.{administration_keeps_work}
@@ -28,7 +28,7 @@ use Rattle.ns_steps.proofs.Reading.{changes_lift}
 use Rattle.ns_world.specs.declared.tables.Tables.{Tables}
 use Rattle.ns_core.specs.declared.parts.Parts.{Parts}
 use Rattle.ns_core.specs.Answering.{ChangesBy, PreparesStep, WritesPrepared}
-use Rattle.ns_core.specs.Held.{IsIndexed}
+use Rattle.ns_core.specs.Held.{IsIndexed, KeepsNamed}
 use Rattle.ns_core.specs.Viewed.{state_of, world_of}
 
 -- only a put of a quota changes a quota's limits
@@ -40,10 +40,11 @@ limits_stay w _ other = refl
 -- ---- a command that settles as it is
 
 pub index_stays : (secret : Option Name) (command : AdminCommand) (old new : Parts) (result : Result Content Refusal) → IsValid (state_of old)
-    → ChangesBy secret command old result new → new.live ≡ old.live → new.turns ≡ old.turns → IsIndexed old → IsIndexed new
-index_stays secret command old new result valid changes same_live same_turns right = record {
-  live = subst (live.IsRight (world_of new)) (sym same_live)
-      (administration_right secret command (state_of old) (state_of new) result old.live changes right.live);
+    → ChangesBy secret command old result new → KeepsNodes old.live new.live → KeepsNamed old.tables old.live new.tables new.live
+    → new.turns ≡ old.turns → IsIndexed old → IsIndexed new
+index_stays secret command old new result valid changes nodes named same_turns right = record {
+  live = administration_right secret command (state_of old) (state_of new) result old.live new.live changes right.live nodes
+      (named right.live.quotas);
   turns = subst (turns.IsRight (world_of new)) (sym same_turns)
       (right_still (world_of old) (world_of new) old.turns
       (administration_keeps_work secret command (state_of old) (state_of new) result valid changes) right.turns);

@@ -21,18 +21,19 @@ use Rattle.ns_steps.specs.Served.{only_reads, served_ask, served_node}
 use Rattle.ns_steps.proofs.Reading.{changes_lift, reads_make}
 use Rattle.ns_steps.proofs.Telling.{is_served_ask, is_served_node}
 use Rattle.ns_jobs.specs.Read
-use Rattle.ns_jobs.specs.Read.{UsageFits, UseFits}
+use Rattle.ns_jobs.specs.Read.{UsageFits}
+use Rattle.ns_types.specs.State.Resources.{IsCounted}
 use Rattle.ns_types.specs.Validity.{IsValid}
 use Rattle.ns_core.proofs.Keeping.{within}
 
 -- ---- what is used of a quota
 
-pub usage_fits : (s : State) → IsValid s → (quota : Name) → UseFits (quota_use s.world quota)
+pub usage_fits : (s : State) → IsValid s → (quota : Name) → IsCounted (quota_use s.world quota)
 usage_fits s valid quota =
     let small = quota_small s.world quota valid.world in
     let cpu = small.0 in
     let memory = small.1 in
-    record { cpu = omega (arith, cpu); memory = omega (arith, memory) }
+    (omega (arith, cpu), omega (arith, memory))
 
 pub uses_fit : (s : State) → IsValid s → (command : AskCommand) → UsageFits command s.world
 uses_fit s valid (AskCommand.QuotaUsage quota) = usage_fits s valid quota

@@ -8,7 +8,8 @@ ghost use Rattle.ns_types.specs.Asking.Policies.{may_administer};
 ghost use Rattle.ns_admin.specs.Laws.{relimits};
 ghost use Rattle.ns_core.specs.Answering.{ChangesBy, MakesAdmin, MakesStep, ReadsBy, WritesPrepared, sees, sees_pool};
 ghost use Rattle.ns_types.specs.Validity.{IsValid};
-ghost use Rattle.ns_core.specs.Held.{IsIndexed, IsKept};
+ghost use Rattle.ns_live.specs.Naming.{KeepsNodes};
+ghost use Rattle.ns_core.specs.Held.{IsIndexed, IsKept, KeepsNamed};
 ghost use Rattle.ns_core.specs.Viewed.{state_of, world_of};
 
 use crate::parts::{Parts, plain};
@@ -17,6 +18,7 @@ use ns_admin::{
     RecordChange, change_limits, delete_namespace, delete_pool, delete_quota, is_relimited,
     list_quotas, put_namespace, put_pool, put_quota, read_quota, write,
 };
+use ns_live::Live;
 use ns_types::records::Quota;
 use ns_types::refusal::Refusal;
 use ns_types::reply::{Content, Reply};
@@ -24,12 +26,19 @@ use ns_types::step::AdminCommand;
 use ns_types::text::Text;
 use ns_world::Tables;
 
-/// Writes what was prepared for a command on a record, or leaves the tables as they are.
-fn record(tables: &mut Tables, prepared: Result<RecordChange, Refusal>) -> Result<Content, Refusal>
-    ensures { WritesPrepared prepared tables.old result tables.new }
+/// Writes what was prepared for a command on a record, or leaves the tables as they are. Which namespaces name which quota
+/// stays right in the index.
+fn record(
+    tables: &mut Tables,
+    live: &mut Live,
+    prepared: Result<RecordChange, Refusal>,
+) -> Result<Content, Refusal>
+    ensures written { WritesPrepared prepared tables.old result tables.new }
+    ensures nodes { KeepsNodes live.old live.new }
+    ensures named { KeepsNamed tables.old live.old tables.new live.new }
 {
     let change = prepared?;
-    write(tables, change)?;
+    write(tables, live, change)?;
     Ok(Content::Written)
 }
 
@@ -70,37 +79,38 @@ impl Parts {
         command: &AdminCommand,
     ) -> Result<Content, Refusal>
         ensures made { ChangesBy (option_copied secret.entry) command.now self.old result self.new }
-        ensures live { self.new.live ≡ self.old.live }
+        ensures nodes { KeepsNodes self.old.live self.new.live }
+        ensures named { KeepsNamed self.old.tables self.old.live self.new.tables self.new.live }
         ensures turns { self.new.turns ≡ self.old.turns }
     {
         match command {
             AdminCommand::ListNamespaces => self.list_namespaces(secret),
             AdminCommand::PutNamespace(name, row) => {
                 let prepared = put_namespace(&self.tables, name, row);
-                record(&mut self.tables, prepared)
+                record(&mut self.tables, &mut self.live, prepared)
             }
             AdminCommand::DeleteNamespace(name) => {
                 let prepared = delete_namespace(&self.tables, name);
-                record(&mut self.tables, prepared)
+                record(&mut self.tables, &mut self.live, prepared)
             }
             AdminCommand::ListQuotas => Ok(list_quotas(&self.tables)?),
             AdminCommand::ReadQuota(name) => read_quota(&self.tables, name),
             AdminCommand::PutQuota(name, quota) => {
                 let prepared = put_quota(&self.tables, name, quota);
-                record(&mut self.tables, prepared)
+                record(&mut self.tables, &mut self.live, prepared)
             }
             AdminCommand::DeleteQuota(name) => {
                 let prepared = delete_quota(&self.tables, name);
-                record(&mut self.tables, prepared)
+                record(&mut self.tables, &mut self.live, prepared)
             }
             AdminCommand::ListPools => self.list_pools(secret),
             AdminCommand::PutPool(name, pool) => {
                 let prepared = put_pool(&self.tables, name, pool);
-                record(&mut self.tables, prepared)
+                record(&mut self.tables, &mut self.live, prepared)
             }
             AdminCommand::DeletePool(name) => {
                 let prepared = delete_pool(&self.tables, name);
-                record(&mut self.tables, prepared)
+                record(&mut self.tables, &mut self.live, prepared)
             }
             AdminCommand::ReadPolicy(name) => self.acl.read_policy(name),
             AdminCommand::PutPolicy(name, policy) => self.acl.put_policy(name, policy),

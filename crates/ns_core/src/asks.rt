@@ -36,11 +36,11 @@ impl Parts {
 
     /// Answers a command that only reads, by a secret that may.
     fn read(&self, namespace: &Text, command: &AskCommand) -> Result<Reply, Refusal>
-        requires valid { IsValid (state_of self.now) }
+        requires kept { IsKept self.now }
         requires reads { only_reads command.now ≡ true }
         ensures { MakesAsk namespace.now command.now self.now result self.now }
     {
-        let content = ns_jobs::read(&self.tables, namespace, command)?;
+        let content = ns_jobs::read(&self.tables, &self.live, namespace, command)?;
         Ok(self.reply(namespace, content))
     }
 

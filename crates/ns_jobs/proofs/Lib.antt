@@ -3,4 +3,3 @@ pub mod Listed
 pub mod Past
 pub mod Prepared
 pub mod Releasing
-pub mod Used

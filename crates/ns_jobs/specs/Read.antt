@@ -1,6 +1,5 @@
 -- What a read in a namespace says.
-use Rattle.std.specs.Prelude.{◌≡◌, ℕ, ◌+◌, ◌<◌, ◌^◌, Bool, true, false, cond, List, Option, Some, None, Result}
-use Rattle.std.specs.Prelude.{filter, map, sum_by}
+use Rattle.std.specs.Prelude.{◌≡◌, ℕ, Bool, true, false, List, Option, Some, Result, filter, map}
 use Rattle.keyed.specs.Table.{row_list}
 use Rattle.ns_types.specs.declared.allocation.Allocation.{Allocation}
 use Rattle.ns_types.specs.declared.evaluation.Evaluation.{Evaluation}
@@ -11,15 +10,15 @@ use Rattle.ns_types.specs.declared.reply.AllocationShown.{AllocationShown}
 use Rattle.ns_types.specs.declared.reply.Content.{Content}
 use Rattle.ns_types.specs.declared.reply.EvaluationShown.{EvaluationShown}
 use Rattle.ns_types.specs.declared.reply.JobShown.{JobShown}
-use Rattle.ns_types.specs.declared.resources.Resources.{Resources}
 use Rattle.ns_types.specs.declared.step.AskCommand.{AskCommand}
 use Rattle.ns_types.specs.Asking.Asks.{ask, asked_in}
 use Rattle.ns_types.specs.Asking.Reads.{job_shown}
 use Rattle.ns_types.specs.Settling.Outcome.{Changes}
 use Rattle.ns_types.specs.State.Id.{id_text}
 use Rattle.ns_types.specs.State.Names.{Name, begins_with, same_name}
-use Rattle.ns_types.specs.State.Rows.{World, Tenant, is_live}
-use Rattle.ns_types.specs.State.Sums.{names_quota, quota_use, tenant_sum}
+use Rattle.ns_types.specs.State.Resources.{IsCounted}
+use Rattle.ns_types.specs.State.Rows.{World, Tenant}
+use Rattle.ns_types.specs.State.Sums.{quota_use}
 use Rattle.ns_world.specs.declared.tables.Tables.{Tables}
 use Rattle.ns_world.specs.declared.tables.TenantRows.{TenantRows}
 use Rattle.ns_world.specs.Filing.{stands_under}
@@ -80,25 +79,7 @@ module _ {X Shown : Type 0} (as_shown : Name → ℕ → X → Shown) (is_listed
 
 -- ---- the use of a quota
 
--- each sum has a number of the program
-pub record UseFits (used : Resources) : Type 0 where
-  pub cpu : used.cpu < 2 ^ 64
-  pub memory : used.memory < 2 ^ 64
-
--- those of the quota that a command asks for
+-- the use of the quota that a command asks for fits 64 bits
 abbrev pub UsageFits : AskCommand → World → Type 0
-UsageFits (AskCommand.QuotaUsage quota) w = UseFits (quota_use w quota)
+UsageFits (AskCommand.QuotaUsage quota) w = IsCounted (quota_use w quota)
 UsageFits _ w = Unit {0}
-
--- what the namespace of the slot takes of the quota
-abbrev pub tenant_amount : Name → (Resources → ℕ) → Name × Option TenantRows → ℕ
-tenant_amount quota amount (ns, None) = 0
-tenant_amount quota amount (ns, Some x) =
-    cond (names_quota quota x.namespace) (tenant_sum is_live amount (tenant_of x)) 0
-
--- with what the namespaces of the slots take of the quota
-abbrev pub with_tenants : Name → Resources → List (Name × Option TenantRows) → Resources
-with_tenants quota used slots = record {
-  cpu = used.cpu + sum_by (tenant_amount quota (λ r. r.cpu)) slots;
-  memory = used.memory + sum_by (tenant_amount quota (λ r. r.memory)) slots;
-}

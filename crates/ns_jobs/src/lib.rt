@@ -22,4 +22,3 @@ pub use looking::{allocation, job};
 pub use reading::read;
 pub use registration::register;
 pub use stopping::stop_allocation;
-pub use usage::quota_use;

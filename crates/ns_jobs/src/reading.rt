@@ -4,12 +4,14 @@ ghost use Rattle.std.specs.Prelude.{◌≡◌, IfOk, IsTrue};
 ghost use Rattle.ns_types.specs.declared.step.AskCommand.TheVariants as AskCommand;
 ghost use Rattle.ns_types.specs.Asking.Reads.{events_from};
 ghost use Rattle.ns_jobs.specs.Read.{Reads, ReadsIn, SaysIn, UsageFits, only_reads};
+ghost use Rattle.ns_live.specs.Index.{IsRight};
 ghost use Rattle.ns_world.specs.World.{tenant_of, world_of};
 
 use crate::allocations::{list_allocations, read_allocation};
 use crate::evaluations::{list_evaluations, read_evaluation};
 use crate::jobs::{list_jobs, read_job};
 use crate::usage::quota_usage;
+use ns_live::Live;
 use ns_types::refusal::Refusal;
 use ns_types::reply::{Content, NamespaceShown};
 use ns_types::step::AskCommand;
@@ -45,11 +47,13 @@ fn events_from(
 /// What a command that only reads says of a namespace.
 fn read_in(
     tables: &Tables,
+    live: &Live,
     namespace: &Text,
     tenant: &TenantRows,
     command: &AskCommand,
 ) -> Result<Content, Refusal>
     requires reads { IsTrue (only_reads command.now) }
+    requires right { IsRight (world_of tables.now) live.now }
     requires fits { UsageFits command.now (world_of tables.now) }
     ensures { ReadsIn namespace.now command.now (world_of tables.now) tenant.now result }
 {
@@ -66,21 +70,27 @@ fn read_in(
             Ok(list_allocations(alloc, namespace, tenant, command)?)
         }
         AskCommand::ReadNamespace => read_namespace(namespace, tenant),
-        AskCommand::QuotaUsage(quota) => quota_usage(tables, tenant, quota),
+        AskCommand::QuotaUsage(quota) => quota_usage(tables, live, tenant, quota),
         AskCommand::Events(index) => Ok(events_from(alloc, namespace, tenant, *index)?),
         _ => unreachable!(),
     }
 }
 
-/// Answers a command that only reads. `NotFound`: there is no such namespace, or in it no such job, evaluation or
-/// allocation, or the quota is not the namespace's.
-pub fn read(tables: &Tables, namespace: &Text, command: &AskCommand) -> Result<Content, Refusal>
+/// Answers a command that only reads, by an index that is right for the tables. `NotFound`: there is no such namespace, or in
+/// it no such job, evaluation or allocation, or the quota is not the namespace's.
+pub fn read(
+    tables: &Tables,
+    live: &Live,
+    namespace: &Text,
+    command: &AskCommand,
+) -> Result<Content, Refusal>
     requires reads { IsTrue (only_reads command.now) }
+    requires right { IsRight (world_of tables.now) live.now }
     requires fits { UsageFits command.now (world_of tables.now) }
     ensures { Reads namespace.now command.now tables.now result }
 {
     let Some(tenant) = tables.tenants.get(namespace) else {
         return Err(Refusal::NotFound);
     };
-    read_in(tables, namespace, tenant, command)
+    read_in(tables, live, namespace, tenant, command)
 }

@@ -1,67 +1,30 @@
-//! What a quota's namespaces use.
+//! What is read of a quota's use.
 
-ghost use Rattle.std.specs.Prelude.{◌≡◌, ◌+◌, ◌<◌, ◌^◌};
 ghost use Rattle.ns_types.specs.declared.step.AskCommand.TheVariants as AskCommand;
 ghost use Rattle.ns_types.specs.State.Names.{Name};
+ghost use Rattle.ns_types.specs.State.Resources.{IsCounted};
 ghost use Rattle.ns_types.specs.State.Sums.{quota_use};
-ghost use Rattle.ns_jobs.specs.Read.{ReadsIn, UseFits, tenant_amount, with_tenants};
+ghost use Rattle.ns_jobs.specs.Read.{ReadsIn};
+ghost use Rattle.ns_live.specs.Index.{IsRight};
 ghost use Rattle.ns_world.specs.World.{world_of};
 
 use ns_admin::names_quota;
+use ns_live::Live;
 use ns_types::refusal::Refusal;
 use ns_types::reply::Content;
-use ns_types::resources::{Resources, none, plus};
 use ns_types::text::Text;
 use ns_world::{Tables, TenantRows};
 
-/// A namespace with its rows, or a vacant slot.
-type TenantSlot = (Text, Option<TenantRows>);
-
-fn add_tenant(quota: &Text, used: Resources, slot: &TenantSlot) -> Resources
-    requires cpu { used.cpu + tenant_amount quota.now (λ r. r.cpu) slot.now < 2 ^ 64 }
-    requires memory { used.memory + tenant_amount quota.now (λ r. r.memory) slot.now < 2 ^ 64 }
-    ensures { result ≡ record {
-      cpu = used.cpu + tenant_amount quota.now (λ r. r.cpu) slot.now;
-      memory = used.memory + tenant_amount quota.now (λ r. r.memory) slot.now;
-    } }
-{
-    let Some(tenant) = &slot.1 else {
-        return used;
-    };
-    if !names_quota(quota, &tenant.namespace) {
-        return used;
-    }
-    plus(used, tenant.allocations.live_use())
-}
-
-/// With what the namespaces take of the quota.
-fn with_tenants(quota: &Text, used: Resources, slots: &[TenantSlot]) -> Resources
-    requires { UseFits (with_tenants quota.now used slots.now) }
-    ensures { result ≡ with_tenants quota.now used slots.now }
-{
-    let mut sum = used;
-    for slot in slots {
-        sum = add_tenant(quota, sum, slot);
-    }
-    sum
-}
-
-/// What the live allocations of all namespaces that name the quota take together. It looks at each namespace, and at no
-/// allocation. It takes no memory. The premise is that the sums fit 64 bits.
-pub fn quota_use(tables: &Tables, quota: &Text) -> Resources
-    requires { UseFits (quota_use (world_of tables.now) quota.now) }
-    ensures { result ≡ quota_use (world_of tables.now) quota.now }
-{
-    with_tenants(quota, none(), tables.tenants.as_slice())
-}
-
-/// What the read of a quota's use says. `NotFound`: it is not the namespace's.
+/// What the read of a quota's use says, by an index that is right for the tables. It looks at the namespaces that name the
+/// quota, and at no other. `NotFound`: it is not the namespace's.
 pub(crate) fn quota_usage(
     tables: &Tables,
+    live: &Live,
     tenant: &TenantRows,
     quota: &Text,
 ) -> Result<Content, Refusal>
-    requires { UseFits (quota_use (world_of tables.now) quota.now) }
+    requires right { IsRight (world_of tables.now) live.now }
+    requires fits { IsCounted (quota_use (world_of tables.now) quota.now) }
     ensures { (ns : Name) → ReadsIn ns (AskCommand.QuotaUsage quota.now)
         (world_of tables.now) tenant.now result }
 {
@@ -69,5 +32,5 @@ pub(crate) fn quota_usage(
         return Err(Refusal::NotFound);
     }
     let name = quota.clone()?;
-    Ok(Content::Usage(name, quota_use(tables, quota)))
+    Ok(Content::Usage(name, live.quota_use(tables, quota)))
 }

@@ -16,9 +16,8 @@ use Rattle.ns_types.specs.declared.snapshot.OwnAllocation.{OwnAllocation}
 use Rattle.ns_types.specs.declared.snapshot.PoolNode.{PoolNode}
 use Rattle.ns_types.specs.State.Names.{Key, Name, ByNumber}
 use Rattle.ns_types.specs.State.Rows.{World, Tenant, allocation_at, is_live_on, node_at}
-use Rattle.ns_types.specs.State.Sums.{names_quota}
 use Rattle.ns_types.specs.State.Tables.{table_of}
-use Rattle.ns_types.specs.Working.Snapshot.{live_on, namespaces_naming, nodes_of, own_allocations, seen_live}
+use Rattle.ns_types.specs.Working.Snapshot.{live_on, nodes_of, own_allocations, seen_live}
 use Rattle.ns_types.proofs.Named.{first_of_both, names, numbers, one_name, one_number}
 use Rattle.ns_types.proofs.TableRows.{entries_empty}
 use Rattle.ns_types.proofs.Tables.{each_row, entries-table_of, get-table_of, tied}
@@ -37,7 +36,7 @@ use Rattle.ns_live.proofs.Listing.{allocations_are, no_allocations, shown}
 use Rattle.ns_live.specs.declared.live.Live.{Live}
 use Rattle.ns_live.specs.Index.{IsRight}
 use Rattle.ns_live.specs.Shown.{node_seen}
-use Rattle.ns_snapshot.specs.Seen.{AreNodesOf, IsNodeOf, add_namespace, add_number, add_seen, is_own, naming, node_at_slot, own_at, seen_row}
+use Rattle.ns_snapshot.specs.Seen.{AreNodesOf, IsNodeOf, add_namespace, add_number, add_seen, is_own, node_at_slot, own_at, seen_row}
 
 -- what is answered, in another form
 pub ok_as : {A E : Type 0} (r : Result A E) (x y : A) → x ≡ y → IfOk r (λ a. a ≡ x) → IfOk r (λ a. a ≡ y)
@@ -71,27 +70,6 @@ module _ (x : TenantRows) (id : Name) (job : Option Job) where
 
   pub own_none : AreNumbersUnder allocation_job id x.allocations.slots None → own_allocations (tenant_of x) id job ≡ []
   own_none has = ap own_rows (none_passing allocation_job id x.allocations.slots (λ _ a. is_own id job a) (λ n a. first_of_both _ _) has)
-
-naming_shown : (quota : Name) (slots : List (Name × Option TenantRows)) → flat_map (naming quota) slots
-    ≡ map (λ t. t.0) (filter (λ (t : Name × Tenant). names_quota quota t.1.namespace) (map (λ e. (e.0, tenant_of e.1)) (row_list slots)))
-naming_shown quota [] = refl
-naming_shown quota ((ns, None) ∷ slots) = naming_shown quota slots
-naming_shown quota ((ns, Some x) ∷ slots) = by (names_quota quota x.namespace) (naming_shown quota slots)
-  where
-    by : (b : Bool) → flat_map (naming quota) slots
-        ≡ map (λ t. t.0) (filter (λ (t : Name × Tenant). names_quota quota t.1.namespace) (map (λ e. (e.0, tenant_of e.1)) (row_list slots)))
-        → cond b (ns ∷ []) [] ++ flat_map (naming quota) slots ≡ map (λ (t : Name × Tenant). t.0) (cond b ((ns, tenant_of x)
-        ∷ filter (λ (t : Name × Tenant). names_quota quota t.1.namespace) (map (λ e. (e.0, tenant_of e.1)) (row_list slots)))
-        (filter (λ (t : Name × Tenant). names_quota quota t.1.namespace) (map (λ e. (e.0, tenant_of e.1)) (row_list slots))))
-    by true later = ap (λ names. ns ∷ names) later
-    by false later = later
-
-pub naming_is : (t : Tables) (quota : Name) → flat_map (naming quota) (entries t.tenants) ≡ namespaces_naming (world_of t) quota
-unfolding namespaces_naming world_of
-naming_is t quota = naming_shown quota (entries t.tenants)
-    ∙ sym (ap (λ es. map (λ t. t.0) (filter (λ (t : Name × Tenant). names_quota quota t.1.namespace) es))
-    (entries-table_of (λ (_ : Name) (x : TenantRows). tenant_of x) (rows t.tenants)
-    ∙ ap (map (λ (e : Name × TenantRows). (e.0, tenant_of e.1))) (entries-rows t.tenants)))
 
 module _ (w : World) (pool : Name) where
   abbrev shown_node : Name × Node → PoolNode

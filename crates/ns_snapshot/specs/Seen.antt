@@ -11,10 +11,10 @@ use Rattle.ns_types.specs.declared.snapshot.OwnAllocation.{OwnAllocation}
 use Rattle.ns_types.specs.declared.snapshot.PoolNode.{PoolNode}
 use Rattle.ns_types.specs.State.Lists.{Each}
 use Rattle.ns_types.specs.State.Names.{Name, ByName, ByNumber, same_name}
+use Rattle.ns_types.specs.State.Resources.{IsCounted}
 use Rattle.ns_types.specs.State.Rows.{World, Tenant, is_live, node_at}
-use Rattle.ns_types.specs.State.Sums.{names_quota, quota_use}
+use Rattle.ns_types.specs.State.Sums.{quota_use}
 use Rattle.ns_types.specs.Working.Snapshot.{is_done_for, live_on, seen_live}
-use Rattle.ns_jobs.specs.Read.{UseFits}
 use Rattle.ns_world.specs.declared.tables.TenantRows.{TenantRows}
 
 -- ---- the job's own allocations
@@ -63,10 +63,6 @@ AreNodesOf w pool slots = Each (IsNodeOf w pool) slots
 
 -- ---- the quota
 
-abbrev pub naming : Name → Name × Option TenantRows → List Name
-naming quota (ns, None) = []
-naming quota (ns, Some t) = if names_quota quota t.namespace then ns ∷ [] else []
-
 -- what is used of the namespace's quota fits 64 bits
 abbrev pub UseOfFits : World → Tenant → Type 0
-UseOfFits w t = (q : Name) → t.namespace.quota ≡ Some q → UseFits (quota_use w q)
+UseOfFits w t = (q : Name) → t.namespace.quota ≡ Some q → IsCounted (quota_use w q)

@@ -53,7 +53,8 @@ fn copied_job(job: Option<&Job>) -> Result<Option<Job>, AllocError>
 /// the tables, and what is used of the namespace's quota fits 64 bits, as in each valid world; the index stays right.
 ///
 /// It costs a pointer for each node of the pool, a copy of each with its live allocations that changed since it was last
-/// shown, and a walk over the namespace's own allocations; where the namespace has a quota, a look at each namespace, too.
+/// shown, and a walk over the namespace's own allocations; where the namespace has a quota, a look at each namespace that
+/// names it, too.
 pub fn snapshot(
     tables: &Tables,
     live: &mut Live,
@@ -79,6 +80,6 @@ pub fn snapshot(
         pool: pool.clone()?,
         nodes: nodes_of(tables, live, pool)?,
         release: release_of(tables, pool),
-        quota: quota_for(tables, tenant)?,
+        quota: quota_for(tables, live, tenant)?,
     })
 }

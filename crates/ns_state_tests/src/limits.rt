@@ -4,6 +4,7 @@ use crate::made::{digits, text};
 use crate::owned::with;
 use ns_acl::Acl;
 use ns_admin::{RecordChange, opening, put_namespace, put_pool, put_quota, write};
+use ns_live::Live;
 use ns_types::acl::{Policy, TokenKind};
 use ns_types::records::{Namespace, Pool, Quota};
 use ns_types::refusal::Refusal;
@@ -59,9 +60,25 @@ fn changed<S, T, W: FnOnce(&mut S, T) -> Result<(), AllocError>>(
     }
 }
 
+/// Tables, with the index that is right for them.
+#[derive(Drop)]
+struct Indexed {
+    tables: Tables,
+    live: Live,
+}
+
+fn opened(alloc: Global) -> Result<Indexed, AllocError> {
+    Ok(Indexed {
+        tables: opening(alloc)?,
+        live: Live::new(alloc),
+    })
+}
+
 /// Writes what was prepared, and says what refuses it.
-fn written(tables: &mut Tables, prepared: Result<RecordChange, Refusal>) -> Option<Refusal> {
-    changed(tables, prepared, |tables, change| write(tables, change))
+fn written(state: &mut Indexed, prepared: Result<RecordChange, Refusal>) -> Option<Refusal> {
+    changed(state, prepared, |state, change| {
+        write(&mut state.tables, &mut state.live, change)
+    })
 }
 
 fn namespace(rt: &impl Abort, alloc: Global) -> Namespace {
@@ -74,50 +91,50 @@ fn namespace(rt: &impl Abort, alloc: Global) -> Namespace {
     }
 }
 
-fn fill_namespaces(rt: &impl Abort, tables: &mut Tables) -> Refused {
-    let alloc = tables.alloc;
+fn fill_namespaces(rt: &impl Abort, state: &mut Indexed) -> Refused {
+    let alloc = state.tables.alloc;
     let namespace = namespace(rt, alloc);
-    fill(rt, alloc, tables, |tables, name| {
-        let prepared = put_namespace(tables, name, &namespace);
-        written(tables, prepared)
+    fill(rt, alloc, state, |state, name| {
+        let prepared = put_namespace(&state.tables, name, &namespace);
+        written(state, prepared)
     })
 }
 
-fn fill_pools(rt: &impl Abort, tables: &mut Tables) -> Refused {
-    let alloc = tables.alloc;
+fn fill_pools(rt: &impl Abort, state: &mut Indexed) -> Refused {
+    let alloc = state.tables.alloc;
     let pool = Pool {
         description: text(rt, alloc, ""),
     };
-    fill(rt, alloc, tables, |tables, name| {
-        let prepared = put_pool(tables, name, &pool);
-        written(tables, prepared)
+    fill(rt, alloc, state, |state, name| {
+        let prepared = put_pool(&state.tables, name, &pool);
+        written(state, prepared)
     })
 }
 
-fn fill_quotas(rt: &impl Abort, tables: &mut Tables) -> Refused {
-    let alloc = tables.alloc;
+fn fill_quotas(rt: &impl Abort, state: &mut Indexed) -> Refused {
+    let alloc = state.tables.alloc;
     let quota = Quota {
         description: text(rt, alloc, ""),
         limits: None,
     };
-    fill(rt, alloc, tables, |tables, name| {
-        let prepared = put_quota(tables, name, &quota);
-        written(tables, prepared)
+    fill(rt, alloc, state, |state, name| {
+        let prepared = put_quota(&state.tables, name, &quota);
+        written(state, prepared)
     })
 }
 
 /// The namespace `default` and the pool `default` are there, so 9,999 more of each have room.
-fn has_full_tables(rt: &impl Abort, tables: &mut Tables) -> bool {
-    let namespaces = fill_namespaces(rt, tables) == Some((19_999, Refusal::Full));
-    let pools = fill_pools(rt, tables) == Some((19_999, Refusal::Full));
-    let quotas = fill_quotas(rt, tables) == Some((20_000, Refusal::Full));
+fn has_full_tables(rt: &impl Abort, state: &mut Indexed) -> bool {
+    let namespaces = fill_namespaces(rt, state) == Some((19_999, Refusal::Full));
+    let pools = fill_pools(rt, state) == Some((19_999, Refusal::Full));
+    let quotas = fill_quotas(rt, state) == Some((20_000, Refusal::Full));
     namespaces && pools && quotas
 }
 
 #[test]
 fn fills_tables(rt: HostRuntime) {
-    let tables = opening(rt.alloc());
-    assert!(rt; with(&rt, tables, |tables| has_full_tables(&rt, tables)));
+    let state = opened(rt.alloc());
+    assert!(rt; with(&rt, state, |state| has_full_tables(&rt, state)));
 }
 
 fn fill_policies(rt: &impl Abort, alloc: Global, acl: &mut Acl) -> Refused {

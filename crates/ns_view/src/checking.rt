@@ -19,7 +19,7 @@ use ns_world::Tables;
 /// each stop up, and goes from the node's first placement that evicts to its last. It looks each eviction of the plan up
 /// once, with a walk over the stops where it is of the same namespace, and compares each that counts with those of its
 /// node before it. Where the namespace names a quota, the check costs once the square of the stops, and a look at each
-/// namespace.
+/// namespace that names it.
 pub fn check(tables: &Tables, live: &Live, snapshot: &Snapshot, plan: &Plan) -> Outcome
     requires right { IsRight (world_of tables.now) live.now }
     requires counted { AreCounted (world_of tables.now) }

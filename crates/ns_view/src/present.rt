@@ -5,7 +5,6 @@ ghost use Rattle.ns_live.specs.Index.{IsRight};
 ghost use Rattle.ns_world.specs.World.{world_of};
 
 use crate::looking;
-use ns_jobs::quota_use;
 use ns_live::Live;
 use ns_plan::View;
 use ns_types::allocation::Allocation;
@@ -19,7 +18,7 @@ use std::marker::Model;
 /// The tables of the world with an index of live allocations that is right for them. Contracts see the world.
 ///
 /// A look-up of a row costs what the tables' do. The load of a node costs a walk over its live allocations. What a
-/// quota has in use costs a look at each namespace, and at none of their allocations.
+/// quota has in use costs a look at each namespace that names it, and at none of their allocations.
 #[derive(Drop)]
 pub struct Present<'a> {
     tables: &'a Tables,
@@ -80,6 +79,6 @@ impl<'a> View for Present<'a> {
     }
 
     fn used(&self, quota: &Text) -> Resources {
-        quota_use(self.tables, quota)
+        self.live.quota_use(self.tables, quota)
     }
 }

@@ -9,6 +9,8 @@ use Rattle.ns_admin.specs.declared.record.RecordChange.TheVariants as RecordChan
 use Rattle.ns_admin.specs.Recorded.{recorded}
 use Rattle.ns_admin.proofs.Recording.{out_of_memory}
 use Rattle.ns_admin.proofs.World.{tenants_full}
+use Rattle.keyed.specs.Table.{rows}
+use Rattle.ns_types.specs.Asking.Admins.{is_full}
 use Rattle.ns_admin.proofs.namespaces.put_namespace.Goals as goal
 
 pub returns-then-lacks_quota : goal.returns-then-lacks_quota
@@ -43,7 +45,8 @@ returns-then-is_full c =
     ∙ unless_not _ _ _ (ap not (sym c.has_pool.ensures ∙ c.if-not-has_pool.false))
     ∙ unless_not _ _ _ (sym c.lacks_allowed.ensures ∙ c.if-lacks_allowed.false)
     ∙ unless_not _ _ _ (sym c.forbids_in.ensures ∙ c.if-forbids_in.false)
-    ∙ unless_so _ _ _ (tenants_full c.args.tables.now c.args.name.now ∙ sym c.is_full.ensures ∙ c.if-is_full.true)
+    ∙ unless_so _ _ _ (tenants_full c.args.tables.now c.args.name.now
+    ∙ ap (λ m. is_full (rows m) c.args.name.now) (sym c.as_table.ensures) ∙ sym c.is_full.ensures ∙ c.if-is_full.true)
 
 pub returns : goal.returns
 unfolding put_namespace
@@ -53,7 +56,8 @@ returns c =
     ∙ unless_not _ _ _ (ap not (sym c.has_pool.ensures ∙ c.if-not-has_pool.false))
     ∙ unless_not _ _ _ (sym c.lacks_allowed.ensures ∙ c.if-lacks_allowed.false)
     ∙ unless_not _ _ _ (sym c.forbids_in.ensures ∙ c.if-forbids_in.false)
-    ∙ unless_not _ _ _ (tenants_full c.args.tables.now c.args.name.now ∙ sym c.is_full.ensures ∙ c.if-is_full.false)
+    ∙ unless_not _ _ _ (tenants_full c.args.tables.now c.args.name.now
+    ∙ ap (λ m. is_full (rows m) c.args.name.now) (sym c.as_table.ensures) ∙ sym c.is_full.ensures ∙ c.if-is_full.false)
     ∙ (λ i. Done Content.Written (recorded
     (RecordChange.Namespace (sym c.in_ok-clone.ensures.cases i) (sym c.in_ok-clone-2.ensures.cases i)) w))
 
@@ -65,7 +69,8 @@ returns-in_err-clone c = out_of_memory (put_namespace c.args.name.now c.args.nam
     ∙ unless_not _ _ _ (ap not (sym c.has_pool.ensures ∙ c.if-not-has_pool.false))
     ∙ unless_not _ _ _ (sym c.lacks_allowed.ensures ∙ c.if-lacks_allowed.false)
     ∙ unless_not _ _ _ (sym c.forbids_in.ensures ∙ c.if-forbids_in.false)
-    ∙ unless_not _ _ _ (tenants_full c.args.tables.now c.args.name.now ∙ sym c.is_full.ensures ∙ c.if-is_full.false)))
+    ∙ unless_not _ _ _ (tenants_full c.args.tables.now c.args.name.now
+    ∙ ap (λ m. is_full (rows m) c.args.name.now) (sym c.as_table.ensures) ∙ sym c.is_full.ensures ∙ c.if-is_full.false)))
 
 pub returns-in_err-clone-2 : goal.returns-in_err-clone-2
 unfolding put_namespace
@@ -75,4 +80,5 @@ returns-in_err-clone-2 c = out_of_memory (put_namespace c.args.name.now c.args.n
     ∙ unless_not _ _ _ (ap not (sym c.has_pool.ensures ∙ c.if-not-has_pool.false))
     ∙ unless_not _ _ _ (sym c.lacks_allowed.ensures ∙ c.if-lacks_allowed.false)
     ∙ unless_not _ _ _ (sym c.forbids_in.ensures ∙ c.if-forbids_in.false)
-    ∙ unless_not _ _ _ (tenants_full c.args.tables.now c.args.name.now ∙ sym c.is_full.ensures ∙ c.if-is_full.false)))
+    ∙ unless_not _ _ _ (tenants_full c.args.tables.now c.args.name.now
+    ∙ ap (λ m. is_full (rows m) c.args.name.now) (sym c.as_table.ensures) ∙ sym c.is_full.ensures ∙ c.if-is_full.false)))

@@ -8,27 +8,33 @@ use Rattle.ns_admin.specs.declared.record.RecordChange.TheVariants as RecordChan
 use Rattle.ns_admin.specs.Recorded.{recorded}
 use Rattle.ns_admin.proofs.Recording.{out_of_memory}
 use Rattle.ns_admin.proofs.World.{pools_full}
+use Rattle.keyed.specs.Table.{rows}
+use Rattle.ns_types.specs.Asking.Admins.{is_full}
 use Rattle.ns_admin.proofs.pools.put_pool.Goals as goal
 
 pub returns-then-is_full : goal.returns-then-is_full
 unfolding put_pool_record
-returns-then-is_full c = unless_so _ _ _ (pools_full c.args.tables.now c.args.name.now ∙ sym c.is_full.ensures ∙ c.if-is_full.true)
+returns-then-is_full c = unless_so _ _ _ (pools_full c.args.tables.now c.args.name.now
+    ∙ ap (λ m. is_full (rows m) c.args.name.now) (sym c.as_table.ensures) ∙ sym c.is_full.ensures ∙ c.if-is_full.true)
 
 pub returns : goal.returns
 unfolding put_pool_record
 returns c =
     let w = world_of c.args.tables.now in
-    unless_not _ _ _ (pools_full c.args.tables.now c.args.name.now ∙ sym c.is_full.ensures ∙ c.if-is_full.false)
+    unless_not _ _ _ (pools_full c.args.tables.now c.args.name.now
+    ∙ ap (λ m. is_full (rows m) c.args.name.now) (sym c.as_table.ensures) ∙ sym c.is_full.ensures ∙ c.if-is_full.false)
     ∙ (λ i. Done Content.Written (recorded
     (RecordChange.Pool (sym c.in_ok-clone.ensures.cases i) (sym c.in_ok-clone-2.ensures.cases i)) w))
 
 pub returns-in_err-clone : goal.returns-in_err-clone
 unfolding put_pool_record
 returns-in_err-clone c = out_of_memory (put_pool_record c.args.name.now c.args.pool.now) c.args.tables.now c.from_residual.result c.from_residual.ensures.1
-    (ap is_done (unless_not _ _ _ (pools_full c.args.tables.now c.args.name.now ∙ sym c.is_full.ensures ∙ c.if-is_full.false)))
+    (ap is_done (unless_not _ _ _ (pools_full c.args.tables.now c.args.name.now
+    ∙ ap (λ m. is_full (rows m) c.args.name.now) (sym c.as_table.ensures) ∙ sym c.is_full.ensures ∙ c.if-is_full.false)))
 
 pub returns-in_err-clone-2 : goal.returns-in_err-clone-2
 unfolding put_pool_record
 returns-in_err-clone-2 c = out_of_memory (put_pool_record c.args.name.now c.args.pool.now) c.args.tables.now c.from_residual-in_err-clone-2.result
     c.from_residual-in_err-clone-2.ensures.1
-    (ap is_done (unless_not _ _ _ (pools_full c.args.tables.now c.args.name.now ∙ sym c.is_full.ensures ∙ c.if-is_full.false)))
+    (ap is_done (unless_not _ _ _ (pools_full c.args.tables.now c.args.name.now
+    ∙ ap (λ m. is_full (rows m) c.args.name.now) (sym c.as_table.ensures) ∙ sym c.is_full.ensures ∙ c.if-is_full.false)))

@@ -6,12 +6,12 @@ use Rattle.ns_admin.specs.Recorded.{PreparesRecord}
 use Rattle.ns_world.specs.World.{world_of}
 use Rattle.ns_core.proofs.administration.record.Goals as goal
 
-pub returns : goal.returns
-returns c = λ command prepares. subst (PreparesRecord command c.args.tables.now) c.in_ok-change.was prepares
+pub returns-clause-written : goal.returns-clause-written
+returns-clause-written c = λ command prepares. subst (PreparesRecord command c.args.tables.now) c.in_ok-change.was prepares
     ∙ ap (Done Content.Written) (sym c.in_ok-write.ensures.written)
 
-pub returns-in_err-write : goal.returns-in_err-write
-returns-in_err-write c = λ command prepares.
+pub returns-in_err-write-clause-written : goal.returns-in_err-write-clause-written
+returns-in_err-write-clause-written c = λ command prepares.
     let w = world_of c.args.tables.now in
     memory_last (command w) w (world_of c.write.new.tables) c.from_residual-in_err-write.result c.from_residual-in_err-write.ensures.1
     (ap is_done (subst (PreparesRecord command c.args.tables.now) c.in_ok-change.was prepares)) (ap world_of c.in_err-write.ensures.refused)

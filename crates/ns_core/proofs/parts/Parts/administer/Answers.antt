@@ -12,7 +12,7 @@ pub returns-in-DeleteNamespace-clause-made : goal.returns-in-DeleteNamespace-cla
 unfolding administer
 returns-in-DeleteNamespace-clause-made c = rw c.in-DeleteNamespace.is
     (writes c.args.self.now c.record-in-DeleteNamespace.new.tables (delete_namespace c.in-DeleteNamespace.name)
-    c.delete_namespace-prepared.result c.record-in-DeleteNamespace.result c.record-in-DeleteNamespace.ensures c.delete_namespace-prepared.ensures)
+    c.delete_namespace-prepared.result c.record-in-DeleteNamespace.result c.record-in-DeleteNamespace.ensures.written c.delete_namespace-prepared.ensures)
 
 pub returns-in_ok-list_quotas-in-ListQuotas-clause-made : goal.returns-in_ok-list_quotas-in-ListQuotas-clause-made
 unfolding administer
@@ -28,13 +28,13 @@ pub returns-in-DeleteQuota-clause-made : goal.returns-in-DeleteQuota-clause-made
 unfolding administer
 returns-in-DeleteQuota-clause-made c = rw c.in-DeleteQuota.is
     (writes c.args.self.now c.record-in-DeleteQuota.new.tables (delete_quota c.in-DeleteQuota.name)
-    c.delete_quota-prepared.result c.record-in-DeleteQuota.result c.record-in-DeleteQuota.ensures c.delete_quota-prepared.ensures)
+    c.delete_quota-prepared.result c.record-in-DeleteQuota.result c.record-in-DeleteQuota.ensures.written c.delete_quota-prepared.ensures)
 
 pub returns-in-DeletePool-clause-made : goal.returns-in-DeletePool-clause-made
 unfolding administer
 returns-in-DeletePool-clause-made c = rw c.in-DeletePool.is
     (writes c.args.self.now c.record-in-DeletePool.new.tables (delete_pool c.in-DeletePool.name)
-    c.delete_pool-prepared.result c.record-in-DeletePool.result c.record-in-DeletePool.ensures c.delete_pool-prepared.ensures)
+    c.delete_pool-prepared.result c.record-in-DeletePool.result c.record-in-DeletePool.ensures.written c.delete_pool-prepared.ensures)
 
 pub returns-in-ReadPolicy-clause-made : goal.returns-in-ReadPolicy-clause-made
 unfolding administer
@@ -64,13 +64,13 @@ pub returns-in-PutNamespace-clause-made : goal.returns-in-PutNamespace-clause-ma
 unfolding administer
 returns-in-PutNamespace-clause-made c = rw c.in-PutNamespace.is
     (writes c.args.self.now c.record.new.tables (put_namespace c.in-PutNamespace.name c.in-PutNamespace.row)
-    c.put_namespace-prepared.result c.record.result c.record.ensures c.put_namespace-prepared.ensures)
+    c.put_namespace-prepared.result c.record.result c.record.ensures.written c.put_namespace-prepared.ensures)
 
 pub returns-in-PutPool-clause-made : goal.returns-in-PutPool-clause-made
 unfolding administer
 returns-in-PutPool-clause-made c = rw c.in-PutPool.is
     (writes c.args.self.now c.record-in-PutPool.new.tables (put_pool_record c.in-PutPool.name c.in-PutPool.pool)
-    c.put_pool-prepared.result c.record-in-PutPool.result c.record-in-PutPool.ensures c.put_pool-prepared.ensures)
+    c.put_pool-prepared.result c.record-in-PutPool.result c.record-in-PutPool.ensures.written c.put_pool-prepared.ensures)
 
 pub returns-in-PutPolicy-clause-made : goal.returns-in-PutPolicy-clause-made
 unfolding administer
@@ -81,4 +81,4 @@ pub returns-in-PutQuota-clause-made : goal.returns-in-PutQuota-clause-made
 unfolding administer
 returns-in-PutQuota-clause-made c = rw c.in-PutQuota.is
     (writes c.args.self.now c.record-in-PutQuota.new.tables (put_quota c.in-PutQuota.name c.in-PutQuota.quota)
-    c.put_quota-prepared.result c.record-in-PutQuota.result c.record-in-PutQuota.ensures c.put_quota-prepared.ensures)
+    c.put_quota-prepared.result c.record-in-PutQuota.result c.record-in-PutQuota.ensures.written c.put_quota-prepared.ensures)

@@ -18,7 +18,7 @@ returns-in_err-content-clause-made c =
 
 pub returns-in_err-content-clause-index : goal.returns-in_err-content-clause-index
 returns-in_err-content-clause-index c = index_stays (option_copied c.args.secret) c.args.command.now c.args.self.now c.administer.new.self
-    (Err c.in_err-content.field-0.0) c.requires.valid c.in_err-content.ensures.made c.in_err-content.ensures.live
+    (Err c.in_err-content.field-0.0) c.requires.valid c.in_err-content.ensures.made c.in_err-content.ensures.nodes c.in_err-content.ensures.named
     c.in_err-content.ensures.turns c.requires.index
 
 pub returns-clause-made : goal.returns-clause-made
@@ -30,5 +30,5 @@ returns-clause-made c =
 
 pub returns-clause-index : goal.returns-clause-index
 returns-clause-index c = index_stays (option_copied c.args.secret) c.args.command.now c.args.self.now c.administer.new.self
-    (Ok c.in_ok-content.content) c.requires.valid c.in_ok-content.ensures.made c.in_ok-content.ensures.live
+    (Ok c.in_ok-content.content) c.requires.valid c.in_ok-content.ensures.made c.in_ok-content.ensures.nodes c.in_ok-content.ensures.named
     c.in_ok-content.ensures.turns c.requires.index
