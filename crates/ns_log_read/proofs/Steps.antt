@@ -21,9 +21,12 @@ use Rattle.ns_json.specs.Reading.{unless_null}
 use Rattle.ns_json.specs.Rendering.{object_of, policy_json, token_json}
 use Rattle.ns_json.specs.Replies.{Entry}
 use Rattle.ns_log_read.specs.Lines.{HasReadRules, IsAsRead, answer_fits, fits_if_any}
-use Rattle.ns_log_read.specs.Reading.{if_any, member_in, text_in, name_in, number_in, flag_in, text_or_null_in, number_or_null_in, registered_in, with_prefix}
-use Rattle.ns_log_read.specs.Reading.{with_id, with_number, deregistered_in, asked_in, put_policy_in, new_token_in, put_in, with_name, listing}
-use Rattle.ns_log_read.specs.Reading.{administered_in, put_node_in, status_in, eligible_in, client_of, reported_in, node_command_in}
+use Rattle.ns_log_read.specs.Reading.{if_any, member_in, text_in, name_in, number_in}
+use Rattle.ns_log_read.specs.Reading.{flag_in, text_or_null_in, number_or_null_in, registered_in, with_prefix_in}
+use Rattle.ns_log_read.specs.Reading.{with_id_in, with_number_in, deregistered_in, usage_in, events_in}
+use Rattle.ns_log_read.specs.Reading.{asked_in, put_policy_in, new_token_in, put_in, with_name, listing}
+use Rattle.ns_log_read.specs.Reading.{put_namespace_in, put_quota_in, put_pool_in}
+use Rattle.ns_log_read.specs.Reading.{administered_in, put_node_in, status_in, eligible_in, client_of, reported_in, of_pool, node_command_in}
 use Rattle.ns_log_read.specs.Reading.{ask_in, admin_in, node_step_in}
 use Rattle.ns_log_read.specs.Reading.{work_of, work_in, dequeue_in, step_of, step_in, status_code_in, answer_in, entry_in}
 use Rattle.ns_log_read.proofs.Jobs.{registration_back}
@@ -40,7 +43,8 @@ text_if_any (Some s) = refl
 -- ---- commands
 
 asked_back : (c : AskCommand) → is_good_ask c ≡ true → asked_in (asked c).0 (object_of (asked c).1) ≡ Ok c
-unfolding asked asked_in text_in number_in flag_in member_in with_prefix with_id with_number deregistered_in registered_in number_or_null_in
+unfolding asked asked_in text_in number_in flag_in member_in with_prefix_in with_id_in with_number_in deregistered_in registered_in
+    usage_in events_in number_or_null_in
 asked_back (AskCommand.ListJobs prefix) h = refl
 asked_back (AskCommand.Register r) h = rw (number_if_any r.enforced, registration_back r h) refl
 asked_back (AskCommand.ReadJob id) h = refl
@@ -57,7 +61,8 @@ asked_back (AskCommand.QuotaUsage quota) h = refl
 asked_back (AskCommand.Events index) h = refl
 
 administered_back : (c : AdminCommand) → is_good_admin c ≡ true → HasReadRules c → administered_in (administered c).0 (object_of (administered c).1) ≡ Ok c
-unfolding administered administered_in text_in member_in name_in put_in put_policy_in new_token_in with_name listing policy_json token_json
+unfolding administered administered_in text_in member_in name_in put_in put_namespace_in put_quota_in put_pool_in put_policy_in
+    new_token_in with_name listing policy_json token_json
 administered_back AdminCommand.ListNamespaces h k = refl
 administered_back (AdminCommand.PutNamespace name n) h k =
     rw (namespace_back name n (first_of_both (is_name NameKind.Namespace name) (is_good_namespace n) h)
@@ -92,7 +97,7 @@ client_back ClientStatus.Failed = refl
 client_back ClientStatus.Lost = refl
 
 node_call_back : (c : NodeCommand) → IsGoodTelling c → node_command_in (node_call c).0 (object_of (node_call c).1) ≡ Ok c
-unfolding node_call node_command_in text_in number_in member_in name_in put_node_in status_in eligible_in client_of reported_in
+unfolding node_call node_command_in text_in number_in member_in name_in put_node_in status_in eligible_in client_of reported_in of_pool
 node_call_back NodeCommand.ReadPool h = refl
 node_call_back NodeCommand.ListNodes h = refl
 node_call_back (NodeCommand.PutNode name offer) h =

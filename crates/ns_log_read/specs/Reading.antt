@@ -105,23 +105,26 @@ registered_in d = do
   r ← accepted (registration_in (object_of ((codes "Job", document) ∷ [])))
   Ok (AskCommand.Register (demanding enforced r.registration))
 
-unfoldable pub with_prefix : Name → Name → Read AskCommand
-with_prefix word prefix =
-    if bytes_eq word (codes "ListJobs") then Ok (AskCommand.ListJobs prefix)
-    else if bytes_eq word (codes "ListEvaluations") then Ok (AskCommand.ListEvaluations prefix)
-    else if bytes_eq word (codes "ListAllocations") then Ok (AskCommand.ListAllocations prefix) else Err Bad
+unfoldable pub with_prefix_in : Name → Data → Read AskCommand
+with_prefix_in word d = do
+  prefix ← text_in (codes "Prefix") d
+  if bytes_eq word (codes "ListJobs") then Ok (AskCommand.ListJobs prefix)
+      else if bytes_eq word (codes "ListEvaluations") then Ok (AskCommand.ListEvaluations prefix)
+      else if bytes_eq word (codes "ListAllocations") then Ok (AskCommand.ListAllocations prefix) else Err Bad
 
-unfoldable pub with_id : Name → Name → Read AskCommand
-with_id word id =
-    if bytes_eq word (codes "ReadJob") then Ok (AskCommand.ReadJob id)
-    else if bytes_eq word (codes "JobAllocations") then Ok (AskCommand.JobAllocations id)
-    else if bytes_eq word (codes "JobEvaluations") then Ok (AskCommand.JobEvaluations id) else Err Bad
+unfoldable pub with_id_in : Name → Data → Read AskCommand
+with_id_in word d = do
+  id ← text_in (codes "ID") d
+  if bytes_eq word (codes "ReadJob") then Ok (AskCommand.ReadJob id)
+      else if bytes_eq word (codes "JobAllocations") then Ok (AskCommand.JobAllocations id)
+      else if bytes_eq word (codes "JobEvaluations") then Ok (AskCommand.JobEvaluations id) else Err Bad
 
-unfoldable pub with_number : Name → ℕ → Read AskCommand
-with_number word n =
-    if bytes_eq word (codes "ReadEvaluation") then Ok (AskCommand.ReadEvaluation n)
-    else if bytes_eq word (codes "ReadAllocation") then Ok (AskCommand.ReadAllocation n)
-    else if bytes_eq word (codes "StopAllocation") then Ok (AskCommand.StopAllocation n) else Err Bad
+unfoldable pub with_number_in : Name → Data → Read AskCommand
+with_number_in word d = do
+  n ← number_in (codes "Number") d
+  if bytes_eq word (codes "ReadEvaluation") then Ok (AskCommand.ReadEvaluation n)
+      else if bytes_eq word (codes "ReadAllocation") then Ok (AskCommand.ReadAllocation n)
+      else if bytes_eq word (codes "StopAllocation") then Ok (AskCommand.StopAllocation n) else Err Bad
 
 unfoldable pub deregistered_in : Data → Read AskCommand
 deregistered_in d = do
@@ -129,16 +132,22 @@ deregistered_in d = do
   purge ← flag_in (codes "Purge") d
   Ok (AskCommand.Deregister id purge)
 
+unfoldable pub usage_in : Data → Read AskCommand
+usage_in d = text_in (codes "Name") d >>= λ quota. Ok (AskCommand.QuotaUsage quota)
+
+unfoldable pub events_in : Data → Read AskCommand
+events_in d = number_in (codes "From") d >>= λ index. Ok (AskCommand.Events index)
+
 -- the arguments tell which commands it can be
 unfoldable pub asked_in : Name → Data → Read AskCommand
 asked_in word d =
-    if has (codes "Prefix") d then text_in (codes "Prefix") d >>= with_prefix word
+    if has (codes "Prefix") d then with_prefix_in word d
     else if has (codes "Purge") d then deregistered_in d
-    else if has (codes "ID") d then text_in (codes "ID") d >>= with_id word
-    else if has (codes "Number") d then number_in (codes "Number") d >>= with_number word
+    else if has (codes "ID") d then with_id_in word d
+    else if has (codes "Number") d then with_number_in word d
     else if has (codes "Doc") d then registered_in d
-    else if has (codes "Name") d then text_in (codes "Name") d >>= (λ quota. Ok (AskCommand.QuotaUsage quota))
-    else if has (codes "From") d then number_in (codes "From") d >>= (λ index. Ok (AskCommand.Events index))
+    else if has (codes "Name") d then usage_in d
+    else if has (codes "From") d then events_in d
     else Ok AskCommand.ReadNamespace
 
 -- ---- what administrators ask
@@ -162,13 +171,20 @@ new_token_in d = do
     policies = token.policies;
   }))
 
+unfoldable pub put_namespace_in : Data → Read AdminCommand
+put_namespace_in d = accepted (namespace_in None d) >>= λ n. Ok (AdminCommand.PutNamespace n.name n.namespace)
+
+unfoldable pub put_quota_in : Data → Read AdminCommand
+put_quota_in d = accepted (quota_in None d) >>= λ q. Ok (AdminCommand.PutQuota q.name q.quota)
+
+unfoldable pub put_pool_in : Data → Read AdminCommand
+put_pool_in d = accepted (pool_in None d) >>= λ p. Ok (AdminCommand.PutPool p.name p.pool)
+
 unfoldable pub put_in : Name → Data → Read AdminCommand
 put_in word d =
-    if bytes_eq word (codes "PutNamespace")
-    then accepted (namespace_in None d) >>= (λ n. Ok (AdminCommand.PutNamespace n.name n.namespace))
-    else if bytes_eq word (codes "PutQuota")
-    then accepted (quota_in None d) >>= (λ q. Ok (AdminCommand.PutQuota q.name q.quota))
-    else if bytes_eq word (codes "PutPool") then accepted (pool_in None d) >>= (λ p. Ok (AdminCommand.PutPool p.name p.pool))
+    if bytes_eq word (codes "PutNamespace") then put_namespace_in d
+    else if bytes_eq word (codes "PutQuota") then put_quota_in d
+    else if bytes_eq word (codes "PutPool") then put_pool_in d
     else if bytes_eq word (codes "PutPolicy") then put_policy_in d
     else if bytes_eq word (codes "CreateToken") then new_token_in d else Err Bad
 
@@ -235,6 +251,11 @@ reported_in d = do
   number ← number_in (codes "Number") d
   Ok (NodeCommand.Report name (record { namespace = namespace; number = number; client = client }))
 
+unfoldable pub of_pool : Name → Read NodeCommand
+of_pool word =
+    if bytes_eq word (codes "ReadPool") then Ok NodeCommand.ReadPool
+    else if bytes_eq word (codes "ListNodes") then Ok NodeCommand.ListNodes else Err Bad
+
 unfoldable pub node_command_in : Name → Data → Read NodeCommand
 node_command_in word d =
     if has (codes "Doc") d then put_node_in d
@@ -242,8 +263,7 @@ node_command_in word d =
     else if has (codes "Eligibility") d then eligible_in d
     else if has (codes "ClientStatus") d then reported_in d
     else if has (codes "Name") d then text_in (codes "Name") d >>= (λ name. Ok (NodeCommand.DeleteNode name))
-    else if bytes_eq word (codes "ReadPool") then Ok NodeCommand.ReadPool
-    else if bytes_eq word (codes "ListNodes") then Ok NodeCommand.ListNodes else Err Bad
+    else of_pool word
 
 -- ---- steps
 

@@ -6,7 +6,7 @@ ghost use Rattle.serde_json.specs.Read.{max_depth};
 ghost use Rattle.serde_json.specs.View.{view};
 ghost use Rattle.ns_types.specs.Asking.Good.{is_good_admin};
 ghost use Rattle.ns_log_read.specs.Lines.{HasReadRules};
-ghost use Rattle.ns_log_read.specs.Reading.{Gives, same, put_policy_in, new_token_in, put_in, with_name, listing, administered_in};
+ghost use Rattle.ns_log_read.specs.Reading.{Gives, same, put_namespace_in, put_quota_in, put_pool_in, put_policy_in, new_token_in, put_in, with_name, listing, administered_in};
 
 use crate::document;
 use crate::fault::LineFault;
@@ -48,6 +48,39 @@ fn new_token(alloc: Global, value: &Value) -> Result<AdminCommand, LineFault>
     }))
 }
 
+#[tactic(auto, unfolding(crate::specs::Reading::put_namespace_in))]
+fn put_namespace(alloc: Global, value: &Value) -> Result<AdminCommand, LineFault>
+    requires { depth (view value.now) ≤ max_depth }
+    ensures value { Gives same result (put_namespace_in (view value.now)) }
+    ensures good { IfOk result (λ c. IsTrue (is_good_admin c)) }
+    ensures rules { IfOk result HasReadRules }
+{
+    let put = document::namespace(alloc, value)?;
+    Ok(AdminCommand::PutNamespace(put.name, put.namespace))
+}
+
+#[tactic(auto, unfolding(crate::specs::Reading::put_quota_in))]
+fn put_quota(alloc: Global, value: &Value) -> Result<AdminCommand, LineFault>
+    requires { depth (view value.now) ≤ max_depth }
+    ensures value { Gives same result (put_quota_in (view value.now)) }
+    ensures good { IfOk result (λ c. IsTrue (is_good_admin c)) }
+    ensures rules { IfOk result HasReadRules }
+{
+    let put = document::quota(alloc, value)?;
+    Ok(AdminCommand::PutQuota(put.name, put.quota))
+}
+
+#[tactic(auto, unfolding(crate::specs::Reading::put_pool_in))]
+fn put_pool(alloc: Global, value: &Value) -> Result<AdminCommand, LineFault>
+    requires { depth (view value.now) ≤ max_depth }
+    ensures value { Gives same result (put_pool_in (view value.now)) }
+    ensures good { IfOk result (λ c. IsTrue (is_good_admin c)) }
+    ensures rules { IfOk result HasReadRules }
+{
+    let put = document::pool(alloc, value)?;
+    Ok(AdminCommand::PutPool(put.name, put.pool))
+}
+
 /// A document that is put.
 #[tactic(auto, unfolding(crate::specs::Reading::put_in))]
 fn put(alloc: Global, word: &str, value: &Value) -> Result<AdminCommand, LineFault>
@@ -56,21 +89,13 @@ fn put(alloc: Global, word: &str, value: &Value) -> Result<AdminCommand, LineFau
     ensures good { IfOk result (λ c. IsTrue (is_good_admin c)) }
     ensures rules { IfOk result HasReadRules }
 {
-    if word == "PutNamespace" {
-        let put = document::namespace(alloc, value)?;
-        Ok(AdminCommand::PutNamespace(put.name, put.namespace))
-    } else if word == "PutQuota" {
-        let put = document::quota(alloc, value)?;
-        Ok(AdminCommand::PutQuota(put.name, put.quota))
-    } else if word == "PutPool" {
-        let put = document::pool(alloc, value)?;
-        Ok(AdminCommand::PutPool(put.name, put.pool))
-    } else if word == "PutPolicy" {
-        put_policy(alloc, value)
-    } else if word == "CreateToken" {
-        new_token(alloc, value)
-    } else {
-        Err(LineFault::Bad)
+    match word {
+        "PutNamespace" => put_namespace(alloc, value),
+        "PutQuota" => put_quota(alloc, value),
+        "PutPool" => put_pool(alloc, value),
+        "PutPolicy" => put_policy(alloc, value),
+        "CreateToken" => new_token(alloc, value),
+        _ => Err(LineFault::Bad),
     }
 }
 
@@ -81,20 +106,14 @@ fn with_name(word: &str, name: Text) -> Result<AdminCommand, LineFault>
     ensures good { IfOk result (λ c. IsTrue (is_good_admin c)) }
     ensures rules { IfOk result HasReadRules }
 {
-    if word == "DeleteNamespace" {
-        Ok(AdminCommand::DeleteNamespace(name))
-    } else if word == "ReadQuota" {
-        Ok(AdminCommand::ReadQuota(name))
-    } else if word == "DeleteQuota" {
-        Ok(AdminCommand::DeleteQuota(name))
-    } else if word == "DeletePool" {
-        Ok(AdminCommand::DeletePool(name))
-    } else if word == "ReadPolicy" {
-        Ok(AdminCommand::ReadPolicy(name))
-    } else if word == "DeletePolicy" {
-        Ok(AdminCommand::DeletePolicy(name))
-    } else {
-        Err(LineFault::Bad)
+    match word {
+        "DeleteNamespace" => Ok(AdminCommand::DeleteNamespace(name)),
+        "ReadQuota" => Ok(AdminCommand::ReadQuota(name)),
+        "DeleteQuota" => Ok(AdminCommand::DeleteQuota(name)),
+        "DeletePool" => Ok(AdminCommand::DeletePool(name)),
+        "ReadPolicy" => Ok(AdminCommand::ReadPolicy(name)),
+        "DeletePolicy" => Ok(AdminCommand::DeletePolicy(name)),
+        _ => Err(LineFault::Bad),
     }
 }
 
@@ -104,14 +123,11 @@ fn listing(word: &str) -> Result<AdminCommand, LineFault>
     ensures good { IfOk result (λ c. IsTrue (is_good_admin c)) }
     ensures rules { IfOk result HasReadRules }
 {
-    if word == "ListNamespaces" {
-        Ok(AdminCommand::ListNamespaces)
-    } else if word == "ListQuotas" {
-        Ok(AdminCommand::ListQuotas)
-    } else if word == "ListPools" {
-        Ok(AdminCommand::ListPools)
-    } else {
-        Err(LineFault::Bad)
+    match word {
+        "ListNamespaces" => Ok(AdminCommand::ListNamespaces),
+        "ListQuotas" => Ok(AdminCommand::ListQuotas),
+        "ListPools" => Ok(AdminCommand::ListPools),
+        _ => Err(LineFault::Bad),
     }
 }
 

@@ -6,7 +6,7 @@ ghost use Rattle.serde_json.specs.Read.{max_depth};
 ghost use Rattle.serde_json.specs.View.{view};
 ghost use Rattle.ns_types.specs.Asking.Good.{IsGoodTelling};
 ghost use Rattle.ns_log_read.specs.Lines.{telling_fits};
-ghost use Rattle.ns_log_read.specs.Reading.{Gives, same, put_node_in, status_in, eligible_in, client_of, reported_in, node_command_in};
+ghost use Rattle.ns_log_read.specs.Reading.{Gives, same, put_node_in, status_in, eligible_in, client_of, reported_in, of_pool, node_command_in};
 
 use crate::document;
 use crate::fault::LineFault;
@@ -39,12 +39,10 @@ fn status(alloc: Global, arguments: &Value) -> Result<NodeCommand, LineFault>
 {
     let name = text(alloc, arguments, "Name")?;
     let word = word(arguments, "Status")?;
-    if word == "ready" {
-        Ok(NodeCommand::SetStatus(name, NodeStatus::Ready))
-    } else if word == "down" {
-        Ok(NodeCommand::SetStatus(name, NodeStatus::Down))
-    } else {
-        Err(LineFault::Bad)
+    match word {
+        "ready" => Ok(NodeCommand::SetStatus(name, NodeStatus::Ready)),
+        "down" => Ok(NodeCommand::SetStatus(name, NodeStatus::Down)),
+        _ => Err(LineFault::Bad),
     }
 }
 
@@ -69,18 +67,13 @@ fn eligible(alloc: Global, arguments: &Value) -> Result<NodeCommand, LineFault>
 fn client_of(word: &str) -> Result<ClientStatus, LineFault>
     ensures { Gives same result (client_of word.now) }
 {
-    if word == "pending" {
-        Ok(ClientStatus::Pending)
-    } else if word == "running" {
-        Ok(ClientStatus::Running)
-    } else if word == "complete" {
-        Ok(ClientStatus::Complete)
-    } else if word == "failed" {
-        Ok(ClientStatus::Failed)
-    } else if word == "lost" {
-        Ok(ClientStatus::Lost)
-    } else {
-        Err(LineFault::Bad)
+    match word {
+        "pending" => Ok(ClientStatus::Pending),
+        "running" => Ok(ClientStatus::Running),
+        "complete" => Ok(ClientStatus::Complete),
+        "failed" => Ok(ClientStatus::Failed),
+        "lost" => Ok(ClientStatus::Lost),
+        _ => Err(LineFault::Bad),
     }
 }
 
@@ -102,6 +95,19 @@ fn reported(alloc: Global, arguments: &Value) -> Result<NodeCommand, LineFault>
     Ok(NodeCommand::Report(name, report))
 }
 
+#[tactic(auto, unfolding(crate::specs::Reading::of_pool))]
+fn of_pool(word: &str) -> Result<NodeCommand, LineFault>
+    ensures value { Gives same result (of_pool word.now) }
+    ensures good { IfOk result IsGoodTelling }
+    ensures fits { IfOk result (λ c. IsTrue (telling_fits c)) }
+{
+    match word {
+        "ReadPool" => Ok(NodeCommand::ReadPool),
+        "ListNodes" => Ok(NodeCommand::ListNodes),
+        _ => Err(LineFault::Bad),
+    }
+}
+
 /// The command of that name. The arguments tell which it can be.
 #[tactic(auto, unfolding(crate::specs::Reading::node_command_in))]
 pub fn node_command(alloc: Global, word: &str, arguments: &Value) -> Result<NodeCommand, LineFault>
@@ -120,11 +126,7 @@ pub fn node_command(alloc: Global, word: &str, arguments: &Value) -> Result<Node
         reported(alloc, arguments)
     } else if has(arguments, "Name") {
         Ok(NodeCommand::DeleteNode(text(alloc, arguments, "Name")?))
-    } else if word == "ReadPool" {
-        Ok(NodeCommand::ReadPool)
-    } else if word == "ListNodes" {
-        Ok(NodeCommand::ListNodes)
     } else {
-        Err(LineFault::Bad)
+        of_pool(word)
     }
 }

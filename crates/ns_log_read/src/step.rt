@@ -75,18 +75,13 @@ fn work_of(kind: &str, worker: u64, namespace: Text) -> Result<Step, LineFault>
     ensures as_read { IfOk result IsAsRead }
     ensures fits { IfOk result (λ s. IsTrue (step_fits s)) }
 {
-    if kind == "Snap" {
-        Ok(Step::Snap(worker, namespace))
-    } else if kind == "Submit" {
-        Ok(Step::Submit(worker, namespace))
-    } else if kind == "Apply" {
-        Ok(Step::Apply(worker, namespace))
-    } else if kind == "Finish" {
-        Ok(Step::Finish(worker, namespace))
-    } else if kind == "Nack" {
-        Ok(Step::Nack(worker, namespace))
-    } else {
-        Err(LineFault::Bad)
+    match kind {
+        "Snap" => Ok(Step::Snap(worker, namespace)),
+        "Submit" => Ok(Step::Submit(worker, namespace)),
+        "Apply" => Ok(Step::Apply(worker, namespace)),
+        "Finish" => Ok(Step::Finish(worker, namespace)),
+        "Nack" => Ok(Step::Nack(worker, namespace)),
+        _ => Err(LineFault::Bad),
     }
 }
 
@@ -123,16 +118,12 @@ fn step_of(alloc: Global, kind: &str, step: &Value) -> Result<Step, LineFault>
     ensures as_read { IfOk result IsAsRead }
     ensures fits { IfOk result (λ s. IsTrue (step_fits s)) }
 {
-    if kind == "Ask" {
-        ask(alloc, step)
-    } else if kind == "Admin" {
-        admin(alloc, step)
-    } else if kind == "Node" {
-        node(alloc, step)
-    } else if kind == "Dequeue" {
-        dequeue(alloc, step)
-    } else {
-        work(alloc, kind, step)
+    match kind {
+        "Ask" => ask(alloc, step),
+        "Admin" => admin(alloc, step),
+        "Node" => node(alloc, step),
+        "Dequeue" => dequeue(alloc, step),
+        _ => work(alloc, kind, step),
     }
 }
 
