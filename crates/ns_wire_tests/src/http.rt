@@ -15,14 +15,21 @@ struct Echo<A: Allocator> {
 
 impl<A: Allocator + Copy> Echo<A> {
     fn text(&self, request: &Request<'_>) -> Result<String<A>, AllocError> {
+        let token = request.token.unwrap_or(b"-");
+        let target = request.target.as_bytes();
+        let parts: [&[u8]; 7] = [
+            request.method,
+            b" ",
+            target,
+            b" ",
+            token,
+            b" ",
+            request.body,
+        ];
         let mut bytes = Vec::new(self.alloc);
-        bytes.extend_from_slice(request.method)?;
-        bytes.push(b' ')?;
-        bytes.extend_from_slice(request.target.as_bytes())?;
-        bytes.push(b' ')?;
-        bytes.extend_from_slice(request.token.unwrap_or(b"-"))?;
-        bytes.push(b' ')?;
-        bytes.extend_from_slice(request.body)?;
+        for part in parts {
+            bytes.extend_from_slice(part)?;
+        }
         match String::from_utf8(bytes) {
             Ok(text) => Ok(text),
             Err(_) => String::from_str(self.alloc, "no text"),
@@ -149,36 +156,57 @@ const OUTPUT: &[u8] =
 /// The length of the first reply.
 const FIRST_LEN: usize = 179;
 
+/// Whether both requests are answered where each read gives so many bytes.
+fn answers_both(alloc: Global, step: usize) -> bool {
+    let out = talk(alloc, giving(INPUT, step), wide(alloc));
+    out.result == Ok(2) && out.bytes.as_slice() == OUTPUT && out.writes <= 2
+}
+
 #[test]
 fn any_cut(rt: HostRuntime) -> Result<(), Fail> {
     for step in [1, 2, 3, 7, 64, 4096] {
-        let out = talk(rt.alloc(), giving(INPUT, step), wide(rt.alloc()));
-        assert_eq!(rt; out.result, Ok(2));
-        assert_eq!(rt; out.bytes.as_slice(), OUTPUT);
-        assert!(rt; out.writes <= 2);
+        assert!(rt; answers_both(rt.alloc(), step));
     }
     Ok(())
+}
+
+/// Whether this input ends so, after so many steps and with these bytes written.
+fn ends_so(
+    alloc: Global,
+    input: &[u8],
+    end: Result<u64, ConnFault>,
+    steps: u64,
+    shown: &[u8],
+) -> bool {
+    let out = talk(alloc, giving(input, 5), wide(alloc));
+    out.result == end && out.steps == steps && out.bytes.as_slice() == shown
 }
 
 #[test]
 fn every_prefix(rt: HostRuntime) -> Result<(), Fail> {
     for len in 0..INPUT.len() {
-        let out = talk(rt.alloc(), giving(&INPUT[..len], 5), wide(rt.alloc()));
         let (steps, shown) = if len < POST_LEN {
             (0, 0)
         } else {
             (1, FIRST_LEN)
         };
-        let result = if len == 0 || len == POST_LEN {
+        let end = if len == 0 || len == POST_LEN {
             Ok(steps)
         } else {
             Err(ConnFault::Read)
         };
-        assert_eq!(rt; out.result, result);
-        assert_eq!(rt; out.steps, steps);
-        assert_eq!(rt; out.bytes.as_slice(), &OUTPUT[..shown]);
+        assert!(rt; ends_so(rt.alloc(), &INPUT[..len], end, steps, &OUTPUT[..shown]));
     }
     Ok(())
+}
+
+/// Whether the fault of a read ends the connection, after so many steps and with these bytes written.
+fn ends_at_a_read(alloc: Global, reader: Slow<'_>, steps: u64, shown: &[u8]) -> bool {
+    let out = talk(alloc, reader, wide(alloc));
+    out.result == Err(ConnFault::Read)
+        && out.read_faults == 1
+        && out.steps == steps
+        && out.bytes.as_slice() == shown
 }
 
 #[test]
@@ -190,32 +218,31 @@ fn each_read_failing(rt: HostRuntime) -> Result<(), Fail> {
                 step,
                 left,
             };
-            let out = talk(rt.alloc(), reader, wide(rt.alloc()));
             let is_short = left.saturating_mul(step) < POST_LEN;
             let (steps, shown) = if is_short { (0, 0) } else { (1, FIRST_LEN) };
-            assert_eq!(rt; out.result, Err(ConnFault::Read));
-            assert_eq!(rt; out.read_faults, 1);
-            assert_eq!(rt; out.steps, steps);
-            assert_eq!(rt; out.bytes.as_slice(), &OUTPUT[..shown]);
+            assert!(rt; ends_at_a_read(rt.alloc(), reader, steps, &OUTPUT[..shown]));
         }
     }
     Ok(())
+}
+
+/// Whether the fault of a write ends the connection, with these bytes written.
+fn ends_at_a_write(alloc: Global, read_step: usize, fails: bool, shown: &[u8]) -> bool {
+    let writer = Narrow {
+        bytes: Vec::new(alloc),
+        step: 50,
+        room: shown.len(),
+        fails,
+    };
+    let out = talk(alloc, giving(INPUT, read_step), writer);
+    out.result == Err(ConnFault::Write) && out.write_faults == 1 && out.bytes.as_slice() == shown
 }
 
 #[test]
 fn each_part_written(rt: HostRuntime) -> Result<(), Fail> {
     for (read_step, fails) in [(POST_LEN, true), (4096, true), (4096, false)] {
         for room in 0..OUTPUT.len() {
-            let writer = Narrow {
-                bytes: Vec::new(rt.alloc()),
-                step: 50,
-                room,
-                fails,
-            };
-            let out = talk(rt.alloc(), giving(INPUT, read_step), writer);
-            assert_eq!(rt; out.result, Err(ConnFault::Write));
-            assert_eq!(rt; out.write_faults, 1);
-            assert_eq!(rt; out.bytes.as_slice(), &OUTPUT[..room]);
+            assert!(rt; ends_at_a_write(rt.alloc(), read_step, fails, &OUTPUT[..room]));
         }
     }
     Ok(())
@@ -371,10 +398,13 @@ fn refused_heads(rt: HostRuntime) {
     }
 }
 
+/// What is repeated, between a front and an end.
+type Parts<'a> = (&'a [u8], &'a [u8], &'a [u8]);
+
 /// The front, so many times the middle, and the end.
 fn repeated(
     alloc: Global,
-    (front, middle, end): (&[u8], &[u8], &[u8]),
+    (front, middle, end): Parts<'_>,
     count: usize,
 ) -> Result<Vec<u8>, AllocError> {
     let mut bytes = Vec::from_slice(alloc, front)?;
@@ -390,54 +420,93 @@ fn serves(alloc: Global, input: &[u8]) -> bool {
     out.result == Ok(1) && out.steps == 1 && out.writes <= 2
 }
 
-#[test]
-fn limits(rt: HostRuntime) -> Result<(), Fail> {
-    let long: (&[u8], &[u8], &[u8]) = (b"GET / HTTP/1.1\r\nA: ", b"x", b"\r\n\r\n");
-    let head = repeated(rt.alloc(), long, 16_361)?;
-    assert_eq!(rt; head.len(), 16_384);
-    assert!(rt; serves(rt.alloc(), &head));
-    let head = repeated(rt.alloc(), long, 16_362)?;
-    assert!(rt; refuses(rt.alloc(), &head, TOO_LARGE));
-    let many: (&[u8], &[u8], &[u8]) = (b"GET / HTTP/1.0\r\n", b"A: b\r\n", b"\r\n");
-    let head = repeated(rt.alloc(), many, 64)?;
-    assert!(rt; serves(rt.alloc(), &head));
-    let head = repeated(rt.alloc(), many, 65)?;
-    assert!(rt; refuses(rt.alloc(), &head, TOO_LARGE));
-    let large: (&[u8], &[u8], &[u8]) = (
+/// The length of the request, if it is served.
+fn served_len(alloc: Global, parts: Parts<'_>, count: usize) -> Result<Option<usize>, AllocError> {
+    let input = repeated(alloc, parts, count)?;
+    if serves(alloc, &input) {
+        Ok(Some(input.len()))
+    } else {
+        Ok(None)
+    }
+}
+
+fn is_too_large(alloc: Global, parts: Parts<'_>, count: usize) -> Result<bool, AllocError> {
+    let input = repeated(alloc, parts, count)?;
+    Ok(refuses(alloc, &input, TOO_LARGE))
+}
+
+/// Whether the request is served by no more reads than its length takes.
+fn is_read_in_room(alloc: Global, input: &[u8]) -> bool {
+    let out = talk(alloc, giving(input, usize::MAX), wide(alloc));
+    out.result == Ok(1) && out.reads <= (input.len() / READ_ROOM) as u64 + 2
+}
+
+/// Whether the longest body is served, and read in room.
+fn serves_the_longest(alloc: Global) -> Result<bool, AllocError> {
+    let large: Parts<'_> = (
         b"POST / HTTP/1.0\r\nContent-Length: 1048576\r\n\r\n",
         b"x",
         b"",
     );
-    let request = repeated(rt.alloc(), large, 1_048_576)?;
-    assert!(rt; serves(rt.alloc(), &request));
-    let out = talk(rt.alloc(), giving(&request, usize::MAX), wide(rt.alloc()));
-    assert_eq!(rt; out.result, Ok(1));
-    assert!(rt; out.reads <= (request.len() / READ_ROOM) as u64 + 2);
+    let request = repeated(alloc, large, 1_048_576)?;
+    Ok(serves(alloc, &request) && is_read_in_room(alloc, &request))
+}
+
+#[test]
+fn limits(rt: HostRuntime) -> Result<(), Fail> {
+    let long: Parts<'_> = (b"GET / HTTP/1.1\r\nA: ", b"x", b"\r\n\r\n");
+    assert_eq!(rt; served_len(rt.alloc(), long, 16_361)?, Some(16_384));
+    assert!(rt; is_too_large(rt.alloc(), long, 16_362)?);
+    let many: Parts<'_> = (b"GET / HTTP/1.0\r\n", b"A: b\r\n", b"\r\n");
+    assert!(rt; served_len(rt.alloc(), many, 64)?.is_some());
+    assert!(rt; is_too_large(rt.alloc(), many, 65)?);
+    assert!(rt; serves_the_longest(rt.alloc())?);
     Ok(())
+}
+
+/// What came of a connection whose handler has little memory.
+#[derive(Clone, Copy)]
+struct Budgeted {
+    result: Result<u64, ConnFault>,
+    steps: u64,
+    reads: u64,
+    writes: u64,
+    used: usize,
+}
+
+fn served_within(alloc: Global, size: usize) -> Result<Budgeted, AllocError> {
+    let heap = LocalHeap::new(alloc, size)?;
+    let mut reader = Counted::new(INPUT);
+    let mut writer = Counted::new(wide(alloc));
+    let mut handler = Echo {
+        alloc: &heap,
+        steps: 0,
+    };
+    let result = serve(&heap, &mut reader, &mut writer, &mut handler);
+    Ok(Budgeted {
+        result,
+        steps: handler.steps,
+        reads: reader.counts().calls(),
+        writes: writer.counts().calls(),
+        used: heap.used(),
+    })
 }
 
 #[test]
 fn each_budget(rt: HostRuntime) -> Result<(), Fail> {
     let mut served = false;
     for room in 0..40 {
-        let heap = LocalHeap::new(rt.alloc(), 32_768 * (room + 1))?;
-        let mut reader = Counted::new(INPUT);
-        let mut writer = Counted::new(wide(rt.alloc()));
-        let mut handler = Echo {
-            alloc: &heap,
-            steps: 0,
-        };
-        let result = serve(&heap, &mut reader, &mut writer, &mut handler);
-        if result == Err(ConnFault::Memory) {
+        let out = served_within(rt.alloc(), 32_768 * (room + 1))?;
+        if out.result == Err(ConnFault::Memory) {
             assert!(rt; !served);
-            assert_eq!(rt; reader.counts().calls(), 0);
-            assert_eq!(rt; writer.counts().calls(), 0);
-            assert_eq!(rt; handler.steps, 0);
+            assert_eq!(rt; out.reads, 0);
+            assert_eq!(rt; out.writes, 0);
+            assert_eq!(rt; out.steps, 0);
         } else {
-            assert_eq!(rt; result, Ok(2));
+            assert_eq!(rt; out.result, Ok(2));
             served = true;
         }
-        assert_eq!(rt; heap.used(), 0);
+        assert_eq!(rt; out.used, 0);
     }
     assert!(rt; served);
     Ok(())

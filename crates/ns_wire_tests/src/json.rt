@@ -65,11 +65,14 @@ fn first_response(alloc: Global) -> Result<Response, AllocError> {
     render(alloc, &reply)
 }
 
+fn in_room(alloc: Global, room: Room) -> Result<Response, AllocError> {
+    let reply = first_reply(alloc)?;
+    Ok(room.render(&reply))
+}
+
 /// The same, in room made before.
 fn first_response_in_room(alloc: Global) -> Result<Response, AllocError> {
-    let reply = first_reply(alloc)?;
-    let room = Room::new(alloc)?;
-    Ok(room.render(&reply))
+    in_room(alloc, Room::new(alloc)?)
 }
 
 /// The response to the first registration.

@@ -39,6 +39,37 @@ fn is_read_alike(alloc: Global, text: &str, other: &str) -> Result<bool, RuleFau
     Ok(rules.as_slice().len() == others.as_slice().len() && pairs.all(|(a, b)| is_same_rule(a, b)))
 }
 
+fn writes_jobs(rule: &Rule) -> bool {
+    rule.pattern.is_prefix
+        && rule.pattern.text.as_str() == "a"
+        && rule.grants.alloc_lifecycle
+        && !rule.grants.write_pool
+}
+
+fn submits_in_default(rule: &Rule) -> bool {
+    !rule.pattern.is_prefix
+        && rule.pattern.text.as_str() == "default"
+        && rule.grants.submit_job
+        && !rule.grants.alloc_lifecycle
+}
+
+fn denies_a_pool(rule: &Rule) -> bool {
+    rule.kind == RuleKind::Pool
+        && rule.grants.read_pool
+        && rule.grants.deny
+        && !rule.grants.write_pool
+}
+
+/// Whether the rules are those of the three blocks that are read first.
+fn are_of_blocks(rules: &[Rule]) -> bool {
+    match rules {
+        [first, second, third] => {
+            writes_jobs(first) && submits_in_default(second) && denies_a_pool(third)
+        }
+        _ => false,
+    }
+}
+
 #[test]
 fn reads_both_forms_alike(rt: HostRuntime) -> Result<(), Fail> {
     let alloc = rt.alloc();
@@ -51,15 +82,7 @@ fn reads_both_forms_alike(rt: HostRuntime) -> Result<(), Fail> {
     let absent = "{\"namespace\":{\"a\":null,\"b!\":null},\"node_pool\":null}";
     assert!(rt; is_read_alike(alloc, absent, "")?);
     let rules = read(alloc, blocks)?;
-    assert_eq!(rt; rules.as_slice().len(), 3);
-    if let [first, second, third] = rules.as_slice() {
-        assert!(rt; first.pattern.is_prefix && first.pattern.text.as_str() == "a");
-        assert!(rt; first.grants.alloc_lifecycle && !first.grants.write_pool);
-        assert!(rt; !second.pattern.is_prefix && second.pattern.text.as_str() == "default");
-        assert!(rt; second.grants.submit_job && !second.grants.alloc_lifecycle);
-        assert!(rt; third.kind == RuleKind::Pool && third.grants.read_pool);
-        assert!(rt; third.grants.deny && !third.grants.write_pool);
-    }
+    assert!(rt; are_of_blocks(rules.as_slice()));
     Ok(())
 }
 

@@ -320,6 +320,7 @@ fn answers_writes(rt: HostRuntime) -> Result<(), Fail> {
     let alloc = rt.alloc();
     let nothing = shown(alloc, Sample::Written)?;
     assert_eq!(rt; body(&nothing), "{}");
+    drop(nothing);
     let stopped = shown(alloc, Sample::StoppedInRoom)?;
     let expected = "{\"EvalID\":\"00000000-0000-0001-0000-000000000002\",\"Index\":7}";
     assert_eq!(rt; body(&stopped), expected);
