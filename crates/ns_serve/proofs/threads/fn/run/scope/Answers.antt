@@ -23,7 +23,7 @@ spawn-requires-send-F g c κs within =
     let sent : IsSend (Lts.of-40 g.row.L g.row.R g.row.D g.L.laws g.R.laws g.D.laws g.L.Ledger g.L.Ledger-dict g.R.Threads
     g.R.Threads-dict g.R.Wait g.R.Wait-dict g.R.Clock g.R.Clock-dict g.D.Draws g.D.Draws-dict g.D.Destruct-dict five six seven) =
     declared_send (Tuple.type_at
-    (Lts.name-39 g.row.L g.row.R g.row.D g.L.laws g.R.laws g.D.laws g.L.Ledger g.L.Ledger-dict g.R.Threads
+    (Lts.name-42 g.row.L g.row.R g.row.D g.L.laws g.R.laws g.D.laws g.L.Ledger g.L.Ledger-dict g.R.Threads
     g.R.Threads-dict g.R.Wait g.R.Wait-dict g.R.Clock g.R.Clock-dict g.D.Draws g.D.Draws-dict g.D.Destruct-dict)
     (Lts.of-38 g.row.L g.row.R g.row.D g.L.laws g.R.laws g.D.laws g.L.Ledger g.L.Ledger-dict g.R.Threads
     g.R.Threads-dict g.R.Wait g.R.Wait-dict g.R.Clock g.R.Clock-dict g.D.Draws g.D.Draws-dict g.D.Destruct-dict five six seven)) (
