@@ -4,6 +4,7 @@
     python3 bench/growth.py allocations     a job of one allocation is registered and placed, beside 0 to 1,000,000 of another's
     python3 bench/growth.py nodes           the same with 1,000 nodes in its own pool, beside 0 and 10,000 in others
     python3 bench/growth.py namespaces      a job is registered, placed and read in the first and the last of 10,000 namespaces
+    python3 bench/growth.py crowd           the same under a quota, and stopped, beside 0 and 9,000 namespaces, each with a blocked job
     python3 bench/growth.py names           9,999 namespaces are put in the order of their names, and against it
     python3 bench/growth.py small           10,000 jobs of one allocation in 10 namespaces
     python3 bench/growth.py memory          what an allocation keeps resident, between 100,000 and 1,000,000 of them
@@ -24,6 +25,7 @@ from driven import COUNT, MHZ, Server, jobs, nodes, places_in, request, told
 FEW = 300
 ROUNDS = 3
 NAMESPACES = 10_000
+CROWD = 9_000
 READS = 300_000
 
 
@@ -103,6 +105,36 @@ def namespaces():
     return is_right
 
 
+def limited(name):
+    """A namespace with a pool of its own, and a quota of its own that it never reaches."""
+    limits = [{"Region": "global", "RegionLimit": {"CPU": 2**40, "MemoryMB": 2**40}}]
+    configuration = {"Default": name, "Allowed": [name]}
+    namespace = {"Name": name, "Quota": name, "NodePoolConfiguration": configuration}
+    puts = (("quota", {"Name": name, "Limits": limits}), ("node/pools", {"Name": name}), ("namespace", namespace))
+    return [request("PUT", f"/v1/{path}", document) for path, document in puts]
+
+
+def stops(turn, namespace):
+    return [request("DELETE", f"/v1/job/one{turn}-{job}?namespace={namespace}") for job in range(FEW)]
+
+
+def crowd():
+    """Each other namespace has a blocked evaluation in the pool `default`."""
+    is_right = True
+    for others in (0, CROWD):
+        server = Server()
+        server.ask(limited("own") + one_node("own", ROUNDS * FEW))
+        for number in range(others):
+            name = f"n{number:04}"
+            server.ask(tenant(name, "default") + jobs("wait", 1, 20, 1, name, 1))
+        registered(server, f"under a quota of its own, beside {others} namespaces that wait")
+        is_right &= server.used("own") == ROUNDS * FEW * MHZ
+        least(server, f"a job is stopped, beside {others} namespaces that wait", "own", stops)
+        is_right &= server.used("own") == 0
+        server.end()
+    return is_right
+
+
 def names():
     """Rows are sorted by name: each new one comes last in the first case, and first in the second."""
     for order, step in (("in the order of their names", 1), ("against it", -1)):
@@ -167,6 +199,7 @@ KINDS = {
     "allocations": allocations,
     "nodes": nodes_of_others,
     "namespaces": namespaces,
+    "crowd": crowd,
     "names": names,
     "small": small,
     "memory": memory,
