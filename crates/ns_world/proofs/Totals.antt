@@ -18,18 +18,19 @@ use Rattle.ns_types.specs.State.Resources.{IsCounted, none}
 use Rattle.ns_types.specs.State.Rows.{is_live}
 use Rattle.ns_types.specs.declared.allocation.Allocation.{Allocation}
 use Rattle.ns_types.specs.declared.resources.Resources.{Resources}
-use Rattle.ns_world.specs.Allocations.{IsAlike, IsKept, IsMoved, IsTotalOf, live_sum, live_use, row_amount, use_after, use_before}
+use Rattle.ns_world.specs.Allocations.{IsKept, IsMoved, IsTotalOf, live_sum, row_amount, rows_use, use_after, use_before}
 use Rattle.ns_world.specs.Filing.{IsIndexOf, allocation_job}
+use Rattle.ns_world.specs.Total.{IsAlike, IsTotal}
 
 -- where the sums fit, nothing was past 64 bits
-pub total_exact : (total : Resources) (slots : ByNumber (Option Allocation)) → IsTotalOf total slots → IsCounted (live_use slots) → total ≡ live_use slots
-total_exact total slots h counted = λ i. record {
+pub total_exact : (total sums : Resources) → IsTotal total sums → IsCounted sums → total ≡ sums
+total_exact total sums h counted = λ i. record {
   cpu = (h.0 ∙ mod-eq_of_lt counted.0) i;
   memory = (h.1 ∙ mod-eq_of_lt counted.1) i;
 }
 
-pub total_counted : (total : Resources) (slots : ByNumber (Option Allocation)) → IsTotalOf total slots → IsCounted total
-total_counted total slots h = (omega (arith, h.0), omega (arith, h.1))
+pub total_counted : (total sums : Resources) → IsTotal total sums → IsCounted total
+total_counted total sums h = (omega (arith, h.0), omega (arith, h.1))
 
 pub total_none : (total : Resources) (slots : ByNumber (Option Allocation)) → total ≡ none → slots ≡ empty → IsTotalOf total slots
 total_none total slots none_yet is = (
@@ -72,20 +73,19 @@ module _ (amount : Resources → ℕ) (slots : ByNumber (Option Allocation)) (ch
   pub moved_all : (i : ℕ) (sum : Resources) → length changes ≤ i → IsMoved amount slots (take i changes) total sum → IsMoved amount slots changes total sum
   moved_all i sum past h = subst (λ es. IsMoved amount slots es total sum) (take_all i changes past) h
 
-module _ (slots after changes : ByNumber (Option Allocation)) (put : rows after ≡ over (rows slots) changes) where
+module _ (slots changes : ByNumber (Option Allocation)) where
   total_amount : (amount : Resources → ℕ) (total new : ℕ) → total ≡ live_sum amount (rows slots) % 2 ^ 64 → new < 2 ^ 64 →
       IsAlike (new + use_before amount slots (entries changes)) (total + use_after amount (entries changes)) →
-      new ≡ live_sum amount (rows after) % 2 ^ 64
+      new ≡ live_sum amount (over (rows slots) changes) % 2 ^ 64
   total_amount amount total new h small moved =
       let law = sum-over numbers one_number (λ _ a. cond (is_live a) (amount a.size) 0) (rows slots) changes in
       let same_before : sum_by (before numbers one_number (λ _ a. cond (is_live a) (amount a.size) 0) (rows slots)) (entries changes)
       ≡ use_before amount slots (entries changes)
       = λ i. sum_by (λ e. row_amount amount (get-rows numbers slots e.0 i)) (entries changes) in
-      let there : live_sum amount (rows after) ≡ live_sum amount (over (rows slots) changes) = ap (live_sum amount) put in
-      omega (arith, law, same_before, there, h, small, moved)
+      omega (arith, law, same_before, h, small, moved)
 
   pub total_moved : (es : List (ℕ × Option Allocation)) (total new : Resources) → es ≡ entries changes → IsTotalOf total slots → IsCounted new →
-      IsMoved (λ r. r.cpu) slots es total new → IsMoved (λ r. r.memory) slots es total new → IsTotalOf new after
+      IsMoved (λ r. r.cpu) slots es total new → IsMoved (λ r. r.memory) slots es total new → IsTotal new (rows_use (over (rows slots) changes))
   total_moved es total new is h counted cpu memory = (
     total_amount (λ r. r.cpu) total.cpu new.cpu h.0 counted.0 (subst (λ es. IsMoved (λ r. r.cpu) slots es total new) is cpu),
     total_amount (λ r. r.memory) total.memory new.memory h.1 counted.1 (subst (λ es. IsMoved (λ r. r.memory) slots es total new) is memory),

@@ -1,6 +1,6 @@
 -- A namespace's allocations, by number and by the job under which their numbers stand, and the total that is kept of what
 -- the live ones take together.
-use Rattle.std.specs.Prelude.{◌≡◌, ℕ, ◌+◌, ◌%◌, ◌^◌, cond, List, Option, sum_by}
+use Rattle.std.specs.Prelude.{ℕ, ◌+◌, cond, List, Option, sum_by}
 use Rattle.std.specs.Option.{option_map_or}
 use Rattle.std.specs.FinMap.{entries}
 use Rattle.keyed.specs.Over.{HasRoomFor}
@@ -12,6 +12,7 @@ use Rattle.ns_types.specs.State.Rows.{is_live}
 use Rattle.ns_types.specs.declared.allocation.Allocation.{Allocation}
 use Rattle.ns_types.specs.declared.resources.Resources.{Resources}
 use Rattle.ns_world.specs.Filing.{HasRoomAt, IsIndexOf, allocation_job}
+use Rattle.ns_world.specs.Total.{IsAlike, IsTotal}
 
 pub record AllocationTable : Type 0 where
   pub slots : ByNumber (Option Allocation)
@@ -29,19 +30,15 @@ pub record HasAllocationRoom (changes : ByNumber (Option Allocation)) (t : Alloc
 abbrev pub live_sum : (Resources → ℕ) → ByNumber Allocation → ℕ
 live_sum amount m = sum_by (λ e. cond (is_live e.1) (amount e.1.size) 0) (entries m)
 
+abbrev pub rows_use : ByNumber Allocation → Resources
+rows_use m = record { cpu = live_sum (λ r. r.cpu) m; memory = live_sum (λ r. r.memory) m }
+
 -- what the live rows of the slots take together
 abbrev pub live_use : ByNumber (Option Allocation) → Resources
-live_use slots = record {
-  cpu = live_sum (λ r. r.cpu) (rows slots);
-  memory = live_sum (λ r. r.memory) (rows slots);
-}
-
--- sums of 64 bits wrap
-abbrev pub IsAlike : ℕ → ℕ → Type 0
-IsAlike a b = a % 2 ^ 64 ≡ b % 2 ^ 64
+live_use slots = rows_use (rows slots)
 
 abbrev pub IsTotalOf : Resources → ByNumber (Option Allocation) → Type 0
-IsTotalOf total slots = (total.cpu ≡ (live_use slots).cpu % 2 ^ 64) × (total.memory ≡ (live_use slots).memory % 2 ^ 64)
+IsTotalOf total slots = IsTotal total (live_use slots)
 
 -- the numbers stand by job, and the sum is that of the rows
 pub record IsKept (numbers : KeySet) (sum : Resources) (slots : ByNumber (Option Allocation)) : Type 0 where

@@ -1,14 +1,17 @@
 //! A namespace's allocations.
 
-ghost use Rattle.std.specs.Prelude.{◌≡◌, ◌+◌, OnOk, option_copied};
+ghost use Rattle.std.specs.Prelude.{◌≡◌, OnOk, option_copied};
 ghost use Rattle.std.specs.FinMap.{empty, entries};
 ghost use Rattle.keyed.specs.Over.{over};
 ghost use Rattle.keyed.specs.Table.{row_at, rows, without_vacant};
 ghost use Rattle.ns_types.specs.State.Resources.{IsCounted};
-ghost use Rattle.ns_world.specs.Allocations.{HasAllocationRoom, IsAlike, IsMoved, live_use, row_use};
+ghost use Rattle.ns_world.specs.Allocations.{HasAllocationRoom, IsMoved, IsTotalOf};
+ghost use Rattle.ns_world.specs.Allocations.{live_use, row_use, rows_use};
 ghost use Rattle.ns_world.specs.Filing.{AreNumbersUnder, allocation_job};
+ghost use Rattle.ns_world.specs.Total.{IsTotal};
 
 use crate::filing::{AllocationJob, clear, refile, reserve_all};
+use crate::total::moved;
 use keyed::{KeySet, NumberTable};
 use ns_types::allocation::Allocation;
 use ns_types::resources::{Resources, none};
@@ -55,13 +58,6 @@ fn row_use(row: Option<&Allocation>) -> Resources
     }
 }
 
-/// A sum with one part in the place of another. It wraps.
-fn moved(sum: u64, before: u64, after: u64) -> u64
-    ensures { IsAlike (result + before) (sum + after) }
-{
-    sum.wrapping_sub(before).wrapping_add(after)
-}
-
 /// The total once those rows are changed. It looks at them alone, and at the rows that they change.
 fn total_after(
     total: Resources,
@@ -77,10 +73,7 @@ fn total_after(
     for slot in changes {
         let before = row_use(slots.get(slot.0));
         let after = row_use(slot.1.as_ref());
-        sum = Resources {
-            cpu: moved(sum.cpu, before.cpu, after.cpu),
-            memory: moved(sum.memory, before.memory, after.memory),
-        };
+        sum = moved(sum, before, after);
     }
     sum
 }
@@ -134,6 +127,20 @@ impl AllocationTable {
         self.live
     }
 
+    /// The same without what is past 64 bits, and without the premise.
+    pub fn live_total(&self) -> Resources
+        ensures { IsTotalOf result self.now.slots }
+    {
+        self.live
+    }
+
+    /// What `live_total` is once those rows are changed. It looks at them alone, and at the rows that they change.
+    pub fn total_with(&self, changes: &NumberTable<Allocation>) -> Resources
+        ensures { IsTotal result (rows_use (over (rows self.now.slots) changes.now)) }
+    {
+        total_after(self.live, &self.slots, changes.as_slice())
+    }
+
     /// Makes room for each changed row. Want of memory is the only error.
     pub fn reserve_all(&mut self, changes: &NumberTable<Allocation>) -> Result<(), AllocError>
         ensures rows { rows self.new.slots ≡ rows self.old.slots }
@@ -148,7 +155,7 @@ impl AllocationTable {
         requires { HasAllocationRoom changes self.old }
         ensures { rows self.new.slots ≡ over (rows self.old.slots) changes }
     {
-        self.live = total_after(self.live, &self.slots, changes.as_slice());
+        self.live = self.total_with(&changes);
         refile::<AllocationJob>(&mut self.jobs, &self.slots, &changes);
         self.slots.apply(changes);
     }

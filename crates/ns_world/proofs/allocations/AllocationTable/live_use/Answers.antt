@@ -5,5 +5,5 @@ use Rattle.ns_world.proofs.Totals.{total_exact}
 use Rattle.ns_world.proofs.allocations.AllocationTable.live_use.Goals as goal
 
 pub returns : goal.returns
-returns c = total_exact c.self.inside.live c.self.inside.slots c.self.invariant.total
+returns c = total_exact c.self.inside.live (live_use c.self.inside.slots) c.self.invariant.total
     (subst (λ t. IsCounted (live_use t.slots)) (sym c.self.view_is) c.requires) ∙ ap (λ t. live_use t.slots) c.self.view_is
