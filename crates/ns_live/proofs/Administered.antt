@@ -15,7 +15,7 @@ use Rattle.ns_types.specs.Asking.Admins.{delete_namespace, delete_pool, delete_q
 use Rattle.ns_types.specs.Asking.Admins.{is_pool_in_use, read_quota, with_namespace, with_pool}
 use Rattle.ns_types.specs.Asking.Policies.{administer, with_acl, with_world}
 use Rattle.ns_types.specs.Settling.Outcome.{Changes, Outcome, lift}
-use Rattle.ns_types.specs.State.Names.{Name, ByName, default_name, name_cmp, same_name}
+use Rattle.ns_types.specs.State.Names.{Key, Name, ByName, default_name, name_cmp, same_name}
 use Rattle.ns_types.specs.State.Rows.{Acl, PoolRows, State, Tenant, World, allocation_at, is_live, node_at}
 use Rattle.ns_types.specs.State.Tables.{any_row}
 use Rattle.ns_types.specs.Steps.{opening, opening_tenant}
@@ -26,12 +26,13 @@ use Rattle.ns_types.proofs.Tables.{none_of_any, tied}
 use Rattle.ns_types.proofs.Tests.{not_Some}
 use Rattle.ns_live.specs.Index.{IsRight}
 use Rattle.ns_live.specs.Laws.{AdministrationKeepsRight, EmptyIsRightAtFirst, SoundLoadsFit}
-use Rattle.ns_live.specs.Levels.{holds_on_node}
-use Rattle.ns_live.specs.Naming.{AreNamed, KeepsNodes, is_quota}
+use Rattle.ns_live.specs.Naming.{AreNamed, KeepsNodes, is_quota, namespace_use}
 use Rattle.ns_live.specs.Shown.{live_row, shown_in}
-use Rattle.keyed.specs.Levels.{at_name}
 use Rattle.ns_live.specs.declared.live.Live.{Live}
+use Rattle.ns_live.proofs.Kept.{pools_kept}
+use Rattle.ns_live.proofs.PutLoads.{empty_indexes, still_loaded}
 use Rattle.ns_live.proofs.Bounded.{load_counted, sound_within}
+use Rattle.ns_live.proofs.Totals.{total_free}
 use Rattle.ns_live.proofs.Unmoved.{is_live_there, live_alike, no_live_row, shown_still}
 
 -- ---- what is live in a namespace, where it is there
@@ -46,8 +47,11 @@ record SameLive (w w' : World) : Type 0 where
 
 right_again : (w w' : World) (live live' : Live) → SameLive w w' → IsRight w live → KeepsNodes live live' → AreNamed w' live' → IsRight w' live'
 right_again w w' live live' same right nodes named = record {
-  index = λ pool node key. ap (λ pools. at_name holds_on_node pools (pool, (node, key))) nodes.0 ∙ right.index pool node key
-      ∙ sym (live_alike pool node (allocation_at w key) (allocation_at w' key) (same.rows pool node key.0 key.1));
+  index = still_loaded (allocation_at w) (allocation_at w') live live' right.index
+      (λ pool node key. (pools_kept live live' nodes.0).keys pool node key ∙ right.index.keys pool node key
+      ∙ sym (live_alike pool node (allocation_at w key) (allocation_at w' key) (same.rows pool node key.0 key.1)))
+      (pools_kept live live' nodes.0).loads
+      (λ pool node key. same.rows pool node key.0 key.1);
   shown = shown_still w w' live live' right (λ pool name node is.
       (ap (λ shown. shown_in shown pool name) (sym nodes.1) ∙ is, ((λ key. same.rows pool name key.0 key.1), same.nodes pool name)));
   quotas = named;
@@ -206,12 +210,15 @@ administration_right secret command s s' result live live' changes =
 pub empty_right : EmptyIsRightAtFirst
 unfolding opening
 empty_right secret live none = record {
-  index = λ pool node key. none.keys pool node key ∙ sym (is_live_there pool node (allocation_at (opening secret).world key)
-      ∙ ap is_some (put_same empty default_name opening_tenant at_first pool node key.0 key.1
-      ∙ ap (λ r. lives_in r pool node key.1) (get-empty name_cmp key.0)));
+  index = empty_indexes (allocation_at (opening secret).world) live
+      (λ pool node key. none.keys pool node key ∙ sym (is_live_there pool node (allocation_at (opening secret).world key)
+      ∙ ap is_some (dead pool node key))) none.loads dead;
   shown = λ pool name node is. absurd (not_Some node (sym (none.shown pool name) ∙ is));
-  quotas = λ quota ns. none.names quota ns ∙ sym (ap (λ r. is_quota (option_and_then (λ (t : Tenant). t.namespace.quota) r) quota)
-      (get-insert names empty default_name opening_tenant ns) ∙ unnamed quota ns (same_name ns default_name));
+  quotas = record {
+    names = λ quota ns. none.names quota ns ∙ sym (ap (λ r. is_quota (option_and_then (λ (t : Tenant). t.namespace.quota) r) quota)
+        (get-insert names empty default_name opening_tenant ns) ∙ unnamed quota ns (same_name ns default_name));
+    totals = λ quota. total_free (namespace_use (opening secret).world) live.quotas quota (none.names quota) (none.totals quota);
+  };
 }
   where
     unnamed : (quota ns : Name) (b : Bool) →
@@ -223,6 +230,10 @@ empty_right secret live none = record {
         → lives_in (Some opening_tenant) pool node n ≡ lives_in (get (empty {X = Tenant} {R = name_cmp}) default_name) pool node n
     at_first pool node n = ap (live_row pool node) (get-empty nat_cmp n)
         ∙ sym (ap (λ r. lives_in r pool node n) (get-empty name_cmp default_name))
+
+    dead : (pool node : Name) (key : Key) → live_row pool node (allocation_at (opening secret).world key) ≡ None
+    dead pool node key = put_same empty default_name opening_tenant at_first pool node key.0 key.1
+        ∙ ap (λ r. lives_in r pool node key.1) (get-empty name_cmp key.0)
 
 -- ---- loads
 

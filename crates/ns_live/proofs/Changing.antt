@@ -44,9 +44,10 @@ use Rattle.ns_types.proofs.Elements.{each_append}
 use Rattle.ns_types.proofs.Tables.{each_row, less_by, tied}
 use Rattle.ns_types.proofs.Tests.{first, not_Some, same_Some, second}
 use Rattle.ns_live.specs.declared.live.Live.{Live}
-use Rattle.ns_live.specs.Index.{HasRoomFor, HasRoomForAll, Indexes, has_room, holds, with_changes, with_row}
+use Rattle.ns_live.specs.Index.{HasRoomFor, HasRoomForAll, Indexes, KeepsKeys, has_room, with_changes, with_row}
 use Rattle.ns_live.specs.Naming.{KeepsNames}
 use Rattle.ns_live.specs.Shown.{KeepsShown, ShowsUnmoved}
+use Rattle.ns_live.proofs.Kept.{kept_then}
 use Rattle.ns_live.proofs.Unmoved.{unmoved_same, unmoved_then}
 
 abbrev Slots : Type 0
@@ -129,7 +130,7 @@ module _ (namespace : Name) where
     pub room : Each (λ e. HasRoomFor new (namespace, e.0) e.1) left
 
   pub record IsReserving (old new : Live) (done : Slots) : Type 0 where
-    pub same : (pool node : Name) (key : Key) → holds new pool node key ≡ holds old pool node key
+    pub same : KeepsKeys old new
     pub shown : KeepsShown old new
     pub room : (pool node : Name) (key : Key) → IsTrue (has_room old pool node key) → IsTrue (has_room new pool node key)
     pub made : Each (λ e. HasRoomFor new (namespace, e.0) e.1) done
@@ -203,11 +204,11 @@ module _ (namespace : Name) where
 
     -- ---- the loop that makes room
 
-    pub reserved_more : (old now new : Live) → ((pool node : Name) (key : Key) → holds new pool node key ≡ holds now pool node key) →
+    pub reserved_more : (old now new : Live) → KeepsKeys now new →
         KeepsShown now new → ((pool node : Name) (key : Key) → IsTrue (has_room now pool node key) → IsTrue (has_room new pool node key)) →
         HasRoomFor new (namespace, e.0) e.1 → IsReserving old now (take i slots) → IsReserving old new (take (i + 1) slots)
     reserved_more old now new same shown room made h = record {
-      same = λ pool node key. same pool node key ∙ h.same pool node key;
+      same = kept_then old now new h.same same;
       shown = (shown.0 ∙ h.shown.0, shown.1 ∙ h.shown.1);
       room = λ pool node key has. room pool node key (h.room pool node key has);
       made = subst (Each (λ e. HasRoomFor new (namespace, e.0) e.1)) (sym (take_more slots i e lt ∙ ap (λ x. take i slots ++ x ∷ []) (sym is)))

@@ -14,6 +14,7 @@ use Rattle.ns_types.proofs.Tests.{not_Some}
 use Rattle.ns_live.specs.declared.live.Live.{Live}
 use Rattle.ns_live.specs.Index.{KeepsKeys}
 use Rattle.ns_live.specs.Naming.{KeepsNames}
+use Rattle.ns_live.proofs.Kept.{kept_same, kept_then}
 use Rattle.ns_live.specs.Shown.{ForgetsNodes, ShowsThere, shown_at}
 
 abbrev Slots : Type 0
@@ -31,13 +32,13 @@ module _ (pool : Name) where
         (shown_at old p n ≡ Some node) × (same_name p pool ≡ true → Each (λ e. same_name n e.0 ≡ false) done)
 
   pub begun : (live : Live) → IsForgetting live live []
-  begun live = record { keys = λ p n key. refl; names = refl; shown = λ p n node is. (is, λ own. tt) }
+  begun live = record { keys = kept_same live; names = refl; shown = λ p n node is. (is, λ own. tt) }
 
   module _ (slots : Slots) (i : ℕ) (e : Name × Option Node) (lt : i < length slots) (is : e ≡ get_or slots i e) where
     pub one_forgotten : (old now new : Live) → KeepsKeys now new → KeepsNames now new → ShowsThere pool e.0 None now.shown new.shown →
         IsForgetting old now (take i slots) → IsForgetting old new (take (i + 1) slots)
     one_forgotten old now new keys names there h = record {
-      keys = λ p n key. keys p n key ∙ h.keys p n key;
+      keys = kept_then old now new h.keys keys;
       names = names ∙ h.names;
       shown = λ p n node at. by p n node (same_name p pool) refl (same_name n e.0) refl (sym (there p n) ∙ at);
     }

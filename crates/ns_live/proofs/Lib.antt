@@ -2,11 +2,16 @@ pub mod Administered
 pub mod Bounded
 pub mod Changing
 pub mod Forgetting
+pub mod Kept
+pub mod KeySums
 pub mod Listing
+pub mod LoadLevels
 pub mod Loaded
 pub mod NamedQuotas
+pub mod PutLoads
 pub mod Puts
 pub mod QuotaLevels
 pub mod Showing
 pub mod Sums
+pub mod Totals
 pub mod Unmoved

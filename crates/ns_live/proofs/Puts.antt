@@ -12,6 +12,8 @@ use Rattle.ns_live.specs.declared.live.Live.{Live}
 use Rattle.ns_live.specs.Index.{AddsRow, Indexes, has_room, holds, with_row}
 use Rattle.keyed.specs.Levels.{Adds, Drops, same_at}
 use Rattle.ns_live.specs.Levels.{has_pool_room, holds_in_pool}
+use Rattle.ns_live.specs.Shown.{live_row}
+use Rattle.ns_live.proofs.PutLoads.{KeysRight, still_loaded}
 
 regrouped : (a b c : Bool) → (a && (b && c)) ≡ (c && (a && b))
 regrouped true true true = refl
@@ -48,11 +50,11 @@ module _ (row_of : Key → Option Allocation) (key : Key) (before after : Option
       let is = same_key_is other key t in
       let old_row : row_of other ≡ before = (λ i. row_of (is.0 i, is.1 i)) ∙ was in
       adds.held pool node other ∙ ap (λ b. (b && lives pool node) || holds old pool node other) t
-      ∙ ap (λ b. lives pool node || b) (right pool node other ∙ ap (λ r. option_map_or (is_live_on pool node) r false) old_row)
+      ∙ ap (λ b. lives pool node || b) (right.keys pool node other ∙ ap (λ r. option_map_or (is_live_on pool node) r false) old_row)
 
   made_apart : (pool node : Name) (other : Key) → same_key other key ≡ false → holds made pool node other ≡
       option_map_or (is_live_on pool node) (row_of other) false
-  made_apart pool node other t = adds.held pool node other ∙ ap (λ b. (b && lives pool node) || holds old pool node other) t ∙ right pool node other
+  made_apart pool node other t = adds.held pool node other ∙ ap (λ b. (b && lives pool node) || holds old pool node other) t ∙ right.keys pool node other
 
   at_key : (pool node : Name) (other : Key) (b : Bool) → same_key other key ≡ b
       → option_map_or (is_live_on pool node) (with_row key after row_of other) false ≡ option_map_or (is_live_on pool node)
@@ -60,21 +62,21 @@ module _ (row_of : Key → Option Allocation) (key : Key) (before after : Option
   at_key pool node other b t = ap (λ b. option_map_or (is_live_on pool node) (if b then after else row_of other) false) t
 
   -- nothing is to go
-  pub kept_right : ((pool node : Name) → (lives pool node || lived pool node) ≡ lives pool node) → Indexes (with_row key after row_of) made
+  pub kept_right : ((pool node : Name) → (lives pool node || lived pool node) ≡ lives pool node) → KeysRight (with_row key after row_of) made
   kept_right stays pool node other = by (same_key other key) refl
     where
       by : (b : Bool) → same_key other key ≡ b → holds made pool node other ≡ option_map_or (is_live_on pool node) (with_row key after row_of other) false
       by true t = made_here pool node other t ∙ stays pool node ∙ sym (at_key pool node other true t)
       by false t = made_apart pool node other t ∙ sym (at_key pool node other false t)
 
-  pub none_before : before ≡ None → Indexes (with_row key after row_of) made
+  pub none_before : before ≡ None → KeysRight (with_row key after row_of) made
   none_before none = kept_right (λ pool node. ap (λ r. lives pool node || option_map_or (is_live_on pool node) r false) none ∙ or_none (lives pool node))
 
   module _ (row : Allocation) (is : before ≡ Some row) where
     abbrev on : Name → Name → Bool
     on pool node = same_name pool row.pool && same_name node row.node
 
-    pub stays_there : lives row.pool row.node ≡ true → Indexes (with_row key after row_of) made
+    pub stays_there : lives row.pool row.node ≡ true → KeysRight (with_row key after row_of) made
     stays_there there = kept_right (λ pool node. by pool node (lived pool node) refl)
       where
         by : (pool node : Name) (b : Bool) → lived pool node ≡ b → (lives pool node || b) ≡ lives pool node
@@ -87,7 +89,7 @@ module _ (row_of : Key → Option Allocation) (key : Key) (before after : Option
 
     module _ (new : Live) (goes : lives row.pool row.node ≡ false)
         (drops : Drops holds_in_pool has_pool_room (same_at (same_at same_key)) (row.pool, (row.node, key)) made new) where
-      pub dropped_right : Indexes (with_row key after row_of) new
+      pub dropped_right : KeysRight (with_row key after row_of) new
       dropped_right pool node other = by (same_key other key) refl
         where
           there : (b : Bool) → on pool node ≡ b → (not b && (lives pool node || (is_live row && b))) ≡ lives pool node
@@ -118,4 +120,6 @@ room_left row key made new drops pool node other t h =
 -- ---- rows that are the same
 
 pub indexes_same : (row_of rows : Key → Option Allocation) (live : Live) → Indexes row_of live → ((key : Key) → rows key ≡ row_of key) → Indexes rows live
-indexes_same row_of rows live right same pool node key = right pool node key ∙ ap (λ r. option_map_or (is_live_on pool node) r false) (sym (same key))
+indexes_same row_of rows live right same = still_loaded row_of rows live live right
+    (λ pool node key. right.keys pool node key ∙ ap (λ r. option_map_or (is_live_on pool node) r false) (sym (same key)))
+    (λ pool node. refl) (λ pool node key. ap (live_row pool node) (same key))

@@ -1,120 +1,125 @@
 -- Names at quotas, level by level.
 use Rattle.std.specs.Prelude.{◌≡◌, Bool, true, false, not, cond, ◌&&◌, ◌||◌, IsTrue, Option, Some, None, is_some}
 use Rattle.std.proofs.Common.{refl, sym, ap, subst, ◌∙◌}
+use Rattle.std.specs.Cmp.{eq_by_cmp_equiv}
 use Rattle.std.specs.FinMap.{empty, get, get-empty, get-insert, get-remove, insert, remove}
 use Rattle.keyed.specs.Levels.{Adds, Drops, Keeps, same_at}
 use Rattle.keyed.specs.Table.{flat, has_slot, row_at, with_slot}
+use Rattle.keyed.proofs.Levels.{not_true}
 use Rattle.keyed.proofs.Tables.{get-rows, has_slot-insert, has_slot-with_slot, rows-with_slot}
-use Rattle.ns_types.specs.State.Names.{ByName, Name, name_cmp, same_name}
-use Rattle.ns_types.proofs.Named.{names, one_name, same_name_is}
-use Rattle.ns_types.proofs.Tests.{or_none}
+use Rattle.ns_types.specs.State.Names.{Name, name_cmp, same_name}
+use Rattle.ns_types.proofs.Named.{names, one_name, same_name_is, same_name_refl}
 use Rattle.ns_live.specs.declared.naming.QuotaNames.{QuotaNames}
-use Rattle.ns_live.specs.Naming.{AddsName, AreNames, has_room_at, holds_at, holds_name, is_quota, with_quota}
-
-abbrev Names : Type 0
-Names = ByName (Option Unit)
+use Rattle.ns_live.specs.declared.naming.QuotaUse.{QuotaUse}
+use Rattle.ns_live.specs.Naming.{AreNames, HasNameRoom, has_name_room, has_room_at, holds_at, holds_name, is_quota, with_quota}
 
 -- ---- one quota's names
 
-pub no_name : (m : Names) → m ≡ empty → (q : Name) → holds_name m q ≡ false
+pub no_name : (m : QuotaUse) → m.names ≡ empty → (q : Name) → holds_name m q ≡ false
 no_name m e q = ap (λ m. is_some (row_at m q)) e ∙ ap (λ r. is_some (flat r)) (get-empty name_cmp q)
 
-pub no_name_room : (m : Names) → m ≡ empty → (q : Name) → has_slot m q ≡ false
+pub no_name_room : (m : QuotaUse) → m.names ≡ empty → (q : Name) → has_name_room m q ≡ false
 no_name_room m e q = ap (λ m. has_slot m q) e ∙ ap is_some (get-empty name_cmp q)
 
-module _ (m new : Names) (n : Name) where
-  pub name_room : new ≡ with_slot m n → Keeps holds_name has_slot m new
-  name_room e = subst (Keeps holds_name has_slot m) (sym e) (record {
-    held = λ k. ap is_some (sym (get-rows names (with_slot m n) k) ∙ ap (λ m. get m k) (rows-with_slot names one_name m n) ∙ get-rows names m k);
-    room = has_slot-with_slot names m n;
-  })
+module _ (m new : QuotaUse) (n : Name) where
+  pub name_room : new.names ≡ with_slot m.names n → Keeps holds_name has_name_room m new
+  name_room e = record {
+    held = λ k. ap (λ t. is_some (row_at t k)) e ∙ ap is_some (sym (get-rows names (with_slot m.names n) k)
+        ∙ ap (λ t. get t k) (rows-with_slot names one_name m.names n) ∙ get-rows names m.names k);
+    room = λ k h. subst (λ t. IsTrue (has_slot t k)) (sym e) (has_slot-with_slot names m.names n k h);
+  }
 
-  pub name_added : new ≡ insert m n (Some tt) → Adds holds_name has_slot same_name n m new
-  name_added e = subst (Adds holds_name has_slot same_name n m) (sym e) (record {
-    held = λ k. ap (λ r. is_some (flat r)) (get-insert names m n (Some tt) k) ∙ by k (same_name k n);
-    room = has_slot-insert names m n (Some tt);
-  })
+  pub name_added : new.names ≡ insert m.names n (Some tt) → Adds holds_name has_name_room same_name n m new
+  name_added e = record {
+    held = λ k. ap (λ t. is_some (row_at t k)) e ∙ ap (λ r. is_some (flat r)) (get-insert names m.names n (Some tt) k) ∙ by k (same_name k n);
+    room = λ k h. subst (λ t. IsTrue (has_slot t k)) (sym e) (has_slot-insert names m.names n (Some tt) k h);
+  }
     where
-      by : (k : Name) (b : Bool) → is_some (flat (cond b (Some (Some tt)) (get m k))) ≡ (b || is_some (row_at m k))
+      by : (k : Name) (b : Bool) → is_some (flat (cond b (Some (Some tt)) (get m.names k))) ≡ (b || holds_name m k)
       by k true = refl
       by k false = refl
 
-  pub name_dropped : new ≡ remove m n → Drops holds_name has_slot same_name n m new
-  name_dropped e = subst (Drops holds_name has_slot same_name n m) (sym e) (record {
-    held = λ k. ap (λ r. is_some (flat r)) (get-remove names m n k) ∙ by k (same_name k n);
-    room = λ k apart h. subst IsTrue (sym (ap is_some (get-remove names m n k ∙ ap (λ b. cond b None (get m k)) apart))) h;
-    gone = λ k t. ap is_some (get-remove names m n k ∙ ap (λ b. cond b None (get m k)) t);
-  })
+  pub name_dropped : new.names ≡ remove m.names n → Drops holds_name has_name_room same_name n m new
+  name_dropped e = record {
+    held = λ k. ap (λ t. is_some (row_at t k)) e ∙ ap (λ r. is_some (flat r)) (get-remove names m.names n k) ∙ by k (same_name k n);
+    room = λ k apart h. subst IsTrue (sym (ap (λ t. has_slot t k) e ∙ ap is_some (get-remove names m.names n k
+        ∙ ap (λ b. cond b None (get m.names k)) apart))) h;
+    gone = λ k t. ap (λ t. has_slot t k) e ∙ ap is_some (get-remove names m.names n k ∙ ap (λ b. cond b None (get m.names k)) t);
+  }
     where
-      by : (k : Name) (b : Bool) → is_some (flat (cond b None (get m k))) ≡ (not b && is_some (row_at m k))
+      by : (k : Name) (b : Bool) → is_some (flat (cond b None (get m.names k))) ≡ (not b && holds_name m k)
       by k true = refl
       by k false = refl
 
--- ---- a put
+-- ---- another quota for a namespace
 
-pub added : (ns quota : Name) (old new : QuotaNames) → Adds holds_at has_room_at (same_at same_name) (quota, ns) old new →
-    (put : Option Name) → put ≡ Some quota → AddsName ns put old new
-added ns quota old new adds put is = subst (λ r. AddsName ns r old new) (sym is) (λ q n. adds.held (q, n))
-
-pub added_none : (ns : Name) (names : QuotaNames) (put : Option Name) → put ≡ None → AddsName ns put names names
-added_none ns names put is = subst (λ r. AddsName ns r names names) (sym is) (λ q n. refl)
-
-module _ (ns : Name) (before after : Option Name) (old made : QuotaNames) (adds : AddsName ns after old made) (quota_of : Name → Option Name)
-    (right : AreNames quota_of old) (was : quota_of ns ≡ before) where
-  made_here : (q n : Name) → same_name n ns ≡ true → holds_at made (q, n) ≡ (is_quota after q || is_quota before q)
-  made_here q n t = adds q n ∙ (λ i. (is_quota after q && t i) || right q n i)
-      ∙ (λ i. yes (is_quota after q) i || is_quota (quota_of (same_name_is n ns t i)) q) ∙ ap (λ r. is_quota after q || is_quota r q) was
+module _ (ns : Name) (quota_of : Name → Option Name) where
+  pub with_twice : (a b : Option Name) → with_quota ns a (with_quota ns b quota_of) ≡ with_quota ns a quota_of
+  with_twice a b = λ i n. by (same_name n ns) (quota_of n) i
     where
-      yes : (b : Bool) → (b && true) ≡ b
-      yes true = refl
-      yes false = refl
+      by : (c : Bool) (r : Option Name) → cond c a (cond c b r) ≡ cond c a r
+      by true r = refl
+      by false r = refl
 
-  made_apart : (q n : Name) → same_name n ns ≡ false → holds_at made (q, n) ≡ is_quota (quota_of n) q
-  made_apart q n t = adds q n ∙ (λ i. (is_quota after q && t i) || right q n i) ∙ ap (λ b. b || is_quota (quota_of n) q) (no (is_quota after q))
+  pub with_same : (r : Option Name) → quota_of ns ≡ r → with_quota ns r quota_of ≡ quota_of
+  with_same r was = λ i n. by n (same_name n ns) refl i
     where
-      no : (b : Bool) → (b && false) ≡ false
-      no true = refl
-      no false = refl
+      by : (n : Name) (b : Bool) → same_name n ns ≡ b → with_quota ns r quota_of n ≡ quota_of n
+      by n true t = ap (λ b. cond b r (quota_of n)) t ∙ sym was ∙ ap quota_of (sym (same_name_is n ns t))
+      by n false t = ap (λ b. cond b r (quota_of n)) t
 
-  then_at : (q n : Name) (b : Bool) → same_name n ns ≡ b → is_quota (with_quota ns after quota_of n) q ≡ is_quota (cond b after (quota_of n)) q
-  then_at q n b t = ap (λ b. is_quota (cond b after (quota_of n)) q) t
+  pub with_here : (r : Option Name) → with_quota ns r quota_of ns ≡ r
+  with_here r = ap (λ b. cond b r (quota_of ns)) (same_name_refl ns)
 
-  -- nothing is to go
-  kept : ((q : Name) → (is_quota after q || is_quota before q) ≡ is_quota after q) → AreNames (with_quota ns after quota_of) made
-  kept stays q n = by (same_name n ns) refl
+module _ (ns quota : Name) (old new : QuotaNames) (quota_of : Name → Option Name) (right : AreNames quota_of old) where
+  then_at : (r : Option Name) (q n : Name) (b : Bool) → same_name n ns ≡ b → is_quota (with_quota ns r quota_of n) q ≡ is_quota (cond b r (quota_of n)) q
+  then_at r q n b t = ap (λ b. is_quota (cond b r (quota_of n)) q) t
+
+  was_at : (r : Option Name) → quota_of ns ≡ r → (q n : Name) → same_name n ns ≡ true → holds_at old (q, n) ≡ is_quota r q
+  was_at r was q n t = right q n ∙ ap (λ n. is_quota (quota_of n) q) (same_name_is n ns t) ∙ ap (λ r. is_quota r q) was
+
+  pub named_now : Adds holds_at has_room_at (same_at same_name) (quota, ns) old new → quota_of ns ≡ None → AreNames (with_quota ns (Some quota) quota_of) new
+  named_now adds free q n = adds.held (q, n) ∙ by (same_name n ns) refl
     where
-      by : (b : Bool) → same_name n ns ≡ b → holds_at made (q, n) ≡ is_quota (with_quota ns after quota_of n) q
-      by true t = made_here q n t ∙ stays q ∙ sym (then_at q n true t)
-      by false t = made_apart q n t ∙ sym (then_at q n false t)
+      here : (b : Bool) → ((b && true) || false) ≡ b
+      here true = refl
+      here false = refl
 
-  pub none_before : before ≡ None → AreNames (with_quota ns after quota_of) made
-  none_before none = kept (λ q. ap (λ r. is_quota after q || is_quota r q) none ∙ or_none (is_quota after q))
+      apart : (b c : Bool) → ((b && false) || c) ≡ c
+      apart true c = refl
+      apart false c = refl
 
-  module _ (quota : Name) (is : before ≡ Some quota) where
-    pub stays_there : is_quota after quota ≡ true → AreNames (with_quota ns after quota_of) made
-    stays_there there = kept (λ q. ap (λ r. is_quota after q || is_quota r q) is ∙ by q (same_name q quota) refl)
-      where
-        by : (q : Name) (b : Bool) → same_name q quota ≡ b → (is_quota after q || b) ≡ is_quota after q
-        by q true t =
-            let here : is_quota after q ≡ true = ap (is_quota after) (same_name_is q quota t) ∙ there in
-            ap (λ b. b || true) here ∙ sym here
-        by q false t = or_none (is_quota after q)
+      by : (b : Bool) → same_name n ns ≡ b →
+          ((same_name q quota && same_name n ns) || holds_at old (q, n)) ≡ is_quota (with_quota ns (Some quota) quota_of n) q
+      by true t = (λ i. (same_name q quota && t i) || was_at None free q n t i) ∙ here (same_name q quota) ∙ sym (then_at (Some quota) q n true t)
+      by false t = (λ i. (same_name q quota && t i) || right q n i) ∙ apart (same_name q quota) (is_quota (quota_of n) q)
+          ∙ sym (then_at (Some quota) q n false t)
 
-    pub gone : (new : QuotaNames) → is_quota after quota ≡ false → Drops holds_at has_room_at (same_at same_name) (quota, ns) made new →
-        AreNames (with_quota ns after quota_of) new
-    gone new goes drops q n = drops.held (q, n) ∙ by (same_name n ns) refl
-      where
-        at : (b : Bool) → same_name q quota ≡ b → (not (b && true) && (is_quota after q || b)) ≡ is_quota after q
-        at true t = sym (ap (is_quota after) (same_name_is q quota t) ∙ goes)
-        at false t = or_none (is_quota after q)
+  pub named_no_more : Drops holds_at has_room_at (same_at same_name) (quota, ns) old new → quota_of ns ≡ Some quota →
+      AreNames (with_quota ns None quota_of) new
+  named_no_more drops was q n = drops.held (q, n) ∙ by (same_name n ns) refl
+    where
+      here : (b : Bool) → (not (b && true) && b) ≡ false
+      here true = refl
+      here false = refl
 
-        apart : (b c : Bool) → (not (b && false) && c) ≡ c
-        apart true c = refl
-        apart false c = refl
+      apart : (b c : Bool) → (not (b && false) && c) ≡ c
+      apart true c = refl
+      apart false c = refl
 
-        by : (b : Bool) → same_name n ns ≡ b →
-            (not (same_name q quota && same_name n ns) && holds_at made (q, n)) ≡ is_quota (with_quota ns after quota_of n) q
-        by true t = (λ i. not (same_name q quota && t i) && made_here q n t i)
-            ∙ ap (λ r. not (same_name q quota && true) && (is_quota after q || is_quota r q)) is ∙ at (same_name q quota) refl ∙ sym (then_at q n true t)
-        by false t = (λ i. not (same_name q quota && t i) && made_apart q n t i) ∙ apart (same_name q quota) (is_quota (quota_of n) q)
-            ∙ sym (then_at q n false t)
+      by : (b : Bool) → same_name n ns ≡ b →
+          (not (same_name q quota && same_name n ns) && holds_at old (q, n)) ≡ is_quota (with_quota ns None quota_of n) q
+      by true t = (λ i. not (same_name q quota && t i) && was_at (Some quota) was q n t i) ∙ here (same_name q quota) ∙ sym (then_at None q n true t)
+      by false t = (λ i. not (same_name q quota && t i) && right q n i) ∙ apart (same_name q quota) (is_quota (quota_of n) q)
+          ∙ sym (then_at None q n false t)
+
+pub quota_is : (r : Option Name) (quota : Name) → is_quota r quota ≡ true → r ≡ Some quota
+quota_is None quota e = not_true e
+quota_is (Some q) quota e = ap Some (sym (same_name_is quota q e))
+
+-- room at another quota is left
+pub room_left : (ns quota : Name) (old new : QuotaNames) (after : Option Name) → Drops holds_at has_room_at (same_at same_name) (quota, ns) old new →
+    is_quota after quota ≡ false → HasNameRoom old ns after → HasNameRoom new ns after
+room_left ns quota old new None drops apart room = tt
+room_left ns quota old new (Some q) drops apart room = drops.room (q, ns)
+    (ap (λ b. b && same_name ns ns) ((eq_by_cmp_equiv names).symm q quota ∙ apart)) room

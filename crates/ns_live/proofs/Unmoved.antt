@@ -1,30 +1,29 @@
 -- A node is seen the same as long as its row stays, and the rows that are live on it.
 use Rattle.std.specs.Prelude.{◌≡◌, Bool, true, false, cond, ◌&&◌, ◌||◌, if◌then◌else◌, List, [], ◌∷◌, Option, Some, None, is_some, map, option_map}
-use Rattle.std.specs.Prelude.{unwrap_or}
-use Rattle.std.proofs.Common.{refl, sym, ap, ◌∙◌}
+use Rattle.std.proofs.Common.{refl, sym, ap, subst, ◌∙◌}
 use Rattle.std.proofs.Math.Bool.{and-false}
-use Rattle.std.specs.FinMap.{empty}
-use Rattle.std.specs.Option.{option_and_then, option_map_or}
-use Rattle.keyed.specs.Levels.{holds_key, holds_number}
-use Rattle.keyed.specs.Table.{row_at, with_row}
+use Rattle.std.specs.Option.{option_map_or}
+use Rattle.keyed.specs.Levels.{holds_key}
+use Rattle.keyed.specs.Table.{with_row}
 use Rattle.keyed.specs.declared.key_set.KeySet.{KeySet}
-use Rattle.keyed.proofs.Levels.{says_nothing}
 use Rattle.ns_types.specs.declared.allocation.Allocation.{Allocation}
 use Rattle.ns_types.specs.declared.snapshot.PoolNode.{PoolNode}
 use Rattle.ns_types.specs.State.Lists.{by_number}
 use Rattle.ns_types.specs.State.Names.{Name, Key, has_key, same_key, same_name}
 use Rattle.ns_types.specs.State.Rows.{World, allocation_at, is_live, is_live_on, node_at}
+use Rattle.ns_types.specs.Working.Commit.{quota_named}
 use Rattle.ns_types.specs.Working.Snapshot.{allocations_on, live_on, seen_live}
 use Rattle.ns_types.proofs.Named.{same_key_refl, same_name_is, first_of_both, second_of_both}
 use Rattle.ns_live.specs.declared.live.Live.{Live}
-use Rattle.ns_live.specs.declared.pool_keys.PoolKeys.{PoolKeys}
 use Rattle.ns_live.specs.declared.shown.ShownNodes.{ShownNodes}
 use Rattle.ns_live.specs.Index.{Indexes, IsRight, KeepsKeys, holds}
 use Rattle.ns_live.specs.Index
-use Rattle.ns_live.specs.Levels.{holds_on_node}
+use Rattle.ns_live.specs.Levels.{keys_at}
 use Rattle.ns_live.specs.Listed.{found_at, keys_in}
-use Rattle.ns_live.specs.Naming.{KeepsNames, holds_at}
+use Rattle.ns_live.specs.Naming.{AreKept, KeepsNames, namespace_use}
 use Rattle.ns_live.specs.Shown.{AreShown, ForgetsRow, KeepsShown, SameOn, ShowsSame, ShowsThere, ShowsUnmoved, live_row, node_seen, shown_at, shown_in}
+use Rattle.ns_live.proofs.LoadLevels.{keys_hold}
+use Rattle.ns_live.proofs.Kept.{index_kept}
 use Rattle.ns_live.proofs.Listing.{allocations_are, has_key-keys_in, shown}
 use Rattle.ns_types.proofs.Once.{key_is}
 
@@ -85,35 +84,13 @@ module _ (w w' : World) (pool node : Name) (same : SameOn pool node (allocation_
 
 -- ---- by an index that is right for the world before
 
-no_keys : KeySet
-no_keys = record { numbers = empty }
-
-keys_there : Live → Name → Name → KeySet
-keys_there live pool node = unwrap_or (option_and_then (λ keys. row_at keys.nodes node) (row_at live.pools pool)) no_keys
-
-keys_hold : (live : Live) (pool node : Name) (key : Key) → holds_key (keys_there live pool node) key ≡ holds live pool node key
-unfolding no_keys keys_there
-keys_hold live pool node key = by (row_at live.pools pool)
-  where
-    none : holds_key (record { numbers = empty }) key ≡ false
-    none = says_nothing (λ (s : KeySet). s.numbers) holds_number (record { numbers = empty }) refl key
-
-    at_node : (r : Option KeySet) → holds_key (unwrap_or r (record { numbers = empty })) key ≡ option_map_or (λ set. holds_key set key) r false
-    at_node None = none
-    at_node (Some set) = refl
-
-    by : (r : Option PoolKeys) → holds_key (unwrap_or (option_and_then (λ keys. row_at keys.nodes node) r) (record { numbers = empty })) key
-        ≡ option_map_or (λ keys. holds_on_node keys (node, key)) r false
-    by None = none
-    by (Some keys) = at_node (row_at keys.nodes node)
-
 module _ (w w' : World) (live : Live) (right : Indexes (allocation_at w) live) where
   node_stays : (pool name : Name) → SameOn pool name (allocation_at w) (allocation_at w') → node_at w' pool name ≡ node_at w pool name →
       node_seen w' pool name ≡ node_seen w pool name
   node_stays pool name same row = λ i. option_map (λ row. record {
     name = name;
     row = row;
-    live = live_stays w w' pool name same (keys_there live pool name) (λ key. keys_hold live pool name key ∙ right pool name key) i;
+    live = live_stays w w' pool name same (keys_at live pool name) (λ key. keys_hold live pool name key ∙ right.keys pool name key) i;
   }) (row i)
 
 -- what is still shown is as in the world after a change
@@ -183,8 +160,8 @@ put_unmoved row_of key before after old made mid new was kept first later pool n
 pub shown_right : (w : World) (old new : Live) (pool name : Name) (node : PoolNode) → KeepsKeys old new → KeepsNames old new →
     ShowsThere pool name (Some node) old.shown new.shown → node_seen w pool name ≡ Some node → IsRight w old → IsRight w new
 shown_right w old new pool name node keys names there seen right = record {
-  index = λ p n key. keys p n key ∙ right.index p n key;
-  quotas = λ quota ns. ap (λ held. holds_at held (quota, ns)) names ∙ right.quotas quota ns;
+  index = index_kept (allocation_at w) old new keys right.index;
+  quotas = subst (AreKept (quota_named w) (namespace_use w)) (sym names) right.quotas;
   shown = λ p n other is. by p n other (same_name p pool && same_name n name) refl (sym (there p n) ∙ is);
 }
   where
@@ -197,7 +174,7 @@ shown_right w old new pool name node keys names there seen right = record {
 -- the same keys, and the same is shown
 pub still_right : (w : World) (old new : Live) → KeepsKeys old new → KeepsNames old new → ShowsSame old.shown new.shown → IsRight w old → IsRight w new
 still_right w old new keys names same right = record {
-  index = λ p n key. keys p n key ∙ right.index p n key;
-  quotas = λ quota ns. ap (λ held. holds_at held (quota, ns)) names ∙ right.quotas quota ns;
+  index = index_kept (allocation_at w) old new keys right.index;
+  quotas = subst (AreKept (quota_named w) (namespace_use w)) (sym names) right.quotas;
   shown = λ p n node is. right.shown p n node (sym (same p n) ∙ is);
 }

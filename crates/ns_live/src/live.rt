@@ -1,4 +1,5 @@
-//! The live allocations on all nodes, the nodes as they were last shown, and which namespaces name which quota.
+//! The live allocations on all nodes and what they take, the nodes as they were last shown, and which namespaces name which
+//! quota, with what they use.
 
 ghost use Rattle.std.specs.Prelude.{◌≡◌, ℕ, false, IfOk, IsTrue, None, OnErr, OnOk, Option, Some, is_some};
 ghost use Rattle.std.specs.Prelude.{option_copied};
@@ -15,13 +16,13 @@ ghost use Rattle.ns_live.specs.Index.{AddsRow, HasRoomFor, HasRoomForAll, Indexe
 ghost use Rattle.ns_live.specs.Index.{KeepsKeys, KeepsRoom};
 ghost use Rattle.ns_live.specs.Index.{has_room, holds, with_changes, with_row};
 ghost use Rattle.keyed.specs.Levels.{Adds, Drops, Keeps, holds_key, same_at};
-ghost use Rattle.ns_live.specs.Levels.{holds_in_pool, has_pool_room};
+ghost use Rattle.ns_live.specs.Levels.{holds_in_pool, has_pool_room, load_at};
+ghost use Rattle.ns_live.specs.Moving.{AddsLoad, LeavesInPool, MovesInPool, taken};
 ghost use Rattle.ns_live.specs.Naming.{AreNamed, HasNameRoom, HoldsSame, KeepsNames, KeepsNodes, PutsQuota};
+ghost use Rattle.ns_live.specs.Naming.{PutsUse};
 ghost use Rattle.ns_live.specs.Shown.{ForgetsNodes, KeepsShown, ShowsSame, ShowsThere, ShowsUnmoved, live_row, shown_at};
-ghost use Rattle.ns_world.specs.World.{world_of};
 
-use crate::loads::keys_load;
-use crate::naming::{QuotaNames, copied_names, names_use};
+use crate::naming::{QuotaNames, copied_names};
 use crate::pool_keys::PoolKeys;
 use crate::shown::ShownNodes;
 use keyed::{KeySet, NameTable, NumberTable};
@@ -32,11 +33,10 @@ use ns_types::rows::Rows;
 use ns_types::shared::Shared;
 use ns_types::snapshot::PoolNode;
 use ns_types::text::{Text, same_text};
-use ns_world::Tables;
 use std::alloc::{AllocError, Global};
 
-/// The keys of all live allocations, by the pool and the node that they are on, the nodes that are shown, and the names of
-/// the namespaces, by the quota that they name.
+/// The keys of all live allocations, by the pool and the node that they are on, with what those of each node take together,
+/// the nodes that are shown, and the names of the namespaces, by the quota that they name, with the total of what they use.
 #[derive(Drop)]
 pub struct Live {
     alloc: Global,
@@ -52,6 +52,22 @@ fn is_live_on(row: Option<&Allocation>, pool: &Text, node: &Text) -> bool
     match row {
         Some(row) => row.is_live() && same_text(pool, &row.pool) && same_text(node, &row.node),
         None => false,
+    }
+}
+
+/// What the row takes on the node: nothing, where it is not live there.
+fn size_on(row: Option<&Allocation>, pool: &Text, node: &Text) -> Resources
+    ensures { result ≡ taken pool.now node.now (option_copied row.entry) }
+{
+    match row {
+        Some(allocation) => {
+            if is_live_on(row, pool, node) {
+                allocation.size
+            } else {
+                none()
+            }
+        }
+        None => none(),
     }
 }
 
@@ -177,10 +193,11 @@ impl Live {
             same_key key (namespace.now, number) ≡ false →
             IsTrue (has_room self.old pool node key) → IsTrue (has_room self.new pool node key) }
     {
-        self.add(namespace, number, after);
+        self.add(namespace, number, before, after);
         if let Some(row) = before {
             if !is_live_on(after, &row.pool, &row.node) {
-                self.remove(&row.pool, &row.node, namespace, number);
+                let size = size_on(before, &row.pool, &row.node);
+                self.remove(&row.pool, &row.node, namespace, number, size);
             }
         }
     }
@@ -275,16 +292,14 @@ impl Live {
         }
     }
 
-    /// What the live allocations on this node take together, by an index that is right for the tables.
-    /// It takes no memory.
-    /// In a valid world the load fits: its nodes have room for what is on them.
-    pub fn load(&self, tables: &Tables, pool: &Text, node: &Text) -> Resources
-        requires right { IsRight (world_of tables.now) self.now }
-        requires fits { IsCounted (node_load (world_of tables.now) pool.now node.now) }
-        ensures { result ≡ node_load (world_of tables.now) pool.now node.now }
+    /// What the live allocations on this node take together: it is kept, and looks at none of them. It wraps, unless
+    /// the load fits, as it does in a valid world: its nodes have room for what is on them.
+    pub fn load(&self, pool: &Text, node: &Text) -> Resources
+        ensures { (w : World) → IsRight w self.now → IsCounted (node_load w pool.now node.now) →
+            result ≡ node_load w pool.now node.now }
     {
-        match self.keys_on(pool, node) {
-            Some(keys) => keys_load(tables, keys),
+        match self.pools.get(pool) {
+            Some(nodes) => nodes.load_on(node),
             None => none(),
         }
     }
@@ -305,14 +320,31 @@ impl Live {
         self.quotas.reserve(self.alloc, namespace, quota)
     }
 
-    /// The namespace named the quota `before`, and names `after` from now on. It takes no memory: there has to be room.
-    pub fn put_quota(&mut self, namespace: &Text, before: Option<&Text>, after: Option<&Text>)
+    /// The namespace, which uses this, named the quota `before`, and names `after` from now on: the total of `before`
+    /// loses what it uses, and that of `after` gains it. It takes no memory: there has to be room.
+    pub fn put_quota(
+        &mut self,
+        namespace: &Text,
+        before: Option<&Text>,
+        after: Option<&Text>,
+        used: Resources,
+    )
         requires { HasNameRoom self.old.quotas namespace.now (option_copied after) }
         ensures nodes { KeepsNodes self.old self.new }
         ensures names { PutsQuota namespace.now (option_copied before.entry)
-            (option_copied after.entry) self.old.quotas self.new.quotas }
+            (option_copied after.entry) used self.old.quotas self.new.quotas }
     {
-        self.quotas.put(namespace, before, after);
+        self.quotas.put(namespace, before, after, used);
+    }
+
+    /// What a namespace uses that names the quota, if any, was `before` and is `after` from now on: the total of the
+    /// quota follows. It takes no memory.
+    pub fn put_use(&mut self, quota: Option<&Text>, before: Resources, after: Resources)
+        ensures nodes { KeepsNodes self.old self.new }
+        ensures total { PutsUse (option_copied quota.entry) before after
+            self.old.quotas self.new.quotas }
+    {
+        self.quotas.put_use(quota, before, after);
     }
 
     /// The namespaces that name the quota, by name. It looks at no other. Want of memory is the only error.
@@ -321,34 +353,40 @@ impl Live {
             IfOk result (λ names. names ≡ namespaces_naming w quota.now) }
     {
         match self.quotas.names_of(quota) {
-            Some(names) => copied_names(self.alloc, names.as_slice()),
+            Some(names) => copied_names(self.alloc, names),
             None => Ok(Rows::new(self.alloc)),
         }
     }
 
-    /// What the live allocations of all namespaces that name the quota take together, by names that are right for the
-    /// tables. It looks at no other namespace, and at no allocation. It takes no memory. The premise is that the sums fit.
-    pub fn quota_use(&self, tables: &Tables, quota: &Text) -> Resources
-        requires named { AreNamed (world_of tables.now) self.now }
-        requires fits { IsCounted (quota_use (world_of tables.now) quota.now) }
-        ensures { result ≡ quota_use (world_of tables.now) quota.now }
+    /// What the live allocations of all namespaces that name the quota take together: a total that is kept, by names and
+    /// totals that are right for the world. It is exact where the sums fit 64 bits. It takes no memory.
+    pub fn quota_use(&self, quota: &Text) -> Resources
+        ensures { (w : World) → AreNamed w self.now → IsCounted (quota_use w quota.now) →
+            result ≡ quota_use w quota.now }
     {
-        match self.quotas.names_of(quota) {
-            Some(names) => names_use(tables, names),
-            None => none(),
-        }
+        self.quotas.total_of(quota)
     }
 
-    /// Holds the key where the row is live. It takes no memory.
-    fn add(&mut self, namespace: &Text, number: u64, row: Option<&Allocation>)
-        requires { HasRoomFor self.old (namespace.now, number) (option_copied row) }
-        ensures added { AddsRow (namespace.now, number) (option_copied row.entry)
+    /// Holds the key where the row `after` is live: the load there has what that takes in the place of what `before`
+    /// took. It takes no memory.
+    fn add(
+        &mut self,
+        namespace: &Text,
+        number: u64,
+        before: Option<&Allocation>,
+        after: Option<&Allocation>,
+    )
+        requires { HasRoomFor self.old (namespace.now, number) (option_copied after) }
+        ensures added { AddsRow (namespace.now, number) (option_copied after.entry)
+            self.old self.new }
+        ensures loads { AddsLoad (option_copied before.entry) (option_copied after.entry)
             self.old self.new }
         ensures shown { KeepsShown self.old self.new }
     {
-        if let Some(row) = row {
+        if let Some(row) = after {
             if row.is_live() {
-                self.insert(&row.pool, &row.node, namespace, number);
+                let went = size_on(before, &row.pool, &row.node);
+                self.insert(&row.pool, &row.node, namespace, number, went, row.size);
             }
         }
     }
@@ -375,6 +413,7 @@ impl Live {
     /// Makes a set for the pool, unless it is there.
     fn open(&mut self, pool: &Text) -> Result<(), AllocError>
         ensures same { Keeps holds_in_pool has_pool_room self.old self.new }
+        ensures loads { (p : Name) (n : Name) → load_at self.new p n ≡ load_at self.old p n }
         ensures shown { KeepsShown self.old self.new }
         ensures ok { OnOk result (IsTrue (is_some (row_at self.new.pools pool.now))) }
     {
@@ -394,6 +433,7 @@ impl Live {
         number: u64,
     ) -> Result<(), AllocError>
         ensures same { Keeps holds_in_pool has_pool_room self.old self.new }
+        ensures loads { (p : Name) (n : Name) → load_at self.new p n ≡ load_at self.old p n }
         ensures shown { KeepsShown self.old self.new }
         ensures ok { OnOk result (
             IsTrue (has_pool_room self.new (pool.now, (node.now, (namespace.now, number))))) }
@@ -409,28 +449,39 @@ impl Live {
         Ok(())
     }
 
-    /// Holds the key on the node from now on. It takes no memory.
-    fn insert(&mut self, pool: &Text, node: &Text, namespace: &Text, number: u64)
+    /// Holds the key on the node from now on, whose load has `after` in the place of `before`. It takes no memory.
+    fn insert(
+        &mut self,
+        pool: &Text,
+        node: &Text,
+        namespace: &Text,
+        number: u64,
+        before: Resources,
+        after: Resources,
+    )
         requires { IsTrue (has_pool_room self.old (pool.now, (node.now, (namespace.now, number)))) }
         ensures added { Adds holds_in_pool has_pool_room (same_at (same_at same_key))
             (pool.now, (node.now, (namespace.now, number))) self.old self.new }
+        ensures loads { MovesInPool pool.now node.now before after self.old self.new }
         ensures shown { KeepsShown self.old self.new }
     {
         if let Some(nodes) = self.pools.get_mut(pool) {
-            nodes.insert(node, namespace, number);
+            nodes.insert(node, namespace, number, before, after);
         }
     }
 
-    /// Holds the key on the node no longer. It takes no memory. A set without keys and room goes with its last key.
-    fn remove(&mut self, pool: &Text, node: &Text, namespace: &Text, number: u64)
+    /// Holds the key on the node no longer, whose load is without `size`. It takes no memory. A set without keys and room
+    /// goes with its last key.
+    fn remove(&mut self, pool: &Text, node: &Text, namespace: &Text, number: u64, size: Resources)
         ensures dropped { Drops holds_in_pool has_pool_room (same_at (same_at same_key))
             (pool.now, (node.now, (namespace.now, number))) self.old self.new }
+        ensures loads { LeavesInPool pool.now node.now size self.old self.new }
         ensures shown { KeepsShown self.old self.new }
     {
         let Some(nodes) = self.pools.get_mut(pool) else {
             return;
         };
-        nodes.remove(node, namespace, number);
+        nodes.remove(node, namespace, number, size);
         if nodes.is_empty() {
             self.pools.remove(pool);
         }

@@ -1,33 +1,39 @@
-//! Which namespaces name which quota, so that none has to be looked for among all namespaces. Room for a name is made
-//! before it is needed.
+//! Which namespaces name which quota, so that none has to be looked for among all namespaces, and the total of what they
+//! use, so that no sum is made when it is asked. Room for a name is made before it is needed.
 
-ghost use Rattle.std.specs.Prelude.{◌≡◌, ◌++◌, IfOk, IsTrue, OnOk, Option, flat_map, is_some, option_copied};
-ghost use Rattle.std.specs.FinMap.{empty};
+ghost use Rattle.std.specs.Prelude.{◌≡◌, ◌++◌, IfOk, IsTrue, None, OnOk, Option, flat_map, is_some};
+ghost use Rattle.std.specs.Prelude.{false, option_copied, option_map, true};
+ghost use Rattle.std.specs.FinMap.{empty, entries};
 ghost use Rattle.keyed.specs.Levels.{Adds, Drops, Keeps, same_at};
 ghost use Rattle.keyed.specs.Table.{row_at};
+ghost use Rattle.ns_types.specs.declared.resources.Resources.{Resources};
 ghost use Rattle.ns_types.specs.State.Names.{Name, same_name};
-ghost use Rattle.ns_types.specs.State.Resources.{IsCounted};
-ghost use Rattle.ns_live.specs.Loads.{each_resource, name_amount, names_amount};
-ghost use Rattle.ns_live.specs.Naming.{AddsName, HasNameRoom, HoldsSame, PutsQuota, has_room_at, holds_at};
-ghost use Rattle.ns_live.specs.Naming.{is_quota, row_name};
+ghost use Rattle.ns_world.specs.Total.{IsTotal};
+ghost use Rattle.ns_live.specs.Naming.{AreTotals, HasNameRoom, HoldsSame, KeepsTotals, PutsQuota, PutsUse};
+ghost use Rattle.ns_live.specs.Naming.{has_room_at, holds_at, is_quota, row_name, total_at};
 
 use keyed::NameTable;
-use ns_types::resources::{Resources, none, plus};
+use ns_types::resources::{Resources, none};
 use ns_types::rows::Rows;
 use ns_types::text::{Text, same_text};
-use ns_world::Tables;
+use ns_world::moved;
 use std::alloc::{AllocError, Global};
-
-/// The names of some namespaces. A vacant slot is room.
-type Names = NameTable<()>;
 
 /// A name, or room for it.
 type NameSlot = (Text, Option<()>);
 
+/// What names a quota: some namespaces, of which a vacant slot is room for one, and the total of what they use. Its sums
+/// wrap.
+#[derive(Drop)]
+pub(crate) struct QuotaUse {
+    names: NameTable<()>,
+    total: Resources,
+}
+
 /// The names of the namespaces, by the quota that they name.
 #[derive(Drop)]
 pub(crate) struct QuotaNames {
-    quotas: NameTable<Names>,
+    quotas: NameTable<QuotaUse>,
 }
 
 fn is_quota(named: Option<&Text>, quota: &Text) -> bool
@@ -49,21 +55,42 @@ impl QuotaNames {
         }
     }
 
-    /// The names of the quota's namespaces, where there are some.
-    pub(crate) fn names_of(&self, quota: &Text) -> Option<&Names>
-        ensures { option_copied result ≡ row_at self.now.quotas quota.now }
+    /// The slots of the quota's namespaces, where it has some.
+    pub(crate) fn names_of(&self, quota: &Text) -> Option<&[NameSlot]>
+        ensures { option_copied result
+            ≡ option_map (λ held. entries held.names) (row_at self.now.quotas quota.now) }
     {
-        self.quotas.get(quota)
+        match self.quotas.get(quota) {
+            Some(held) => Some(held.names.as_slice()),
+            None => None,
+        }
+    }
+
+    /// The total that is kept of what the quota's namespaces use.
+    pub(crate) fn total_of(&self, quota: &Text) -> Resources
+        ensures { result ≡ total_at self.now quota.now }
+    {
+        match self.quotas.get(quota) {
+            Some(held) => held.total,
+            None => none(),
+        }
     }
 
     /// Makes a table for the quota, unless it is there.
     fn open(&mut self, alloc: Global, quota: &Text) -> Result<(), AllocError>
         ensures same { Keeps holds_at has_room_at self.old self.new }
+        ensures totals { KeepsTotals self.old self.new }
         ensures ok { OnOk result (IsTrue (is_some (row_at self.new.quotas quota.now))) }
     {
         self.quotas.reserve(quota)?;
         if self.quotas.get(quota).is_none() {
-            self.quotas.set(quota, NameTable::new(alloc));
+            self.quotas.set(
+                quota,
+                QuotaUse {
+                    names: NameTable::new(alloc),
+                    total: none(),
+                },
+            );
         }
         Ok(())
     }
@@ -76,11 +103,12 @@ impl QuotaNames {
         namespace: &Text,
     ) -> Result<(), AllocError>
         ensures same { Keeps holds_at has_room_at self.old self.new }
+        ensures totals { KeepsTotals self.old self.new }
         ensures ok { OnOk result (IsTrue (has_room_at self.new (quota.now, namespace.now))) }
     {
         self.open(alloc, quota)?;
-        if let Some(names) = self.quotas.get_mut(quota) {
-            names.reserve(namespace)?;
+        if let Some(held) = self.quotas.get_mut(quota) {
+            held.names.reserve(namespace)?;
         }
         Ok(())
     }
@@ -102,52 +130,81 @@ impl QuotaNames {
         }
     }
 
-    /// Holds the namespace at the quota from now on. It takes no memory.
-    fn insert(&mut self, quota: &Text, namespace: &Text)
+    /// Holds the namespace, which uses this, at the quota from now on. It takes no memory.
+    fn insert(&mut self, quota: &Text, namespace: &Text, used: Resources)
         requires { IsTrue (has_room_at self.old (quota.now, namespace.now)) }
-        ensures { Adds holds_at has_room_at (same_at same_name) (quota.now, namespace.now)
+        ensures held { Adds holds_at has_room_at (same_at same_name) (quota.now, namespace.now)
             self.old self.new }
+        ensures totals { (use_of : Name → Resources) → AreTotals use_of self.old →
+            holds_at self.old (quota.now, namespace.now) ≡ false →
+            IsTotal used (use_of namespace.now) → AreTotals use_of self.new }
     {
-        if let Some(names) = self.quotas.get_mut(quota) {
-            names.set(namespace, ());
+        if let Some(held) = self.quotas.get_mut(quota) {
+            held.names.set(namespace, ());
+            held.total = moved(held.total, none(), used);
         }
     }
 
-    /// Holds the namespace at the quota, if there is one. It takes no memory.
-    fn add(&mut self, namespace: &Text, quota: Option<&Text>)
+    /// Holds the namespace, which names no quota and uses this, at the quota, if there is one. It takes no memory.
+    fn add(&mut self, namespace: &Text, quota: Option<&Text>, used: Resources)
         requires { HasNameRoom self.old namespace.now (option_copied quota) }
-        ensures { AddsName namespace.now (option_copied quota.entry) self.old self.new }
+        ensures { PutsQuota namespace.now None (option_copied quota.entry) used
+            self.old self.new }
     {
         if let Some(quota) = quota {
-            self.insert(quota, namespace);
+            self.insert(quota, namespace, used);
         }
     }
 
-    /// Holds the namespace at the quota no longer. A table goes with its last name. It takes no memory.
-    fn remove(&mut self, quota: &Text, namespace: &Text)
-        ensures { Drops holds_at has_room_at (same_at same_name) (quota.now, namespace.now)
+    /// Holds the namespace, which uses this, at the quota no longer. A table goes with its last name. It takes no memory.
+    fn remove(&mut self, quota: &Text, namespace: &Text, used: Resources)
+        ensures held { Drops holds_at has_room_at (same_at same_name) (quota.now, namespace.now)
             self.old self.new }
+        ensures totals { (use_of : Name → Resources) → AreTotals use_of self.old →
+            holds_at self.old (quota.now, namespace.now) ≡ true →
+            IsTotal used (use_of namespace.now) → AreTotals use_of self.new }
     {
-        let Some(names) = self.quotas.get_mut(quota) else {
+        let Some(held) = self.quotas.get_mut(quota) else {
             return;
         };
-        names.remove(namespace);
-        if names.as_slice().is_empty() {
+        held.names.remove(namespace);
+        held.total = moved(held.total, used, none());
+        if held.names.as_slice().is_empty() {
             self.quotas.remove(quota);
         }
     }
 
-    /// The namespace named `before` and names `after` from now on. It takes no memory.
-    pub(crate) fn put(&mut self, namespace: &Text, before: Option<&Text>, after: Option<&Text>)
+    /// The namespace, which uses this, named `before` and names `after` from now on. It takes no memory.
+    pub(crate) fn put(
+        &mut self,
+        namespace: &Text,
+        before: Option<&Text>,
+        after: Option<&Text>,
+        used: Resources,
+    )
         requires { HasNameRoom self.old namespace.now (option_copied after) }
         ensures { PutsQuota namespace.now (option_copied before.entry)
-            (option_copied after.entry) self.old self.new }
+            (option_copied after.entry) used self.old self.new }
     {
-        self.add(namespace, after);
-        if let Some(quota) = before {
-            if !is_quota(after, quota) {
-                self.remove(quota, namespace);
-            }
+        let Some(quota) = before else {
+            self.add(namespace, after, used);
+            return;
+        };
+        if !is_quota(after, quota) {
+            self.remove(quota, namespace, used);
+            self.add(namespace, after, used);
+        }
+    }
+
+    /// What a namespace uses that names the quota, if any, was `before` and is `after` from now on. It takes no memory.
+    pub(crate) fn put_use(&mut self, quota: Option<&Text>, before: Resources, after: Resources)
+        ensures { PutsUse (option_copied quota.entry) before after self.old self.new }
+    {
+        let Some(quota) = quota else {
+            return;
+        };
+        if let Some(held) = self.quotas.get_mut(quota) {
+            held.total = moved(held.total, before, after);
         }
     }
 }
@@ -172,30 +229,4 @@ pub(crate) fn copied_names(alloc: Global, slots: &[NameSlot]) -> Result<Rows<Tex
         add_name(&mut names, slot)?;
     }
     Ok(names)
-}
-
-fn name_use(tables: &Tables, slot: &NameSlot) -> Resources
-    requires { IsCounted (
-        each_resource (λ amount. name_amount tables.now.tenants amount slot.now)) }
-    ensures { result ≡ each_resource (λ amount. name_amount tables.now.tenants amount slot.now) }
-{
-    if slot.1.is_none() {
-        return none();
-    }
-    match tables.tenants.get(&slot.0) {
-        Some(tenant) => tenant.allocations.live_use(),
-        None => none(),
-    }
-}
-
-/// What the live allocations of those namespaces take together. It looks at none of them. It takes no memory.
-pub(crate) fn names_use(tables: &Tables, names: &Names) -> Resources
-    requires { IsCounted (each_resource (names_amount tables.now.tenants names.now)) }
-    ensures { result ≡ each_resource (names_amount tables.now.tenants names.now) }
-{
-    let mut used = none();
-    for slot in names.as_slice() {
-        used = plus(used, name_use(tables, slot));
-    }
-    used
 }

@@ -2,13 +2,20 @@ use Rattle.std.proofs.Common.{ap, refl, sym, ◌∙◌}
 use Rattle.std.specs.Option.{option_copied_mut}
 use Rattle.ns_types.specs.State.Names.{same_key}
 use Rattle.keyed.specs.Levels.{same_at}
-use Rattle.ns_live.specs.Levels.{holds_on_node, has_node_room}
+use Rattle.ns_live.specs.Levels.{holds_on_node, has_node_room, load_on}
+use Rattle.ns_live.specs.Moving.{part_on}
 use Rattle.ns_live.specs.declared.live.Live.{Live}
 use Rattle.keyed.proofs.Levels.{adds_at}
+use Rattle.ns_live.proofs.LoadLevels.{moved_load}
 use Rattle.ns_live.proofs.live.Live.insert.Goals as goal
 
 pub returns-in-Some-clause-added : goal.returns-in-Some-clause-added
 returns-in-Some-clause-added c = adds_at (λ (s : Live). s.pools) holds_on_node has_node_room c.args.self.now _ c.args.pool.now
     c.in-Some.nodes.now c.insert.new.self
     (sym c.get_mut.ensures.value ∙ ap option_copied_mut c.in-Some.is) refl (same_at same_key) (c.args.node.now, (c.args.namespace.now, c.args.number))
-    c.insert.ensures
+    c.insert.ensures.keys
+
+pub returns-in-Some-clause-loads : goal.returns-in-Some-clause-loads
+returns-in-Some-clause-loads c p n = moved_load load_on c.args.self.now.pools _ c.args.pool.now c.in-Some.nodes.now c.insert.new.self
+    (sym c.get_mut.ensures.value ∙ ap option_copied_mut c.in-Some.is) refl (λ n. part_on c.args.node.now n c.args.before)
+    (λ n. part_on c.args.node.now n c.args.after) p n (c.insert.ensures.loads n)

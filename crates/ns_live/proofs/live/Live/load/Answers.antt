@@ -1,16 +1,15 @@
-use Rattle.std.proofs.Common.{subst, sym, ◌∙◌}
-use Rattle.ns_types.specs.State.Resources.{IsCounted}
-use Rattle.ns_live.proofs.Loaded.{load_is, load_none}
+use Rattle.std.proofs.Common.{ap, sym, ◌∙◌}
+use Rattle.std.specs.Option.{option_copied, option_map_or}
+use Rattle.ns_types.specs.State.Resources.{none}
+use Rattle.ns_live.specs.Levels.{load_on}
+use Rattle.ns_live.specs.declared.pool_keys.PoolKeys.{PoolKeys}
+use Rattle.ns_live.proofs.Loaded.{kept_load}
 use Rattle.ns_live.proofs.live.Live.load.Goals as goal
 
-pub keys_load-requires : goal.keys_load-requires
-keys_load-requires c = subst IsCounted (load_is c.args.tables.now c.args.pool.now c.args.node.now c.in-Some.keys.now
-    (λ key. c.in-Some.ensures key ∙ c.requires.right.index c.args.pool.now c.args.node.now key)) c.requires.fits
-
 pub returns-in-Some : goal.returns-in-Some
-returns-in-Some c = c.keys_load.ensures ∙ sym (load_is c.args.tables.now c.args.pool.now c.args.node.now c.in-Some.keys.now
-    (λ key. c.in-Some.ensures key ∙ c.requires.right.index c.args.pool.now c.args.node.now key))
+returns-in-Some c w right fits = c.load_on.ensures ∙ ap (λ r. option_map_or (λ (its : PoolKeys). load_on its c.args.node.now) r none)
+    (sym (ap option_copied c.in-Some.is) ∙ c.get.ensures) ∙ kept_load w c.args.pool.now c.args.node.now c.args.self.now right fits
 
 pub returns-in-None : goal.returns-in-None
-returns-in-None c = c.none.ensures ∙ sym (load_none c.args.tables.now c.args.pool.now c.args.node.now
-    (λ key. sym (c.requires.right.index c.args.pool.now c.args.node.now key) ∙ sym (c.in-None.ensures key)))
+returns-in-None c w right fits = c.none.ensures ∙ ap (λ r. option_map_or (λ (its : PoolKeys). load_on its c.args.node.now) r none)
+    (sym (ap option_copied c.in-None.is) ∙ c.get.ensures) ∙ kept_load w c.args.pool.now c.args.node.now c.args.self.now right fits

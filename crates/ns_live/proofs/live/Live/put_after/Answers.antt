@@ -22,3 +22,13 @@ returns-then-not-is_beside-clause-names c = c.put_key.ensures.shown.1
 
 pub returns-else-not-is_beside-clause-names : goal.returns-else-not-is_beside-clause-names
 returns-else-not-is_beside-clause-names c = c.put_key.ensures.shown.1
+
+pub returns-then-not-is_beside-clause-index : goal.returns-then-not-is_beside-clause-index
+returns-then-not-is_beside-clause-index c row_of right was =
+    let still = c.put_key.ensures.index row_of right was in
+    record { keys = still.keys; loads = still.loads }
+
+pub returns-else-not-is_beside-clause-index : goal.returns-else-not-is_beside-clause-index
+returns-else-not-is_beside-clause-index c row_of right was =
+    let still = c.put_key.ensures.index row_of right was in
+    record { keys = still.keys; loads = still.loads }

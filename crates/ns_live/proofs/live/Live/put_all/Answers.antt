@@ -1,12 +1,10 @@
-use Rattle.std.specs.Prelude.{false}
 use Rattle.std.proofs.Common.{ap, refl, subst, sym, take, ◌∙◌}
-use Rattle.std.specs.Option.{option_map_or}
 use Rattle.keyed.proofs.Mapped.{take_all}
 use Rattle.ns_types.specs.State.Names.{Key}
-use Rattle.ns_types.specs.State.Rows.{is_live_on}
 use Rattle.ns_live.specs.Index.{Indexes, with_changes, with_row}
 use Rattle.ns_live.specs.Shown.{ShowsUnmoved}
 use Rattle.ns_live.proofs.Changing.{all_changed, begun, changed_rows, one_changed}
+use Rattle.ns_live.proofs.Puts.{indexes_same}
 use Rattle.ns_live.proofs.Unmoved.{unmoved_as}
 use Rattle.ns_live.proofs.live.Live.put_all.Goals as goal
 
@@ -31,10 +29,12 @@ loop-slot-preserved c =
     )
 
 pub returns-clause-index : goal.returns-clause-index
-returns-clause-index c row_of right rows pool node key = c.loop-slot.invariant.0.index row_of right rows pool node key
-    ∙ ap (λ r. option_map_or (is_live_on pool node) r false)
-    (ap (λ xs. changed_rows c.args.namespace.now xs row_of key) (take_all c.as_slice-slot-items.result.now c.loop-slot.slot-index c.loop-slot-test.false)
-    ∙ all_changed c.args.namespace.now c.args.changes.now c.as_slice-slot-items.result.now c.as_slice-slot-items.ensures row_of key)
+returns-clause-index c row_of right rows = indexes_same
+    (changed_rows c.args.namespace.now (take c.loop-slot.slot-index c.as_slice-slot-items.result.now) row_of)
+    (with_changes c.args.namespace.now c.args.changes.now row_of) c.loop-slot.self (c.loop-slot.invariant.0.index row_of right rows)
+    (λ key. sym (ap (λ xs. changed_rows c.args.namespace.now xs row_of key)
+    (take_all c.as_slice-slot-items.result.now c.loop-slot.slot-index c.loop-slot-test.false)
+    ∙ all_changed c.args.namespace.now c.args.changes.now c.as_slice-slot-items.result.now c.as_slice-slot-items.ensures row_of key))
 
 pub returns-clause-names : goal.returns-clause-names
 returns-clause-names c = c.loop-slot.invariant.0.names
