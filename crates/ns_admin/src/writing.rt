@@ -5,7 +5,8 @@ ghost use Rattle.keyed.specs.Table.{row_at};
 ghost use Rattle.ns_admin.specs.Recorded.{Writes, recorded};
 ghost use Rattle.ns_admin.specs.Viewed.{with_namespace_put, with_pool_put, with_quota_put};
 ghost use Rattle.ns_admin.specs.Viewed.{without_namespace};
-ghost use Rattle.ns_live.specs.Naming.{AreNamed, HasNameRoom, KeepsNodes};
+ghost use Rattle.ns_live.specs.Naming.{AreNamed, HasNameRoom, KeepsNodes, namespace_use};
+ghost use Rattle.ns_world.specs.Total.{IsTotal};
 ghost use Rattle.ns_world.specs.World.{world_of};
 
 use crate::namespaces::new_tenant;
@@ -13,6 +14,7 @@ use crate::pools::new_pool;
 use crate::record::RecordChange;
 use ns_live::Live;
 use ns_types::records::{Namespace, Pool, Quota};
+use ns_types::resources::{Resources, none};
 use ns_types::text::Text;
 use ns_world::{QuotaRows, Tables};
 use std::alloc::AllocError;
@@ -33,6 +35,7 @@ fn replace_namespace(tables: &mut Tables, live: &mut Live, name: &Text, namespac
                 name,
                 tenant.namespace.quota.as_ref(),
                 namespace.quota.as_ref(),
+                tenant.allocations.live_total(),
             );
             tenant.namespace = namespace;
             tables.tenants.set(name, tenant);
@@ -61,9 +64,19 @@ fn write_namespace(
     }
     let tenant = new_tenant(tables.alloc, namespace)?;
     tables.tenants.reserve(name)?;
-    live.put_quota(name, None, tenant.namespace.quota.as_ref());
+    live.put_quota(name, None, tenant.namespace.quota.as_ref(), none());
     tables.tenants.set(name, tenant);
     Ok(())
+}
+
+/// The total of what the namespace's live allocations take, where it is there.
+fn use_total(tables: &Tables, name: &Text) -> Resources
+    ensures { IsTotal result (namespace_use (world_of tables.now) name.now) }
+{
+    match tables.tenants.get(name) {
+        Some(tenant) => tenant.allocations.live_total(),
+        None => none(),
+    }
 }
 
 /// Takes the namespace out with all that it has, and holds it at no quota. It takes no memory.
@@ -73,7 +86,8 @@ fn remove_namespace(tables: &mut Tables, live: &mut Live, name: &Text)
     ensures named { AreNamed (world_of tables.old) live.old →
         AreNamed (world_of tables.new) live.new }
 {
-    live.put_quota(name, tables.quota_named(name), None);
+    let used = use_total(tables, name);
+    live.put_quota(name, tables.quota_named(name), None, used);
     tables.tenants.remove(name);
 }
 
@@ -119,9 +133,9 @@ fn write_pool(tables: &mut Tables, name: &Text, pool: Pool) -> Result<(), AllocE
     Ok(())
 }
 
-/// Writes what a command comes to, and which namespaces name which quota stays right in the index. The room of a new owner,
-/// and of a namespace at its quota, comes first, and where memory for it is refused, the tables are as they were, slots and
-/// room too. All else takes no memory.
+/// Writes what a command comes to, and which namespaces name which quota, and what they use, stays right in the index. The
+/// room of a new owner, and of a namespace at its quota, comes first, and where memory for it is refused, the tables are as
+/// they were, slots and room too. All else takes no memory.
 pub fn write(tables: &mut Tables, live: &mut Live, change: RecordChange) -> Result<(), AllocError>
     ensures written { Writes (recorded change) tables.old result tables.new }
     ensures refused { OnErr result (tables.new ≡ tables.old) }

@@ -1,34 +1,39 @@
--- The index of live allocations follows the changes of namespaces, one after another.
+-- The index of live allocations and the totals of quotas follow the changes of namespaces, one after another.
 use Rattle.std.specs.Prelude.{◌≡◌, ℕ, false, if◌then◌else◌, T, IsTrue, List, [], ◌∷◌, Option, Some, None, option_map}
 use Rattle.std.proofs.Common.{refl, sym, ap, ◌∙◌, subst}
 use Rattle.std.specs.FinMap.{FinMap, entries, entries_sorted, get, get-entries}
 use Rattle.std.specs.FinMap.Entries.{find, is_sorted}
-use Rattle.std.specs.Option.{option_and_then, unwrap_or}
+use Rattle.std.specs.Option.{option_and_then, option_map_or, unwrap_or}
 use Rattle.keyed.specs.Over.{over}
 use Rattle.keyed.specs.Table.{flat, row_at, rows}
 use Rattle.keyed.proofs.Tables.{get-rows}
 use Rattle.ns_types.specs.declared.allocation.Allocation.{Allocation}
 use Rattle.ns_types.specs.declared.event.Event.{Event}
 use Rattle.ns_types.specs.State.Lists.{Each}
-use Rattle.ns_types.specs.State.Names.{Name, Key, name_cmp, same_name}
+use Rattle.ns_types.specs.declared.resources.Resources.{Resources}
+use Rattle.ns_types.specs.State.Names.{ByName, Name, Key, name_cmp, same_name}
+use Rattle.ns_types.specs.State.Resources.{none}
 use Rattle.ns_types.specs.State.Rows.{Tenant}
-use Rattle.ns_types.proofs.Named.{names, numbers, one_name}
+use Rattle.ns_types.proofs.Named.{names, numbers, one_name, same_name_refl}
 use Rattle.ns_types.proofs.Tables.{each_row}
 use Rattle.ns_types.proofs.Tests.{not_Some, same_Some}
 use Rattle.ns_change.specs.declared.change.SettledTenant.{SettledTenant}
 use Rattle.ns_change.specs.Changed.{changed_tenant, perhaps}
 use Rattle.ns_change.specs.Settled.{settled_tenant, tell}
-use Rattle.ns_commit.specs.Indexed.{HasIndexRoom, IsRightFor, allocation_in}
+use Rattle.ns_commit.specs.Indexed.{AreKeptFor, HasIndexRoom, IsRightFor, allocation_in, quota_in, use_in}
 use Rattle.ns_commit.specs.Owners.{changed_owners, owners}
 use Rattle.ns_commit.proofs.Owned.{at_each, found_here, found_other, get-changed, get-owners, no_more, none_changed, rest_sorted}
 use Rattle.ns_live.specs.declared.live.Live.{Live}
 use Rattle.ns_live.specs.Index.{HasRoomForAll, Indexes, KeepsKeys, KeepsRoom, has_room, with_changes}
-use Rattle.ns_live.specs.Naming.{KeepsNames}
+use Rattle.ns_live.specs.Naming.{AreKept, KeepsNames, KeepsNodes, PutsUse, with_use}
 use Rattle.ns_live.specs.Shown.{KeepsShown, ShowsUnmoved}
 use Rattle.ns_live.proofs.Changing.{changes_over}
+use Rattle.ns_live.proofs.Kept.{kept_same, kept_then, nodes_index, nodes_room, nodes_shown}
 use Rattle.ns_live.proofs.Puts.{indexes_same}
 use Rattle.ns_live.proofs.Unmoved.{unmoved_as, unmoved_same, unmoved_then}
 use Rattle.ns_world.specs.declared.tables.TenantRows.{TenantRows}
+use Rattle.ns_world.specs.Allocations.{IsTotalOf, rows_use}
+use Rattle.ns_world.specs.Total.{IsTotal}
 use Rattle.ns_world.specs.World.{tenant_of}
 
 abbrev Slots : Type 0
@@ -43,6 +48,20 @@ told_same : (events : Option (List Event)) (t : Tenant) → (perhaps tell events
 told_same None t = refl
 told_same (Some events) t = refl
 
+-- no namespace gets another quota
+quota_kept : (x : FinMap name_cmp (Option SettledTenant)) (m : ByName Tenant) (ns : Name) → quota_in (changed_owners settled_tenant x m) ns ≡ quota_in m ns
+quota_kept x m ns = ap (option_and_then (λ t. t.namespace.quota)) (get-changed settled_tenant x m ns) ∙ by (row_at x ns) (get m ns)
+  where
+    told_the_same : (t : Tenant) (events : Option (List Event)) → (perhaps tell events t).namespace.quota ≡ t.namespace.quota
+    told_the_same t None = refl
+    told_the_same t (Some events) = refl
+
+    by : (r : Option SettledTenant) (t : Option Tenant) →
+        option_and_then (λ t. t.namespace.quota) (option_map (perhaps settled_tenant r) t) ≡ option_and_then (λ t. t.namespace.quota) t
+    by r None = refl
+    by None (Some t) = refl
+    by (Some change) (Some t) = told_the_same (changed_tenant t change.rows) change.events
+
 module _ (changes : FinMap name_cmp (Option SettledTenant)) where
   stand_all : (es : Slots) → es ≡ entries changes → Each (λ e. get changes e.0 ≡ Some e.1) es
   stand_all es is = subst (λ es. Each (λ e. get changes e.0 ≡ Some e.1) es) (sym is)
@@ -53,7 +72,7 @@ module _ (changes : FinMap name_cmp (Option SettledTenant)) where
 
   -- ---- room
 
-  -- no key came or went, and there is room for the changes of namespaces that es does not name
+  -- no key came or went, no load moved, and there is room for the changes of namespaces that es does not name
   pub record Reserving (before live : Live) (es : Slots) : Type 0 where
     pub same : KeepsKeys before live
     pub shown : KeepsShown before live
@@ -62,7 +81,7 @@ module _ (changes : FinMap name_cmp (Option SettledTenant)) where
 
   pub none_made : (live : Live) (es : Slots) → es ≡ entries changes → Reserving live live es
   none_made live es is = record {
-    same = λ pool node key. refl;
+    same = kept_same live;
     shown = (refl, refl);
     stand = stand_all es is;
     room = λ q x none at. absurd (not_Some x (sym (ap flat (found_in es is q ∙ none)) ∙ at));
@@ -78,7 +97,7 @@ module _ (changes : FinMap name_cmp (Option SettledTenant)) where
     pub one_made : (now : Live) (x : SettledTenant) → slot ≡ Some x → KeepsKeys live now → KeepsShown live now → KeepsRoom live now →
         HasRoomForAll now k x.rows.allocations → Reserving before now rest
     one_made now x some same shown room made = record {
-      same = λ pool node key. same pool node key ∙ h.same pool node key;
+      same = kept_then before live now h.same same;
       shown = (shown.0 ∙ h.shown.0, shown.1 ∙ h.shown.1);
       stand = stand.1;
       room = at_each (λ q. (y : SettledTenant) → find name_cmp q rest ≡ None → row_at changes q ≡ Some y → HasRoomForAll now q y.rows.allocations) k
@@ -134,7 +153,47 @@ module _ (changes : FinMap name_cmp (Option SettledTenant)) where
     old_at : (k : Name) (row : TenantRows) → row_at stored k ≡ Some row → (n : ℕ) → old (k, n) ≡ row_at row.allocations.slots n
     old_at k row at n = ap (of n) (tenant_at k row at) ∙ get-rows numbers row.allocations.slots n
 
+    -- ---- what namespaces use
+
+    abbrev pub quota_now : Name → Option Name
+    quota_now = quota_in (owners tenant_of stored)
+
+    abbrev old_use : Name → Resources
+    old_use = use_in (owners tenant_of stored)
+
+    abbrev new_use : Name → Resources
+    new_use = use_in (changed_owners settled_tenant changes (owners tenant_of stored))
+
+    abbrev use_of : Option Tenant → Resources
+    use_of t = option_map_or (λ t. rows_use t.allocations) t none
+
+    new_use_at : (ns : Name) → new_use ns ≡ use_of (option_map (perhaps settled_tenant (row_at changes ns)) (get (owners tenant_of stored) ns))
+    new_use_at ns = ap use_of (get-changed settled_tenant changes (owners tenant_of stored) ns)
+
+    unchanged_use : (ns : Name) → row_at changes ns ≡ None → new_use ns ≡ old_use ns
+    unchanged_use ns missing = new_use_at ns
+        ∙ ap (λ x. use_of (option_map (perhaps settled_tenant x) (get (owners tenant_of stored) ns))) missing
+        ∙ ap use_of (none_changed settled_tenant (get (owners tenant_of stored) ns))
+
+    nowhere_use : (ns : Name) → row_at stored ns ≡ None → new_use ns ≡ old_use ns
+    nowhere_use ns missing =
+        let gone : get (owners tenant_of stored) ns ≡ None = get-owners tenant_of stored ns ∙ ap (option_map tenant_of) missing in
+        new_use_at ns ∙ ap (λ t. use_of (option_map (perhaps settled_tenant (row_at changes ns)) t)) gone ∙ sym (ap use_of gone)
+
+    changed_use : (k : Name) (x : SettledTenant) (row : TenantRows) → row_at changes k ≡ Some x → row_at stored k ≡ Some row →
+        new_use k ≡ rows_use (over (rows row.allocations.slots) x.rows.allocations)
+    changed_use k x row is at = new_use_at k
+        ∙ (λ i. use_of (option_map (perhaps settled_tenant (is i)) (tenant_at k row at i)))
+        ∙ ap rows_use (told_same x.events (changed_tenant (tenant_of row) x.rows))
+
     -- the changes of namespaces that es names are still to come
+    abbrev pub use_time : Option (Option SettledTenant) → Name → Resources
+    use_time None ns = new_use ns
+    use_time (Some slot) ns = old_use ns
+
+    abbrev pub uses_now : Slots → Name → Resources
+    uses_now es ns = use_time (find name_cmp ns es) ns
+
     abbrev pub in_time : Option (Option SettledTenant) → Key → Option Allocation
     in_time None key = new key
     in_time (Some slot) key = old key
@@ -145,7 +204,7 @@ module _ (changes : FinMap name_cmp (Option SettledTenant)) where
     pub record Following (before live : Live) (es : Slots) : Type 0 where
       pub index : IsRightFor (owners tenant_of stored) before → Indexes (rows_now es) live
       pub shown : ShowsUnmoved old (rows_now es) before live
-      pub names : KeepsNames before live
+      pub quotas : AreKeptFor (owners tenant_of stored) before → AreKept quota_now (uses_now es) live.quotas
       pub sorted : T (is_sorted name_cmp es)
       pub stand : Each (λ e. get changes e.0 ≡ Some e.1) es
       pub room : (q : Name) (x : SettledTenant) → flat (find name_cmp q es) ≡ Some x → HasRoomForAll live q x.rows.allocations
@@ -154,7 +213,7 @@ module _ (changes : FinMap name_cmp (Option SettledTenant)) where
     begun live es is room = record {
       index = λ right. indexes_same old (rows_now es) live right (λ key. by key (find name_cmp key.0 es) refl);
       shown = unmoved_same old (rows_now es) live live refl (λ key. by key (find name_cmp key.0 es) refl);
-      names = refl;
+      quotas = λ right. subst (λ uses. AreKept quota_now uses live.quotas) (λ i ns. as_used ns (find name_cmp ns es) refl i) right;
       sorted = subst (λ es. T (is_sorted name_cmp es)) (sym is) (entries_sorted changes);
       stand = stand_all es is;
       room = λ q x at. room q x (ap flat (found_in es is q) ∙ at);
@@ -163,6 +222,15 @@ module _ (changes : FinMap name_cmp (Option SettledTenant)) where
         by : (key : Key) (r : Option (Option SettledTenant)) → find name_cmp key.0 es ≡ r → in_time r key ≡ old key
         by key (Some slot) at = refl
         by key None at = unchanged_at key (ap flat (found_in es is key.0 ∙ at))
+
+        as_used : (ns : Name) (r : Option (Option SettledTenant)) → find name_cmp ns es ≡ r → old_use ns ≡ use_time r ns
+        as_used ns (Some slot) at = refl
+        as_used ns None at = sym (unchanged_use ns (ap flat (found_in es is ns ∙ at)))
+
+    pub all_kept : (before live : Live) (es : Slots) → es ≡ [] → Following before live es → AreKeptFor (owners tenant_of stored) before →
+        AreKeptFor (changed_owners settled_tenant changes (owners tenant_of stored)) live
+    all_kept before live es is h right = subst (λ quotas. AreKept quotas new_use live.quotas)
+        (λ i ns. sym (quota_kept changes (owners tenant_of stored) ns) i) (subst (λ es. AreKept quota_now (uses_now es) live.quotas) is (h.quotas right))
 
     pub all_followed : (before live : Live) (es : Slots) → es ≡ [] → Following before live es → IsRightFor (owners tenant_of stored) before →
         IsRightFor (changed_owners settled_tenant changes (owners tenant_of stored)) live
@@ -189,55 +257,84 @@ module _ (changes : FinMap name_cmp (Option SettledTenant)) where
       others : (key : Key) → same_name key.0 k ≡ false → rows_now rest key ≡ rows_now es key
       others key e = ap (λ r. in_time r key) (sym (found_other k slot es rest is key.0 e))
 
+      other_uses : (ns : Name) → same_name ns k ≡ false → uses_now es ns ≡ uses_now rest ns
+      other_uses ns e = ap (λ r. use_time r ns) (found_other k slot es rest is ns e)
+
       pub room_now : (x : SettledTenant) → slot ≡ Some x → HasRoomForAll live k x.rows.allocations
       room_now x some = h.room k x (ap flat here ∙ some)
 
       -- no row of the namespace changes
-      stays : ((n : ℕ) → new (k, n) ≡ old (k, n)) → Following before live rest
-      stays alike = record {
+      stays : ((n : ℕ) → new (k, n) ≡ old (k, n)) → new_use k ≡ old_use k → Following before live rest
+      stays alike used = record {
         index = λ right. indexes_same (rows_now es) (rows_now rest) live (h.index right) as_now;
         shown = unmoved_as old (rows_now es) (rows_now rest) before live as_now h.shown;
-        names = h.names;
+        quotas = λ right. subst (λ uses. AreKept quota_now uses live.quotas) (λ i ns. as_used ns i) (h.quotas right);
         sorted = rest_sorted k slot es rest is h.sorted;
         stand = standing.1;
         room = λ q x at. h.room q x (later q x at).1;
       }
         where
+          as_used : (ns : Name) → uses_now es ns ≡ uses_now rest ns
+          as_used = at_each (λ ns. uses_now es ns ≡ uses_now rest ns) k
+              (ap (λ r. use_time r k) here ∙ sym used ∙ sym (ap (λ r. use_time r k) over_now)) other_uses
+
           as_now : (key : Key) → rows_now rest key ≡ rows_now es key
           as_now = at_keys (λ key. rows_now rest key ≡ rows_now es key) k
               (λ n. ap (λ r. in_time r (k, n)) over_now ∙ alike n ∙ sym (ap (λ r. in_time r (k, n)) here)) others
 
       pub nothing_changes : (now : Live) → slot ≡ None → now ≡ live → Following before now rest
       nothing_changes now none same = subst (λ live. Following before live rest) (sym same)
-          (stays (λ n. unchanged_at (k, n) (ap flat standing.0 ∙ none)))
+          (stays (λ n. unchanged_at (k, n) (ap flat standing.0 ∙ none)) (unchanged_use k (ap flat standing.0 ∙ none)))
 
       pub nothing_there : (now : Live) → row_at stored k ≡ None → now ≡ live → Following before now rest
-      nothing_there now none same = subst (λ live. Following before live rest) (sym same) (stays (λ n. nowhere_at (k, n) none))
+      nothing_there now none same = subst (λ live. Following before live rest) (sym same) (stays (λ n. nowhere_at (k, n) none) (nowhere_use k none))
 
-      pub one_followed : (now : Live) (x : SettledTenant) (row : TenantRows) → slot ≡ Some x → row_at stored k ≡ Some row →
-          ((row_of : Key → Option Allocation) → Indexes row_of live → ((n : ℕ) → row_of (k, n) ≡ row_at row.allocations.slots n) →
-          Indexes (with_changes k x.rows.allocations row_of) now) →
-          ((row_of : Key → Option Allocation) → ((n : ℕ) → row_of (k, n) ≡ row_at row.allocations.slots n) →
-          ShowsUnmoved row_of (with_changes k x.rows.allocations row_of) live now) → KeepsNames live now →
-          ((pool node : Name) (key : Key) → same_name key.0 k ≡ false → IsTrue (has_room live pool node key) → IsTrue (has_room now pool node key)) →
-          Following before now rest
-      one_followed now x row some at index shown names room = record {
-        index = λ right. indexes_same (with_changes k x.rows.allocations (rows_now es)) (rows_now rest) now (index (rows_now es) (h.index right) earlier)
-            as_changed;
-        shown = unmoved_as old (with_changes k x.rows.allocations (rows_now es)) (rows_now rest) before now as_changed
-            (unmoved_then old (rows_now es) (with_changes k x.rows.allocations (rows_now es)) before live now h.shown (shown (rows_now es) earlier));
-        names = names ∙ h.names;
-        sorted = rest_sorted k slot es rest is h.sorted;
-        stand = standing.1;
-        room = λ q y found n r there lives.
-            let both = later q y found in room r.pool r.node (q, n) both.0 (h.room q y both.1 n r there lives);
-      }
-        where
-          earlier : (n : ℕ) → rows_now es (k, n) ≡ row_at row.allocations.slots n
-          earlier n = ap (λ r. in_time r (k, n)) here ∙ old_at k row at n
+      module _ (mid now : Live) (x : SettledTenant) (row : TenantRows) (some : slot ≡ Some x) (at : row_at stored k ≡ Some row) where
+        earlier : (n : ℕ) → rows_now es (k, n) ≡ row_at row.allocations.slots n
+        earlier n = ap (λ r. in_time r (k, n)) here ∙ old_at k row at n
 
-          as_changed : (key : Key) → rows_now rest key ≡ with_changes k x.rows.allocations (rows_now es) key
-          as_changed = at_keys (λ key. rows_now rest key ≡ with_changes k x.rows.allocations (rows_now es) key) k
-              (λ n. ap (λ r. in_time r (k, n)) over_now ∙ changed_at k x row (ap flat standing.0 ∙ some) at n
-              ∙ sym (changes_over k row.allocations.slots x.rows.allocations (rows_now es) earlier n))
-              (λ key e. others key e ∙ sym (ap (λ b. if b then unwrap_or (get x.rows.allocations key.1) (rows_now es key) else rows_now es key) e))
+        as_changed : (key : Key) → rows_now rest key ≡ with_changes k x.rows.allocations (rows_now es) key
+        as_changed = at_keys (λ key. rows_now rest key ≡ with_changes k x.rows.allocations (rows_now es) key) k
+            (λ n. ap (λ r. in_time r (k, n)) over_now ∙ changed_at k x row (ap flat standing.0 ∙ some) at n
+            ∙ sym (changes_over k row.allocations.slots x.rows.allocations (rows_now es) earlier n))
+            (λ key e. others key e ∙ sym (ap (λ b. if b then unwrap_or (get x.rows.allocations key.1) (rows_now es key) else rows_now es key) e))
+
+        abbrev used : Resources
+        used = rows_use (over (rows row.allocations.slots) x.rows.allocations)
+
+        -- what the namespace uses is moved with its rows
+        use_followed : KeepsNames live mid → (quota : Option Name) → quota ≡ row.namespace.quota → (gone come : Resources) →
+            IsTotalOf gone row.allocations.slots → IsTotal come used → PutsUse quota gone come mid.quotas now.quotas →
+            AreKeptFor (owners tenant_of stored) before → AreKept quota_now (uses_now rest) now.quotas
+        use_followed names quota its gone come was come_is put right = subst (λ uses. AreKept quota_now uses now.quotas) (λ i ns. as_used ns i)
+            (put quota_now (uses_now es) (subst (AreKept quota_now (uses_now es)) (sym names) (h.quotas right)) k
+            (ap (option_and_then (λ (t : Tenant). t.namespace.quota)) (tenant_at k row at) ∙ sym its)
+            (subst (IsTotal gone) (sym (ap (λ r. use_time r k) here ∙ ap use_of (tenant_at k row at))) was) used come_is)
+          where
+            as_used : (ns : Name) → with_use k used (uses_now es) ns ≡ uses_now rest ns
+            as_used = at_each (λ ns. with_use k used (uses_now es) ns ≡ uses_now rest ns) k
+                (ap (λ b. if b then used else uses_now es k) (same_name_refl k)
+                ∙ sym (ap (λ r. use_time r k) over_now ∙ changed_use k x row (ap flat standing.0 ∙ some) at))
+                (λ ns e. ap (λ b. if b then used else uses_now es ns) e ∙ other_uses ns e)
+
+        pub one_followed :
+            ((row_of : Key → Option Allocation) → Indexes row_of live → ((n : ℕ) → row_of (k, n) ≡ row_at row.allocations.slots n) →
+            Indexes (with_changes k x.rows.allocations row_of) mid) →
+            ((row_of : Key → Option Allocation) → ((n : ℕ) → row_of (k, n) ≡ row_at row.allocations.slots n) →
+            ShowsUnmoved row_of (with_changes k x.rows.allocations row_of) live mid) → KeepsNames live mid →
+            ((pool node : Name) (key : Key) → same_name key.0 k ≡ false → IsTrue (has_room live pool node key) → IsTrue (has_room mid pool node key)) →
+            KeepsNodes mid now → (quota : Option Name) → quota ≡ row.namespace.quota → (gone come : Resources) →
+            IsTotalOf gone row.allocations.slots → IsTotal come used → PutsUse quota gone come mid.quotas now.quotas → Following before now rest
+        one_followed index shown names room nodes quota its gone come was come_is put = record {
+          index = λ right. indexes_same (with_changes k x.rows.allocations (rows_now es)) (rows_now rest) now
+              (nodes_index mid now nodes (with_changes k x.rows.allocations (rows_now es)) (index (rows_now es) (h.index right) earlier)) as_changed;
+          shown = unmoved_as old (with_changes k x.rows.allocations (rows_now es)) (rows_now rest) before now as_changed
+              (unmoved_then old (rows_now es) (with_changes k x.rows.allocations (rows_now es)) before live now h.shown
+              (nodes_shown mid now nodes live (rows_now es) (with_changes k x.rows.allocations (rows_now es)) (shown (rows_now es) earlier)));
+          quotas = use_followed names quota its gone come was come_is put;
+          sorted = rest_sorted k slot es rest is h.sorted;
+          stand = standing.1;
+          room = λ q y found n r there lives.
+              let both = later q y found in
+              nodes_room mid now nodes r.pool r.node (q, n) (room r.pool r.node (q, n) both.0 (h.room q y both.1 n r there lives));
+        }

@@ -16,6 +16,7 @@ use Rattle.ns_live.specs.declared.live.Live.{Live}
 use Rattle.ns_live.specs.Index.{KeepsKeys}
 use Rattle.ns_live.specs.Naming.{KeepsNames}
 use Rattle.ns_live.specs.Shown.{ForgetsNodes, shown_at}
+use Rattle.ns_live.proofs.Kept.{kept_same, kept_then}
 
 abbrev Slots : Type 0
 Slots = List (Name × Option PoolChange)
@@ -31,14 +32,14 @@ pub record IsForgetting (old now : Live) (done : Slots) : Type 0 where
       (shown_at old pool name ≡ Some node) × Each (IsOther pool name) done
 
 pub begun : (live : Live) → IsForgetting live live []
-begun live = record { keys = λ pool name key. refl; names = refl; shown = λ pool name node is. (is, tt) }
+begun live = record { keys = kept_same live; names = refl; shown = λ pool name node is. (is, tt) }
 
 module _ (slots : Slots) (i : ℕ) (e : Name × Option PoolChange) (lt : i < length slots) (is : e ≡ get_or slots i e) (old now : Live)
     (h : IsForgetting old now (take i slots)) where
   one_more : (new : Live) → KeepsKeys now new → KeepsNames now new → ((pool name : Name) (node : PoolNode) → shown_at new pool name ≡ Some node →
       (shown_at now pool name ≡ Some node) × IsOther pool name e) → IsForgetting old new (take (i + 1) slots)
   one_more new keys names forgets = record {
-    keys = λ pool name key. keys pool name key ∙ h.keys pool name key;
+    keys = kept_then old now new h.keys keys;
     names = names ∙ h.names;
     shown = λ pool name node at.
         let g = forgets pool name node at in
@@ -57,7 +58,7 @@ module _ (slots : Slots) (i : ℕ) (e : Name × Option PoolChange) (lt : i < len
 
   pub none_forgotten : (new : Live) → e.1 ≡ None → new ≡ now → IsForgetting old new (take (i + 1) slots)
   none_forgotten new none stays = subst (λ live. IsForgetting old live (take (i + 1) slots)) (sym stays)
-      (one_more now (λ pool name key. refl) refl (λ pool name node at. (at, λ y there own. absurd (not_Some y (sym none ∙ there)))))
+      (one_more now (kept_same now) refl (λ pool name node at. (at, λ y there own. absurd (not_Some y (sym none ∙ there)))))
 
 other_all : (pool name : Name) (es : Slots) → Each (IsOther pool name) es → (x : PoolChange) → flat (find name_cmp pool es) ≡ Some x →
     get x.nodes name ≡ None

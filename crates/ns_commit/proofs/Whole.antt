@@ -20,18 +20,19 @@ use Rattle.ns_types.proofs.Tests.{not_Some, same_Some}
 use Rattle.ns_change.specs.declared.change.PoolChange.{PoolChange}
 use Rattle.ns_change.specs.declared.change.Settled.{Settled}
 use Rattle.ns_change.specs.declared.change.SettledTenant.{SettledTenant}
-use Rattle.ns_change.specs.Changed.{changed_list, changed_pool, changed_quota, changed_tenant, perhaps}
-use Rattle.ns_change.specs.Settled.{classes_in, settled_tenant, settled_world, tell}
+use Rattle.ns_change.specs.Changed.{changed_list, changed_pool, changed_quota, perhaps}
+use Rattle.ns_change.specs.Settled.{classes_in, settled_tenant, settled_world}
 use Rattle.ns_commit.specs.Committed.{CanRise, CanTell, Fits, HasNodeRoom, HaveClassRoom, KeepsNodes, settled_quotas}
 use Rattle.ns_commit.specs.Committed.{numbered_pools, raised_pool, raised_quota, released_quotas, releases, settled_pools, with_classes}
-use Rattle.ns_commit.specs.Indexed.{ForgetsChanged, IsRightFor, allocation_in}
+use Rattle.ns_commit.specs.Indexed.{AreKeptFor, ForgetsChanged, IsRightFor, allocation_in, quota_in, use_in}
 use Rattle.ns_commit.specs.Owners.{EachChanged, changed_owners, owners}
 use Rattle.ns_commit.proofs.Owned.{get-changed, get-owners}
 use Rattle.ns_commit.proofs.Reserved.{is_some_class, releases_is}
 use Rattle.ns_live.specs.declared.live.Live.{Live}
 use Rattle.ns_live.specs.Index.{IsRight, KeepsKeys}
-use Rattle.ns_live.specs.Naming.{KeepsNames, holds_at, is_quota}
+use Rattle.ns_live.specs.Naming.{AreKept, KeepsNames}
 use Rattle.ns_live.specs.Shown.{KeepsShown, ShowsUnmoved, live_row, shown_in}
+use Rattle.ns_live.proofs.Kept.{index_kept}
 use Rattle.ns_live.proofs.Unmoved.{shown_still, still_right}
 use Rattle.ns_world.specs.declared.tables.PoolRows.{PoolRows}
 use Rattle.ns_world.specs.declared.tables.QuotaRows.{QuotaRows}
@@ -196,31 +197,19 @@ node_kept x rooms m pool name idle = ap (option_and_then (λ p. get p.nodes name
     by (Some p) = ap (λ nodes. get nodes name) (released_nodes (classes_in pool rooms) (perhaps changed_pool (row_at x pool) p))
         ∙ unchanged p (row_at x pool) refl
 
--- no namespace gets another quota
-quota_kept : (x : FinMap name_cmp (Option SettledTenant)) (m : ByName Rows.Tenant) (ns : Name) →
-    option_and_then (λ t. t.namespace.quota) (get (changed_owners settled_tenant x m) ns) ≡ option_and_then (λ t. t.namespace.quota) (get m ns)
-quota_kept x m ns = ap (option_and_then (λ t. t.namespace.quota)) (get-changed settled_tenant x m ns) ∙ by (row_at x ns) (get m ns)
-  where
-    told_the_same : (t : Rows.Tenant) (events : Option (List Event)) → (perhaps tell events t).namespace.quota ≡ t.namespace.quota
-    told_the_same t None = refl
-    told_the_same t (Some events) = refl
-
-    by : (r : Option SettledTenant) (t : Option Rows.Tenant) →
-        option_and_then (λ t. t.namespace.quota) (option_map (perhaps settled_tenant r) t) ≡ option_and_then (λ t. t.namespace.quota) t
-    by r None = refl
-    by None (Some t) = refl
-    by (Some change) (Some t) = told_the_same (changed_tenant t change.rows) change.events
-
 pub index_is : (s : Settled) (old new : Tables) (before mid live : Live) →
     owners tenant_of new.tenants ≡ changed_owners settled_tenant s.tenants (owners tenant_of old.tenants) →
     owners pool_of new.pools ≡ settled_pools s.pools s.rooms (owners pool_of old.pools) →
     (IsRightFor (owners tenant_of old.tenants) before → IsRightFor (changed_owners settled_tenant s.tenants (owners tenant_of old.tenants)) mid) →
     ShowsUnmoved (allocation_in (owners tenant_of old.tenants)) (allocation_in (changed_owners settled_tenant s.tenants (owners tenant_of old.tenants)))
-    before mid → KeepsNames before mid → KeepsKeys mid live → ForgetsChanged s.pools mid live → KeepsNames mid live →
+    before mid → (AreKeptFor (owners tenant_of old.tenants) before →
+    AreKeptFor (changed_owners settled_tenant s.tenants (owners tenant_of old.tenants)) mid) →
+    KeepsKeys mid live → ForgetsChanged s.pools mid live → KeepsNames mid live →
     IsRight (world_of old) before → IsRight (world_of new) live
 unfolding world_of
-index_is s old new before mid live rows pools followed unmoved same keys forgets still right = record {
-  index = subst (λ tenants. IsRightFor tenants live) (sym rows) (λ pool node key. keys pool node key ∙ followed right.index pool node key);
+index_is s old new before mid live rows pools followed unmoved kept keys forgets still right = record {
+  index = subst (λ tenants. IsRightFor tenants live) (sym rows) (index_kept (allocation_in (changed_owners settled_tenant s.tenants
+      (owners tenant_of old.tenants))) mid live keys (followed right.index));
   shown = shown_still (world_of old) (world_of new) before live right (λ pool name node is.
       let g = forgets pool name node is in
       let h = unmoved pool name node g.0 in (
@@ -230,8 +219,9 @@ index_is s old new before mid live rows pools followed unmoved same keys forgets
           ap (λ m. option_and_then (λ p. get p.nodes name) (get m pool)) pools ∙ node_kept s.pools s.rooms (owners pool_of old.pools) pool name g.1,
         ),
       ));
-  quotas = λ quota ns. ap (λ held. holds_at held (quota, ns)) (still ∙ same) ∙ right.quotas quota ns ∙ ap (λ r. is_quota r quota)
-      (sym (ap (λ m. option_and_then (λ (t : Rows.Tenant). t.namespace.quota) (get m ns)) rows ∙ quota_kept s.tenants (owners tenant_of old.tenants) ns));
+  quotas = subst (λ tenants. AreKeptFor tenants live) (sym rows)
+      (subst (AreKept (quota_in (changed_owners settled_tenant s.tenants (owners tenant_of old.tenants)))
+      (use_in (changed_owners settled_tenant s.tenants (owners tenant_of old.tenants)))) (sym still) (kept right.quotas));
 }
 
 pub index_stays : (old new : Tables) (before live : Live) → world_of new ≡ world_of old → KeepsKeys before live → KeepsShown before live →

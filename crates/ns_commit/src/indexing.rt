@@ -1,8 +1,8 @@
-//! The index of live allocations follows what changes of namespaces, and nodes that change are not shown any more.
+//! The index of live allocations and the totals of quotas follow what changes of namespaces, and nodes that change are not shown any more.
 
 ghost use Rattle.std.specs.Prelude.{OnOk};
 ghost use Rattle.ns_change.specs.Settled.{settled_tenant};
-ghost use Rattle.ns_commit.specs.Indexed.{ForgetsChanged, HasIndexRoom, IsRightFor, allocation_in};
+ghost use Rattle.ns_commit.specs.Indexed.{AreKeptFor, ForgetsChanged, HasIndexRoom, IsRightFor, allocation_in};
 ghost use Rattle.ns_commit.specs.Owners.{changed_owners, owners};
 ghost use Rattle.ns_live.specs.Index.{KeepsKeys};
 ghost use Rattle.ns_live.specs.Naming.{KeepsNames};
@@ -32,8 +32,8 @@ pub(crate) fn reserve_index(
     Ok(())
 }
 
-/// Where the index is right for the namespaces of the table, it is so for them as changed from now on. A node on which a
-/// changed row is live, before or after, is not shown any more. It takes no memory.
+/// Where the index is right for the namespaces of the table, it is so for them as changed from now on, and so are the totals
+/// of quotas. A node on which a changed row is live, before or after, is not shown any more. It takes no memory.
 pub(crate) fn commit_index(
     live: &mut Live,
     table: &OwnerTable<TenantRows>,
@@ -46,12 +46,21 @@ pub(crate) fn commit_index(
     ensures shown { let before = owners tenant_of table.now in
         let after = changed_owners settled_tenant changes.now before in
         ShowsUnmoved (allocation_in before) (allocation_in after) live.old live.new }
-    ensures names { KeepsNames live.old live.new }
+    ensures quotas { AreKeptFor (owners tenant_of table.now) live.old →
+        AreKeptFor (changed_owners settled_tenant changes.now (owners tenant_of table.now))
+        live.new }
 {
     for slot in changes.as_slice() {
         if let Some(change) = &slot.1 {
             if let Some(tenant) = table.get(&slot.0) {
-                live.put_all(&slot.0, tenant.allocations.rows(), &change.rows.allocations);
+                let allocations = &tenant.allocations;
+                let changed = &change.rows.allocations;
+                live.put_all(&slot.0, allocations.rows(), changed);
+                live.put_use(
+                    tenant.namespace.quota.as_ref(),
+                    allocations.live_total(),
+                    allocations.total_with(changed),
+                );
             }
         }
     }

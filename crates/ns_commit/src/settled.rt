@@ -49,7 +49,7 @@ fn clear(tables: &mut Tables, settled: &Settled)
 }
 
 /// Makes room for all that a settled step changes. Want of memory is the only error: then no changed row of a namespace, nor
-/// node, has a vacant slot; room of lists and of the index may be left. The world, the keys of the index and what is shown stay.
+/// node, has a vacant slot; room of lists and of the index may be left. The world, what the index holds and what is shown stay.
 pub fn reserve(tables: &mut Tables, live: &mut Live, settled: &Settled) -> Result<(), AllocError>
     requires { Fits (world_of tables.old) settled.now }
     ensures world { world_of tables.new ≡ world_of tables.old }

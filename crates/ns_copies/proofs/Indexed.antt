@@ -5,12 +5,13 @@ use Rattle.std.specs.FinMap.{empty, entries, get, get-empty, get-entries}
 use Rattle.std.specs.FinMap.Entries.{find, is_sorted}
 use Rattle.std.specs.Option.{option_and_then, option_map_or}
 use Rattle.std.specs.Ordering.{nat_cmp}
-use Rattle.keyed.specs.Levels.{at_name}
 use Rattle.keyed.specs.Table.{flat, row_at}
 use Rattle.keyed.proofs.Ordered.{absent, below_tied}
 use Rattle.keyed.proofs.Tables.{get-rows}
 use Rattle.ns_types.specs.declared.allocation.Allocation.{Allocation}
 use Rattle.ns_types.specs.declared.snapshot.PoolNode.{PoolNode}
+use Rattle.ns_types.specs.declared.resources.Resources.{Resources}
+use Rattle.ns_types.specs.State.Resources.{none}
 use Rattle.ns_types.specs.State.Names.{ByNumber, Key, Name, name_cmp, same_name}
 use Rattle.ns_types.specs.State.Rows.{allocation_at, is_live_on}
 use Rattle.ns_types.specs.Working.Commit.{quota_named}
@@ -20,9 +21,14 @@ use Rattle.ns_types.proofs.Tables.{equal_by}
 use Rattle.ns_types.proofs.Tests.{first, not_Some, second}
 use Rattle.ns_live.specs.declared.live.Live.{Live}
 use Rattle.ns_live.specs.Index.{Indexes, IsEmpty, IsRight, KeepsKeys, with_changes}
-use Rattle.ns_live.specs.Levels.{holds_on_node}
-use Rattle.ns_live.specs.Naming.{AreNames, HoldsSame, KeepsNames, KeepsNodes, PutsQuota, holds_at, is_quota}
-use Rattle.ns_live.specs.Shown.{KeepsShown, ShowsUnmoved, shown_at, shown_in}
+use Rattle.ns_live.specs.Naming.{AreKept, HoldsSame, KeepsNames, KeepsNodes, PutsQuota, is_quota, namespace_use}
+use Rattle.ns_live.specs.Shown.{KeepsShown, ShowsUnmoved, live_row, shown_at, shown_in}
+use Rattle.ns_live.proofs.Kept.{index_kept, pools_kept}
+use Rattle.ns_live.proofs.PutLoads.{empty_indexes}
+use Rattle.ns_live.proofs.Puts.{indexes_same}
+use Rattle.ns_live.proofs.Totals.{kept_same, total_free}
+use Rattle.ns_world.specs.Allocations.{IsTotalOf, live_use, rows_use}
+use Rattle.ns_world.specs.Total.{IsTotal}
 use Rattle.ns_world.specs.declared.tables.Tables.{Tables}
 use Rattle.ns_world.specs.declared.tables.TenantRows.{TenantRows}
 use Rattle.ns_world.specs.World.{tenant_of, world_of}
@@ -54,18 +60,29 @@ quota_in slot = option_and_then (λ t. t.namespace.quota) slot
 abbrev quotas_but : Slots → Slots → Name → Option Name
 quotas_but = but quota_in
 
+-- what its live allocations take together
+abbrev use_at : Option TenantRows → Resources
+use_at slot = option_map_or (λ t. live_use t.allocations.slots) slot none
+
+abbrev uses_in : Slots → Name → Resources
+uses_in slots ns = use_at (flat (find name_cmp ns slots))
+
 pub record IsIndexing (live : Live) (rest slots : Slots) : Type 0 where
   pub index : Indexes (rows_but rest slots) live
   pub shown : (pool name : Name) → shown_at live pool name ≡ None
-  pub quotas : AreNames (quotas_but rest slots) live.quotas
+  pub quotas : AreKept (quotas_but rest slots) (uses_in slots) live.quotas
   pub sorted : T (is_sorted name_cmp rest)
   pub found : (k : Name) → is_some (find name_cmp k rest) ≡ true → find name_cmp k slots ≡ find name_cmp k rest
 
 pub none_indexed : (live : Live) (slots : Slots) → T (is_sorted name_cmp slots) → IsEmpty live → IsIndexing live slots slots
-none_indexed live slots sorted none = record {
-  index = λ pool node key. none.keys pool node key ∙ by pool node key.1 (find name_cmp key.0 slots);
-  shown = none.shown;
-  quotas = λ quota ns. none.names quota ns ∙ unnamed quota (find name_cmp ns slots);
+none_indexed live slots sorted nothing = record {
+  index = empty_indexes (rows_but slots slots) live (λ pool node key. nothing.keys pool node key ∙ by pool node key.1 (find name_cmp key.0 slots))
+      nothing.loads (λ pool node key. dead pool node key.1 (find name_cmp key.0 slots));
+  shown = nothing.shown;
+  quotas = record {
+    names = λ quota ns. nothing.names quota ns ∙ unnamed quota (find name_cmp ns slots);
+    totals = λ quota. total_free (uses_in slots) live.quotas quota (nothing.names quota) (nothing.totals quota);
+  };
   sorted = sorted;
   found = λ k is. refl;
 }
@@ -78,6 +95,10 @@ none_indexed live slots sorted none = record {
         ≡ option_map_or (is_live_on pool node) (cond (is_some r) None (row_in (flat r) n)) false
     by pool node n None = refl
     by pool node n (Some slot) = refl
+
+    dead : (pool node : Name) (n : ℕ) (r : Option (Option TenantRows)) → live_row pool node (cond (is_some r) None (row_in (flat r) n)) ≡ None
+    dead pool node n None = refl
+    dead pool node n (Some slot) = refl
 
 module _ (x : Name × Option TenantRows) (rest left slots : Slots) (is : rest ≡ x ∷ left) (old : Live) (h : IsIndexing old rest slots) where
   rises : T (is_sorted name_cmp (x ∷ left))
@@ -138,10 +159,11 @@ module _ (x : Name × Option TenantRows) (rest left slots : Slots) (is : rest �
   -- a vacant slot has no rows
   pub slot_passed : (new : Live) → x.1 ≡ None → new ≡ old → IsIndexing new left slots
   slot_passed new none same = subst (λ live. IsIndexing live left slots) (sym same) (record {
-    index = λ pool node key. h.index pool node key ∙ ap (λ r. option_map_or (is_live_on pool node) r false)
-        (still_as (λ slot. row_in slot key.1) (ap (λ slot. row_in slot key.1) none) key.0 ∙ moved key);
+    index = indexes_same (rows_but rest slots) (rows_but left slots) old h.index
+        (λ key. sym (still_as (λ slot. row_in slot key.1) (ap (λ slot. row_in slot key.1) none) key.0 ∙ moved key));
     shown = h.shown;
-    quotas = λ quota ns. h.quotas quota ns ∙ ap (λ r. is_quota r quota) (still_as quota_in (ap quota_in none) ns ∙ moved_as quota_in ns);
+    quotas = subst (λ quotas. AreKept quotas (uses_in slots) old.quotas)
+        (λ i ns. (still_as quota_in (ap quota_in none) ns ∙ moved_as quota_in ns) i) h.quotas;
     sorted = second _ _ rises;
     found = found_later;
   })
@@ -167,19 +189,28 @@ module _ (x : Name × Option TenantRows) (rest left slots : Slots) (is : rest �
             ∙ sym (ap (λ slot. row_in slot key.1) at)
         by false e = refl
 
+    own_use : uses_in slots x.0 ≡ live_use tenant.allocations.slots
+    own_use =
+        let here = before x.0 ∙ ap (λ b. cond b (Some x.1) (find name_cmp x.0 left)) (same_name_refl x.0) in
+        ap (λ r. use_at (flat r)) (h.found x.0 (ap is_some here) ∙ here) ∙ ap use_at at
+
     pub slot_indexed : (made new mid done live : Live) → KeepsKeys old made → KeepsShown old made →
         (Indexes (rows_but rest slots) made → Indexes (with_changes x.0 tenant.allocations.slots (rows_but rest slots)) new) →
         ShowsUnmoved (rows_but rest slots) (with_changes x.0 tenant.allocations.slots (rows_but rest slots)) made new → KeepsNames made new →
         KeepsNodes new mid → HoldsSame new.quotas mid.quotas → (after : Option Name) → after ≡ tenant.namespace.quota →
-        KeepsNodes mid done → PutsQuota x.0 None after mid.quotas done.quotas → live ≡ done → IsIndexing live left slots
-    slot_indexed made new mid done live keys kept index shown names room room_names after its put put_names same =
+        (used : Resources) → IsTotalOf used tenant.allocations.slots →
+        KeepsNodes mid done → PutsQuota x.0 None after used mid.quotas done.quotas → live ≡ done → IsIndexing live left slots
+    slot_indexed made new mid done live keys kept index shown names room room_names after its used total put put_names same =
         subst (λ live. IsIndexing live left slots) (sym same) (record {
-          index = λ pool node key. ap (λ pools. at_name holds_on_node pools (pool, (node, key))) (put.0 ∙ room.0)
-              ∙ index (λ p n k. keys p n k ∙ h.index p n k) pool node key ∙ ap (λ r. option_map_or (is_live_on pool node) r false) (put_there key);
+          index = indexes_same (with_changes x.0 tenant.allocations.slots (rows_but rest slots)) (rows_but left slots) done
+              (index_kept (with_changes x.0 tenant.allocations.slots (rows_but rest slots)) new done (pools_kept new done (put.0 ∙ room.0))
+              (index (index_kept (rows_but rest slots) old made keys h.index))) (λ key. sym (put_there key));
           shown = λ pool name. ap (λ shown. shown_in shown pool name) (put.1 ∙ room.1) ∙ by pool name (shown_at new pool name) refl;
-          quotas = λ quota ns. put_names (quotas_but rest slots) (λ q n. room_names q n ∙ ap (λ held. holds_at held (q, n)) (names ∙ kept.1) ∙ h.quotas q n)
-              unnamed_before quota ns ∙ ap (λ r. is_quota r quota)
-              (ap (λ r. cond (same_name ns x.0) r (quotas_but rest slots ns)) (its ∙ sym (ap quota_in at)) ∙ moved_as quota_in ns);
+          quotas = subst (λ quotas. AreKept quotas (uses_in slots) done.quotas)
+              (λ i ns. (ap (λ r. cond (same_name ns x.0) r (quotas_but rest slots ns)) (its ∙ sym (ap quota_in at)) ∙ moved_as quota_in ns) i)
+              (put_names (quotas_but rest slots) (uses_in slots) (kept_same new.quotas mid.quotas room_names (quotas_but rest slots) (uses_in slots)
+              (subst (AreKept (quotas_but rest slots) (uses_in slots)) (sym (names ∙ kept.1)) h.quotas)) unnamed_before
+              (subst (IsTotal used) (sym own_use) total));
           sorted = second _ _ rises;
           found = found_later;
         })
@@ -190,12 +221,13 @@ module _ (x : Name × Option TenantRows) (rest left slots : Slots) (is : rest �
 
 pub all_indexed : (t : Tables) (live : Live) (rest slots : Slots) → slots ≡ entries t.tenants → rest ≡ [] → IsIndexing live rest slots →
     IsRight (world_of t) live
-all_indexed t live rest slots is none h = record {
-  index = λ pool node key. h.index pool node key ∙ ap (λ r. option_map_or (is_live_on pool node) r false)
-      (ap (λ l. rows_but l slots key) none ∙ ap (λ l. rows_in l key) is ∙ sym (stored key));
+all_indexed t live rest slots is nothing h = record {
+  index = indexes_same (rows_but rest slots) (allocation_at (world_of t)) live h.index
+      (λ key. sym (ap (λ l. rows_but l slots key) nothing ∙ ap (λ l. rows_in l key) is ∙ sym (stored key)));
   shown = λ pool name node e. absurd (not_Some node (sym (h.shown pool name) ∙ e));
-  quotas = λ quota ns. h.quotas quota ns ∙ ap (λ r. is_quota r quota)
-      (ap (λ l. quotas_but l slots ns) none ∙ ap (λ l. quota_in (flat (find name_cmp ns l))) is ∙ sym (named ns));
+  quotas = subst (λ quotas. AreKept quotas (namespace_use (world_of t)) live.quotas)
+      (λ i ns. (ap (λ l. quotas_but l slots ns) nothing ∙ ap (λ l. quota_in (flat (find name_cmp ns l))) is ∙ sym (named ns)) i)
+      (subst (λ uses. AreKept (quotas_but rest slots) uses live.quotas) (λ i ns. (ap (λ l. uses_in l ns) is ∙ sym (used ns)) i) h.quotas);
 }
   where
     by : (n : ℕ) (r : Option TenantRows) → option_and_then (λ t. get t.allocations n) (option_map tenant_of r) ≡ row_in r n
@@ -213,3 +245,11 @@ all_indexed t live rest slots is none h = record {
     named : (ns : Name) → quota_named (world_of t) ns ≡ quota_in (flat (find name_cmp ns (entries t.tenants)))
     named ns = ap (option_and_then (λ t. t.namespace.quota)) (tenant_at t ns) ∙ quota_seen (row_at t.tenants ns) ∙ ap (λ r. quota_in (flat r))
         (get-entries t.tenants ns)
+
+    use_seen : (r : Option TenantRows) → option_map_or (λ t. rows_use t.allocations) (option_map tenant_of r) none ≡ use_at r
+    use_seen None = refl
+    use_seen (Some tenant) = refl
+
+    used : (ns : Name) → namespace_use (world_of t) ns ≡ uses_in (entries t.tenants) ns
+    used ns = ap (λ r. option_map_or (λ t. rows_use t.allocations) r none) (tenant_at t ns) ∙ use_seen (row_at t.tenants ns)
+        ∙ ap (λ r. use_at (flat r)) (get-entries t.tenants ns)

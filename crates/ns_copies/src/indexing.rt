@@ -1,4 +1,4 @@
-//! The index of live allocations and of the namespaces that name a quota, made anew.
+//! The index of live allocations, and of the namespaces that name a quota with what they use, made anew.
 
 ghost use Rattle.std.specs.Prelude.{IfOk};
 ghost use Rattle.ns_live.specs.Index.{IsRight};
@@ -9,8 +9,8 @@ use ns_live::Live;
 use ns_world::Tables;
 use std::alloc::{AllocError, Global};
 
-/// The index of the tables' live allocations, with which namespaces name which quota. No node is shown. Want of memory is the
-/// only error.
+/// The index of the tables' live allocations, with which namespaces name which quota, and what they use. No node is shown.
+/// Want of memory is the only error.
 pub fn live_of(alloc: Global, tables: &Tables) -> Result<Live, AllocError>
     ensures { IfOk result (IsRight (world_of tables.now)) }
 {
@@ -23,7 +23,7 @@ pub fn live_of(alloc: Global, tables: &Tables) -> Result<Live, AllocError>
             live.reserve_all(&slot.0, allocations)?;
             live.put_all(&slot.0, &none, allocations);
             live.reserve_quota(&slot.0, quota)?;
-            live.put_quota(&slot.0, None, quota);
+            live.put_quota(&slot.0, None, quota, tenant.allocations.live_total());
         }
     }
     Ok(live)

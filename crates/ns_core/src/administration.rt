@@ -26,8 +26,8 @@ use ns_types::step::AdminCommand;
 use ns_types::text::Text;
 use ns_world::Tables;
 
-/// Writes what was prepared for a command on a record, or leaves the tables as they are. Which namespaces name which quota
-/// stays right in the index.
+/// Writes what was prepared for a command on a record, or leaves the tables as they are. Which namespaces name which quota,
+/// and what they use, stays right in the index.
 fn record(
     tables: &mut Tables,
     live: &mut Live,

@@ -88,7 +88,7 @@ impl Parts {
         requires index { IsIndexed self.now }
         ensures { result ≡ node_load (world_of self.now) pool.now node.now }
     {
-        self.live.load(&self.tables, pool, node)
+        self.live.load(pool, node)
     }
 
     /// What it comes to that a node is up or goes down, by a secret that may.

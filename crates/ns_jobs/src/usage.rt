@@ -15,8 +15,8 @@ use ns_types::reply::Content;
 use ns_types::text::Text;
 use ns_world::{Tables, TenantRows};
 
-/// What the read of a quota's use says, by an index that is right for the tables. It looks at the namespaces that name the
-/// quota, and at no other. `NotFound`: it is not the namespace's.
+/// What the read of a quota's use says, by an index that is right for the tables: it keeps the total of each quota.
+/// `NotFound`: it is not the namespace's.
 pub(crate) fn quota_usage(
     tables: &Tables,
     live: &Live,
@@ -32,5 +32,5 @@ pub(crate) fn quota_usage(
         return Err(Refusal::NotFound);
     }
     let name = quota.clone()?;
-    Ok(Content::Usage(name, live.quota_use(tables, quota)))
+    Ok(Content::Usage(name, live.quota_use(quota)))
 }

@@ -4,6 +4,7 @@ ghost use Rattle.std.specs.Prelude.{◌≡◌, ◌++◌, flat_map, IfOk, OnOk};
 ghost use Rattle.ns_types.specs.declared.step.NodeCommand.TheVariants as NodeCommand;
 ghost use Rattle.ns_types.specs.Asking.Nodes.{ask_pool};
 ghost use Rattle.ns_types.specs.Settling.Outcome.{Changes};
+ghost use Rattle.ns_types.specs.State.Rows.{World};
 ghost use Rattle.ns_live.specs.Index.{IsRight};
 ghost use Rattle.ns_nodes.specs.Listed.{LoadsFit, node_shown, shown_at};
 ghost use Rattle.ns_world.specs.World.{world_of};
@@ -21,58 +22,44 @@ use std::alloc::AllocError;
 /// A node with its name, or a vacant slot.
 type NodeSlot = (Text, Option<Node>);
 
-fn node_shown(
-    tables: &Tables,
-    live: &Live,
-    pool: &Text,
-    name: &Text,
-    node: &Node,
-) -> Result<NodeShown, AllocError>
-    requires right { IsRight (world_of tables.now) live.now }
-    requires fits { LoadsFit (world_of tables.now) pool.now }
-    ensures { IfOk result (λ shown. shown
-        ≡ node_shown (world_of tables.now) pool.now (name.now, node.now)) }
+fn node_shown(live: &Live, pool: &Text, name: &Text, node: &Node) -> Result<NodeShown, AllocError>
+    ensures { (w : World) → IsRight w live.now → LoadsFit w pool.now →
+        IfOk result (λ shown. shown ≡ node_shown w pool.now (name.now, node.now)) }
 {
     Ok(NodeShown {
         pool: pool.clone()?,
         name: name.clone()?,
         row: copied_node(node)?,
-        used: live.load(tables, pool, name),
+        used: live.load(pool, name),
     })
 }
 
 fn add_shown(
     shown: &mut Rows<NodeShown>,
-    tables: &Tables,
     live: &Live,
     pool: &Text,
     slot: &NodeSlot,
 ) -> Result<(), AllocError>
-    requires right { IsRight (world_of tables.now) live.now }
-    requires fits { LoadsFit (world_of tables.now) pool.now }
-    ensures { OnOk result (shown.new
-        ≡ shown.old ++ shown_at (world_of tables.now) pool.now slot.now) }
+    ensures { (w : World) → IsRight w live.now → LoadsFit w pool.now →
+        OnOk result (shown.new ≡ shown.old ++ shown_at w pool.now slot.now) }
 {
     if let Some(node) = &slot.1 {
-        shown.push(node_shown(tables, live, pool, &slot.0, node)?)?;
+        shown.push(node_shown(live, pool, &slot.0, node)?)?;
     }
     Ok(())
 }
 
 fn add_all_shown(
     shown: &mut Rows<NodeShown>,
-    tables: &Tables,
     live: &Live,
     pool: &Text,
     slots: &[NodeSlot],
 ) -> Result<(), AllocError>
-    requires right { IsRight (world_of tables.now) live.now }
-    requires fits { LoadsFit (world_of tables.now) pool.now }
-    ensures { OnOk result (shown.new
-        ≡ shown.old ++ flat_map (shown_at (world_of tables.now) pool.now) slots.now) }
+    ensures { (w : World) → IsRight w live.now → LoadsFit w pool.now →
+        OnOk result (shown.new ≡ shown.old ++ flat_map (shown_at w pool.now) slots.now) }
 {
     for slot in slots {
-        add_shown(shown, tables, live, pool, slot)?;
+        add_shown(shown, live, pool, slot)?;
     }
     Ok(())
 }
@@ -89,6 +76,6 @@ pub fn list_nodes(tables: &Tables, live: &Live, pool: &Text) -> Result<Content, 
         return Err(Refusal::NotFound);
     };
     let mut shown = Rows::new(tables.alloc);
-    add_all_shown(&mut shown, tables, live, pool, stored.nodes.as_slice())?;
+    add_all_shown(&mut shown, live, pool, stored.nodes.as_slice())?;
     Ok(Content::Nodes(shown))
 }

@@ -30,7 +30,7 @@ fn seen(tables: &Tables, live: &Live, name: &Text, row: &QuotaRows) -> Result<Qu
     Ok(QuotaSeen {
         name: name.clone()?,
         limits: limits_in(&row.quota),
-        used: live.quota_use(tables, name),
+        used: live.quota_use(name),
         release: row.release,
         namespaces: live.namespaces_naming(name)?,
     })

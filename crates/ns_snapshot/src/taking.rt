@@ -53,8 +53,8 @@ fn copied_job(job: Option<&Job>) -> Result<Option<Job>, AllocError>
 /// the tables, and what is used of the namespace's quota fits 64 bits, as in each valid world; the index stays right.
 ///
 /// It costs a pointer for each node of the pool, a copy of each with its live allocations that changed since it was last
-/// shown, and a walk over the namespace's own allocations; where the namespace has a quota, a look at each namespace that
-/// names it, too.
+/// shown, and a walk over the namespace's own allocations; where the namespace has a quota, a copy of the name of each
+/// namespace that names it, too.
 pub fn snapshot(
     tables: &Tables,
     live: &mut Live,

@@ -17,8 +17,7 @@ use std::marker::Model;
 
 /// The tables of the world with an index of live allocations that is right for them. Contracts see the world.
 ///
-/// A look-up of a row costs what the tables' do. The load of a node costs a walk over its live allocations. What a
-/// quota has in use costs a look at each namespace that names it, and at none of their allocations.
+/// Each look-up costs what the tables' look-ups do: the index keeps the load of each node, and what each quota has in use.
 #[derive(Drop)]
 pub struct Present<'a> {
     tables: &'a Tables,
@@ -67,7 +66,7 @@ impl<'a> View for Present<'a> {
     }
 
     fn load(&self, pool: &Text, node: &Text) -> Resources {
-        self.live.load(self.tables, pool, node)
+        self.live.load(pool, node)
     }
 
     fn quota(&self, namespace: &Text) -> Option<&Text> {
@@ -79,6 +78,6 @@ impl<'a> View for Present<'a> {
     }
 
     fn used(&self, quota: &Text) -> Resources {
-        self.live.quota_use(self.tables, quota)
+        self.live.quota_use(quota)
     }
 }

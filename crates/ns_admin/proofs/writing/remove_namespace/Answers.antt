@@ -11,5 +11,6 @@ returns-clause-written c = tenant_removed c.args.tables.now c.args.name.now _ c.
 
 pub returns-clause-named : goal.returns-clause-named
 returns-clause-named c = removed_named c.args.name.now (world_of c.args.tables.now) _ c.args.live.now c.args.live.now c.put_quota.new.self
-    (λ q n. refl) (option_copied c.quota_named.result) None c.put_quota.ensures.names (sym c.quota_named.ensures) refl
+    (record { names = λ q n. refl; totals = λ q. refl }) (option_copied c.quota_named.result) None c.use_total-used.result c.put_quota.ensures.names
+    (sym c.quota_named.ensures) c.use_total-used.ensures refl
     (tenant_removed c.args.tables.now c.args.name.now _ c.remove.ensures)

@@ -8,7 +8,7 @@ use Rattle.ns_types.proofs.Named.{names, one_name}
 use Rattle.ns_change.proofs.Opening.{emptied_keeps}
 use Rattle.ns_live.specs.Naming.{HasNameRoom}
 use Rattle.ns_world.specs.World.{world_of}
-use Rattle.ns_admin.proofs.Naming.{named_there, written_named}
+use Rattle.ns_admin.proofs.Naming.{named_there, used_there, written_named}
 use Rattle.ns_admin.proofs.World.{tenant_over}
 use Rattle.ns_admin.proofs.writing.replace_namespace.Goals as goal
 
@@ -32,8 +32,9 @@ returns-in-Some-clause-named c =
     let there = sym c.take.ensures.row ∙ c.in-Some.is in
     let new = Some (record c.in-Some.tenant { namespace = c.args.namespace }) in
     written_named c.args.name.now (world_of c.args.tables.now) _ c.args.live.now c.args.live.now c.put_quota.new.self
-    (λ q n. refl) (option_copied c.as_ref.result) (option_copied c.as_ref-in-Some.result) c.put_quota.ensures.names
-    (named_there c.args.tables.now c.args.name.now c.in-Some.tenant there ∙ sym c.as_ref.ensures.value)
+    (record { names = λ q n. refl; totals = λ q. refl }) (option_copied c.as_ref.result) (option_copied c.as_ref-in-Some.result) c.live_total.result
+    c.put_quota.ensures.names (named_there c.args.tables.now c.args.name.now c.in-Some.tenant there ∙ sym c.as_ref.ensures.value)
+    (used_there c.args.tables.now c.args.name.now c.in-Some.tenant there c.live_total.result c.live_total.ensures)
     c.args.namespace c.as_ref-in-Some.ensures.value
     (tenant_over c.args.tables.now c.args.name.now _ c.args.namespace c.in-Some.tenant there
     (c.set.ensures ∙ ap (λ m. insert m c.args.name.now new) c.take.ensures.slots

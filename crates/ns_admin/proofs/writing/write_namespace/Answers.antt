@@ -1,7 +1,7 @@
 use Rattle.std.proofs.Common.{refl, subst, sym, ap, ◌∙◌}
 use Rattle.std.specs.Option.{option_copied}
 use Rattle.std.specs.Prelude.{IsTrue, None, is_some}
-use Rattle.ns_admin.proofs.Naming.{named_nowhere, same_named, written_named}
+use Rattle.ns_admin.proofs.Naming.{named_nowhere, same_named, used_nowhere, written_named}
 use Rattle.ns_admin.proofs.World.{tenant_new}
 use Rattle.ns_live.specs.Naming.{AreNamed, HasNameRoom}
 use Rattle.ns_world.specs.World.{world_of}
@@ -38,8 +38,14 @@ pub returns-clause-named : goal.returns-clause-named
 returns-clause-named c =
     let none = sym c.get.ensures ∙ ap option_copied c.in_default.is in
     written_named c.args.name.now (world_of c.args.tables.now) _ c.args.live.now c.reserve_quota.new.self c.put_quota.new.self
-    c.in_ok-reserve_quota.ensures.same None (option_copied c.as_ref-2.result) c.put_quota.ensures.names
-    (named_nowhere c.args.tables.now c.args.name.now none)
+    c.in_ok-reserve_quota.ensures.same None (option_copied c.as_ref-2.result) c.none.result c.put_quota.ensures.names
+    (named_nowhere c.args.tables.now c.args.name.now none) (used_nowhere c.args.tables.now c.args.name.now none c.none.result c.none.ensures)
     c.args.namespace (c.as_ref-2.ensures.value ∙ ap (λ (t : Tenant). t.namespace.quota) c.in_ok-tenant.ensures)
     (tenant_new c.args.tables.now c.args.name.now c.reserve.new.self c.set.new.self c.args.namespace c.in_ok-tenant.tenant none
     c.in_ok-tenant.ensures c.in_ok-reserve.ensures.ok c.set.ensures)
+
+pub returns-in_err-reserve_quota-clause-named : goal.returns-in_err-reserve_quota-clause-named
+returns-in_err-reserve_quota-clause-named c = same_named (world_of c.args.tables.now) c.args.live.now c.reserve_quota.new.self c.reserve_quota.ensures.same
+
+pub returns-in_err-tenant-clause-named : goal.returns-in_err-tenant-clause-named
+returns-in_err-tenant-clause-named c = same_named (world_of c.args.tables.now) c.args.live.now c.reserve_quota.new.self c.in_ok-reserve_quota.ensures.same

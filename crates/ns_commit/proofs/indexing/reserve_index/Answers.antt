@@ -1,7 +1,8 @@
-use Rattle.std.proofs.Common.{subst, sym, ◌∙◌}
+use Rattle.std.proofs.Common.{subst, sym}
 use Rattle.std.proofs.Math.ListN.{drop_of_length-le}
 use Rattle.ns_commit.proofs.Following.{all_made, none_made, none_passed, one_made, Reserving}
 use Rattle.keyed.proofs.Queues.{from_here}
+use Rattle.ns_live.proofs.Kept.{kept_then}
 use Rattle.ns_commit.proofs.indexing.reserve_index.Goals as goal
 use Rattle.ns_commit.proofs.indexing.reserve_index.Goals.{in-Some+in_ok-reserve_all, in_default}
 
@@ -9,7 +10,8 @@ pub loop-slot-init : goal.loop-slot-init
 loop-slot-init c = none_made c.args.changes.now c.args.live.now _ c.as_slice-slot-items.ensures
 
 pub returns-in_err-reserve_all-clause-same : goal.returns-in_err-reserve_all-clause-same
-returns-in_err-reserve_all-clause-same c pool node key = c.reserve_all.ensures.same pool node key ∙ c.loop-slot.invariant.same pool node key
+returns-in_err-reserve_all-clause-same c = kept_then c.args.live.now c.loop-slot.live c.reserve_all.new.self c.loop-slot.invariant.same
+    c.reserve_all.ensures.same
 
 pub loop-slot-preserved : goal.loop-slot-preserved
 loop-slot-preserved c =

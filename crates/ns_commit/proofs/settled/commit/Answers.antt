@@ -12,5 +12,5 @@ returns-clause-world c = settled_is c.args.settled c.args.tables.now _ c.commit_
 
 pub returns-clause-index : goal.returns-clause-index
 returns-clause-index c = index_is c.args.settled c.args.tables.now _ c.args.live.now c.commit_index.new.live _ c.commit_all.ensures c.commit_pools.ensures
-    c.commit_index.ensures.index c.commit_index.ensures.shown c.commit_index.ensures.names c.forget_nodes.ensures.keys c.forget_nodes.ensures.shown
+    c.commit_index.ensures.index c.commit_index.ensures.shown c.commit_index.ensures.quotas c.forget_nodes.ensures.keys c.forget_nodes.ensures.shown
     c.forget_nodes.ensures.names

@@ -32,7 +32,7 @@ loop-slot-preserved c =
           (subst (λ m. ShowsUnmoved (rows_but rest slots) (with_changes c.slot-item.result.0 m (rows_but rest slots)) w.reserve_all.new.self
           w.put_all.new.self) w.rows-allocations.ensures (w.put_all.ensures.shown (rows_but rest slots) nothing))
           w.put_all.ensures.names w.reserve_quota.ensures.nodes w.reserve_quota.ensures.same (option_copied w.as_ref-quota.result)
-          w.as_ref-quota.ensures.value w.put_quota.ensures.nodes w.put_quota.ensures.names w.live-is
+          w.as_ref-quota.ensures.value w.live_total.result w.live_total.ensures w.put_quota.ensures.nodes w.put_quota.ensures.names w.live-is
       | in_default w ↦ slot_passed c.slot-item.result rest _ slots is c.loop-slot.live c.loop-slot.invariant c.match-slot.live w.in_default.is w.live-is
     ]
 

@@ -10,8 +10,8 @@ returns-in-Some c =
     let w = world_of c.args.tables.now in
     c.any_loss_passes.ensures ∙ ap (list_any (loss_passes_at w c.args.pool.now c.args.node.now)) c.as_slice.ensures
     ∙ sym (judged w c.args.pool.now c.args.node.now c.in-Some.keys.now
-    (λ key. c.in-Some.ensures key ∙ c.requires.right.index c.args.pool.now c.args.node.now key))
+    (λ key. c.in-Some.ensures key ∙ c.requires.right.index.keys c.args.pool.now c.args.node.now key))
 
 pub returns-in-None : goal.returns-in-None
 returns-in-None c = sym (none_judged (world_of c.args.tables.now) c.args.pool.now c.args.node.now
-    (λ key. sym (c.requires.right.index c.args.pool.now c.args.node.now key) ∙ sym (c.in-None.ensures key)))
+    (λ key. sym (c.requires.right.index.keys c.args.pool.now c.args.node.now key) ∙ sym (c.in-None.ensures key)))

@@ -20,5 +20,5 @@ pub returns : goal.returns
 returns c =
     let w = world_of c.args.tables.now in
     listed c.args.tables.now c.args.pool.now c.in-Some.stored.now (sym c.get.ensures ∙ ap option_copied c.in-Some.is)
-    ∙ ap (λ l. Done (Content.Nodes l) w) (sym (c.in_ok-add_all_shown.ensures ∙
+    ∙ ap (λ l. Done (Content.Nodes l) w) (sym (c.in_ok-add_all_shown.ensures w c.requires.right c.requires.fits ∙
     (λ i. c.new-shown.ensures i ++ flat_map (shown_at w c.args.pool.now) (c.as_slice.ensures i))))

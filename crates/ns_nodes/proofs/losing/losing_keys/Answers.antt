@@ -10,7 +10,7 @@ use Rattle.ns_world.specs.World.{world_of}
 pub returns-in_default : goal.returns-in_default
 returns-in_default c = c.new-keys.ensures
     ∙ sym (none_losing (world_of c.args.tables.now) c.args.pool.now c.args.node.now (λ key.
-    sym (c.requires.index c.args.pool.now c.args.node.now key) ∙ sym (c.keys_on.ensures key)
+    sym (c.requires.index.keys c.args.pool.now c.args.node.now key) ∙ sym (c.keys_on.ensures key)
     ∙ ap (λ o. option_map_or (λ keys. holds_key keys key) (option_copied o) false) c.in_default.is))
 
 pub returns : goal.returns
@@ -22,4 +22,4 @@ returns c =
     ∙ (λ i. c.new-keys.ensures i ++ flat_map (losing_keys_at w pool node) (c.as_slice.ensures i))
     ∙ sym (losing_are w pool node c.in-Some.held.now (λ key.
     sym (ap (λ o. option_map_or (λ keys. holds_key keys key) (option_copied o) false) c.in-Some.is)
-    ∙ c.keys_on.ensures key ∙ c.requires.index pool node key))
+    ∙ c.keys_on.ensures key ∙ c.requires.index.keys pool node key))

@@ -13,7 +13,7 @@ returns-in_default c =
     let node = c.args.node.now in
     let w = world_of c.args.tables.now in
     subst (IsLiveSet w pool node) (sym c.new-keys.ensures) (none_live w pool node (λ key.
-    sym (c.requires.index pool node key) ∙ sym (c.keys_on.ensures key)
+    sym (c.requires.index.keys pool node key) ∙ sym (c.keys_on.ensures key)
     ∙ ap (λ o. option_map_or (λ keys. holds_key keys key) (option_copied o) false) c.in_default.is))
 
 pub returns : goal.returns
@@ -25,4 +25,4 @@ returns c =
     (sym (c.in_ok-add_namespaces.ensures ∙ (λ i. c.new-keys.ensures i ++ flat_map slot_keys (c.as_slice.ensures i))))
     (live_keys_are w pool node c.in-Some.held.now (λ key.
     sym (ap (λ o. option_map_or (λ keys. holds_key keys key) (option_copied o) false) c.in-Some.is)
-    ∙ c.keys_on.ensures key ∙ c.requires.index pool node key))
+    ∙ c.keys_on.ensures key ∙ c.requires.index.keys pool node key))

@@ -11,7 +11,7 @@ use Rattle.ns_snapshot.proofs.placed.live_on.Goals as goal
 
 pub returns-in_default : goal.returns-in_default
 returns-in_default c = c.new.ensures ∙ sym (none_live c.args.tables.now c.args.pool.now c.args.node.now (λ key.
-    sym (c.requires.index c.args.pool.now c.args.node.now key) ∙ sym (c.keys_on.ensures key)
+    sym (c.requires.index.keys c.args.pool.now c.args.node.now key) ∙ sym (c.keys_on.ensures key)
     ∙ ap (λ o. option_map_or (λ keys. holds_key keys key) (option_copied o) false) c.in_default.is))
 
 pub returns : goal.returns
@@ -20,4 +20,4 @@ returns c = ok_as c.in_order.result _ _
     ∙ ap (map (λ (e : ℕ × LiveAllocation). e.1)) (sym (entries-rows c.in_ok-seen.seen)) ∙ ap values c.in_ok-seen.ensures
     ∙ live_is c.args.tables.now c.args.pool.now c.args.node.now c.in-Some.keys.now (λ key.
     sym (ap (λ o. option_map_or (λ keys. holds_key keys key) (option_copied o) false) c.in-Some.is)
-    ∙ c.keys_on.ensures key ∙ c.requires.index c.args.pool.now c.args.node.now key)) c.in_order.ensures
+    ∙ c.keys_on.ensures key ∙ c.requires.index.keys c.args.pool.now c.args.node.now key)) c.in_order.ensures
