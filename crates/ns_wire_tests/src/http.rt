@@ -1,5 +1,5 @@
 use linked_list_allocator::LocalHeap;
-use ns_http::{Answer, ConnFault, Counted, INTERRUPTION_LIMIT, READ_ROOM, Request, serve};
+use ns_http::{Answer, ConnFault, Counted, Counts, INTERRUPTION_LIMIT, READ_ROOM, Request, serve};
 use ns_types::refusal::Refusal;
 use ns_types::reply::Response;
 use std::alloc::{AllocError, Allocator, Global};
@@ -279,9 +279,14 @@ impl<W: Write> Write for Interrupted<W> {
     }
 }
 
-#[test]
-fn interruptions(rt: HostRuntime) -> Result<(), Fail> {
-    let mut narrow = wide(rt.alloc());
+/// Whether every other call was interrupted, and none failed otherwise.
+fn is_every_other(counts: Counts) -> bool {
+    !counts.broken() && counts.faults() == 0 && counts.interruptions() == counts.calls().div_ceil(2)
+}
+
+/// Whether both requests are answered where every other call is interrupted.
+fn answers_between_interruptions(alloc: Global) -> bool {
+    let mut narrow = wide(alloc);
     narrow.step = 5;
     let mut reader = Counted::new(Interrupted {
         inner: giving(INPUT, 7),
@@ -291,20 +296,16 @@ fn interruptions(rt: HostRuntime) -> Result<(), Fail> {
         inner: narrow,
         due: false,
     });
-    let mut handler = Echo {
-        alloc: rt.alloc(),
-        steps: 0,
-    };
-    let result = serve(rt.alloc(), &mut reader, &mut writer, &mut handler);
-    assert_eq!(rt; result, Ok(2));
+    let mut handler = Echo { alloc, steps: 0 };
+    let result = serve(alloc, &mut reader, &mut writer, &mut handler);
     let (reads, writes) = (reader.counts(), writer.counts());
-    assert!(rt; !reads.broken() && !writes.broken());
-    assert_eq!(rt; (reads.faults(), writes.faults()), (0, 0));
-    assert_eq!(rt; reads.interruptions(), reads.calls().div_ceil(2));
-    assert_eq!(rt; writes.interruptions(), writes.calls().div_ceil(2));
     let Narrow { bytes, .. } = writer.into_inner().inner;
-    assert_eq!(rt; bytes.as_slice(), OUTPUT);
-    Ok(())
+    result == Ok(2) && is_every_other(reads) && is_every_other(writes) && bytes.as_slice() == OUTPUT
+}
+
+#[test]
+fn interruptions(rt: HostRuntime) {
+    assert!(rt; answers_between_interruptions(rt.alloc()));
 }
 
 /// Is interrupted at every call.
@@ -321,31 +322,35 @@ impl Write for Hindered {
     }
 }
 
-#[test]
-fn interrupted_without_end(rt: HostRuntime) {
+/// Whether the connection ends as the writer fault that so many interrupted writes are.
+fn is_interrupted_out(alloc: Global) -> bool {
     let mut reader = Counted::new(giving(INPUT, 4096));
     let mut writer = Counted::new(Hindered);
-    let mut handler = Echo {
-        alloc: rt.alloc(),
-        steps: 0,
-    };
-    let result = serve(rt.alloc(), &mut reader, &mut writer, &mut handler);
-    assert_eq!(rt; result, Err(ConnFault::Write));
-    assert_eq!(rt; writer.counts().interruptions(), INTERRUPTION_LIMIT + 1);
-    assert_eq!(rt; writer.counts().faults(), 0);
+    let mut handler = Echo { alloc, steps: 0 };
+    let result = serve(alloc, &mut reader, &mut writer, &mut handler);
+    let writes = writer.counts();
+    result == Err(ConnFault::Write)
+        && writes.interruptions() == INTERRUPTION_LIMIT + 1
+        && writes.faults() == 0
+}
+
+#[test]
+fn interrupted_without_end(rt: HostRuntime) {
+    assert!(rt; is_interrupted_out(rt.alloc()));
+}
+
+/// Whether the fault is shown as this text.
+fn is_shown_as(alloc: Global, fault: ConnFault, text: &str) -> Result<bool, AllocError> {
+    let shown = format!(in alloc; "{fault}")?;
+    Ok(shown.as_str() == text)
 }
 
 #[test]
 fn texts_of_faults(rt: HostRuntime) -> Result<(), Fail> {
-    let texts = [
-        (ConnFault::Read, "read fault"),
-        (ConnFault::Write, "write fault"),
-        (ConnFault::Memory, "out of memory"),
-    ];
-    for (fault, text) in texts {
-        let shown = format!(in rt.alloc(); "{fault}")?;
-        assert_eq!(rt; shown.as_str(), text);
-    }
+    let alloc = rt.alloc();
+    assert!(rt; is_shown_as(alloc, ConnFault::Read, "read fault")?);
+    assert!(rt; is_shown_as(alloc, ConnFault::Write, "write fault")?);
+    assert!(rt; is_shown_as(alloc, ConnFault::Memory, "out of memory")?);
     Ok(())
 }
 
@@ -492,21 +497,25 @@ fn served_within(alloc: Global, size: usize) -> Result<Budgeted, AllocError> {
     })
 }
 
+/// Whether both requests were answered, or nothing was read for want of memory. After they were
+/// answered once there is always enough.
+fn is_all_or_nothing(out: Budgeted, was_served: bool) -> bool {
+    let is_right = match out.result {
+        Err(ConnFault::Memory) => {
+            !was_served && out.reads == 0 && out.writes == 0 && out.steps == 0
+        }
+        result => result == Ok(2),
+    };
+    is_right && out.used == 0
+}
+
 #[test]
 fn each_budget(rt: HostRuntime) -> Result<(), Fail> {
     let mut served = false;
     for room in 0..40 {
         let out = served_within(rt.alloc(), 32_768 * (room + 1))?;
-        if out.result == Err(ConnFault::Memory) {
-            assert!(rt; !served);
-            assert_eq!(rt; out.reads, 0);
-            assert_eq!(rt; out.writes, 0);
-            assert_eq!(rt; out.steps, 0);
-        } else {
-            assert_eq!(rt; out.result, Ok(2));
-            served = true;
-        }
-        assert_eq!(rt; out.used, 0);
+        assert!(rt; is_all_or_nothing(out, served));
+        served = served || out.result == Ok(2);
     }
     assert!(rt; served);
     Ok(())

@@ -1,4 +1,5 @@
 // Each call may be refused for want of memory once, and then answers as with ample memory.
+use crate::repeated::repeated;
 use ns_policy::{RuleFault, read_rules};
 use ns_types::acl::{Grants, Rule, RuleKind};
 use ns_types::rows::Rows;
@@ -14,6 +15,10 @@ fn read(alloc: Global, text: &str) -> Result<Rows<Rule>, RuleFault> {
 
 fn fault_of(alloc: Global, text: &str) -> Option<RuleFault> {
     read(alloc, text).err()
+}
+
+fn has_fault(alloc: Global, text: &str, fault: RuleFault) -> bool {
+    fault_of(alloc, text) == Some(fault)
 }
 
 /// What the only rule of a text gives.
@@ -32,11 +37,19 @@ fn is_same_rule(a: &Rule, b: &Rule) -> bool {
         && a.grants == b.grants
 }
 
+fn are_same_rules(rules: &[Rule], others: &[Rule]) -> bool {
+    for (a, b) in rules.iter().zip(others) {
+        if !is_same_rule(a, b) {
+            return false;
+        }
+    }
+    rules.len() == others.len()
+}
+
 fn is_read_alike(alloc: Global, text: &str, other: &str) -> Result<bool, RuleFault> {
     let rules = read(alloc, text)?;
     let others = read(alloc, other)?;
-    let mut pairs = rules.as_slice().iter().zip(others.as_slice());
-    Ok(rules.as_slice().len() == others.as_slice().len() && pairs.all(|(a, b)| is_same_rule(a, b)))
+    Ok(are_same_rules(rules.as_slice(), others.as_slice()))
 }
 
 fn writes_jobs(rule: &Rule) -> bool {
@@ -86,6 +99,11 @@ fn reads_both_forms_alike(rt: HostRuntime) -> Result<(), Fail> {
     Ok(())
 }
 
+/// Whether the only rule of a text gives these.
+fn gives(alloc: Global, text: &str, grants: Grants) -> bool {
+    grants_of(alloc, text) == Some(grants)
+}
+
 #[test]
 fn gives_what_the_words_say(rt: HostRuntime) {
     let alloc = rt.alloc();
@@ -99,28 +117,24 @@ fn gives_what_the_words_say(rt: HostRuntime) {
         deny: false,
     };
     let scale = "namespace \"*\" { policy = \"scale\" }";
-    assert_eq!(rt; grants_of(alloc, scale), Some(none));
+    assert!(rt; gives(alloc, scale, none));
     let delete = "node_pool \"*\" { capabilities = [\"delete\"] }";
-    assert_eq!(rt; grants_of(alloc, delete), Some(none));
+    assert!(rt; gives(alloc, delete, none));
     let write = "node_pool \"a\" { policy = \"write\" }";
-    assert_eq!(rt;
-        grants_of(alloc, write),
-        Some(Grants {
-            read_pool: true,
-            write_pool: true,
-            ..none
-        })
-    );
+    let writes = Grants {
+        read_pool: true,
+        write_pool: true,
+        ..none
+    };
+    assert!(rt; gives(alloc, write, writes));
     let deny =
         "{\"namespace\":{\"a\":{\"policy\":\"read\"},\"a\":{\"capabilities\":[\"deny\",\"read-job\"]}}}";
-    assert_eq!(rt;
-        grants_of(alloc, deny),
-        Some(Grants {
-            read_job: true,
-            deny: true,
-            ..none
-        })
-    );
+    let denies = Grants {
+        read_job: true,
+        deny: true,
+        ..none
+    };
+    assert!(rt; gives(alloc, deny, denies));
 }
 
 #[test]
@@ -139,7 +153,7 @@ fn refuses_what_is_no_text_of_the_grammar(rt: HostRuntime) {
         "x{x{x{x{x{x{x{x{x{x{x{x{x{x{x{x{x{}}}}}}}}}}}}}}}}}",
     ];
     for text in texts {
-        assert_eq!(rt; fault_of(alloc, text), Some(RuleFault::Syntax), "{text}");
+        assert!(rt; has_fault(alloc, text, RuleFault::Syntax), "{text}");
     }
     assert_eq!(rt;
         fault_of(alloc, "x{x{x{x{x{x{x{x{x{x{x{x{x{x{x{x{}}}}}}}}}}}}}}}}"),
@@ -167,7 +181,7 @@ fn refuses_values_that_say_nothing(rt: HostRuntime) {
         "{\"node_pool\":[]}",
     ];
     for text in texts {
-        assert_eq!(rt; fault_of(alloc, text), Some(RuleFault::Value), "{text}");
+        assert!(rt; has_fault(alloc, text, RuleFault::Value), "{text}");
     }
 }
 
@@ -183,56 +197,63 @@ fn lists(alloc: Global, depth: usize) -> Result<String, AllocError> {
     Ok(text)
 }
 
+/// The fault of that attribute, where this follows.
+fn fault_of_lists(alloc: Global, depth: usize, end: &str) -> Result<Option<RuleFault>, AllocError> {
+    let mut text = lists(alloc, depth)?;
+    text.push_str(end)?;
+    Ok(fault_of(alloc, text.as_str()))
+}
+
 #[test]
 fn reads_deep_lists(rt: HostRuntime) -> Result<(), Fail> {
     let alloc = rt.alloc();
-    let mut text = lists(alloc, 30_000)?;
-    assert_eq!(rt; fault_of(alloc, text.as_str()), None);
-    text.push_str("]")?;
-    assert_eq!(rt; fault_of(alloc, text.as_str()), Some(RuleFault::Syntax));
+    assert_eq!(rt; fault_of_lists(alloc, 30_000, "")?, None);
+    assert_eq!(rt;
+        fault_of_lists(alloc, 30_000, "]")?,
+        Some(RuleFault::Syntax)
+    );
     Ok(())
 }
 
-/// A block of that label, so many times the letter and then a star or none.
-fn labelled(alloc: Global, letters: usize, star: &str) -> Result<String, AllocError> {
-    let mut text = String::from_str(alloc, "node_pool \"")?;
-    for _ in 0..letters {
-        text.push_str("a")?;
-    }
-    text.push_str(star)?;
-    text.push_str("\" { }")?;
-    Ok(text)
+/// The fault of a block whose label is so many times the letter, and then its end.
+fn fault_of_label(
+    alloc: Global,
+    letters: usize,
+    end: &str,
+) -> Result<Option<RuleFault>, AllocError> {
+    let text = repeated(alloc, "node_pool \"", "a", letters, end)?;
+    Ok(fault_of(alloc, text.as_str()))
 }
 
 #[test]
 fn bounds_patterns(rt: HostRuntime) -> Result<(), Fail> {
-    let alloc = rt.alloc();
-    for (letters, star, fault) in [
-        (128, "", None),
-        (129, "", Some(RuleFault::Value)),
-        (127, "*", None),
-        (128, "*", Some(RuleFault::Value)),
-        (0, "*", None),
+    let plain = "\" { }";
+    let starred = "*\" { }";
+    for (letters, end, fault) in [
+        (128, plain, None),
+        (129, plain, Some(RuleFault::Value)),
+        (127, starred, None),
+        (128, starred, Some(RuleFault::Value)),
+        (0, starred, None),
     ] {
-        let text = labelled(alloc, letters, star)?;
-        assert_eq!(rt; fault_of(alloc, text.as_str()), fault);
+        assert_eq!(rt; fault_of_label(rt.alloc(), letters, end)?, fault);
     }
     Ok(())
 }
 
+/// Whether the fault is shown as this text.
+fn is_shown_as(alloc: Global, fault: RuleFault, text: &str) -> Result<bool, AllocError> {
+    let shown = format!(in alloc; "{fault}")?;
+    Ok(shown.as_str() == text)
+}
+
 #[test]
 fn texts_of_faults(rt: HostRuntime) -> Result<(), Fail> {
-    let texts = [
-        (RuleFault::Syntax, "the text is not a list of rules"),
-        (
-            RuleFault::Value,
-            "a pattern, a policy or a capability is not valid",
-        ),
-        (RuleFault::Memory, "out of memory"),
-    ];
-    for (fault, text) in texts {
-        let shown = format!(in rt.alloc(); "{fault}")?;
-        assert_eq!(rt; shown.as_str(), text);
-    }
+    let alloc = rt.alloc();
+    let syntax = "the text is not a list of rules";
+    assert!(rt; is_shown_as(alloc, RuleFault::Syntax, syntax)?);
+    let value = "a pattern, a policy or a capability is not valid";
+    assert!(rt; is_shown_as(alloc, RuleFault::Value, value)?);
+    assert!(rt; is_shown_as(alloc, RuleFault::Memory, "out of memory")?);
     Ok(())
 }

@@ -88,6 +88,12 @@ fn body(response: &Response) -> &str {
     }
 }
 
+/// Whether the body of the sample's response is these two texts, one after the other.
+fn shows(alloc: Global, sample: Sample, first: &str, rest: &str) -> Result<bool, AllocError> {
+    let response = shown(alloc, sample)?;
+    Ok(body(&response).strip_prefix(first) == Some(rest))
+}
+
 /// What the list of a response holds.
 fn in_brackets(response: &Response) -> Option<&str> {
     body(response).strip_prefix("[")?.strip_suffix("]")
@@ -129,12 +135,11 @@ fn two_jobs(alloc: Global) -> Result<Response, AllocError> {
 #[test]
 fn shows_lists_of_jobs(rt: HostRuntime) -> Result<(), Fail> {
     let alloc = rt.alloc();
-    let two = shown(alloc, Sample::TwoJobs)?;
     let first =
         "[{\"ID\":\"web\",\"JobModifyIndex\":3,\"Namespace\":\"qa\",\"Priority\":50,\"Status\":\"running\",\"Type\":\"service\"}";
     let rest =
         ",{\"ID\":\"sort\",\"JobModifyIndex\":3,\"Namespace\":\"qa\",\"Priority\":50,\"Status\":\"pending\",\"Type\":\"batch\"}]";
-    assert_eq!(rt; body(&two).strip_prefix(first), Some(rest));
+    assert!(rt; shows(alloc, Sample::TwoJobs, first, rest)?);
     Ok(())
 }
 
@@ -173,12 +178,11 @@ fn one_evaluation(alloc: Global) -> Result<Response, AllocError> {
 #[test]
 fn shows_evaluations(rt: HostRuntime) -> Result<(), Fail> {
     let alloc = rt.alloc();
-    let one = shown(alloc, Sample::OneEvaluation)?;
     let first =
         "{\"BlockedEval\":\"00000000-0000-0001-0000-000000000002\",\"CreateIndex\":5,\"EscapedComputedClass\":true,\"ID\":\"00000000-0000-0001-0000-000000000001\",\"JobID\":\"web\",\"ModifyIndex\":6";
     let rest =
         ",\"Namespace\":\"qa\",\"NodePool\":\"gpu\",\"PreviousEval\":\"\",\"Priority\":50,\"QuotaLimitReached\":\"small\",\"Status\":\"complete\",\"TriggeredBy\":\"job-register\",\"Type\":\"service\"}";
-    assert_eq!(rt; body(&one).strip_prefix(first), Some(rest));
+    assert!(rt; shows(alloc, Sample::OneEvaluation, first, rest)?);
     Ok(())
 }
 
@@ -222,17 +226,24 @@ fn allocations(alloc: Global) -> Result<Response, AllocError> {
     response(alloc, Content::Allocations(rows))
 }
 
+/// Whether the list holds the one allocation as it is shown alone.
+fn lists_the_allocation(alloc: Global) -> Result<bool, AllocError> {
+    let one = shown(alloc, Sample::OneAllocation)?;
+    match shown(alloc, Sample::Allocations) {
+        Ok(list) => Ok(in_brackets(&list) == Some(body(&one))),
+        Err(error) => Err(error),
+    }
+}
+
 #[test]
 fn shows_allocations(rt: HostRuntime) -> Result<(), Fail> {
     let alloc = rt.alloc();
-    let one = shown(alloc, Sample::OneAllocation)?;
     let first =
         "{\"ClientStatus\":\"running\",\"CreateIndex\":5,\"DesiredStatus\":\"run\",\"EvalID\":\"00000000-0000-0001-0000-000000000001\",\"ID\":\"00000000-0000-0002-0000-00000000000a\",\"JobID\":\"web\"";
     let rest =
         ",\"JobModifyIndex\":3,\"ModifyIndex\":6,\"Namespace\":\"qa\",\"NodeName\":\"n1\",\"NodePool\":\"gpu\",\"Priority\":50,\"Resources\":{\"CPU\":100,\"MemoryMB\":300},\"TaskGroup\":\"g\"}";
-    assert_eq!(rt; body(&one).strip_prefix(first), Some(rest));
-    let list = shown(alloc, Sample::Allocations)?;
-    assert_eq!(rt; in_brackets(&list), Some(body(&one)));
+    assert!(rt; shows(alloc, Sample::OneAllocation, first, rest)?);
+    assert!(rt; lists_the_allocation(alloc)?);
     Ok(())
 }
 
@@ -246,11 +257,8 @@ fn usage(alloc: Global) -> Result<Response, AllocError> {
 
 #[test]
 fn shows_what_is_used_of_a_quota(rt: HostRuntime) -> Result<(), Fail> {
-    let used = shown(rt.alloc(), Sample::Usage)?;
-    assert_eq!(rt;
-        body(&used),
-        "{\"Name\":\"qa\",\"Used\":{\"CPU\":800,\"MemoryMB\":512}}"
-    );
+    let text = "{\"Name\":\"qa\",\"Used\":{\"CPU\":800,\"MemoryMB\":512}}";
+    assert!(rt; shows(rt.alloc(), Sample::Usage, text, "")?);
     Ok(())
 }
 
@@ -290,12 +298,11 @@ fn nodes(alloc: Global) -> Result<Response, AllocError> {
 
 #[test]
 fn shows_what_is_used_of_a_node(rt: HostRuntime) -> Result<(), Fail> {
-    let list = shown(rt.alloc(), Sample::Nodes)?;
     let first =
         "[{\"Attributes\":{},\"CPU\":4000,\"Eligibility\":\"eligible\",\"MemoryMB\":8192,\"Name\":\"n1\"";
     let rest =
         ",\"NodeClass\":\"big\",\"NodePool\":\"gpu\",\"Status\":\"ready\",\"Used\":{\"CPU\":500,\"MemoryMB\":256}}]";
-    assert_eq!(rt; body(&list).strip_prefix(first), Some(rest));
+    assert!(rt; shows(rt.alloc(), Sample::Nodes, first, rest)?);
     Ok(())
 }
 
@@ -318,11 +325,8 @@ fn stopped_in_room(alloc: Global) -> Result<Response, AllocError> {
 #[test]
 fn answers_writes(rt: HostRuntime) -> Result<(), Fail> {
     let alloc = rt.alloc();
-    let nothing = shown(alloc, Sample::Written)?;
-    assert_eq!(rt; body(&nothing), "{}");
-    drop(nothing);
-    let stopped = shown(alloc, Sample::StoppedInRoom)?;
-    let expected = "{\"EvalID\":\"00000000-0000-0001-0000-000000000002\",\"Index\":7}";
-    assert_eq!(rt; body(&stopped), expected);
+    assert!(rt; shows(alloc, Sample::Written, "{}", "")?);
+    let stopped = "{\"EvalID\":\"00000000-0000-0001-0000-000000000002\",\"Index\":7}";
+    assert!(rt; shows(alloc, Sample::StoppedInRoom, stopped, "")?);
     Ok(())
 }

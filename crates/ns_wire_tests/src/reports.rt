@@ -14,8 +14,8 @@ fn report(alloc: Global, body: &str) -> Result<Report, Refusal> {
     read_report(alloc, body.as_bytes())
 }
 
-fn report_fault(alloc: Global, body: &str) -> Option<Refusal> {
-    report(alloc, body).err()
+fn is_refused(alloc: Global, body: &str, refusal: Refusal) -> bool {
+    report(alloc, body).err() == Some(refusal)
 }
 
 fn reports(alloc: Global, body: &str, number: u64, client: ClientStatus) -> bool {
@@ -88,8 +88,10 @@ fn refuses_faulty_reports(rt: HostRuntime) {
         ),
     ];
     for (body, member) in &cases {
-        let refused = Some(Refusal::BadField(*member));
-        assert_eq!(rt; report_fault(alloc, body), refused, "{body}");
+        assert!(rt;
+            is_refused(alloc, body, Refusal::BadField(*member)),
+            "{body}"
+        );
     }
-    assert_eq!(rt; report_fault(alloc, "7"), Some(Refusal::BadJson));
+    assert!(rt; is_refused(alloc, "7", Refusal::BadJson));
 }

@@ -19,6 +19,16 @@ fn is_secret(secret: &Option<Text>, expected: Option<&str>) -> bool {
     }
 }
 
+/// Whether the secret of the token is this one.
+fn is_read_as(
+    alloc: Global,
+    token: Option<&[u8]>,
+    expected: Option<&str>,
+) -> Result<bool, AllocError> {
+    let secret = read(alloc, token)?;
+    Ok(is_secret(&secret, expected))
+}
+
 #[test]
 fn secrets_of_tokens(rt: HostRuntime) -> Result<(), Fail> {
     let alloc = rt.alloc();
@@ -32,8 +42,7 @@ fn secrets_of_tokens(rt: HostRuntime) -> Result<(), Fail> {
         (Some(&long), Some(" ")),
     ];
     for (token, expected) in cases {
-        let secret = read(alloc, token)?;
-        assert!(rt; is_secret(&secret, expected));
+        assert!(rt; is_read_as(alloc, token, expected)?);
     }
     Ok(())
 }
