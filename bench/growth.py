@@ -5,6 +5,7 @@
     python3 bench/growth.py nodes           the same with 1,000 nodes in its own pool, beside 0 and 10,000 in others
     python3 bench/growth.py namespaces      a job is registered, placed and read in the first and the last of 10,000 namespaces
     python3 bench/growth.py crowd           the same under a quota, and stopped, beside 0 and 9,000 namespaces, each with a blocked job
+    python3 bench/growth.py totals          reads of what a quota has in use and of a node's load, of one allocation and of 9,001
     python3 bench/growth.py names           9,999 namespaces are put in the order of their names, and against it
     python3 bench/growth.py small           10,000 jobs of one allocation in 10 namespaces
     python3 bench/growth.py memory          what an allocation keeps resident, between 100,000 and 1,000,000 of them
@@ -135,6 +136,32 @@ def crowd():
     return is_right
 
 
+def sharing(name, quota):
+    """A namespace under that quota, with a job in the pool `default`."""
+    configuration = {"Default": "default", "Allowed": ["default"]}
+    namespace = {"Name": name, "Quota": quota, "NodePoolConfiguration": configuration}
+    return [request("PUT", "/v1/namespace", namespace)] + jobs("one", 1, 20, 1, name, 1)
+
+
+def totals():
+    """Each namespace under the quota has one allocation, and all of them are on one node."""
+    is_right = True
+    for others in (0, CROWD):
+        server = Server()
+        server.ask(limited("own") + one_node("default", CROWD + 1))
+        for number in range(others):
+            server.ask(sharing(f"n{number:04}", "own"))
+        server.ask(sharing("last", "own"))
+        use, node = "/v1/quota/usage/own?namespace=last", "/v1/node/pool/default/nodes"
+        for what, path in (("what a quota has in use", use), ("what a node carries", node)):
+            read = request("GET", path)
+            least(server, f"{what} is read, of {others + 1} allocations", "last", lambda *_: [read] * 10 * FEW)
+        is_right &= server.ask([request("GET", use)])["Used"]["CPU"] == (others + 1) * MHZ
+        is_right &= server.used() == (others + 1) * MHZ
+        server.end()
+    return is_right
+
+
 def names():
     """Rows are sorted by name: each new one comes last in the first case, and first in the second."""
     for order, step in (("in the order of their names", 1), ("against it", -1)):
@@ -200,6 +227,7 @@ KINDS = {
     "nodes": nodes_of_others,
     "namespaces": namespaces,
     "crowd": crowd,
+    "totals": totals,
     "names": names,
     "small": small,
     "memory": memory,
