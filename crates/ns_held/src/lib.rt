@@ -5,6 +5,7 @@ mod driven;
 mod held;
 pub mod laws;
 mod noting;
+mod preparing;
 mod rendered;
 mod rendering;
 mod requests;

@@ -1,18 +1,21 @@
 //! The steps that requests ask for, whose answers are handed out as bytes.
 
-ghost use Rattle.std.specs.Prelude.{◌≡◌, ◌<◌, IfErr, IfOk, None, OnErr, OnOk, false, true, vec_len, vec_capacity};
+ghost use Rattle.std.specs.Prelude.{◌≡◌, ◌<◌, ◌≤◌, IfErr, IfOk, None, OnErr, OnOk, false, length, true, vec_len};
+ghost use Rattle.std.specs.Prelude.{vec_capacity};
 ghost use Rattle.ns_types.specs.declared.refusal.Refusal.TheVariants as Refusal;
 ghost use Rattle.ns_steps.specs.Served.{IsServed};
 ghost use Rattle.ns_json.specs.Replies.{rendered};
 ghost use Rattle.ns_answers.specs.Laws.{may_change};
 ghost use Rattle.ns_answers.specs.Rooms.{HasRoom, copy_room, room_of};
-ghost use Rattle.ns_held.specs.Noting.{is_answer, noted};
+ghost use Rattle.ns_held.specs.Noting.{Begins, is_answer, noted};
 ghost use Rattle.ns_held.specs.Rendered.{IsGiven, LogsRendered};
 
 use crate::held::Held;
-use crate::noting::{begin, with_room};
+use crate::noting::begin;
+use crate::preparing::prepare_write;
 use crate::rendering::{given_again, rendered_anew, rendered_in, response};
 use ns_answers::{Room, may_change};
+use ns_drops::{drop_answer, drop_step};
 use ns_log::Entry;
 use ns_types::refusal::Refusal;
 use ns_types::reply::{Rendered, Reply, Response};
@@ -42,17 +45,25 @@ fn with_copies(alloc: Global, entry: Room) -> Result<Rooms, AllocError>
     })
 }
 
-/// The step, with rooms for its answer.
-fn with_rooms(alloc: Global, step: Step) -> Result<(Step, Rooms), Refusal>
+/// The step, if the log takes one more entry, with rooms for its answer.
+fn with_rooms(
+    alloc: Global,
+    log: &mut Vec<Entry>,
+    limit: u64,
+    step: Step,
+) -> Result<(Step, Rooms), Refusal>
+    requires { length log.old.items ≤ limit }
+    ensures begins { Begins (length log.old.items) limit result }
+    ensures same { log.new.items ≡ log.old.items }
+    ensures place { OnOk result (vec_len log.new < vec_capacity log.new) }
     ensures step { IfOk result (λ made. made.0 ≡ step) }
     ensures entry { IfOk result (λ made. made.1.entry ≡ room_of step None) }
-    ensures memory { IfErr result (λ refusal. refusal ≡ Refusal.Memory) }
 {
-    let (step, entry) = with_room(alloc, step, None)?;
+    let (step, entry) = prepare_write(alloc, log, limit, step)?;
     match with_copies(alloc, entry) {
         Ok(rooms) => Ok((step, rooms)),
         Err(_) => {
-            drop(step);
+            drop_step(step);
             Err(Refusal::Memory)
         }
     }
@@ -86,7 +97,7 @@ fn note_given(
             Ok((receipt, response(answer, again)))
         }
         None => {
-            drop(step);
+            drop_step(step);
             drop(receipt);
             drop(again);
             Err(Refusal::Memory)
@@ -128,7 +139,7 @@ fn give(
             Ok(given)
         }
         Err(_) => {
-            drop(step);
+            drop_step(step);
             Err(Refusal::Memory)
         }
     }
@@ -147,14 +158,10 @@ impl Held {
             limit,
             ..
         } = self;
-        if let Err(refusal) = begin(log, *limit) {
-            drop(step);
-            return Err(refusal);
-        }
-        let (step, rooms) = with_rooms(alloc, step)?;
+        let (step, rooms) = with_rooms(alloc, log, *limit, step)?;
         let answer = core.take(&step);
         let given = note_given(log, step, rooms, &answer);
-        drop(answer);
+        drop_answer(answer);
         given
     }
 
@@ -171,12 +178,12 @@ impl Held {
             ..
         } = self;
         if let Err(refusal) = begin(log, *limit) {
-            drop(step);
+            drop_step(step);
             return Err(refusal);
         }
         let answer = core.take(&step);
         let given = give(log, alloc, step, &answer);
-        drop(answer);
+        drop_answer(answer);
         given
     }
 

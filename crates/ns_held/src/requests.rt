@@ -9,8 +9,10 @@ ghost use Rattle.ns_held.specs.Logs.{Logs};
 ghost use Rattle.ns_held.specs.Noting.{noted};
 
 use crate::held::Held;
-use crate::noting::{begin, is_of_steps, note, with_room};
+use crate::noting::{begin, is_of_steps, note};
+use crate::preparing::prepare_write;
 use ns_answers::{may_change, refused, render};
+use ns_drops::{drop_answer, drop_step};
 use ns_log::Entry;
 use ns_types::refusal::Refusal;
 use ns_types::reply::{Rendered, Reply};
@@ -35,7 +37,7 @@ fn note_rendered(
             Ok(())
         }
         Err(_) => {
-            drop(step);
+            drop_step(step);
             Err(Refusal::Memory)
         }
     }
@@ -59,7 +61,7 @@ fn note_read(
             note_rendered(log, step, refused(alloc, *refusal))
         }
         Err(_) => {
-            drop(step);
+            drop_step(step);
             Ok(())
         }
     }
@@ -78,11 +80,7 @@ impl Held {
             limit,
             ..
         } = self;
-        if let Err(refusal) = begin(log, *limit) {
-            drop(step);
-            return Err(refusal);
-        }
-        let (step, room) = with_room(alloc, step, None)?;
+        let (step, room) = prepare_write(alloc, log, *limit, step)?;
         let answer = core.take(&step);
         note(log, step, room, &answer);
         answer
@@ -101,12 +99,12 @@ impl Held {
             ..
         } = self;
         if let Err(refusal) = begin(log, *limit) {
-            drop(step);
+            drop_step(step);
             return Err(refusal);
         }
         let answer = core.take(&step);
         if let Err(refusal) = note_read(log, alloc, step, &answer) {
-            drop(answer);
+            drop_answer(answer);
             return Err(refusal);
         }
         answer

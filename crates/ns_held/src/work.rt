@@ -10,8 +10,10 @@ ghost use Rattle.ns_held.specs.Noting.{noted};
 ghost use Rattle.ns_held.specs.Planned.{LogsFinish, LogsSubmit};
 
 use crate::held::Held;
-use crate::noting::{begin, note, with_room};
+use crate::noting::note;
+use crate::preparing::prepare_work;
 use ns_answers::Room;
+use ns_drops::{drop_answer, drop_planned, snapshot_number};
 use ns_log::Entry;
 use ns_types::planned::Planned;
 use ns_types::refusal::Refusal;
@@ -20,6 +22,7 @@ use ns_types::shared::Shared;
 use ns_types::snapshot::Snapshot;
 use ns_types::step::Step;
 use ns_types::text::Text;
+use ns_work::Work;
 use std::alloc::Global;
 
 /// What a worker that looks is answered.
@@ -29,7 +32,7 @@ pub fn snapped(seen: &Result<Shared<Snapshot>, Refusal>) -> Result<Reply, Refusa
     match seen {
         Ok(seen) => Ok(Reply {
             index: None,
-            content: Content::Snapped(seen.get().number),
+            content: Content::Snapped(snapshot_number(seen)),
         }),
         Err(refusal) => Err(*refusal),
     }
@@ -48,7 +51,7 @@ fn note_snapped(
 {
     let answer = snapped(seen);
     note(log, step, room, &answer);
-    drop(answer);
+    drop_answer(answer);
 }
 
 impl Held {
@@ -69,9 +72,15 @@ impl Held {
             limit,
             ..
         } = self;
-        begin(log, *limit)?;
-        let step = Step::Dequeue(worker, namespace.clone()?, evaluation);
-        let (step, room) = with_room(alloc, step, None)?;
+        let (step, room) = prepare_work(
+            alloc,
+            log,
+            *limit,
+            Work::Dequeue(evaluation),
+            worker,
+            namespace,
+            None,
+        )?;
         let answer = core.dequeue(worker, namespace, evaluation);
         note(log, step, room, &answer);
         answer
@@ -96,9 +105,7 @@ impl Held {
             limit,
             ..
         } = self;
-        begin(log, *limit)?;
-        let step = Step::Snap(worker, namespace.clone()?);
-        let (step, room) = with_room(alloc, step, None)?;
+        let (step, room) = prepare_work(alloc, log, *limit, Work::Snap, worker, namespace, None)?;
         let seen = core.snap(worker, namespace);
         note_snapped(log, step, room, &seen);
         seen
@@ -120,9 +127,14 @@ impl Held {
             limit,
             ..
         } = self;
-        begin(log, *limit)?;
-        let step = Step::Submit(worker, namespace.clone()?);
-        let (step, room) = with_room(alloc, step, None)?;
+        let prepared = prepare_work(alloc, log, *limit, Work::Submit, worker, namespace, None);
+        let (step, room) = match prepared {
+            Ok(made) => made,
+            Err(refusal) => {
+                drop_planned(planned);
+                return Err(refusal);
+            }
+        };
         let answer = core.submit(worker, namespace, planned);
         note(log, step, room, &answer);
         answer
@@ -138,9 +150,8 @@ impl Held {
             limit,
             ..
         } = self;
-        begin(log, *limit)?;
-        let step = Step::Apply(worker, namespace.clone()?);
-        let (step, room) = with_room(alloc, step, core.worker_at(worker, namespace))?;
+        let row = core.worker_at(worker, namespace);
+        let (step, room) = prepare_work(alloc, log, *limit, Work::Apply, worker, namespace, row)?;
         let answer = core.apply(worker, namespace);
         note(log, step, room, &answer);
         answer
@@ -162,9 +173,7 @@ impl Held {
             limit,
             ..
         } = self;
-        begin(log, *limit)?;
-        let step = Step::Finish(worker, namespace.clone()?);
-        let (step, room) = with_room(alloc, step, None)?;
+        let (step, room) = prepare_work(alloc, log, *limit, Work::Finish, worker, namespace, None)?;
         let answer = core.finish(worker, namespace, planned);
         note(log, step, room, &answer);
         answer
@@ -180,9 +189,7 @@ impl Held {
             limit,
             ..
         } = self;
-        begin(log, *limit)?;
-        let step = Step::Nack(worker, namespace.clone()?);
-        let (step, room) = with_room(alloc, step, None)?;
+        let (step, room) = prepare_work(alloc, log, *limit, Work::Nack, worker, namespace, None)?;
         let answer = core.nack(worker, namespace);
         note(log, step, room, &answer);
         answer

@@ -114,8 +114,8 @@ behind step old answer new (inr a) =
     ∙ ap (λ (b : Bool). if b then Some (rendered answer) else None) (sym a.0)
 
 -- the entry is behind those before the call, if the call made a step
-pub entry_behind : (step : Step) (old : History) (answer : Answer) (new : History) (before after : List Entry) → Adds step old answer new →
-    before ≡ old.log → after ≡ new.log → option_map entry_answer (slice_get after (length before)) ≡ rendered_step answer
-entry_behind step old answer new before after adds is is' =
-    ap (λ (log : List Entry). option_map entry_answer (slice_get log (length before))) is'
-    ∙ ap (λ (log : List Entry). option_map entry_answer (slice_get new.log (length log))) is ∙ behind step old answer new adds
+pub entry_behind : (step : Step) (old : History) (answer : Answer) (new : History) (place : ℕ) (after : List Entry) → Adds step old answer new →
+    place ≡ length old.log → after ≡ new.log → option_map entry_answer (slice_get after place) ≡ rendered_step answer
+entry_behind step old answer new place after adds is is' =
+    ap (λ (log : List Entry). option_map entry_answer (slice_get log place)) is'
+    ∙ ap (λ (n : ℕ). option_map entry_answer (slice_get new.log n)) is ∙ behind step old answer new adds

@@ -1,6 +1,6 @@
 -- A worker's call that made no step was refused by what is no step.
 use Rattle.std.specs.Prelude.{◌≡◌, ℕ, false, List, Option, Ok, Err}
-use Rattle.std.proofs.Common.{refl, ◌∙◌}
+use Rattle.std.proofs.Common.{refl}
 use Rattle.ns_types.specs.declared.refusal.Refusal.{Refusal}
 use Rattle.ns_types.specs.declared.reply.Rendered.{Rendered}
 use Rattle.ns_types.specs.declared.snapshot.Snapshot.{Snapshot}
@@ -18,7 +18,6 @@ use Rattle.ns_held.specs.Noting.{is_answer}
 use Rattle.ns_held.specs.Planned.{LogsFinish, LogsSubmit}
 use Rattle.ns_held.specs.Rendered.{rendered_step}
 use Rattle.ns_shared.specs.Receiving.{Receives, TakesPlan, received}
-use Rattle.ns_shared.proofs.Adding.{received_same}
 
 -- why it made none
 abbrev MakesNone : Step → Answer → Type 0
@@ -71,7 +70,7 @@ module _ (worker : ℕ) (ns : Name) (planned : Snapshot) where
 
 -- ---- what the seat gains
 
-gains : (step : Step) (place : ℕ) (answer : Answer) (seat seat' : List Receipt) → IsRefused step answer →
+pub gains : (step : Step) (place : ℕ) (answer : Answer) (seat seat' : List Receipt) → IsRefused step answer →
     seat' ≡ received place step (rendered_step answer) seat → Receives step seat answer seat'
 gains step place (Ok reply) seat seat' refused is = (place, is)
 gains step place (Err Refusal.Denied) seat seat' refused is = (place, is)
@@ -86,9 +85,3 @@ gains step place (Err Refusal.LogFull) seat seat' refused is = is
 gains step place (Err Refusal.NotEnabled) seat seat' refused is = is
 gains step place (Err Refusal.Foreign) seat seat' refused is = (refused refl, is)
 gains step place (Err refusal) seat seat' refused is = absurd (refused refl)
-
--- the same of a seat and a step that are known by other names
-pub receives : (step step' : Step) (place : ℕ) (answer : Answer) (shown : Option Rendered) (seat items items' : List Receipt) → IsRefused step answer →
-    items' ≡ received place step' shown items → step' ≡ step → shown ≡ rendered_step answer → items ≡ seat → Receives step seat answer items'
-receives step step' place answer shown seat items items' refused is made same before =
-    gains step place answer seat items' refused (is ∙ received_same place place step' step shown (rendered_step answer) items seat refl made same before)

@@ -7,14 +7,14 @@ use ns_types::text::Text;
 use ns_types::worker::Phase;
 
 /// Who enters and leaves.
-#[derive(Clone, Copy, Debug, PartialEq, Eq)]
+#[derive(Clone, Copy)]
 pub enum Role {
     Worker,
     Applier,
 }
 
 /// How far the applier is.
-#[derive(Clone, Copy, Debug, PartialEq, Eq)]
+#[derive(Clone, Copy)]
 pub(crate) enum Stage {
     Awaited,
     Running,
@@ -30,7 +30,7 @@ impl Stage {
 }
 
 /// Whom a call wakes of those who wait.
-#[derive(Clone, Copy, Debug, PartialEq, Eq)]
+#[derive(Clone, Copy)]
 pub(crate) enum Wakes {
     /// Nobody: it leaves nothing to do, but to its caller.
     Nobody,
@@ -43,7 +43,7 @@ pub(crate) enum Wakes {
 }
 
 /// How it stands with those who share a server.
-#[derive(Clone, Copy, Debug, PartialEq, Eq)]
+#[derive(Clone, Copy)]
 pub struct Moment {
     /// How many changes there were that others wait for. It wraps.
     pub changes: u64,

@@ -6,6 +6,7 @@ mod copying;
 mod desk;
 mod ended;
 mod looking;
+mod ready;
 mod seat;
 mod settling;
 mod shared;

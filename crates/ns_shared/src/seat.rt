@@ -1,21 +1,15 @@
 //! What one caller was answered.
 
-ghost use Rattle.std.specs.Prelude.{◌≡◌, ◌+◌, ◌<◌, IfErr, IfOk, OnOk, None, length, option_copied, vec_len};
-ghost use Rattle.std.specs.Prelude.{vec_capacity};
-ghost use Rattle.ns_types.specs.declared.refusal.Refusal.TheVariants as Refusal;
-ghost use Rattle.ns_answers.specs.Rooms.{room_of};
+ghost use Rattle.std.specs.Prelude.{◌≡◌, ◌+◌, ◌<◌, IfOk, OnOk, length, vec_len, vec_capacity};
 ghost use Rattle.ns_held.specs.Noting.{Begins};
 ghost use Rattle.ns_shared.specs.Receiving.{count, receipt_of, received, response_of};
 
-use ns_answers::Room;
 use ns_held::Held;
 use ns_receipts::Receipt;
 use ns_steps_copied::copied_step;
 use ns_types::refusal::Refusal;
 use ns_types::reply::{Rendered, Response};
 use ns_types::step::Step;
-use ns_types::worker::Worker;
-use std::alloc::Global;
 use std::marker::Model;
 use std::sync::ledger::{Book, Ledger, Share};
 
@@ -55,31 +49,6 @@ pub(crate) fn begin(held: &Held) -> Result<(), Refusal>
         return Err(Refusal::LogFull);
     }
     Ok(())
-}
-
-/// The step with a place for its receipt, and with room for its answer, by the row of the worker whose step it is.
-pub(crate) fn prepare(
-    alloc: Global,
-    receipts: &mut Vec<Receipt>,
-    step: Step,
-    row: Option<&Worker>,
-) -> Result<(Step, Room), Refusal>
-    ensures made { IfOk result (λ made. made ≡ (step, room_of step (option_copied row.entry))) }
-    ensures place { OnOk result (vec_len receipts.new < vec_capacity receipts.new) }
-    ensures same { receipts.new.items ≡ receipts.old.items }
-    ensures memory { IfErr result (λ refusal. refusal ≡ Refusal.Memory) }
-{
-    if receipts.reserve(1).is_err() {
-        drop(step);
-        return Err(Refusal::Memory);
-    }
-    match Room::for_step(alloc, &step, row) {
-        Ok(room) => Ok((step, room)),
-        Err(_) => {
-            drop(step);
-            Err(Refusal::Memory)
-        }
-    }
 }
 
 /// A copy of the step with a place for its receipt, if the log takes one more entry.

@@ -1,6 +1,6 @@
 //! Whether the receipts of all seats and the log agree.
 
-ghost use Rattle.std.specs.Prelude.{◌≡◌, ℕ, IfOk, IsErrOf, IsOkUnless, OnOk};
+ghost use Rattle.std.specs.Prelude.{◌≡◌, ◌+◌, ℕ, IfOk, IsErrOf, IsOkUnless, OnOk};
 ghost use Rattle.std.specs.Prelude.{length, map, sum_by, vec_items, vec_len};
 ghost use Rattle.ns_receipts.specs.declared.fault.SettleFault.TheVariants as SettleFault;
 ghost use Rattle.ns_receipts.specs.Settling.{IsFault, Settles};
@@ -12,7 +12,7 @@ use ns_held::Held;
 use ns_receipts::{Receipt, SettleFault, settle};
 use std::alloc::{AllocError, Global};
 use std::marker::Model;
-use std::sync::ledger::Ledger;
+use std::sync::ledger::{Ledger, Share};
 
 /// A server with its log, with which the receipts of seats have settled. `Ended::settle` alone makes one. Contracts see it
 /// as a history.
@@ -45,6 +45,26 @@ impl Settled {
     }
 }
 
+/// Takes the shares of the seats into this one, and gives out their receipts, a list for each.
+fn take_in<L: Ledger>(
+    alloc: Global,
+    rest: &mut Share<L>,
+    seats: Vec<Seat<L>>,
+) -> Result<Vec<Vec<Receipt>>, AllocError>
+    ensures receipts { IfOk result (λ lists. map vec_items lists.items ≡ seats.items) }
+    ensures parts { OnOk result (rest.new.parts ≡ rest.old.parts + vec_len seats) }
+    ensures amount { let receipts = sum_by (λ receipts. length receipts) seats.items in
+        OnOk result (rest.new.amount ≡ rest.old.amount + receipts) }
+{
+    let mut lists = Vec::new(alloc);
+    for seat in seats {
+        let Seat { receipts, share } = seat;
+        rest.merge(share);
+        lists.push(receipts)?;
+    }
+    Ok(lists)
+}
+
 /// Takes in the shares of the seats, and gives out their receipts, a list for each.
 fn hand_in<L: Ledger>(
     alloc: Global,
@@ -57,18 +77,16 @@ fn hand_in<L: Ledger>(
     ensures counts { OnOk result (vec_len seats ≡ ended.seats
         → length ended.held.log ≡ sum_by (λ receipts. length receipts) seats.items) }
 {
-    let mut lists = Vec::new(alloc);
     let Ended {
         held,
         mut book,
         mut rest,
         ..
     } = ended;
-    for seat in seats {
-        let Seat { receipts, share } = seat;
-        rest.merge(share);
-        lists.push(receipts)?;
-    }
+    let Ok(lists) = take_in(alloc, &mut rest, seats) else {
+        drop(held);
+        return Err(AllocError);
+    };
     book.audit(&mut rest);
     Ok((held, lists))
 }

@@ -1,6 +1,6 @@
 //! The steps of workers, each with its receipt.
 
-ghost use Rattle.std.specs.Prelude.{◌≡◌, IfOk, Some, length, option_map, slice_get};
+ghost use Rattle.std.specs.Prelude.{◌≡◌, ◌+◌, ◌<◌, IfOk, Some, length, option_map, slice_get, vec_capacity, vec_len};
 ghost use Rattle.ns_types.specs.declared.step.Step.TheVariants as Step;
 ghost use Rattle.ns_broker.specs.Snapping.{kept_at};
 ghost use Rattle.ns_drive.specs.Calls.{snapped};
@@ -9,40 +9,52 @@ ghost use Rattle.ns_held.specs.Logs.{Logs};
 ghost use Rattle.ns_held.specs.Planned.{LogsFinish, LogsSubmit};
 ghost use Rattle.ns_held.specs.Rendered.{rendered_step};
 ghost use Rattle.ns_shared.specs.Copying.{entry_answer};
-ghost use Rattle.ns_shared.specs.Receiving.{Receives, received};
+ghost use Rattle.ns_shared.specs.Receiving.{Receives, count, received};
 
-use crate::copying::repeat_entry;
 use crate::ended::Ended;
-use crate::seat::{Seat, begin, prepare, receive};
-use ns_answers::Room;
+use crate::ready::{Ready, prepare_work, receive_answer};
+use crate::seat::Seat;
+use ns_drops::{drop_answer, drop_planned};
 use ns_held::snapped;
 use ns_log::Entry;
+use ns_receipts::Receipt;
 use ns_types::planned::Planned;
 use ns_types::refusal::Refusal;
-use ns_types::reply::{Rendered, Reply};
+use ns_types::reply::Reply;
 use ns_types::shared::Shared;
 use ns_types::snapshot::Snapshot;
-use ns_types::step::Step;
 use ns_types::text::Text;
+use ns_work::Work;
 use std::alloc::Global;
-use std::sync::ledger::Ledger;
+use std::sync::ledger::{Book, Ledger, Share};
 
-/// The same of the answer to a worker that looks.
-fn repeat_snapped(
-    room: Room,
+/// Adds the receipt of a step in which a worker looked, in the same way.
+fn receive_snapped<L: Ledger>(
+    receipts: &mut Vec<Receipt>,
+    share: &mut Share<L>,
+    book: &mut Book<L>,
     log: &[Entry],
-    place: u64,
+    ready: Ready,
     seen: &Result<Shared<Snapshot>, Refusal>,
-) -> Option<Rendered>
-    requires room { IfOk (snapped seen.now) (λ reply. HasRoom room reply.content) }
-    requires entry { let made = option_map entry_answer (slice_get log.now place) in
+)
+    requires place { vec_len receipts.old < vec_capacity receipts.old }
+    requires part { share.old.parts ≡ 1 }
+    requires room { IfOk (snapped seen.now) (λ reply. HasRoom ready.room reply.content) }
+    requires entry { let made = option_map entry_answer (slice_get log.now ready.place) in
         made ≡ rendered_step (snapped seen.now) }
-    ensures { result ≡ rendered_step (snapped seen.now) }
+    ensures receipts { let rendered = rendered_step (snapped seen.now) in
+        receipts.new.items ≡ received ready.place ready.step rendered receipts.old.items }
+    ensures number { let rendered = rendered_step (snapped seen.now) in
+        vec_len receipts.new ≡ vec_len receipts.old + count rendered }
+    ensures parts { share.new.parts ≡ 1 }
+    ensures amount { let rendered = rendered_step (snapped seen.now) in
+        share.new.amount ≡ share.old.amount + count rendered }
+    ensures total { let rendered = rendered_step (snapped seen.now) in
+        book.new.total ≡ book.old.total + count rendered }
 {
     let answer = snapped(seen);
-    let rendered = repeat_entry(room, log, place, &answer);
-    drop(answer);
-    rendered
+    receive_answer(receipts, share, book, log, ready, &answer);
+    drop_answer(answer);
 }
 
 impl<L: Ledger> Ended<L> {
@@ -64,13 +76,17 @@ impl<L: Ledger> Ended<L> {
     {
         let Ended { held, book, .. } = self;
         let Seat { receipts, share } = seat;
-        begin(held)?;
-        let step = Step::Dequeue(worker, namespace.clone()?, evaluation);
-        let (step, room) = prepare(alloc, receipts, step, None)?;
-        let place = held.log().len() as u64;
+        let ready = prepare_work(
+            alloc,
+            held,
+            receipts,
+            Work::Dequeue(evaluation),
+            worker,
+            namespace,
+            None,
+        )?;
         let answer = held.dequeue(alloc, worker, namespace, evaluation);
-        let rendered = repeat_entry(room, held.log(), place, &answer);
-        receive(receipts, share, book, place, step, rendered);
+        receive_answer(receipts, share, book, held.log(), ready, &answer);
         answer
     }
 
@@ -93,13 +109,9 @@ impl<L: Ledger> Ended<L> {
     {
         let Ended { held, book, .. } = self;
         let Seat { receipts, share } = seat;
-        begin(held)?;
-        let step = Step::Snap(worker, namespace.clone()?);
-        let (step, room) = prepare(alloc, receipts, step, None)?;
-        let place = held.log().len() as u64;
+        let ready = prepare_work(alloc, held, receipts, Work::Snap, worker, namespace, None)?;
         let seen = held.snap(alloc, worker, namespace);
-        let rendered = repeat_snapped(room, held.log(), place, &seen);
-        receive(receipts, share, book, place, step, rendered);
+        receive_snapped(receipts, share, book, held.log(), ready, &seen);
         seen
     }
 
@@ -121,13 +133,16 @@ impl<L: Ledger> Ended<L> {
     {
         let Ended { held, book, .. } = self;
         let Seat { receipts, share } = seat;
-        begin(held)?;
-        let step = Step::Submit(worker, namespace.clone()?);
-        let (step, room) = prepare(alloc, receipts, step, None)?;
-        let place = held.log().len() as u64;
+        let prepared = prepare_work(alloc, held, receipts, Work::Submit, worker, namespace, None);
+        let ready = match prepared {
+            Ok(ready) => ready,
+            Err(refusal) => {
+                drop_planned(planned);
+                return Err(refusal);
+            }
+        };
         let answer = held.submit(alloc, worker, namespace, planned);
-        let rendered = repeat_entry(room, held.log(), place, &answer);
-        receive(receipts, share, book, place, step, rendered);
+        receive_answer(receipts, share, book, held.log(), ready, &answer);
         answer
     }
 
@@ -148,14 +163,10 @@ impl<L: Ledger> Ended<L> {
     {
         let Ended { held, book, .. } = self;
         let Seat { receipts, share } = seat;
-        begin(held)?;
-        let step = Step::Apply(worker, namespace.clone()?);
         let row = held.core().worker_at(worker, namespace);
-        let (step, room) = prepare(alloc, receipts, step, row)?;
-        let place = held.log().len() as u64;
+        let ready = prepare_work(alloc, held, receipts, Work::Apply, worker, namespace, row)?;
         let answer = held.apply(alloc, worker, namespace);
-        let rendered = repeat_entry(room, held.log(), place, &answer);
-        receive(receipts, share, book, place, step, rendered);
+        receive_answer(receipts, share, book, held.log(), ready, &answer);
         answer
     }
 
@@ -177,13 +188,9 @@ impl<L: Ledger> Ended<L> {
     {
         let Ended { held, book, .. } = self;
         let Seat { receipts, share } = seat;
-        begin(held)?;
-        let step = Step::Finish(worker, namespace.clone()?);
-        let (step, room) = prepare(alloc, receipts, step, None)?;
-        let place = held.log().len() as u64;
+        let ready = prepare_work(alloc, held, receipts, Work::Finish, worker, namespace, None)?;
         let answer = held.finish(alloc, worker, namespace, planned);
-        let rendered = repeat_entry(room, held.log(), place, &answer);
-        receive(receipts, share, book, place, step, rendered);
+        receive_answer(receipts, share, book, held.log(), ready, &answer);
         answer
     }
 
@@ -204,13 +211,9 @@ impl<L: Ledger> Ended<L> {
     {
         let Ended { held, book, .. } = self;
         let Seat { receipts, share } = seat;
-        begin(held)?;
-        let step = Step::Nack(worker, namespace.clone()?);
-        let (step, room) = prepare(alloc, receipts, step, None)?;
-        let place = held.log().len() as u64;
+        let ready = prepare_work(alloc, held, receipts, Work::Nack, worker, namespace, None)?;
         let answer = held.nack(alloc, worker, namespace);
-        let rendered = repeat_entry(room, held.log(), place, &answer);
-        receive(receipts, share, book, place, step, rendered);
+        receive_answer(receipts, share, book, held.log(), ready, &answer);
         answer
     }
 }

@@ -8,18 +8,18 @@ use Rattle.ns_held.proofs.held.Held.dequeue.Goals as goal
 pub note-requires-clause-room : goal.note-requires-clause-room
 note-requires-clause-room c = enough_made
     (Step.Dequeue c.args.worker c.args.namespace.now c.args.evaluation) c.self.inside.core c.dequeue-answer.result c.dequeue-answer.new.self
-    c.in_ok-step.room refl (ap (λ m. m.1) c.in_ok-step.ensures.room) c.dequeue-answer.ensures
+    c.in_ok-step.room refl (ap (λ m. m.1) c.in_ok-step.ensures.made) c.dequeue-answer.ensures
 
 pub invariant_of-self-2 : goal.invariant_of-self-2
 invariant_of-self-2 c = call_keeps c.self.inside.base.value c.self.inside.limit c.self.inside.log.items c.note.new.log.items c.self.inside.core
     (Step.Dequeue c.args.worker c.args.namespace.now c.args.evaluation) c.in_ok-step.step c.dequeue-answer.result c.dequeue-answer.new.self
-    c.self.invariant.0 c.in_ok-begin.ensures.begins c.dequeue-answer.ensures
-    (ap (λ m. m.0) c.in_ok-step.ensures.room ∙ ap (λ ns. Step.Dequeue c.args.worker ns c.args.evaluation) c.in_ok-clone.ensures.cases)
-    (c.note.ensures ∙ ap (noted c.in_ok-step.step c.dequeue-answer.result) c.in_ok-begin.ensures.same)
+    c.self.invariant.0 c.in_ok-step.ensures.begins c.dequeue-answer.ensures
+    (ap (λ m. m.0) c.in_ok-step.ensures.made)
+    (c.note.ensures ∙ ap (noted c.in_ok-step.step c.dequeue-answer.result) c.in_ok-step.ensures.same)
 
 pub returns : goal.returns
 returns c = call_logs (history c.self.inside.base.value c.self.inside.log.items c.self.inside.core c.self.inside.limit) c.args.self.now
     c.note.new.log.items (Step.Dequeue c.args.worker c.args.namespace.now c.args.evaluation) c.in_ok-step.step c.dequeue-answer.result c.dequeue-answer.new.self
-    (sym c.self.view_is) c.in_ok-begin.ensures.begins c.dequeue-answer.ensures
-    (ap (λ m. m.0) c.in_ok-step.ensures.room ∙ ap (λ ns. Step.Dequeue c.args.worker ns c.args.evaluation) c.in_ok-clone.ensures.cases)
-    (c.note.ensures ∙ ap (noted c.in_ok-step.step c.dequeue-answer.result) c.in_ok-begin.ensures.same)
+    (sym c.self.view_is) c.in_ok-step.ensures.begins c.dequeue-answer.ensures
+    (ap (λ m. m.0) c.in_ok-step.ensures.made)
+    (c.note.ensures ∙ ap (noted c.in_ok-step.step c.dequeue-answer.result) c.in_ok-step.ensures.same)

@@ -3,41 +3,49 @@ use Rattle.ns_types.specs.declared.step.Step.TheVariants as Step
 use Rattle.ns_types.specs.State.Rows.{State}
 use Rattle.ns_types.specs.Working.Looks.{worker_at}
 use Rattle.ns_answers.specs.Rooms.{room_of}
-use Rattle.ns_shared.specs.Receiving.{count}
+use Rattle.ns_held.specs.Rendered.{rendered_step}
 use Rattle.ns_held.proofs.Adding.{logs_adds}
-use Rattle.ns_shared.proofs.Adding.{adds_count, adds_room}
+use Rattle.ns_shared.specs.declared.ready.Ready.{Ready}
+use Rattle.ns_shared.proofs.Adding.{adds_count, adds_room, received_same}
 use Rattle.ns_shared.proofs.Entries.{entry_behind}
-use Rattle.ns_shared.proofs.Refusing.{logs_refused, receives}
+use Rattle.ns_shared.proofs.Refusing.{gains, logs_refused}
 use Rattle.ns_shared.proofs.ended.Ended.apply.Goals as goal
 
-pub repeat_entry-rendered-requires-clause-room : goal.repeat_entry-rendered-requires-clause-room
-repeat_entry-rendered-requires-clause-room g c = adds_room (Step.Apply c.args.worker c.args.namespace.now) c.args.self.now.held c.apply-answer.result
-    c.apply-answer.new.self c.in_ok-step.room refl
-    (ap (λ m. m.1) c.in_ok-step.ensures.made ∙ ap (room_of (Step.Apply c.args.worker c.args.namespace.now)) c.worker_at-row.ensures
+pub receive_answer-requires-clause-room : goal.receive_answer-requires-clause-room
+receive_answer-requires-clause-room g c = adds_room (Step.Apply c.args.worker c.args.namespace.now) c.args.self.now.held c.apply-answer.result
+    c.apply-answer.new.self c.in_ok-ready.ready.room refl
+    (ap (λ (r : Ready). r.room) c.in_ok-ready.ensures.made ∙ ap (room_of (Step.Apply c.args.worker c.args.namespace.now)) c.worker_at-row.ensures
     ∙ ap (λ (s : State). room_of (Step.Apply c.args.worker c.args.namespace.now) (worker_at s.world c.args.worker c.args.namespace.now)) c.core.ensures)
-    (logs_adds (Step.Apply c.args.worker c.args.namespace.now) c.args.self.now.held c.apply-answer.result c.apply-answer.new.self c.apply-answer.ensures)
+    (logs_adds (Step.Apply c.args.worker c.args.namespace.now) c.args.self.now.held c.apply-answer.result c.apply-answer.new.self
+    c.apply-answer.ensures)
 
-pub repeat_entry-rendered-requires-clause-entry : goal.repeat_entry-rendered-requires-clause-entry
-repeat_entry-rendered-requires-clause-entry g c = entry_behind (Step.Apply c.args.worker c.args.namespace.now) c.args.self.now.held
-    c.apply-answer.result c.apply-answer.new.self
-    c.log.result.now c.log-2.result.now
-    (logs_adds (Step.Apply c.args.worker c.args.namespace.now) c.args.self.now.held c.apply-answer.result c.apply-answer.new.self c.apply-answer.ensures)
-    c.log.ensures.entries c.log-2.ensures.entries
+pub receive_answer-requires-clause-entry : goal.receive_answer-requires-clause-entry
+receive_answer-requires-clause-entry g c = entry_behind (Step.Apply c.args.worker c.args.namespace.now) c.args.self.now.held c.apply-answer.result
+    c.apply-answer.new.self c.in_ok-ready.ready.place c.log.result.now
+    (logs_adds (Step.Apply c.args.worker c.args.namespace.now) c.args.self.now.held c.apply-answer.result c.apply-answer.new.self
+    c.apply-answer.ensures)
+    (ap (λ (r : Ready). r.place) c.in_ok-ready.ensures.made) c.log.ensures.entries
 
 pub invariant_of-self-2-clause-counted : goal.invariant_of-self-2-clause-counted
 invariant_of-self-2-clause-counted g c = omega (
   arith,
   c.args.self.now.counted,
-  c.receive.ensures.total,
-  ap count c.repeat_entry-rendered.ensures,
+  c.receive_answer.ensures.total,
   adds_count (Step.Apply c.args.worker c.args.namespace.now) c.args.self.now.held c.apply-answer.result c.apply-answer.new.self
-      (logs_adds (Step.Apply c.args.worker c.args.namespace.now) c.args.self.now.held c.apply-answer.result c.apply-answer.new.self c.apply-answer.ensures),
+      (logs_adds (Step.Apply c.args.worker c.args.namespace.now) c.args.self.now.held c.apply-answer.result c.apply-answer.new.self
+      c.apply-answer.ensures),
 )
 
+pub returns-clause-received : goal.returns-clause-received
+returns-clause-received g c = c.receive_answer.ensures.receipts ∙ received_same c.in_ok-ready.ready.place (length c.args.self.now.held.log)
+    c.in_ok-ready.ready.step (Step.Apply c.args.worker c.args.namespace.now)
+    (rendered_step c.apply-answer.result) (rendered_step c.apply-answer.result) c.prepare_work.new.receipts.items c.args.seat.now
+    (ap (λ (r : Ready). r.place) c.in_ok-ready.ensures.made) (ap (λ (r : Ready). r.step) c.in_ok-ready.ensures.made) refl
+    (c.in_ok-ready.ensures.same ∙ c.seat.view_is)
+
 pub returns-clause-seat : goal.returns-clause-seat
-returns-clause-seat g c = receives (Step.Apply c.args.worker c.args.namespace.now) c.in_ok-step.step (length c.log.result.now) c.apply-answer.result
-    c.repeat_entry-rendered.result c.args.seat.now c.prepare.new.receipts.items c.receive.new.receipts.items
-    (logs_refused (Step.Apply c.args.worker c.args.namespace.now) c.args.self.now.held
-    c.apply-answer.result c.apply-answer.new.self c.apply-answer.ensures)
-    c.receive.ensures.receipts (ap (λ m. m.0) c.in_ok-step.ensures.made ∙ ap (Step.Apply c.args.worker) c.in_ok-clone.ensures.cases)
-    c.repeat_entry-rendered.ensures (c.in_ok-step.ensures.same ∙ c.seat.view_is)
+returns-clause-seat g c = gains (Step.Apply c.args.worker c.args.namespace.now) (length c.args.self.now.held.log) c.apply-answer.result
+    c.args.seat.now c.receive_answer.new.receipts.items
+    (logs_refused (Step.Apply c.args.worker c.args.namespace.now) c.args.self.now.held c.apply-answer.result c.apply-answer.new.self
+    c.apply-answer.ensures)
+    (returns-clause-received g c)

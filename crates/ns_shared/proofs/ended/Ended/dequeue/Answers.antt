@@ -1,44 +1,47 @@
 use Rattle.std.proofs.Common.{ap, arith, length, refl, ◌∙◌}
 use Rattle.ns_types.specs.declared.step.Step.TheVariants as Step
-use Rattle.ns_shared.specs.Receiving.{count}
+use Rattle.ns_held.specs.Rendered.{rendered_step}
 use Rattle.ns_held.proofs.Adding.{logs_adds}
-use Rattle.ns_shared.proofs.Adding.{adds_count, adds_room}
+use Rattle.ns_shared.specs.declared.ready.Ready.{Ready}
+use Rattle.ns_shared.proofs.Adding.{adds_count, adds_room, received_same}
 use Rattle.ns_shared.proofs.Entries.{entry_behind}
-use Rattle.ns_shared.proofs.Refusing.{logs_refused, receives}
+use Rattle.ns_shared.proofs.Refusing.{gains, logs_refused}
 use Rattle.ns_shared.proofs.ended.Ended.dequeue.Goals as goal
 
-pub repeat_entry-rendered-requires-clause-room : goal.repeat_entry-rendered-requires-clause-room
-repeat_entry-rendered-requires-clause-room g c = adds_room (Step.Dequeue c.args.worker c.args.namespace.now c.args.evaluation) c.args.self.now.held
-    c.dequeue-answer.result c.dequeue-answer.new.self c.in_ok-step.room refl
-    (ap (λ m. m.1) c.in_ok-step.ensures.made)
-    (logs_adds (Step.Dequeue c.args.worker c.args.namespace.now c.args.evaluation) c.args.self.now.held c.dequeue-answer.result
-    c.dequeue-answer.new.self c.dequeue-answer.ensures)
+pub receive_answer-requires-clause-room : goal.receive_answer-requires-clause-room
+receive_answer-requires-clause-room g c = adds_room (Step.Dequeue c.args.worker c.args.namespace.now c.args.evaluation) c.args.self.now.held
+    c.dequeue-answer.result c.dequeue-answer.new.self c.in_ok-ready.ready.room refl
+    (ap (λ (r : Ready). r.room) c.in_ok-ready.ensures.made)
+    (logs_adds (Step.Dequeue c.args.worker c.args.namespace.now c.args.evaluation) c.args.self.now.held c.dequeue-answer.result c.dequeue-answer.new.self
+    c.dequeue-answer.ensures)
 
-pub repeat_entry-rendered-requires-clause-entry : goal.repeat_entry-rendered-requires-clause-entry
-repeat_entry-rendered-requires-clause-entry g c = entry_behind (Step.Dequeue c.args.worker c.args.namespace.now c.args.evaluation) c.args.self.now.held
-    c.dequeue-answer.result c.dequeue-answer.new.self
-    c.log.result.now c.log-2.result.now
-    (logs_adds (Step.Dequeue c.args.worker c.args.namespace.now c.args.evaluation) c.args.self.now.held c.dequeue-answer.result
-    c.dequeue-answer.new.self c.dequeue-answer.ensures)
-    c.log.ensures.entries c.log-2.ensures.entries
+pub receive_answer-requires-clause-entry : goal.receive_answer-requires-clause-entry
+receive_answer-requires-clause-entry g c = entry_behind (Step.Dequeue c.args.worker c.args.namespace.now c.args.evaluation) c.args.self.now.held
+    c.dequeue-answer.result c.dequeue-answer.new.self c.in_ok-ready.ready.place c.log.result.now
+    (logs_adds (Step.Dequeue c.args.worker c.args.namespace.now c.args.evaluation) c.args.self.now.held c.dequeue-answer.result c.dequeue-answer.new.self
+    c.dequeue-answer.ensures)
+    (ap (λ (r : Ready). r.place) c.in_ok-ready.ensures.made) c.log.ensures.entries
 
 pub invariant_of-self-2-clause-counted : goal.invariant_of-self-2-clause-counted
 invariant_of-self-2-clause-counted g c = omega (
   arith,
   c.args.self.now.counted,
-  c.receive.ensures.total,
-  ap count c.repeat_entry-rendered.ensures,
+  c.receive_answer.ensures.total,
   adds_count (Step.Dequeue c.args.worker c.args.namespace.now c.args.evaluation) c.args.self.now.held c.dequeue-answer.result c.dequeue-answer.new.self
-      (logs_adds (Step.Dequeue c.args.worker c.args.namespace.now c.args.evaluation) c.args.self.now.held c.dequeue-answer.result
-      c.dequeue-answer.new.self c.dequeue-answer.ensures),
+      (logs_adds (Step.Dequeue c.args.worker c.args.namespace.now c.args.evaluation) c.args.self.now.held c.dequeue-answer.result c.dequeue-answer.new.self
+      c.dequeue-answer.ensures),
 )
 
+pub returns-clause-received : goal.returns-clause-received
+returns-clause-received g c = c.receive_answer.ensures.receipts ∙ received_same c.in_ok-ready.ready.place (length c.args.self.now.held.log)
+    c.in_ok-ready.ready.step (Step.Dequeue c.args.worker c.args.namespace.now c.args.evaluation)
+    (rendered_step c.dequeue-answer.result) (rendered_step c.dequeue-answer.result) c.prepare_work.new.receipts.items c.args.seat.now
+    (ap (λ (r : Ready). r.place) c.in_ok-ready.ensures.made) (ap (λ (r : Ready). r.step) c.in_ok-ready.ensures.made) refl
+    (c.in_ok-ready.ensures.same ∙ c.seat.view_is)
+
 pub returns-clause-seat : goal.returns-clause-seat
-returns-clause-seat g c = receives (Step.Dequeue c.args.worker c.args.namespace.now c.args.evaluation) c.in_ok-step.step
-    (length c.log.result.now) c.dequeue-answer.result
-    c.repeat_entry-rendered.result c.args.seat.now c.prepare.new.receipts.items c.receive.new.receipts.items
-    (logs_refused (Step.Dequeue c.args.worker c.args.namespace.now c.args.evaluation) c.args.self.now.held
-    c.dequeue-answer.result c.dequeue-answer.new.self c.dequeue-answer.ensures)
-    c.receive.ensures.receipts (ap (λ m. m.0) c.in_ok-step.ensures.made
-    ∙ ap (λ ns. Step.Dequeue c.args.worker ns c.args.evaluation) c.in_ok-clone.ensures.cases)
-    c.repeat_entry-rendered.ensures (c.in_ok-step.ensures.same ∙ c.seat.view_is)
+returns-clause-seat g c = gains (Step.Dequeue c.args.worker c.args.namespace.now c.args.evaluation) (length c.args.self.now.held.log) c.dequeue-answer.result
+    c.args.seat.now c.receive_answer.new.receipts.items
+    (logs_refused (Step.Dequeue c.args.worker c.args.namespace.now c.args.evaluation) c.args.self.now.held c.dequeue-answer.result c.dequeue-answer.new.self
+    c.dequeue-answer.ensures)
+    (returns-clause-received g c)

@@ -1,39 +1,47 @@
 use Rattle.std.proofs.Common.{ap, arith, length, refl, ◌∙◌}
 use Rattle.ns_types.specs.declared.step.Step.TheVariants as Step
-use Rattle.ns_shared.specs.Receiving.{count}
+use Rattle.ns_held.specs.Rendered.{rendered_step}
 use Rattle.ns_held.proofs.Adding.{logs_adds}
-use Rattle.ns_shared.proofs.Adding.{adds_count, adds_room}
+use Rattle.ns_shared.specs.declared.ready.Ready.{Ready}
+use Rattle.ns_shared.proofs.Adding.{adds_count, adds_room, received_same}
 use Rattle.ns_shared.proofs.Entries.{entry_behind}
-use Rattle.ns_shared.proofs.Refusing.{logs_refused, receives}
+use Rattle.ns_shared.proofs.Refusing.{gains, logs_refused}
 use Rattle.ns_shared.proofs.ended.Ended.nack.Goals as goal
 
-pub repeat_entry-rendered-requires-clause-room : goal.repeat_entry-rendered-requires-clause-room
-repeat_entry-rendered-requires-clause-room g c = adds_room (Step.Nack c.args.worker c.args.namespace.now) c.args.self.now.held c.nack-answer.result
-    c.nack-answer.new.self c.in_ok-step.room refl
-    (ap (λ m. m.1) c.in_ok-step.ensures.made)
-    (logs_adds (Step.Nack c.args.worker c.args.namespace.now) c.args.self.now.held c.nack-answer.result c.nack-answer.new.self c.nack-answer.ensures)
+pub receive_answer-requires-clause-room : goal.receive_answer-requires-clause-room
+receive_answer-requires-clause-room g c = adds_room (Step.Nack c.args.worker c.args.namespace.now) c.args.self.now.held c.nack-answer.result
+    c.nack-answer.new.self c.in_ok-ready.ready.room refl
+    (ap (λ (r : Ready). r.room) c.in_ok-ready.ensures.made)
+    (logs_adds (Step.Nack c.args.worker c.args.namespace.now) c.args.self.now.held c.nack-answer.result c.nack-answer.new.self
+    c.nack-answer.ensures)
 
-pub repeat_entry-rendered-requires-clause-entry : goal.repeat_entry-rendered-requires-clause-entry
-repeat_entry-rendered-requires-clause-entry g c = entry_behind (Step.Nack c.args.worker c.args.namespace.now) c.args.self.now.held
-    c.nack-answer.result c.nack-answer.new.self
-    c.log.result.now c.log-2.result.now
-    (logs_adds (Step.Nack c.args.worker c.args.namespace.now) c.args.self.now.held c.nack-answer.result c.nack-answer.new.self c.nack-answer.ensures)
-    c.log.ensures.entries c.log-2.ensures.entries
+pub receive_answer-requires-clause-entry : goal.receive_answer-requires-clause-entry
+receive_answer-requires-clause-entry g c = entry_behind (Step.Nack c.args.worker c.args.namespace.now) c.args.self.now.held c.nack-answer.result
+    c.nack-answer.new.self c.in_ok-ready.ready.place c.log.result.now
+    (logs_adds (Step.Nack c.args.worker c.args.namespace.now) c.args.self.now.held c.nack-answer.result c.nack-answer.new.self
+    c.nack-answer.ensures)
+    (ap (λ (r : Ready). r.place) c.in_ok-ready.ensures.made) c.log.ensures.entries
 
 pub invariant_of-self-2-clause-counted : goal.invariant_of-self-2-clause-counted
 invariant_of-self-2-clause-counted g c = omega (
   arith,
   c.args.self.now.counted,
-  c.receive.ensures.total,
-  ap count c.repeat_entry-rendered.ensures,
+  c.receive_answer.ensures.total,
   adds_count (Step.Nack c.args.worker c.args.namespace.now) c.args.self.now.held c.nack-answer.result c.nack-answer.new.self
-      (logs_adds (Step.Nack c.args.worker c.args.namespace.now) c.args.self.now.held c.nack-answer.result c.nack-answer.new.self c.nack-answer.ensures),
+      (logs_adds (Step.Nack c.args.worker c.args.namespace.now) c.args.self.now.held c.nack-answer.result c.nack-answer.new.self
+      c.nack-answer.ensures),
 )
 
+pub returns-clause-received : goal.returns-clause-received
+returns-clause-received g c = c.receive_answer.ensures.receipts ∙ received_same c.in_ok-ready.ready.place (length c.args.self.now.held.log)
+    c.in_ok-ready.ready.step (Step.Nack c.args.worker c.args.namespace.now)
+    (rendered_step c.nack-answer.result) (rendered_step c.nack-answer.result) c.prepare_work.new.receipts.items c.args.seat.now
+    (ap (λ (r : Ready). r.place) c.in_ok-ready.ensures.made) (ap (λ (r : Ready). r.step) c.in_ok-ready.ensures.made) refl
+    (c.in_ok-ready.ensures.same ∙ c.seat.view_is)
+
 pub returns-clause-seat : goal.returns-clause-seat
-returns-clause-seat g c = receives (Step.Nack c.args.worker c.args.namespace.now) c.in_ok-step.step (length c.log.result.now) c.nack-answer.result
-    c.repeat_entry-rendered.result c.args.seat.now c.prepare.new.receipts.items c.receive.new.receipts.items
-    (logs_refused (Step.Nack c.args.worker c.args.namespace.now) c.args.self.now.held
-    c.nack-answer.result c.nack-answer.new.self c.nack-answer.ensures)
-    c.receive.ensures.receipts (ap (λ m. m.0) c.in_ok-step.ensures.made ∙ ap (Step.Nack c.args.worker) c.in_ok-clone.ensures.cases)
-    c.repeat_entry-rendered.ensures (c.in_ok-step.ensures.same ∙ c.seat.view_is)
+returns-clause-seat g c = gains (Step.Nack c.args.worker c.args.namespace.now) (length c.args.self.now.held.log) c.nack-answer.result
+    c.args.seat.now c.receive_answer.new.receipts.items
+    (logs_refused (Step.Nack c.args.worker c.args.namespace.now) c.args.self.now.held c.nack-answer.result c.nack-answer.new.self
+    c.nack-answer.ensures)
+    (returns-clause-received g c)
