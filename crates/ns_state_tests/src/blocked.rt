@@ -35,24 +35,14 @@ struct Waiter<'a> {
 }
 
 impl<'a> Waiter<'a> {
-    fn new(
-        namespace: &'a str,
-        number: u64,
-        source: Source<'a>,
-        escapes: bool,
-        infeasible: &'a [Named<'a>],
-    ) -> Waiter<'a> {
-        Waiter {
-            key: (namespace, number),
-            source,
-            escapes,
-            infeasible,
-        }
-    }
-
     /// One that found no class infeasible.
-    fn feasible(namespace: &'a str, number: u64, source: Source<'a>) -> Waiter<'a> {
-        Waiter::new(namespace, number, source, false, &[])
+    fn feasible(key: KeyText<'a>, source: Source<'a>) -> Waiter<'a> {
+        Waiter {
+            key,
+            source,
+            escapes: false,
+            infeasible: &[],
+        }
     }
 }
 
@@ -141,11 +131,19 @@ pub(crate) fn is_key(key: &EvalKey, (namespace, number): KeyText) -> bool {
 
 /// Whether these are the keys, in this order.
 fn are_keys(keys: &[EvalKey], expected: &[KeyText]) -> bool {
-    keys.len() == expected.len()
-        && keys
-            .iter()
-            .zip(expected)
-            .all(|(key, expected)| is_key(key, *expected))
+    let mut right = keys.len() == expected.len();
+    for (key, expected) in keys.iter().zip(expected) {
+        right &= is_key(key, *expected);
+    }
+    right
+}
+
+fn is_among(keys: &[KeyText], key: &EvalKey) -> bool {
+    let mut is_there = false;
+    for named in keys {
+        is_there |= is_key(key, *named);
+    }
+    is_there
 }
 
 /// Whether these are the keys in the slots, in this order. A vacant slot has none.
@@ -233,7 +231,7 @@ fn keeps_others(
     let mut right = true;
     for waiter in waiters {
         let key = key(rt, alloc, waiter.key);
-        right &= has(list, &key) != woken.iter().any(|expected| is_key(&key, *expected));
+        right &= has(list, &key) != is_among(woken, &key);
     }
     right
 }
@@ -249,53 +247,108 @@ const SMALL: Named = ("small", "linux");
 /// What is released, with the classes of the nodes that have room, and whom that wakes.
 type Case<'a> = (Source<'a>, &'a [Named<'a>], &'a [KeyText<'a>]);
 
-fn wakes(
+/// Whether the release of the case wakes these, by itself or as all that a step releases.
+fn wakes_these(
     rt: &impl Abort,
     alloc: Global,
-    waiters: &[Waiter],
+    list: &mut BlockedList,
     (source, names, expected): Case,
+    is_step: bool,
 ) -> bool {
+    let keys = if is_step {
+        woken_by_step(rt, alloc, list, source, names)
+    } else {
+        woken(rt, alloc, list, source, names)
+    };
+    are_keys(keys.as_slice(), expected)
+}
+
+/// Whether it wakes these of the waiters, and the others wait on.
+fn wakes(rt: &impl Abort, alloc: Global, waiters: &[Waiter], case: Case, is_step: bool) -> bool {
     let mut list = blocked(rt, alloc, waiters);
-    let keys = woken(rt, alloc, &mut list, source, names);
-    let right = are_keys(keys.as_slice(), expected)
-        & keeps_others(rt, alloc, &list, waiters, expected);
-    let mut list = blocked(rt, alloc, waiters);
-    let keys = woken_by_step(rt, alloc, &mut list, source, names);
-    right & are_keys(keys.as_slice(), expected) & keeps_others(rt, alloc, &list, waiters, expected)
+    wakes_these(rt, alloc, &mut list, case, is_step)
+        & keeps_others(rt, alloc, &list, waiters, case.2)
+}
+
+const DEFAULT: Source = Source::Pool("default");
+
+const GPU: Source = Source::Pool("gpu");
+
+static WAITERS: [Waiter; 7] = [
+    Waiter {
+        key: ("ta", 1),
+        source: DEFAULT,
+        escapes: false,
+        infeasible: &[],
+    },
+    Waiter {
+        key: ("tb", 1),
+        source: Source::Quota("default"),
+        escapes: false,
+        infeasible: &[],
+    },
+    Waiter {
+        key: ("ta", 2),
+        source: GPU,
+        escapes: false,
+        infeasible: &[],
+    },
+    Waiter {
+        key: ("tb", 2),
+        source: DEFAULT,
+        escapes: false,
+        infeasible: &[LINUX],
+    },
+    Waiter {
+        key: ("ta", 3),
+        source: DEFAULT,
+        escapes: true,
+        infeasible: &[LINUX],
+    },
+    Waiter {
+        key: ("tb", 3),
+        source: Source::Quota("q"),
+        escapes: false,
+        infeasible: &[LINUX],
+    },
+    Waiter {
+        key: ("ta", 4),
+        source: DEFAULT,
+        escapes: false,
+        infeasible: &[LINUX, BSD],
+    },
+];
+
+static CASES: [Case; 10] = [
+    (DEFAULT, &[LINUX], &[("ta", 1), ("ta", 3)]),
+    (DEFAULT, &[BSD], &[("ta", 1), ("tb", 2), ("ta", 3)]),
+    (
+        DEFAULT,
+        &[SMALL],
+        &[("ta", 1), ("tb", 2), ("ta", 3), ("ta", 4)],
+    ),
+    (DEFAULT, &[LINUX, BSD], &[("ta", 1), ("tb", 2), ("ta", 3)]),
+    (DEFAULT, &[], &[]),
+    (GPU, &[LINUX], &[("ta", 2)]),
+    (Source::Pool("q"), &[SMALL], &[]),
+    (Source::Quota("q"), &[], &[("tb", 3)]),
+    (Source::Quota("default"), &[], &[("tb", 1)]),
+    (Source::Quota("gpu"), &[], &[]),
+];
+
+/// Whether each case is answered so.
+fn all_wake(rt: &impl Abort, alloc: Global, is_step: bool) -> bool {
+    let mut right = true;
+    for case in &CASES {
+        right &= wakes(rt, alloc, &WAITERS, *case, is_step);
+    }
+    right
 }
 
 #[test]
 fn a_release_wakes_its_own_that_can_use_a_class(rt: HostRuntime) {
-    let alloc = rt.alloc();
-    let (default, gpu) = (Source::Pool("default"), Source::Pool("gpu"));
-    let waiters = [
-        Waiter::new("ta", 1, default, false, &[]),
-        Waiter::new("tb", 1, Source::Quota("default"), false, &[]),
-        Waiter::new("ta", 2, gpu, false, &[]),
-        Waiter::new("tb", 2, default, false, &[LINUX]),
-        Waiter::new("ta", 3, default, true, &[LINUX]),
-        Waiter::new("tb", 3, Source::Quota("q"), false, &[LINUX]),
-        Waiter::new("ta", 4, default, false, &[LINUX, BSD]),
-    ];
-    let cases: [Case; 10] = [
-        (default, &[LINUX], &[("ta", 1), ("ta", 3)]),
-        (default, &[BSD], &[("ta", 1), ("tb", 2), ("ta", 3)]),
-        (
-            default,
-            &[SMALL],
-            &[("ta", 1), ("tb", 2), ("ta", 3), ("ta", 4)],
-        ),
-        (default, &[LINUX, BSD], &[("ta", 1), ("tb", 2), ("ta", 3)]),
-        (default, &[], &[]),
-        (gpu, &[LINUX], &[("ta", 2)]),
-        (Source::Pool("q"), &[SMALL], &[]),
-        (Source::Quota("q"), &[], &[("tb", 3)]),
-        (Source::Quota("default"), &[], &[("tb", 1)]),
-        (Source::Quota("gpu"), &[], &[]),
-    ];
-    for (place, case) in cases.iter().enumerate() {
-        assert!(rt; wakes(&rt, alloc, &waiters, *case), "case {place}");
-    }
+    assert!(rt; all_wake(&rt, rt.alloc(), false));
+    assert!(rt; all_wake(&rt, rt.alloc(), true));
 }
 
 /// Two pools and two quotas, one of the pools twice.
@@ -312,38 +365,60 @@ fn several(rt: &impl Abort, alloc: Global) -> Releases {
     }
 }
 
+/// Whether the release of several wakes these, in this order.
+fn several_wake(
+    rt: &impl Abort,
+    alloc: Global,
+    list: &mut BlockedList,
+    expected: &[KeyText],
+) -> bool {
+    let releases = several(rt, alloc);
+    let keys = list.release(&releases).expect(rt, "memory");
+    drop(releases);
+    are_keys(keys.as_slice(), expected)
+}
+
+/// Of many places, each with no class that it found infeasible.
+static SCATTERED: [(KeyText, Source); 8] = [
+    (("tb", 9), DEFAULT),
+    (("ta", 4), Source::Quota("qa")),
+    (("tb", 2), GPU),
+    (("ta", 7), Source::Quota("qb")),
+    (("ta", 1), Source::Pool("arm")),
+    (("ta", 5), DEFAULT),
+    (("tb", 4), Source::Quota("qc")),
+    (("tb", 3), Source::Quota("qa")),
+];
+
+static SCATTERED_WOKEN: [KeyText; 6] = [
+    ("tb", 9),
+    ("ta", 4),
+    ("tb", 2),
+    ("ta", 7),
+    ("ta", 5),
+    ("tb", 3),
+];
+
+fn block_scattered(rt: &impl Abort, alloc: Global, list: &mut BlockedList) {
+    for (key, source) in &SCATTERED {
+        block(rt, alloc, list, &Waiter::feasible(*key, *source));
+    }
+}
+
+/// Whether the others wait on, and a second release wakes nobody.
+fn wakes_in_order(rt: &impl Abort, alloc: Global, list: &mut BlockedList) -> bool {
+    several_wake(rt, alloc, list, &SCATTERED_WOKEN)
+        & wait(rt, alloc, list, Source::Pool("arm"), &[("ta", 1)])
+        & wait(rt, alloc, list, Source::Quota("qc"), &[("tb", 4)])
+        & several_wake(rt, alloc, list, &[])
+}
+
 #[test]
 fn several_are_woken_in_the_order_of_the_list(rt: HostRuntime) {
     let alloc = rt.alloc();
-    let mut list = blocked(
-        &rt,
-        alloc,
-        &[
-            Waiter::feasible("tb", 9, Source::Pool("default")),
-            Waiter::feasible("ta", 4, Source::Quota("qa")),
-            Waiter::feasible("tb", 2, Source::Pool("gpu")),
-            Waiter::feasible("ta", 7, Source::Quota("qb")),
-            Waiter::feasible("ta", 1, Source::Pool("arm")),
-            Waiter::feasible("ta", 5, Source::Pool("default")),
-            Waiter::feasible("tb", 4, Source::Quota("qc")),
-            Waiter::feasible("tb", 3, Source::Quota("qa")),
-        ],
-    );
-    let releases = several(&rt, alloc);
-    let first = list.release(&releases).expect(&rt, "memory");
-    let expected = [
-        ("tb", 9),
-        ("ta", 4),
-        ("tb", 2),
-        ("ta", 7),
-        ("ta", 5),
-        ("tb", 3),
-    ];
-    assert!(rt; are_keys(first.as_slice(), &expected));
-    assert!(rt; wait(&rt, alloc, &list, Source::Pool("arm"), &[("ta", 1)]));
-    assert!(rt; wait(&rt, alloc, &list, Source::Quota("qc"), &[("tb", 4)]));
-    let second = list.release(&releases).expect(&rt, "memory");
-    assert!(rt; second.is_empty());
+    let mut list = BlockedList::new(alloc);
+    block_scattered(&rt, alloc, &mut list);
+    assert!(rt; wakes_in_order(&rt, alloc, &mut list));
 }
 
 fn untrack(rt: &impl Abort, alloc: Global, list: &mut BlockedList, expected: KeyText) -> bool {
@@ -352,31 +427,57 @@ fn untrack(rt: &impl Abort, alloc: Global, list: &mut BlockedList, expected: Key
     !has(list, &key)
 }
 
+/// Puts one of each key at the end.
+fn block_each(
+    rt: &impl Abort,
+    alloc: Global,
+    list: &mut BlockedList,
+    source: Source,
+    keys: &[KeyText],
+) {
+    for key in keys {
+        block(rt, alloc, list, &Waiter::feasible(*key, source));
+    }
+}
+
+/// Puts both at the end at once.
+fn append_both(
+    rt: &impl Abort,
+    alloc: Global,
+    list: &mut BlockedList,
+    source: Source,
+    first: KeyText,
+    second: KeyText,
+) {
+    let first = Waiter::feasible(first, source);
+    append(rt, alloc, list, &first, &Waiter::feasible(second, source));
+}
+
+static FIRST: [KeyText; 3] = [("tb", 2), ("ta", 2), ("tb", 1)];
+
+static WAITING: [KeyText; 4] = [("tb", 2), ("tb", 1), ("ta", 1), ("ta", 2)];
+
+static WOKEN: [KeyText; 3] = [("tb", 2), ("ta", 1), ("ta", 2)];
+
 /// Whether one that was untracked does not wake, unless it came again, and then as the last.
-fn forgets(rt: &impl Abort, alloc: Global, source: Source) -> bool {
-    let first = [
-        Waiter::feasible("tb", 2, source),
-        Waiter::feasible("ta", 2, source),
-        Waiter::feasible("tb", 1, source),
-    ];
-    let mut list = blocked(rt, alloc, &first);
-    let mut right = untrack(rt, alloc, &mut list, ("ta", 2));
-    right &= untrack(rt, alloc, &mut list, ("ta", 1));
-    let (third, again) = (
-        Waiter::feasible("ta", 1, source),
-        Waiter::feasible("ta", 2, source),
-    );
-    append(rt, alloc, &mut list, &third, &again);
-    let expected = [("tb", 2), ("tb", 1), ("ta", 1), ("ta", 2)];
-    right &= wait(rt, alloc, &list, source, &expected);
-    right &= untrack(rt, alloc, &mut list, ("tb", 1));
-    let keys = woken(rt, alloc, &mut list, source, &[LINUX]);
-    right && are_keys(keys.as_slice(), &[("tb", 2), ("ta", 1), ("ta", 2)])
+fn forgets(rt: &impl Abort, alloc: Global, list: &mut BlockedList, source: Source) -> bool {
+    block_each(rt, alloc, list, source, &FIRST);
+    let mut right = untrack(rt, alloc, list, ("ta", 2));
+    right &= untrack(rt, alloc, list, ("ta", 1));
+    append_both(rt, alloc, list, source, ("ta", 1), ("ta", 2));
+    right &= wait(rt, alloc, list, source, &WAITING);
+    right &= untrack(rt, alloc, list, ("tb", 1));
+    right & wakes_these(rt, alloc, list, (source, &[LINUX], &WOKEN), false)
+}
+
+fn a_list_forgets(rt: &impl Abort, alloc: Global, source: Source) -> bool {
+    let mut list = BlockedList::new(alloc);
+    forgets(rt, alloc, &mut list, source)
 }
 
 #[test]
 fn untracked_ones_are_not_woken(rt: HostRuntime) {
     let alloc = rt.alloc();
-    assert!(rt; forgets(&rt, alloc, Source::Quota("q")));
-    assert!(rt; forgets(&rt, alloc, Source::Pool("default")));
+    assert!(rt; a_list_forgets(&rt, alloc, Source::Quota("q")));
+    assert!(rt; a_list_forgets(&rt, alloc, DEFAULT));
 }

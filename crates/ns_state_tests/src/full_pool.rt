@@ -4,8 +4,8 @@ ghost use Rattle.ns_types.specs.State.Limits.{is_amount};
 
 use crate::made::{numbered, text};
 use crate::nodes::{refusal, registration, told};
-use crate::owned::{seen, with};
-use crate::server::root;
+use crate::owned::seen;
+use crate::server::with_core;
 use ns_core::Core;
 use ns_types::good::GoodTelling;
 use ns_types::name::NameKind;
@@ -59,30 +59,30 @@ fn fills(rt: &impl Abort, alloc: Global, core: &mut Core, root: &Text, pool: &Te
     right
 }
 
-/// Whether they are a thousand nodes, of which the first offers so many MHz.
-fn are_these(nodes: &[NodeShown], cpu: u64) -> bool {
+/// How many nodes they are, and how many MHz the first offers.
+fn counted(nodes: &[NodeShown]) -> Option<(usize, u64)> {
     match nodes.first() {
-        Some(node) => nodes.len() == 1000 && node.row.offer.capacity.cpu == cpu,
-        None => false,
+        Some(node) => Some((nodes.len(), node.row.offer.capacity.cpu)),
+        None => None,
     }
 }
 
-fn shows(answer: &Result<Reply, Refusal>, cpu: u64) -> bool {
+fn listed(answer: &Result<Reply, Refusal>) -> Option<(usize, u64)> {
     match answer {
         Ok(reply) => match &reply.content {
-            Content::Nodes(nodes) => are_these(nodes.as_slice(), cpu),
-            _ => false,
+            Content::Nodes(nodes) => counted(nodes.as_slice()),
+            _ => None,
         },
-        Err(_) => false,
+        Err(_) => None,
     }
 }
 
 /// Whether a thousand nodes are listed, of which the first offers so many MHz.
 fn lists(core: &mut Core, root: &Text, pool: &Text, cpu: u64) -> bool {
     let list = GoodTelling::new(NodeCommand::ListNodes);
-    let right = seen(told(core, root, pool, &list), |answer| shows(answer, cpu));
+    let listed = seen(told(core, root, pool, &list), listed);
     drop(list);
-    right
+    listed == Some((1000, cpu))
 }
 
 fn has_a_thousand_nodes(rt: &impl Abort, alloc: Global, core: &mut Core, root: &Text) -> bool {
@@ -97,13 +97,5 @@ fn has_a_thousand_nodes(rt: &impl Abort, alloc: Global, core: &mut Core, root: &
 #[test]
 fn fills_a_pool(rt: HostRuntime) {
     let alloc = rt.alloc();
-    let root = root(&rt, alloc);
-    let core = Core::new(alloc, &root);
-    assert!(rt;
-        with(
-            &rt,
-            core,
-            |core| has_a_thousand_nodes(&rt, alloc, core, root.get())
-        )
-    );
+    assert!(rt; with_core(&rt, alloc, has_a_thousand_nodes));
 }

@@ -4,8 +4,8 @@ ghost use Rattle.std.specs.Option.{option_map_or};
 ghost use Rattle.ns_types.specs.State.Limits.{is_between, is_pool_name};
 
 use crate::made::{numbered, text};
-use crate::owned::{seen, with};
-use crate::server::{asked, groups, refusal, registered, root};
+use crate::owned::seen;
+use crate::server::{asked, groups, refusal, registered, with_core};
 use ns_core::Core;
 use ns_types::good::GoodAsk;
 use ns_types::job::{JobKind, Registration};
@@ -87,13 +87,14 @@ pub(crate) fn registers_all(
     right
 }
 
-fn is_list(answer: &Result<Reply, Refusal>, index: u64) -> bool {
+/// How many jobs are listed, and at which index.
+fn listed(answer: &Result<Reply, Refusal>) -> Option<(usize, Option<u64>)> {
     match answer {
         Ok(reply) => match &reply.content {
-            Content::Jobs(jobs) => reply.index == Some(index) && jobs.as_slice().len() == 1000,
-            _ => false,
+            Content::Jobs(jobs) => Some((jobs.as_slice().len(), reply.index)),
+            _ => None,
         },
-        Err(_) => false,
+        Err(_) => None,
     }
 }
 
@@ -107,11 +108,9 @@ fn lists(
     index: u64,
 ) -> bool {
     let list = list(rt, alloc);
-    let right = seen(asked(core, Some(root), namespace, &list), |answer| {
-        is_list(answer, index)
-    });
+    let listed = seen(asked(core, Some(root), namespace, &list), listed);
     drop(list);
-    right
+    listed == Some((1000, Some(index)))
 }
 
 /// What refuses one job more.
@@ -142,13 +141,5 @@ fn has_a_thousand_jobs(rt: &impl Abort, alloc: Global, core: &mut Core, root: &T
 #[test]
 fn fills_jobs(rt: HostRuntime) {
     let alloc = rt.alloc();
-    let root = root(&rt, alloc);
-    let core = Core::new(alloc, &root);
-    assert!(rt;
-        with(
-            &rt,
-            core,
-            |core| has_a_thousand_jobs(&rt, alloc, core, root.get())
-        )
-    );
+    assert!(rt; with_core(&rt, alloc, has_a_thousand_jobs));
 }

@@ -1,6 +1,6 @@
 // Tables with ample memory, filled to their limits: one row more is refused as too many, and not for want of memory.
 
-use crate::made::{digits, text};
+use crate::made::{copied, digits, text};
 use crate::owned::with;
 use ns_acl::Acl;
 use ns_admin::{RecordChange, opening, put_namespace, put_pool, put_quota, write};
@@ -23,43 +23,6 @@ const LAST: u64 = 21_000;
 /// The first number whose row was refused, and why.
 type Refused = Option<(u64, Refusal)>;
 
-/// Puts a row of each name in turn, until one is refused.
-fn fill<T, F: Fn(&mut T, &Text) -> Option<Refusal>>(
-    rt: &impl Abort,
-    alloc: Global,
-    state: &mut T,
-    put: F,
-) -> Refused
-    requires { F.IsAlwaysCallable put }
-{
-    for number in FIRST..LAST {
-        let name = digits(rt, alloc, number);
-        let refusal = put(state, &name);
-        drop(name);
-        if let Some(refusal) = refusal {
-            return Some((number, refusal));
-        }
-    }
-    None
-}
-
-/// Makes the change that was prepared, and says what refuses it.
-fn changed<S, T, W: FnOnce(&mut S, T) -> Result<(), AllocError>>(
-    state: &mut S,
-    prepared: Result<T, Refusal>,
-    write: W,
-) -> Option<Refusal>
-    requires { W.IsAlwaysCallable write }
-{
-    match prepared {
-        Ok(change) => match write(state, change) {
-            Ok(()) => None,
-            Err(_) => Some(Refusal::Memory),
-        },
-        Err(refusal) => Some(refusal),
-    }
-}
-
 /// Tables, with the index that is right for them.
 #[derive(Drop)]
 struct Indexed {
@@ -74,11 +37,12 @@ fn opened(alloc: Global) -> Result<Indexed, AllocError> {
     })
 }
 
-/// Writes what was prepared, and says what refuses it.
-fn written(state: &mut Indexed, prepared: Result<RecordChange, Refusal>) -> Option<Refusal> {
-    changed(state, prepared, |state, change| {
-        write(&mut state.tables, &mut state.live, change)
-    })
+/// Of what a row is put.
+#[derive(Clone, Copy)]
+enum Kind {
+    Namespace,
+    Pool,
+    Quota,
 }
 
 fn namespace(rt: &impl Abort, alloc: Global) -> Namespace {
@@ -91,43 +55,63 @@ fn namespace(rt: &impl Abort, alloc: Global) -> Namespace {
     }
 }
 
-fn fill_namespaces(rt: &impl Abort, state: &mut Indexed) -> Refused {
-    let alloc = state.tables.alloc;
-    let namespace = namespace(rt, alloc);
-    fill(rt, alloc, state, |state, name| {
-        let prepared = put_namespace(&state.tables, name, &namespace);
-        written(state, prepared)
-    })
+/// What a row of the name changes, or what refuses it.
+fn prepared(
+    rt: &impl Abort,
+    tables: &Tables,
+    kind: Kind,
+    name: &Text,
+) -> Result<RecordChange, Refusal> {
+    let alloc = tables.alloc;
+    match kind {
+        Kind::Namespace => put_namespace(tables, name, &namespace(rt, alloc)),
+        Kind::Pool => {
+            let description = text(rt, alloc, "");
+            put_pool(tables, name, &Pool { description })
+        }
+        Kind::Quota => {
+            let (description, limits) = (text(rt, alloc, ""), None);
+            put_quota(
+                tables,
+                name,
+                &Quota {
+                    description,
+                    limits,
+                },
+            )
+        }
+    }
 }
 
-fn fill_pools(rt: &impl Abort, state: &mut Indexed) -> Refused {
-    let alloc = state.tables.alloc;
-    let pool = Pool {
-        description: text(rt, alloc, ""),
-    };
-    fill(rt, alloc, state, |state, name| {
-        let prepared = put_pool(&state.tables, name, &pool);
-        written(state, prepared)
-    })
+/// Puts a row whose name is the number, and says what refuses it.
+fn put(rt: &impl Abort, state: &mut Indexed, kind: Kind, number: u64) -> Option<Refusal> {
+    let name = digits(rt, state.tables.alloc, number);
+    let prepared = prepared(rt, &state.tables, kind, &name);
+    drop(name);
+    match prepared {
+        Ok(change) => match write(&mut state.tables, &mut state.live, change) {
+            Ok(()) => None,
+            Err(_) => Some(Refusal::Memory),
+        },
+        Err(refusal) => Some(refusal),
+    }
 }
 
-fn fill_quotas(rt: &impl Abort, state: &mut Indexed) -> Refused {
-    let alloc = state.tables.alloc;
-    let quota = Quota {
-        description: text(rt, alloc, ""),
-        limits: None,
-    };
-    fill(rt, alloc, state, |state, name| {
-        let prepared = put_quota(&state.tables, name, &quota);
-        written(state, prepared)
-    })
+/// Puts a row of each name in turn, until one is refused.
+fn fill(rt: &impl Abort, state: &mut Indexed, kind: Kind) -> Refused {
+    for number in FIRST..LAST {
+        if let Some(refusal) = put(rt, state, kind, number) {
+            return Some((number, refusal));
+        }
+    }
+    None
 }
 
 /// The namespace `default` and the pool `default` are there, so 9,999 more of each have room.
 fn has_full_tables(rt: &impl Abort, state: &mut Indexed) -> bool {
-    let namespaces = fill_namespaces(rt, state) == Some((19_999, Refusal::Full));
-    let pools = fill_pools(rt, state) == Some((19_999, Refusal::Full));
-    let quotas = fill_quotas(rt, state) == Some((20_000, Refusal::Full));
+    let namespaces = fill(rt, state, Kind::Namespace) == Some((19_999, Refusal::Full));
+    let pools = fill(rt, state, Kind::Pool) == Some((19_999, Refusal::Full));
+    let quotas = fill(rt, state, Kind::Quota) == Some((20_000, Refusal::Full));
     namespaces && pools && quotas
 }
 
@@ -137,36 +121,37 @@ fn fills_tables(rt: HostRuntime) {
     assert!(rt; with(&rt, state, |state| has_full_tables(&rt, state)));
 }
 
-fn fill_policies(rt: &impl Abort, alloc: Global, acl: &mut Acl) -> Refused {
+/// Puts a policy of the name.
+fn put_policy(rt: &impl Abort, alloc: Global, acl: &mut Acl, name: &Text) -> Option<Refusal> {
     let policy = Policy {
         description: text(rt, alloc, ""),
         text: text(rt, alloc, ""),
         rules: Rows::new(alloc),
     };
-    fill(
-        rt,
-        alloc,
-        acl,
-        |acl, name| acl.put_policy(name, &policy).err(),
-    )
+    acl.put_policy(name, &policy).err()
 }
 
-/// A client's token whose accessor is its secret.
-fn token(rt: &impl Abort, alloc: Global, number: u64) -> NewToken {
-    NewToken {
-        accessor: digits(rt, alloc, number),
-        secret: digits(rt, alloc, number),
+/// Creates a client's token whose accessor is its secret.
+fn create_token(rt: &impl Abort, alloc: Global, acl: &mut Acl, secret: Text) -> Option<Refusal> {
+    let token = NewToken {
+        accessor: copied(rt, &secret),
+        secret,
         name: text(rt, alloc, ""),
         kind: TokenKind::Client,
         policies: Rows::new(alloc),
-    }
+    };
+    acl.create_token(&token).err()
 }
 
-fn fill_tokens(rt: &impl Abort, alloc: Global, acl: &mut Acl) -> Refused {
+/// Puts policies whose names are the numbers, or tokens whose secrets they are, until one is refused.
+fn fill_acl(rt: &impl Abort, alloc: Global, acl: &mut Acl, is_token: bool) -> Refused {
     for number in FIRST..LAST {
-        let new = token(rt, alloc, number);
-        let refusal = acl.create_token(&new).err();
-        drop(new);
+        let name = digits(rt, alloc, number);
+        let refusal = if is_token {
+            create_token(rt, alloc, acl, name)
+        } else {
+            put_policy(rt, alloc, acl, &name)
+        };
         if let Some(refusal) = refusal {
             return Some((number, refusal));
         }
@@ -176,8 +161,8 @@ fn fill_tokens(rt: &impl Abort, alloc: Global, acl: &mut Acl) -> Refused {
 
 /// The bootstrap token is there, so 9,999 more have room.
 fn has_full_rights(rt: &impl Abort, alloc: Global, acl: &mut Acl) -> bool {
-    let policies = fill_policies(rt, alloc, acl) == Some((20_000, Refusal::Full));
-    let tokens = fill_tokens(rt, alloc, acl) == Some((19_999, Refusal::Full));
+    let policies = fill_acl(rt, alloc, acl, false) == Some((20_000, Refusal::Full));
+    let tokens = fill_acl(rt, alloc, acl, true) == Some((19_999, Refusal::Full));
     policies && tokens
 }
 

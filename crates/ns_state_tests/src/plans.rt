@@ -219,17 +219,21 @@ fn place(placement: &Placement) -> (u64, u64, usize) {
     (placement.group, placement.node, evictions.len())
 }
 
+fn are_places(placements: &[Placement], places: &[(u64, u64, usize)]) -> bool {
+    let mut right = placements.len() == places.len();
+    for (placement, wanted) in placements.iter().zip(places) {
+        right &= place(placement) == *wanted;
+    }
+    right
+}
+
 /// A plan's stops and places, and whether it is short.
 type Wanted<'a> = (&'a [u64], &'a [(u64, u64, usize)], bool);
 
 fn says(planned: &Planned, (stops, places, short): Wanted) -> bool {
     let placements = planned.plan().placing.placements.as_slice();
     planned.plan().stops.as_slice() == stops
-        && placements.len() == places.len()
-        && placements
-            .iter()
-            .zip(places)
-            .all(|(p, wanted)| place(p) == *wanted)
+        && are_places(placements, places)
         && planned.is_short() == short
         && planned.does_nothing() == (stops.is_empty() && places.is_empty())
 }
@@ -241,47 +245,76 @@ fn plans(rt: &impl Abort, alloc: Global, case: &Case, wanted: Wanted) -> bool {
     says(&planned, wanted)
 }
 
-#[test]
-fn missing_ones_are_placed_and_the_greatest_numbers_stop(rt: HostRuntime) {
-    let alloc = rt.alloc();
-    let missing = Case {
-        counts: [2, 1],
-        cpus: [300, 500],
-        live: &[],
-        nodes: &[(1000, None), (900, None)],
-        used: None,
-    };
-    let placed = [(0, 1, 0), (0, 1, 0), (1, 0, 0)];
-    assert!(rt; plans(&rt, alloc, &missing, (&[], &placed, false)));
-    for (count, stops) in [(1, [5, 8].as_slice()), (3, [].as_slice())] {
-        let more = Case {
-            counts: [count, 0],
+/// Two groups have none yet, and one of three allocations is to have one, and then three.
+static COUNTED: [(Case, Wanted); 3] = [
+    (
+        Case {
+            counts: [2, 1],
+            cpus: [300, 500],
+            live: &[],
+            nodes: &[(1000, None), (900, None)],
+            used: None,
+        },
+        (&[], &[(0, 1, 0), (0, 1, 0), (1, 0, 0)], false),
+    ),
+    (
+        Case {
+            counts: [1, 0],
             cpus: [300, 1],
             live: &[3, 5, 8],
             nodes: &[(1000, None)],
             used: None,
-        };
-        assert!(rt; plans(&rt, alloc, &more, (stops, &[], false)));
+        },
+        (&[5, 8], &[], false),
+    ),
+    (
+        Case {
+            counts: [3, 0],
+            cpus: [300, 1],
+            live: &[3, 5, 8],
+            nodes: &[(1000, None)],
+            used: None,
+        },
+        (&[], &[], false),
+    ),
+];
+
+#[test]
+fn missing_ones_are_placed_and_the_greatest_numbers_stop(rt: HostRuntime) {
+    let alloc = rt.alloc();
+    for (case, wanted) in &COUNTED {
+        assert!(rt; plans(&rt, alloc, case, *wanted));
     }
 }
+
+/// The quota has room for one, and then for one and for what gives way.
+static LIMITED: [(Case, Wanted); 2] = [
+    (
+        Case {
+            counts: [2, 1],
+            cpus: [300, 1],
+            live: &[],
+            nodes: &[(1000, None)],
+            used: Some(401),
+        },
+        (&[], &[(0, 0, 0)], true),
+    ),
+    (
+        Case {
+            counts: [3, 0],
+            cpus: [500, 1],
+            live: &[],
+            nodes: &[(500, Some(41)), (500, Some(40)), (500, Some(40))],
+            used: Some(500),
+        },
+        (&[], &[(0, 1, 1), (0, 2, 1)], true),
+    ),
+];
 
 #[test]
 fn a_quota_ends_placing_and_gets_back_what_gives_way(rt: HostRuntime) {
     let alloc = rt.alloc();
-    let ends = Case {
-        counts: [2, 1],
-        cpus: [300, 1],
-        live: &[],
-        nodes: &[(1000, None)],
-        used: Some(401),
-    };
-    assert!(rt; plans(&rt, alloc, &ends, (&[], &[(0, 0, 0)], true)));
-    let gets_back = Case {
-        counts: [3, 0],
-        cpus: [500, 1],
-        live: &[],
-        nodes: &[(500, Some(41)), (500, Some(40)), (500, Some(40))],
-        used: Some(500),
-    };
-    assert!(rt; plans(&rt, alloc, &gets_back, (&[], &[(0, 1, 1), (0, 2, 1)], true)));
+    for (case, wanted) in &LIMITED {
+        assert!(rt; plans(&rt, alloc, case, *wanted));
+    }
 }

@@ -2,13 +2,12 @@
 // that look the same.
 
 use crate::made::{copied, text};
-use crate::owned::{push, seen, with};
-use crate::server::root;
+use crate::owned::{push, seen};
+use crate::server::with_core;
 use crate::{jobs, nodes};
 use ns_core::Core;
 use ns_runs::{Ran, run, step};
 use ns_types::good::{GoodAdmin, GoodAsk, GoodTelling};
-use ns_types::name::Secret;
 use ns_types::records::Namespace;
 use ns_types::refusal::Refusal;
 use ns_types::reply::{Content, Reply};
@@ -208,7 +207,13 @@ fn rests(core: &Core) -> bool {
 }
 
 fn count(all: &[Told], kind: u64) -> usize {
-    all.iter().filter(|told| told.0 == kind).count()
+    let mut count: usize = 0;
+    for told in all {
+        if told.0 == kind {
+            count = count.saturating_add(1);
+        }
+    }
+    count
 }
 
 /// Whether each round has its steps out of turn and no other step is, and none is refused.
@@ -222,42 +227,32 @@ fn is_as_wanted(all: &[Told]) -> bool {
     right
 }
 
-/// What the steps are answered by the core, which rests in the end.
-fn all_told(
-    rt: &impl Abort,
-    alloc: Global,
-    core: &mut Core,
-    steps: &[Step],
-    joined: bool,
-) -> Vec<Told> {
-    let all = if joined {
-        by_runs(rt, alloc, core, steps)
-    } else {
-        one_by_one(rt, alloc, core, steps)
-    };
+/// What the steps are answered one by one by the core, which rests in the end.
+fn told_singly(rt: &impl Abort, alloc: Global, core: &mut Core, root: &Text) -> Vec<Told> {
+    let steps = script(rt, alloc, root);
+    let all = one_by_one(rt, alloc, core, steps.as_slice());
+    drop(steps);
     assert!(rt; rests(core));
     all
 }
 
-/// What the steps are answered by a new core.
-fn told_anew(
-    rt: &impl Abort,
-    alloc: Global,
-    root: &Secret,
-    steps: &[Step],
-    joined: bool,
-) -> Vec<Told> {
-    let core = Core::new(alloc, root);
-    with(rt, core, |core| all_told(rt, alloc, core, steps, joined))
+/// The same, by runs.
+fn told_joined(rt: &impl Abort, alloc: Global, core: &mut Core, root: &Text) -> Vec<Told> {
+    let steps = script(rt, alloc, root);
+    let all = by_runs(rt, alloc, core, steps.as_slice());
+    drop(steps);
+    assert!(rt; rests(core));
+    all
+}
+
+fn are_same(singly: &[Told], joined: &[Told]) -> bool {
+    is_as_wanted(singly) && singly == joined
 }
 
 #[test]
 fn runs_are_steps_one_by_one(rt: HostRuntime) {
     let alloc = rt.alloc();
-    let root = root(&rt, alloc);
-    let steps = script(&rt, alloc, root.get());
-    let singly = told_anew(&rt, alloc, &root, steps.as_slice(), false);
-    let joined = told_anew(&rt, alloc, &root, steps.as_slice(), true);
-    assert!(rt; is_as_wanted(singly.as_slice()));
-    assert!(rt; singly.as_slice() == joined.as_slice());
+    let singly = with_core(&rt, alloc, told_singly);
+    let joined = with_core(&rt, alloc, told_joined);
+    assert!(rt; are_same(singly.as_slice(), joined.as_slice()));
 }

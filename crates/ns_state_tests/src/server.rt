@@ -42,6 +42,19 @@ pub(crate) fn groups(rt: &impl Abort, alloc: Global) -> Rows<Group>
     only(rt, alloc, group)
 }
 
+/// What `make` gives of a new core and of the secret of its first token.
+pub(crate) fn with_core<R: Abort, S, F: FnOnce(&R, Global, &mut Core, &Text) -> S>(
+    rt: &R,
+    alloc: Global,
+    make: F,
+) -> S
+    requires { F.IsAlwaysCallable make }
+{
+    let root = root(rt, alloc);
+    let mut core = Core::new(alloc, &root).expect(rt, "memory");
+    make(rt, alloc, &mut core, root.get())
+}
+
 pub(crate) fn asked(
     core: &mut Core,
     secret: Option<&Text>,

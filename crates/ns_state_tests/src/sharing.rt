@@ -8,11 +8,9 @@ ghost use Rattle.ns_types.specs.State.Name.{is_name};
 use crate::jobs::registers_all;
 use crate::made::text;
 use crate::nodes::{eligibility, refusal, registration};
-use crate::owned::with;
-use crate::server::root;
+use crate::server::with_core;
 use crate::workers::{look, take};
 use ns_core::Core;
-use ns_types::good::GoodTelling;
 use ns_types::resources::Resources;
 use ns_types::shared::Shared;
 use ns_types::snapshot::Snapshot;
@@ -40,21 +38,28 @@ fn sees(
     look(core, worker, namespace).expect(rt, "a snapshot")
 }
 
-/// Whether three workers that look one after the other share the node until `shut` makes it ineligible.
-fn looks_share(
-    rt: &impl Abort,
-    core: &mut Core,
-    root: &Text,
-    default: &Text,
-    shut: &GoodTelling,
-) -> bool {
+/// Whether only one node is seen, which so many own.
+fn is_only(seen: &Shared<Snapshot>, owners: usize, eligible: bool) -> bool {
+    only_node(seen) == Some((owners, eligible))
+}
+
+/// Whether the node is made ineligible.
+fn shuts(rt: &impl Abort, core: &mut Core, root: &Text, default: &Text, node: &Text) -> bool {
+    let shut = eligibility(rt, node, false);
+    let refusal = refusal(core, root, default, &shut);
+    drop(shut);
+    refusal.is_none()
+}
+
+/// Whether three workers that look one after the other share the node until it is made ineligible.
+fn looks_share(rt: &impl Abort, core: &mut Core, root: &Text, default: &Text, node: &Text) -> bool {
     let first = sees(rt, core, 0, default, 1);
-    let mut right = only_node(&first) == Some((2, true));
+    let mut right = is_only(&first, 2, true);
     let second = sees(rt, core, 1, default, 2);
-    right &= only_node(&first) == Some((3, true)) && only_node(&second) == Some((3, true));
-    right &= refusal(core, root, default, shut).is_none();
+    right &= is_only(&first, 3, true) & is_only(&second, 3, true);
+    right &= shuts(rt, core, root, default, node);
     let third = sees(rt, core, 2, default, 3);
-    right && only_node(&first) == Some((2, true)) && only_node(&third) == Some((2, false))
+    right & is_only(&first, 2, true) & is_only(&third, 2, false)
 }
 
 /// Whether a node is registered, and three jobs, each with an evaluation of its number.
@@ -81,15 +86,12 @@ fn registers(
 fn shares(rt: &impl Abort, alloc: Global, core: &mut Core, root: &Text) -> bool {
     let default = text(rt, alloc, "default");
     let node = text(rt, alloc, "n1");
-    let registers = registers(rt, alloc, core, root, &default, &node);
-    let shut = eligibility(rt, &node, false);
-    registers && looks_share(rt, core, root, &default, &shut)
+    registers(rt, alloc, core, root, &default, &node)
+        && looks_share(rt, core, root, &default, &node)
 }
 
 #[test]
 fn snapshots_share_what_did_not_change(rt: HostRuntime) {
     let alloc = rt.alloc();
-    let root = root(&rt, alloc);
-    let core = Core::new(alloc, &root);
-    assert!(rt; with(&rt, core, |core| shares(&rt, alloc, core, root.get())));
+    assert!(rt; with_core(&rt, alloc, shares));
 }

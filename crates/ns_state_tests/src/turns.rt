@@ -9,7 +9,7 @@ use crate::jobs::registration_of;
 use crate::made::{copied, text};
 use crate::owned::{seen, with};
 use crate::runs::{team, telling, told};
-use crate::server::root;
+use crate::server::with_core;
 use ns_core::Core;
 use ns_runs::step;
 use ns_types::good::GoodAdmin;
@@ -91,7 +91,7 @@ fn takes(rt: &impl Abort, alloc: Global, core: &mut Core, worker: u64, wanted: K
 // ---- tests
 
 /// Those with the same priority stand apart, and not by their keys.
-const JOBS: [Asked; 9] = [
+static JOBS: [Asked; 9] = [
     (("default", 1), 40, false),
     (("team", 1), 70, false),
     (("default", 2), 10, false),
@@ -104,7 +104,7 @@ const JOBS: [Asked; 9] = [
 ];
 
 /// In which order they are served, and which are given back then: behind the others of their priority.
-const SERVED: [(KeyText, bool); 13] = [
+static SERVED: [(KeyText, bool); 13] = [
     (("team", 3), false),
     (("team", 1), true),
     (("default", 3), false),
@@ -159,19 +159,11 @@ fn serves_by_priority(rt: &impl Abort, alloc: Global, core: &mut Core, root: &Te
 #[test]
 fn a_copy_serves_in_the_same_order(rt: HostRuntime) {
     let alloc = rt.alloc();
-    let root = root(&rt, alloc);
-    let core = Core::new(alloc, &root);
-    assert!(rt;
-        with(
-            &rt,
-            core,
-            |core| serves_by_priority(&rt, alloc, core, root.get())
-        )
-    );
+    assert!(rt; with_core(&rt, alloc, serves_by_priority));
 }
 
 /// Each has one evaluation more before the next is registered, which is blocked.
-const BLOCKED: [Asked; 6] = [
+static BLOCKED: [Asked; 6] = [
     (("default", 1), 50, false),
     (("team", 1), 50, true),
     (("team", 3), 50, false),
@@ -181,14 +173,14 @@ const BLOCKED: [Asked; 6] = [
 ];
 
 /// Who is woken by a node of each pool, in this order, with the workers that take them.
-const OF_DEFAULT: [(u64, KeyText); 4] = [
+static OF_DEFAULT: [(u64, KeyText); 4] = [
     (0, ("default", 2)),
     (1, ("team", 4)),
     (2, ("default", 4)),
     (3, ("team", 6)),
 ];
 
-const OF_GPU: [(u64, KeyText); 2] = [(4, ("team", 2)), (5, ("default", 6))];
+static OF_GPU: [(u64, KeyText); 2] = [(4, ("team", 2)), (5, ("default", 6))];
 
 /// Whether the job is registered, and a worker finishes its evaluation, which finds no node.
 fn blocks(rt: &impl Abort, alloc: Global, core: &mut Core, root: &Text, job: Asked) -> bool {
@@ -240,13 +232,5 @@ fn wakes_as_blocked(rt: &impl Abort, alloc: Global, core: &mut Core, root: &Text
 #[test]
 fn a_copy_wakes_in_the_same_order(rt: HostRuntime) {
     let alloc = rt.alloc();
-    let root = root(&rt, alloc);
-    let core = Core::new(alloc, &root);
-    assert!(rt;
-        with(
-            &rt,
-            core,
-            |core| wakes_as_blocked(&rt, alloc, core, root.get())
-        )
-    );
+    assert!(rt; with_core(&rt, alloc, wakes_as_blocked));
 }
