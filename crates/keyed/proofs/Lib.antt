@@ -1,6 +1,7 @@
 pub mod Applying
 pub mod AtBound
 pub mod Counted
+pub mod Known
 pub mod Levels
 pub mod Mapped
 pub mod NextRow

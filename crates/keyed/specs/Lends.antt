@@ -22,10 +22,14 @@ module _ (V : RattleType) where
 abbrev pub Order : Type 0 → Type 0
 Order K = record { partial_cmp : K → K → Option Ordering; eq : K → K → Bool; cmp : K → K → Ordering }
 
-module _ (K V : RattleType) (order : Order K.Denot) where
+-- what a key is hashed as
+abbrev pub HashInput : Type 0 → Type 0
+HashInput K = K → List (List ℕ)
+
+module _ (K V : RattleType) (order : Order K.Denot) (hash_input : HashInput K.Denot) where
   abbrev slots_row : RattleType
   slots_row = Slots.the_row K V (record { cmp = order.cmp }) (record { eq = order.eq })
-      (record { partial_cmp = order.partial_cmp })
+      (record { partial_cmp = order.partial_cmp }) (record { hash_input = hash_input })
 
   abbrev pub lends_at_key : MutBor (List (K.Denot × Option V.Denot)) → K.Denot → Option (MutBor V.Denot) → Fml
   lends_at_key slots key row = LendsIf slots_row V slots row (λ w. put order.cmp key (Some w) slots.now) slots.now

@@ -1,10 +1,11 @@
 -- Words on a table: a list of slots whose keys strictly rise. A slot has a row, or is vacant: room for a row.
 use Rattle.std.specs.Prelude.{◌≡◌, ℕ, ◌<◌, ◌≤◌, T, length, Bool, cond, not, List, is_some, Result, Ok, Err, Option}
-use Rattle.std.specs.Prelude.{Some, None}
+use Rattle.std.specs.Prelude.{Some, None, IfSome, IsSomeAnd}
 use Rattle.std.specs.declared.cmp.Ordering.{Ordering}
 use Rattle.std.specs.declared.cmp.Ordering.TheVariants.{Greater}
 use Rattle.std.specs.Ordering.{eq_by_cmp}
 use Rattle.std.specs.List.{filter, insert, remove}
+use Rattle.std.specs.Map.{keys_of}
 use Rattle.std.proofs.Common.{get_or, set}
 use Rattle.std.specs.FinMap.Entries.{find, put, is_sorted}
 use Rattle.keyed.specs.Table.{flat, row_list}
@@ -18,6 +19,20 @@ module _ {K V : Type 0} (R : K → K → Ordering) where
   -- each slot stands after those with smaller keys, and that many have a row
   abbrev pub IsTable : List (K × Option V) → ℕ → Type 0
   IsTable es filled = T (is_sorted R es) × (filled ≡ length (row_list es))
+
+-- ---- what is known of the keys, without a search: all of them in their order, or nothing
+
+module _ {K X : Type 0} where
+  abbrev pub Knows : Option (List K) → List (K × X) → Type 0
+  Knows known es = IfSome known (λ keys. keys ≡ keys_of es)
+
+module _ {K : Type 0} where
+  -- once a key is put at a place, all are known that were, with that one, or nothing is
+  abbrev pub Inserts : ℕ → K → Option (List K) → Option (List K) → Type 0
+  Inserts place key old new =
+      IfSome new (λ keys. IsSomeAnd old (λ before. keys ≡ insert before place key))
+
+-- ---- where a key stands
 
 module _ {K X : Type 0} (R : K → K → Ordering) where
   -- the key is above those of the entries before n
@@ -42,6 +57,16 @@ module _ {K X : Type 0} (R : K → K → Ordering) where
     pub without_is : without R k es ≡ es
     pub put_sorted : (v : X) → T (is_sorted R (put R k v es))
     pub passed : Passed k es i
+
+  -- no entry has the key
+  pub record Lacks (k : K) (es : List (K × X)) : Type 0 where
+    pub find_is : find R k es ≡ None
+    pub without_is : without R k es ≡ es
+
+  -- where the key stands, if anywhere
+  abbrev pub Found : K → List (K × X) → Option ℕ → Type 0
+  Found k es (Some i) = Stands k es i
+  Found k es None = Lacks k es
 
   -- what a search for the key found
   abbrev pub Placed : K → List (K × X) → Result ℕ ℕ → Type 0

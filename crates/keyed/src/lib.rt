@@ -1,8 +1,10 @@
-//! Tables by key, in plain sorted `Vec`s, which contracts see as finite maps from keys to slots.
+//! Tables by key, in plain sorted `Vec`s, which contracts see as finite maps from keys to slots. Where there are many names, an
+//! `indexmap` finds where each stands.
 //! A slot has a row, or is vacant: room for a row, made before it is needed. Sets of keys, and lists of keys that know which
 //! they have.
 #![tactic(auto)]
 
+mod index;
 mod key_places;
 mod key_queue;
 mod key_set;

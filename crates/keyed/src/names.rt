@@ -11,7 +11,7 @@ use ns_types::text::Text;
 use std::alloc::{AllocError, Global};
 use std::marker::Model;
 
-/// A table by name: slots that have a row, or are vacant. A look-up is a binary search.
+/// A table by name: slots that have a row, or are vacant. A look-up among few is a binary search, among many it hashes the name.
 #[derive(Drop)]
 pub struct NameTable<V> {
     slots: Slots<Text, V>,

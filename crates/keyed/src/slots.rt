@@ -1,30 +1,37 @@
-// Slots in the order of their keys, in a plain `Vec`.
+// Slots in the order of their keys, in a plain `Vec`, with an index of many names.
 ghost use Rattle.std.specs.Prelude.{◌≡◌, ◌<◌, ◌≤◌, [], IsTrue, T, OnOk, OnErr, length, option_copied};
 ghost use Rattle.std.specs.FinMap.Entries.{find, put, is_sorted};
-ghost use Rattle.keyed.specs.Slots.{Passed, Placed, has_slot, with_slot, row, without, without_vacant, emptied, filled};
+ghost use Rattle.std.specs.List.{remove};
+ghost use Rattle.keyed.specs.Slots.{Found, Knows, Passed, Placed, has_slot, with_slot, row, without, without_vacant, emptied, filled};
 ghost use Rattle.keyed.specs.Table.{row_list};
 
+use crate::index::{IndexKey, KeyIndex};
 use ns_types::text::Text;
 use std::alloc::{AllocError, Global};
 use std::cmp::Ordering;
+use std::hash::Hash;
 use std::marker::Model;
 
-/// The slots of a table in the order of their keys, with the number of those that have a row.
+/// From so many slots on an index of their keys is kept.
+const MANY: usize = 16;
+
+/// The slots of a table in the order of their keys, with the number of those that have a row, and an index where they are many.
 #[derive(Drop)]
-pub(crate) struct Slots<K: Ord, V> {
+pub(crate) struct Slots<K: Ord + Hash, V> {
     slots: Vec<(K, Option<V>)>,
     filled: usize,
+    index: KeyIndex<K>,
 }
 
-impl<K: Ord, V> Model for Slots<K, V> {
+impl<K: Ord + Hash, V> Model for Slots<K, V> {
     ghost use Rattle.std.specs.Prelude.{List, Option};
-    ghost use Rattle.keyed.specs.Slots.{IsTable};
+    ghost use Rattle.keyed.specs.Slots.{IsTable, Knows};
 
     ghost Value = { List (K × Option V) };
 
     ghost view = { λ a. a.slots.items };
 
-    ghost invariant = { λ a. IsTable K.cmp a.slots.items a.filled };
+    ghost invariant = { λ a. IsTable K.cmp a.slots.items a.filled × Knows a.index a.slots.items };
 }
 
 /// A key that tells where it most likely stands among others.
@@ -47,6 +54,19 @@ impl SlotKey for u64 {
 impl SlotKey for Text {
     fn guess(&self, _least: &Text, count: usize) -> usize {
         count / 2
+    }
+}
+
+/// A number is found by its guess.
+impl IndexKey for u64 {
+    fn index_copy(&self) -> Option<u64> {
+        None
+    }
+}
+
+impl IndexKey for Text {
+    fn index_copy(&self) -> Option<Text> {
+        self.clone().ok()
     }
 }
 
@@ -102,7 +122,36 @@ fn count_rows<K, V>(slots: &[(K, Option<V>)]) -> usize
     count
 }
 
-impl<K: Ord + SlotKey + Drop, V: Drop> Slots<K, V> {
+/// The index of many slots.
+fn index_of<K: Eq + Hash + IndexKey + Drop, V>(slots: &Vec<(K, Option<V>)>) -> KeyIndex<K>
+    ensures { Knows result slots.now.items }
+{
+    if slots.len() < MANY {
+        KeyIndex::new()
+    } else {
+        KeyIndex::of(*slots.allocator(), slots.as_slice())
+    }
+}
+
+/// Keeps what is known of the keys, once a slot was put at `place`. Where nothing is known, an index is made when the slots have
+/// become twice as many.
+fn note_slot<K: Eq + Hash + IndexKey + Drop, V>(
+    known: &mut KeyIndex<K>,
+    slots: &Vec<(K, Option<V>)>,
+    place: usize,
+)
+    requires place { place < length slots.now.items }
+    requires known { Knows known.old (remove slots.now.items place) }
+    ensures { Knows known.new slots.now.items }
+{
+    if known.is_known() {
+        known.insert(place, &slots[place].0);
+    } else if slots.len().is_power_of_two() {
+        *known = index_of(slots);
+    }
+}
+
+impl<K: Ord + Hash + SlotKey + IndexKey + Drop, V: Drop> Slots<K, V> {
     ghost use Rattle.std.specs.Borrow.{sem};
     ghost use Rattle.std.specs.Option.{option_copied_mut};
     ghost use Rattle.keyed.specs.Lends.{lends_at_key};
@@ -113,6 +162,7 @@ impl<K: Ord + SlotKey + Drop, V: Drop> Slots<K, V> {
         Slots {
             slots: Vec::new(alloc),
             filled: 0,
+            index: KeyIndex::new(),
         }
     }
 
@@ -128,13 +178,18 @@ impl<K: Ord + SlotKey + Drop, V: Drop> Slots<K, V> {
         ensures { result ≡ slots.items }
     {
         let filled = count_rows(slots.as_slice());
-        Slots { slots, filled }
+        let index = index_of(&slots);
+        Slots {
+            slots,
+            filled,
+            index,
+        }
     }
 
     pub(crate) fn into_slots(self) -> Vec<(K, Option<V>)>
         ensures { result.items ≡ self }
     {
-        let Slots { slots, filled: _ } = self;
+        let Slots { slots, .. } = self;
         slots
     }
 
@@ -145,10 +200,27 @@ impl<K: Ord + SlotKey + Drop, V: Drop> Slots<K, V> {
         self.filled
     }
 
+    /// Where the slot of `key` stands, or where it belongs.
     fn place(&self, key: &K) -> Result<usize, usize>
         ensures { Placed K.cmp key.now self.now result }
     {
+        if let Some(Some(i)) = self.index.find(key) {
+            return Ok(i);
+        }
         place_in(self.slots.as_slice(), key)
+    }
+
+    /// Where the slot of `key` stands.
+    fn find(&self, key: &K) -> Option<usize>
+        ensures { Found K.cmp key.now self.now result }
+    {
+        if let Some(found) = self.index.find(key) {
+            return found;
+        }
+        match place_in(self.slots.as_slice(), key) {
+            Ok(i) => Some(i),
+            Err(_) => None,
+        }
     }
 
     /// How many slots have smaller keys.
@@ -164,15 +236,15 @@ impl<K: Ord + SlotKey + Drop, V: Drop> Slots<K, V> {
     pub(crate) fn has_slot(&self, key: &K) -> bool
         ensures { result ≡ has_slot K.cmp key.now self.now }
     {
-        self.place(key).is_ok()
+        self.find(key).is_some()
     }
 
     pub(crate) fn get(&self, key: &K) -> Option<&V>
         ensures { option_copied result ≡ row K.cmp key.now self.now }
     {
-        match self.place(key) {
-            Ok(i) => self.slots[i].1.as_ref(),
-            Err(_) => None,
+        match self.find(key) {
+            Some(i) => self.slots[i].1.as_ref(),
+            None => None,
         }
     }
 
@@ -180,18 +252,18 @@ impl<K: Ord + SlotKey + Drop, V: Drop> Slots<K, V> {
     pub(crate) fn slot(&self, key: &K) -> Option<&Option<V>>
         ensures { option_copied result ≡ find K.cmp key.now self.now }
     {
-        match self.place(key) {
-            Ok(i) => Some(&self.slots[i].1),
-            Err(_) => None,
+        match self.find(key) {
+            Some(i) => Some(&self.slots[i].1),
+            None => None,
         }
     }
 
     /// The row at `key`, to be changed where it stands.
     pub(crate) fn get_mut(&mut self, key: &K) -> Option<&mut V>
-        ensures* writes_back { sem 𝓛 (lends_at_key K.row V.row K.Ord self.entry key.now result) }
+        ensures* writes_back { sem 𝓛 (lends_at_key K.row V.row K.Ord K.hash_input self.entry key.now result) }
         ensures value { option_copied_mut result ≡ row K.cmp key.now self.old }
     {
-        let Ok(i) = self.place(key) else {
+        let Some(i) = self.find(key) else {
             return None;
         };
         if self.slots[i].1.is_none() {
@@ -208,6 +280,7 @@ impl<K: Ord + SlotKey + Drop, V: Drop> Slots<K, V> {
     {
         if let Err(i) = self.place(&key) {
             self.slots.insert(i, (key, None))?;
+            note_slot(&mut self.index, &self.slots, i);
         }
         Ok(())
     }
@@ -217,7 +290,7 @@ impl<K: Ord + SlotKey + Drop, V: Drop> Slots<K, V> {
         requires { IsTrue (has_slot K.cmp key.now self.old) }
         ensures { self.new ≡ put K.cmp key.now (Some row) self.old }
     {
-        if let Ok(i) = self.place(key) {
+        if let Some(i) = self.find(key) {
             let earlier = self.slots[i].1.replace(row);
             if earlier.is_none() {
                 self.filled += 1;
@@ -230,7 +303,7 @@ impl<K: Ord + SlotKey + Drop, V: Drop> Slots<K, V> {
         ensures row { result ≡ row K.cmp key.now self.old }
         ensures slots { self.new ≡ emptied K.cmp key.now self.old }
     {
-        let Ok(i) = self.place(key) else {
+        let Some(i) = self.find(key) else {
             return None;
         };
         let row = self.slots[i].1.take();
@@ -244,8 +317,9 @@ impl<K: Ord + SlotKey + Drop, V: Drop> Slots<K, V> {
     pub(crate) fn remove(&mut self, key: &K)
         ensures { self.new ≡ without K.cmp key.now self.old }
     {
-        if let Ok(i) = self.place(key) {
+        if let Some(i) = self.find(key) {
             let slot = self.slots.remove(i);
+            self.index.remove(i);
             if slot.1.is_some() {
                 self.filled -= 1;
             }
@@ -256,9 +330,10 @@ impl<K: Ord + SlotKey + Drop, V: Drop> Slots<K, V> {
     pub(crate) fn clear_slot(&mut self, key: &K)
         ensures { self.new ≡ without_vacant K.cmp key.now self.old }
     {
-        if let Ok(i) = self.place(key) {
+        if let Some(i) = self.find(key) {
             if self.slots[i].1.is_none() {
                 drop(self.slots.remove(i));
+                self.index.remove(i);
             }
         }
     }
@@ -268,5 +343,6 @@ impl<K: Ord + SlotKey + Drop, V: Drop> Slots<K, V> {
         ensures { self.new ≡ filled self.old }
     {
         self.slots.retain(|slot| slot.1.is_some());
+        self.index = index_of(&self.slots);
     }
 }

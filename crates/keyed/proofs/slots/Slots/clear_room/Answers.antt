@@ -13,6 +13,9 @@ returns g c = filter_same _ is_row _ (λ x b f h. search rules) _ _ c.retain.ens
 pub invariant_of-self : goal.invariant_of-self
 invariant_of-self g c =
     let is = filter_same _ is_row _ (λ x b f h. search rules) _ _ c.retain.ensures.filtered in (
-      subst (λ es. T (is_sorted g.K.Ord.cmp es)) (sym is) (is_sorted-filter g.K.Ord.cmp is_row _ c.self.invariant.0),
-      c.self.invariant.1 ∙ sym (ap length (ap row_list is ∙ filled_rows g.K.Ord.cmp c.self.inside.slots.items)),
+      (
+        subst (λ es. T (is_sorted g.K.Ord.cmp es)) (sym is) (is_sorted-filter g.K.Ord.cmp is_row _ c.self.invariant.0.0),
+        c.self.invariant.0.1 ∙ sym (ap length (ap row_list is ∙ filled_rows g.K.Ord.cmp c.self.inside.slots.items)),
+      ),
+      c.index_of.ensures,
     )

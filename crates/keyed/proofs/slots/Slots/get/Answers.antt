@@ -5,15 +5,15 @@ use Rattle.keyed.proofs.slots.Slots.get.Goals as goal
 
 pub index-requires : goal.index-requires
 index-requires g c =
-    let within : c.in-Ok.i < length c.self.inside.slots.items = subst (λ es. c.in-Ok.i < length es) (sym c.self.view_is) c.in-Ok.ensures.within in
+    let within : c.in-Some.i < length c.self.inside.slots.items = subst (λ es. c.in-Some.i < length es) (sym c.self.view_is) c.in-Some.ensures.within in
     grind (arith, common_steps)
 
-pub returns-in-Ok : goal.returns-in-Ok
-returns-in-Ok g c =
+pub returns-in-Some : goal.returns-in-Some
+returns-in-Some g c =
     c.as_ref.ensures.value
     ∙ ap (λ e. e.1) c.index.ensures
-    ∙ ap (λ es. (get_or es c.in-Ok.i c.index.result.now).1) c.self.view_is
-    ∙ sym (ap flat (c.in-Ok.ensures.find_is c.index.result.now))
+    ∙ ap (λ es. (get_or es c.in-Some.i c.index.result.now).1) c.self.view_is
+    ∙ sym (ap flat (c.in-Some.ensures.find_is c.index.result.now))
 
-pub returns-in-Err : goal.returns-in-Err
-returns-in-Err g c = ap flat (sym c.in-Err.ensures.find_is)
+pub returns-in-None : goal.returns-in-None
+returns-in-None g c = ap flat (sym c.in-None.ensures.find_is)

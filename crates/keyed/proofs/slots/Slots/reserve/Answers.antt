@@ -1,24 +1,28 @@
-use Rattle.std.proofs.Common.{◌≤◌, ◌∙◌, None, sym, ap, subst, length, cond, arith}
+use Rattle.std.proofs.Common.{◌∙◌, None, sym, ap, subst, cond}
 use Rattle.std.specs.Prelude.{is_some}
-use Rattle.std.proofs.lemmas.Grind.{common_steps}
 use Rattle.std.specs.FinMap.Entries.{put}
+use Rattle.std.specs.List.{remove}
+use Rattle.keyed.specs.Slots.{Knows}
+use Rattle.keyed.proofs.Known.{remove_insert}
 use Rattle.keyed.proofs.Places.{inside_belongs}
 use Rattle.keyed.proofs.Counted.{inserted_sorted, inserted_counted}
 use Rattle.keyed.proofs.slots.Slots.reserve.Goals as goal
 
-pub insert-requires : goal.insert-requires
-insert-requires g c =
-    let within : c.in-Err.i ≤ length c.self.inside.slots.items = subst (λ es. c.in-Err.i ≤ length es) (sym c.self.view_is) c.in-Err.ensures.within in
-    grind (arith, common_steps)
-
-pub invariant_of-self : goal.invariant_of-self
-invariant_of-self g c =
+pub note_slot-requires-clause-known : goal.note_slot-requires-clause-known
+note_slot-requires-clause-known g c =
     let p = inside_belongs g.K.Ord.cmp c.args.key _ _ c.in-Err.i c.self.view_is c.in-Err.ensures in
-    let sorted = inserted_sorted g.K.Ord.cmp g.met.K.Ord.total c.args.key c.self.inside.slots.items c.in-Err.i p c.self.inside.filled c.self.invariant.0
-    c.self.invariant.1 in
-    let counted = inserted_counted g.K.Ord.cmp g.met.K.Ord.total c.args.key c.self.inside.slots.items c.in-Err.i p c.self.inside.filled c.self.invariant.0
-    c.self.invariant.1 in
-    rw c.in_ok-insert.ensures.items (sorted, counted)
+    subst (λ es. Knows c.self.inside.index es)
+    (sym (ap (λ es. remove es c.in-Err.i) c.in_ok-insert.ensures.items ∙ remove_insert c.self.inside.slots.items c.in-Err.i (c.args.key, None) p.within))
+    c.self.invariant.1
+
+pub invariant_of-self-in-Err : goal.invariant_of-self-in-Err
+invariant_of-self-in-Err g c =
+    let p = inside_belongs g.K.Ord.cmp c.args.key _ _ c.in-Err.i c.self.view_is c.in-Err.ensures in
+    let sorted = inserted_sorted g.K.Ord.cmp g.met.K.Ord.total c.args.key c.self.inside.slots.items c.in-Err.i p c.self.inside.filled c.self.invariant.0.0
+    c.self.invariant.0.1 in
+    let counted = inserted_counted g.K.Ord.cmp g.met.K.Ord.total c.args.key c.self.inside.slots.items c.in-Err.i p c.self.inside.filled c.self.invariant.0.0
+    c.self.invariant.0.1 in
+    (rw c.in_ok-insert.ensures.items (sorted, counted), c.note_slot.ensures)
 
 pub returns-in_ok-insert-clause-ok : goal.returns-in_ok-insert-clause-ok
 returns-in_ok-insert-clause-ok g c =
