@@ -1,6 +1,7 @@
 pub mod Applying
 pub mod AtBound
 pub mod Counted
+pub mod KeySums
 pub mod Known
 pub mod Levels
 pub mod Mapped
@@ -12,6 +13,9 @@ pub mod Places
 pub mod Queued
 pub mod Queues
 pub mod RoomLeft
+pub mod RowSums
+pub mod RowsAtKeys
 pub mod Summed
 pub mod Tables
+pub mod Values
 pub mod Viewing

@@ -12,6 +12,5 @@ pub mod PutLoads
 pub mod Puts
 pub mod QuotaLevels
 pub mod Showing
-pub mod Sums
 pub mod Totals
 pub mod Unmoved

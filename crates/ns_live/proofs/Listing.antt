@@ -28,7 +28,8 @@ use Rattle.keyed.specs.declared.key_set.KeySet.{KeySet}
 use Rattle.keyed.specs.Levels.{holds_key, holds_number}
 use Rattle.ns_live.specs.Listed.{found_at, keys_in}
 use Rattle.keyed.proofs.Levels.{none_there, says_nothing}
-use Rattle.ns_world.proofs.Looked.{entries_looked}
+use Rattle.keyed.proofs.RowsAtKeys.{entries_looked}
+use Rattle.keyed.proofs.Values.{row_there}
 
 -- ---- lists
 
@@ -204,11 +205,7 @@ module _ {K X : Type 0} {R : K → K → Ordering} (o : IsTotalOrder R) (same : 
 
 has_number-keys : {X : Type 0} (m : ByNumber X) (n : ℕ) → has_number (keys m) n ≡ contains_key m n
 has_number-keys {X = X} m n = any_map (same_number n) (λ e. e.0) (entries m) ∙ any_same (λ e. same_number n e.0) (λ e. same_number n e.0 && true)
-    (λ e. sym (and-true (same_number n e.0))) (entries m) ∙ any_at numbers one_number n (λ _. true) m ∙ by (get m n)
-  where
-    by : (r : Option X) → option_map_or (λ _. true) r false ≡ is_some r
-    by None = refl
-    by (Some x) = refl
+    (λ e. sym (and-true (same_number n e.0))) (entries m) ∙ any_at numbers one_number n (λ _. true) m ∙ row_there (get m n)
 
 pub has_key-keys_in : (held : KeySet) (key : Key) → has_key (keys_in held) key ≡ holds_key held key
 has_key-keys_in held key = any_flat (same_key key) (λ namespace. map (λ n. (namespace.0, n)) (keys (rows namespace.1))) (entries (rows held.numbers))

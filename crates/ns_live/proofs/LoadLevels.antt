@@ -1,17 +1,14 @@
 -- Loads and keys of nodes, level by level.
-use Rattle.std.specs.Prelude.{◌≡◌, Bool, true, false, cond, if◌then◌else◌, IsTrue, Option, Some, None, is_some}
-use Rattle.std.proofs.Common.{refl, sym, ap, subst, ◌∙◌}
-use Rattle.std.specs.FinMap.{get, get-remove, insert, remove}
+use Rattle.std.specs.Prelude.{◌≡◌, false, Option, Some, None, is_some}
+use Rattle.std.proofs.Common.{refl, sym}
 use Rattle.std.specs.Option.{option_map_or}
 use Rattle.keyed.specs.Levels.{Adds, Drops, Keeps, has_key_room, holds_key, holds_number}
-use Rattle.keyed.specs.Table.{flat, row_at, with_slot}
+use Rattle.keyed.specs.Table.{row_at}
 use Rattle.keyed.specs.declared.key_set.KeySet.{KeySet}
-use Rattle.keyed.proofs.Levels.{flat_none, not_true, row-insert, row-with_slot, says_nothing}
+use Rattle.keyed.proofs.Levels.{not_true, says_nothing}
 use Rattle.ns_types.specs.declared.resources.Resources.{Resources}
-use Rattle.ns_types.specs.State.Names.{ByName, Key, Name, same_key, same_name}
+use Rattle.ns_types.specs.State.Names.{Key, Name, same_key}
 use Rattle.ns_types.specs.State.Resources.{none}
-use Rattle.ns_types.proofs.Named.{names, one_name}
-use Rattle.ns_types.proofs.Tables.{tied}
 use Rattle.ns_live.specs.declared.live.Live.{Live}
 use Rattle.ns_live.specs.declared.pool_keys.NodeKeys.{NodeKeys}
 use Rattle.ns_live.specs.declared.pool_keys.PoolKeys.{PoolKeys}
@@ -66,101 +63,7 @@ module _ (live : Live) (pool node : Name) where
       by None e = (refl, refl)
       by (Some its) e = on_node (row_at its.nodes node) e
 
--- ---- what a change of one set leaves of the loads of all
+-- ---- what a change leaves of a load
 
 pub moves_none : (load : Resources) → MovesLoad none none load load
 moves_none load = (λ h. h, (refl, refl))
-
-module _ {I A : Type 0} (load : I → A → Resources) where
-  abbrev pub in_set : A → Option I → Resources
-  in_set a set = option_map_or (λ set. load set a) set none
-
-  abbrev pub in_table : ByName (Option I) → Name → A → Resources
-  in_table m q a = in_set a (row_at m q)
-
-  -- a vacant slot has none
-  pub slot_load : (old made : ByName (Option I)) (k : Name) → made ≡ with_slot old k → (q : Name) (a : A) → in_table made q a ≡ in_table old q a
-  slot_load old made k e q a = ap (in_set a) (ap (λ m. row_at m q) e ∙ row-with_slot names one_name old k q)
-
-  module _ (m new : ByName (Option I)) (k : Name) (set : I) (e : new ≡ insert m k (Some set)) (q : Name) (a : A) where
-    put_here : same_name q k ≡ true → in_table new q a ≡ load set a
-    put_here t = ap (in_set a) (ap (λ m. row_at m q) e ∙ row-insert names m k (Some set) q ∙ ap (λ b. cond b (Some set) (row_at m q)) t)
-
-    put_apart : same_name q k ≡ false → in_table new q a ≡ in_table m q a
-    put_apart t = ap (in_set a) (ap (λ m. row_at m q) e ∙ row-insert names m k (Some set) q ∙ ap (λ b. cond b (Some set) (row_at m q)) t)
-
-  there : (m : ByName (Option I)) (k : Name) (r : Option I) → row_at m k ≡ r → (q : Name) (a : A) → same_name q k ≡ true → in_table m q a ≡ in_set a r
-  there m k r is q a t = ap (in_set a) (ap (row_at m) (tied one_name q k t) ∙ is)
-
-  -- a set without loads, where none was
-  pub begun_load : (old made new : ByName (Option I)) (k : Name) (set : I) → made ≡ with_slot old k → row_at made k ≡ None →
-      ((a : A) → load set a ≡ none) → new ≡ insert made k (Some set) → (q : Name) (a : A) → in_table new q a ≡ in_table old q a
-  begun_load old made new k set slot is bare e q a = by (same_name q k) refl ∙ slot_load old made k slot q a
-    where
-      by : (b : Bool) → same_name q k ≡ b → in_table new q a ≡ in_table made q a
-      by true t = put_here made new k set e q a t ∙ bare a ∙ sym (there made k None is q a t)
-      by false t = put_apart made new k set e q a t
-
-  module _ (m new : ByName (Option I)) (k : Name) (before after : I) (is : row_at m k ≡ Some before) (e : new ≡ insert m k (Some after)) where
-    pub same_load : ((a : A) → load after a ≡ load before a) → (q : Name) (a : A) → in_table new q a ≡ in_table m q a
-    same_load same q a = by (same_name q k) refl
-      where
-        by : (b : Bool) → same_name q k ≡ b → in_table new q a ≡ in_table m q a
-        by true t = put_here m new k after e q a t ∙ same a ∙ sym (there m k (Some before) is q a t)
-        by false t = put_apart m new k after e q a t
-
-    module _ (gone come : A → Resources) (q : Name) (a : A) where
-      pub moved_load : MovesLoad (gone a) (come a) (load before a) (load after a) →
-          MovesLoad (if same_name q k then gone a else none) (if same_name q k then come a else none) (in_table m q a) (in_table new q a)
-      moved_load moves = by (same_name q k) refl
-        where
-          by : (b : Bool) → same_name q k ≡ b → MovesLoad (if b then gone a else none) (if b then come a else none) (in_table m q a) (in_table new q a)
-          by true t = subst (λ x. MovesLoad (gone a) (come a) x (in_table new q a)) (sym (there m k (Some before) is q a t))
-              (subst (MovesLoad (gone a) (come a) (load before a)) (sym (put_here m new k after e q a t)) moves)
-          by false t = subst (MovesLoad none none (in_table m q a)) (sym (put_apart m new k after e q a t)) (moves_none (in_table m q a))
-
-  -- ---- of a part that goes, where something still stands
-
-  module _ (stands : I → A → Bool) (gone : A → Resources) where
-    abbrev pub stands_in : ByName (Option I) → Name → A → Bool
-    stands_in m q a = option_map_or (λ set. stands set a) (row_at m q) false
-
-    -- the part is that of one name
-    abbrev pub Leaves : Name → ByName (Option I) → ByName (Option I) → Type 0
-    Leaves k old new = (q : Name) (a : A) → IsTrue (stands_in new q a) →
-        MovesLoad (if same_name q k then gone a else none) none (in_table old q a) (in_table new q a)
-
-    pub left_load : (m new : ByName (Option I)) (k : Name) (before after : I) → row_at m k ≡ Some before → new ≡ insert m k (Some after) →
-        ((a : A) → IsTrue (stands after a) → MovesLoad (gone a) none (load before a) (load after a)) → Leaves k m new
-    left_load m new k before after is e moves q a still = by (same_name q k) refl
-      where
-        by : (b : Bool) → same_name q k ≡ b → MovesLoad (if b then gone a else none) none (in_table m q a) (in_table new q a)
-        by true t = subst (λ x. MovesLoad (gone a) none x (in_table new q a)) (sym (there m k (Some before) is q a t))
-            (subst (MovesLoad (gone a) none (load before a)) (sym (put_here m new k after e q a t)) (moves a
-            (sym (ap (λ r. option_map_or (λ set. stands set a) r false) (ap (λ m. row_at m q) e ∙ row-insert names m k (Some after) q
-            ∙ ap (λ b. cond b (Some after) (row_at m q)) t)) ∙ still)))
-        by false t = subst (MovesLoad none none (in_table m q a)) (sym (put_apart m new k after e q a t)) (moves_none (in_table m q a))
-
-    -- the set goes with its name
-    pub gone_load : (m mid new : ByName (Option I)) (k : Name) → new ≡ remove mid k → Leaves k m mid → Leaves k m new
-    gone_load m mid new k e left q a still = by (same_name q k) refl
-      where
-        row : (b : Bool) → same_name q k ≡ b → row_at new q ≡ cond b None (row_at mid q)
-        row b t = ap (λ m. row_at m q) e ∙ ap flat (get-remove names mid k q) ∙ flat_none (same_name q k) (get mid q) ∙ ap (λ b. cond b None (row_at mid q)) t
-
-        by : (b : Bool) → same_name q k ≡ b → MovesLoad (if same_name q k then gone a else none) none (in_table m q a) (in_table new q a)
-        by true t = not_true (sym (ap (λ r. option_map_or (λ set. stands set a) r false) (row true t)) ∙ still)
-        by false t = subst (MovesLoad (if same_name q k then gone a else none) none (in_table m q a)) (sym (ap (in_set a) (row false t)))
-            (left q a (sym (ap (λ r. option_map_or (λ set. stands set a) r false) (row false t)) ∙ still))
-
-    -- there is no set
-    pub none_left : (m : ByName (Option I)) (k : Name) → row_at m k ≡ None → Leaves k m m
-    none_left m k is q a still = by (same_name q k) refl
-      where
-        by : (b : Bool) → same_name q k ≡ b → MovesLoad (if b then gone a else none) none (in_table m q a) (in_table m q a)
-        by true t = not_true (sym (ap (λ r. option_map_or (λ set. stands set a) r false) (ap (row_at m) (tied one_name q k t) ∙ is)) ∙ still)
-        by false t = moves_none (in_table m q a)
-
-pub stands : {X : Type 0} (r : Option X) → is_some r ≡ option_map_or (λ _. true) r false
-stands None = refl
-stands (Some x) = refl

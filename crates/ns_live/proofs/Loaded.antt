@@ -6,7 +6,9 @@ use Rattle.std.specs.Option.{option_and_then, option_map_or}
 use Rattle.std.specs.Ordering.{nat_cmp}
 use Rattle.keyed.specs.Levels.{holds_key, holds_number}
 use Rattle.keyed.specs.declared.key_set.KeySet.{KeySet}
+use Rattle.keyed.proofs.KeySums.{at_name, at_number, held_in, key_part, name_part, numbers_in, slot_part}
 use Rattle.keyed.proofs.Levels.{says_nothing}
+use Rattle.keyed.proofs.RowSums.{sums_alike}
 use Rattle.ns_types.specs.declared.allocation.Allocation.{Allocation}
 use Rattle.ns_types.specs.declared.resources.Resources.{Resources}
 use Rattle.ns_types.specs.State.Names.{Name, Key, ByNumber}
@@ -20,9 +22,8 @@ use Rattle.ns_live.specs.declared.live.Live.{Live}
 use Rattle.ns_live.specs.Index.{IsRight}
 use Rattle.ns_live.specs.Levels.{keys_at, load_at, no_keys}
 use Rattle.ns_live.specs.Loads.{keys_amount, keys_use, row_amount}
-use Rattle.ns_live.proofs.KeySums.{at_name, at_number, held_in, key_part, names_part, no_use, numbers_in, slot_part}
+use Rattle.ns_live.proofs.KeySums.{amount_is, no_use, weight}
 use Rattle.ns_live.proofs.LoadLevels.{keys_hold}
-use Rattle.ns_live.proofs.Sums.{sums_alike}
 
 module _ (w : World) (pool node : Name) (amount : Resources → ℕ) where
   abbrev live : Allocation → Bool
@@ -60,7 +61,7 @@ module _ (w : World) (pool node : Name) (amount : Resources → ℕ) where
   -- ---- by the keys that are held
 
   module _ (keys : KeySet) (right : (key : Key) → holds_key keys key ≡ lives_at key) where
-    counted_at : (ns : Name) (n : ℕ) → option_map_or (counted n) (row_of (ns, n)) 0 ≡ key_part row_of amount keys (ns, n)
+    counted_at : (ns : Name) (n : ℕ) → option_map_or (counted n) (row_of (ns, n)) 0 ≡ key_part (weight row_of amount) keys (ns, n)
     counted_at ns n = by (row_of (ns, n)) ∙ ap (λ b. cond b (row_amount amount (row_of (ns, n))) 0) (sym (right (ns, n)))
       where
         by : (r : Option Allocation) → option_map_or (counted n) r 0 ≡ cond (option_map_or live r false) (row_amount amount r) 0
@@ -68,15 +69,16 @@ module _ (w : World) (pool node : Name) (amount : Resources → ℕ) where
         by (Some row) = refl
 
     in_namespace : (ns : Name) → option_map_or (λ t. tenant_sum live amount t) (get w.tenants ns) 0
-        ≡ option_map_or (names_part row_of amount ns) (get keys.numbers ns) 0
-    in_namespace ns = sum_in ns ∙ sums_alike numbers one_number counted (slot_part row_of amount ns) (rows_in ns) (numbers_in row_of amount keys ns)
-        (λ n. ap (λ r. option_map_or (counted n) r 0) (row_in ns n) ∙ counted_at ns n ∙ sym (held_in row_of amount keys ns n)
-        ∙ sym (at_number row_of amount ns (numbers_in row_of amount keys ns) n))
-        ∙ sym (at_name row_of amount keys ns)
+        ≡ option_map_or (name_part (weight row_of amount) ns) (get keys.numbers ns) 0
+    in_namespace ns = sum_in ns ∙ sums_alike numbers one_number counted (slot_part (weight row_of amount) ns) (rows_in ns) (numbers_in keys ns)
+        (λ n. ap (λ r. option_map_or (counted n) r 0) (row_in ns n) ∙ counted_at ns n ∙ sym (held_in (weight row_of amount) keys ns n)
+        ∙ sym (at_number (weight row_of amount) ns (numbers_in keys ns) n))
+        ∙ sym (at_name (weight row_of amount) keys ns)
 
     pub loaded : node_sum w pool node amount ≡ keys_amount row_of keys amount
     unfolding node_sum
-    loaded = sums_alike names one_name (λ _ t. tenant_sum live amount t) (names_part row_of amount) w.tenants keys.numbers in_namespace
+    loaded = sums_alike names one_name (λ _ t. tenant_sum live amount t) (name_part (weight row_of amount)) w.tenants keys.numbers in_namespace
+        ∙ sym (amount_is row_of amount keys)
 
   -- where nothing is live
   pub nothing_there : ((key : Key) → lives_at key ≡ false) → node_sum w pool node amount ≡ 0

@@ -28,7 +28,7 @@ use Rattle.ns_live.specs.declared.naming.QuotaUse.{QuotaUse}
 use Rattle.ns_live.specs.Listed.{found_at}
 use Rattle.ns_live.specs.Naming.{AreNamed, holds_name, is_quota, names_at, names_use, namespace_use, row_name, total_at}
 use Rattle.ns_live.proofs.Listing.{filter_at_keys}
-use Rattle.ns_live.proofs.Sums.{sum_at_keys}
+use Rattle.keyed.proofs.RowSums.{sum_at_keys}
 use Rattle.ns_live.proofs.Totals.{held_get}
 
 pub names_in_rows : (slots : List (Name × Option Unit)) → flat_map row_name slots ≡ map (λ e. e.0) (row_list slots)

@@ -5,6 +5,7 @@ use Rattle.std.proofs.Math.Bool.{and-false}
 use Rattle.std.specs.Option.{option_map_or}
 use Rattle.keyed.specs.Levels.{holds_number}
 use Rattle.keyed.specs.declared.key_set.KeySet.{KeySet}
+use Rattle.keyed.proofs.KeySums.{key_part, keys_alike, keys_moved, no_keys_sum}
 use Rattle.keyed.proofs.Levels.{not_true, says_nothing}
 use Rattle.ns_types.specs.declared.allocation.Allocation.{Allocation}
 use Rattle.ns_types.specs.declared.resources.Resources.{Resources}
@@ -20,7 +21,7 @@ use Rattle.ns_live.specs.Levels.{keys_at, load_at, no_keys, stands_at}
 use Rattle.ns_live.specs.Loads.{keys_amount, keys_use, row_amount}
 use Rattle.ns_live.specs.Moving.{AddsLoad, LeavesInPool, MovesInPool, MovesLoad, part_at, taken}
 use Rattle.ns_live.specs.Shown.{live_row}
-use Rattle.ns_live.proofs.KeySums.{key_part, keys_alike, keys_moved, no_use}
+use Rattle.ns_live.proofs.KeySums.{amount_is, no_use, weight}
 use Rattle.ns_live.proofs.LoadLevels.{keys_hold, nothing_stands}
 
 abbrev RowOf : Type 0
@@ -34,7 +35,7 @@ KeysRight rows live = (pool node : Name) (key : Key) → holds live pool node ke
 
 module _ (amount : Resources → ℕ) (zero : amount none ≡ 0) (pool node : Name) where
   part_is : (rows : RowOf) (live : Live) → KeysRight rows live → (q : Key) →
-      key_part rows amount (keys_at live pool node) q ≡ amount (taken pool node (rows q))
+      key_part (weight rows amount) (keys_at live pool node) q ≡ amount (taken pool node (rows q))
   part_is rows live keys q = ap (λ b. cond b (row_amount amount (rows q)) 0) (keys_hold live pool node q ∙ keys pool node q) ∙ by (rows q)
     where
       size : (row : Allocation) (b : Bool) → cond b (amount row.size) 0 ≡ amount (if b then row.size else none)
@@ -72,9 +73,11 @@ still_loaded row_of rows old new right keys loads same = record {
   where
     sums : (amount : Resources → ℕ) → amount none ≡ 0 → (pool node : Name) →
         keys_amount rows (keys_at new pool node) amount ≡ keys_amount row_of (keys_at old pool node) amount
-    sums amount zero pool node = keys_alike row_of rows amount (keys_at old pool node) (keys_at new pool node)
+    sums amount zero pool node = amount_is rows amount (keys_at new pool node)
+        ∙ keys_alike (weight row_of amount) (weight rows amount) (keys_at old pool node) (keys_at new pool node)
         (λ q. part_is amount zero pool node rows new keys q ∙ ap amount (taken_alike pool node (row_of q) (rows q) (same pool node q))
         ∙ sym (part_is amount zero pool node row_of old right.keys q))
+        ∙ sym (amount_is row_of amount (keys_at old pool node))
 
 -- there are no loads, and nothing is live
 pub empty_indexes : (rows : RowOf) (live : Live) → KeysRight rows live → ((pool node : Name) → load_at live pool node ≡ none) →
@@ -88,10 +91,11 @@ empty_indexes rows live right loads dead = record {
 }
   where
     nothing : (amount : Resources → ℕ) → amount none ≡ 0 → (pool node : Name) → keys_amount rows (keys_at live pool node) amount ≡ 0
-    nothing amount zero pool node = keys_alike rows rows amount no_keys (keys_at live pool node)
+    nothing amount zero pool node = amount_is rows amount (keys_at live pool node)
+        ∙ keys_alike (weight rows amount) (weight rows amount) no_keys (keys_at live pool node)
         (λ q. part_is amount zero pool node rows live right q ∙ ap amount (taken_alike pool node None (rows q) (dead pool node q)) ∙ zero
         ∙ sym (ap (λ b. cond b (row_amount amount (rows q)) 0) (says_nothing (λ (s : KeySet). s.numbers) holds_number no_keys refl q)))
-        ∙ no_use rows amount
+        ∙ no_keys_sum (weight rows amount) no_keys refl
 
 -- ---- another row, or none, is under a key
 
@@ -108,13 +112,15 @@ module _ (row_of : RowOf) (key : Key) (before after : Option Allocation) (old ne
         keys_amount rows (keys_at new pool node) amount + amount (taken pool node before)
         ≡ keys_amount row_of (keys_at old pool node) amount + amount (taken pool node after)
     sums_moved amount zero pool node =
-        let moved = keys_moved row_of rows amount (keys_at old pool node) (keys_at new pool node) key
+        let moved = keys_moved (weight row_of amount) (weight rows amount) (keys_at old pool node) (keys_at new pool node) key
         (λ q apart. part_is amount zero pool node rows new keys q ∙ ap (λ b. amount (taken pool node (if b then after else row_of q))) apart
         ∙ sym (part_is amount zero pool node row_of old right.keys q)) in
         let went = part_is amount zero pool node row_of old right.keys key ∙ ap (λ r. amount (taken pool node r)) was in
         let came = part_is amount zero pool node rows new keys key
         ∙ ap (λ b. amount (taken pool node (if b then after else row_of key))) (same_key_refl key) in
-        omega (arith, moved, went, came)
+        let old_is = amount_is row_of amount (keys_at old pool node) in
+        let new_is = amount_is rows amount (keys_at new pool node) in
+        omega (arith, moved, went, came, old_is, new_is)
 
     pub put_right : ((pool node : Name) → IsTrue (stands_at new pool node) →
         MovesLoad (taken pool node before) (taken pool node after) (load_at old pool node) (load_at new pool node)) → Indexes rows new

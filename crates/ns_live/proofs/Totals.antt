@@ -5,8 +5,9 @@ use Rattle.std.specs.FinMap.{empty, entries, get, get-empty, get-insert, get-rem
 use Rattle.std.specs.Option.{option_map_or}
 use Rattle.keyed.specs.Levels.{Adds, Drops, same_at}
 use Rattle.keyed.specs.Table.{flat, has_slot, row_at, rows, with_slot}
-use Rattle.keyed.proofs.Levels.{keeps_at, none_there, not_true, row-insert, row-with_slot, row_here}
+use Rattle.keyed.proofs.Levels.{keeps_at, none_there, not_true, row_here}
 use Rattle.keyed.proofs.Tables.{get-rows}
+use Rattle.keyed.proofs.Values.{begun_value, put_apart, same_value, slot_value}
 use Rattle.ns_types.specs.declared.resources.Resources.{Resources}
 use Rattle.ns_types.specs.State.Names.{ByName, Name, name_cmp, same_name}
 use Rattle.ns_types.specs.State.Resources.{IsCounted, none}
@@ -195,6 +196,10 @@ module _ (use_of : Name → Resources) (old new : QuotaNames) (q : Name) (right 
 
 -- ---- one quota's total, where the rest stays
 
+-- it has one
+abbrev total_in : QuotaUse → Unit {0} → Resources
+total_in held u = held.total
+
 module _ (old new : QuotaNames) (quota : Name) (before after : QuotaUse) (is : row_at old.quotas quota ≡ Some before)
     (e : new.quotas ≡ insert old.quotas quota (Some after)) where
   total_before : total_at old quota ≡ before.total
@@ -204,16 +209,10 @@ module _ (old new : QuotaNames) (quota : Name) (before after : QuotaUse) (is : r
   total_after = ap (λ r. option_map_or (λ (u : QuotaUse). u.total) r none) (row_here names old.quotas new.quotas quota after e)
 
   pub others_there : (q : Name) → same_name q quota ≡ false → total_at new q ≡ total_at old q
-  others_there q t = ap (λ m. option_map_or (λ (u : QuotaUse). u.total) (row_at m q) none) e
-      ∙ ap (λ r. option_map_or (λ (u : QuotaUse). u.total) r none) (row-insert names old.quotas quota (Some after) q
-      ∙ ap (λ b. cond b (Some after) (row_at old.quotas q)) t)
+  others_there q t = put_apart names one_name none total_in old.quotas new.quotas quota after e q tt t
 
   pub totals_kept : after.total ≡ before.total → KeepsTotals old new
-  totals_kept same q = by (same_name q quota) refl
-    where
-      by : (b : Bool) → same_name q quota ≡ b → total_at new q ≡ total_at old q
-      by true t = ap (total_at new) (same_name_is q quota t) ∙ total_after ∙ same ∙ sym total_before ∙ ap (total_at old) (sym (same_name_is q quota t))
-      by false t = others_there q t
+  totals_kept same q = same_value names one_name none total_in old.quotas new.quotas quota before after is e (λ _. same) q tt
 
   moves_here : (gone come : Resources) → Moves gone come before.total after.total → Moves gone come (total_at old quota) (total_at new quota)
   moves_here gone come moved = subst (λ t. Moves gone come t (total_at new quota)) (sym total_before)
@@ -289,23 +288,13 @@ all_gone old left new quota ns use_of right drops same e q = by (same_name q quo
 
 -- room moves no total
 pub only_room : (old made : QuotaNames) (k : Name) → made.quotas ≡ with_slot old.quotas k → KeepsTotals old made
-only_room old made k e q = ap (λ m. option_map_or (λ (u : QuotaUse). u.total) (row_at m q) none) e
-    ∙ ap (λ r. option_map_or (λ (u : QuotaUse). u.total) r none) (row-with_slot names one_name old.quotas k q)
+only_room old made k e q = slot_value names one_name none total_in old.quotas made.quotas k e q tt
 
 -- nor does a quota that begins
 pub totals_begun : (old made new : QuotaNames) (k : Name) (held : QuotaUse) → made.quotas ≡ with_slot old.quotas k → row_at made.quotas k ≡ None →
     held.total ≡ none → new.quotas ≡ insert made.quotas k (Some held) → KeepsTotals old new
-totals_begun old made new k held e nowhere nothing f q = by (same_name q k) refl ∙ only_room old made k e q
-  where
-    there : (b : Bool) → same_name q k ≡ b → total_at new q ≡ option_map_or (λ (u : QuotaUse). u.total) (cond b (Some held) (row_at made.quotas q)) none
-    there b t = ap (λ m. option_map_or (λ (u : QuotaUse). u.total) (row_at m q) none) f
-        ∙ ap (λ r. option_map_or (λ (u : QuotaUse). u.total) r none) (row-insert names made.quotas k (Some held) q
-        ∙ ap (λ b. cond b (Some held) (row_at made.quotas q)) t)
-
-    by : (b : Bool) → same_name q k ≡ b → total_at new q ≡ total_at made q
-    by true t = there true t ∙ nothing ∙ sym (ap (λ r. option_map_or (λ (u : QuotaUse). u.total) r none) nowhere)
-        ∙ ap (total_at made) (sym (same_name_is q k t))
-    by false t = there false t
+totals_begun old made new k held e nowhere nothing f q = begun_value names one_name none total_in old.quotas made.quotas new.quotas k held e nowhere
+    (λ _. nothing) f q tt
 
 -- no quota has a total at first
 pub total_first : (held : QuotaNames) → held.quotas ≡ empty → (q : Name) → total_at held q ≡ none

@@ -14,7 +14,7 @@ use Rattle.ns_types.proofs.TableRows.{filter_no_row}
 use Rattle.ns_types.proofs.Tables.{any_row-none, filter-retain}
 use Rattle.ns_types.specs.State.Names.{ByNumber, Name}
 use Rattle.ns_types.specs.State.Tables.{any_row}
-use Rattle.ns_world.proofs.Looked.{entries_looked}
+use Rattle.keyed.proofs.RowsAtKeys.{entries_looked}
 use Rattle.ns_world.specs.Filing.{AreNumbersUnder, slots_at, stands_under}
 
 module _ {X : Type 0} (name_of : X → Option Name) (name : Name) (slots : ByNumber (Option X)) (p : ℕ → X → Bool)

@@ -1,12 +1,15 @@
 use Rattle.std.proofs.Common.{ap, refl, sym, ◌∙◌}
 use Rattle.std.specs.Option.{option_copied_mut}
 use Rattle.ns_types.specs.State.Names.{same_key}
+use Rattle.ns_types.specs.State.Resources.{none}
+use Rattle.ns_types.proofs.Named.{names, one_name}
 use Rattle.keyed.specs.Levels.{same_at}
 use Rattle.ns_live.specs.Levels.{holds_on_node, has_node_room, load_on}
-use Rattle.ns_live.specs.Moving.{part_on}
+use Rattle.ns_live.specs.Moving.{MovesLoad, part_on}
 use Rattle.ns_live.specs.declared.live.Live.{Live}
 use Rattle.keyed.proofs.Levels.{adds_at}
-use Rattle.ns_live.proofs.LoadLevels.{moved_load}
+use Rattle.keyed.proofs.Values.{moved_value}
+use Rattle.ns_live.proofs.LoadLevels.{moves_none}
 use Rattle.ns_live.proofs.live.Live.insert.Goals as goal
 
 pub returns-in-Some-clause-added : goal.returns-in-Some-clause-added
@@ -16,6 +19,7 @@ returns-in-Some-clause-added c = adds_at (λ (s : Live). s.pools) holds_on_node 
     c.insert.ensures.keys
 
 pub returns-in-Some-clause-loads : goal.returns-in-Some-clause-loads
-returns-in-Some-clause-loads c p n = moved_load load_on c.args.self.now.pools _ c.args.pool.now c.in-Some.nodes.now c.insert.new.self
-    (sym c.get_mut.ensures.value ∙ ap option_copied_mut c.in-Some.is) refl (λ n. part_on c.args.node.now n c.args.before)
+returns-in-Some-clause-loads c p n = moved_value names one_name none load_on MovesLoad moves_none c.args.self.now.pools _
+    c.args.pool.now c.in-Some.nodes.now c.insert.new.self (sym c.get_mut.ensures.value ∙ ap option_copied_mut c.in-Some.is) refl
+    (λ n. part_on c.args.node.now n c.args.before)
     (λ n. part_on c.args.node.now n c.args.after) p n (c.insert.ensures.loads n)

@@ -5,13 +5,13 @@ use Rattle.keyed.specs.Table.{flat, row_at}
 use Rattle.ns_types.specs.State.Names.{name_cmp}
 use Rattle.ns_types.specs.State.Resources.{none}
 use Rattle.keyed.proofs.Tables.{slot_made}
-use Rattle.ns_types.proofs.Named.{names}
+use Rattle.ns_types.proofs.Named.{names, one_name}
 use Rattle.ns_live.specs.Levels.{has_node_room, holds_here, holds_on_node, load_on}
 use Rattle.ns_live.specs.declared.pool_keys.NodeKeys.{NodeKeys}
 use Rattle.ns_live.specs.declared.pool_keys.PoolKeys.{PoolKeys}
 use Rattle.ns_live.specs.declared.live.Live.{Live}
 use Rattle.keyed.proofs.Levels.{begun, none_there, only_slot, row_written, says_nothing}
-use Rattle.ns_live.proofs.LoadLevels.{begun_load, slot_load}
+use Rattle.keyed.proofs.Values.{begun_value, slot_value}
 use Rattle.ns_live.proofs.live.Live.open.Goals as goal
 
 pub set-requires : goal.set-requires
@@ -25,7 +25,8 @@ returns-then-is_none-clause-same c = begun (λ (s : Live). s.pools) holds_on_nod
     (says_nothing (λ (s : PoolKeys). s.nodes) holds_here c.new.result c.new.ensures) c.set.ensures
 
 pub returns-then-is_none-clause-loads : goal.returns-then-is_none-clause-loads
-returns-then-is_none-clause-loads c p n = begun_load load_on c.args.self.now.pools c.reserve.new.self _ c.args.pool.now _ c.in_ok-reserve.ensures.ok
+returns-then-is_none-clause-loads c p n = begun_value names one_name none load_on c.args.self.now.pools c.reserve.new.self _
+    c.args.pool.now _ c.in_ok-reserve.ensures.ok
     (sym c.get.ensures ∙ ap option_copied (none_there c.get.result c.if-is_none.ensures))
     (λ n. ap (λ r. option_map_or (λ (on : NodeKeys). on.load) r none) (ap (λ m. row_at m n) c.new.ensures ∙ ap flat (get-empty name_cmp n))) c.set.ensures p n
 
@@ -37,4 +38,4 @@ returns-else-is_none-clause-same c = only_slot (λ (s : Live). s.pools) holds_on
     c.in_ok-reserve.ensures.ok
 
 pub returns-else-is_none-clause-loads : goal.returns-else-is_none-clause-loads
-returns-else-is_none-clause-loads c p n = slot_load load_on c.args.self.now.pools _ c.args.pool.now c.in_ok-reserve.ensures.ok p n
+returns-else-is_none-clause-loads c p n = slot_value names one_name none load_on c.args.self.now.pools _ c.args.pool.now c.in_ok-reserve.ensures.ok p n

@@ -1,13 +1,15 @@
 use Rattle.std.proofs.Common.{ap, sym, ◌∙◌}
 use Rattle.std.specs.Option.{option_copied}
 use Rattle.keyed.proofs.Tables.{slot_made}
-use Rattle.ns_types.proofs.Named.{names}
+use Rattle.ns_types.specs.State.Resources.{none}
+use Rattle.ns_types.proofs.Named.{names, one_name}
 use Rattle.keyed.specs.Levels.{holds_number}
 use Rattle.keyed.specs.declared.key_set.KeySet.{KeySet}
 use Rattle.ns_live.specs.Levels.{has_room_here, holds_here}
 use Rattle.ns_live.specs.declared.pool_keys.PoolKeys.{PoolKeys}
 use Rattle.keyed.proofs.Levels.{begun, none_there, only_slot, row_written, says_nothing}
-use Rattle.ns_live.proofs.LoadLevels.{begun_load, load_here, slot_load}
+use Rattle.keyed.proofs.Values.{begun_value, slot_value}
+use Rattle.ns_live.proofs.LoadLevels.{load_here}
 use Rattle.ns_live.proofs.pool_keys.PoolKeys.open.Goals as goal
 
 pub set-requires : goal.set-requires
@@ -20,7 +22,7 @@ returns-then-is_none-clause-same c = begun (λ (s : PoolKeys). s.nodes) holds_he
     (says_nothing (λ (s : KeySet). s.numbers) holds_number c.new-keys.result c.new-keys.ensures) c.set.ensures
 
 pub returns-then-is_none-clause-loads : goal.returns-then-is_none-clause-loads
-returns-then-is_none-clause-loads c name = begun_load load_here c.args.self.now.nodes c.reserve.new.self _ c.args.node.now _
+returns-then-is_none-clause-loads c name = begun_value names one_name none load_here c.args.self.now.nodes c.reserve.new.self _ c.args.node.now _
     c.in_ok-reserve.ensures.ok (sym c.get.ensures ∙ ap option_copied (none_there c.get.result c.if-is_none.ensures))
     (λ _. c.none.ensures) c.set.ensures name tt
 
@@ -32,5 +34,5 @@ returns-else-is_none-clause-same c = only_slot (λ (s : PoolKeys). s.nodes) hold
     c.in_ok-reserve.ensures.ok
 
 pub returns-else-is_none-clause-loads : goal.returns-else-is_none-clause-loads
-returns-else-is_none-clause-loads c name = slot_load load_here c.args.self.now.nodes _ c.args.node.now
+returns-else-is_none-clause-loads c name = slot_value names one_name none load_here c.args.self.now.nodes _ c.args.node.now
     c.in_ok-reserve.ensures.ok name tt

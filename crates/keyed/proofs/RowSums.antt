@@ -12,7 +12,7 @@ use Rattle.keyed.specs.Table.{row_list}
 use Rattle.ns_types.proofs.Sums.{sum_same}
 use Rattle.ns_types.proofs.Tables.{each_row, sum-retain}
 use Rattle.ns_types.proofs.Taken.{sum_split}
-use Rattle.ns_world.proofs.Looked.{entries_looked}
+use Rattle.keyed.proofs.RowsAtKeys.{entries_looked}
 
 module _ {K X C : Type 0} (f : K → X → ℕ) (look : K → Option X) where
   sum_looked : (es : List (K × C)) →
