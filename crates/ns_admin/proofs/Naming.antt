@@ -17,9 +17,9 @@ use Rattle.ns_types.specs.Working.Commit.{quota_named}
 use Rattle.ns_types.proofs.Named.{names, numbers, one_number, same_name_is}
 use Rattle.ns_types.proofs.TableRows.{entries_empty}
 use Rattle.ns_live.specs.declared.live.Live.{Live}
-use Rattle.ns_live.specs.Naming.{AreKept, AreNamed, HoldsSame, PutsQuota, namespace_use, with_quota, with_use}
+use Rattle.ns_live.specs.Naming.{AreKept, AreNamed, HoldsSame, PutsQuota, use_in, with_quota, with_use}
 use Rattle.ns_live.proofs.QuotaLevels.{with_here}
-use Rattle.ns_live.proofs.Totals.{free_moved, kept_same}
+use Rattle.ns_live.proofs.Totals.{are_still_kept, free_moved}
 use Rattle.ns_world.specs.Allocations.{IsTotalOf, rows_use}
 use Rattle.ns_world.specs.Total.{IsTotal}
 use Rattle.ns_world.specs.declared.tables.Tables.{Tables}
@@ -56,7 +56,7 @@ module _ (name : Name) (w : World) where
       by false = refl
 
   -- a namespace that is put has what it had, and a new one has nothing
-  put_used : (namespace : Namespace) (ns : Name) → namespace_use (with_namespace_put name namespace w) ns ≡ namespace_use w ns
+  put_used : (namespace : Namespace) (ns : Name) → use_in (with_namespace_put name namespace w).tenants ns ≡ use_in w.tenants ns
   put_used namespace ns = ap use_of (get-insert names w.tenants name (with_namespace namespace (get w.tenants name)) ns) ∙ by (same_name ns name) refl
     where
       kept : (old : Option Tenant) → use_of (Some (with_namespace namespace old)) ≡ use_of old
@@ -69,37 +69,37 @@ module _ (name : Name) (w : World) where
           no_rows = entries_empty numbers one_number
       kept (Some t) = refl
 
-      by : (b : Bool) → same_name ns name ≡ b → use_of (cond b (Some (with_namespace namespace (get w.tenants name))) (get w.tenants ns)) ≡ namespace_use w ns
-      by true t = kept (get w.tenants name) ∙ ap (namespace_use w) (sym (same_name_is ns name t))
+      by : (b : Bool) → same_name ns name ≡ b → use_of (cond b (Some (with_namespace namespace (get w.tenants name))) (get w.tenants ns)) ≡ use_in w.tenants ns
+      by true t = kept (get w.tenants name) ∙ ap (use_in w.tenants) (sym (same_name_is ns name t))
       by false t = refl
 
-  gone_used : (ns : Name) → namespace_use (without_namespace name w) ns ≡ with_use name none (namespace_use w) ns
+  gone_used : (ns : Name) → use_in (without_namespace name w).tenants ns ≡ with_use name none (use_in w.tenants) ns
   gone_used ns = ap use_of (get-remove names w.tenants name ns) ∙ by (same_name ns name)
     where
-      by : (b : Bool) → use_of (cond b None (get w.tenants ns)) ≡ cond b none (namespace_use w ns)
+      by : (b : Bool) → use_of (cond b None (get w.tenants ns)) ≡ cond b none (use_in w.tenants ns)
       by true = refl
       by false = refl
 
   module _ (w' : World) (live mid new : Live) (same : HoldsSame live.quotas mid.quotas) (before after : Option Name) (used : Resources)
-      (puts : PutsQuota name before after used mid.quotas new.quotas) (was : quota_named w name ≡ before) (part : IsTotal used (namespace_use w name)) where
-    put_kept : AreNamed w live → AreKept (with_quota name after (quota_named w)) (namespace_use w) new.quotas
-    put_kept right = puts (quota_named w) (namespace_use w) (kept_same live.quotas mid.quotas same (quota_named w) (namespace_use w) right) was part
+      (puts : PutsQuota name before after used mid.quotas new.quotas) (was : quota_named w name ≡ before) (part : IsTotal used (use_in w.tenants name)) where
+    put_kept : AreNamed w live → AreKept (with_quota name after (quota_named w)) (use_in w.tenants) new.quotas
+    put_kept right = puts (quota_named w) (use_in w.tenants) (are_still_kept live.quotas mid.quotas same (quota_named w) (use_in w.tenants) right) was part
 
     now_named : (use_of : Name → Resources) → ((ns : Name) → quota_named w' ns ≡ with_quota name after (quota_named w) ns) →
-        ((ns : Name) → namespace_use w' ns ≡ use_of ns) → AreKept (with_quota name after (quota_named w)) use_of new.quotas → AreNamed w' new
-    now_named use_of named uses kept = subst (λ quotas. AreKept quotas (namespace_use w') new.quotas) (λ i ns. sym (named ns) i)
+        ((ns : Name) → use_in w'.tenants ns ≡ use_of ns) → AreKept (with_quota name after (quota_named w)) use_of new.quotas → AreNamed w' new
+    now_named use_of named uses kept = subst (λ quotas. AreKept quotas (use_in w'.tenants) new.quotas) (λ i ns. sym (named ns) i)
         (subst (λ uses. AreKept (with_quota name after (quota_named w)) uses new.quotas) (λ i ns. sym (uses ns) i) kept)
 
     pub written_named : (namespace : Namespace) → after ≡ namespace.quota → w' ≡ with_namespace_put name namespace w → AreNamed w live → AreNamed w' new
-    written_named namespace its put right = now_named (namespace_use w)
+    written_named namespace its put right = now_named (use_in w.tenants)
         (λ ns. ap (λ w. quota_named w ns) put ∙ put_named namespace ns ∙ ap (λ r. with_quota name r (quota_named w) ns) (sym its))
-        (λ ns. ap (λ w. namespace_use w ns) put ∙ put_used namespace ns) (put_kept right)
+        (λ ns. ap (λ w. use_in w.tenants ns) put ∙ put_used namespace ns) (put_kept right)
 
     pub removed_named : after ≡ None → w' ≡ without_namespace name w → AreNamed w live → AreNamed w' new
-    removed_named nowhere gone right = now_named (with_use name none (namespace_use w))
+    removed_named nowhere gone right = now_named (with_use name none (use_in w.tenants))
         (λ ns. ap (λ w. quota_named w ns) gone ∙ gone_named ns ∙ ap (λ r. with_quota name r (quota_named w) ns) (sym nowhere))
-        (λ ns. ap (λ w. namespace_use w ns) gone ∙ gone_used ns)
-        (free_moved new.quotas (with_quota name after (quota_named w)) (namespace_use w) (put_kept right) name
+        (λ ns. ap (λ w. use_in w.tenants ns) gone ∙ gone_used ns)
+        (free_moved new.quotas (with_quota name after (quota_named w)) (use_in w.tenants) (put_kept right) name
         (with_here name (quota_named w) after ∙ nowhere) none)
 
 -- what a namespace that is there names, and uses
@@ -110,24 +110,24 @@ pub named_nowhere : (t : Tables) (name : Name) → row_at t.tenants name ≡ Non
 named_nowhere t name at = ap of (tenant_is t name None at)
 
 pub used_there : (t : Tables) (name : Name) (x : TenantRows) → row_at t.tenants name ≡ Some x → (total : Resources) →
-    IsTotalOf total x.allocations.slots → IsTotal total (namespace_use (world_of t) name)
+    IsTotalOf total x.allocations.slots → IsTotal total (use_in (world_of t).tenants name)
 used_there t name x at total is = subst (IsTotal total) (sym (ap use_of (tenant_is t name (Some x) at))) is
 
 pub used_nowhere : (t : Tables) (name : Name) → row_at t.tenants name ≡ None → (total : Resources) → total ≡ none →
-    IsTotal total (namespace_use (world_of t) name)
-used_nowhere t name at total is = subst (λ r. IsTotal r (namespace_use (world_of t) name)) (sym is)
+    IsTotal total (use_in (world_of t).tenants name)
+used_nowhere t name at total is = subst (λ r. IsTotal r (use_in (world_of t).tenants name)) (sym is)
     (subst (IsTotal none) (sym (ap use_of (tenant_is t name None at))) (refl, refl))
 
 -- a vacant slot at a quota is no name
 pub same_named : (w : World) (old new : Live) → HoldsSame old.quotas new.quotas → AreNamed w old → AreNamed w new
-same_named w old new same = kept_same old.quotas new.quotas same (quota_named w) (namespace_use w)
+same_named w old new same = are_still_kept old.quotas new.quotas same (quota_named w) (use_in w.tenants)
 
 -- a record of another owner
 pub other_named : (change : World → World) → ((w : World) (ns : Name) → quota_named (change w) ns ≡ quota_named w ns) →
-    ((w : World) (ns : Name) → namespace_use (change w) ns ≡ namespace_use w ns) → (old new : Tables)
+    ((w : World) (ns : Name) → use_in (change w).tenants ns ≡ use_in w.tenants ns) → (old new : Tables)
     (result : Result (Unit {0}) AllocError) → Writes change old result new → OnErr result (new ≡ old) → (live : Live) →
     AreNamed (world_of old) live → AreNamed (world_of new) live
 other_named change stays uses old new (Ok done) writes kept live right = subst (λ w. AreNamed w live) (sym writes)
-    (subst (λ quotas. AreKept quotas (namespace_use (change (world_of old))) live.quotas) (λ i ns. sym (stays (world_of old) ns) i)
+    (subst (λ quotas. AreKept quotas (use_in (change (world_of old)).tenants) live.quotas) (λ i ns. sym (stays (world_of old) ns) i)
     (subst (λ uses. AreKept (quota_named (world_of old)) uses live.quotas) (λ i ns. sym (uses (world_of old) ns) i) right))
 other_named change stays uses old new (Err e) writes kept live right = subst (λ t. AreNamed (world_of t) live) (sym kept) right

@@ -5,7 +5,7 @@ ghost use Rattle.keyed.specs.Table.{row_at};
 ghost use Rattle.ns_admin.specs.Recorded.{Writes, recorded};
 ghost use Rattle.ns_admin.specs.Viewed.{with_namespace_put, with_pool_put, with_quota_put};
 ghost use Rattle.ns_admin.specs.Viewed.{without_namespace};
-ghost use Rattle.ns_live.specs.Naming.{AreNamed, HasNameRoom, KeepsNodes, namespace_use};
+ghost use Rattle.ns_live.specs.Naming.{AreNamed, HasNameRoom, KeepsNodes, use_in};
 ghost use Rattle.ns_world.specs.Total.{IsTotal};
 ghost use Rattle.ns_world.specs.World.{world_of};
 
@@ -71,7 +71,7 @@ fn write_namespace(
 
 /// The total of what the namespace's live allocations take, where it is there.
 fn use_total(tables: &Tables, name: &Text) -> Resources
-    ensures { IsTotal result (namespace_use (world_of tables.now) name.now) }
+    ensures { IsTotal result (use_in (world_of tables.now).tenants name.now) }
 {
     match tables.tenants.get(name) {
         Some(tenant) => tenant.allocations.live_total(),

@@ -20,12 +20,12 @@ use Rattle.ns_types.proofs.Tests.{not_Some, same_Some}
 use Rattle.ns_change.specs.declared.change.SettledTenant.{SettledTenant}
 use Rattle.ns_change.specs.Changed.{changed_tenant, perhaps}
 use Rattle.ns_change.specs.Settled.{settled_tenant, tell}
-use Rattle.ns_commit.specs.Indexed.{AreKeptFor, HasIndexRoom, IsRightFor, allocation_in, quota_in, use_in}
+use Rattle.ns_commit.specs.Indexed.{HasIndexRoom, IsRightFor, allocation_in}
 use Rattle.ns_commit.specs.Owners.{changed_owners, owners}
 use Rattle.ns_commit.proofs.Owned.{at_each, found_here, found_other, get-changed, get-owners, no_more, none_changed, rest_sorted}
 use Rattle.ns_live.specs.declared.live.Live.{Live}
 use Rattle.ns_live.specs.Index.{HasRoomForAll, Indexes, KeepsKeys, KeepsRoom, has_room, with_changes}
-use Rattle.ns_live.specs.Naming.{AreKept, KeepsNames, KeepsNodes, PutsUse, with_use}
+use Rattle.ns_live.specs.Naming.{AreKept, AreKeptFor, KeepsNames, KeepsNodes, PutsUse, quota_in, use_in, with_use}
 use Rattle.ns_live.specs.Shown.{KeepsShown, ShowsUnmoved}
 use Rattle.ns_live.proofs.Changing.{changes_over}
 use Rattle.ns_live.proofs.Kept.{kept_same, kept_then, nodes_index, nodes_room, nodes_shown}

@@ -24,13 +24,13 @@ use Rattle.ns_change.specs.Changed.{changed_list, changed_pool, changed_quota, p
 use Rattle.ns_change.specs.Settled.{classes_in, settled_tenant, settled_world}
 use Rattle.ns_commit.specs.Committed.{CanRise, CanTell, Fits, HasNodeRoom, HaveClassRoom, KeepsNodes, settled_quotas}
 use Rattle.ns_commit.specs.Committed.{numbered_pools, raised_pool, raised_quota, released_quotas, releases, settled_pools, with_classes}
-use Rattle.ns_commit.specs.Indexed.{AreKeptFor, ForgetsChanged, IsRightFor, allocation_in, quota_in, use_in}
+use Rattle.ns_commit.specs.Indexed.{ForgetsChanged, IsRightFor, allocation_in}
 use Rattle.ns_commit.specs.Owners.{EachChanged, changed_owners, owners}
 use Rattle.ns_commit.proofs.Owned.{get-changed, get-owners}
 use Rattle.ns_commit.proofs.Reserved.{is_some_class, releases_is}
 use Rattle.ns_live.specs.declared.live.Live.{Live}
 use Rattle.ns_live.specs.Index.{IsRight, KeepsKeys}
-use Rattle.ns_live.specs.Naming.{AreKept, KeepsNames}
+use Rattle.ns_live.specs.Naming.{AreKept, AreKeptFor, KeepsNames, quota_in, use_in}
 use Rattle.ns_live.specs.Shown.{KeepsShown, ShowsUnmoved, live_row, shown_in}
 use Rattle.ns_live.proofs.Kept.{index_kept}
 use Rattle.ns_live.proofs.Unmoved.{shown_still, still_right}

@@ -1,22 +1,17 @@
--- The index of live allocations beside the namespaces whose allocations they are, the nodes that are shown, and what is held
--- at the quotas that the namespaces name.
+-- The index of live allocations beside the namespaces whose allocations they are, and the nodes that are shown.
 use Rattle.std.specs.Prelude.{◌≡◌, Option, Some, None}
 use Rattle.std.specs.FinMap.{FinMap, get}
-use Rattle.std.specs.Option.{option_and_then, option_map_or}
+use Rattle.std.specs.Option.{option_and_then}
 use Rattle.keyed.specs.Table.{row_at}
 use Rattle.ns_types.specs.declared.allocation.Allocation.{Allocation}
 use Rattle.ns_types.specs.declared.snapshot.PoolNode.{PoolNode}
-use Rattle.ns_types.specs.declared.resources.Resources.{Resources}
 use Rattle.ns_types.specs.State.Names.{Name, Key, ByName, name_cmp}
-use Rattle.ns_types.specs.State.Resources.{none}
 use Rattle.ns_types.specs.State.Rows.{Tenant}
 use Rattle.ns_change.specs.declared.change.PoolChange.{PoolChange}
 use Rattle.ns_change.specs.declared.change.SettledTenant.{SettledTenant}
 use Rattle.ns_live.specs.declared.live.Live.{Live}
 use Rattle.ns_live.specs.Index.{HasRoomForAll, Indexes}
-use Rattle.ns_live.specs.Naming.{AreKept}
 use Rattle.ns_live.specs.Shown.{shown_at}
-use Rattle.ns_world.specs.Allocations.{rows_use}
 
 abbrev pub allocation_in : ByName Tenant → Key → Option Allocation
 allocation_in tenants key = option_and_then (λ t. get t.allocations key.1) (get tenants key.0)
@@ -24,17 +19,6 @@ allocation_in tenants key = option_and_then (λ t. get t.allocations key.1) (get
 -- the index is right for the namespaces
 abbrev pub IsRightFor : ByName Tenant → Live → Type 0
 IsRightFor tenants live = Indexes (allocation_in tenants) live
-
--- the quota that a namespace names, and what its live allocations take together
-abbrev pub quota_in : ByName Tenant → Name → Option Name
-quota_in tenants ns = option_and_then (λ t. t.namespace.quota) (get tenants ns)
-
-abbrev pub use_in : ByName Tenant → Name → Resources
-use_in tenants ns = option_map_or (λ t. rows_use t.allocations) (get tenants ns) none
-
--- names and totals at quotas are right for the namespaces
-abbrev pub AreKeptFor : ByName Tenant → Live → Type 0
-AreKeptFor tenants live = AreKept (quota_in tenants) (use_in tenants) live.quotas
 
 -- room in the index for each changed allocation that is live
 abbrev pub HasIndexRoom : FinMap name_cmp (Option SettledTenant) → Live → Type 0

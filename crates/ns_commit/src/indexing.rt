@@ -1,11 +1,12 @@
-//! The index of live allocations and the totals of quotas follow what changes of namespaces, and nodes that change are not shown any more.
+//! The index of live allocations and the totals of quotas follow what changes of namespaces, and nodes that change are not
+//! shown any more.
 
 ghost use Rattle.std.specs.Prelude.{OnOk};
 ghost use Rattle.ns_change.specs.Settled.{settled_tenant};
-ghost use Rattle.ns_commit.specs.Indexed.{AreKeptFor, ForgetsChanged, HasIndexRoom, IsRightFor, allocation_in};
+ghost use Rattle.ns_commit.specs.Indexed.{ForgetsChanged, HasIndexRoom, IsRightFor, allocation_in};
 ghost use Rattle.ns_commit.specs.Owners.{changed_owners, owners};
 ghost use Rattle.ns_live.specs.Index.{KeepsKeys};
-ghost use Rattle.ns_live.specs.Naming.{KeepsNames};
+ghost use Rattle.ns_live.specs.Naming.{AreKeptFor, KeepsNames};
 ghost use Rattle.ns_live.specs.Shown.{KeepsShown, ShowsUnmoved};
 ghost use Rattle.ns_world.specs.World.{tenant_of};
 

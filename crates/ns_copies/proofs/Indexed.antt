@@ -21,12 +21,12 @@ use Rattle.ns_types.proofs.Tables.{equal_by}
 use Rattle.ns_types.proofs.Tests.{first, not_Some, second}
 use Rattle.ns_live.specs.declared.live.Live.{Live}
 use Rattle.ns_live.specs.Index.{Indexes, IsEmpty, IsRight, KeepsKeys, with_changes}
-use Rattle.ns_live.specs.Naming.{AreKept, HoldsSame, KeepsNames, KeepsNodes, PutsQuota, is_quota, namespace_use}
+use Rattle.ns_live.specs.Naming.{AreKept, HoldsSame, KeepsNames, KeepsNodes, PutsQuota, is_quota, use_in}
 use Rattle.ns_live.specs.Shown.{KeepsShown, ShowsUnmoved, live_row, shown_at, shown_in}
 use Rattle.ns_live.proofs.Kept.{index_kept, pools_kept}
 use Rattle.ns_live.proofs.PutLoads.{empty_indexes}
 use Rattle.ns_live.proofs.Puts.{indexes_same}
-use Rattle.ns_live.proofs.Totals.{kept_same, total_free}
+use Rattle.ns_live.proofs.Totals.{are_still_kept, total_free}
 use Rattle.ns_world.specs.Allocations.{IsTotalOf, live_use, rows_use}
 use Rattle.ns_world.specs.Total.{IsTotal}
 use Rattle.ns_world.specs.declared.tables.Tables.{Tables}
@@ -208,7 +208,7 @@ module _ (x : Name × Option TenantRows) (rest left slots : Slots) (is : rest �
           shown = λ pool name. ap (λ shown. shown_in shown pool name) (put.1 ∙ room.1) ∙ by pool name (shown_at new pool name) refl;
           quotas = subst (λ quotas. AreKept quotas (uses_in slots) done.quotas)
               (λ i ns. (ap (λ r. cond (same_name ns x.0) r (quotas_but rest slots ns)) (its ∙ sym (ap quota_in at)) ∙ moved_as quota_in ns) i)
-              (put_names (quotas_but rest slots) (uses_in slots) (kept_same new.quotas mid.quotas room_names (quotas_but rest slots) (uses_in slots)
+              (put_names (quotas_but rest slots) (uses_in slots) (are_still_kept new.quotas mid.quotas room_names (quotas_but rest slots) (uses_in slots)
               (subst (AreKept (quotas_but rest slots) (uses_in slots)) (sym (names ∙ kept.1)) h.quotas)) unnamed_before
               (subst (IsTotal used) (sym own_use) total));
           sorted = second _ _ rises;
@@ -225,7 +225,7 @@ all_indexed t live rest slots is nothing h = record {
   index = indexes_same (rows_but rest slots) (allocation_at (world_of t)) live h.index
       (λ key. sym (ap (λ l. rows_but l slots key) nothing ∙ ap (λ l. rows_in l key) is ∙ sym (stored key)));
   shown = λ pool name node e. absurd (not_Some node (sym (h.shown pool name) ∙ e));
-  quotas = subst (λ quotas. AreKept quotas (namespace_use (world_of t)) live.quotas)
+  quotas = subst (λ quotas. AreKept quotas (use_in (world_of t).tenants) live.quotas)
       (λ i ns. (ap (λ l. quotas_but l slots ns) nothing ∙ ap (λ l. quota_in (flat (find name_cmp ns l))) is ∙ sym (named ns)) i)
       (subst (λ uses. AreKept (quotas_but rest slots) uses live.quotas) (λ i ns. (ap (λ l. uses_in l ns) is ∙ sym (used ns)) i) h.quotas);
 }
@@ -250,6 +250,6 @@ all_indexed t live rest slots is nothing h = record {
     use_seen None = refl
     use_seen (Some tenant) = refl
 
-    used : (ns : Name) → namespace_use (world_of t) ns ≡ uses_in (entries t.tenants) ns
+    used : (ns : Name) → use_in (world_of t).tenants ns ≡ uses_in (entries t.tenants) ns
     used ns = ap (λ r. option_map_or (λ t. rows_use t.allocations) r none) (tenant_at t ns) ∙ use_seen (row_at t.tenants ns)
         ∙ ap (λ r. use_at (flat r)) (get-entries t.tenants ns)

@@ -26,7 +26,7 @@ use Rattle.ns_types.proofs.Tables.{none_of_any, tied}
 use Rattle.ns_types.proofs.Tests.{not_Some}
 use Rattle.ns_live.specs.Index.{IsRight}
 use Rattle.ns_live.specs.Laws.{AdministrationKeepsRight, EmptyIsRightAtFirst, SoundLoadsFit}
-use Rattle.ns_live.specs.Naming.{AreNamed, KeepsNodes, is_quota, namespace_use}
+use Rattle.ns_live.specs.Naming.{AreNamed, KeepsNodes, is_quota, use_in}
 use Rattle.ns_live.specs.Shown.{live_row, shown_in}
 use Rattle.ns_live.specs.declared.live.Live.{Live}
 use Rattle.ns_live.proofs.Kept.{pools_kept}
@@ -217,7 +217,7 @@ empty_right secret live none = record {
   quotas = record {
     names = λ quota ns. none.names quota ns ∙ sym (ap (λ r. is_quota (option_and_then (λ (t : Tenant). t.namespace.quota) r) quota)
         (get-insert names empty default_name opening_tenant ns) ∙ unnamed quota ns (same_name ns default_name));
-    totals = λ quota. total_free (namespace_use (opening secret).world) live.quotas quota (none.names quota) (none.totals quota);
+    totals = λ quota. total_free (use_in (opening secret).world.tenants) live.quotas quota (none.names quota) (none.totals quota);
   };
 }
   where

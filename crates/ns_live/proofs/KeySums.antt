@@ -8,12 +8,12 @@ use Rattle.ns_types.specs.declared.allocation.Allocation.{Allocation}
 use Rattle.ns_types.specs.declared.resources.Resources.{Resources}
 use Rattle.ns_types.specs.State.Names.{Key, Name}
 use Rattle.ns_live.specs.Levels.{no_keys}
-use Rattle.ns_live.specs.Loads.{keys_amount, namespace_amount, number_amount, row_amount}
+use Rattle.ns_live.specs.Loads.{keys_amount, namespace_amount, number_amount, size_amount}
 
 module _ (row_of : Key → Option Allocation) (amount : Resources → ℕ) where
   -- what the row under the key takes
   abbrev pub weight : Key → ℕ
-  weight key = row_amount amount (row_of key)
+  weight key = size_amount amount (row_of key)
 
   number_is : (ns : Name) (e : ℕ × Option Unit) → number_amount row_of amount ns e ≡ slot_part weight ns e.0 e.1
   number_is ns (n, None) = refl

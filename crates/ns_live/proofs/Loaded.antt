@@ -21,7 +21,7 @@ use Rattle.ns_world.proofs.Totals.{total_exact}
 use Rattle.ns_live.specs.declared.live.Live.{Live}
 use Rattle.ns_live.specs.Index.{IsRight}
 use Rattle.ns_live.specs.Levels.{keys_at, load_at, no_keys}
-use Rattle.ns_live.specs.Loads.{keys_amount, keys_use, row_amount}
+use Rattle.ns_live.specs.Loads.{keys_amount, keys_use, size_amount}
 use Rattle.ns_live.proofs.KeySums.{amount_is, no_use, weight}
 use Rattle.ns_live.proofs.LoadLevels.{keys_hold}
 
@@ -62,9 +62,9 @@ module _ (w : World) (pool node : Name) (amount : Resources → ℕ) where
 
   module _ (keys : KeySet) (right : (key : Key) → holds_key keys key ≡ lives_at key) where
     counted_at : (ns : Name) (n : ℕ) → option_map_or (counted n) (row_of (ns, n)) 0 ≡ key_part (weight row_of amount) keys (ns, n)
-    counted_at ns n = by (row_of (ns, n)) ∙ ap (λ b. cond b (row_amount amount (row_of (ns, n))) 0) (sym (right (ns, n)))
+    counted_at ns n = by (row_of (ns, n)) ∙ ap (λ b. cond b (size_amount amount (row_of (ns, n))) 0) (sym (right (ns, n)))
       where
-        by : (r : Option Allocation) → option_map_or (counted n) r 0 ≡ cond (option_map_or live r false) (row_amount amount r) 0
+        by : (r : Option Allocation) → option_map_or (counted n) r 0 ≡ cond (option_map_or live r false) (size_amount amount r) 0
         by None = refl
         by (Some row) = refl
 

@@ -26,7 +26,7 @@ use Rattle.ns_world.proofs.Totals.{total_exact}
 use Rattle.ns_live.specs.declared.live.Live.{Live}
 use Rattle.ns_live.specs.declared.naming.QuotaUse.{QuotaUse}
 use Rattle.ns_live.specs.Listed.{found_at}
-use Rattle.ns_live.specs.Naming.{AreNamed, holds_name, is_quota, names_at, names_use, namespace_use, row_name, total_at}
+use Rattle.ns_live.specs.Naming.{AreNamed, holds_name, is_quota, names_at, names_use, row_name, total_at, use_in}
 use Rattle.ns_live.proofs.Listing.{filter_at_keys}
 use Rattle.keyed.proofs.RowSums.{sum_at_keys}
 use Rattle.ns_live.proofs.Totals.{held_get}
@@ -86,7 +86,7 @@ module _ (w : World) (quota : Name) (amount : Resources → ℕ) where
 
   module _ (use_is : (tenant : Tenant) → amount (rows_use tenant.allocations) ≡ tenant_sum is_live amount tenant) (nothing : amount none ≡ 0)
       (held : ByName Unit) (right : (ns : Name) → is_some (get held ns) ≡ is_quota (quota_named w ns) quota) where
-    at_name : (ns : Name) (x : Unit) → get held ns ≡ Some x → option_map_or (counted ns) (get w.tenants ns) 0 ≡ amount (namespace_use w ns)
+    at_name : (ns : Name) (x : Unit) → get held ns ≡ Some x → option_map_or (counted ns) (get w.tenants ns) 0 ≡ amount (use_in w.tenants ns)
     at_name ns x is = by (get w.tenants ns) refl
       where
         by : (r : Option Tenant) → get w.tenants ns ≡ r →
@@ -96,12 +96,12 @@ module _ (w : World) (quota : Name) (amount : Resources → ℕ) where
             ∙ sym (use_is tenant)
 
     -- a sum over all is the sum over those that name it
-    taken : quota_sum w quota amount ≡ sum_by (λ e. amount (namespace_use w e.0)) (entries held)
+    taken : quota_sum w quota amount ≡ sum_by (λ e. amount (use_in w.tenants e.0)) (entries held)
     unfolding quota_sum
     taken = sum_at_keys names one_name counted w.tenants held
         (λ ns tenant at out. not_counted ns tenant at (sym (right ns) ∙ out))
-        ∙ sum_same (λ e. option_map_or (counted e.0) (get w.tenants e.0) 0) (λ e. amount (namespace_use w e.0)) (entries held)
-        (each_row names one_name (λ ns _. option_map_or (counted ns) (get w.tenants ns) 0 ≡ amount (namespace_use w ns)) held at_name)
+        ∙ sum_same (λ e. option_map_or (counted e.0) (get w.tenants e.0) 0) (λ e. amount (use_in w.tenants e.0)) (entries held)
+        (each_row names one_name (λ ns _. option_map_or (counted ns) (get w.tenants ns) 0 ≡ amount (use_in w.tenants ns)) held at_name)
 
 -- ---- what is held at a quota, where it is right
 
@@ -132,7 +132,7 @@ module _ (w : World) (live : Live) (named : AreNamed w live) (quota : Name) wher
       by None e = refl
       by (Some held) e = absurd (not_Some _ e)
 
-  use_held : quota_use w quota ≡ names_use (namespace_use w) (names_at live.quotas quota)
+  use_held : quota_use w quota ≡ names_use (use_in w.tenants) (names_at live.quotas quota)
   use_held = λ i. record {
     cpu = taken w quota (λ r. r.cpu) (λ t. refl) refl (names_at live.quotas quota) there_held i;
     memory = taken w quota (λ r. r.memory) (λ t. refl) refl (names_at live.quotas quota) there_held i;

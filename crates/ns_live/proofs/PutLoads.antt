@@ -18,7 +18,7 @@ use Rattle.ns_world.proofs.Totals.{total_counted}
 use Rattle.ns_live.specs.declared.live.Live.{Live}
 use Rattle.ns_live.specs.Index.{Indexes, holds, with_row}
 use Rattle.ns_live.specs.Levels.{keys_at, load_at, no_keys, stands_at}
-use Rattle.ns_live.specs.Loads.{keys_amount, keys_use, row_amount}
+use Rattle.ns_live.specs.Loads.{keys_amount, keys_use, size_amount}
 use Rattle.ns_live.specs.Moving.{AddsLoad, LeavesInPool, MovesInPool, MovesLoad, part_at, taken}
 use Rattle.ns_live.specs.Shown.{live_row}
 use Rattle.ns_live.proofs.KeySums.{amount_is, no_use, weight}
@@ -36,13 +36,13 @@ KeysRight rows live = (pool node : Name) (key : Key) → holds live pool node ke
 module _ (amount : Resources → ℕ) (zero : amount none ≡ 0) (pool node : Name) where
   part_is : (rows : RowOf) (live : Live) → KeysRight rows live → (q : Key) →
       key_part (weight rows amount) (keys_at live pool node) q ≡ amount (taken pool node (rows q))
-  part_is rows live keys q = ap (λ b. cond b (row_amount amount (rows q)) 0) (keys_hold live pool node q ∙ keys pool node q) ∙ by (rows q)
+  part_is rows live keys q = ap (λ b. cond b (size_amount amount (rows q)) 0) (keys_hold live pool node q ∙ keys pool node q) ∙ by (rows q)
     where
       size : (row : Allocation) (b : Bool) → cond b (amount row.size) 0 ≡ amount (if b then row.size else none)
       size row true = refl
       size row false = sym zero
 
-      by : (r : Option Allocation) → cond (option_map_or (is_live_on pool node) r false) (row_amount amount r) 0 ≡ amount (taken pool node r)
+      by : (r : Option Allocation) → cond (option_map_or (is_live_on pool node) r false) (size_amount amount r) 0 ≡ amount (taken pool node r)
       by None = sym zero
       by (Some row) = size row (is_live_on pool node row)
 
@@ -94,7 +94,7 @@ empty_indexes rows live right loads dead = record {
     nothing amount zero pool node = amount_is rows amount (keys_at live pool node)
         ∙ keys_alike (weight rows amount) (weight rows amount) no_keys (keys_at live pool node)
         (λ q. part_is amount zero pool node rows live right q ∙ ap amount (taken_alike pool node None (rows q) (dead pool node q)) ∙ zero
-        ∙ sym (ap (λ b. cond b (row_amount amount (rows q)) 0) (says_nothing (λ (s : KeySet). s.numbers) holds_number no_keys refl q)))
+        ∙ sym (ap (λ b. cond b (size_amount amount (rows q)) 0) (says_nothing (λ (s : KeySet). s.numbers) holds_number no_keys refl q)))
         ∙ no_keys_sum (weight rows amount) no_keys refl
 
 -- ---- another row, or none, is under a key
@@ -146,14 +146,16 @@ module _ (row_of : RowOf) (key : Key) (before after : Option Allocation) (old ne
 
 pub added_load : (row : Allocation) (before : Option Allocation) (old new : Live) → is_live row ≡ true → (put : Option Allocation) → put ≡ Some row →
     MovesInPool row.pool row.node (taken row.pool row.node before) row.size old new → AddsLoad before put old new
-added_load row before old new lives put is moves = subst (λ r. AddsLoad before r old new) (sym is) (λ pool node.
-    subst (λ come. MovesLoad (if is_live_on pool node row then taken pool node before else none) come (load_at old pool node) (load_at new pool node))
-    (there pool node (λ p n. row.size)) (subst (λ gone. MovesLoad gone (part_at row.pool row.node pool node row.size) (load_at old pool node)
-    (load_at new pool node)) (there pool node (λ p n. taken p n before)) (moves pool node)))
+added_load row before old new lives put is moves pool node =
+    let gone = there (λ p n. taken p n before) ∙ ap (λ r. if option_map_or (is_live_on pool node) r false then taken pool node before else none) (sym is) in
+    let come = there (λ p n. row.size) ∙ ap (taken pool node) (sym is) in
+    subst (λ (parts : Resources × Resources). MovesLoad parts.0 parts.1 (load_at old pool node) (load_at new pool node)) (λ i. (gone i, come i))
+    (moves pool node)
   where
-    there : (pool node : Name) (part : Name → Name → Resources) →
+    -- a part that is told of the row's node is there where the row is live
+    there : (part : Name → Name → Resources) →
         part_at row.pool row.node pool node (part row.pool row.node) ≡ (if is_live_on pool node row then part pool node else none)
-    there pool node part = by (same_name pool row.pool) (same_name node row.node) refl refl
+    there part = by (same_name pool row.pool) (same_name node row.node) refl refl
       where
         by : (a b : Bool) → same_name pool row.pool ≡ a → same_name node row.node ≡ b →
             (if a then (if b then part row.pool row.node else none) else none) ≡ (if is_live row && (a && b) then part pool node else none)

@@ -306,9 +306,9 @@ total_first held e q = ap (λ m. option_map_or (λ (u : QuotaUse). u.total) (row
 pub totals_same : (old new : QuotaNames) → HoldsSame old new → (use_of : Name → Resources) → AreTotals use_of old → AreTotals use_of new
 totals_same old new same use_of right q = total_still use_of old new q (right q) (same.names q) (same.totals q)
 
-pub kept_same : (old new : QuotaNames) → HoldsSame old new → (quota_of : Name → Option Name) (use_of : Name → Resources) →
+pub are_still_kept : (old new : QuotaNames) → HoldsSame old new → (quota_of : Name → Option Name) (use_of : Name → Resources) →
     AreKept quota_of use_of old → AreKept quota_of use_of new
-kept_same old new same quota_of use_of right = record {
+are_still_kept old new same quota_of use_of right = record {
   names = λ q n. same.names q n ∙ right.names q n;
   totals = totals_same old new same use_of right.totals;
 }

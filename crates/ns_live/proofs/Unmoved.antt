@@ -11,7 +11,6 @@ use Rattle.ns_types.specs.declared.snapshot.PoolNode.{PoolNode}
 use Rattle.ns_types.specs.State.Lists.{by_number}
 use Rattle.ns_types.specs.State.Names.{Name, Key, has_key, same_key, same_name}
 use Rattle.ns_types.specs.State.Rows.{World, allocation_at, is_live, is_live_on, node_at}
-use Rattle.ns_types.specs.Working.Commit.{quota_named}
 use Rattle.ns_types.specs.Working.Snapshot.{allocations_on, live_on, seen_live}
 use Rattle.ns_types.proofs.Named.{same_key_refl, same_name_is, first_of_both, second_of_both}
 use Rattle.ns_live.specs.declared.live.Live.{Live}
@@ -20,7 +19,7 @@ use Rattle.ns_live.specs.Index.{Indexes, IsRight, KeepsKeys, holds}
 use Rattle.ns_live.specs.Index
 use Rattle.ns_live.specs.Levels.{keys_at}
 use Rattle.ns_live.specs.Listed.{found_at, keys_in}
-use Rattle.ns_live.specs.Naming.{AreKept, KeepsNames, namespace_use}
+use Rattle.ns_live.specs.Naming.{AreKept, KeepsNames, quota_in, use_in}
 use Rattle.ns_live.specs.Shown.{AreShown, ForgetsRow, KeepsShown, SameOn, ShowsSame, ShowsThere, ShowsUnmoved, live_row, node_seen, shown_at, shown_in}
 use Rattle.ns_live.proofs.LoadLevels.{keys_hold}
 use Rattle.ns_live.proofs.Kept.{index_kept}
@@ -161,7 +160,7 @@ pub shown_right : (w : World) (old new : Live) (pool name : Name) (node : PoolNo
     ShowsThere pool name (Some node) old.shown new.shown → node_seen w pool name ≡ Some node → IsRight w old → IsRight w new
 shown_right w old new pool name node keys names there seen right = record {
   index = index_kept (allocation_at w) old new keys right.index;
-  quotas = subst (AreKept (quota_named w) (namespace_use w)) (sym names) right.quotas;
+  quotas = subst (AreKept (quota_in w.tenants) (use_in w.tenants)) (sym names) right.quotas;
   shown = λ p n other is. by p n other (same_name p pool && same_name n name) refl (sym (there p n) ∙ is);
 }
   where
@@ -175,6 +174,6 @@ shown_right w old new pool name node keys names there seen right = record {
 pub still_right : (w : World) (old new : Live) → KeepsKeys old new → KeepsNames old new → ShowsSame old.shown new.shown → IsRight w old → IsRight w new
 still_right w old new keys names same right = record {
   index = index_kept (allocation_at w) old new keys right.index;
-  quotas = subst (AreKept (quota_named w) (namespace_use w)) (sym names) right.quotas;
+  quotas = subst (AreKept (quota_in w.tenants) (use_in w.tenants)) (sym names) right.quotas;
   shown = λ p n node is. right.shown p n node (sym (same p n) ∙ is);
 }

@@ -27,13 +27,14 @@ pub record IsWithinNodes (w : World) : Type 0 where
 
 -- ---- what the rows at keys take together
 
-abbrev pub row_amount : (Resources → ℕ) → Option Allocation → ℕ
-row_amount amount row = option_map_or (λ row. amount row.size) row 0
+-- the size of a row, live or not, where there is one
+abbrev pub size_amount : (Resources → ℕ) → Option Allocation → ℕ
+size_amount amount row = option_map_or (λ row. amount row.size) row 0
 
 -- a vacant slot is no key, and a key without a row counts nothing
 abbrev pub number_amount : (Key → Option Allocation) → (Resources → ℕ) → Name → ℕ × Option Unit → ℕ
 number_amount row_of amount ns (n, None) = 0
-number_amount row_of amount ns (n, Some held) = row_amount amount (row_of (ns, n))
+number_amount row_of amount ns (n, Some held) = size_amount amount (row_of (ns, n))
 
 abbrev pub numbers_amount : (Key → Option Allocation) → (Resources → ℕ) → Name → ByNumber (Option Unit) → ℕ
 numbers_amount row_of amount ns numbers = sum_by (number_amount row_of amount ns) (entries numbers)

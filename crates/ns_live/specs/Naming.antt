@@ -2,14 +2,13 @@
 use Rattle.std.specs.Prelude.{◌≡◌, Bool, false, IsTrue, Option, Some, None, if◌then◌else◌, sum_by}
 use Rattle.std.specs.Prelude.{List, [], ◌∷◌, is_some}
 use Rattle.std.specs.FinMap.{empty, entries, get}
-use Rattle.std.specs.Option.{option_map_or}
+use Rattle.std.specs.Option.{option_and_then, option_map_or}
 use Rattle.keyed.specs.Levels.{at_name}
 use Rattle.keyed.specs.Table.{has_slot, row_at, rows}
 use Rattle.ns_types.specs.declared.resources.Resources.{Resources}
 use Rattle.ns_types.specs.State.Names.{ByName, Name, same_name}
 use Rattle.ns_types.specs.State.Resources.{none}
-use Rattle.ns_types.specs.State.Rows.{World}
-use Rattle.ns_types.specs.Working.Commit.{quota_named}
+use Rattle.ns_types.specs.State.Rows.{Tenant, World}
 use Rattle.ns_world.specs.Allocations.{rows_use}
 use Rattle.ns_world.specs.Total.{IsTotal}
 use Rattle.ns_live.specs.declared.live.Live.{Live}
@@ -67,12 +66,19 @@ pub record AreKept (quota_of : Name → Option Name) (use_of : Name → Resource
   pub names : AreNames quota_of held
   pub totals : AreTotals use_of held
 
--- what the live allocations of the namespace take together
-abbrev pub namespace_use : World → Name → Resources
-namespace_use w ns = option_map_or (λ t. rows_use t.allocations) (get w.tenants ns) none
+-- the quota that a namespace names, and what its live allocations take together
+abbrev pub quota_in : ByName Tenant → Name → Option Name
+quota_in tenants ns = option_and_then (λ t. t.namespace.quota) (get tenants ns)
+
+abbrev pub use_in : ByName Tenant → Name → Resources
+use_in tenants ns = option_map_or (λ t. rows_use t.allocations) (get tenants ns) none
+
+-- names and totals at quotas are right for the namespaces
+abbrev pub AreKeptFor : ByName Tenant → Live → Type 0
+AreKeptFor tenants live = AreKept (quota_in tenants) (use_in tenants) live.quotas
 
 abbrev pub AreNamed : World → Live → Type 0
-AreNamed w live = AreKept (quota_named w) (namespace_use w) live.quotas
+AreNamed w live = AreKeptFor w.tenants live
 
 -- ---- what a change leaves
 
