@@ -25,15 +25,14 @@ use Rattle.ns_commit.specs.Owners.{changed_owners, owners}
 use Rattle.ns_commit.proofs.Owned.{at_each, found_here, found_other, get-changed, get-owners, no_more, none_changed, rest_sorted}
 use Rattle.ns_live.specs.declared.live.Live.{Live}
 use Rattle.ns_live.specs.Index.{HasRoomForAll, Indexes, KeepsKeys, KeepsRoom, has_room, with_changes}
-use Rattle.ns_live.specs.Naming.{AreKept, AreKeptFor, KeepsNames, KeepsNodes, PutsUse, quota_in, use_in, with_use}
+use Rattle.ns_live.specs.Naming.{AreKept, AreKeptFor, quota_in, use_in, with_use}
 use Rattle.ns_live.specs.Shown.{KeepsShown, ShowsUnmoved}
 use Rattle.ns_live.proofs.Changing.{changes_over}
-use Rattle.ns_live.proofs.Kept.{kept_same, kept_then, nodes_index, nodes_room, nodes_shown}
+use Rattle.ns_live.proofs.Kept.{kept_same, kept_then}
 use Rattle.ns_live.proofs.Puts.{indexes_same}
 use Rattle.ns_live.proofs.Unmoved.{unmoved_as, unmoved_same, unmoved_then}
 use Rattle.ns_world.specs.declared.tables.TenantRows.{TenantRows}
-use Rattle.ns_world.specs.Allocations.{IsTotalOf, rows_use}
-use Rattle.ns_world.specs.Total.{IsTotal}
+use Rattle.ns_world.specs.Allocations.{live_use, rows_use}
 use Rattle.ns_world.specs.World.{tenant_of}
 
 abbrev Slots : Type 0
@@ -289,7 +288,7 @@ module _ (changes : FinMap name_cmp (Option SettledTenant)) where
       pub nothing_there : (now : Live) → row_at stored k ≡ None → now ≡ live → Following before now rest
       nothing_there now none same = subst (λ live. Following before live rest) (sym same) (stays (λ n. nowhere_at (k, n) none) (nowhere_use k none))
 
-      module _ (mid now : Live) (x : SettledTenant) (row : TenantRows) (some : slot ≡ Some x) (at : row_at stored k ≡ Some row) where
+      module _ (now : Live) (x : SettledTenant) (row : TenantRows) (some : slot ≡ Some x) (at : row_at stored k ≡ Some row) where
         earlier : (n : ℕ) → rows_now es (k, n) ≡ row_at row.allocations.slots n
         earlier n = ap (λ r. in_time r (k, n)) here ∙ old_at k row at n
 
@@ -303,13 +302,14 @@ module _ (changes : FinMap name_cmp (Option SettledTenant)) where
         used = rows_use (over (rows row.allocations.slots) x.rows.allocations)
 
         -- what the namespace uses is moved with its rows
-        use_followed : KeepsNames live mid → (quota : Option Name) → quota ≡ row.namespace.quota → (gone come : Resources) →
-            IsTotalOf gone row.allocations.slots → IsTotal come used → PutsUse quota gone come mid.quotas now.quotas →
+        use_followed : (quota : Option Name) → quota ≡ row.namespace.quota →
+            ((quota_of : Name → Option Name) (use_of : Name → Resources) → AreKept quota_of use_of live.quotas → quota_of k ≡ quota →
+            use_of k ≡ live_use row.allocations.slots → AreKept quota_of (with_use k used use_of) now.quotas) →
             AreKeptFor (owners tenant_of stored) before → AreKept quota_now (uses_now rest) now.quotas
-        use_followed names quota its gone come was come_is put right = subst (λ uses. AreKept quota_now uses now.quotas) (λ i ns. as_used ns i)
-            (put quota_now (uses_now es) (subst (AreKept quota_now (uses_now es)) (sym names) (h.quotas right)) k
+        use_followed quota its put right = subst (λ uses. AreKept quota_now uses now.quotas) (λ i ns. as_used ns i)
+            (put quota_now (uses_now es) (h.quotas right)
             (ap (option_and_then (λ (t : Tenant). t.namespace.quota)) (tenant_at k row at) ∙ sym its)
-            (subst (IsTotal gone) (sym (ap (λ r. use_time r k) here ∙ ap use_of (tenant_at k row at))) was) used come_is)
+            (ap (λ r. use_time r k) here ∙ ap use_of (tenant_at k row at)))
           where
             as_used : (ns : Name) → with_use k used (uses_now es) ns ≡ uses_now rest ns
             as_used = at_each (λ ns. with_use k used (uses_now es) ns ≡ uses_now rest ns) k
@@ -319,22 +319,22 @@ module _ (changes : FinMap name_cmp (Option SettledTenant)) where
 
         pub one_followed :
             ((row_of : Key → Option Allocation) → Indexes row_of live → ((n : ℕ) → row_of (k, n) ≡ row_at row.allocations.slots n) →
-            Indexes (with_changes k x.rows.allocations row_of) mid) →
+            Indexes (with_changes k x.rows.allocations row_of) now) →
             ((row_of : Key → Option Allocation) → ((n : ℕ) → row_of (k, n) ≡ row_at row.allocations.slots n) →
-            ShowsUnmoved row_of (with_changes k x.rows.allocations row_of) live mid) → KeepsNames live mid →
-            ((pool node : Name) (key : Key) → same_name key.0 k ≡ false → IsTrue (has_room live pool node key) → IsTrue (has_room mid pool node key)) →
-            KeepsNodes mid now → (quota : Option Name) → quota ≡ row.namespace.quota → (gone come : Resources) →
-            IsTotalOf gone row.allocations.slots → IsTotal come used → PutsUse quota gone come mid.quotas now.quotas → Following before now rest
-        one_followed index shown names room nodes quota its gone come was come_is put = record {
+            ShowsUnmoved row_of (with_changes k x.rows.allocations row_of) live now) → (quota : Option Name) → quota ≡ row.namespace.quota →
+            ((quota_of : Name → Option Name) (use_of : Name → Resources) → AreKept quota_of use_of live.quotas → quota_of k ≡ quota →
+            use_of k ≡ live_use row.allocations.slots → AreKept quota_of (with_use k used use_of) now.quotas) →
+            ((pool node : Name) (key : Key) → same_name key.0 k ≡ false → IsTrue (has_room live pool node key) → IsTrue (has_room now pool node key)) →
+            Following before now rest
+        one_followed index shown quota its quotas room = record {
           index = λ right. indexes_same (with_changes k x.rows.allocations (rows_now es)) (rows_now rest) now
-              (nodes_index mid now nodes (with_changes k x.rows.allocations (rows_now es)) (index (rows_now es) (h.index right) earlier)) as_changed;
+              (index (rows_now es) (h.index right) earlier) as_changed;
           shown = unmoved_as old (with_changes k x.rows.allocations (rows_now es)) (rows_now rest) before now as_changed
-              (unmoved_then old (rows_now es) (with_changes k x.rows.allocations (rows_now es)) before live now h.shown
-              (nodes_shown mid now nodes live (rows_now es) (with_changes k x.rows.allocations (rows_now es)) (shown (rows_now es) earlier)));
-          quotas = use_followed names quota its gone come was come_is put;
+              (unmoved_then old (rows_now es) (with_changes k x.rows.allocations (rows_now es)) before live now h.shown (shown (rows_now es) earlier));
+          quotas = use_followed quota its quotas;
           sorted = rest_sorted k slot es rest is h.sorted;
           stand = standing.1;
           room = λ q y found n r there lives.
               let both = later q y found in
-              nodes_room mid now nodes r.pool r.node (q, n) (room r.pool r.node (q, n) both.0 (h.room q y both.1 n r there lives));
+              room r.pool r.node (q, n) both.0 (h.room q y both.1 n r there lives);
         }

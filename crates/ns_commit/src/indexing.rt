@@ -54,13 +54,11 @@ pub(crate) fn commit_index(
     for slot in changes.as_slice() {
         if let Some(change) = &slot.1 {
             if let Some(tenant) = table.get(&slot.0) {
-                let allocations = &tenant.allocations;
-                let changed = &change.rows.allocations;
-                live.put_all(&slot.0, allocations.rows(), changed);
-                live.put_use(
+                live.put_changes(
+                    &slot.0,
                     tenant.namespace.quota.as_ref(),
-                    allocations.live_total(),
-                    allocations.total_with(changed),
+                    &tenant.allocations,
+                    &change.rows.allocations,
                 );
             }
         }

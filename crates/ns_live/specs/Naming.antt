@@ -96,10 +96,10 @@ PutsQuota namespace before after used old new = (quota_of : Name → Option Name
     AreKept quota_of use_of old → quota_of namespace ≡ before → IsTotal used (use_of namespace) →
     AreKept (with_quota namespace after quota_of) use_of new
 
--- names and totals are put right where a namespace that names the quota, if any, used one thing, and uses another
-abbrev pub PutsUse : Option Name → Resources → Resources → QuotaNames → QuotaNames → Type 0
+-- names and totals are put right where a namespace that names the quota used one thing, and uses another
+abbrev pub PutsUse : Name → Resources → Resources → QuotaNames → QuotaNames → Type 0
 PutsUse quota before after old new = (quota_of : Name → Option Name) (use_of : Name → Resources) →
-    AreKept quota_of use_of old → (namespace : Name) → quota_of namespace ≡ quota → IsTotal before (use_of namespace) →
+    AreKept quota_of use_of old → (namespace : Name) → quota_of namespace ≡ Some quota → IsTotal before (use_of namespace) →
     (used : Resources) → IsTotal after used → AreKept quota_of (with_use namespace used use_of) new
 
 -- the namespace can be held at the quota without memory

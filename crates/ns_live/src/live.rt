@@ -4,22 +4,25 @@
 ghost use Rattle.std.specs.Prelude.{◌≡◌, ℕ, false, IfOk, IsTrue, None, OnErr, OnOk, Option, Some, is_some};
 ghost use Rattle.std.specs.Prelude.{option_copied};
 ghost use Rattle.std.specs.Option.{option_map_or};
-ghost use Rattle.keyed.specs.Table.{row_at};
+ghost use Rattle.keyed.specs.Over.{over};
+ghost use Rattle.keyed.specs.Table.{row_at, rows};
 ghost use Rattle.ns_types.specs.declared.allocation.Allocation.{Allocation};
+ghost use Rattle.ns_types.specs.declared.resources.Resources.{Resources};
 ghost use Rattle.ns_types.specs.declared.snapshot.PoolNode.{PoolNode};
 ghost use Rattle.ns_types.specs.State.Names.{Key, Name, same_key, same_name};
 ghost use Rattle.ns_types.specs.State.Resources.{IsCounted};
 ghost use Rattle.ns_types.specs.State.Rows.{World, is_live, is_live_on};
 ghost use Rattle.ns_types.specs.State.Sums.{node_load, quota_use};
 ghost use Rattle.ns_types.specs.Working.Snapshot.{namespaces_naming};
+ghost use Rattle.ns_world.specs.Allocations.{live_use, rows_use};
 ghost use Rattle.ns_live.specs.Index.{AddsRow, HasRoomFor, HasRoomForAll, Indexes, IsEmpty, IsRight};
 ghost use Rattle.ns_live.specs.Index.{KeepsKeys, KeepsRoom};
 ghost use Rattle.ns_live.specs.Index.{has_room, holds, with_changes, with_row};
 ghost use Rattle.keyed.specs.Levels.{Adds, Drops, Keeps, holds_key, same_at};
 ghost use Rattle.ns_live.specs.Levels.{holds_in_pool, has_pool_room, load_at};
 ghost use Rattle.ns_live.specs.Moving.{AddsLoad, LeavesInPool, MovesInPool, taken};
-ghost use Rattle.ns_live.specs.Naming.{AreNamed, HasNameRoom, HoldsSame, KeepsNames, KeepsNodes, PutsQuota};
-ghost use Rattle.ns_live.specs.Naming.{PutsUse};
+ghost use Rattle.ns_live.specs.Naming.{AreKept, AreNamed, HasNameRoom, HoldsSame, KeepsNames, KeepsNodes};
+ghost use Rattle.ns_live.specs.Naming.{PutsQuota, with_use};
 ghost use Rattle.ns_live.specs.Shown.{ForgetsNodes, KeepsShown, ShowsSame, ShowsThere, ShowsUnmoved, live_row, shown_at};
 
 use crate::naming::{QuotaNames, copied_names};
@@ -33,6 +36,7 @@ use ns_types::rows::Rows;
 use ns_types::shared::Shared;
 use ns_types::snapshot::PoolNode;
 use ns_types::text::{Text, same_text};
+use ns_world::AllocationTable;
 use std::alloc::{AllocError, Global};
 
 /// The keys of all live allocations, by the pool and the node that they are on, with what those of each node take together,
@@ -219,7 +223,8 @@ impl Live {
         Ok(())
     }
 
-    /// The namespace's rows are those of the table, and are changed so from now on: as `put`, row by row.
+    /// The namespace's rows are those of the table, and are changed so from now on: as `put`, row by row. Totals of quotas
+    /// do not follow.
     pub fn put_all(
         &mut self,
         namespace: &Text,
@@ -243,6 +248,40 @@ impl Live {
             let after = slot.1.as_ref();
             self.put_after(last, namespace, slot.0, table.get(slot.0), after);
             last = after;
+        }
+    }
+
+    /// The same of a namespace's allocations, and the total of the quota that it names, if any, follows: where it names none, no
+    /// total is made.
+    pub fn put_changes(
+        &mut self,
+        namespace: &Text,
+        quota: Option<&Text>,
+        table: &AllocationTable,
+        changes: &NumberTable<Allocation>,
+    )
+        requires { HasRoomForAll self.old namespace.now changes.now }
+        ensures index { (row_of : Key → Option Allocation) → Indexes row_of self.old →
+            ((n : ℕ) → row_of (namespace.now, n) ≡ row_at table.now.slots n) →
+            Indexes (with_changes namespace.now changes.now row_of) self.new }
+        ensures shown { (row_of : Key → Option Allocation) →
+            ((n : ℕ) → row_of (namespace.now, n) ≡ row_at table.now.slots n) →
+            ShowsUnmoved row_of (with_changes namespace.now changes.now row_of) self.old self.new }
+        ensures quotas { (quota_of : Name → Option Name) (use_of : Name → Resources) →
+            AreKept quota_of use_of self.old.quotas →
+            quota_of namespace.now ≡ option_copied quota.entry →
+            use_of namespace.now ≡ live_use table.now.slots →
+            let used = rows_use (over (rows table.now.slots) changes.now) in
+            AreKept quota_of (with_use namespace.now used use_of) self.new.quotas }
+        ensures room { (pool : Name) (node : Name) (key : Key) →
+            same_name key.0 namespace.now ≡ false →
+            IsTrue (has_room self.old pool node key) → IsTrue (has_room self.new pool node key) }
+    {
+        self.put_all(namespace, table.rows(), changes);
+        if let Some(quota) = quota {
+            let before = table.live_total();
+            let after = table.total_with(changes);
+            self.quotas.put_use(quota, before, after);
         }
     }
 
@@ -335,16 +374,6 @@ impl Live {
             (option_copied after.entry) used self.old.quotas self.new.quotas }
     {
         self.quotas.put(namespace, before, after, used);
-    }
-
-    /// What a namespace uses that names the quota, if any, was `before` and is `after` from now on: the total of the
-    /// quota follows. It takes no memory.
-    pub fn put_use(&mut self, quota: Option<&Text>, before: Resources, after: Resources)
-        ensures nodes { KeepsNodes self.old self.new }
-        ensures total { PutsUse (option_copied quota.entry) before after
-            self.old.quotas self.new.quotas }
-    {
-        self.quotas.put_use(quota, before, after);
     }
 
     /// The namespaces that name the quota, by name. It looks at no other. Want of memory is the only error.

@@ -196,13 +196,10 @@ impl QuotaNames {
         }
     }
 
-    /// What a namespace uses that names the quota, if any, was `before` and is `after` from now on. It takes no memory.
-    pub(crate) fn put_use(&mut self, quota: Option<&Text>, before: Resources, after: Resources)
-        ensures { PutsUse (option_copied quota.entry) before after self.old self.new }
+    /// What a namespace uses that names the quota was `before` and is `after` from now on. It takes no memory.
+    pub(crate) fn put_use(&mut self, quota: &Text, before: Resources, after: Resources)
+        ensures { PutsUse quota.now before after self.old self.new }
     {
-        let Some(quota) = quota else {
-            return;
-        };
         if let Some(held) = self.quotas.get_mut(quota) {
             held.total = moved(held.total, before, after);
         }
