@@ -103,9 +103,6 @@ lives e = is_live e.1
 abbrev pub live_in : (Name → Bool) → ℕ × Allocation → Bool
 live_in passes e = is_live e.1 && passes e.1.pool
 
-abbrev pub tenant_names_quota : Name → Name × TenantRows → Bool
-tenant_names_quota quota e = names_quota quota e.1.namespace
-
 -- its record, a job, an open evaluation or a kept snapshot names the pool
 abbrev pub tenant_uses_pool : Name → Name × TenantRows → Bool
 tenant_uses_pool pool e = names_pool pool e.1.namespace || looks_to_pool (same_name pool) (tenant_of e.1)

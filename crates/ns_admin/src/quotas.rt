@@ -1,8 +1,6 @@
 //! What administrators ask of quotas.
 
 ghost use Rattle.std.specs.Prelude.{◌≡◌, IfOk, false, true};
-ghost use Rattle.std.specs.List.{list_any};
-ghost use Rattle.keyed.specs.Table.{at_slot};
 ghost use Rattle.ns_types.specs.declared.reply.Content.TheVariants as Content;
 ghost use Rattle.ns_types.specs.Asking.Admins.{delete_quota, is_relimited, put_quota, read_quota};
 ghost use Rattle.ns_types.specs.Settling.Outcome.{Changes, Done};
@@ -10,20 +8,21 @@ ghost use Rattle.ns_types.specs.Steps.{is_past_bound};
 ghost use Rattle.ns_change.specs.Changed.{with_record};
 ghost use Rattle.ns_change.specs.Prepared.{Prepares, bounded};
 ghost use Rattle.ns_admin.specs.Recorded.{PreparesRecord};
-ghost use Rattle.ns_admin.specs.Viewed.{content_of_quota, tenant_names_quota};
+ghost use Rattle.ns_admin.specs.Viewed.{content_of_quota};
+ghost use Rattle.ns_live.specs.Naming.{AreNamed};
 ghost use Rattle.ns_world.specs.World.{world_of};
 
-use crate::looking::{Slot, is_full};
+use crate::looking::is_full;
 use crate::record::RecordChange;
-use crate::sharing::names_quota;
 use ns_alike::changes_limits;
 use ns_bounds::given_limits_pass;
 use ns_change::{Change, Prepared, prepare};
+use ns_live::Live;
 use ns_types::records::Quota;
 use ns_types::refusal::Refusal;
 use ns_types::reply::{Content, QuotaShown};
 use ns_types::text::Text;
-use ns_world::{Tables, TenantRows};
+use ns_world::Tables;
 use std::alloc::AllocError;
 
 fn content_of_quota(name: &Text, quota: &Quota) -> Result<Content, AllocError>
@@ -33,21 +32,6 @@ fn content_of_quota(name: &Text, quota: &Quota) -> Result<Content, AllocError>
         name: name.clone()?,
         row: quota.clone()?,
     }))
-}
-
-fn names_quota_slot(slot: &Slot<TenantRows>, quota: &Text) -> bool
-    ensures { result ≡ at_slot (tenant_names_quota quota.now) slot.now }
-{
-    match &slot.1 {
-        Some(tenant) => names_quota(quota, &tenant.namespace),
-        None => false,
-    }
-}
-
-fn any_names_quota(slots: &[Slot<TenantRows>], quota: &Text) -> bool
-    ensures { result ≡ list_any (at_slot (tenant_names_quota quota.now)) slots.now }
-{
-    slots.iter().any(|slot| names_quota_slot(slot, quota))
 }
 
 /// A quota is to be made, or its record to be written in place of the old one. Its release number stays.
@@ -61,15 +45,16 @@ pub fn put_quota(tables: &Tables, name: &Text, quota: &Quota) -> Result<RecordCh
     Ok(RecordChange::Quota(name.clone()?, quota.clone()?))
 }
 
-/// The quota is to go. One that is not there is `NotFound`, and one that a namespace names is `InUse`. Want of memory
-/// comes last.
-pub fn delete_quota(tables: &Tables, name: &Text) -> Result<RecordChange, Refusal>
+/// The quota is to go. One that is not there is `NotFound`, and one that a namespace names is `InUse`: the index tells. Want of
+/// memory comes last.
+pub fn delete_quota(tables: &Tables, live: &Live, name: &Text) -> Result<RecordChange, Refusal>
+    requires { AreNamed (world_of tables.now) live.now }
     ensures { PreparesRecord (delete_quota name.now) tables.now result }
 {
     if !tables.has_quota(name) {
         return Err(Refusal::NotFound);
     }
-    if any_names_quota(tables.tenants.as_slice(), name) {
+    if live.is_named(name) {
         return Err(Refusal::InUse);
     }
     Ok(RecordChange::NoQuota(name.clone()?))

@@ -78,6 +78,7 @@ impl Parts {
         secret: Option<&Text>,
         command: &AdminCommand,
     ) -> Result<Content, Refusal>
+        requires { IsIndexed self.old }
         ensures made { ChangesBy (option_copied secret.entry) command.now self.old result self.new }
         ensures nodes { KeepsNodes self.old.live self.new.live }
         ensures named { KeepsNamed self.old.tables self.old.live self.new.tables self.new.live }
@@ -100,7 +101,7 @@ impl Parts {
                 record(&mut self.tables, &mut self.live, prepared)
             }
             AdminCommand::DeleteQuota(name) => {
-                let prepared = delete_quota(&self.tables, name);
+                let prepared = delete_quota(&self.tables, &self.live, name);
                 record(&mut self.tables, &mut self.live, prepared)
             }
             AdminCommand::ListPools => self.list_pools(secret),

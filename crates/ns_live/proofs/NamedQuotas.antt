@@ -1,10 +1,11 @@
 -- The namespaces of a quota by the names that are held at it: in their order, and what they take.
 use Rattle.std.specs.Prelude.{◌≡◌, ℕ, Bool, true, false, cond, List, [], ◌∷◌, Option, Some, None, flat_map, is_some, map, option_map, sum_by}
-use Rattle.std.specs.Prelude.{unwrap_or}
+use Rattle.std.specs.Prelude.{◌||◌, unwrap_or}
 use Rattle.std.proofs.Common.{refl, sym, ap, subst, ◌∙◌}
 use Rattle.std.specs.FinMap.{entries, get}
+use Rattle.std.specs.List.{filter, list_any}
 use Rattle.std.specs.Option.{option_and_then, option_map_or}
-use Rattle.keyed.specs.Table.{row_at, row_list, rows, with_row}
+use Rattle.keyed.specs.Table.{at_slot, row_at, row_list, rows, with_row}
 use Rattle.keyed.proofs.Levels.{not_true}
 use Rattle.keyed.proofs.Tables.{entries-rows, get-rows}
 use Rattle.ns_types.specs.declared.resources.Resources.{Resources}
@@ -13,6 +14,7 @@ use Rattle.ns_types.specs.State.Names.{ByName, Name}
 use Rattle.ns_types.specs.State.Resources.{IsCounted, none}
 use Rattle.ns_types.specs.State.Rows.{Tenant, World, is_live}
 use Rattle.ns_types.specs.State.Sums.{names_quota, quota_sum, quota_use, tenant_sum}
+use Rattle.ns_types.specs.State.Tables.{any_row}
 use Rattle.ns_types.specs.Working.Commit.{quota_named}
 use Rattle.ns_types.specs.Working.Snapshot.{namespaces_naming}
 use Rattle.ns_types.proofs.Lists.{filter_none}
@@ -74,6 +76,26 @@ module _ (w : World) (quota : Name) where
     unfolding namespaces_naming
     naming_none = sym (ap (map (λ e. e.0)) (filter_none (λ e. names_quota quota e.1.namespace) (entries w.tenants)
         (each_row names one_name (λ _ t. names_quota quota t.namespace ≡ false) w.tenants (λ ns t at. sym (there ns t at) ∙ nobody ns))))
+
+-- ---- whether there are any
+
+any_name : (slots : List (Name × Option Unit)) → list_any (at_slot (λ _. true)) slots ≡ list_any (λ (ns : Name). true) (flat_map row_name slots)
+any_name [] = refl
+any_name ((ns, None) ∷ slots) = any_name slots
+any_name ((ns, Some row) ∷ slots) = refl
+
+any_kept : (p : Name × Tenant → Bool) (es : List (Name × Tenant)) → list_any (λ (ns : Name). true) (map (λ e. e.0) (filter p es)) ≡ list_any p es
+any_kept p [] = refl
+any_kept p (e ∷ es) =
+    elim (p e) as (λ b. list_any (λ (ns : Name). true) (map (λ (x : Name × Tenant). x.0) (cond b (e ∷ filter p es) (filter p es))) ≡ (b || list_any p es)) [
+      | true ↦ refl
+      | false ↦ any_kept p es
+    ]
+
+pub named_if_any : (w : World) (quota : Name) (slots : List (Name × Option Unit)) → flat_map row_name slots ≡ namespaces_naming w quota →
+    list_any (at_slot (λ _. true)) slots ≡ any_row (λ _ t. names_quota quota t.namespace) w.tenants
+unfolding namespaces_naming any_row
+named_if_any w quota slots is = any_name slots ∙ ap (list_any (λ (ns : Name). true)) is ∙ any_kept (λ e. names_quota quota e.1.namespace) (entries w.tenants)
 
 -- ---- what they take
 

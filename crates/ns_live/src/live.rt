@@ -12,7 +12,8 @@ ghost use Rattle.ns_types.specs.declared.snapshot.PoolNode.{PoolNode};
 ghost use Rattle.ns_types.specs.State.Names.{Key, Name, same_key, same_name};
 ghost use Rattle.ns_types.specs.State.Resources.{IsCounted};
 ghost use Rattle.ns_types.specs.State.Rows.{World, is_live, is_live_on};
-ghost use Rattle.ns_types.specs.State.Sums.{node_load, quota_use};
+ghost use Rattle.ns_types.specs.State.Sums.{names_quota, node_load, quota_use};
+ghost use Rattle.ns_types.specs.State.Tables.{any_row};
 ghost use Rattle.ns_types.specs.Working.Snapshot.{namespaces_naming};
 ghost use Rattle.ns_world.specs.Allocations.{live_use, rows_use};
 ghost use Rattle.ns_live.specs.Index.{AddsRow, HasRoomFor, HasRoomForAll, Indexes, IsEmpty, IsRight};
@@ -25,7 +26,7 @@ ghost use Rattle.ns_live.specs.Naming.{AreKept, AreNamed, HasNameRoom, HoldsSame
 ghost use Rattle.ns_live.specs.Naming.{PutsQuota, with_use};
 ghost use Rattle.ns_live.specs.Shown.{ForgetsNodes, KeepsShown, ShowsSame, ShowsThere, ShowsUnmoved, live_row, shown_at};
 
-use crate::naming::{QuotaNames, copied_names};
+use crate::naming::{QuotaNames, copied_names, has_name};
 use crate::pool_keys::PoolKeys;
 use crate::shown::ShownNodes;
 use keyed::{KeySet, NameTable, NumberTable};
@@ -384,6 +385,17 @@ impl Live {
         match self.quotas.names_of(quota) {
             Some(names) => copied_names(self.alloc, names),
             None => Ok(Rows::new(self.alloc)),
+        }
+    }
+
+    /// Whether a namespace names the quota. It looks at no other.
+    pub fn is_named(&self, quota: &Text) -> bool
+        ensures { (w : World) → AreNamed w self.now →
+            result ≡ any_row (λ _ tenant. names_quota quota.now tenant.namespace) w.tenants }
+    {
+        match self.quotas.names_of(quota) {
+            Some(names) => has_name(names),
+            None => false,
         }
     }
 

@@ -4,8 +4,9 @@
 ghost use Rattle.std.specs.Prelude.{◌≡◌, ◌++◌, IfOk, IsTrue, None, OnOk, Option, flat_map, is_some};
 ghost use Rattle.std.specs.Prelude.{false, option_copied, option_map, true};
 ghost use Rattle.std.specs.FinMap.{empty, entries};
+ghost use Rattle.std.specs.List.{list_any};
 ghost use Rattle.keyed.specs.Levels.{Adds, Drops, Keeps, same_at};
-ghost use Rattle.keyed.specs.Table.{row_at};
+ghost use Rattle.keyed.specs.Table.{at_slot, row_at};
 ghost use Rattle.ns_types.specs.declared.resources.Resources.{Resources};
 ghost use Rattle.ns_types.specs.State.Names.{Name, same_name};
 ghost use Rattle.ns_world.specs.Total.{IsTotal};
@@ -215,6 +216,13 @@ fn add_name(names: &mut Rows<Text>, slot: &NameSlot) -> Result<(), AllocError>
         names.push(slot.0.clone()?)?;
     }
     Ok(())
+}
+
+/// Whether there is a name.
+pub(crate) fn has_name(slots: &[NameSlot]) -> bool
+    ensures { result ≡ list_any (at_slot (λ _. true)) slots.now }
+{
+    slots.iter().any(|slot| slot.1.is_some())
 }
 
 /// The names, in their order. Want of memory is the only error.

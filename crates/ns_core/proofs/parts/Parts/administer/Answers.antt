@@ -8,6 +8,9 @@ use Rattle.ns_steps.proofs.Reading.{changes_lift}
 use Rattle.ns_core.proofs.Administering.{writes}
 use Rattle.ns_core.proofs.parts.Parts.administer.Goals as goal
 
+pub delete_quota-prepared-requires : goal.delete_quota-prepared-requires
+delete_quota-prepared-requires c = c.requires.live.quotas
+
 pub returns-in-DeleteNamespace-clause-made : goal.returns-in-DeleteNamespace-clause-made
 unfolding administer
 returns-in-DeleteNamespace-clause-made c = rw c.in-DeleteNamespace.is

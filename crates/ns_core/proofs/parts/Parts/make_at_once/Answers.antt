@@ -9,6 +9,9 @@ use Rattle.ns_core.proofs.Administering.{index_stays}
 use Rattle.ns_core.proofs.Keeping.{within}
 use Rattle.ns_core.proofs.parts.Parts.make_at_once.Goals as goal
 
+pub administer-requires : goal.administer-requires
+administer-requires c = c.requires.index
+
 pub returns-in_err-content-clause-made : goal.returns-in_err-content-clause-made
 returns-in_err-content-clause-made c =
     let s = state_of c.args.self.now in
