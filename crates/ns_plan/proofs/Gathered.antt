@@ -1,5 +1,5 @@
 -- What a plan does on each node, one placement more.
-use Rattle.std.specs.Prelude.{◌≡◌, ℕ, ◌+◌, ◌-◌, ◌<◌, ◌≤◌, ◌==◌, ◌++◌, Bool, true, false, cond, List, [], ◌∷◌, drop, length, slice_range, sum_by, take}
+use Rattle.std.specs.Prelude.{◌≡◌, ℕ, ◌+◌, ◌-◌, ◌<◌, ◌≤◌, ◌==◌, ◌≢◌, ◌++◌, Bool, true, false, cond, List, [], ◌∷◌, drop, length, slice_range, sum_by, take}
 use Rattle.std.proofs.Common.{arith, get_or, set, refl, sym, ap, subst, ◌∙◌}
 use Rattle.std.proofs.lemmas.Bool.{eqb-true}
 use Rattle.std.proofs.lemmas.Grind.{flat_map-append}
@@ -139,6 +139,14 @@ module _ (before : List Placement) (p : Placement) where
         none_before = before_still p.node part.start start_inside is.none_before;
         none_behind = none_more;
       }
+
+pub not_there : (before : List Placement) (p : Placement) (k : ℕ) → p.node ≢ k → (part : Part) → IsPart k before part →
+    IsPart k (before ++ p ∷ []) part
+not_there before p k off = by (same_number p.node k) refl
+  where
+    by : (b : Bool) → same_number p.node k ≡ b → (part : Part) → IsPart k before part → IsPart k (before ++ p ∷ []) part
+    by true e part is = absurd (off (tied one_number p.node k e))
+    by false e part is = elsewhere before p k e part is
 
 -- ---- the part of each node
 

@@ -150,6 +150,12 @@ pub record IsSoFar (w : World) (quota : Option Name) (so_far : SoFar) (r : Read)
   pub committed_is : so_far.committed.items ≡ r.committed
   pub dropped_is : so_far.dropped.items ≡ r.dropped
 
+-- nothing is decided yet
+pub record IsUndecided (so_far : SoFar) : Type 0 where
+  pub placed_is : so_far.placed ≡ amount_of none
+  pub committed_is : so_far.committed.items ≡ []
+  pub dropped_is : so_far.dropped.items ≡ []
+
 -- from what is decided so far to what is decided with the node, where none of the victims so far is on it
 abbrev pub Decides : Snapshot → List Placement → World → Option Name → ℕ → SoFar → SoFar → Type 0
 Decides kept placements w quota k old new = (r : Read) → IsSoFar w quota old r →

@@ -1,16 +1,16 @@
 //! Which nodes do their part of a plan: each its whole part or none of it. Nothing is written, and no memory is taken.
 
-ghost use Rattle.std.specs.Prelude.{◌≡◌, ◌<◌, length, option_copied};
+ghost use Rattle.std.specs.Prelude.{◌≡◌, ◌<◌, IfSome, length, option_copied};
 ghost use Rattle.arrayvec.specs.ArrayVec.{array_vec_len};
 ghost use Rattle.ns_types.specs.Working.Commit.{nodes_in, quota_named};
 ghost use Rattle.ns_plan.specs.After.{after_stops};
-ghost use Rattle.ns_plan.specs.Gathered.{IsPart};
+ghost use Rattle.ns_plan.specs.Gathered.{AreParts, IsPart};
 ghost use Rattle.ns_plan.specs.Looks.{AreCounted, IsOnFewNodes};
-ghost use Rattle.ns_plan.specs.Reader.{Decides, IsDecided, read_all};
+ghost use Rattle.ns_plan.specs.Reader.{Decides, IsDecided, IsUndecided, read_all};
 
 use crate::after::use_of;
 use crate::amounts::{Amount, add, amount_of};
-use crate::gathering::{Part, evicting, parts_of};
+use crate::gathering::{Part, evicting, part_at, parts_of};
 use crate::leaving::left_at;
 use crate::taking::{node_name, takes};
 use crate::view::View;
@@ -69,31 +69,80 @@ fn decide<V: View>(
     }
 }
 
+/// Nothing is decided yet.
+pub(crate) fn undecided() -> SoFar
+    ensures { IsUndecided result }
+{
+    SoFar {
+        used: Resources { cpu: 0, memory: 0 },
+        placed: amount_of(Resources { cpu: 0, memory: 0 }),
+        committed: ArrayVec::new(),
+        dropped: ArrayVec::new(),
+    }
+}
+
 /// Decides for each node of the plan, one after another, after the stops.
-pub(crate) fn decide_all<V: View>(view: &V, snapshot: &Snapshot, plan: &Plan) -> SoFar
+fn decide_each<V: View>(
+    view: &V,
+    snapshot: &Snapshot,
+    plan: &Plan,
+    gathered: Option<&[Part; 1000]>,
+    so_far: &mut SoFar,
+)
     requires counted { AreCounted (V.world view.now) }
     requires fits { IsOnFewNodes snapshot.now plan.now }
-    ensures { IsDecided result.committed.items result.dropped.items (read_all snapshot.now
+    requires right { IfSome gathered (λ parts. AreParts plan.now.placing.placements parts.now) }
+    requires undecided { IsUndecided so_far.old }
+    ensures { IsDecided so_far.new.committed.items so_far.new.dropped.items (read_all snapshot.now
         plan.now.placing.placements
         (after_stops (V.world view.now) snapshot.now.namespace plan.now.stops)
         (nodes_in plan.now.placing.placements)) }
 {
     let quota = view.quota(&snapshot.namespace);
-    let mut so_far = SoFar {
-        used: use_of(view, &snapshot.namespace, plan.stops.as_slice(), quota),
-        placed: amount_of(Resources { cpu: 0, memory: 0 }),
-        committed: ArrayVec::new(),
-        dropped: ArrayVec::new(),
-    };
-    let parts = parts_of(snapshot, plan);
+    let placements = plan.placing.placements.as_slice();
+    so_far.used = use_of(view, &snapshot.namespace, plan.stops.as_slice(), quota);
     let mut decided = Flags::new();
-    for placement in plan.placing.placements.as_slice() {
+    for placement in placements {
         let node = placement.node;
         if !decided.has(node) {
             decided.flag(node);
-            let part = parts[node as usize];
-            decide(view, snapshot, plan, quota, node, part, &mut so_far);
+            let part = part_at(gathered, placements, node);
+            decide(view, snapshot, plan, quota, node, part, so_far);
         }
     }
-    so_far
+}
+
+/// The same, where the parts of all nodes are gathered before. They take much room, so the caller has none of it.
+#[inline(never)]
+fn decide_many<V: View>(view: &V, snapshot: &Snapshot, plan: &Plan, so_far: &mut SoFar)
+    requires counted { AreCounted (V.world view.now) }
+    requires fits { IsOnFewNodes snapshot.now plan.now }
+    requires undecided { IsUndecided so_far.old }
+    ensures { IsDecided so_far.new.committed.items so_far.new.dropped.items (read_all snapshot.now
+        plan.now.placing.placements
+        (after_stops (V.world view.now) snapshot.now.namespace plan.now.stops)
+        (nodes_in plan.now.placing.placements)) }
+{
+    let parts = parts_of(snapshot, plan);
+    decide_each(view, snapshot, plan, Some(&parts), so_far);
+}
+
+/// So many placements are gone over for each of their nodes. Of more the parts of all nodes are gathered in one walk.
+const FEW: usize = 16;
+
+/// Decides for each node of the plan, where nothing is decided yet.
+pub(crate) fn decide_all<V: View>(view: &V, snapshot: &Snapshot, plan: &Plan, so_far: &mut SoFar)
+    requires counted { AreCounted (V.world view.now) }
+    requires fits { IsOnFewNodes snapshot.now plan.now }
+    requires undecided { IsUndecided so_far.old }
+    ensures { IsDecided so_far.new.committed.items so_far.new.dropped.items (read_all snapshot.now
+        plan.now.placing.placements
+        (after_stops (V.world view.now) snapshot.now.namespace plan.now.stops)
+        (nodes_in plan.now.placing.placements)) }
+{
+    if plan.placing.placements.as_slice().len() <= FEW {
+        decide_each(view, snapshot, plan, None, so_far);
+    } else {
+        decide_many(view, snapshot, plan, so_far);
+    }
 }

@@ -1,6 +1,6 @@
 //! What a plan does on each node, gathered in one walk over its placements.
 
-ghost use Rattle.std.specs.Prelude.{◌≡◌, ◌+◌, ◌<◌, ◌≤◌, ◌++◌, ◌∷◌, [], ℕ, List, length};
+ghost use Rattle.std.specs.Prelude.{◌≡◌, ◌+◌, ◌<◌, ◌≤◌, ◌++◌, ◌∷◌, [], ℕ, IfSome, List, length};
 ghost use Rattle.ns_types.specs.declared.plan.Placement.{Placement};
 ghost use Rattle.ns_types.specs.Working.Commit.{part_of};
 ghost use Rattle.ns_plan.specs.Gathered.{AreParts, IsPart};
@@ -51,6 +51,32 @@ fn with_next(part: Part, placement: &Placement, end: usize) -> Part
         }
     } else {
         Part { size, end, ..part }
+    }
+}
+
+/// The part of one node, by a walk over all placements.
+fn part_of(placements: &[Placement], node: u64) -> Part
+    ensures { IsPart node placements.now result }
+{
+    let mut part = no_part();
+    for i in 0..placements.len() {
+        let placement = &placements[i];
+        if placement.node == node {
+            part = with_next(part, placement, i + 1);
+        }
+    }
+    part
+}
+
+/// The part of the node, which is looked up where the parts of all nodes were gathered.
+pub(crate) fn part_at(gathered: Option<&[Part; 1000]>, placements: &[Placement], node: u64) -> Part
+    requires small { node < 1000 }
+    requires right { IfSome gathered (λ parts. AreParts placements.now parts.now) }
+    ensures { IsPart node placements.now result }
+{
+    match gathered {
+        Some(parts) => parts[node as usize],
+        None => part_of(placements, node),
     }
 }
 

@@ -4,8 +4,8 @@ use Rattle.ns_types.specs.Working.Commit.{nodes_in}
 use Rattle.ns_marks.specs.Marks.{AreFlags}
 use Rattle.ns_plan.proofs.Few.{has_room}
 use Rattle.ns_plan.proofs.Parts.{flagged, nodes_step}
-use Rattle.ns_plan.proofs.checking.nodes_in.Goals as goal
-use Rattle.ns_plan.proofs.checking.nodes_in.Goals.{then-not-has, else-not-has}
+use Rattle.ns_plan.proofs.checking.list_nodes.Goals as goal
+use Rattle.ns_plan.proofs.checking.list_nodes.Goals.{then-not-has, else-not-has}
 
 pub push-requires : goal.push-requires
 push-requires c =
@@ -14,7 +14,7 @@ push-requires c =
     let at = c.loop-placement.placement-index in
     let p = c.placement-item.result in
     let so_far = c.loop-placement.invariant in
-    let room = has_room c.args.snapshot.now c.args.plan.now c.requires at p (subst (λ l. at < length l) seen c.loop-placement-test.true)
+    let room = has_room c.args.snapshot.now c.args.plan.now c.requires.fits at p (subst (λ l. at < length l) seen c.loop-placement-test.true)
     (c.placement-item.is ∙ ap (λ l. get_or l at p) seen) (sym (c.has.ensures (nodes_in (take at ps)) so_far.1) ∙ c.if-not-has.true) in
     let same = ap length so_far.0 in
     (omega arith, omega (arith, room, same))

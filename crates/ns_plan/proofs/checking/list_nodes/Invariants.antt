@@ -1,7 +1,7 @@
 use Rattle.std.proofs.Common.{◌≡◌, take}
 use Rattle.ns_types.specs.Working.Commit.{nodes_in}
 use Rattle.ns_marks.specs.Marks.{AreFlags}
-use Rattle.ns_plan.proofs.checking.nodes_in.Given as goal
+use Rattle.ns_plan.proofs.checking.list_nodes.Given as goal
 
 abbrev pub invariant-loop-placement : goal.invariant-loop-placement
 invariant-loop-placement l = (l.nodes.items ≡ nodes_in (take l.placement-index l.plan.placing.placements))

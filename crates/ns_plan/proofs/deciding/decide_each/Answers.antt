@@ -5,8 +5,8 @@ use Rattle.ns_plan.specs.After.{after_stops}
 use Rattle.ns_plan.specs.Reader.{IsSoFar, read_all}
 use Rattle.ns_plan.proofs.Nodewise.{already, elsewhere_now, now, room_committed, room_dropped}
 use Rattle.ns_plan.proofs.Parts.{flagged}
-use Rattle.ns_plan.proofs.deciding.decide_all.Goals as goal
-use Rattle.ns_plan.proofs.deciding.decide_all.Goals.{then-not-has, else-not-has}
+use Rattle.ns_plan.proofs.deciding.decide_each.Goals as goal
+use Rattle.ns_plan.proofs.deciding.decide_each.Goals.{then-not-has, else-not-has}
 
 pub decide-requires-clause-room : goal.decide-requires-clause-room
 decide-requires-clause-room g c =
@@ -15,7 +15,7 @@ decide-requires-clause-room g c =
     let ps = plan.placing.placements in
     let x = after_stops (g.V.View.world c.args.view.now) kept.namespace plan.stops in
     let quota = option_copied c.quota-quota.result in
-    let seen = c.as_slice-placement-items.ensures in
+    let seen = c.as_slice-placements.ensures in
     let at = c.loop-placement.placement-index in
     let p = c.placement-item.result in
     let inside = subst (λ l. at < length l) seen c.loop-placement-test.true in
@@ -33,7 +33,7 @@ decide-requires-clause-room_dropped g c =
     let ps = plan.placing.placements in
     let x = after_stops (g.V.View.world c.args.view.now) kept.namespace plan.stops in
     let quota = option_copied c.quota-quota.result in
-    let seen = c.as_slice-placement-items.ensures in
+    let seen = c.as_slice-placements.ensures in
     let at = c.loop-placement.placement-index in
     let p = c.placement-item.result in
     let inside = subst (λ l. at < length l) seen c.loop-placement-test.true in
@@ -51,7 +51,7 @@ loop-placement-preserved g c =
     let ps = plan.placing.placements in
     let x = after_stops (g.V.View.world c.args.view.now) kept.namespace plan.stops in
     let quota = option_copied c.quota-quota.result in
-    let seen = c.as_slice-placement-items.ensures in
+    let seen = c.as_slice-placements.ensures in
     let at = c.loop-placement.placement-index in
     let p = c.placement-item.result in
     let inside = subst (λ l. at < length l) seen c.loop-placement-test.true in

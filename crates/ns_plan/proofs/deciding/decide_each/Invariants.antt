@@ -3,7 +3,7 @@ use Rattle.ns_types.specs.Working.Commit.{nodes_in}
 use Rattle.ns_marks.specs.Marks.{AreFlags}
 use Rattle.ns_plan.specs.After.{after_stops}
 use Rattle.ns_plan.specs.Reader.{IsSoFar, read_all}
-use Rattle.ns_plan.proofs.deciding.decide_all.Given as goal
+use Rattle.ns_plan.proofs.deciding.decide_each.Given as goal
 
 abbrev pub invariant-loop-placement : goal.invariant-loop-placement
 invariant-loop-placement g l = IsSoFar (after_stops (g.V.View.world l.view) l.snapshot.namespace l.plan.stops) (option_copied l.quota) l.so_far
