@@ -3,6 +3,7 @@ use Rattle.std.proofs.Common.{◌≡◌, ◌≢◌, ℕ, zero, suc, if◌then◌
 use Rattle.std.proofs.Common.{length, Result, Ok, Err, refl, ap, ◌∙◌, arith, codes, decimal, length-append}
 use Rattle.std.specs.Prelude.{is_ok}
 use Rattle.std.specs.Char.{digit_char}
+use Rattle.std.specs.Str.{IsUtf8}
 use Rattle.json.specs.Written.{Written}
 use Rattle.ns_json.specs.Part.{Adds, Follows, tokens_of}
 use Rattle.std.proofs.lemmas.Fmt.{length-decimal-le}
@@ -129,3 +130,16 @@ text_that_follows old new d items h none empty is =
     let all : new.tokens ≡ tokens_of d = h.tokens ∙ ap (λ t. t ++ tokens_of d) none in
     let before : new.before ≡ [] = h.before ∙ empty in
     is ∙ rw (before, all) (print-outline d)
+
+-- what was written first is UTF-8, as a writer's text is
+utf8_first : (before items text : List ℕ) → before ≡ [] → items ≡ before ++ text → IsUtf8 text → IsUtf8 items
+utf8_first before items text empty is utf8 = rw (is, empty) utf8
+
+pub utf8_that_follows : (old new : Written) (ts : List Token) (items : List ℕ) → Follows old new ts → old.before ≡ [] → items ≡ new.before ++ print new.tokens
+    → IsUtf8 (print new.tokens) → IsUtf8 items
+utf8_that_follows old new ts items h empty is utf8 = utf8_first new.before items (print new.tokens) (h.before ∙ empty) is utf8
+
+pub utf8_of : {E : Type 0} (r : Result (Unit {0}) E) (old new : Written) (ts : List Token) (items : List ℕ) → Adds r old new ts → old.before ≡ [] →
+    items ≡ new.before ++ print new.tokens
+    → IsUtf8 (print new.tokens) → IsUtf8 items
+utf8_of r old new ts items h empty is utf8 = utf8_first new.before items (print new.tokens) (h.before ∙ empty) is utf8

@@ -229,10 +229,8 @@ fn write_job(out: &mut Writer, alloc: Global, job: &JobShown) -> Result<(), Allo
 pub fn job_text(alloc: Global, job: &JobShown) -> Result<String, AllocError>
     ensures { IfOk result (λ s. string_bytes s ≡ compact_text (job_json job.now)) }
 {
-    let mut out = Writer::new(Vec::new(alloc));
+    let mut out = Writer::new(Vec::with_capacity(alloc, 512)?);
     write_job(&mut out, alloc, job)?;
-    match String::from_utf8(out.into_inner()) {
-        Ok(text) => Ok(text),
-        Err(_) => unreachable!(),
-    }
+    // What a writer wrote is UTF-8.
+    Ok(unsafe { String::from_utf8_unchecked(out.into_inner()) })
 }
