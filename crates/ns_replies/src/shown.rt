@@ -57,7 +57,7 @@ fn write_each<T: Shown>(out: &mut Writer, items: &[T]) -> Result<(), AllocError>
 pub fn text_of<T: Shown>(alloc: Global, shown: &T) -> Result<String, AllocError>
     ensures { IfOk result (λ s. string_bytes s ≡ compact_text (T.json shown.now)) }
 {
-    let mut out = Writer::new(Vec::new(alloc));
+    let mut out = Writer::new(Vec::with_capacity(alloc, 128)?);
     shown.write_json(&mut out)?;
     Ok(written_text(out))
 }
@@ -67,8 +67,6 @@ pub fn written_text(out: Writer) -> String
     requires { out.before ≡ [] }
     ensures { string_bytes result ≡ print out.tokens }
 {
-    match String::from_utf8(out.into_inner()) {
-        Ok(text) => text,
-        Err(_) => unreachable!(),
-    }
+    // What a writer wrote is UTF-8.
+    unsafe { String::from_utf8_unchecked(out.into_inner()) }
 }
