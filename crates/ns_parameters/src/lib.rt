@@ -76,6 +76,9 @@ impl Values {
         ensures { IfOk result (λ values. values ≡ values_of text.now) }
     {
         let mut values = NO_VALUES;
+        if text.is_empty() {
+            return Ok(values);
+        }
         match values.keep_all(alloc, text) {
             Ok(()) => Ok(values),
             Err(error) => {
