@@ -8,8 +8,6 @@ use Rattle.std.specs.declared.sync.ledger.Ledger.{Ghosts}
 use Rattle.ns_shared.proofs.Crossing.{Shared-sync}
 use Rattle.ns_door.specs.contracts.door.Door as Door
 use Rattle.ns_serve.specs.contracts.house.House as House
-use Rattle.ns_serve.specs.contracts.start.Start as Start
-use Rattle.ns_serve.specs.contracts.tickets.Tickets as Tickets
 
 pub Door-sync : IsSync Door.the_row
 Door-sync = search (sendable, crosses) depth 20

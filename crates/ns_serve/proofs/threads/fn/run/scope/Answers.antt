@@ -2,17 +2,19 @@ use mir.Syntax as Syntax
 use denote.Exit as Exit
 use denote.Ref.{NamedLft}
 use denote.Struct.Tuple as Tuple
-use denote.Param.Send.{IsSend, arg_send, param_send, sendable, shr_send}
+use denote.Param.Send.{arg_send, param_send, sendable, shr_send}
 use denote.Param.{param}
 use denote.Param.SendFields.{as_row_send, declared_send}
 use denote.Struct.Field as Field
+use Rattle.std.proofs.Common.{[], ◌∷◌}
 use Rattle.std.proofs.Crossing.{send}
+use Rattle.std.specs.contracts.alloc.Global as Global
+use Rattle.ns_shared.specs.contracts.seat.Seat as Seat
 use Rattle.ns_shared.proofs.seat.Seat.TheSendSync as seat
 use Rattle.ns_serve.specs.contracts.duty.Duty as Duty
 use Rattle.ns_serve.specs.contracts.house.House as House
 use Rattle.ns_serve.proofs.duty.Duty.TheSendSync as duty
 use Rattle.ns_serve.proofs.Crossing.{House-sync}
-use Rattle.ns_serve.proofs.threads.fn.run.scope.Lts as Lts
 use Rattle.ns_serve.proofs.threads.fn.run.scope.Goals as goal
 
 pub spawn-requires-send-F : goal.spawn-requires-send-F
@@ -20,13 +22,13 @@ spawn-requires-send-F g c κs within =
     let five : NamedLft = record { mir = Syntax.named 5; lft = κs.1.1.1.1.1.0 } in
     let six : NamedLft = record { mir = Syntax.named 6; lft = κs.1.1.1.1.1.1.0 } in
     let seven : NamedLft = record { mir = Syntax.named 7; lft = κs.1.1.1.1.1.1.1.0 } in
-    let sent : IsSend (Lts.of-40 g.row.L g.row.R g.row.D g.L.laws g.R.laws g.D.laws g.L.Ledger g.L.Ledger-dict g.R.Threads
-    g.R.Threads-dict g.R.Wait g.R.Wait-dict g.R.Clock g.R.Clock-dict g.D.Draws g.D.Draws-dict g.D.Destruct-dict five six seven) =
-    declared_send (Tuple.type_at
-    (Lts.name-42 g.row.L g.row.R g.row.D g.L.laws g.R.laws g.D.laws g.L.Ledger g.L.Ledger-dict g.R.Threads
-    g.R.Threads-dict g.R.Wait g.R.Wait-dict g.R.Clock g.R.Clock-dict g.D.Draws g.D.Draws-dict g.D.Destruct-dict)
-    (Lts.of-38 g.row.L g.row.R g.row.D g.L.laws g.R.laws g.D.laws g.L.Ledger g.L.Ledger-dict g.R.Threads
-    g.R.Threads-dict g.R.Wait g.R.Wait-dict g.R.Clock g.R.Clock-dict g.D.Draws g.D.Draws-dict g.D.Destruct-dict five six seven)) (
+    let captured = (Field.shr_ref_field five (param 1 g.row.R) tt).row
+    ∷ Global.the_row
+    ∷ (Field.shr_ref_field six (House.the_row seven (param 0 g.row.L) g.L.Ledger) tt).row
+    ∷ Duty.the_row (param 2 g.row.D)
+    ∷ Seat.the_row (param 0 g.row.L) g.L.Ledger
+    ∷ [] in
+    param_send 1 _ (arg_send _ Exit.no _ (declared_send (Tuple.type_at _ captured) (
       search (sendable, c.requires.0) depth 6,
       (
         search (sendable, send) depth 6,
@@ -39,6 +41,4 @@ spawn-requires-send-F g c κs within =
           ),
         ),
       ),
-    ) in
-    param_send 1 _ (arg_send _ Exit.no (Lts.of-40 g.row.L g.row.R g.row.D g.L.laws g.R.laws g.D.laws g.L.Ledger g.L.Ledger-dict g.R.Threads
-    g.R.Threads-dict g.R.Wait g.R.Wait-dict g.R.Clock g.R.Clock-dict g.D.Draws g.D.Draws-dict g.D.Destruct-dict five six seven) sent)
+    )))
