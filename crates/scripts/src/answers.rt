@@ -5,33 +5,30 @@ use ns_types::evaluation::Status;
 use ns_types::key::EvalKey;
 use ns_types::refusal::Refusal;
 use ns_types::reply::{Content, Reply, Response};
-use ns_types::shared::Shared;
-use ns_types::snapshot::Snapshot;
 use ns_types::text::Text;
 use ns_types::worker::Phase;
-use std::io::Write;
+use std::io::{self, Write};
 
 /// Status, index and body.
-pub fn write_response<W: Write>(out: &mut W, response: &Response) -> anyhow::Result<()> {
+pub fn write_response<W: Write>(out: &mut W, response: &Response) -> io::Result<()> {
     match response {
-        Response::Done(Some(index), body) => writeln!(out, "200 {index} {body}")?,
-        Response::Done(None, body) => writeln!(out, "200 {body}")?,
+        Response::Done(Some(index), body) => writeln!(out, "200 {index} {body}"),
+        Response::Done(None, body) => writeln!(out, "200 {body}"),
         Response::Refused(refusal) => {
             let (status, text) = (refusal.status(), refusal.text());
-            writeln!(out, "{status} {text}")?;
+            writeln!(out, "{status} {text}")
         }
     }
-    Ok(())
 }
 
-fn write_refusal<W: Write>(out: &mut W, refusal: Refusal) -> anyhow::Result<()> {
+/// Why a worker's step was refused.
+pub fn write_refusal<W: Write>(out: &mut W, refusal: Refusal) -> io::Result<()> {
     let text = match refusal {
         Refusal::NotEnabled => "not enabled",
         Refusal::Foreign => "foreign",
         _ => refusal.text(),
     };
-    writeln!(out, "{text}")?;
-    Ok(())
+    writeln!(out, "{text}")
 }
 
 fn status_text(status: Status) -> &'static str {
@@ -45,7 +42,7 @@ fn status_text(status: Status) -> &'static str {
 }
 
 /// With a space before each.
-fn write_numbers<W: Write>(out: &mut W, numbers: &[u64]) -> anyhow::Result<()> {
+fn write_numbers<W: Write>(out: &mut W, numbers: &[u64]) -> io::Result<()> {
     if numbers.is_empty() {
         write!(out, " nothing")?;
     }
@@ -56,7 +53,7 @@ fn write_numbers<W: Write>(out: &mut W, numbers: &[u64]) -> anyhow::Result<()> {
 }
 
 /// With a space before each.
-fn write_names<W: Write>(out: &mut W, names: &[Text]) -> anyhow::Result<()> {
+fn write_names<W: Write>(out: &mut W, names: &[Text]) -> io::Result<()> {
     if names.is_empty() {
         write!(out, " nothing")?;
     }
@@ -68,42 +65,36 @@ fn write_names<W: Write>(out: &mut W, names: &[Text]) -> anyhow::Result<()> {
 }
 
 /// The allocations that were made, and the nodes that were dropped.
-fn write_applied<W: Write>(out: &mut W, made: &[u64], dropped: &[Text]) -> anyhow::Result<()> {
+fn write_applied<W: Write>(out: &mut W, made: &[u64], dropped: &[Text]) -> io::Result<()> {
     write!(out, "applied")?;
     write_numbers(out, made)?;
     write!(out, ", dropped")?;
     write_names(out, dropped)?;
-    writeln!(out)?;
-    Ok(())
+    writeln!(out)
 }
 
 /// How the evaluation ended, and its follower.
-fn write_finished<W: Write>(
-    out: &mut W,
-    status: Status,
-    follower: Option<u64>,
-) -> anyhow::Result<()> {
+fn write_finished<W: Write>(out: &mut W, status: Status, follower: Option<u64>) -> io::Result<()> {
     let status = status_text(status);
     match follower {
-        Some(number) => writeln!(out, "finished {status}, followed by {number}")?,
-        None => writeln!(out, "finished {status}, followed by nothing")?,
+        Some(number) => writeln!(out, "finished {status}, followed by {number}"),
+        None => writeln!(out, "finished {status}, followed by nothing"),
     }
-    Ok(())
 }
 
 fn write_content<W: Write>(out: &mut W, content: &Content) -> anyhow::Result<()> {
-    match content {
-        Content::Took(number) => writeln!(out, "took {number}")?,
-        Content::Queued(number) => writeln!(out, "queued {number}")?,
-        Content::Applied(made, dropped) => write_applied(out, made.as_slice(), dropped.as_slice())?,
-        Content::Finished(status, follower) => write_finished(out, *status, *follower)?,
+    let written = match content {
+        Content::Took(number) => writeln!(out, "took {number}"),
+        Content::Queued(number) => writeln!(out, "queued {number}"),
+        Content::Applied(made, dropped) => write_applied(out, made.as_slice(), dropped.as_slice()),
+        Content::Finished(status, follower) => write_finished(out, *status, *follower),
         Content::Nacked(status) => {
             let status = status_text(*status);
-            writeln!(out, "nacked {status}")?;
+            writeln!(out, "nacked {status}")
         }
         _ => anyhow::bail!("an answer that no worker gets"),
-    }
-    Ok(())
+    };
+    Ok(written?)
 }
 
 /// The answer to a worker's step. It has no index.
@@ -115,35 +106,24 @@ pub fn write_reply<W: Write>(out: &mut W, answer: &Result<Reply, Refusal>) -> an
             }
             write_content(out, &reply.content)
         }
-        Err(refusal) => write_refusal(out, *refusal),
+        Err(refusal) => Ok(write_refusal(out, *refusal)?),
     }
 }
 
-/// The number of the evaluation whose snapshot it is.
-pub fn write_snapshot<W: Write>(
-    out: &mut W,
-    answer: &Result<Shared<Snapshot>, Refusal>,
-) -> anyhow::Result<()> {
-    match answer {
-        Ok(snapshot) => {
-            let number = snapshot.get().number;
-            writeln!(out, "snapped {number}")?;
-            Ok(())
-        }
-        Err(refusal) => write_refusal(out, *refusal),
-    }
+/// The number of the evaluation whose snapshot was taken.
+pub fn write_snapped<W: Write>(out: &mut W, number: u64) -> io::Result<()> {
+    writeln!(out, "snapped {number}")
 }
 
 /// An evaluation of a list, if there is one.
-pub fn write_key<W: Write>(out: &mut W, key: Option<&EvalKey>) -> anyhow::Result<()> {
+pub fn write_key<W: Write>(out: &mut W, key: Option<&EvalKey>) -> io::Result<()> {
     match key {
         Some(key) => {
             let (number, namespace) = (key.number(), key.namespace().as_str());
-            writeln!(out, "{number} of {namespace}")?;
+            writeln!(out, "{number} of {namespace}")
         }
-        None => writeln!(out, "nothing")?,
+        None => writeln!(out, "nothing"),
     }
-    Ok(())
 }
 
 fn phase_text(phase: Phase) -> &'static str {
@@ -157,14 +137,13 @@ fn phase_text(phase: Phase) -> &'static str {
 }
 
 /// How far the worker is with which evaluation, and how many tries its plan has left.
-pub fn write_phase<W: Write>(out: &mut W, core: &Core, worker: u64) -> anyhow::Result<()> {
+pub fn write_phase<W: Write>(out: &mut W, core: &Core, worker: u64) -> io::Result<()> {
     match core.phase(worker) {
         Some(busy) => {
             let phase = phase_text(busy.phase);
             let (number, namespace, tries) = (busy.evaluation, busy.namespace.as_str(), busy.tries);
-            writeln!(out, "{phase} {number} of {namespace}, {tries} tries")?;
+            writeln!(out, "{phase} {number} of {namespace}, {tries} tries")
         }
-        None => writeln!(out, "idle")?,
+        None => writeln!(out, "idle"),
     }
-    Ok(())
 }

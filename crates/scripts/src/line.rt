@@ -7,7 +7,7 @@ pub enum Line<'a> {
     /// Empty, or a comment.
     Remark,
     /// The secret of the requests that follow, if they have one.
-    Token(Option<&'a str>),
+    Token(Option<&'a [u8]>),
     /// Method, target and body.
     Request(&'a str, &'a str, &'a str),
     Call(Call<'a>),
@@ -107,7 +107,7 @@ impl<'a> Line<'a> {
         let (word, rest) = first_word(text);
         match word {
             "token" if rest.is_empty() => Some(Line::Token(None)),
-            "token" => Some(Line::Token(Some(rest))),
+            "token" => Some(Line::Token(Some(rest.as_bytes()))),
             "GET" | "HEAD" | "OPTIONS" | "PATCH" | "POST" | "PUT" | "DELETE" if !rest.is_empty() =>
                 {
                     let (target, body) = first_word(rest);

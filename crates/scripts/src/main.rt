@@ -6,6 +6,7 @@ mod answers;
 mod lent;
 mod line;
 mod server;
+mod steps;
 mod taken;
 
 use crate::server::Server;

@@ -1,17 +1,18 @@
 //! The server of a script.
 
-use crate::answers::{write_key, write_phase, write_reply, write_response, write_snapshot};
+use crate::answers::{write_key, write_phase, write_refusal, write_response, write_snapped};
 use crate::lent::{Lent, LentDraws};
 use crate::line::{Call, Line, Work};
+use crate::steps::Step;
 use crate::taken::Snapshots;
 use anyhow::Context;
 use ns_api::{Api, NoFollower};
 use ns_core::Core;
+use ns_drops::snapshot_number;
 use ns_http::{Answer, Request};
-use ns_schedule::plan;
 use ns_types::name::Secret;
 use ns_types::refusal::Refusal;
-use ns_types::reply::{Reply, Response};
+use ns_types::reply::Response;
 use ns_types::shared::Shared;
 use ns_types::snapshot::Snapshot;
 use ns_types::text::Text;
@@ -26,49 +27,18 @@ pub struct Server<'a> {
     alloc: Global,
     core: Core,
     /// That of the requests that follow.
-    token: Option<&'a str>,
+    token: Option<&'a [u8]>,
     /// The byte that is drawn next.
     next: u8,
     seen: Snapshots,
 }
 
-/// A call that was refused for memory is made once more.
-fn repeated<S, T: Drop, F: Fn(&mut S) -> Result<T, Refusal>>(
-    state: &mut S,
-    call: F,
-) -> Result<T, Refusal>
-    requires { F.IsAlwaysCallable call }
-{
-    match call(state) {
-        Err(Refusal::Memory) => call(state),
-        answer => answer,
+/// A look that was refused for memory is made once more.
+fn snapped(core: &mut Core, worker: u64, namespace: &Text) -> Result<Shared<Snapshot>, Refusal> {
+    match core.snap(worker, namespace) {
+        Err(Refusal::Memory) => core.snap(worker, namespace),
+        seen => seen,
     }
-}
-
-/// The plan of the snapshot is made and handed in.
-fn submitted(
-    core: &mut Core,
-    alloc: Global,
-    worker: u64,
-    namespace: &Text,
-    seen: &Shared<Snapshot>,
-) -> Result<Reply, Refusal> {
-    let planned = plan(alloc, seen.share()?)?;
-    core.submit(worker, namespace, planned)
-}
-
-/// The evaluation is finished by the plan of the snapshot, which is made once more.
-fn finished(
-    core: &mut Core,
-    alloc: Global,
-    worker: u64,
-    namespace: &Text,
-    seen: &Shared<Snapshot>,
-) -> Result<Reply, Refusal> {
-    let planned = plan(alloc, seen.share()?)?;
-    let answer = core.finish(worker, namespace, &planned);
-    drop(planned);
-    answer
 }
 
 fn is_unanswered(answer: &Result<Response, AllocError>) -> bool {
@@ -85,7 +55,7 @@ impl<'a> Server<'a> {
         Ok(Server {
             alloc,
             core,
-            token: Some(ROOT),
+            token: Some(ROOT.as_bytes()),
             next: 1,
             seen: Snapshots::new(alloc),
         })
@@ -99,7 +69,9 @@ impl<'a> Server<'a> {
             next: &mut self.next,
         };
         let mut api = Api::new(self.alloc, lent, draws, NoFollower)?;
-        Ok(api.answer(request))
+        let response = api.answer(request);
+        drop(api);
+        Ok(response)
     }
 
     /// A request that was refused for memory is made once more, with the same draws.
@@ -124,98 +96,24 @@ impl<'a> Server<'a> {
         let response = self.ask(&Request {
             method: method.as_bytes(),
             target,
-            token: self.token.map(|secret| secret.as_bytes()),
+            token: self.token,
             body: body.as_bytes(),
         })?;
         let written = write_response(out, &response);
         drop(response);
-        written
-    }
-
-    fn dequeue<W: Write>(
-        &mut self,
-        worker: u64,
-        namespace: &Text,
-        number: u64,
-        out: &mut W,
-    ) -> anyhow::Result<()> {
-        let answer = repeated(
-            &mut self.core,
-            |core| core.dequeue(worker, namespace, number),
-        );
-        let written = write_reply(out, &answer);
-        drop(answer);
-        written
+        Ok(written?)
     }
 
     fn snap<W: Write>(&mut self, worker: u64, namespace: &Text, out: &mut W) -> anyhow::Result<()> {
-        let answer = repeated(&mut self.core, |core| core.snap(worker, namespace));
-        write_snapshot(out, &answer)?;
-        if let Ok(snapshot) = answer {
-            self.seen.keep(worker, snapshot)?;
+        match snapped(&mut self.core, worker, namespace) {
+            Ok(snapshot) => {
+                let written = write_snapped(out, snapshot_number(&snapshot));
+                let kept = self.seen.keep(worker, snapshot);
+                written?;
+                Ok(kept?)
+            }
+            Err(refusal) => Ok(write_refusal(out, refusal)?),
         }
-        Ok(())
-    }
-
-    fn submit<W: Write>(
-        &mut self,
-        worker: u64,
-        namespace: &Text,
-        place: Option<u64>,
-        out: &mut W,
-    ) -> anyhow::Result<()> {
-        let alloc = self.alloc;
-        let seen = self
-            .seen
-            .find(worker, place)
-            .context("no snapshot was taken")?;
-        let answer = repeated(
-            &mut self.core,
-            |core| submitted(core, alloc, worker, namespace, seen),
-        );
-        let written = write_reply(out, &answer);
-        drop(answer);
-        written
-    }
-
-    fn apply<W: Write>(
-        &mut self,
-        worker: u64,
-        namespace: &Text,
-        out: &mut W,
-    ) -> anyhow::Result<()> {
-        let answer = repeated(&mut self.core, |core| core.apply(worker, namespace));
-        let written = write_reply(out, &answer);
-        drop(answer);
-        written
-    }
-
-    fn finish<W: Write>(
-        &mut self,
-        worker: u64,
-        namespace: &Text,
-        place: Option<u64>,
-        out: &mut W,
-    ) -> anyhow::Result<()> {
-        let alloc = self.alloc;
-        let seen = self
-            .seen
-            .find(worker, place)
-            .context("no snapshot was taken")?;
-        let answer = repeated(
-            &mut self.core,
-            |core| finished(core, alloc, worker, namespace, seen),
-        );
-        let written = write_reply(out, &answer);
-        drop(answer);
-        written
-    }
-
-    fn nack<W: Write>(&mut self, worker: u64, namespace: &Text, out: &mut W) -> anyhow::Result<()> {
-        let answer = repeated(&mut self.core, |core| core.nack(worker, namespace));
-        let written = write_reply(out, &answer);
-        drop(answer);
-        written
     }
 
     /// A worker's step in the namespace.
@@ -226,26 +124,36 @@ impl<'a> Server<'a> {
         work: Work,
         out: &mut W,
     ) -> anyhow::Result<()> {
+        let alloc = self.alloc;
         match work {
-            Work::Dequeue(number) => self.dequeue(worker, namespace, number, out),
+            Work::Dequeue(number) => {
+                Step::Dequeue(number).tell(&mut self.core, alloc, worker, namespace, out)
+            }
             Work::Snap => self.snap(worker, namespace, out),
-            Work::Submit(place) => self.submit(worker, namespace, place, out),
-            Work::Apply => self.apply(worker, namespace, out),
-            Work::Finish(place) => self.finish(worker, namespace, place, out),
-            Work::Nack => self.nack(worker, namespace, out),
+            Work::Submit(place) => {
+                let seen = self.seen.find(worker, place)?;
+                Step::Submit(seen).tell(&mut self.core, alloc, worker, namespace, out)
+            }
+            Work::Apply => Step::Apply.tell(&mut self.core, alloc, worker, namespace, out),
+            Work::Finish(place) => {
+                let seen = self.seen.find(worker, place)?;
+                Step::Finish(seen).tell(&mut self.core, alloc, worker, namespace, out)
+            }
+            Work::Nack => Step::Nack.tell(&mut self.core, alloc, worker, namespace, out),
         }
     }
 
     fn call<W: Write>(&mut self, call: Call<'_>, out: &mut W) -> anyhow::Result<()> {
-        match call {
+        let written = match call {
             Call::Work(worker, namespace, work) => {
                 let namespace = Text::from_str(self.alloc, namespace)?;
-                self.work(worker, &namespace, work, out)
+                return self.work(worker, &namespace, work, out);
             }
             Call::Served => write_key(out, self.core.served()),
             Call::Planned => write_key(out, self.core.first_plan()),
             Call::Phase(worker) => write_phase(out, &self.core, worker),
-        }
+        };
+        Ok(written?)
     }
 
     /// Does what the line says, and writes what it is answered.

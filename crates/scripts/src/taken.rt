@@ -1,5 +1,6 @@
 //! The snapshots of a script.
 
+use anyhow::Context;
 use ns_types::shared::Shared;
 use ns_types::snapshot::Snapshot;
 use std::alloc::{AllocError, Global};
@@ -41,11 +42,12 @@ impl Snapshots {
     }
 
     /// The one at the place, or else the one that the worker took last.
-    pub fn find(&self, worker: u64, place: Option<u64>) -> Option<&Shared<Snapshot>> {
+    pub fn find(&self, worker: u64, place: Option<u64>) -> anyhow::Result<&Shared<Snapshot>> {
         let taken = match place {
-            Some(place) => self.at(place)?,
-            None => self.last_of(worker)?,
+            Some(place) => self.at(place),
+            None => self.last_of(worker),
         };
-        Some(&taken.snapshot)
+        let taken = taken.context("no snapshot was taken")?;
+        Ok(&taken.snapshot)
     }
 }

@@ -1,0 +1,86 @@
+//! The steps of workers that are answered by a reply.
+
+use crate::answers::write_reply;
+use ns_core::Core;
+use ns_drops::{drop_answer, drop_planned};
+use ns_schedule::plan;
+use ns_types::refusal::Refusal;
+use ns_types::reply::Reply;
+use ns_types::shared::Shared;
+use ns_types::snapshot::Snapshot;
+use ns_types::text::Text;
+use std::alloc::Global;
+use std::io::Write;
+
+/// A step, with the snapshot that it needs.
+#[derive(Clone, Copy)]
+pub enum Step<'a> {
+    Dequeue(u64),
+    /// The plan of the snapshot is made and handed in.
+    Submit(&'a Shared<Snapshot>),
+    Apply,
+    /// By the plan of the snapshot, which is made once more.
+    Finish(&'a Shared<Snapshot>),
+    Nack,
+}
+
+/// The evaluation is finished by the plan of the snapshot.
+fn finished(
+    core: &mut Core,
+    alloc: Global,
+    worker: u64,
+    namespace: &Text,
+    seen: &Shared<Snapshot>,
+) -> Result<Reply, Refusal> {
+    let planned = plan(alloc, seen.share()?)?;
+    let answer = core.finish(worker, namespace, &planned);
+    drop_planned(planned);
+    answer
+}
+
+impl Step<'_> {
+    fn make(
+        self,
+        core: &mut Core,
+        alloc: Global,
+        worker: u64,
+        namespace: &Text,
+    ) -> Result<Reply, Refusal> {
+        match self {
+            Step::Dequeue(number) => core.dequeue(worker, namespace, number),
+            Step::Submit(seen) => core.submit(worker, namespace, plan(alloc, seen.share()?)?),
+            Step::Apply => core.apply(worker, namespace),
+            Step::Finish(seen) => finished(core, alloc, worker, namespace, seen),
+            Step::Nack => core.nack(worker, namespace),
+        }
+    }
+
+    /// A step that was refused for memory is made once more.
+    fn repeat(
+        self,
+        core: &mut Core,
+        alloc: Global,
+        worker: u64,
+        namespace: &Text,
+    ) -> Result<Reply, Refusal> {
+        match self.make(core, alloc, worker, namespace) {
+            Err(Refusal::Memory) => self.make(core, alloc, worker, namespace),
+            answer => answer,
+        }
+    }
+
+    /// Makes the step, and writes what it is answered.
+    pub fn tell<W: Write>(
+        self,
+        core: &mut Core,
+        alloc: Global,
+        worker: u64,
+        namespace: &Text,
+        out: &mut W,
+    ) -> anyhow::Result<()> {
+        let answer = self.repeat(core, alloc, worker, namespace);
+        let written = write_reply(out, &answer);
+        drop_answer(answer);
+        written
+    }
+}
