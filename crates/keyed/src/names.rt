@@ -54,7 +54,7 @@ impl<V: Drop> NameTable<V> {
         self.slots.as_slice()
     }
 
-    /// A table of slots whose keys rise. It takes no memory.
+    /// A table of slots whose keys rise. Many names get an index, where there is memory for it.
     pub fn from_slots(slots: Vec<(Text, Option<V>)>) -> NameTable<V>
         requires { T (is_sorted name_cmp slots.items) }
         ensures { result ≡ from_sorted slots.items }

@@ -72,7 +72,7 @@ impl<V: Drop> NumberTable<V> {
         self.slots.as_slice()
     }
 
-    /// A table of slots whose keys rise. It takes no memory.
+    /// A table of slots whose keys rise. It needs no memory.
     pub fn from_slots(slots: Vec<(u64, Option<V>)>) -> NumberTable<V>
         requires { T (is_sorted nat_cmp slots.items) }
         ensures { result ≡ from_sorted slots.items }
