@@ -27,8 +27,8 @@ invariant_of-self-lent g c r =
     let one : c.index.result.now ≡ c.index_mut-slot.result.now = c.index.ensures ∙
     get_or_default c.self.inside.slots.items c.in-Some.i c.index.result.now c.index_mut-slot.result.now within ∙ sym c.index_mut-slot.ensures.value in
     let held : size c.index_mut-slot.result.now.1 ≡ 1 = ap (λ e. size e.1) (sym one) ∙ size_some _ c.if-is_none.ensures in (
-      (λ w. let law = set_counted g.K.Ord.cmp g.met.K.Ord.total c.args.key.now c.self.inside.slots.items c.in-Some.i c.in-Some.ensures c.index_mut-slot.result.now
-          c.index_mut-slot.ensures.value c.self.inside.filled c.self.invariant.0.0 c.self.invariant.0.1 (Some w) in (
+      (λ w. let law = set_counted g.K.Ord.cmp g.met.K.Ord.total c.args.key.now c.self.inside.slots.items c.in-Some.i c.in-Some.ensures
+          c.index_mut-slot.result.now c.index_mut-slot.ensures.value c.self.inside.filled c.self.invariant.0.0 c.self.invariant.0.1 (Some w) in (
             (
               set_sorted g.K.Ord.cmp g.met.K.Ord.total c.args.key.now c.self.inside.slots.items c.in-Some.i c.in-Some.ensures c.index_mut-slot.result.now
                   c.index_mut-slot.ensures.value c.self.inside.filled c.self.invariant.0.0 c.self.invariant.0.1 (Some w),
@@ -55,8 +55,8 @@ returns g c =
     c.index_mut-slot.result.now c.index_mut-slot.ensures.value c.self.inside.filled c.self.invariant.0.0 c.self.invariant.0.1 (Some w) ∙
     ap (put g.K.Ord.cmp c.args.key.now (Some w)) c.self.view_is in
     let left : set c.self.inside.slots.items c.in-Some.i c.index_mut-slot.result.now ≡ c.args.self.now =
-    ap (set c.self.inside.slots.items c.in-Some.i) c.index_mut-slot.ensures.value ∙ set-get_or c.self.inside.slots.items c.in-Some.i c.index_mut-slot.result.now ∙
-    c.self.view_is in (
+    ap (set c.self.inside.slots.items c.in-Some.i) c.index_mut-slot.ensures.value ∙
+    set-get_or c.self.inside.slots.items c.in-Some.i c.index_mut-slot.result.now ∙ c.self.view_is in (
       λ t. read_of (ghost_name_of c.as_mut.result) (λ (w : g.row.V.Denot). written w t) (left t),
       record {
         writes_back = tt;
