@@ -25,7 +25,7 @@ loop-i-preserved c =
           subst (IsPart k (take at ps ++ p ∷ [])) (sym w.part-is) (subst (λ n. IsPart n (take at ps ++ p ∷ []) w.with_next-part.result) same
           (w.with_next-part.ensures (take at ps) (omega (arith, taken)) (subst (λ n. IsPart n (take at ps) c.loop-i.part) (sym same) so_far)))
       | else-placement-node w ↦ subst (IsPart k (take at ps ++ p ∷ [])) (sym w.part-is)
-        (not_there (take at ps) p k w.if-placement-node.false c.loop-i.part so_far)
+          (not_there (take at ps) p k w.if-placement-node.false c.loop-i.part so_far)
     ])
 
 pub returns : goal.returns
