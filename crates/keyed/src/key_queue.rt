@@ -16,7 +16,6 @@ use std::marker::Model;
 
 /// Keys in their order, with room for more, which is made before it is needed. Each has a place, a number that rises
 /// along the queue and is given once; a key may stand at several. The places of a key are looked up.
-#[derive(Drop)]
 pub struct KeyQueue {
     alloc: Global,
     /// The place of the first key; the next place where there is none.
@@ -24,6 +23,17 @@ pub struct KeyQueue {
     /// The place that the next key gets.
     next: u64,
     placed: KeyPlaces,
+}
+
+impl Drop for KeyQueue {
+    fn drop(self) {
+        let KeyQueue {
+            alloc: _,
+            first: _,
+            next: _,
+            placed: _placed,
+        } = self;
+    }
 }
 
 impl Model for KeyQueue {

@@ -12,9 +12,14 @@ use ns_types::text::Text;
 use std::alloc::{AllocError, Global};
 
 /// A set of keys: by name, then by number.
-#[derive(Drop)]
 pub struct KeySet {
     numbers: NameTable<NumberTable<()>>,
+}
+
+impl Drop for KeySet {
+    fn drop(self) {
+        let KeySet { numbers: _numbers } = self;
+    }
 }
 
 impl KeySet {

@@ -12,9 +12,14 @@ use std::alloc::{AllocError, Global};
 use std::marker::Model;
 
 /// A table by name: slots that have a row, or are vacant. A look-up among few is a binary search, among many it hashes the name.
-#[derive(Drop)]
 pub struct NameTable<V> {
     slots: Slots<Text, V>,
+}
+
+impl<V: Drop> Drop for NameTable<V> {
+    fn drop(self) {
+        let NameTable { slots: _slots } = self;
+    }
 }
 
 impl<V> Model for NameTable<V> {

@@ -13,9 +13,14 @@ use std::marker::Model;
 
 /// A table by number: slots that have a row, or are vacant. A look-up is a binary search, which begins where the number stands
 /// in a table whose numbers rise by one.
-#[derive(Drop)]
 pub struct NumberTable<V> {
     slots: Slots<u64, V>,
+}
+
+impl<V: Drop> Drop for NumberTable<V> {
+    fn drop(self) {
+        let NumberTable { slots: _slots } = self;
+    }
 }
 
 impl<V> Model for NumberTable<V> {

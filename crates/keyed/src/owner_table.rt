@@ -23,12 +23,20 @@ pub trait Bounded {
 
 /// A table by name of rows with a counter. It remembers whether it ever was given a row whose counter is at its bound, so
 /// it lends none out to be changed where it stands.
-#[derive(Drop)]
 pub struct OwnerTable<V: Bounded> {
     table: NameTable<V>,
     /// It is never taken back, not even where the row goes: an owner whose counter is at its bound can do next to nothing
     /// any more.
     ever_at_bound: bool,
+}
+
+impl<V: Bounded + Drop> Drop for OwnerTable<V> {
+    fn drop(self) {
+        let OwnerTable {
+            table: _table,
+            ever_at_bound: _,
+        } = self;
+    }
 }
 
 impl<V: Bounded> Model for OwnerTable<V> {

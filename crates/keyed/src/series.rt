@@ -5,9 +5,14 @@ use std::alloc::{AllocError, Global};
 use std::marker::Model;
 
 /// Rows in their order, with room for more, which is made before it is needed.
-#[derive(Drop)]
 pub struct Series<T> {
     rows: Vec<T>,
+}
+
+impl<T: Drop> Drop for Series<T> {
+    fn drop(self) {
+        let Series { rows: _rows } = self;
+    }
 }
 
 impl<T> Model for Series<T> {

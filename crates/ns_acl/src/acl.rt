@@ -42,13 +42,22 @@ const ALL_RIGHTS: Rights = Rights {
 };
 
 /// Policies by name and tokens by secret.
-#[derive(Drop)]
 pub struct Acl {
     policies: NameTable<Policy>,
     /// By secret.
     pub(crate) tokens: NameTable<Token>,
     /// The names of the policies that count where there is no secret.
     anonymous: Rows<Text>,
+}
+
+impl Drop for Acl {
+    fn drop(self) {
+        let Acl {
+            policies: _policies,
+            tokens: _tokens,
+            anonymous: _anonymous,
+        } = self;
+    }
 }
 
 impl Model for Acl {

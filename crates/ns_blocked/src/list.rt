@@ -21,11 +21,20 @@ mod release;
 
 /// The blocked evaluations in their order, with room for more, which is made before it is needed. Each has a place, a
 /// number that rises along the list; those that wait for a quota or a pool are looked up.
-#[derive(Drop)]
 pub struct BlockedList {
     alloc: Global,
     index: Index,
     next: u64,
+}
+
+impl Drop for BlockedList {
+    fn drop(self) {
+        let BlockedList {
+            alloc: _,
+            index: _index,
+            next: _,
+        } = self;
+    }
 }
 
 impl Model for BlockedList {

@@ -12,8 +12,16 @@ pub struct ReleasedPool {
 }
 
 /// What a step releases, in no order. What stands twice counts once.
-#[derive(Drop)]
 pub struct Releases {
     pub pools: Rows<ReleasedPool>,
     pub quotas: Rows<Text>,
+}
+
+impl Drop for Releases {
+    fn drop(self) {
+        let Releases {
+            pools: _pools,
+            quotas: _quotas,
+        } = self;
+    }
 }

@@ -19,12 +19,22 @@ use ns_types::text::Text;
 use ns_world::Tables;
 use std::alloc::{AllocError, Global};
 
-#[derive(Drop)]
 pub struct Parts {
     pub acl: Acl,
     pub tables: Tables,
     pub live: Live,
     pub turns: Turns,
+}
+
+impl Drop for Parts {
+    fn drop(self) {
+        let Parts {
+            acl: _acl,
+            tables: _tables,
+            live: _live,
+            turns: _turns,
+        } = self;
+    }
 }
 
 impl Parts {

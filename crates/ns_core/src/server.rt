@@ -31,9 +31,14 @@ use std::alloc::{AllocError, Global};
 use std::marker::Model;
 
 /// A scheduling server. Each call is one step of the model, or is refused and changes nothing.
-#[derive(Drop)]
 pub struct Core {
     pub(crate) parts: Parts,
+}
+
+impl Drop for Core {
+    fn drop(self) {
+        let Core { parts: _parts } = self;
+    }
 }
 
 impl Model for Core {

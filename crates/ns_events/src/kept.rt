@@ -16,9 +16,14 @@ const KEPT: usize = 100;
 
 /// The last hundred events of a namespace, the newest last. All the memory of the ring is taken when it is made. Contracts
 /// see the list.
-#[derive(Drop)]
 pub struct Events {
     ring: HeapCircularBuffer<Event>,
+}
+
+impl Drop for Events {
+    fn drop(self) {
+        let Events { ring: _ring } = self;
+    }
 }
 
 impl Model for Events {

@@ -12,7 +12,6 @@ use std::snapshot::Snapshot;
 
 /// A server, with an entry for each step that it made since its log began. Contracts see it as a history, whose log is a run
 /// from where it began to where it is.
-#[derive(Drop)]
 pub struct Held {
     /// Where the log begins.
     pub(crate) base: Snapshot<Core>,
@@ -20,6 +19,17 @@ pub struct Held {
     pub(crate) log: Vec<Entry>,
     /// How many entries the log has at most.
     pub(crate) limit: u64,
+}
+
+impl Drop for Held {
+    fn drop(self) {
+        let Held {
+            base: _base,
+            core: _core,
+            log: _log,
+            limit: _,
+        } = self;
+    }
 }
 
 impl Model for Held {

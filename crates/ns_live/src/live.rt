@@ -42,12 +42,22 @@ use std::alloc::{AllocError, Global};
 
 /// The keys of all live allocations, by the pool and the node that they are on, with what those of each node take together,
 /// the nodes that are shown, and the names of the namespaces, by the quota that they name, with the total of what they use.
-#[derive(Drop)]
 pub struct Live {
     alloc: Global,
     pools: NameTable<PoolKeys>,
     shown: ShownNodes,
     quotas: QuotaNames,
+}
+
+impl Drop for Live {
+    fn drop(self) {
+        let Live {
+            alloc: _,
+            pools: _pools,
+            shown: _shown,
+            quotas: _quotas,
+        } = self;
+    }
 }
 
 fn is_live_on(row: Option<&Allocation>, pool: &Text, node: &Text) -> bool

@@ -15,10 +15,18 @@ use std::alloc::{AllocError, Global};
 use std::marker::Model;
 
 /// A step with its answer as bytes. Contracts see the pair.
-#[derive(Drop)]
 pub struct Entry {
     step: Step,
     rendered: Rendered,
+}
+
+impl Drop for Entry {
+    fn drop(self) {
+        let Entry {
+            step: _step,
+            rendered: _rendered,
+        } = self;
+    }
 }
 
 impl Model for Entry {

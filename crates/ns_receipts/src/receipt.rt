@@ -4,10 +4,19 @@ use ns_types::reply::Rendered;
 use ns_types::step::Step;
 
 /// That a step was made and answered so, and where in the log its entry stands.
-#[derive(Drop)]
 pub struct Receipt {
     /// How many entries stand before it.
     pub place: u64,
     pub step: Step,
     pub rendered: Rendered,
+}
+
+impl Drop for Receipt {
+    fn drop(self) {
+        let Receipt {
+            place: _,
+            step: _step,
+            rendered: _rendered,
+        } = self;
+    }
 }

@@ -20,13 +20,24 @@ use std::alloc::{AllocError, Global};
 
 /// For which namespaces workers are busy, the ready evaluations by priority, and the blocked ones by what they wait for. Where
 /// they are not known they say nothing, and whoever asks goes through the tables.
-#[derive(Drop)]
 pub struct Turns {
     alloc: Global,
     is_known: bool,
     busy: BusyWorkers,
     ready: ByPriority,
     blocked: BlockedList,
+}
+
+impl Drop for Turns {
+    fn drop(self) {
+        let Turns {
+            alloc: _,
+            is_known: _,
+            busy: _busy,
+            ready: _ready,
+            blocked: _blocked,
+        } = self;
+    }
 }
 
 /// What a step brings: evaluations that are ready from then on, and those that are blocked.

@@ -52,11 +52,20 @@ pub const NO_GRANTS: Grants = Grants {
     deny: false,
 };
 
-#[derive(Drop)]
 pub struct Rule {
     pub kind: RuleKind,
     pub pattern: Pattern,
     pub grants: Grants,
+}
+
+impl Drop for Rule {
+    fn drop(self) {
+        let Rule {
+            kind: _kind,
+            pattern: _pattern,
+            grants: _grants,
+        } = self;
+    }
 }
 
 impl Clone for Rule {
@@ -72,12 +81,21 @@ impl Clone for Rule {
 }
 
 /// By name.
-#[derive(Drop)]
 pub struct Policy {
     pub description: Text,
     /// The text of the rules, as given.
     pub text: Text,
     pub rules: Rows<Rule>,
+}
+
+impl Drop for Policy {
+    fn drop(self) {
+        let Policy {
+            description: _description,
+            text: _text,
+            rules: _rules,
+        } = self;
+    }
 }
 
 impl Clone for Policy {
@@ -99,13 +117,23 @@ pub enum TokenKind {
 }
 
 /// By secret.
-#[derive(Drop)]
 pub struct Token {
     /// The text of an UUID, in lower case with hyphens.
     pub accessor: Text,
     pub name: Text,
     pub kind: TokenKind,
     pub policies: Rows<Text>,
+}
+
+impl Drop for Token {
+    fn drop(self) {
+        let Token {
+            accessor: _accessor,
+            name: _name,
+            kind: _,
+            policies: _policies,
+        } = self;
+    }
 }
 
 /// What a secret may do in a namespace.

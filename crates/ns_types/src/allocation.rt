@@ -23,7 +23,6 @@ pub enum ClientStatus {
 }
 
 /// A row of a namespace, by number.
-#[derive(Drop)]
 pub struct Allocation {
     pub job: Text,
     pub group: Text,
@@ -39,6 +38,26 @@ pub struct Allocation {
     pub client: ClientStatus,
     pub create_index: u64,
     pub modify_index: u64,
+}
+
+impl Drop for Allocation {
+    fn drop(self) {
+        let Allocation {
+            job: _job,
+            group: _group,
+            evaluation: _,
+            pool: _pool,
+            node: _node,
+            place: _,
+            size: _,
+            priority: _,
+            job_modify_index: _,
+            desired: _,
+            client: _,
+            create_index: _,
+            modify_index: _,
+        } = self;
+    }
 }
 
 impl Allocation {

@@ -31,7 +31,6 @@ pub enum Trigger {
 }
 
 /// A row of a namespace, by number.
-#[derive(Drop)]
 pub struct Evaluation {
     pub job: Text,
     pub kind: JobKind,
@@ -52,6 +51,27 @@ pub struct Evaluation {
     pub nacks: u64,
     pub create_index: u64,
     pub modify_index: u64,
+}
+
+impl Drop for Evaluation {
+    fn drop(self) {
+        let Evaluation {
+            job: _job,
+            kind: _,
+            priority: _,
+            pool: _pool,
+            trigger: _trigger,
+            status: _,
+            previous: _previous,
+            follower: _follower,
+            quota: _quota,
+            escapes: _,
+            infeasible: _infeasible,
+            nacks: _,
+            create_index: _,
+            modify_index: _,
+        } = self;
+    }
 }
 
 impl Clone for Evaluation {

@@ -10,8 +10,16 @@ pub enum Topic {
     AllocationUpdated(u64),
 }
 
-#[derive(Drop)]
 pub struct Event {
     pub index: u64,
     pub topic: Topic,
+}
+
+impl Drop for Event {
+    fn drop(self) {
+        let Event {
+            index: _,
+            topic: _topic,
+        } = self;
+    }
 }

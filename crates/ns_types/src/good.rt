@@ -7,9 +7,14 @@ use crate::step::{AdminCommand, AskCommand, NodeCommand};
 use std::marker::Model;
 
 /// What is asked in one namespace.
-#[derive(Drop)]
 pub struct GoodAsk {
     command: AskCommand,
+}
+
+impl Drop for GoodAsk {
+    fn drop(self) {
+        let GoodAsk { command: _command } = self;
+    }
 }
 
 impl Model for GoodAsk {
@@ -41,9 +46,14 @@ impl GoodAsk {
 }
 
 /// What administrators ask.
-#[derive(Drop)]
 pub struct GoodAdmin {
     command: AdminCommand,
+}
+
+impl Drop for GoodAdmin {
+    fn drop(self) {
+        let GoodAdmin { command: _command } = self;
+    }
 }
 
 impl Model for GoodAdmin {
@@ -75,9 +85,14 @@ impl GoodAdmin {
 }
 
 /// What is told of one pool and its nodes.
-#[derive(Drop)]
 pub struct GoodTelling {
     command: NodeCommand,
+}
+
+impl Drop for GoodTelling {
+    fn drop(self) {
+        let GoodTelling { command: _command } = self;
+    }
 }
 
 impl Model for GoodTelling {

@@ -30,11 +30,20 @@ impl Clone for Task {
     }
 }
 
-#[derive(Drop)]
 pub struct Group {
     pub name: Text,
     pub count: u64,
     pub tasks: Rows<Task>,
+}
+
+impl Drop for Group {
+    fn drop(self) {
+        let Group {
+            name: _name,
+            count: _,
+            tasks: _tasks,
+        } = self;
+    }
 }
 
 impl Clone for Group {
@@ -75,11 +84,20 @@ impl Clone for Target {
     }
 }
 
-#[derive(Drop)]
 pub struct Constraint {
     pub target: Target,
     pub operand: Operand,
     pub value: Text,
+}
+
+impl Drop for Constraint {
+    fn drop(self) {
+        let Constraint {
+            target: _target,
+            operand: _operand,
+            value: _value,
+        } = self;
+    }
 }
 
 impl Clone for Constraint {
@@ -95,13 +113,24 @@ impl Clone for Constraint {
 }
 
 /// What a registration says of a job, with its pool filled in.
-#[derive(Drop)]
 pub struct Document {
     pub kind: JobKind,
     pub priority: u64,
     pub pool: Text,
     pub constraints: Rows<Constraint>,
     pub groups: Rows<Group>,
+}
+
+impl Drop for Document {
+    fn drop(self) {
+        let Document {
+            kind: _,
+            priority: _,
+            pool: _pool,
+            constraints: _constraints,
+            groups: _groups,
+        } = self;
+    }
 }
 
 impl Clone for Document {
@@ -119,13 +148,24 @@ impl Clone for Document {
 }
 
 /// A row of a namespace, by the job's id.
-#[derive(Drop)]
 pub struct Job {
     pub document: Document,
     pub stop: bool,
     pub version: u64,
     pub create_index: u64,
     pub modify_index: u64,
+}
+
+impl Drop for Job {
+    fn drop(self) {
+        let Job {
+            document: _document,
+            stop: _,
+            version: _,
+            create_index: _,
+            modify_index: _,
+        } = self;
+    }
 }
 
 impl Clone for Job {
@@ -143,7 +183,6 @@ impl Clone for Job {
 }
 
 /// A registration as it is asked. Without a pool it is the namespace's default.
-#[derive(Drop)]
 pub struct Registration {
     pub id: Text,
     pub kind: JobKind,
@@ -153,4 +192,18 @@ pub struct Registration {
     pub groups: Rows<Group>,
     /// The index that is demanded of the stored job. Zero: there is no such job.
     pub enforced: Option<u64>,
+}
+
+impl Drop for Registration {
+    fn drop(self) {
+        let Registration {
+            id: _id,
+            kind: _,
+            priority: _,
+            pool: _pool,
+            constraints: _constraints,
+            groups: _groups,
+            enforced: _enforced,
+        } = self;
+    }
 }

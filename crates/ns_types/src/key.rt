@@ -7,10 +7,19 @@ use std::alloc::AllocError;
 use std::marker::Model;
 
 /// An entry of a list of evaluations.
-#[derive(Debug, Drop)]
+#[derive(Debug)]
 pub struct EvalKey {
     namespace: Text,
     number: u64,
+}
+
+impl Drop for EvalKey {
+    fn drop(self) {
+        let EvalKey {
+            namespace: _namespace,
+            number: _,
+        } = self;
+    }
 }
 
 impl Model for EvalKey {

@@ -7,10 +7,18 @@ use crate::rows::Rows;
 use crate::text::Text;
 use std::alloc::AllocError;
 
-#[derive(Drop)]
 pub struct Attribute {
     pub key: Text,
     pub value: Text,
+}
+
+impl Drop for Attribute {
+    fn drop(self) {
+        let Attribute {
+            key: _key,
+            value: _value,
+        } = self;
+    }
 }
 
 impl Clone for Attribute {
@@ -25,11 +33,19 @@ impl Clone for Attribute {
 }
 
 /// What constraints that do not escape can tell of a node: its class and the attributes that are not unique.
-#[derive(Drop)]
 pub struct Class {
     pub name: Text,
     /// By key, each key once.
     pub attributes: Rows<Attribute>,
+}
+
+impl Drop for Class {
+    fn drop(self) {
+        let Class {
+            name: _name,
+            attributes: _attributes,
+        } = self;
+    }
 }
 
 impl Clone for Class {
@@ -50,7 +66,6 @@ pub enum NodeStatus {
 }
 
 /// What a registration says of a node.
-#[derive(Drop)]
 pub struct Offer {
     pub class: Text,
     /// By key, each key once.
@@ -58,12 +73,32 @@ pub struct Offer {
     pub capacity: Resources,
 }
 
+impl Drop for Offer {
+    fn drop(self) {
+        let Offer {
+            class: _class,
+            attributes: _attributes,
+            capacity: _,
+        } = self;
+    }
+}
+
 /// A row of a pool, by the node's name.
-#[derive(Drop)]
 pub struct Node {
     pub offer: Offer,
     pub status: NodeStatus,
     pub eligible: bool,
     /// Counts the placements on it.
     pub places: u64,
+}
+
+impl Drop for Node {
+    fn drop(self) {
+        let Node {
+            offer: _offer,
+            status: _,
+            eligible: _,
+            places: _,
+        } = self;
+    }
 }

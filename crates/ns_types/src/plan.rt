@@ -4,20 +4,39 @@ use crate::resources::Resources;
 use crate::rows::Rows;
 use crate::text::Text;
 
-#[derive(Drop)]
 pub struct Eviction {
     pub namespace: Text,
     pub number: u64,
     pub priority: u64,
 }
 
+impl Drop for Eviction {
+    fn drop(self) {
+        let Eviction {
+            namespace: _namespace,
+            number: _,
+            priority: _,
+        } = self;
+    }
+}
+
 /// One allocation of a group of the job, by the places of the group in the job and of the node in the snapshot.
-#[derive(Drop)]
 pub struct Placement {
     pub group: u64,
     pub node: u64,
     pub size: Resources,
     pub evictions: Rows<Eviction>,
+}
+
+impl Drop for Placement {
+    fn drop(self) {
+        let Placement {
+            group: _,
+            node: _,
+            size: _,
+            evictions: _evictions,
+        } = self;
+    }
 }
 
 /// What is placed, and what kept the rest from being placed.
@@ -28,10 +47,18 @@ pub struct Placing {
     pub class_limited: bool,
 }
 
-#[derive(Drop)]
 pub struct Plan {
     pub stops: Rows<u64>,
     pub placing: Placing,
+}
+
+impl Drop for Plan {
+    fn drop(self) {
+        let Plan {
+            stops: _stops,
+            placing: _placing,
+        } = self;
+    }
 }
 
 /// A missing allocation of a group of the job.

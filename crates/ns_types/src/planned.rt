@@ -10,10 +10,18 @@ use std::alloc::AllocError;
 use std::marker::Model;
 
 /// A snapshot with its plan. Contracts see the snapshot, which determines the plan.
-#[derive(Drop)]
 pub struct Planned {
     snapshot: Shared<Snapshot>,
     made: Shared<Plan>,
+}
+
+impl Drop for Planned {
+    fn drop(self) {
+        let Planned {
+            snapshot: _snapshot,
+            made: _made,
+        } = self;
+    }
 }
 
 impl Model for Planned {

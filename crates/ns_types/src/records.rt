@@ -7,13 +7,24 @@ use crate::rows::Rows;
 use crate::text::Text;
 use std::alloc::AllocError;
 
-#[derive(Drop)]
 pub struct Namespace {
     pub description: Text,
     pub quota: Option<Text>,
     pub default_pool: Text,
     pub allowed: Option<Rows<Text>>,
     pub denied: Rows<Text>,
+}
+
+impl Drop for Namespace {
+    fn drop(self) {
+        let Namespace {
+            description: _description,
+            quota: _quota,
+            default_pool: _default_pool,
+            allowed: _allowed,
+            denied: _denied,
+        } = self;
+    }
 }
 
 impl Clone for Namespace {
@@ -30,11 +41,19 @@ impl Clone for Namespace {
     }
 }
 
-#[derive(Drop)]
 pub struct Quota {
     pub description: Text,
     /// No entry is as one without limits.
     pub limits: Option<Limits>,
+}
+
+impl Drop for Quota {
+    fn drop(self) {
+        let Quota {
+            description: _description,
+            limits: _limits,
+        } = self;
+    }
 }
 
 impl Clone for Quota {
@@ -48,9 +67,16 @@ impl Clone for Quota {
     }
 }
 
-#[derive(Drop)]
 pub struct Pool {
     pub description: Text,
+}
+
+impl Drop for Pool {
+    fn drop(self) {
+        let Pool {
+            description: _description,
+        } = self;
+    }
 }
 
 impl Clone for Pool {

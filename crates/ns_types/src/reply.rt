@@ -84,7 +84,6 @@ pub struct TokenShown {
 }
 
 /// What a step says beside the index.
-#[derive(Drop)]
 pub enum Content {
     /// The number of the evaluation that was made, its index, and the job's.
     Registered(u64, u64, u64),
@@ -120,11 +119,52 @@ pub enum Content {
     Nacked(Status),
 }
 
-#[derive(Drop)]
+impl Drop for Content {
+    fn drop(self) {
+        match self {
+            Content::Registered(_, _, _) => {}
+            Content::Stopped(_, _) => {}
+            Content::Job(_shown) => {}
+            Content::Jobs(_shown) => {}
+            Content::Evaluation(_shown) => {}
+            Content::Evaluations(_shown) => {}
+            Content::Allocation(_shown) => {}
+            Content::Allocations(_shown) => {}
+            Content::Namespace(_shown) => {}
+            Content::Namespaces(_shown) => {}
+            Content::Quota(_shown) => {}
+            Content::Quotas(_shown) => {}
+            Content::Usage(_quota, _) => {}
+            Content::Pool(_shown) => {}
+            Content::Pools(_shown) => {}
+            Content::Nodes(_shown) => {}
+            Content::Policy(_shown) => {}
+            Content::Token(_shown) => {}
+            Content::Events(_namespace, _events) => {}
+            Content::Written => {}
+            Content::Took(_) => {}
+            Content::Snapped(_) => {}
+            Content::Queued(_) => {}
+            Content::Applied(_made, _dropped) => {}
+            Content::Finished(_, _) => {}
+            Content::Nacked(_) => {}
+        }
+    }
+}
+
 pub struct Reply {
     /// The namespace's index after the step, for what was asked in one.
     pub index: Option<u64>,
     pub content: Content,
+}
+
+impl Drop for Reply {
+    fn drop(self) {
+        let Reply {
+            index: _index,
+            content: _content,
+        } = self;
+    }
 }
 
 /// An answer as bytes.

@@ -5,9 +5,15 @@ ghost use Rattle.std.specs.Prelude.{◌≡◌, ◌++◌, ◌∷◌, [], IfOk, On
 use std::alloc::{AllocError, Global};
 use std::marker::Model;
 
-#[derive(Debug, Drop)]
+#[derive(Debug)]
 pub struct Rows<T> {
     items: Vec<T>,
+}
+
+impl<T: Drop> Drop for Rows<T> {
+    fn drop(self) {
+        let Rows { items: _items } = self;
+    }
 }
 
 impl<T> Model for Rows<T> {
@@ -36,7 +42,8 @@ impl<T> Rows<T> {
     pub fn into_vec(self) -> Vec<T>
         ensures { result.items ≡ self }
     {
-        self.items
+        let Rows { items } = self;
+        items
     }
 
     pub fn as_slice(&self) -> &[T]

@@ -7,9 +7,14 @@ use std::marker::Model;
 use std::sync::Arc;
 
 /// A value that several owners read and none changes. Contracts see the value.
-#[derive(Drop)]
 pub struct Shared<T> {
     value: Arc<T, Global>,
+}
+
+impl<T: Drop> Drop for Shared<T> {
+    fn drop(self) {
+        let Shared { value: _value } = self;
+    }
 }
 
 impl<T> Model for Shared<T> {

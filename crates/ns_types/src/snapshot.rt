@@ -10,14 +10,21 @@ use crate::shared::Shared;
 use crate::text::Text;
 
 /// An allocation of the evaluation's own job that is live or done.
-#[derive(Drop)]
 pub struct OwnAllocation {
     pub number: u64,
     pub row: Allocation,
 }
 
+impl Drop for OwnAllocation {
+    fn drop(self) {
+        let OwnAllocation {
+            number: _,
+            row: _row,
+        } = self;
+    }
+}
+
 /// A live allocation of any namespace, as a node holds it. Those of one namespace share its name.
-#[derive(Drop)]
 pub struct LiveAllocation {
     pub namespace: Shared<Text>,
     pub number: u64,
@@ -25,16 +32,35 @@ pub struct LiveAllocation {
     pub size: Resources,
 }
 
+impl Drop for LiveAllocation {
+    fn drop(self) {
+        let LiveAllocation {
+            namespace: _namespace,
+            number: _,
+            priority: _,
+            size: _,
+        } = self;
+    }
+}
+
 /// A node with its live allocations, in the order in which they were placed on it.
-#[derive(Drop)]
 pub struct PoolNode {
     pub name: Text,
     pub row: Node,
     pub live: Rows<LiveAllocation>,
 }
 
+impl Drop for PoolNode {
+    fn drop(self) {
+        let PoolNode {
+            name: _name,
+            row: _row,
+            live: _live,
+        } = self;
+    }
+}
+
 /// The namespace's quota, with the namespaces that name it.
-#[derive(Drop)]
 pub struct QuotaSeen {
     pub name: Text,
     pub limits: Limits,
@@ -43,7 +69,18 @@ pub struct QuotaSeen {
     pub namespaces: Rows<Text>,
 }
 
-#[derive(Drop)]
+impl Drop for QuotaSeen {
+    fn drop(self) {
+        let QuotaSeen {
+            name: _name,
+            limits: _,
+            used: _,
+            release: _,
+            namespaces: _namespaces,
+        } = self;
+    }
+}
+
 pub struct Snapshot {
     pub namespace: Text,
     pub number: u64,
@@ -57,4 +94,20 @@ pub struct Snapshot {
     /// The number of the pool's last release.
     pub release: u64,
     pub quota: Option<QuotaSeen>,
+}
+
+impl Drop for Snapshot {
+    fn drop(self) {
+        let Snapshot {
+            namespace: _namespace,
+            number: _,
+            evaluation: _evaluation,
+            job: _job,
+            own: _own,
+            pool: _pool,
+            nodes: _nodes,
+            release: _,
+            quota: _quota,
+        } = self;
+    }
 }

@@ -83,7 +83,6 @@ pub enum NodeCommand {
 }
 
 /// One event of the server. A worker's step names the worker and the namespace that it works for.
-#[derive(Drop)]
 pub enum Step {
     Ask(Text, Option<Text>, GoodAsk),
     Admin(Option<Text>, GoodAdmin),
@@ -94,4 +93,20 @@ pub enum Step {
     Apply(u64, Text),
     Finish(u64, Text),
     Nack(u64, Text),
+}
+
+impl Drop for Step {
+    fn drop(self) {
+        match self {
+            Step::Ask(_namespace, _secret, _command) => {}
+            Step::Admin(_secret, _command) => {}
+            Step::Node(_pool, _secret, _command) => {}
+            Step::Dequeue(_, _namespace, _) => {}
+            Step::Snap(_, _namespace) => {}
+            Step::Submit(_, _namespace) => {}
+            Step::Apply(_, _namespace) => {}
+            Step::Finish(_, _namespace) => {}
+            Step::Nack(_, _namespace) => {}
+        }
+    }
 }

@@ -17,9 +17,15 @@ use std::hash::{Hash, Hasher};
 use std::marker::Model;
 
 /// A text of a row, compared by its bytes.
-#[derive(Debug, Drop)]
+#[derive(Debug)]
 pub struct Text {
     text: String,
+}
+
+impl Drop for Text {
+    fn drop(self) {
+        let Text { text: _text } = self;
+    }
 }
 
 impl Model for Text {

@@ -23,13 +23,24 @@ pub enum Phase {
 
 /// A row of a namespace, by the worker's number. Contracts see the model's `Worker`. From Submit on it has the plan of its
 /// snapshot, until it looks again.
-#[derive(Drop)]
 pub struct Worker {
     evaluation: u64,
     phase: Phase,
     tries: u64,
     kept: Option<Shared<Snapshot>>,
     made: Option<Planned>,
+}
+
+impl Drop for Worker {
+    fn drop(self) {
+        let Worker {
+            evaluation: _,
+            phase: _phase,
+            tries: _,
+            kept: _kept,
+            made: _made,
+        } = self;
+    }
 }
 
 impl Model for Worker {

@@ -21,13 +21,23 @@ use std::marker::Model;
 
 /// Allocations by number, with the numbers of each job, and with what the live ones take together, which is counted as
 /// rows change.
-#[derive(Drop)]
 pub struct AllocationTable {
     alloc: Global,
     slots: NumberTable<Allocation>,
     jobs: KeySet,
     /// Each sum is that of the live rows, without what is past 64 bits.
     live: Resources,
+}
+
+impl Drop for AllocationTable {
+    fn drop(self) {
+        let AllocationTable {
+            alloc: _,
+            slots: _slots,
+            jobs: _jobs,
+            live: _,
+        } = self;
+    }
 }
 
 impl Model for AllocationTable {

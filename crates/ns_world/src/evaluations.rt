@@ -15,11 +15,20 @@ use std::alloc::{AllocError, Global};
 use std::marker::Model;
 
 /// Evaluations by number, with the numbers of each job.
-#[derive(Drop)]
 pub struct EvaluationTable {
     alloc: Global,
     slots: NumberTable<Evaluation>,
     jobs: KeySet,
+}
+
+impl Drop for EvaluationTable {
+    fn drop(self) {
+        let EvaluationTable {
+            alloc: _,
+            slots: _slots,
+            jobs: _jobs,
+        } = self;
+    }
 }
 
 impl Model for EvaluationTable {

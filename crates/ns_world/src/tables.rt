@@ -20,7 +20,6 @@ use ns_types::worker::Worker;
 use std::alloc::Global;
 
 /// What a namespace owns.
-#[derive(Drop)]
 pub struct TenantRows {
     pub namespace: Namespace,
     pub index: u64,
@@ -35,8 +34,23 @@ pub struct TenantRows {
     pub events: Events,
 }
 
+impl Drop for TenantRows {
+    fn drop(self) {
+        let TenantRows {
+            namespace: _namespace,
+            index: _,
+            evaluation_number: _,
+            allocation_number: _,
+            jobs: _jobs,
+            evaluations: _evaluations,
+            allocations: _allocations,
+            workers: _workers,
+            events: _events,
+        } = self;
+    }
+}
+
 /// What a pool owns.
-#[derive(Drop)]
 pub struct PoolRows {
     pub pool: Pool,
     /// The number of its last release.
@@ -46,16 +60,34 @@ pub struct PoolRows {
     pub nodes: NameTable<Node>,
 }
 
+impl Drop for PoolRows {
+    fn drop(self) {
+        let PoolRows {
+            pool: _pool,
+            release: _,
+            classes: _classes,
+            nodes: _nodes,
+        } = self;
+    }
+}
+
 /// What a quota owns.
-#[derive(Drop)]
 pub struct QuotaRows {
     pub quota: Quota,
     /// The number of its last release.
     pub release: u64,
 }
 
+impl Drop for QuotaRows {
+    fn drop(self) {
+        let QuotaRows {
+            quota: _quota,
+            release: _,
+        } = self;
+    }
+}
+
 /// Namespaces, pools and quotas, each by name with what it owns, and the three ordered lists.
-#[derive(Drop)]
 pub struct Tables {
     pub alloc: Global,
     pub tenants: OwnerTable<TenantRows>,
@@ -64,6 +96,20 @@ pub struct Tables {
     pub ready: KeyQueue,
     pub plans: KeyQueue,
     pub blocked: KeyQueue,
+}
+
+impl Drop for Tables {
+    fn drop(self) {
+        let Tables {
+            alloc: _,
+            tenants: _tenants,
+            pools: _pools,
+            quotas: _quotas,
+            ready: _ready,
+            plans: _plans,
+            blocked: _blocked,
+        } = self;
+    }
 }
 
 impl Tables {
