@@ -7,7 +7,6 @@ ghost use Rattle.ns_answers.specs.Rooms.{HasRoom, room_of};
 ghost use Rattle.ns_held.specs.Noting.{Begins, noted};
 
 use ns_answers::Room;
-use ns_drops::drop_step;
 use ns_log::Entry;
 use ns_types::refusal::Refusal;
 use ns_types::reply::Reply;
@@ -37,7 +36,7 @@ pub fn with_room(alloc: Global, step: Step, row: Option<&Worker>) -> Result<(Ste
     match Room::for_step(alloc, &step, row) {
         Ok(room) => Ok((step, room)),
         Err(_) => {
-            drop_step(step);
+            drop(step);
             Err(Refusal::Memory)
         }
     }
@@ -71,7 +70,7 @@ pub fn note(log: &mut Vec<Entry>, step: Step, room: Room, answer: &Result<Reply,
             log.push_reserved(Entry::new(step, room.refuse(*refusal)));
         }
         Err(_) => {
-            drop_step(step);
+            drop(step);
             drop(room);
         }
     }

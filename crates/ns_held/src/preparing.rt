@@ -7,7 +7,6 @@ ghost use Rattle.ns_held.specs.Noting.{Begins};
 
 use crate::noting::{begin, with_room};
 use ns_answers::Room;
-use ns_drops::drop_step;
 use ns_log::Entry;
 use ns_types::refusal::Refusal;
 use ns_types::step::Step;
@@ -54,7 +53,7 @@ pub(crate) fn prepare_write(
     match begin(log, limit) {
         Ok(()) => with_room(alloc, step, None),
         Err(refusal) => {
-            drop_step(step);
+            drop(step);
             Err(refusal)
         }
     }

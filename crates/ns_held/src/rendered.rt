@@ -15,7 +15,6 @@ use crate::noting::begin;
 use crate::preparing::prepare_write;
 use crate::rendering::{given_again, rendered_anew, rendered_in, response};
 use ns_answers::{Room, may_change};
-use ns_drops::{drop_answer, drop_step};
 use ns_log::Entry;
 use ns_types::refusal::Refusal;
 use ns_types::reply::{Rendered, Reply, Response};
@@ -63,7 +62,7 @@ fn with_rooms(
     match with_copies(alloc, entry) {
         Ok(rooms) => Ok((step, rooms)),
         Err(_) => {
-            drop_step(step);
+            drop(step);
             Err(Refusal::Memory)
         }
     }
@@ -97,7 +96,7 @@ fn note_given(
             Ok((receipt, response(answer, again)))
         }
         None => {
-            drop_step(step);
+            drop(step);
             drop(receipt);
             drop(again);
             Err(Refusal::Memory)
@@ -139,7 +138,7 @@ fn give(
             Ok(given)
         }
         Err(_) => {
-            drop_step(step);
+            drop(step);
             Err(Refusal::Memory)
         }
     }
@@ -161,7 +160,7 @@ impl Held {
         let (step, rooms) = with_rooms(alloc, log, *limit, step)?;
         let answer = core.take(&step);
         let given = note_given(log, step, rooms, &answer);
-        drop_answer(answer);
+        drop(answer);
         given
     }
 
@@ -178,12 +177,12 @@ impl Held {
             ..
         } = self;
         if let Err(refusal) = begin(log, *limit) {
-            drop_step(step);
+            drop(step);
             return Err(refusal);
         }
         let answer = core.take(&step);
         let given = give(log, alloc, step, &answer);
-        drop_answer(answer);
+        drop(answer);
         given
     }
 

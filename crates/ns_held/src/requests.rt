@@ -12,7 +12,6 @@ use crate::held::Held;
 use crate::noting::{begin, is_of_steps, note};
 use crate::preparing::prepare_write;
 use ns_answers::{may_change, refused, render};
-use ns_drops::{drop_answer, drop_step};
 use ns_log::Entry;
 use ns_types::refusal::Refusal;
 use ns_types::reply::{Rendered, Reply};
@@ -37,7 +36,7 @@ fn note_rendered(
             Ok(())
         }
         Err(_) => {
-            drop_step(step);
+            drop(step);
             Err(Refusal::Memory)
         }
     }
@@ -61,7 +60,7 @@ fn note_read(
             note_rendered(log, step, refused(alloc, *refusal))
         }
         Err(_) => {
-            drop_step(step);
+            drop(step);
             Ok(())
         }
     }
@@ -99,12 +98,12 @@ impl Held {
             ..
         } = self;
         if let Err(refusal) = begin(log, *limit) {
-            drop_step(step);
+            drop(step);
             return Err(refusal);
         }
         let answer = core.take(&step);
         if let Err(refusal) = note_read(log, alloc, step, &answer) {
-            drop_answer(answer);
+            drop(answer);
             return Err(refusal);
         }
         answer

@@ -13,7 +13,6 @@ use crate::held::Held;
 use crate::noting::note;
 use crate::preparing::prepare_work;
 use ns_answers::Room;
-use ns_drops::{drop_answer, drop_planned, snapshot_number};
 use ns_log::Entry;
 use ns_types::planned::Planned;
 use ns_types::refusal::Refusal;
@@ -32,7 +31,7 @@ pub fn snapped(seen: &Result<Shared<Snapshot>, Refusal>) -> Result<Reply, Refusa
     match seen {
         Ok(seen) => Ok(Reply {
             index: None,
-            content: Content::Snapped(snapshot_number(seen)),
+            content: Content::Snapped(seen.get().number),
         }),
         Err(refusal) => Err(*refusal),
     }
@@ -51,7 +50,7 @@ fn note_snapped(
 {
     let answer = snapped(seen);
     note(log, step, room, &answer);
-    drop_answer(answer);
+    drop(answer);
 }
 
 impl Held {
@@ -131,7 +130,7 @@ impl Held {
         let (step, room) = match prepared {
             Ok(made) => made,
             Err(refusal) => {
-                drop_planned(planned);
+                drop(planned);
                 return Err(refusal);
             }
         };

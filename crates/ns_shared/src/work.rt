@@ -14,7 +14,6 @@ ghost use Rattle.ns_shared.specs.Receiving.{Receives, count, received};
 use crate::ended::Ended;
 use crate::ready::{Ready, prepare_work, receive_answer};
 use crate::seat::Seat;
-use ns_drops::{drop_answer, drop_planned};
 use ns_held::snapped;
 use ns_log::Entry;
 use ns_receipts::Receipt;
@@ -54,7 +53,7 @@ fn receive_snapped<L: Ledger>(
 {
     let answer = snapped(seen);
     receive_answer(receipts, share, book, log, ready, &answer);
-    drop_answer(answer);
+    drop(answer);
 }
 
 impl<L: Ledger> Ended<L> {
@@ -137,7 +136,7 @@ impl<L: Ledger> Ended<L> {
         let ready = match prepared {
             Ok(ready) => ready,
             Err(refusal) => {
-                drop_planned(planned);
+                drop(planned);
                 return Err(refusal);
             }
         };

@@ -4,7 +4,6 @@ use ns_api::Takes;
 use ns_asked::Draws;
 use ns_chains::Server;
 use ns_core::Core;
-use ns_drops::drop_step;
 use ns_types::refusal::Refusal;
 use ns_types::reply::Reply;
 use ns_types::step::Step;
@@ -28,7 +27,7 @@ impl Takes for Lent<'_> {
 
     fn take(&mut self, _alloc: Global, step: Step) -> Result<Reply, Refusal> {
         let answer = self.core.take(&step);
-        drop_step(step);
+        drop(step);
         answer
     }
 }

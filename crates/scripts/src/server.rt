@@ -8,7 +8,6 @@ use crate::taken::Snapshots;
 use anyhow::Context;
 use ns_api::{Api, NoFollower};
 use ns_core::Core;
-use ns_drops::snapshot_number;
 use ns_http::{Answer, Request};
 use ns_types::name::Secret;
 use ns_types::refusal::Refusal;
@@ -107,7 +106,7 @@ impl<'a> Server<'a> {
     fn snap<W: Write>(&mut self, worker: u64, namespace: &Text, out: &mut W) -> anyhow::Result<()> {
         match snapped(&mut self.core, worker, namespace) {
             Ok(snapshot) => {
-                let written = write_snapped(out, snapshot_number(&snapshot));
+                let written = write_snapped(out, snapshot.get().number);
                 let kept = self.seen.keep(worker, snapshot);
                 written?;
                 Ok(kept?)

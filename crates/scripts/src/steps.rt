@@ -2,7 +2,6 @@
 
 use crate::answers::write_reply;
 use ns_core::Core;
-use ns_drops::{drop_answer, drop_planned};
 use ns_schedule::plan;
 use ns_types::refusal::Refusal;
 use ns_types::reply::Reply;
@@ -34,7 +33,7 @@ fn finished(
 ) -> Result<Reply, Refusal> {
     let planned = plan(alloc, seen.share()?)?;
     let answer = core.finish(worker, namespace, &planned);
-    drop_planned(planned);
+    drop(planned);
     answer
 }
 
@@ -80,7 +79,7 @@ impl Step<'_> {
     ) -> anyhow::Result<()> {
         let answer = self.repeat(core, alloc, worker, namespace);
         let written = write_reply(out, &answer);
-        drop_answer(answer);
+        drop(answer);
         written
     }
 }
