@@ -18,9 +18,16 @@ use ns_types::text::Text;
 use std::marker::Model;
 
 /// A new token within the limits, before its two texts are drawn. Contracts see its document.
-#[derive(Drop)]
 pub struct GoodToken {
     document: TokenDocument,
+}
+
+impl Drop for GoodToken {
+    fn drop(self) {
+        let GoodToken {
+            document: _document,
+        } = self;
+    }
 }
 
 impl Model for GoodToken {

@@ -15,12 +15,22 @@ use ns_types::reply::Response;
 use std::alloc::{AllocError, Global};
 
 /// Answers requests over what takes their steps, with the random bits that new tokens need.
-#[derive(Drop)]
 pub struct Client<S, D> {
     seated: S,
     draws: D,
     routes: Routes,
     alloc: Global,
+}
+
+impl<S: Drop, D: Drop> Drop for Client<S, D> {
+    fn drop(self) {
+        let Client {
+            seated: _seated,
+            draws: _draws,
+            routes: _routes,
+            alloc: _,
+        } = self;
+    }
 }
 
 impl<S: Seated, D: Draws> Client<S, D> {
@@ -47,7 +57,12 @@ impl<S: Seated, D: Draws> Client<S, D> {
         D: Drop,
         ensures { result ≡ self.seated }
     {
-        let Client { seated, .. } = self;
+        let Client {
+            seated,
+            draws: _draws,
+            routes: _routes,
+            alloc: _,
+        } = self;
         seated
     }
 

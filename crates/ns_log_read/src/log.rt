@@ -13,10 +13,18 @@ use ns_types::rows::Rows;
 use std::alloc::Global;
 
 /// A log: the secret that its server began with, and its entries in their order.
-#[derive(Drop)]
 pub struct Log {
     pub secret: Secret,
     pub entries: Rows<Entry>,
+}
+
+impl Drop for Log {
+    fn drop(self) {
+        let Log {
+            secret: _secret,
+            entries: _entries,
+        } = self;
+    }
 }
 
 /// The entries of the lines after the first. Those are counted from the second of the log on.

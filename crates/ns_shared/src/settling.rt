@@ -16,9 +16,14 @@ use std::sync::ledger::{Ledger, Share};
 
 /// A server with its log, with which the receipts of seats have settled. `Ended::settle` alone makes one. Contracts see it
 /// as a history.
-#[derive(Drop)]
 pub struct Settled {
     held: Held,
+}
+
+impl Drop for Settled {
+    fn drop(self) {
+        let Settled { held: _held } = self;
+    }
 }
 
 impl Model for Settled {

@@ -28,10 +28,18 @@ use std::sync::{Condvar, Mutex, Wait};
 
 /// A server with its log, which threads share. Each call for a step makes at most that step, and adds its receipt to the
 /// caller's seat.
-#[derive(Drop)]
 pub struct Shared<L: Ledger> {
     desk: Mutex<Desk<L>>,
     changed: Condvar,
+}
+
+impl<L: Ledger> Drop for Shared<L> {
+    fn drop(self) {
+        let Shared {
+            desk: _desk,
+            changed: _changed,
+        } = self;
+    }
 }
 
 impl<L: Ledger> Shared<L> {
@@ -256,7 +264,10 @@ impl<L: Ledger> Shared<L> {
 
     /// The server with its log and the book, out of the lock.
     pub fn end(self) -> Ended<L> {
-        let Shared { desk, changed: _ } = self;
+        let Shared {
+            desk,
+            changed: _changed,
+        } = self;
         let Desk { kept, .. } = desk.into_inner();
         kept
     }
