@@ -1,5 +1,5 @@
 -- What is known of the keys of slots, as the slots change, and where a key stands by it.
-use Rattle.std.specs.Prelude.{◌≡◌, ℕ, zero, suc, ◌<◌, ◌≤◌, Bool, true, false, cond, T, List, [], ◌∷◌, length, is_some, Option, Some, None, refl}
+use Rattle.std.specs.Prelude.{◌≡◌, ℕ, zero, suc, ◌<◌, ◌≤◌, Bool, false, cond, T, List, [], ◌∷◌, length, is_some, Option, Some, None, refl}
 use Rattle.std.proofs.Common.{ap, sym, ◌∙◌, arith, get_or, set}
 use Rattle.std.proofs.lemmas.List.Quantifiers.{position-Some}
 use Rattle.std.proofs.lemmas.Map.Entries.{length-keys_of}
@@ -8,7 +8,6 @@ use Rattle.std.specs.List.{AllByRecursion, insert, position, remove}
 use Rattle.std.specs.Map.{keys_of}
 use Rattle.std.specs.Option.{option_map}
 use Rattle.std.specs.declared.cmp.Ordering.{Ordering}
-use Rattle.std.specs.declared.cmp.Ordering.TheVariants.{Less, Equal, Greater}
 use Rattle.std.specs.Ordering.{is_eq}
 use Rattle.std.specs.Cmp.{IsTotalOrder}
 use Rattle.std.specs.FinMap.Entries.{find, is_sorted}
@@ -16,6 +15,7 @@ use Rattle.keyed.specs.Slots.{Found, Inserts, Knows, Lacks}
 use Rattle.indexmap.proofs.MapLemmas.{Missing-position}
 use Rattle.keyed.proofs.Ordered.{kept}
 use Rattle.keyed.proofs.Places.{stands}
+use Rattle.ns_types.proofs.Tables.{equal_by}
 
 module _ {X : Type 0} where
   pub remove_insert : (xs : List X) (i : ℕ) (x : X) → i ≤ length xs → remove (insert xs i x) i ≡ xs
@@ -65,11 +65,6 @@ module _ {K X : Type 0} where
   known_inserted None (Some ks) es i e l is h p = absurd p
   known_inserted (Some js) (Some ks) es i e l is h p = p ∙ ap (λ ls. insert ls i e.0) h ∙ keys_of-put_back es i e l is
 
-is_tie : (r : Ordering) → is_eq r ≡ true → r ≡ Equal
-is_tie Less e = cc
-is_tie Equal e = refl
-is_tie Greater e = cc
-
 module _ {K X : Type 0} (R : K → K → Ordering) (eq : K → K → Bool) (ties : (x y : K) → eq x y ≡ is_eq (R x y)) where
   apart : (k : K) (e : K × X) (es : List (K × X)) (r : Ordering) → R k e.0 ≡ r → is_eq r ≡ false → Lacks R k es → Lacks R k (e ∷ es)
   apart k e es r t differs rest = record {
@@ -89,7 +84,7 @@ module _ {K X : Type 0} (R : K → K → Ordering) (eq : K → K → Bool) (ties
       let p = position-Some (eq k) (keys_of (d ∷ ds)) i d.0 some in
       let within : i < length (d ∷ ds) = omega (arith, p.0, length-keys_of (d ∷ ds)) in
       stands R o k (d ∷ ds) i d sorted within
-      (is_tie _ (sym (ties k (get_or (d ∷ ds) i d).0) ∙ ap (eq k) (sym (get_or-map (λ e. e.0) (d ∷ ds) i d)) ∙ p.1))
+      (equal_by _ (sym (ties k (get_or (d ∷ ds) i d).0) ∙ ap (eq k) (sym (get_or-map (λ e. e.0) (d ∷ ds) i d)) ∙ p.1))
 
   pub known_found : (o : IsTotalOrder R) (k : K) (es : List (K × X)) → T (is_sorted R es) → (known : Option (List K)) → Knows known es → (r : Option ℕ) →
       option_map (position (eq k)) known ≡ Some r → Found R k es r

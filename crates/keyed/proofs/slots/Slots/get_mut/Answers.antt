@@ -1,25 +1,22 @@
 use mathlib.Core.Logic.{inr}
-use Rattle.std.proofs.Common.{◌≡◌, ◌∙◌, Option, Some, None, false, refl, sym, ap, arith, set}
+use Rattle.std.proofs.Common.{◌≡◌, ◌∙◌, Some, sym, ap, arith, set}
 use Rattle.std.specs.Prelude.{is_some}
 use Rattle.std.specs.FinMap.Entries.{find, put}
 use Rattle.keyed.specs.Table.{flat}
 use Rattle.keyed.proofs.Known.{known_set}
 use Rattle.keyed.proofs.Counted.{size, size_some, at_key, set_is_put, set_sorted, set_counted}
+use Rattle.keyed.proofs.Levels.{none_there}
 use Rattle.std.proofs.lemmas.List.{get_or_default, set-get_or}
 use borrow.Follows.Closed.{read_of}
 use Rattle.std.specs.Option.{ghost_name_of}
 use Rattle.keyed.proofs.slots.Slots.get_mut.Goals as goal
-
-no_row : {V : Type 0} (x : Option V) → is_some x ≡ false → x ≡ None
-no_row None e = refl
-no_row (Some v) e = cc
 
 pub returns-then-is_none : goal.returns-then-is_none
 returns-then-is_none g c =
     let looked : is_some (flat (find g.K.Ord.cmp c.args.key.now c.args.self.now)) ≡ is_some c.index.result.now.1 =
     sym (ap (λ es. is_some (flat (find g.K.Ord.cmp c.args.key.now es))) c.self.view_is) ∙
     ap (λ x. is_some (flat x)) (c.in-Some.ensures.find_is c.index.result.now) ∙ sym (ap (λ e. is_some e.1) c.index.ensures) in
-    (ap inr c.self.view_is, record { writes_back = tt; value = sym (no_row _ (looked ∙ c.if-is_none.ensures)) })
+    (ap inr c.self.view_is, record { writes_back = tt; value = sym (none_there _ (looked ∙ c.if-is_none.ensures)) })
 
 pub invariant_of-self-lent : goal.invariant_of-self-lent
 invariant_of-self-lent g c r =
