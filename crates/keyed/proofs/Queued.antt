@@ -113,7 +113,7 @@ module _ (passes : Key → Bool) where
 
 -- ---- one more
 
-put_last : {X : Type 0} (k : ℕ) (x : X) (xs : List (ℕ × X)) → Each (λ e. e.0 < k) xs → put nat_cmp k x xs ≡ xs ++ (k, x) ∷ []
+pub put_last : {X : Type 0} (k : ℕ) (x : X) (xs : List (ℕ × X)) → Each (λ e. e.0 < k) xs → put nat_cmp k x xs ≡ xs ++ (k, x) ∷ []
 put_last k x [] h = refl
 put_last k x (e ∷ xs) h = ap (λ r. by_order r ((k, x) ∷ e ∷ xs) ((e.0, x) ∷ xs) (e ∷ put nat_cmp k x xs)) (sym (nat_cmp_is k e.0 Greater h.0))
     ∙ ap (λ l. e ∷ l) (put_last k x xs h.1)

@@ -1,16 +1,15 @@
 -- The entries by their places: what a look-up finds, what is chosen of them, and what one more or one less leaves.
 use Rattle.std.specs.Prelude.{◌≡◌, ℕ, ◌+◌, ◌<◌, Bool, true, false, cond, not, ◌&&◌, T, IsTrue, List, [], ◌∷◌, ◌++◌, map, filter}
 use Rattle.std.specs.Prelude.{Option, Some, None, is_some, option_map}
-use Rattle.std.proofs.Common.{refl, sym, ap, subst, ◌∙◌, arith, Greater}
+use Rattle.std.proofs.Common.{refl, sym, ap, subst, ◌∙◌, arith}
 use Rattle.std.proofs.lemmas.List.{map-append}
 use Rattle.std.specs.Ordering.{nat_cmp}
-use Rattle.std.specs.Cmp.{nat_cmp_is}
 use Rattle.std.specs.Option.{option_map_or}
 use Rattle.std.specs.FinMap.{empty, entries, entries-insert, get, get-empty, get-insert, insert, same_map, values}
-use Rattle.std.specs.FinMap.Entries.{by_order, put}
+use Rattle.std.specs.FinMap.Entries.{put}
 use Rattle.keyed.specs.Table.{flat, row_at, row_list, rows, with_row}
+use Rattle.keyed.proofs.Queued.{put_last}
 use Rattle.keyed.proofs.Tables.{entries-rows, get-rows}
-use Rattle.ns_types.specs.State.Lists.{Each}
 use Rattle.ns_types.specs.State.Names.{Key, Name, ByNumber, has_key, name_cmp, same_key, same_number}
 use Rattle.ns_types.specs.State.Tables.{any_row, table_of}
 use Rattle.ns_types.proofs.Elements.{any_map, filter_map}
@@ -281,11 +280,6 @@ module _ (old new : Index) (next : ℕ) (h : IsIndexed old next) where
       before n x false t is = h.before n x is
 
 -- ---- the list with one more, and with one less
-
-put_last : {X : Type 0} (k : ℕ) (x : X) (xs : List (ℕ × X)) → Each (λ e. e.0 < k) xs → put nat_cmp k x xs ≡ xs ++ (k, x) ∷ []
-put_last k x [] h = refl
-put_last k x (e ∷ xs) h = ap (λ r. by_order r ((k, x) ∷ e ∷ xs) ((e.0, x) ∷ xs) (e ∷ put nat_cmp k x xs)) (sym (nat_cmp_is k e.0 Greater h.0))
-    ∙ ap (λ l. e ∷ l) (put_last k x xs h.1)
 
 pub entries_pushed : (old new : Index) (next : ℕ) (e : Entry) → IsIndexed old next →
     ((n : ℕ) → entry_at new n ≡ cond (same_number n next) (Some e) (entry_at old n)) → values (by_place new) ≡ values (by_place old) ++ e ∷ []
