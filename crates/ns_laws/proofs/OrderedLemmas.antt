@@ -1,6 +1,6 @@
 -- The first entry that passes, of entries ordered by number, has the least number of those that pass.
 use Rattle.std.specs.Prelude.{◌≡◌, ℕ, ◌<◌, ◌≤◌, Bool, true, false, cond, T, ◌&&◌, ◌||◌, List, [], ◌∷◌, map, filter, Option, Some, None, option_map, find}
-use Rattle.std.proofs.Common.{refl, sym, ap, subst, ◌∙◌, arith, Ordering, Less, Equal, Greater, is_lt}
+use Rattle.std.proofs.Common.{refl, sym, ap, subst, ◌∙◌, arith, Ordering, Less}
 use Rattle.std.specs.FinMap.{FinMap, IsAntisymmetric, get, entries, entries_sorted, get-entries, from_entries, get-from_entries}
 use Rattle.std.specs.FinMap.Entries as Entries
 use Rattle.std.specs.List.{list_any}
@@ -16,24 +16,16 @@ use Rattle.ns_types.proofs.Elements.{any_map}
 use Rattle.ns_types.proofs.Tests.{first, second}
 use Rattle.ns_types.proofs.Lists.{not_both, each_map}
 use Rattle.ns_types.proofs.Named.{names, one_name, one_number, same_name_is, same_name_refl, first_of_both, second_of_both, numbers}
-use Rattle.ns_types.proofs.Tables.{each_row, tied}
+use Rattle.ns_types.proofs.Tables.{each_row, less_by, tied}
 use Rattle.ns_laws.specs.Nodes as law
 use Rattle.ns_laws.specs.Queue as queue
 
 -- ---- entries in order
 
-less_of : (a b : ℕ) → T (is_lt (nat_cmp a b)) → a < b
-less_of a b h = by (nat_cmp a b) refl h
-  where
-    by : (r : Ordering) → r ≡ nat_cmp a b → T (is_lt r) → a < b
-    by Less e h = ranked a b Less e
-    by Equal e h = absurd h
-    by Greater e h = absurd h
-
 module _ {X : Type 0} where
   above : (k : ℕ) (es : List (ℕ × X)) → T (Entries.below_all nat_cmp k es) → Each (λ e. k < e.0) es
   above k [] h = tt
-  above k (e ∷ es) h = (less_of k e.0 (first _ _ h), above k es (second _ _ h))
+  above k (e ∷ es) h = (ranked k e.0 Less (sym (less_by _ (first _ _ h))), above k es (second _ _ h))
 
   found_holds : (P : ℕ × X → Type 0) (p : ℕ × X → Bool) (es : List (ℕ × X)) (e : ℕ × X) → Each P es → find p es ≡ Some e → (p e ≡ true) × P e
   found_holds P p [] e h is = absurd (none-some e is)
