@@ -1,5 +1,5 @@
 -- Lists in which no name stands twice.
-use Rattle.std.proofs.Common.{◌≡◌, List, [], ◌∷◌, ◌++◌, length, Bool, true, false, not, ◌||◌, map, refl, sym, ap, subst, ◌∙◌}
+use Rattle.std.proofs.Common.{◌≡◌, List, [], ◌∷◌, ◌++◌, length, Bool, true, false, not, map, refl, sym, ap, subst, ◌∙◌}
 use Rattle.std.specs.List.{list_any}
 use Rattle.std.specs.Str.{bytes_eq}
 use Rattle.std.proofs.Common.{filter}
@@ -10,6 +10,7 @@ use Rattle.std.proofs.lemmas.Map.Text.{is_eq-slice_cmp}
 use Rattle.ns_types.specs.State.Limits.{is_distinct}
 use Rattle.ns_types.specs.State.Lists.{first_each}
 use Rattle.ns_types.specs.State.Names.{Name, same_name}
+use Rattle.ns_types.proofs.Elements.{any_map}
 use Rattle.ns_types.proofs.Lists.{left_none, right_none}
 use Rattle.ns_json.specs.Reading.{has_name}
 
@@ -49,13 +50,9 @@ distinct_is xs h =
     let once : first_each same_name xs ≡ xs = each_once xs h in
     rw once (eq-eqb (length xs) (length xs) refl)
 
-any_named : {A : Type 0} (name_of : A → Name) (p : Name → Bool) (xs : List A) → list_any p (map name_of xs) ≡ list_any (λ x. p (name_of x)) xs
-any_named name_of p [] = refl
-any_named name_of p (x ∷ xs) = ap (λ b. p (name_of x) || b) (any_named name_of p xs)
-
 -- one more row whose name none of them has
 pub names_more : {A : Type 0} (name_of : A → Name) (xs : List A) (x : A) → Distinct (map name_of xs) → has_name name_of xs (name_of x) ≡ false →
     Distinct (map name_of (xs ++ x ∷ []))
 names_more name_of xs x h new =
     subst Distinct (sym (map-append name_of xs (x ∷ [])))
-    (distinct_more (map name_of xs) (name_of x) h (any_named name_of (λ y. bytes_eq y (name_of x)) xs ∙ new))
+    (distinct_more (map name_of xs) (name_of x) h (any_map (λ y. bytes_eq y (name_of x)) name_of xs ∙ new))
