@@ -3,12 +3,12 @@ use Rattle.std.proofs.Common.{◌≡◌, ℕ, ◌<◌, List, length, [], Option,
 use Rattle.std.specs.Prelude.{option_map, unwrap_or, slice_get, IsUtf8}
 use Rattle.std.specs.Str.{is_utf8}
 use Rattle.std.proofs.lemmas.Str.{IsUtf8-from_is_utf8, is_utf8-from_IsUtf8}
+use Rattle.std.proofs.lemmas.Bool.{and_parts}
 use Rattle.percent_encoding.specs.Percent.{percent_decode}
 use Rattle.std.specs.Prelude.{if◌then◌else◌, IsAscii, nat_lt, nat_le, slice_index_or}
 use Rattle.std.proofs.lemmas.Bool.Decides.{nat_tests}
 use Rattle.std.proofs.lemmas.List.Sums.{AllPass-from_list_all}
 use Rattle.std.proofs.lemmas.Str.Ascii.{IsAscii-from_all}
-use Rattle.ns_request.proofs.Spelling.{and_true}
 use Rattle.std.specs.List.{list_all}
 use Rattle.std.proofs.lemmas.Str.{IsUtf8-from_ascii}
 use Rattle.ns_types.specs.declared.name.NameKind.TheVariants as NameKind
@@ -63,7 +63,7 @@ IsAscii-printable : (bytes : List ℕ) → list_all (is_name_byte NameKind.Secre
 IsAscii-printable bytes h =
     IsAscii-from_all bytes (λ k d l.
     let byte : ℕ = slice_index_or bytes k d in
-    let low = (and_true (nat_lt 32 byte) (nat_lt byte 127) (AllPass-from_list_all (is_name_byte NameKind.Secret) bytes h k d l)).1 in
+    let low = (and_parts (nat_lt 32 byte) (nat_lt byte 127) (AllPass-from_list_all (is_name_byte NameKind.Secret) bytes h k d l)).1 in
     let small : byte < 127 = grind (arith, nat_tests) in
     omega arith)
 
@@ -72,5 +72,5 @@ known-no_text token bad = by (is_name NameKind.Secret token) refl
   where
     by : (b : Bool) → is_name NameKind.Secret token ≡ b → unknown ≡ (if b then token else unknown)
     by true e = absurd (bad (IsUtf8-from_ascii token (IsAscii-printable token
-        (and_true (nat_lt 0 (length token) && nat_le (length token) 64) (list_all (is_name_byte NameKind.Secret) token) e).1)))
+        (and_parts (nat_lt 0 (length token) && nat_le (length token) 64) (list_all (is_name_byte NameKind.Secret) token) e).1)))
     by false e = refl

@@ -1,7 +1,8 @@
 -- What the router of the table finds.
 use Rattle.std.proofs.Common.{◌≡◌, ◌⊎◌, inl, inr, ℕ, zero, suc, ◌+◌, ◌≤◌, ◌<◌, List, [], ◌∷◌, ◌++◌, length, take, get_or, Option, Some, None, Result, Ok, Err}
-use Rattle.std.proofs.Common.{Bool, true, false, ◌&&◌, cond, refl, sym, ap, subst, ◌∙◌, arith, add-one}
+use Rattle.std.proofs.Common.{Bool, true, false, ◌&&◌, cond, refl, sym, ap, subst, ◌∙◌, arith, add-one, true≢false}
 use Rattle.std.proofs.Math.Seq.{take-suc}
+use Rattle.std.proofs.lemmas.Bool.{and_parts}
 use Rattle.std.specs.Prelude.{find, option_map}
 use Rattle.std.specs.Cmp.Lexicographic.{pointwise}
 use Rattle.std.proofs.lemmas.Slice.Eq.{bytes_eq-Decides}
@@ -18,8 +19,7 @@ use Rattle.ns_request.specs.Parts.{segments_of}
 use Rattle.ns_request.specs.Endpoints.{pattern_of, every_endpoint, is_spelled, endpoint_of, fits}
 use Rattle.ns_request.specs.Routes.{Serves}
 use Rattle.ns_request.proofs.Seeking.{In, AreWhole, IsWhole, Matches, sound, complete}
-use Rattle.ns_request.proofs.Spelling.{tokens_of, are_plain, spelled-matches, matches-spelled, IsWhole-tokens, differ, differ-spelled, segments_some, and_true}
-use Rattle.ns_request.proofs.Spelling.{true_false}
+use Rattle.ns_request.proofs.Spelling.{tokens_of, are_plain, spelled-matches, matches-spelled, IsWhole-tokens, differ, differ-spelled, segments_some}
 
 -- ---- the table's patterns
 
@@ -114,7 +114,7 @@ apart-spelled : (e f : Endpoint) (others : List Endpoint) (path : List ℕ) → 
     → is_spelled (pattern_of e) path ≡ true → is_spelled (pattern_of f) path ≡ true → ⊥
 apart-spelled e f [] path a h p q = h
 apart-spelled e f (g ∷ others) path a h p q =
-    let b = and_true (differ (words_of e) (words_of g)) (apart_from e others) a in
+    let b = and_parts (differ (words_of e) (words_of g)) (apart_from e others) a in
     elim h [
       | inl same ↦ differ-spelled (words_of e) (words_of g) (segments_of path) b.0 p (subst (λ x. is_spelled (pattern_of x) path ≡ true) same q)
       | inr later ↦ apart-spelled e f others path b.1 later p q
@@ -124,7 +124,7 @@ find-spelled : (e : Endpoint) (list : List Endpoint) (path : List ℕ) → all_a
     → find (λ f. is_spelled (pattern_of f) path) list ≡ Some e
 find-spelled e [] path a h p = absurd h
 find-spelled e (f ∷ others) path a h p =
-    let b = and_true (apart_from f others) (all_apart others) a in
+    let b = and_parts (apart_from f others) (all_apart others) a in
     elim (is_spelled (pattern_of f) path) as (λ v. is_spelled (pattern_of f) path ≡ v →
     cond v (Some f) (find (λ g. is_spelled (pattern_of g) path) others) ≡ Some e) [
       | true ↦ λ q. elim h [
@@ -132,7 +132,7 @@ find-spelled e (f ∷ others) path a h p =
         | inr later ↦ absurd (apart-spelled f e others path b.0 later q p)
       ]
       | false ↦ λ q. elim h [
-        | inl same ↦ absurd (true_false (sym p ∙ ap (λ x. is_spelled (pattern_of x) path) same ∙ q))
+        | inl same ↦ absurd (true≢false (sym p ∙ ap (λ x. is_spelled (pattern_of x) path) same ∙ q))
         | inr later ↦ find-spelled e others path b.1 later p
       ]
     ] refl
@@ -210,7 +210,7 @@ built-placed rows done e r b h v = record {
 
 built-inserted : (read : Result Scan InsertError) (rows new : RowsOf Row) (done : List Endpoint) (e : Endpoint) (u : Unit {0}) → reads_as read (row_of e) ≡ true
     → InsertsRead read e rows new (Ok u) → IsBuilt rows done → Has e every_endpoint → IsBuilt new (done ++ e ∷ [])
-built-inserted (Err x) rows new done e u k i b h = absurd (true_false (sym k))
+built-inserted (Err x) rows new done e u k i b h = absurd (true≢false (sym k))
 built-inserted (Ok s) rows new done e u k i b h =
     let same : s.pattern ≡ row_of e = (bytes_eq-Decides s.pattern (row_of e)).0 k in
     subst (λ x. IsBuilt x (done ++ e ∷ [])) (sym (i.1 ∙ ap (λ p. placed (p, route_from s e) rows) same))

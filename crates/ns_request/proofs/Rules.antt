@@ -1,5 +1,6 @@
 -- The texts of a path's parts follow the rules of their parts.
 use Rattle.std.proofs.Common.{◌≡◌, ℕ, List, ◌∷◌, true, sym, ap, subst, ◌∙◌}
+use Rattle.std.proofs.lemmas.Bool.{and_parts}
 use Rattle.std.specs.Prelude.{is_some}
 use Rattle.std.specs.Str.{is_utf8}
 use Rattle.std.specs.List.{list_all}
@@ -14,13 +15,12 @@ use Rattle.ns_request.specs.declared.part.Part.TheVariants as Part
 use Rattle.ns_request.specs.Endpoints.{parts_of}
 use Rattle.ns_request.specs.Parts.{is_good, is_part, segment_at}
 use Rattle.ns_request.specs.Targets.{first_text, first_text_in, has_good_parts, is_placed_part, second_text, second_text_in, text_at}
-use Rattle.ns_request.proofs.Spelling.{and_true}
 
 placed_is_good : (placed : Placed) (path : List ℕ) → is_placed_part path placed ≡ true → is_good placed.part (text_at placed.place path) ≡ true
 unfolding is_part
 placed_is_good placed path h =
     let segment = segment_at placed.place path in
-    (and_true (is_utf8 (percent_decode segment)) (is_good placed.part (percent_decode segment)) h).1
+    (and_parts (is_utf8 (percent_decode segment)) (is_good placed.part (percent_decode segment)) h).1
 
 -- of a path of this endpoint, whose parts are these
 pub first_is_good : (endpoint at : Endpoint) (placed : Placed) (rest : List Placed) (path name : List ℕ) → endpoint ≡ at → parts_of at ≡ placed ∷ rest →
@@ -30,7 +30,7 @@ first_is_good endpoint at placed rest path name is parts good named =
     let all : list_all (is_placed_part path) (placed ∷ rest) ≡ true = subst (λ l. list_all (is_placed_part path) l ≡ true) same good in
     let text : name ≡ text_at placed.place path = named ∙ ap (λ l. first_text_in l path) same in
     subst (λ t. is_good placed.part t ≡ true) (sym text)
-    (placed_is_good placed path (and_true (is_placed_part path placed) (list_all (is_placed_part path) rest) all).0)
+    (placed_is_good placed path (and_parts (is_placed_part path placed) (list_all (is_placed_part path) rest) all).0)
 
 pub second_is_good : (endpoint at : Endpoint) (first placed : Placed) (rest : List Placed) (path name : List ℕ) → endpoint ≡ at →
     parts_of at ≡ first ∷ placed ∷ rest → has_good_parts endpoint path ≡ true → name ≡ second_text endpoint path → is_good placed.part name ≡ true
@@ -38,9 +38,9 @@ second_is_good endpoint at first placed rest path name is parts good named =
     let same : parts_of endpoint ≡ first ∷ placed ∷ rest = ap parts_of is ∙ parts in
     let all : list_all (is_placed_part path) (first ∷ placed ∷ rest) ≡ true = subst (λ l. list_all (is_placed_part path) l ≡ true) same good in
     let text : name ≡ text_at placed.place path = named ∙ ap (λ l. second_text_in l path) same in
-    let later = (and_true (is_placed_part path first) (list_all (is_placed_part path) (placed ∷ rest)) all).1 in
+    let later = (and_parts (is_placed_part path first) (list_all (is_placed_part path) (placed ∷ rest)) all).1 in
     subst (λ t. is_good placed.part t ≡ true) (sym text)
-    (placed_is_good placed path (and_true (is_placed_part path placed) (list_all (is_placed_part path) rest) later).0)
+    (placed_is_good placed path (and_parts (is_placed_part path placed) (list_all (is_placed_part path) rest) later).0)
 
 -- the same where the part is a name, or an id
 pub first_is_name : (kind : NameKind) (place : ℕ) (endpoint at : Endpoint) (rest : List Placed) (path name : List ℕ) → endpoint ≡ at →

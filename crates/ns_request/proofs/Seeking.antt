@@ -1,6 +1,6 @@
 -- Which route a router finds, where each parameter takes a whole segment.
-use Rattle.std.proofs.Common.{◌≡◌, ◌≢◌, ◌⊎◌, inl, inr, ℕ, zero, suc, ◌-◌, ◌<◌, List, [], ◌∷◌, ◌++◌, length, drop, Option, Some, None, Bool, true, false, ◌&&◌}
-use Rattle.std.proofs.Common.{cond, ltb, eqb, MatchBool, refl, sym, ap, subst, ◌∙◌, arith, length-append}
+use Rattle.std.proofs.Common.{◌≡◌, ◌≢◌, ◌⊎◌, inl, inr, ℕ, zero, suc, ◌-◌, ◌<◌, List, [], ◌∷◌, ◌++◌, length, drop, Option, Some, None, true, false, ◌&&◌}
+use Rattle.std.proofs.Common.{cond, ltb, eqb, MatchBool, refl, sym, ap, subst, ◌∙◌, arith, length-append, true≢false}
 use Rattle.std.proofs.Math.Seq.{drop-append_seam}
 use Rattle.std.proofs.lemmas.Bool.{eqb-true, eqb-false}
 use Rattle.std.proofs.lemmas.Bool.Decides.{nat_tests}
@@ -90,9 +90,6 @@ none_some k e = cc
 some_eq : {K : Type 0} (j k : K) → Some j ≡ Some k → j ≡ k
 some_eq j k e = cc
 
-true_false : true ≡ false → ⊥
-true_false e = cc
-
 -- ---- rows that go on with a token
 
 in_step : {K : Type 0} (b : ℕ) (rs : RowsOf K) (t : List ℕ) (k : K) → In t k (step b rs) → In (b ∷ t) k rs
@@ -152,7 +149,7 @@ has_slash-drop p zero h = h
 has_slash-drop [] (suc n) h = refl
 has_slash-drop (b ∷ p) (suc n) h =
     elim (eqb b slash) as (λ v. cond v true (has_slash p) ≡ false → has_slash (drop n p) ≡ false) [
-      | true ↦ λ e. absurd (true_false e)
+      | true ↦ λ e. absurd (true≢false e)
       | false ↦ λ e. has_slash-drop p n e
     ] h
 
@@ -165,7 +162,7 @@ segment-plain : (p : List ℕ) → has_slash p ≡ false → segment p ≡ p
 segment-plain [] h = refl
 segment-plain (b ∷ p) h =
     elim (eqb b slash) as (λ v. cond v true (has_slash p) ≡ false → cond v (b ∷ []) (b ∷ segment p) ≡ b ∷ p) [
-      | true ↦ λ e. absurd (true_false e)
+      | true ↦ λ e. absurd (true≢false e)
       | false ↦ λ e. ap (λ x. b ∷ x) (segment-plain p e)
     ] h
 
@@ -173,7 +170,7 @@ segment-cut : (part rest : List ℕ) → has_slash part ≡ false → segment (p
 segment-cut [] rest h = refl
 segment-cut (b ∷ part) rest h =
     elim (eqb b slash) as (λ v. cond v true (has_slash part) ≡ false → cond v (b ∷ []) (b ∷ segment (part ++ slash ∷ rest)) ≡ b ∷ (part ++ slash ∷ [])) [
-      | true ↦ λ e. absurd (true_false e)
+      | true ↦ λ e. absurd (true≢false e)
       | false ↦ λ e. ap (λ x. b ∷ x) (segment-cut part rest e)
     ] h
 
@@ -181,7 +178,7 @@ no_slash : (ys : List ℕ) → has_slash ys ≡ false → same_text (slash ∷ [
 no_slash [] h = refl
 no_slash (y ∷ ys) h =
     elim (eqb slash y) as (λ v. eqb slash y ≡ v → (v && same_text [] ys) ≡ false) [
-      | true ↦ λ e. absurd (true_false (subst (λ z. has_slash (z ∷ ys) ≡ false) (sym (eqb-true slash y e)) h))
+      | true ↦ λ e. absurd (true≢false (subst (λ z. has_slash (z ∷ ys) ≡ false) (sym (eqb-true slash y e)) h))
       | false ↦ λ e. refl
     ] refl
 

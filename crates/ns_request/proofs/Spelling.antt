@@ -1,7 +1,7 @@
 -- What a path spells, by its segments and by the tokens of a route.
 use Rattle.std.proofs.Common.{◌≡◌, inl, inr, ℕ, ◌<◌, List, [], ◌∷◌, ◌++◌, length, Bool, true, false, ◌&&◌, ◌||◌, not, cond, ltb, eqb, MatchBool, refl, sym}
-use Rattle.std.proofs.Common.{ap, subst, ◌∙◌, arith}
-use Rattle.std.proofs.lemmas.Bool.{eqb-true}
+use Rattle.std.proofs.Common.{ap, subst, ◌∙◌, arith, true≢false}
+use Rattle.std.proofs.lemmas.Bool.{and_from, and_parts, eqb-true}
 use Rattle.std.proofs.lemmas.Bool.Decides.{nat_tests}
 use Rattle.std.proofs.lemmas.Slice.Eq.{bytes_eq-Decides}
 use Rattle.std.specs.Prelude.{bytes_eq}
@@ -14,17 +14,6 @@ use Rattle.ns_request.specs.Endpoints.{fits}
 use Rattle.ns_request.proofs.Seeking.{Cuts, plain, cut, cuts_of, Matches, Opens, IsWhole, matches-byte, matches-part, append_nil}
 use Rattle.ns_types.proofs.Tests.{either_of, is_no}
 use Rattle.ns_types.proofs.Named.{second_of_both}
-
-pub and_true : (a b : Bool) → (a && b) ≡ true → (a ≡ true) × (b ≡ true)
-and_true true b h = (refl, h)
-and_true false b h = let bad : ⊥ = cc in absurd bad
-
-true_and : (a b : Bool) → a ≡ true → b ≡ true → (a && b) ≡ true
-true_and true b p q = q
-true_and false b p q = p
-
-pub true_false : true ≡ false → ⊥
-true_false e = cc
 
 -- ---- the tokens of a pattern's segments
 
@@ -52,8 +41,8 @@ are_plain (word ∷ words) = is_plain word && are_plain words
 has_slash-plain : (word : List ℕ) → is_plain word ≡ true → has_slash word ≡ false
 has_slash-plain [] h = refl
 has_slash-plain (b ∷ word) h =
-    let p = and_true (ltb b 256) (not (eqb b slash) && is_plain word) h in
-    let q = and_true (not (eqb b slash)) (is_plain word) p.1 in
+    let p = and_parts (ltb b 256) (not (eqb b slash) && is_plain word) h in
+    let q = and_parts (not (eqb b slash)) (is_plain word) p.1 in
     subst (λ v. cond v true (has_slash word) ≡ false) (sym (is_no (eqb b slash) q.0)) (has_slash-plain word q.1)
 
 -- ---- one segment
@@ -65,13 +54,13 @@ matches-word (b ∷ word) t rest m = matches-byte b (word ++ t) (word ++ rest) (
 word-matches : (word t path : List ℕ) → is_plain word ≡ true → Matches (word ++ t) path → (rest : List ℕ) × (path ≡ word ++ rest) × Matches t rest
 word-matches [] t path h m = (path, refl, m)
 word-matches (b ∷ word) t path h m =
-    let p = and_true (ltb b 256) (not (eqb b slash) && is_plain word) h in
+    let p = and_parts (ltb b 256) (not (eqb b slash) && is_plain word) h in
     let small = p.0 in
     let byte : eqb b param_token ≡ false = grind (arith, nat_tests) in
     let n = subst (λ v. MatchBool v
     ((part : List ℕ) × (rest : List ℕ) × (path ≡ part ++ rest) × (0 < length part) × (has_slash part ≡ false) × Matches (word ++ t) rest)
     ((rest : List ℕ) × (path ≡ b ∷ rest) × Matches (word ++ t) rest)) byte m in
-    let f = word-matches word t n.0 (and_true (not (eqb b slash)) (is_plain word) p.1).1 n.2 in
+    let f = word-matches word t n.0 (and_parts (not (eqb b slash)) (is_plain word) p.1).1 n.2 in
     (f.0, n.1 ∙ ap (λ x. b ∷ x) f.1, f.2)
 
 nil_from_zero : (s : List ℕ) → eqb (length s) 0 ≡ true → s ≡ []
@@ -106,7 +95,7 @@ segments-plain : (path : List ℕ) → has_slash path ≡ false → segments_of 
 segments-plain [] h = refl
 segments-plain (b ∷ p) h =
     elim (eqb b slash) as (λ v. cond v true (has_slash p) ≡ false → cond v ([] ∷ segments_of p) (onto_first b (segments_of p)) ≡ (b ∷ p) ∷ []) [
-      | true ↦ λ e. absurd (true_false e)
+      | true ↦ λ e. absurd (true≢false e)
       | false ↦ λ e. ap (λ x. onto_first b x) (segments-plain p e)
     ] h
 
@@ -115,7 +104,7 @@ segments-cut [] rest h = refl
 segments-cut (b ∷ part) rest h =
     elim (eqb b slash) as (λ v. cond v true (has_slash part) ≡ false
     → cond v ([] ∷ segments_of (part ++ slash ∷ rest)) (onto_first b (segments_of (part ++ slash ∷ rest))) ≡ (b ∷ part) ∷ segments_of rest) [
-      | true ↦ λ e. absurd (true_false e)
+      | true ↦ λ e. absurd (true≢false e)
       | false ↦ λ e. ap (λ x. onto_first b x) (segments-cut part rest e)
     ] h
 
@@ -133,17 +122,17 @@ nil-spelled : (path : List ℕ) → Spelled [] path → ⊥
 nil-spelled path h = by (cuts_of path)
   where
     by : Cuts path → ⊥
-    by (plain p) = true_false (sym (subst (λ s. pointwise fits [] s ≡ true) (segments-plain path p) h))
-    by (cut part rest q p) = true_false (sym (subst (λ s. pointwise fits [] s ≡ true) (ap (λ x. segments_of x) q ∙ segments-cut part rest p) h))
+    by (plain p) = true≢false (sym (subst (λ s. pointwise fits [] s ≡ true) (segments-plain path p) h))
+    by (cut part rest q p) = true≢false (sym (subst (λ s. pointwise fits [] s ≡ true) (ap (λ x. segments_of x) q ∙ segments-cut part rest p) h))
 
 spelled-plain : (word : List ℕ) (words : List (List ℕ)) (path : List ℕ) → has_slash path ≡ false → Spelled (word ∷ words) path →
     Matches (tokens_of (word ∷ words)) path
 spelled-plain word [] path p h =
     let s = subst (λ x. pointwise fits (word ∷ []) x ≡ true) (segments-plain path p) h in
-    subst (λ x. Matches (token_of word ++ []) x) (sym (append_nil path)) (fits-matches word path [] [] (and_true (fits word path) true s).0 p refl)
+    subst (λ x. Matches (token_of word ++ []) x) (sym (append_nil path)) (fits-matches word path [] [] (and_parts (fits word path) true s).0 p refl)
 spelled-plain word (next ∷ words) path p h =
     let s = subst (λ x. pointwise fits (word ∷ next ∷ words) x ≡ true) (segments-plain path p) h in
-    absurd (true_false (sym (second_of_both (fits word path) false s)))
+    absurd (true≢false (sym (second_of_both (fits word path) false s)))
 
 spelled-cut : (word next : List ℕ) (words : List (List ℕ)) (part rest : List ℕ) → has_slash part ≡ false → fits word part ≡ true
     → Matches (tokens_of (next ∷ words)) rest → Matches (tokens_of (word ∷ next ∷ words)) (part ++ slash ∷ rest)
@@ -154,7 +143,7 @@ spelled-cut word next words part rest p f m =
 spelled_parts : (word : List ℕ) (words : List (List ℕ)) (path part rest : List ℕ) → path ≡ part ++ slash ∷ rest → has_slash part ≡ false
     → Spelled (word ∷ words) path → (fits word part ≡ true) × Spelled words rest
 spelled_parts word words path part rest q p h =
-    and_true (fits word part) (pointwise fits words (segments_of rest))
+    and_parts (fits word part) (pointwise fits words (segments_of rest))
     (subst (λ x. pointwise fits (word ∷ words) x ≡ true) (ap (λ x. segments_of x) q ∙ segments-cut part rest p) h)
 
 spelled-last : (word : List ℕ) (path : List ℕ) → Cuts path → Spelled (word ∷ []) path → Matches (tokens_of (word ∷ [])) path
@@ -178,27 +167,27 @@ spelled-matches (word ∷ next ∷ words) path h =
 pub matches-spelled : (word : List ℕ) (words : List (List ℕ)) (path : List ℕ) → are_plain (word ∷ words) ≡ true
     → Matches (tokens_of (word ∷ words)) path → Spelled (word ∷ words) path
 matches-spelled word [] path a m =
-    let f = matches-fits word [] path (and_true (is_plain word) true a).0 m in
+    let f = matches-fits word [] path (and_parts (is_plain word) true a).0 m in
     let whole : path ≡ f.0 = f.2 ∙ ap (λ x. f.0 ++ x) f.5 ∙ sym (append_nil f.0) in
     subst (λ x. pointwise fits (word ∷ []) x ≡ true) (sym (ap (λ x. segments_of x) whole ∙ segments-plain f.0 f.3))
-    (true_and (fits word f.0) true f.4 refl)
+    (and_from (fits word f.0) true f.4 refl)
 matches-spelled word (next ∷ words) path a m =
-    let p = and_true (is_plain word) (are_plain (next ∷ words)) a in
+    let p = and_parts (is_plain word) (are_plain (next ∷ words)) a in
     let f = matches-fits word (rest_of (next ∷ words)) path p.0 m in
     let n = f.5 in
     let whole : path ≡ f.0 ++ slash ∷ n.0 = f.2 ∙ ap (λ x. f.0 ++ x) n.1 in
     subst (λ x. pointwise fits (word ∷ next ∷ words) x ≡ true) (sym (ap (λ x. segments_of x) whole ∙ segments-cut f.0 n.0 f.3))
-    (true_and (fits word f.0) (pointwise fits (next ∷ words) (segments_of n.0)) f.4 (matches-spelled next words n.0 p.1 n.2))
+    (and_from (fits word f.0) (pointwise fits (next ∷ words) (segments_of n.0)) f.4 (matches-spelled next words n.0 p.1 n.2))
 
 -- ---- the tokens of segments are whole
 
 IsWhole-word : (word t : List ℕ) → is_plain word ≡ true → IsWhole t → IsWhole (word ++ t)
 IsWhole-word [] t h w = w
 IsWhole-word (b ∷ word) t h w =
-    let p = and_true (ltb b 256) (not (eqb b slash) && is_plain word) h in
+    let p = and_parts (ltb b 256) (not (eqb b slash) && is_plain word) h in
     let small = p.0 in
     let low : b < 256 = grind (arith, nat_tests) in
-    (λ e. omega arith, λ e. absurd (omega arith), IsWhole-word word t (and_true (not (eqb b slash)) (is_plain word) p.1).1 w)
+    (λ e. omega arith, λ e. absurd (omega arith), IsWhole-word word t (and_parts (not (eqb b slash)) (is_plain word) p.1).1 w)
 
 IsWhole-token : (word t : List ℕ) → is_plain word ≡ true → Opens t → IsWhole t → IsWhole (token_of word ++ t)
 IsWhole-token [] t h o w = w
@@ -215,13 +204,13 @@ Opens-rest (word ∷ words) = refl
 IsWhole-rest : (words : List (List ℕ)) → are_plain words ≡ true → IsWhole (rest_of words)
 IsWhole-rest [] a = tt
 IsWhole-rest (word ∷ words) a =
-    let p = and_true (is_plain word) (are_plain words) a in
+    let p = and_parts (is_plain word) (are_plain words) a in
     (λ e. omega arith, λ e. absurd (omega arith), IsWhole-token word (rest_of words) p.0 (Opens-rest words) (IsWhole-rest words p.1))
 
 pub IsWhole-tokens : (words : List (List ℕ)) → are_plain words ≡ true → IsWhole (tokens_of words)
 IsWhole-tokens [] a = tt
 IsWhole-tokens (word ∷ words) a =
-    let p = and_true (is_plain word) (are_plain words) a in
+    let p = and_parts (is_plain word) (are_plain words) a in
     IsWhole-token word (rest_of words) p.0 (Opens-rest words) (IsWhole-rest words p.1)
 
 -- ---- patterns that no path spells both
@@ -242,20 +231,20 @@ fits-word (b ∷ word) segment w f =
     (bytes_eq-Decides segment (b ∷ word)).0 (subst (λ v. cond v (ltb 0 (length segment)) (bytes_eq segment (b ∷ word)) ≡ true) (is_no (eqb b 123) w) f)
 
 pub differ-spelled : (vs ws segments : List (List ℕ)) → differ vs ws ≡ true → pointwise fits vs segments ≡ true → pointwise fits ws segments ≡ true → ⊥
-differ-spelled [] [] segments d f g = true_false (sym d)
-differ-spelled [] (w ∷ ws) [] d f g = true_false (sym g)
-differ-spelled [] (w ∷ ws) (s ∷ segments) d f g = true_false (sym f)
-differ-spelled (v ∷ vs) [] [] d f g = true_false (sym f)
-differ-spelled (v ∷ vs) [] (s ∷ segments) d f g = true_false (sym g)
-differ-spelled (v ∷ vs) (w ∷ ws) [] d f g = true_false (sym f)
+differ-spelled [] [] segments d f g = true≢false (sym d)
+differ-spelled [] (w ∷ ws) [] d f g = true≢false (sym g)
+differ-spelled [] (w ∷ ws) (s ∷ segments) d f g = true≢false (sym f)
+differ-spelled (v ∷ vs) [] [] d f g = true≢false (sym f)
+differ-spelled (v ∷ vs) [] (s ∷ segments) d f g = true≢false (sym g)
+differ-spelled (v ∷ vs) (w ∷ ws) [] d f g = true≢false (sym f)
 differ-spelled (v ∷ vs) (w ∷ ws) (s ∷ segments) d f g =
-    let p = and_true (fits v s) (pointwise fits vs segments) f in
-    let q = and_true (fits w s) (pointwise fits ws segments) g in
+    let p = and_parts (fits v s) (pointwise fits vs segments) f in
+    let q = and_parts (fits w s) (pointwise fits ws segments) g in
     elim (either_of (is_word v && (is_word w && not (bytes_eq v w))) (differ vs ws) d) [
       | inl here ↦
-          let a = and_true (is_word v) (is_word w && not (bytes_eq v w)) here in
-          let b = and_true (is_word w) (not (bytes_eq v w)) a.1 in
+          let a = and_parts (is_word v) (is_word w && not (bytes_eq v w)) here in
+          let b = and_parts (is_word w) (not (bytes_eq v w)) a.1 in
           let same : v ≡ w = sym (fits-word v s a.0 p.0) ∙ fits-word w s b.0 q.0 in
-          true_false (sym ((bytes_eq-Decides v w).1 same) ∙ is_no (bytes_eq v w) b.1)
+          true≢false (sym ((bytes_eq-Decides v w).1 same) ∙ is_no (bytes_eq v w) b.1)
       | inr later ↦ differ-spelled vs ws segments later p.1 q.1
     ]

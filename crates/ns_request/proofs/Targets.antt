@@ -1,6 +1,7 @@
 -- The parts of a path, one after the other.
 use Rattle.std.proofs.Common.{subst, ℕ, ◌+◌, ◌<◌, length, take, get_or}
 use Rattle.std.proofs.Common.{◌≡◌, List, [], ◌∷◌, ◌++◌, Option, Some, None, Bool, true, false, ◌&&◌, ◌||◌, refl, sym, ap, ◌∙◌}
+use Rattle.std.proofs.lemmas.Bool.{and_parts}
 use Rattle.std.specs.Int.{w128, from_be_bytes}
 use Rattle.std.specs.List.{list_all, list_any}
 use Rattle.std.specs.Prelude.{is_some, option_map}
@@ -11,7 +12,6 @@ use Rattle.std.proofs.lemmas.List.Folds.{list_all_more, list_any_more}
 use Rattle.std.proofs.lemmas.List.{take_more}
 use Rattle.uuid.specs.Text.{parsed}
 use Rattle.ns_types.specs.State.Id.{uuid_number}
-use Rattle.ns_request.proofs.Spelling.{and_true}
 use Rattle.percent_encoding.specs.Percent.{percent_decode}
 use Rattle.ns_types.specs.Wire.Http.{Asked}
 use Rattle.ns_request.specs.declared.endpoint.Endpoint.{Endpoint}
@@ -124,8 +124,8 @@ pub accessor_parsed : (place : ℕ) (path : List ℕ) → (b : Bool) → (is_par
     is_some (parsed (text_at place path)) ≡ true
 unfolding is_part is_good
 accessor_parsed place path b h = by (parsed (text_at place path))
-    (and_true (is_utf8 (percent_decode (segment_at place path))) (is_some (uuid_number (text_at place path)))
-    (and_true (is_part Part.Accessor (segment_at place path)) b h).0).1
+    (and_parts (is_utf8 (percent_decode (segment_at place path))) (is_some (uuid_number (text_at place path)))
+    (and_parts (is_part Part.Accessor (segment_at place path)) b h).0).1
   where
     by : (o : Option (List ℕ)) → is_some (option_map (from_be_bytes w128) o) ≡ true → is_some o ≡ true
     by None e = e
