@@ -1,6 +1,6 @@
 -- Attributes, one after the other; they stand by key.
 use Rattle.std.proofs.Common.{◌≡◌, List, [], ◌∷◌, ◌++◌, length, map, Bool, true, false, ◌||◌, not, Option, Some}
-use Rattle.std.proofs.Common.{None, Ok, Err, String, Global, Less, refl, sym, ap, subst, ◌∙◌, append_assoc, string_bytes, string_cmp, nat_le}
+use Rattle.std.proofs.Common.{None, Result, Ok, Err, String, Global, Less, refl, sym, ap, subst, ◌∙◌, append_assoc, string_bytes, string_cmp, nat_le}
 use Rattle.std.specs.FinMap.{entries, from_entries, entries-insert, put}
 use Rattle.std.specs.List.{AllByRecursion}
 use Rattle.std.specs.List.Sorted.{IsStrictlySortedBy}
@@ -86,8 +86,8 @@ unfolding IsStrictlySortedBy
 ascend_first [] ys h = tt
 ascend_first (x ∷ xs) ys h = (all_first _ xs ys h.0, ascend_first xs ys h.1)
 
-ok_is : {A : Type 0} (x y : A) → ◌≡◌ {A = Read A} (Ok x) (Ok y) → x ≡ y
-ok_is x y e = cc
+pub same_Ok : {A E : Type 0} (x y : A) → ◌≡◌ {A = Result A E} (Ok x) (Ok y) → x ≡ y
+same_Ok x y e = cc
 
 err_is_no_ok : {A : Type 0} (r : Refusal) (y : A) → ◌≡◌ {A = Read A} (Err r) (Ok y) → ⊥
 err_is_no_ok r y e = cc
@@ -104,7 +104,7 @@ ascend_more done key value later h =
 -- what is added has that key, or nothing is added
 keeps : (done more : List Attribute) (key : Name) (o : Option Data) (later : List Name) → with_value done key o ≡ Ok more →
     Ascend (keys_in done ++ key ∷ later) → Ascend (keys_in more ++ later)
-keeps done more key None later is h = subst (λ xs. Ascend (keys_in xs ++ later)) (ok_is done more is) (ascend_but (keys_in done) key later h)
+keeps done more key None later is h = subst (λ xs. Ascend (keys_in xs ++ later)) (same_Ok done more is) (ascend_but (keys_in done) key later h)
 keeps done more key (Some d) later is h = read (a_text Member.Attributes d) is
   where
     is_bad : Bool
@@ -112,7 +112,7 @@ keeps done more key (Some d) later is h = read (a_text Member.Attributes d) is
 
     added : (bad : Bool) (value : Name) → unless bad Member.Attributes (one_more done key value) ≡ Ok more → Ascend (keys_in more ++ later)
     added true value is = absurd (err_is_no_ok _ more is)
-    added false value is = subst (λ xs. Ascend (keys_in xs ++ later)) (ok_is _ more is) (ascend_more done key value later h)
+    added false value is = subst (λ xs. Ascend (keys_in xs ++ later)) (same_Ok _ more is) (ascend_more done key value later h)
 
     read : (r : Read Name) → (r >>= λ value. unless is_bad Member.Attributes (one_more done key value)) ≡ Ok more → Ascend (keys_in more ++ later)
     read (Ok value) is = added is_bad value is
@@ -121,7 +121,7 @@ keeps done more key (Some d) later is h = read (a_text Member.Attributes d) is
 pub stand_by_key : (done : List Attribute) (es : List Entry) (all : List Attribute) → Ascend (keys_in done ++ texts es) →
     each_attribute done (members_view es) ≡ Ok all → AreByKey all
 unfolding each_attribute with_attribute
-stand_by_key done [] all h is = subst AreByKey (ok_is done all is) (ascend_first (keys_in done) [] h)
+stand_by_key done [] all h is = subst AreByKey (same_Ok done all is) (ascend_first (keys_in done) [] h)
 stand_by_key done (e ∷ es) all h is = by (with_attribute done (string_bytes e.0) (view e.1)) refl is
     (λ more k. stand_by_key more es all k)
   where

@@ -2,6 +2,7 @@
 use Rattle.std.proofs.Common.{◌≡◌, ℕ, ◌<◌, ◌≤◌, [], ◌∷◌, length, true, ◌&&◌, nat_lt, nat_le, nat_cmp, Option, Some, None, Result, Ok, Err, IfOk}
 use Rattle.std.proofs.Common.{Ordering, Less, Equal, Greater, sym, subst, arith}
 use Rattle.std.proofs.lemmas.Bool.{ltb-true}
+use Rattle.std.proofs.lemmas.Option.{none-some, same_Some}
 use Rattle.std.proofs.lemmas.Str.{IsUtf8-from_ascii}
 use Rattle.std.proofs.lemmas.Str.Ascii.{IsAscii-nil, IsAscii-cons}
 use Rattle.std.specs.Cmp.Lexicographic.{slice_cmp}
@@ -40,17 +41,11 @@ depth-by_order Less a b c e n f g h is = f is
 depth-by_order Equal a b c e n f g h is = g is
 depth-by_order Greater a b c e n f g h is = h is
 
-no_value : (e : Data) → ◌≡◌ {A = Option Data} (Some e) None → ⊥
-no_value e h = cc
-
-one_value : (d e : Data) → ◌≡◌ {A = Option Data} (Some d) (Some e) → d ≡ e
-one_value d e h = cc
-
 here : (d e : Data) → ◌≡◌ {A = Option Data} (Some e) (Some d) → depth e ≤ depth d
-here d e is = let same : e ≡ d = one_value e d is in subst (λ x. depth x ≤ depth d) (sym same) (omega arith)
+here d e is = let same : e ≡ d = same_Some e d is in subst (λ x. depth x ≤ depth d) (sym same) (omega arith)
 
 member_depth : (name : Name) (ms : Members) (e : Data) → Some e ≡ get_member name ms → depth e ≤ members_depth ms
-member_depth name no_members e is = absurd (no_value e is)
+member_depth name no_members e is = absurd (none-some e (sym is))
 member_depth name (member k d ms) e is =
     depth-by_order (slice_cmp nat_cmp name k) (get_member name ms) (Some d) (get_member name ms) e (members_depth (member k d ms))
     (λ later. let le = member_depth name ms e later in omega arith) (λ first. let le = here d e first in omega arith)
@@ -58,11 +53,11 @@ member_depth name (member k d ms) e is =
 
 -- a member nests less deep
 pub member_within : (name : Name) (d e : Data) → Some e ≡ get name d → depth e < depth d
-member_within name null e is = absurd (no_value e is)
-member_within name (boolean b) e is = absurd (no_value e is)
-member_within name (number n) e is = absurd (no_value e is)
-member_within name (string s) e is = absurd (no_value e is)
-member_within name (array ds) e is = absurd (no_value e is)
+member_within name null e is = absurd (none-some e (sym is))
+member_within name (boolean b) e is = absurd (none-some e (sym is))
+member_within name (number n) e is = absurd (none-some e (sym is))
+member_within name (string s) e is = absurd (none-some e (sym is))
+member_within name (array ds) e is = absurd (none-some e (sym is))
 member_within name (object ms) e is = let le = member_depth name ms e is in omega arith
 
 -- ---- secrets

@@ -3,6 +3,7 @@ use Rattle.std.proofs.Common.{◌≡◌, ◌≢◌, ℕ, suc, ◌+◌, List, [],
 use Rattle.std.proofs.Common.{append_assoc, append-nil, codes, inl, inr}
 use Rattle.std.proofs.lemmas.List.Concat.{flat_map-cons}
 use Rattle.std.proofs.lemmas.List.{append_cancel_left}
+use Rattle.std.proofs.lemmas.Option.{same_Some}
 use Rattle.serde_json.specs.Read.{read}
 use Rattle.ns_types.specs.declared.name.NameKind.TheVariants as NameKind
 use Rattle.ns_types.specs.State.Lists.{Each}
@@ -10,12 +11,13 @@ use Rattle.ns_types.specs.State.Name.{is_name}
 use Rattle.ns_types.specs.State.Names.{Name}
 use Rattle.ns_json.specs.Logs.{entry_json, line_of, log_text}
 use Rattle.ns_json.specs.Replies.{Entry}
+use Rattle.ns_documents.proofs.Attributes.{same_Ok}
 use Rattle.ns_log_read.specs.Laws.{OneLog, LogHasNoFault, OneFault}
 use Rattle.ns_log.specs.Lines.{entry_text}
 use Rattle.ns_log_read.specs.Lines.{IsWithin, IsWritable, IsLogOf, HasBadHead, HasBadEntry, IsBadAfter, first_text}
 use Rattle.ns_log_read.specs.Reading.{entry_in}
 use Rattle.ns_log_read.proofs.Feeds.{Lacks, one_line}
-use Rattle.ns_log_read.proofs.Lines.{written_is_read, entry_lacks, first_lacks, one_value, one_ok, opened, line, lines}
+use Rattle.ns_log_read.proofs.Lines.{written_is_read, entry_lacks, first_lacks, opened, line, lines}
 use Rattle.ns_log_read.proofs.Steps.{entry_back}
 
 -- ---- entries
@@ -23,8 +25,8 @@ use Rattle.ns_log_read.proofs.Steps.{entry_back}
 -- two entries with one text are the same
 one_entry : (a b : Entry) → IsWithin a → IsWithin b → entry_text a ≡ entry_text b → a ≡ b
 one_entry a b v w is =
-    let value = one_value (entry_json a) (entry_json b) (sym (written_is_read a v) ∙ ap read is ∙ written_is_read b w) in
-    one_ok a b (sym (entry_back a v.good v.as_read v.answer) ∙ ap entry_in value ∙ entry_back b w.good w.as_read w.answer)
+    let value = same_Some (entry_json a) (entry_json b) (sym (written_is_read a v) ∙ ap read is ∙ written_is_read b w) in
+    same_Ok a b (sym (entry_back a v.good v.as_read v.answer) ∙ ap entry_in value ∙ entry_back b w.good w.as_read w.answer)
 
 -- the first line and what comes after
 line_and_rest : (xs ys rest more : Name) → Lacks xs → Lacks ys → line_of xs ++ rest ≡ line_of ys ++ more → (xs ≡ ys) × (rest ≡ more)

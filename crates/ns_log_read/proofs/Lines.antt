@@ -1,11 +1,12 @@
 -- The lines of entries, and the first line.
 use Rattle.std.proofs.Common.{◌≡◌, ℕ, zero, suc, ◌+◌, ◌<◌, ◌≤◌, List, [], ◌∷◌, ◌++◌, length, take, drop, get_or, Bool, true, false, nat_lt}
-use Rattle.std.proofs.Common.{Option, Some, None, Ok, Err, refl, sym, ap, subst, ◌∙◌, arith, append_assoc, append-nil, codes}
+use Rattle.std.proofs.Common.{Some, None, Ok, Err, refl, sym, ap, subst, ◌∙◌, arith, append_assoc, append-nil, codes}
 use Rattle.std.specs.Prelude.{IsUtf8}
 use Rattle.std.specs.List.{flat_map, position, position_or_len}
 use Rattle.std.proofs.lemmas.Bool.{eqb-true, eqb-false, ltb-false}
 use Rattle.std.proofs.lemmas.List.{take-append-drop, drop_more}
 use Rattle.std.proofs.lemmas.List.Quantifiers.{position-Some}
+use Rattle.std.proofs.lemmas.Option.{none-some, same_Some}
 use Rattle.serde_json.specs.Data.{Data}
 use Rattle.serde_json.specs.Read.{read}
 use Rattle.ns_types.specs.declared.name.NameKind.TheVariants as NameKind
@@ -14,6 +15,7 @@ use Rattle.ns_types.specs.State.Name.{is_name}
 use Rattle.ns_types.specs.State.Names.{Name}
 use Rattle.ns_json.specs.Logs.{entry_json, line_of, log_text}
 use Rattle.ns_json.specs.Replies.{Entry}
+use Rattle.ns_documents.proofs.Attributes.{same_Ok}
 use Rattle.ns_log.specs.Lines.{BeginsWith, IsLineLen, entry_text}
 use Rattle.ns_log_read.specs.declared.fault.LineFault.TheVariants.{Bad}
 use Rattle.ns_log_read.specs.Lines.{IsWithin, IsWritable, IsLogOf, HasBadHead, HasBadEntry, IsBadAfter, first_text}
@@ -31,22 +33,16 @@ written_is_read e w = read_spelled 10 (entry_json e) (omega arith) (entry_spelle
 pub entry_lacks : (e : Entry) → IsWithin e → Lacks (entry_text e)
 entry_lacks e w = text_lacks 10 (entry_json e) (entry_spelled e w.good w.step w.answer)
 
-pub one_value : (d e : Data) → ◌≡◌ {A = Option Data} (Some d) (Some e) → d ≡ e
-one_value d e h = cc
-
-no_value : (d : Data) → ◌≡◌ {A = Option Data} None (Some d) → ⊥
-no_value d h = cc
-
 -- the value of the line is what the entry is read from
 pub value_back : (line : Name) (d : Data) (r : Read Entry) → read line ≡ Some d → Gives same r (entry_in d) → ReadsBack line r
 value_back line d r is gives = λ e w text.
-    let value : d ≡ entry_json e = one_value d (entry_json e) (sym is ∙ ap read text ∙ written_is_read e w.within) in
+    let value : d ≡ entry_json e = same_Some d (entry_json e) (sym is ∙ ap read text ∙ written_is_read e w.within) in
     subst (Gives same r) (ap entry_in value ∙ entry_back e w.within.good w.within.as_read w.within.answer) gives
 
 -- a line with no value is no entry's
 pub none_back : (line : Name) → (IsUtf8 line → read line ≡ None) → ReadsBack line (Err Bad)
 none_back line none = λ e w text.
-    absurd (no_value (entry_json e) (sym (none (subst IsUtf8 (sym text) w.text)) ∙ ap read text ∙ written_is_read e w.within))
+    absurd (none-some (entry_json e) (sym (none (subst IsUtf8 (sym text) w.text)) ∙ ap read text ∙ written_is_read e w.within))
 
 -- ---- line feeds
 
@@ -111,16 +107,13 @@ no_entry text none = λ e w b. no_line text (entry_text e) none b
 not_bad : {A : Type 0} (x : A) → ◌≡◌ {A = Read A} (Ok x) (Err Bad) → ⊥
 not_bad x h = cc
 
-pub one_ok : {A : Type 0} (x y : A) → ◌≡◌ {A = Read A} (Ok x) (Ok y) → x ≡ y
-one_ok x y h = cc
-
 pub bad_candidate : (text : Name) (i : ℕ) → Some i ≡ position is_feed text → ReadsBack (take i text) (Err Bad) → HasBadEntry text
 bad_candidate text i at back = λ e w b. not_bad e (back e w (first_is text i (entry_text e) at (entry_lacks e w.within) b))
 
 pub other_spelling : (text : Name) (i : ℕ) (x : Entry) → Some i ≡ position is_feed text → ReadsBack (take i text) (Ok x) →
     (BeginsWith text (entry_text x) → ⊥) → HasBadEntry text
 other_spelling text i x at back other = λ e w b.
-    let found : e ≡ x = one_ok e x (back e w (first_is text i (entry_text e) at (entry_lacks e w.within) b)) in
+    let found : e ≡ x = same_Ok e x (back e w (first_is text i (entry_text e) at (entry_lacks e w.within) b)) in
     other (subst (λ y. BeginsWith text (entry_text y)) found b)
 
 pub is_line : (text : Name) (i len : ℕ) (x : Entry) → Some i ≡ position is_feed text → IsWithin x → IsUtf8 (take i text) →

@@ -14,6 +14,7 @@ use Rattle.ns_types.specs.declared.refusal.Member.{Member}
 use Rattle.ns_types.specs.State.Limits.{is_distinct, is_between}
 use Rattle.ns_types.specs.State.Lists.{first_each}
 use Rattle.ns_types.specs.State.Names.{Name, same_name}
+use Rattle.ns_types.proofs.Elements.{any_map}
 use Rattle.ns_types.proofs.Named.{first_of_both, second_of_both}
 use Rattle.ns_json.specs.Reading.{◌>>=◌, Read, has_name, a_list, each}
 use Rattle.ns_json.specs.Rendering.{list_of}
@@ -72,10 +73,6 @@ other_before (y ∷ ys) x zs h =
     let is : bytes_eq y x ≡ false = sym (is_eq-slice_cmp y x) ∙ here in
     rw (is, other_before ys x zs h.1) refl
 
-any_named : {A : Type 0} (name_of : A → Name) (p : Name → Bool) (xs : List A) → list_any p (map name_of xs) ≡ list_any (λ x. p (name_of x)) xs
-any_named name_of p [] = refl
-any_named name_of p (x ∷ xs) = ap (λ b. p (name_of x) || b) (any_named name_of p xs)
-
 -- ---- lists of documents
 
 -- so is each element after those before it
@@ -89,7 +86,7 @@ each_named : {A : Type 0} (name_of : A → Name) (good : A → Bool) (R : List A
 each_named name_of good R one before [] h d = tt
 each_named name_of good R one before (x ∷ xs) h d =
     let split = subst Distinct (map-append name_of before (x ∷ xs)) d in
-    let new = sym (any_named name_of (λ y. bytes_eq y (name_of x)) before) ∙ other_before (map name_of before) (name_of x) (map name_of xs) split in (
+    let new = sym (any_map (λ y. bytes_eq y (name_of x)) name_of before) ∙ other_before (map name_of before) (name_of x) (map name_of xs) split in (
       one before x (first_of_both (good x) (list_all good xs) h) new,
       each_named name_of good R one (before ++ x ∷ []) xs (second_of_both (good x) (list_all good xs) h)
           (subst (λ ys. Distinct (map name_of ys)) (sym (append_assoc before (x ∷ []) xs)) d),
