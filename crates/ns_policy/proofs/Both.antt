@@ -1,7 +1,7 @@
 -- Both ways between trees and what is read.
 use Rattle.std.proofs.Common.{◌≡◌, ℕ, ◌+◌, ◌≤◌, List, [], ◌∷◌, length, is_some, Bool, true, false, Ok, Err, refl, sym, ap, ◌∙◌, subst, arith, append-nil}
 use Rattle.std.proofs.Common.{nat_lt, nat_le, ◌==◌, ◌&&◌, if◌then◌else◌, true≢false}
-use Rattle.std.proofs.lemmas.Bool.{eqb-true, ltb-false}
+use Rattle.std.proofs.lemmas.Bool.{and_parts, eqb-true, ltb-false}
 use Rattle.ns_policy.specs.declared.fault.RuleFault.TheVariants.{Syntax}
 use Rattle.ns_types.specs.declared.acl.RuleKind.{RuleKind}
 use Rattle.ns_types.specs.declared.acl.Rule.{Rule}
@@ -17,7 +17,7 @@ use Rattle.ns_policy.specs.Laws.{SpelledTokensAreRead, ReadTokensAreSpelled, Spe
 use Rattle.ns_policy.specs.Lex.{skip}
 use Rattle.ns_policy.specs.Grammar.{read_on}
 use Rattle.ns_policy.specs.Layout.{Piece, Layout, text_of, tokens_of}
-use Rattle.ns_policy.proofs.Layouts.{laid_read, fewer_tokens, both}
+use Rattle.ns_policy.proofs.Layouts.{laid_read, fewer_tokens}
 use Rattle.ns_policy.proofs.Relayout.{text_laid}
 use Rattle.ns_policy.proofs.Steps.{Post, post_bind, post_then, post_if, post_if_is}
 use Rattle.ns_policy.proofs.TreeLaws.{items_read, items_placed}
@@ -123,7 +123,7 @@ ends false a rules h = cc
 done : (a : State) (rules : List Rule) → finish a ≡ Ok rules → (a.place ≡ Place.Item) × (a.depth ≡ 0)
 unfolding finish
 done a rules h =
-    let p = both (is_item a.place) (a.depth == 0) (ends (is_item a.place && (a.depth == 0)) a rules h) in
+    let p = and_parts (is_item a.place) (a.depth == 0) (ends (is_item a.place && (a.depth == 0)) a rules h) in
     (placed_item a.place p.0, eqb-true a.depth 0 p.1)
 
 pub tokens_are_read : SpelledTokensAreRead

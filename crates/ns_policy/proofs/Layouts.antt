@@ -1,9 +1,9 @@
 -- The tokens of a layout are read one after the other.
-use Rattle.std.proofs.Common.{◌≡◌, ℕ, zero, suc, ◌<◌, ◌≤◌, List, [], ◌∷◌, ◌++◌, length, take, drop, Bool, true, false, not, ◌&&◌, ◌==◌, Option, Ok, Err, Some}
+use Rattle.std.proofs.Common.{◌≡◌, ℕ, zero, suc, ◌<◌, ◌≤◌, List, [], ◌∷◌, ◌++◌, length, take, drop, Bool, true, false, not, ◌==◌, Option, Ok, Err, Some}
 use Rattle.std.proofs.Common.{refl, sym, ap, ◌∙◌, arith, append_assoc, length-append, true≢false}
 use Rattle.std.specs.List.{prefix_len, list_all}
 use Rattle.std.proofs.Math.Seq.{take-append_seam, drop-append_seam}
-use Rattle.std.proofs.lemmas.Bool.{eqb-true}
+use Rattle.std.proofs.lemmas.Bool.{and_parts, eqb-true}
 use Rattle.std.proofs.lemmas.Bool.Decides.{nat_tests}
 use Rattle.ns_policy.specs.declared.parser.State.{State}
 use Rattle.ns_policy.specs.Lex.{Token, open_block, close_block, begin_list, end_list, comma, equals, word, string, number, is_blank, is_digit, begins_word}
@@ -13,11 +13,6 @@ use Rattle.ns_policy.specs.Grammar.{step, next, read_on}
 use Rattle.ns_policy.specs.Tree.{run}
 use Rattle.ns_policy.specs.Layout.{Piece, blank, comment, part, mark, text_of, tokens_of, first_is, in_line, Spells, Apart, Layout}
 use Rattle.ns_types.proofs.Tests.{is_yes}
-
-pub both : (x y : Bool) → (x && y) ≡ true → (x ≡ true) × (y ≡ true)
-both true true h = (refl, refl)
-both true false h = (refl, h)
-both false y h = absurd (true≢false (sym h))
 
 no_eq : (test : ℕ → Bool) (x k : ℕ) → test x ≡ true → test k ≡ false → (c : Bool) → (x == k) ≡ c → c ≡ false
 no_eq test x k holds fails true e = absurd (true≢false (sym holds ∙ ap test (eqb-true x k e) ∙ fails))
@@ -31,7 +26,7 @@ prefix_is : (test : ℕ → Bool) (w rest : List ℕ) → list_all test w ≡ tr
 prefix_is test [] [] all stop = refl
 prefix_is test [] (x ∷ xs) all stop = rw stop refl
 prefix_is test (x ∷ w) rest all stop =
-    let p = both (test x) (list_all test w) all in
+    let p = and_parts (test x) (list_all test w) all in
     let here : test x ≡ true = p.0 in
     let more : prefix_len test (w ++ rest) ≡ length w = prefix_is test w rest p.1 stop in
     rw (here, more) (omega arith)
@@ -162,7 +157,7 @@ unfolding skip
 skip_line [] [] all stop = refl
 skip_line [] (x ∷ xs) all stop = line_end x xs (eqb-true x 10 (is_yes (x == 10) stop))
 skip_line (x ∷ line) rest all stop =
-    let p = both (in_line x) (list_all in_line line) all in
+    let p = and_parts (in_line x) (list_all in_line line) all in
     let here : not (x == 10) ≡ true = p.0 in
     ap (λ c. skip c (line ++ rest)) here ∙ skip_line line rest p.1 stop
 

@@ -3,14 +3,13 @@ use Rattle.std.proofs.Common.{◌≡◌, ℕ, zero, suc, ◌+◌, List, [], ◌�
 use Rattle.std.proofs.Common.{sym, ap, ◌∙◌, subst, arith, append_assoc, true≢false, if◌then◌else◌, codes}
 use Rattle.std.specs.List.{prefix_len, list_all}
 use Rattle.std.proofs.lemmas.List.{take-append-drop}
-use Rattle.std.proofs.lemmas.Bool.{eqb-true}
+use Rattle.std.proofs.lemmas.Bool.{and_parts, eqb-true}
 use Rattle.ns_policy.specs.declared.parser.State.{State}
 use Rattle.ns_policy.specs.Lex.{Token, word, number, is_blank, is_letter, is_digit, begins_word, is_word_byte, is_string_byte, begins_with, has_template, skip}
 use Rattle.ns_policy.specs.Lex.{front, after, string_at, token_at}
 use Rattle.ns_policy.specs.Rules.{Read, ◌>>=◌}
 use Rattle.ns_policy.specs.Grammar.{step, next, or_syntax, read_on}
 use Rattle.ns_policy.specs.Layout.{Piece, blank, comment, part, text_of, tokens_of, first_is, in_line, Spells, Apart, Layout}
-use Rattle.ns_policy.proofs.Layouts.{both}
 use Rattle.ns_types.proofs.Tests.{is_no}
 
 -- ---- fronts
@@ -84,7 +83,7 @@ string_backs : (x : ℕ) (s : List ℕ) → (x == 34) ≡ true → Backs (x ∷ 
 unfolding string_at
 string_backs x s e =
     backs_if (x ∷ s) _ _ _
-    (λ c. let p = both (begins_with 34 (after is_string_byte s)) (not (has_template (front is_string_byte s))) c in
+    (λ c. let p = and_parts (begins_with 34 (after is_string_byte s)) (not (has_template (front is_string_byte s))) c in
     let w = front is_string_byte s in
     let rest = drop 1 (after is_string_byte s) in
     let tail : s ≡ (w ++ 34 ∷ []) ++ rest = parts is_string_byte s ∙ ap (λ us. w ++ us) (quoted (after is_string_byte s) p.0) ∙
@@ -159,7 +158,7 @@ slashed_line : (x : ℕ) (xs : List ℕ) (ps : List Piece) → (x == 47) ≡ tru
     list_all in_line line ≡ true → first_is in_line (text_of qs) ≡ false → Layout qs → xs ≡ line ++ text_of qs → tokens_of qs ≡ tokens_of ps → Regap ps (x ∷ xs)
 slashed_line x xs ps e b [] qs all stop laid is same = no_line xs (text_of qs) b is stop _
 slashed_line x xs ps e b (z ∷ line) qs all stop laid is same =
-    let p = both (in_line z) (list_all in_line line) all in
+    let p = and_parts (in_line z) (list_all in_line line) all in
     let second : (z == 47) ≡ true = sym (ap (begins_with 47) is) ∙ b in
     (comment true line ∷ qs, ((p.1, stop), laid), first_byte x 47 xs e ∙ ap (λ us. 47 ∷ us) (is ∙ first_byte z 47 (line ++ text_of qs) second), same)
 
