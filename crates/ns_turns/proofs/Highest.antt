@@ -1,18 +1,18 @@
 -- Of the keys with the greatest priority the first: it is the first key of the highest level that has one.
 use Rattle.std.specs.Prelude.{◌≡◌, ℕ, ◌<◌, ◌≤◌, Bool, true, false, cond, T, List, [], ◌∷◌, Option, Some, None, filter, fold, nat_eq, nat_le}
-use Rattle.std.proofs.Common.{Ordering, Less, Equal, Greater, refl, sym, ap, subst, ◌∙◌, arith}
+use Rattle.std.proofs.Common.{Less, refl, sym, ap, subst, ◌∙◌, arith}
 use Rattle.std.proofs.lemmas.Cmp.{ranked}
 use Rattle.std.proofs.lemmas.Bool.{leb-false, eq-eqb, eqb-true, le-leb, leb-true, ne_eqb}
 use Rattle.std.specs.FinMap.Entries.{below_all, find, is_sorted}
 use Rattle.std.specs.List.{list_all, slice_get}
 use Rattle.std.specs.Option.{option_or}
-use Rattle.std.specs.Ordering.{is_lt, nat_cmp}
+use Rattle.std.specs.Ordering.{nat_cmp}
 use Rattle.keyed.specs.Queue.{KeyQueue}
 use Rattle.keyed.specs.Table.{flat}
 use Rattle.ns_types.proofs.Elements.{all_from_each, each_from_all, each_of, each_passes, each_still}
 use Rattle.ns_types.proofs.Lists.{not_both}
 use Rattle.ns_types.proofs.Named.{one_number, other_number}
-use Rattle.ns_types.proofs.Tables.{tied}
+use Rattle.ns_types.proofs.Tables.{less_by, tied}
 use Rattle.ns_types.proofs.Tests.{first, second}
 use Rattle.ns_types.specs.State.Lists.{Each}
 use Rattle.ns_types.specs.State.Names.{Key, same_number}
@@ -26,14 +26,6 @@ not_empty x xs e = cc
 
 same_head : {A : Type 0} (x y : A) (xs ys : List A) → x ∷ xs ≡ y ∷ ys → x ≡ y
 same_head x y xs ys e = cc
-
-less_of : (a b : ℕ) → T (is_lt (nat_cmp a b)) → a < b
-less_of a b h = by (nat_cmp a b) refl h
-  where
-    by : (r : Ordering) → r ≡ nat_cmp a b → T (is_lt r) → a < b
-    by Less e h = ranked a b Less e
-    by Equal e h = absurd h
-    by Greater e h = absurd h
 
 module _ (p : Key → ℕ) where
   abbrev pub among : ℕ → List Key → List Key
@@ -107,7 +99,7 @@ module _ (p : Key → ℕ) where
   stands_above k ((m, q) ∷ es) n key rest below at = by (same_number n m) refl (stands_above k es n key rest (second _ _ below))
     where
       by : (t : Bool) → same_number n m ≡ t → (level_in es n ≡ key ∷ rest → k < n) → k < n
-      by true t later = subst (λ n. k < n) (sym (tied one_number n m t)) (less_of k m (first _ _ below))
+      by true t later = subst (λ n. k < n) (sym (tied one_number n m t)) (ranked k m Less (sym (less_by _ (first _ _ below))))
       by false t later = later (sym (level_other m q es n t) ∙ at)
 
   -- what the walk finds: the first key of the highest level that has one, or none of them has one
