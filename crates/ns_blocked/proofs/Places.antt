@@ -6,6 +6,7 @@ use Rattle.std.proofs.Math.Seq.{take-suc}
 use Rattle.std.proofs.lemmas.List.{append-nil, reverse-append}
 use Rattle.std.proofs.lemmas.List.Elements.{filter_map-append}
 use Rattle.std.proofs.Math.Bool.{or-false, or-true, or_assoc}
+use Rattle.std.proofs.lemmas.List.Folds.{list_any-append}
 use Rattle.std.specs.List.{cons_option, filter_map, list_any}
 use Rattle.std.specs.FinMap.{entries}
 use Rattle.keyed.proofs.Mapped.{take_all}
@@ -26,9 +27,8 @@ use Rattle.ns_blocked.proofs.OneKey.{same_turned, slot_found}
 
 -- ---- places that are found, one after another
 
-any_last : {A : Type 0} (p : A → Bool) (xs : List A) (x : A) → list_any p (xs ++ x ∷ []) ≡ (list_any p xs || p x)
-any_last p [] x = or-false (p x)
-any_last p (y ∷ xs) x = ap (λ b. p y || b) (any_last p xs x) ∙ sym (or_assoc (p y) (list_any p xs) (p x))
+pub any_last : {A : Type 0} (p : A → Bool) (xs : List A) (x : A) → list_any p (xs ++ x ∷ []) ≡ (list_any p xs || p x)
+any_last p xs x = list_any-append p xs (x ∷ []) ∙ ap (λ b. list_any p xs || b) (or-false (p x))
 
 pub adds_none : {A : Type 0} (more : A → ℕ → Bool) (places : List ℕ) → AddsPlaces (λ n. list_any (λ a. more a n) []) places places
 adds_none more places n = sym (or-false (has_number places n))

@@ -2,7 +2,7 @@
 use Rattle.std.specs.Prelude.{◌≡◌, ℕ, ◌+◌, ◌<◌, Bool, true, false, cond, not, ◌&&◌, ◌||◌, List, [], ◌∷◌, ◌++◌, length, map, filter}
 use Rattle.std.specs.Prelude.{Option, Some, None, option_map}
 use Rattle.std.proofs.Common.{refl, sym, ap, ◌∙◌, add-one, get_or, take}
-use Rattle.std.proofs.Math.Bool.{and-false, or-false, or-true, or_assoc}
+use Rattle.std.proofs.Math.Bool.{and-false, or-true}
 use Rattle.std.proofs.Math.Seq.{take-suc}
 use Rattle.std.specs.FinMap.{contains_key}
 use Rattle.std.specs.List.{cons_option, list_any}
@@ -13,6 +13,7 @@ use Rattle.ns_blocked.specs.declared.releases.ReleasedPool.{ReleasedPool}
 use Rattle.ns_blocked.specs.declared.releases.Releases.{Releases}
 use Rattle.ns_blocked.specs.Waking.{entries_in, entry_of, is_woken, keys_of_passing, woken_by}
 use Rattle.ns_blocked.proofs.OneKey.{same_turned}
+use Rattle.ns_blocked.proofs.Places.{any_last}
 use Rattle.ns_change.specs.declared.change.Change.{Change}
 use Rattle.ns_change.specs.declared.change.ListChange.{ListChange}
 use Rattle.ns_release.specs.Released.{at_room, releases_wake, releases_wake_at, stays, woken_from}
@@ -33,10 +34,6 @@ use Rattle.ns_types.specs.declared.evaluation.Evaluation.{Evaluation}
 use Rattle.ns_types.specs.declared.node.Class.{Class}
 
 -- ---- tests of lists
-
-any_last : {A : Type 0} (p : A → Bool) (xs : List A) (x : A) → list_any p (xs ++ x ∷ []) ≡ (list_any p xs || p x)
-any_last p [] x = or-false (p x)
-any_last p (y ∷ xs) x = ap (λ b. p y || b) (any_last p xs x) ∙ sym (or_assoc (p y) (list_any p xs) (p x))
 
 any_next : {A : Type 0} (p : A → Bool) (xs : List A) (i : ℕ) (x : A) → i < length xs → x ≡ get_or xs i x →
     (list_any p (take i xs) || p x) ≡ list_any p (take (i + 1) xs)
