@@ -80,7 +80,7 @@ module _ {K X : Type 0} (look : K → Option X) where
   found_flat show f (a ∷ xs) = ap (map show) (found_append (f a) (flat_map f xs)) ∙ map-append show (found_at look (f a)) (found_at look (flat_map f xs))
       ∙ ap (λ l. map show (found_at look (f a)) ++ l) (found_flat show f xs)
 
-flat_alike : {A Y : Type 0} (f g : A → List Y) (xs : List A) → Each (λ a. f a ≡ g a) xs → flat_map f xs ≡ flat_map g xs
+pub flat_alike : {A Y : Type 0} (f g : A → List Y) (xs : List A) → Each (λ a. f a ≡ g a) xs → flat_map f xs ≡ flat_map g xs
 flat_alike f g [] h = refl
 flat_alike f g (a ∷ xs) h = λ i. h.0 i ++ flat_alike f g xs h.1 i
 

@@ -10,7 +10,6 @@ use Rattle.keyed.specs.Table.{flat, row_list, rows}
 use Rattle.keyed.proofs.Levels.{none_there}
 use Rattle.keyed.proofs.Tables.{entries-rows}
 use Rattle.ns_types.specs.declared.allocation.Allocation.{Allocation}
-use Rattle.ns_types.specs.State.Lists.{Each}
 use Rattle.ns_types.specs.State.Names.{Name, Key, ByNumber, has_key, name_cmp}
 use Rattle.ns_types.specs.State.Rows.{World, Tenant, allocation_at, is_live_on}
 use Rattle.ns_types.proofs.Elements.{map_map}
@@ -18,7 +17,7 @@ use Rattle.ns_types.proofs.Named.{names, one_name}
 use Rattle.ns_types.proofs.TableRows.{no_entries}
 use Rattle.ns_types.proofs.Tables.{each_row}
 use Rattle.ns_live.specs.Listed.{keys_in}
-use Rattle.ns_live.proofs.Listing.{flat_at_keys, live_set, no_losses}
+use Rattle.ns_live.proofs.Listing.{flat_alike, flat_at_keys, live_set, no_losses}
 use Rattle.ns_nodes.specs.Losing.{IsLiveSet, loses, losing_keys, losing_keys_at, losing_keys_in, losing_rows, job_keys_at, slot_key, slot_keys}
 use Rattle.ns_nodes.proofs.Judged.{none_held, rows_by}
 use Rattle.ns_nodes.proofs.Losses.{jobs_are, keys_at}
@@ -26,10 +25,6 @@ use Rattle.ns_nodes.proofs.LossPast.{no_jobs}
 use Rattle.ns_nodes.proofs.Renewed.{all_rows, keys_of, losses_are}
 
 -- ---- lists
-
-flat_alike : {A Y : Type 0} (f g : A → List Y) (xs : List A) → Each (λ a. f a ≡ g a) xs → flat_map f xs ≡ flat_map g xs
-flat_alike f g [] h = refl
-flat_alike f g (a ∷ xs) h = λ i. h.0 i ++ flat_alike f g xs h.1 i
 
 -- ---- slot by slot, the keys in their order
 
