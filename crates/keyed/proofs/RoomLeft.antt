@@ -81,7 +81,7 @@ module _ (old new : KeyQueue) (key : Key) (rest left all : List Key) (steps : re
 
 -- ---- keys that are taken out, one after another
 
-turned_key : (a b : Key) → same_key a b ≡ same_key b a
+pub turned_key : (a b : Key) → same_key a b ≡ same_key b a
 turned_key a b = λ i. (eq_by_cmp_equiv names).symm a.0 b.0 i && (eq_by_cmp_equiv numbers).symm a.1 b.1 i
 
 pub none_taken : (key : Key) (xs : List Key) → has_key xs key ≡ false → filter (λ k. not (same_key k key)) xs ≡ xs

@@ -4,7 +4,6 @@ use Rattle.std.specs.Prelude.{Option, Some, None, filter, fold, length}
 use Rattle.std.proofs.Common.{refl, sym, ap, ◌∙◌, arith, length-drop, append_assoc, get_or, drop}
 use Rattle.std.specs.Option.{option_map_or}
 use Rattle.std.specs.List.{list_any}
-use Rattle.std.specs.Cmp.{eq_by_cmp_equiv}
 use Rattle.std.specs.FinMap.{contains_key, entries, get}
 use Rattle.keyed.specs.Table.{rows, row_at, at_slot}
 use Rattle.ns_types.specs.declared.evaluation.Evaluation.{Evaluation}
@@ -15,7 +14,7 @@ use Rattle.ns_types.specs.Working.Work.{without_key}
 use Rattle.ns_types.specs.State.Rows.{World, Tenant, evaluation_at}
 use Rattle.ns_types.specs.State.Tables.{any_row}
 use Rattle.ns_types.proofs.Lists.{any_alike, each, filter-append}
-use Rattle.ns_types.proofs.Named.{names, numbers, one_number}
+use Rattle.ns_types.proofs.Named.{numbers, one_number}
 use Rattle.ns_change.specs.declared.change.Change.{Change}
 use Rattle.ns_change.specs.declared.change.ListChange.{ListChange}
 use Rattle.ns_change.specs.declared.change.TenantChange.{TenantChange}
@@ -28,6 +27,7 @@ use Rattle.std.proofs.lemmas.List.Folds.{list_any-append}
 use Rattle.std.proofs.Math.Bool.{and-false, or-false}
 use Rattle.keyed.proofs.Over.{any_row-both}
 use Rattle.keyed.proofs.Queues.{from_here}
+use Rattle.keyed.proofs.RoomLeft.{turned_key}
 use Rattle.keyed.proofs.Viewing.{any_row-rows}
 use Rattle.ns_change.proofs.Waking.{unblock_one, wake_is, without_blocked_keys}
 use Rattle.ns_types.specs.Settling.Settle.{wake}
@@ -157,11 +157,8 @@ module _ (t : Tables) (keys : List Key) where
 
 -- ---- one key alone
 
-swapped : (a b : Key) → same_key a b ≡ same_key b a
-swapped a b = λ i. (eq_by_cmp_equiv names).symm a.0 b.0 i && (eq_by_cmp_equiv numbers).symm a.1 b.1 i
-
 pub taken_alone : (key : Key) (keys : List Key) → without_keys (key ∷ []) keys ≡ without_key key keys
-taken_alone key keys = λ i. filter (λ other. not ((or-false (same_key other key) ∙ swapped other key) i)) keys
+taken_alone key keys = λ i. filter (λ other. not ((or-false (same_key other key) ∙ turned_key other key) i)) keys
 
 pub added_one : (key : Key) (old : ListChange) → DoesToList (with_key key) old (record old { added = old.added ++ key ∷ [] })
 added_one key old base = sym (append_assoc (without_keys old.taken base) old.added (key ∷ []))
