@@ -1,4 +1,4 @@
-use Rattle.std.proofs.Common.{◌≡◌, ℕ, List, Err, ap, ◌∙◌, sym, refl, arith, subst, ap₂}
+use Rattle.std.proofs.Common.{◌≡◌, ℕ, List, Err, ap, ◌∙◌, sym, subst, ap₂}
 use Rattle.ns_http.specs.Conversation.{Streams}
 use Rattle.ns_http.specs.declared.engine.ConnFault.{ConnFault}
 use Rattle.ns_types.specs.Wire.Http.{End}
@@ -7,7 +7,7 @@ use Rattle.ns_api.specs.declared.following.Driver.{Driver}
 use Rattle.ns_api.specs.Answering.{Holding}
 use Rattle.ns_api.specs.Cores.{ServedByCore, ServedByCoreInPart}
 use Rattle.ns_api.specs.Serving.{holding}
-use Rattle.ns_faults.specs.Lines.{status_of}
+use Rattle.ns_faults.proofs.Faults.{same_fault}
 use Rattle.ns_pipe.proofs.connection.pipe.Goals as goal
 
 same_parts : {D : Type 0} {old new : Holding State D Driver} → old.server ≡ new.server → old.draws ≡ new.draws → old.follower ≡ new.follower → old ≡ new
@@ -27,17 +27,6 @@ module _ {D : Type 0} (draws : D → List ℕ → D → Type 0) where
       ServedByCoreInPart draws old last streams → ServedByCoreInPart draws new last streams
   from_in_part {streams} old new last p q v h = subst (λ x. ServedByCoreInPart draws x last streams) (same_parts p q v) h
 
--- a status tells its fault
-read_fault : (fault : ConnFault) → status_of fault ≡ 3 → fault ≡ ConnFault.Read
-read_fault ConnFault.Read e = refl
-read_fault ConnFault.Write e = absurd (omega arith)
-read_fault ConnFault.Memory e = absurd (omega arith)
-
-write_fault : (fault : ConnFault) → status_of fault ≡ 4 → fault ≡ ConnFault.Write
-write_fault ConnFault.Read e = absurd (omega arith)
-write_fault ConnFault.Write e = refl
-write_fault ConnFault.Memory e = absurd (omega arith)
-
 pub returns-in-Ok-ended-clause-served : goal.returns-in-Ok-ended-clause-served
 returns-in-Ok-ended-clause-served g c = λ _. let h = c.in-Ok-ended.ensures.ok in (
   h.0,
@@ -48,7 +37,7 @@ returns-in-Ok-ended-clause-served g c = λ _. let h = c.in-Ok-ended.ensures.ok i
 
 pub returns-in-Err-clause-read_fault : goal.returns-in-Err-clause-read_fault
 returns-in-Err-clause-read_fault g c = λ e.
-    let is = read_fault c.in-Err.fault (sym c.tell-in-Err.ensures.status ∙ e) in
+    let is = same_fault c.in-Err.fault ConnFault.Read (sym c.tell-in-Err.ensures.status ∙ e) in
     let h = c.in-Err.ensures.read (ap Err is) in (
       h.0,
       holding c.serve-ended.new.api,
@@ -58,7 +47,7 @@ returns-in-Err-clause-read_fault g c = λ e.
 
 pub returns-in-Err-clause-write_fault : goal.returns-in-Err-clause-write_fault
 returns-in-Err-clause-write_fault g c = λ e.
-    let is = write_fault c.in-Err.fault (sym c.tell-in-Err.ensures.status ∙ e) in
+    let is = same_fault c.in-Err.fault ConnFault.Write (sym c.tell-in-Err.ensures.status ∙ e) in
     let h = c.in-Err.ensures.write (ap Err is) in (
       holding c.serve-ended.new.api,
       from_in_part g.D.Draws.draws _ _ _ c.in-Ok.ensures.taker c.in-Ok.ensures.drawer c.in-Ok.ensures.follower h.0,

@@ -1,11 +1,11 @@
-use Rattle.std.proofs.Common.{◌≡◌, ◌⊎◌, ℕ, List, Option, Err, inl, inr, ap, ◌∙◌, sym, refl, arith, subst, ap₂}
+use Rattle.std.proofs.Common.{◌≡◌, ◌⊎◌, ℕ, List, Option, Err, inl, inr, ap, ◌∙◌, sym, subst, ap₂}
 use Rattle.ns_types.specs.State.Names.{Name}
 use Rattle.ns_held.specs.Logs.{History}
 use Rattle.ns_http.specs.declared.counting.Counted.{Counted}
 use Rattle.ns_http.specs.declared.engine.ConnFault.{ConnFault}
 use Rattle.ns_api.specs.declared.following.Driver.{Driver}
 use Rattle.ns_api.specs.Answering.{Holding}
-use Rattle.ns_faults.specs.Lines.{status_of}
+use Rattle.ns_faults.proofs.Faults.{same_fault}
 use Rattle.ns_pipe.specs.Logging.{LogsInPart, LogsNothing, LogsServed, LogsToReadFault}
 use Rattle.ns_pipe.proofs.logging.pipe_log.Goals as goal
 
@@ -14,22 +14,6 @@ same_parts : {D : Type 0} (old new : Holding History D Driver) → old.server �
 same_parts {D} old new p q v =
     let make : History → D → Driver → Holding History D Driver = λ s d f. record { server = s; draws = d; follower = f } in
     subst (λ f. old ≡ make new.server new.draws f) v (ap₂ (λ s d. make s d old.follower) p q)
-
--- a status tells its fault
-read_fault : (fault : ConnFault) → status_of fault ≡ 3 → fault ≡ ConnFault.Read
-read_fault ConnFault.Read e = refl
-read_fault ConnFault.Write e = absurd (omega arith)
-read_fault ConnFault.Memory e = absurd (omega arith)
-
-write_fault : (fault : ConnFault) → status_of fault ≡ 4 → fault ≡ ConnFault.Write
-write_fault ConnFault.Read e = absurd (omega arith)
-write_fault ConnFault.Write e = refl
-write_fault ConnFault.Memory e = absurd (omega arith)
-
-no_memory : (fault : ConnFault) → status_of fault ≡ 5 → fault ≡ ConnFault.Memory
-no_memory ConnFault.Read e = absurd (omega arith)
-no_memory ConnFault.Write e = absurd (omega arith)
-no_memory ConnFault.Memory e = refl
 
 module _ {D R W V : Type 0} (draws : D → List ℕ → D → Type 0) (remaining : R → Option (List ℕ)) (contents : W → Option (List ℕ))
     (replied : V → Option (List ℕ)) (old new : Holding History D Driver) (same : old ≡ new) (reader reader' : Counted R)
@@ -61,7 +45,7 @@ returns-in-Ok-ended-clause-served g c = λ _.
 
 pub returns-in-Err-clause-read_fault : goal.returns-in-Err-clause-read_fault
 returns-in-Err-clause-read_fault g c = λ e.
-    let is = read_fault c.in-Err.fault (sym c.tell-in-Err.ensures.status ∙ e) in
+    let is = same_fault c.in-Err.fault ConnFault.Read (sym c.tell-in-Err.ensures.status ∙ e) in
     to_read_fault g.D.Draws.draws g.R.Read.remaining g.W.Write.contents g.V.Write.contents _ _
     (same_parts _ _ c.in-Ok.ensures.taker c.in-Ok.ensures.drawer c.in-Ok.ensures.follower) c.args.reader.now
     c.serve_and_log-ended.new.reader c.args.replies.now c.serve_and_log-ended.new.replies c.args.bootstrap.now c.args.writer.now
@@ -70,7 +54,7 @@ returns-in-Err-clause-read_fault g c = λ e.
 
 pub returns-in-Err-clause-write_fault : goal.returns-in-Err-clause-write_fault
 returns-in-Err-clause-write_fault g c = λ e.
-    let is = write_fault c.in-Err.fault (sym c.tell-in-Err.ensures.status ∙ e) in
+    let is = same_fault c.in-Err.fault ConnFault.Write (sym c.tell-in-Err.ensures.status ∙ e) in
     in_part g.D.Draws.draws g.R.Read.remaining g.W.Write.contents g.V.Write.contents _ _
     (same_parts _ _ c.in-Ok.ensures.taker c.in-Ok.ensures.drawer c.in-Ok.ensures.follower) c.args.reader.now
     c.serve_and_log-ended.new.reader c.args.replies.now c.serve_and_log-ended.new.replies c.args.bootstrap.now c.args.writer.now
@@ -79,4 +63,4 @@ returns-in-Err-clause-write_fault g c = λ e.
 
 pub returns-in-Err-clause-out_of_memory : goal.returns-in-Err-clause-out_of_memory
 returns-in-Err-clause-out_of_memory g c = λ e.
-    c.in-Err.ensures.memory (ap Err (no_memory c.in-Err.fault (sym c.tell-in-Err.ensures.status ∙ e)))
+    c.in-Err.ensures.memory (ap Err (same_fault c.in-Err.fault ConnFault.Memory (sym c.tell-in-Err.ensures.status ∙ e)))

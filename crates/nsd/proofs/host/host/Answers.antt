@@ -1,5 +1,6 @@
 use Rattle.std.proofs.Common.{◌≡◌, ◌∙◌, ℕ, List, [], Option, arith, inl, inr, refl, sym, subst}
 use Rattle.ns_faults.specs.Lines.{Tells, line_of, status_of}
+use Rattle.ns_faults.proofs.Faults.{same_fault}
 use Rattle.ns_http.specs.declared.counting.Counted.{Counted}
 use Rattle.ns_http.specs.declared.engine.ConnFault.{ConnFault}
 use Rattle.ns_serve.specs.Ending.{IsEnd, TellsLast}
@@ -21,17 +22,6 @@ no_mismatch : (fault : ConnFault) → status_of fault ≡ 1 → ⊥
 no_mismatch ConnFault.Read e = omega (arith, e)
 no_mismatch ConnFault.Write e = omega (arith, e)
 no_mismatch ConnFault.Memory e = omega (arith, e)
-
-same_fault : (a b : ConnFault) → status_of a ≡ status_of b → a ≡ b
-same_fault ConnFault.Read ConnFault.Read e = refl
-same_fault ConnFault.Read ConnFault.Write e = absurd (omega (arith, e))
-same_fault ConnFault.Read ConnFault.Memory e = absurd (omega (arith, e))
-same_fault ConnFault.Write ConnFault.Read e = absurd (omega (arith, e))
-same_fault ConnFault.Write ConnFault.Write e = refl
-same_fault ConnFault.Write ConnFault.Memory e = absurd (omega (arith, e))
-same_fault ConnFault.Memory ConnFault.Read e = absurd (omega (arith, e))
-same_fault ConnFault.Memory ConnFault.Write e = absurd (omega (arith, e))
-same_fault ConnFault.Memory ConnFault.Memory e = refl
 
 -- nothing was told before this line
 only_fault : {D W E : Type 0} (draws : D → List ℕ → D → Type 0) (contents : W → Option (List ℕ)) (said : E → Option (List ℕ))
