@@ -34,7 +34,7 @@ use Rattle.ns_types.proofs.Tests.{same_Some}
 use Rattle.ns_json.specs.Replies.{body_of}
 use Rattle.ns_steps.specs.Served.{served_admin, served_ask, served_node}
 use Rattle.ns_steps.specs.Told.{Holds, Shape, is_of_write}
-use Rattle.ns_steps.proofs.Telling.{is_served_ask, is_served_node, served_tells}
+use Rattle.ns_steps.proofs.Telling.{is_served_ask, is_served_node, served_tells, told}
 use Rattle.ns_answers.specs.Bodies.{nothing_bytes, registered_bytes, stopped_bytes}
 use Rattle.ns_answers.specs.Laws.{may_change, row_of}
 use Rattle.ns_answers.specs.Rooms.{HasRoom, Room, plan_bytes, room_of}
@@ -122,10 +122,6 @@ abbrev Says : {S : Type 0} → (Content → Type 0) → Outcome S → Type 0
 Says P NotEnabled = Unit {0}
 Says P (Refused refusal) = Unit {0}
 Says P (Done content s) = P content
-
-abbrev told : Reply → Answer → Reply
-told other (Ok reply) = reply
-told other (Err refusal) = other
 
 module _ (P : Content → Type 0) where
   says_lift : {A B : Type 0} (whole : A → B) (o : Outcome A) → Says P o → Says P (lift whole o)

@@ -33,7 +33,7 @@ is_of_step Refusal.NotEnabled = false
 is_of_step Refusal.Memory = false
 is_of_step _ = true
 
-abbrev told : Reply → Answer → Reply
+abbrev pub told : Reply → Answer → Reply
 told other (Ok reply) = reply
 told other (Err refusal) = other
 
