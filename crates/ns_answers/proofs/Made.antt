@@ -21,7 +21,7 @@ use Rattle.ns_types.specs.Settling.Outcome.{Outcome, NotEnabled, Refused, Done, 
 use Rattle.ns_types.specs.Settling.Settle.{settle}
 use Rattle.ns_types.specs.State.Names.{Name}
 use Rattle.ns_types.specs.State.Rows.{State, Tenant, World}
-use Rattle.ns_types.specs.Steps.{Answer, act, after, concluded, is_allowed, is_past_bound, reply_of, said}
+use Rattle.ns_types.specs.Steps.{act, after, concluded, is_allowed, is_past_bound, reply_of, said}
 use Rattle.ns_types.specs.Working.Commit.{applied, apply, apply_for, commit}
 use Rattle.ns_types.specs.Working.Looks.{worker_at}
 use Rattle.ns_types.specs.Working.Queue.{is_served}

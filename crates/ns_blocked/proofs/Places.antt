@@ -30,9 +30,6 @@ use Rattle.ns_blocked.proofs.OneKey.{same_turned, slot_found}
 pub any_last : {A : Type 0} (p : A → Bool) (xs : List A) (x : A) → list_any p (xs ++ x ∷ []) ≡ (list_any p xs || p x)
 any_last p xs x = list_any-append p xs (x ∷ []) ∙ ap (λ b. list_any p xs || b) (or-false (p x))
 
-pub adds_none : {A : Type 0} (more : A → ℕ → Bool) (places : List ℕ) → AddsPlaces (λ n. list_any (λ a. more a n) []) places places
-adds_none more places n = sym (or-false (has_number places n))
-
 pub adds_next : {A : Type 0} (more : A → ℕ → Bool) (xs : List A) (i : ℕ) (x : A) (old now new : List ℕ) → i < length xs → x ≡ get_or xs i x →
     AddsPlaces (λ n. list_any (λ a. more a n) (take i xs)) old now → AddsPlaces (more x) now new →
     AddsPlaces (λ n. list_any (λ a. more a n) (take (i + 1) xs)) old new

@@ -28,11 +28,3 @@ IsMistake (Asked.Alone namespace from) text = ⊥
 IsMistake (Asked.Help help) text = ⊥
 IsMistake (Asked.Mistake reason) text = string_bytes reason ≡ text
 IsMistake Asked.NoMemory text = ⊥
-
--- to replay a part of a log
-abbrev pub IsReplay : Asked → Type 0
-IsReplay (Asked.Pipe secret driven printed) = ⊥
-IsReplay (Asked.Alone namespace from) = Unit {0}
-IsReplay (Asked.Help help) = ⊥
-IsReplay (Asked.Mistake reason) = ⊥
-IsReplay Asked.NoMemory = ⊥

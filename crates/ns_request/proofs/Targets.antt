@@ -7,7 +7,7 @@ use Rattle.std.specs.List.{list_all, list_any}
 use Rattle.std.specs.Prelude.{is_some, option_map}
 use Rattle.std.specs.Str.{is_utf8}
 use Rattle.std.specs.Option.{option_or}
-use Rattle.std.specs.Prelude.{unwrap_or, bytes_eq, codes, if◌then◌else◌}
+use Rattle.std.specs.Prelude.{bytes_eq, codes, if◌then◌else◌}
 use Rattle.std.proofs.lemmas.List.Folds.{list_all_more, list_any_more}
 use Rattle.std.proofs.lemmas.List.{take_more}
 use Rattle.uuid.specs.Text.{parsed}
@@ -22,7 +22,7 @@ use Rattle.ns_request.specs.Finding.{found_at}
 use Rattle.ns_request.specs.Judging.{judged, named_in, part_of, second_with}
 use Rattle.ns_request.specs.Methods.{method_of}
 use Rattle.ns_request.specs.Parts.{is_good, is_part, segment_at}
-use Rattle.ns_request.specs.Targets.{first_text, first_text_in, has_good_parts, is_every_pool, is_placed_part, is_pool}
+use Rattle.ns_request.specs.Targets.{first_text, has_good_parts, is_every_pool, is_placed_part, is_pool}
 use Rattle.ns_request.specs.Targets.{names_every_pool, path_in, query_in, second_text, text_at}
 
 -- a part that has a text
@@ -88,10 +88,6 @@ says_more parts i default path segment text shown found first second every_pool 
     }
 
 -- ---- all of them
-
-first_text-first_of : (parts : List Placed) (path : List ℕ) → first_text_in parts path ≡ unwrap_or (first_of parts path) []
-first_text-first_of [] path = refl
-first_text-first_of (part ∷ parts) path = refl
 
 -- ---- what is found by the parts
 

@@ -16,7 +16,7 @@ use Rattle.ns_blocked.proofs.OneKey.{same_turned}
 use Rattle.ns_blocked.proofs.Places.{any_last}
 use Rattle.ns_change.specs.declared.change.Change.{Change}
 use Rattle.ns_change.specs.declared.change.ListChange.{ListChange}
-use Rattle.ns_release.specs.Released.{at_room, releases_wake, releases_wake_at, stays, woken_from}
+use Rattle.ns_release.specs.Released.{releases_wake, stays, woken_from}
 use Rattle.ns_release.specs.Released as release
 use Rattle.ns_release.proofs.Woken.{woken_tests}
 use Rattle.ns_settle.specs.Reached.{AreOfNames, AreOfRooms, any_class, has_room, is_room}

@@ -1,8 +1,8 @@
 -- The list of blocked evaluations goes along with a step.
-use Rattle.std.specs.Prelude.{◌≡◌, ◌≤◌, Bool, true, false, cond, not, ◌&&◌, ◌||◌, List, [], ◌∷◌, ◌++◌, length, map, filter}
+use Rattle.std.specs.Prelude.{◌≡◌, ◌≤◌, Bool, true, false, cond, not, ◌&&◌, List, [], ◌∷◌, ◌++◌, length, map, filter}
 use Rattle.std.specs.Prelude.{Option, Some, None, option_map}
 use Rattle.std.proofs.Common.{refl, sym, ap, subst, ◌∙◌, arith, is_eq}
-use Rattle.std.proofs.Math.Bool.{and-false, or-true}
+use Rattle.std.proofs.Math.Bool.{and-false}
 use Rattle.std.specs.Cmp.{tied_itself}
 use Rattle.std.specs.Cmp.Derive.{both_true}
 use Rattle.std.proofs.lemmas.List.{map-append}
@@ -19,7 +19,6 @@ use Rattle.ns_change.specs.Settled.{settled_world}
 use Rattle.ns_change.specs.declared.change.Settled.{Settled}
 use Rattle.ns_turns.specs.After.{NoneMoves, StillUnmoved}
 use Rattle.ns_turns.specs.Waiting.{IsBlockedIndex, added_entries, entries_for, moves_entry, rows_alike, waits_alike}
-use Rattle.ns_turns.specs.Work.{SameWork}
 use Rattle.ns_types.proofs.Alike.{option_eq_refl, pointwise_refl, same_flag_refl}
 use Rattle.ns_types.proofs.Classes.{by_class, one_class}
 use Rattle.ns_types.proofs.Elements as elements
@@ -193,13 +192,3 @@ none_blocked w list none empty = record {
   entries = empty ∙ ap (entries_for w) (sym none);
   keys = ap (map (λ (e : Entry). e.key)) empty ∙ sym none;
 }
-
--- where the same are blocked, and their rows are the same, the list stays right
-pub stays_right : (w w' : World) (list : BlockedList) → SameWork w w' → IsBlockedIndex w list → IsBlockedIndex w' list
-stays_right w w' list same h = record {
-  entries = h.entries ∙ same_entries w w' w.blocked (each_map entry_of_each w.blocked (each_member w.blocked)) ∙ ap (entries_for w') (sym same.blocked);
-  keys = h.keys ∙ sym same.blocked;
-}
-  where
-    entry_of_each : (key : Key) → has_key w.blocked key ≡ true → HasEntry w w' key
-    entry_of_each key has = ap (option_map (entry_of key)) (sym (same.evaluation key (ap (λ b. has_key w.ready key || b) has ∙ or-true (has_key w.ready key))))
