@@ -1,4 +1,4 @@
--- Sums over a table's rows, told of the keys of another.
+-- Sums over a table's rows, by the keys of another.
 use Rattle.std.specs.Prelude.{◌≡◌, ℕ, ◌+◌, Bool, true, false, cond, List, [], ◌∷◌, map, Option, Some, None, sum_by}
 use Rattle.std.proofs.Common.{refl, sym, ap, arith, zero-add, ◌∙◌}
 use Rattle.std.proofs.lemmas.List.Sums.{sum_by-cons}

@@ -14,7 +14,7 @@ use Rattle.ns_types.proofs.Elements.{any_map}
 use Rattle.ns_types.proofs.Named.{names, one_name}
 use Rattle.ns_types.proofs.Tables.{entries-table_of, get-table_of}
 use Rattle.ns_audit.proofs.Alone.Heading.{plain_keeps}
-use Rattle.ns_alone.specs.Laws.{OthersKeepRecords, OthersKeepShares, RecordsTellShares}
+use Rattle.ns_alone.specs.Laws.{OthersKeepRecords, OthersKeepShares, RecordsDecideShares}
 
 -- ---- the table of the records
 
@@ -38,19 +38,19 @@ any_record f w = ap (list_any (λ e. f e.0 e.1)) (entries-table_of (λ _ (t : Te
 abbrev shares_by : World → Name → Namespace → Bool
 shares_by w ns namespace = not (is_confined namespace) || any_row (λ name other. not (same_name name ns) && overlaps namespace other) (records w)
 
-told : (w : World) (ns : Name) → shares w ns ≡ option_map_or (shares_by w ns) (namespace_at w ns) true
+shares_is : (w : World) (ns : Name) → shares w ns ≡ option_map_or (shares_by w ns) (namespace_at w ns) true
 unfolding shares
-told w ns = by (get w.tenants ns)
+shares_is w ns = by (get w.tenants ns)
   where
     by : (o : Option Tenant) → option_map_or (shares_with_any w ns) o true ≡ option_map_or (shares_by w ns) (option_map (λ t. t.namespace) o) true
     by None = refl
     by (Some t) = ap (λ b. not (is_confined t.namespace) || b) (sym (any_record (λ name other. not (same_name name ns) && overlaps t.namespace other) w))
 
-pub records_tell_shares : RecordsTellShares
-records_tell_shares w x ns same = told x ns
+pub records_decide_shares : RecordsDecideShares
+records_decide_shares w x ns same = shares_is x ns
     ∙ (λ i. option_map_or (λ namespace. not (is_confined namespace) ||
     any_row (λ name other. not (same_name name ns) && overlaps namespace other) (same_records w x same i)) (same ns i) true)
-    ∙ sym (told w ns)
+    ∙ sym (shares_is w ns)
 
 -- ---- steps
 
@@ -59,4 +59,4 @@ others_keep_records s s' step answer ns plain e = (plain_keeps s s' step answer 
 
 pub others_keep_shares : OthersKeepShares
 others_keep_shares s s' step answer ns plain e =
-    records_tell_shares s.world s'.world ns (λ other. others_keep_records s s' step answer other plain e)
+    records_decide_shares s.world s'.world ns (λ other. others_keep_records s s' step answer other plain e)

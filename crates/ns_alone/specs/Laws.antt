@@ -39,8 +39,8 @@ OthersKeepRecords = (s s' : State) (step : Step) (answer : Answer) (ns : Name) �
     namespace_at s'.world ns ≡ namespace_at s.world ns
 
 -- where all records are the same, a namespace shares as much
-abbrev pub RecordsTellShares : Type 0
-RecordsTellShares = (w x : World) (ns : Name) →
+abbrev pub RecordsDecideShares : Type 0
+RecordsDecideShares = (w x : World) (ns : Name) →
     ((other : Name) → namespace_at x other ≡ namespace_at w other) → shares x ns ≡ shares w ns
 
 -- so no other step makes a namespace share more, or less

@@ -4,7 +4,7 @@ ghost use Rattle.ns_alone.specs.Laws.{
   AloneIsValid,
   OthersKeepRecords,
   OthersKeepShares,
-  RecordsTellShares,
+  RecordsDecideShares,
   SameTablesBack,
   SameTablesOn,
 };
@@ -32,9 +32,9 @@ pub fn others_keep_records()
     ensures { OthersKeepRecords }
 {}
 
-/// Whether a namespace shares a pool or its quota is told by the records of the namespaces.
-pub fn records_tell_shares()
-    ensures { RecordsTellShares }
+/// Whether a namespace shares a pool or its quota is decided by the records of the namespaces.
+pub fn records_decide_shares()
+    ensures { RecordsDecideShares }
 {}
 
 /// So a step that is no administrator's leaves a namespace to share what it shared.

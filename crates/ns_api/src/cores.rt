@@ -38,7 +38,7 @@ impl Takes for Held {
     }
 }
 
-/// A new server, which answers requests and drives whom it is told.
+/// A new server, which answers requests and drives whom `driven` names.
 pub fn open<D: Draws + Drop>(
     alloc: Global,
     bootstrap: &Secret,

@@ -64,7 +64,7 @@ no_key ns (k ∷ keys) e n = λ i. (left_none (same_name ns k.0) _ e i && same_n
 abbrev pub its_doing : Snapshot → Plan → World → Tenant → Doing
 its_doing kept p w t = record { stops = (done kept p w t).checked.stops; placed = placed kept p w t; victims = evicted kept p w t }
 
--- told by the nodes that do their part
+-- by the nodes that do their part
 pub doing_is : (kept : Snapshot) (p : Plan) (w : World) (t : Tenant) → get w.tenants kept.namespace ≡ Some t →
     its_doing kept p w t ≡ doing w kept p (done kept p w t).checked.committed
 doing_is kept p w t is = λ i. record {

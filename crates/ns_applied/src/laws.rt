@@ -99,7 +99,7 @@ pub fn refused_passes_nothing()
     ensures { RefusedPassesNothing }
 {}
 
-/// So whether a worker's Apply is made or refused is told before anything is written.
+/// So whether a worker's Apply is made or refused is known before anything is written.
 pub fn apply_is_judged()
     ensures { ApplyIsJudged }
 {}

@@ -22,7 +22,7 @@ use Rattle.ns_request.specs.Queries.{index_in, namespace_in, purge_in}
 use Rattle.ns_request.specs.Secrets.{secret_of}
 use Rattle.ns_request.specs.Targets.{query_in}
 use Rattle.ns_asked.specs.Parts.{bearer_in, fourth_part, namespace_of, number_in, prefix_in, third_part}
-use Rattle.ns_asked.specs.Telling.{eligibility_put, node_deleted, node_put, nodes_listed, report_put, status_put}
+use Rattle.ns_asked.specs.Nodes.{eligibility_put, node_deleted, node_put, nodes_listed, report_put, status_put}
 
 -- ---- commands by who asks
 

@@ -1,5 +1,5 @@
 pub mod Parts
-pub mod Telling
+pub mod Nodes
 pub mod Asking
 pub mod Wanted
 pub mod Drawing

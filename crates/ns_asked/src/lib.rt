@@ -4,8 +4,8 @@
 mod asking;
 mod documents;
 mod drawing;
+mod nodes;
 mod tables;
-mod telling;
 mod wanted;
 
 pub use asking::asked;

@@ -10,8 +10,8 @@ ghost use Rattle.ns_asked.specs.Parts.{prefix_in, third_part};
 ghost use Rattle.ns_asked.specs.Wanted.{IsServedWanted, Wants};
 
 use crate::documents::{create_token, put_namespace, put_policy, put_pool, put_quota, register};
-use crate::telling::{put_eligibility, put_node, put_report, put_status};
-use crate::wanted::{Wanted, administers, asks, asks_in, tells};
+use crate::nodes::{put_eligibility, put_node, put_report, put_status};
+use crate::wanted::{Wanted, administers, asks, asks_in, commands};
 use ns_request::{Endpoint, Method, Target};
 use ns_types::id::{IdKind, id_read};
 use ns_types::refusal::Refusal;
@@ -75,7 +75,7 @@ fn stream(alloc: Global, target: &Target<'_>) -> Result<Wanted, Refusal>
     Ok(asks(AskCommand::Events(index)))
 }
 
-#[tactic(auto, unfolding(crate::specs::Asking::asked_of, crate::specs::Asking::ask_of, crate::specs::Asking::admin_of, crate::specs::Parts::bearer_in, crate::specs::Asking::namespace_read, crate::specs::Asking::pool_read, crate::specs::Telling::node_of, crate::specs::Wanted::step_of))]
+#[tactic(auto, unfolding(crate::specs::Asking::asked_of, crate::specs::Asking::ask_of, crate::specs::Asking::admin_of, crate::specs::Parts::bearer_in, crate::specs::Asking::namespace_read, crate::specs::Asking::pool_read, crate::specs::Nodes::node_of, crate::specs::Wanted::step_of))]
 fn read(alloc: Global, target: &Target<'_>) -> Result<Wanted, Refusal>
     ensures wanted { Wants target.now.request result (asked_of target.now.endpoint Method.Get) }
     ensures served { IfOk result IsServedWanted }
@@ -102,8 +102,8 @@ fn read(alloc: Global, target: &Target<'_>) -> Result<Wanted, Refusal>
         Endpoint::QuotaUsage => Ok(asks(AskCommand::QuotaUsage(target.name.clone()?))),
         Endpoint::EventStream => stream(alloc, target),
         Endpoint::Pools => Ok(administers(AdminCommand::ListPools)),
-        Endpoint::Pool => Ok(tells(target.name.clone()?, NodeCommand::ReadPool)),
-        Endpoint::PoolNodes => Ok(tells(target.name.clone()?, NodeCommand::ListNodes)),
+        Endpoint::Pool => Ok(commands(target.name.clone()?, NodeCommand::ReadPool)),
+        Endpoint::PoolNodes => Ok(commands(target.name.clone()?, NodeCommand::ListNodes)),
         Endpoint::Policy => Ok(administers(AdminCommand::ReadPolicy(target.name.clone()?))),
         _ => Err(Refusal::NotServed),
     }
@@ -137,7 +137,7 @@ fn write(alloc: Global, target: &Target<'_>) -> Result<Wanted, Refusal>
     }
 }
 
-#[tactic(auto, unfolding(crate::specs::Asking::asked_of, crate::specs::Asking::admin_of, crate::specs::Parts::bearer_in, crate::specs::Telling::node_of, crate::specs::Wanted::step_of))]
+#[tactic(auto, unfolding(crate::specs::Asking::asked_of, crate::specs::Asking::admin_of, crate::specs::Parts::bearer_in, crate::specs::Nodes::node_of, crate::specs::Wanted::step_of))]
 fn delete(alloc: Global, target: &Target<'_>) -> Result<Wanted, Refusal>
     ensures wanted { Wants target.now.request result (asked_of target.now.endpoint Method.Delete) }
     ensures served { IfOk result IsServedWanted }
@@ -148,7 +148,7 @@ fn delete(alloc: Global, target: &Target<'_>) -> Result<Wanted, Refusal>
         Endpoint::Quota => administers(AdminCommand::DeleteQuota(target.name.clone()?)),
         Endpoint::Pool => administers(AdminCommand::DeletePool(target.name.clone()?)),
         Endpoint::Node => {
-            tells(
+            commands(
                 target.name.clone()?,
                 NodeCommand::DeleteNode(target.node.clone()?),
             )

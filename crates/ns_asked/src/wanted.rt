@@ -3,7 +3,7 @@
 ghost use Rattle.std.specs.Prelude.{◌≡◌, [], None, IsTrue};
 ghost use Rattle.ns_types.specs.declared.name.NameKind.TheVariants as NameKind;
 ghost use Rattle.ns_types.specs.declared.step.AdminCommand.TheVariants as AdminCommand;
-ghost use Rattle.ns_types.specs.Asking.Good.{is_good_admin, is_good_ask, IsGoodTelling};
+ghost use Rattle.ns_types.specs.Asking.Good.{IsGoodNodeCommand, is_good_admin, is_good_ask};
 ghost use Rattle.ns_types.specs.State.Limits.{is_good_token};
 ghost use Rattle.ns_types.specs.State.Name.{is_name};
 ghost use Rattle.ns_documents.specs.Access.{with_accessor};
@@ -12,7 +12,7 @@ ghost use Rattle.ns_asked.specs.Drawing.{with_texts};
 ghost use Rattle.ns_asked.specs.declared.wanted.Wanted.TheVariants as Wanted;
 
 use ns_documents::TokenDocument;
-use ns_types::good::{GoodAdmin, GoodAsk, GoodTelling};
+use ns_types::good::{GoodAdmin, GoodAsk, GoodNodeCommand};
 use ns_types::step::{AdminCommand, AskCommand, NewToken, NodeCommand, Step};
 use ns_types::text::Text;
 use std::marker::Model;
@@ -78,7 +78,7 @@ pub enum Wanted {
     Admin(GoodAdmin),
     Token(GoodToken),
     /// Of the pool that the path names.
-    Node(Text, GoodTelling),
+    Node(Text, GoodNodeCommand),
 }
 
 /// What is asked in the namespace of the query.
@@ -105,12 +105,12 @@ pub fn administers(command: AdminCommand) -> Wanted
     Wanted::Admin(GoodAdmin::new(command))
 }
 
-/// What is told of the pool that the path names.
-pub fn tells(pool: Text, command: NodeCommand) -> Wanted
-    requires { IsGoodTelling command }
+/// What is asked of the pool that the path names.
+pub fn commands(pool: Text, command: NodeCommand) -> Wanted
+    requires { IsGoodNodeCommand command }
     ensures { result ≡ Wanted.Node pool command }
 {
-    Wanted::Node(pool, GoodTelling::new(command))
+    Wanted::Node(pool, GoodNodeCommand::new(command))
 }
 
 /// Who asks, and the namespace that the query names.

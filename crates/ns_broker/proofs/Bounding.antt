@@ -119,15 +119,15 @@ shown_by e b is fails =
     && option_eq same_name e.quota e.quota && same_flag e.escapes e.escapes in
     ap (λ s. after (before && s)) (is ∙ fails) ∙ ap after (and-false before)
 
-told_apart : (s : Status) → is_failed s ≡ false → same_name (status_text s) (status_text Status.Failed) ≡ false
-told_apart Status.Pending is = refl
-told_apart Status.Blocked is = refl
-told_apart Status.Complete is = refl
-told_apart Status.Canceled is = refl
-told_apart Status.Failed is = not_both refl is
+texts_differ : (s : Status) → is_failed s ≡ false → same_name (status_text s) (status_text Status.Failed) ≡ false
+texts_differ Status.Pending is = refl
+texts_differ Status.Blocked is = refl
+texts_differ Status.Complete is = refl
+texts_differ Status.Canceled is = refl
+texts_differ Status.Failed is = not_both refl is
 
 shown : (e : Evaluation) → is_failed e.status ≡ false → same_evaluation e (failed e) ≡ false
-shown e is = shown_by e _ refl (told_apart e.status is)
+shown e is = shown_by e _ refl (texts_differ e.status is)
 
 -- ---- the namespace of an evaluation that is there
 

@@ -1,4 +1,4 @@
--- A worker's row, with the namespace for which it is busy, and what is told of it.
+-- A worker's row, with the namespace for which it is busy, and its fields.
 use Rattle.std.specs.Prelude.{ℕ, Option, option_map}
 use Rattle.ns_types.specs.declared.worker.Phase.{Phase}
 use Rattle.ns_types.specs.Working.Worker.{Worker}
@@ -15,5 +15,5 @@ busy_for w number = option_map (λ row. row.0) (row_of w number)
 abbrev pub busy_of : Name × Worker → Name × ℕ × Phase × ℕ
 busy_of row = (row.0, row.1.evaluation, row.1.phase, row.1.tries)
 
-abbrev pub busy_told : Busy → Name × ℕ × Phase × ℕ
-busy_told b = (b.namespace.now, b.evaluation, b.phase, b.tries)
+abbrev pub busy_fields : Busy → Name × ℕ × Phase × ℕ
+busy_fields b = (b.namespace.now, b.evaluation, b.phase, b.tries)

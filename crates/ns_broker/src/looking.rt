@@ -2,7 +2,7 @@
 
 ghost use Rattle.std.specs.Prelude.{◌≡◌, find, is_some, option_copied, option_map};
 ghost use Rattle.ns_types.specs.Working.Looks.{first_plan, row_of, served_ready, worker_at};
-ghost use Rattle.ns_broker.specs.Looking.{busy_for, busy_of, busy_told};
+ghost use Rattle.ns_broker.specs.Looking.{busy_fields, busy_for, busy_of};
 ghost use Rattle.ns_broker.specs.Serving.{is_busy_for};
 ghost use Rattle.ns_turns.specs.Turns.{IsRight};
 ghost use Rattle.ns_world.specs.World.{world_of};
@@ -128,7 +128,7 @@ pub fn row_of<'a>(
 /// What the worker is busy with, and how far it is. None: it is idle.
 pub fn phase<'a>(tables: &'a Tables, turns: &'a Turns, number: u64) -> Option<Busy<'a>>
     requires { IsRight (world_of tables.now) turns.now }
-    ensures { option_map busy_told result
+    ensures { option_map busy_fields result
         ≡ option_map busy_of (row_of (world_of tables.now) number) }
 {
     match row_of(tables, turns, number) {

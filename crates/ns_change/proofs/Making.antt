@@ -75,9 +75,9 @@ module _ (step : Step) (s : State) (outcome : Outcome World) (acts : act step s 
       done (Refused refusal) is = not_both refl (ap is_done (sym (ap (bounded s.world) (sym is) ∙ h)))
       done (Done content w) is = by (is_past_bound (settle s.world w)) refl
         where
-          told : (b : Bool) → is_past_bound (settle s.world w) ≡ b → cond b (Refused Refusal.Full) (Done content w) ≡ Done x.content (view t x.change)
-          told b past = ap (λ b. cond b (Refused Refusal.Full) (Done content w)) (sym past) ∙ ap (bounded s.world) (sym is) ∙ h
+          bounded_at : (b : Bool) → is_past_bound (settle s.world w) ≡ b → cond b (Refused Refusal.Full) (Done content w) ≡ Done x.content (view t x.change)
+          bounded_at b past = ap (λ b. cond b (Refused Refusal.Full) (Done content w)) (sym past) ∙ ap (bounded s.world) (sym is) ∙ h
 
           by : (b : Bool) → is_past_bound (settle s.world w) ≡ b → outcome ≡ Done x.content (view t x.change)
-          by true past = not_both refl (ap is_done (sym (told true past)))
-          by false past = is ∙ told false past
+          by true past = not_both refl (ap is_done (sym (bounded_at true past)))
+          by false past = is ∙ bounded_at false past

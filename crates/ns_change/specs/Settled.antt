@@ -12,12 +12,12 @@ use Rattle.ns_change.specs.declared.change.Settled.{Settled}
 use Rattle.ns_change.specs.declared.change.SettledTenant.{SettledTenant}
 use Rattle.ns_change.specs.Changed.{changed_list, changed_pool, changed_quota, changed_tenant, perhaps}
 
--- a namespace of which events are told has one index more
-abbrev pub tell : Tenant → List Event → Tenant
-tell t events = record t { index = t.index + 1; events = last 100 (t.events ++ events) }
+-- a namespace whose events are published has one index more
+abbrev pub publish : Tenant → List Event → Tenant
+publish t events = record t { index = t.index + 1; events = last 100 (t.events ++ events) }
 
 abbrev pub settled_tenant : Tenant → SettledTenant → Tenant
-settled_tenant t x = perhaps tell x.events (changed_tenant t x.rows)
+settled_tenant t x = perhaps publish x.events (changed_tenant t x.rows)
 
 -- the released classes of that pool, in no order and perhaps twice
 abbrev pub classes_in : Name → List (Name × Class) → List Class

@@ -19,7 +19,7 @@ use Rattle.ns_types.proofs.Tables.{each_row}
 use Rattle.ns_types.proofs.Tests.{not_Some, same_Some}
 use Rattle.ns_change.specs.declared.change.SettledTenant.{SettledTenant}
 use Rattle.ns_change.specs.Changed.{changed_tenant, perhaps}
-use Rattle.ns_change.specs.Settled.{settled_tenant, tell}
+use Rattle.ns_change.specs.Settled.{publish, settled_tenant}
 use Rattle.ns_commit.specs.Indexed.{HasIndexRoom, IsRightFor, allocation_in}
 use Rattle.ns_commit.specs.Owners.{changed_owners, owners}
 use Rattle.ns_commit.proofs.Owned.{at_each, found_here, found_other, get-changed, get-owners, no_more, none_changed, rest_sorted}
@@ -43,23 +43,23 @@ at_keys : (P : Key → Type 0) (k : Name) → ((n : ℕ) → P (k, n)) → ((key
 at_keys P k here others key = at_each (λ q. (n : ℕ) → P (q, n)) k here (λ q e n. others (q, n) e) key.0 key.1
 
 -- events move no allocation
-told_same : (events : Option (List Event)) (t : Tenant) → (perhaps tell events t).allocations ≡ t.allocations
-told_same None t = refl
-told_same (Some events) t = refl
+published_same : (events : Option (List Event)) (t : Tenant) → (perhaps publish events t).allocations ≡ t.allocations
+published_same None t = refl
+published_same (Some events) t = refl
 
 -- no namespace gets another quota
 quota_kept : (x : FinMap name_cmp (Option SettledTenant)) (m : ByName Tenant) (ns : Name) → quota_in (changed_owners settled_tenant x m) ns ≡ quota_in m ns
 quota_kept x m ns = ap (option_and_then (λ t. t.namespace.quota)) (get-changed settled_tenant x m ns) ∙ by (row_at x ns) (get m ns)
   where
-    told_the_same : (t : Tenant) (events : Option (List Event)) → (perhaps tell events t).namespace.quota ≡ t.namespace.quota
-    told_the_same t None = refl
-    told_the_same t (Some events) = refl
+    published_the_same : (t : Tenant) (events : Option (List Event)) → (perhaps publish events t).namespace.quota ≡ t.namespace.quota
+    published_the_same t None = refl
+    published_the_same t (Some events) = refl
 
     by : (r : Option SettledTenant) (t : Option Tenant) →
         option_and_then (λ t. t.namespace.quota) (option_map (perhaps settled_tenant r) t) ≡ option_and_then (λ t. t.namespace.quota) t
     by r None = refl
     by None (Some t) = refl
-    by (Some change) (Some t) = told_the_same (changed_tenant t change.rows) change.events
+    by (Some change) (Some t) = published_the_same (changed_tenant t change.rows) change.events
 
 module _ (changes : FinMap name_cmp (Option SettledTenant)) where
   stand_all : (es : Slots) → es ≡ entries changes → Each (λ e. get changes e.0 ≡ Some e.1) es
@@ -147,7 +147,7 @@ module _ (changes : FinMap name_cmp (Option SettledTenant)) where
         new (k, n) ≡ get (over (rows row.allocations.slots) x.rows.allocations) n
     changed_at k x row is at n = new_at (k, n)
         ∙ (λ i. of n (option_map (perhaps settled_tenant (is i)) (tenant_at k row at i)))
-        ∙ ap (λ m. get m n) (told_same x.events (changed_tenant (tenant_of row) x.rows))
+        ∙ ap (λ m. get m n) (published_same x.events (changed_tenant (tenant_of row) x.rows))
 
     old_at : (k : Name) (row : TenantRows) → row_at stored k ≡ Some row → (n : ℕ) → old (k, n) ≡ row_at row.allocations.slots n
     old_at k row at n = ap (of n) (tenant_at k row at) ∙ get-rows numbers row.allocations.slots n
@@ -183,7 +183,7 @@ module _ (changes : FinMap name_cmp (Option SettledTenant)) where
         new_use k ≡ rows_use (over (rows row.allocations.slots) x.rows.allocations)
     changed_use k x row is at = new_use_at k
         ∙ (λ i. use_of (option_map (perhaps settled_tenant (is i)) (tenant_at k row at i)))
-        ∙ ap rows_use (told_same x.events (changed_tenant (tenant_of row) x.rows))
+        ∙ ap rows_use (published_same x.events (changed_tenant (tenant_of row) x.rows))
 
     -- the changes of namespaces that es names are still to come
     abbrev pub use_time : Option (Option SettledTenant) → Name → Resources

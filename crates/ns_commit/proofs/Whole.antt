@@ -22,7 +22,7 @@ use Rattle.ns_change.specs.declared.change.Settled.{Settled}
 use Rattle.ns_change.specs.declared.change.SettledTenant.{SettledTenant}
 use Rattle.ns_change.specs.Changed.{changed_list, changed_pool, changed_quota, perhaps}
 use Rattle.ns_change.specs.Settled.{classes_in, settled_tenant, settled_world}
-use Rattle.ns_commit.specs.Committed.{CanRise, CanTell, Fits, HasNodeRoom, HaveClassRoom, KeepsNodes, settled_quotas}
+use Rattle.ns_commit.specs.Committed.{CanPublish, CanRise, Fits, HasNodeRoom, HaveClassRoom, KeepsNodes, settled_quotas}
 use Rattle.ns_commit.specs.Committed.{numbered_pools, raised_pool, raised_quota, released_quotas, releases, settled_pools, with_classes}
 use Rattle.ns_commit.specs.Indexed.{ForgetsChanged, IsRightFor, allocation_in}
 use Rattle.ns_commit.specs.Owners.{EachChanged, changed_owners, owners}
@@ -231,8 +231,8 @@ index_stays old new before live same keys shown right = subst (λ w. IsRight w l
 
 -- ---- numbers within their bounds
 
-told : (t : Rows.Tenant) (rows : SettledTenant) → is_some rows.events ≡ true → (settled_tenant t rows).index ≡ t.index + 1
-told t rows e = by rows.events e
+published : (t : Rows.Tenant) (rows : SettledTenant) → is_some rows.events ≡ true → (settled_tenant t rows).index ≡ t.index + 1
+published t rows e = by rows.events e
   where
     by : (events : Option (List Event)) → is_some events ≡ true → (settled_tenant t (record rows { events = events })).index ≡ t.index + 1
     by None e = not_both e refl
@@ -254,8 +254,8 @@ module _ (s : Settled) (t : Tables) (fits : Fits (world_of t) s) where
   unfolding world_of settled_world is_past_bound
   quota_fits name row at = none_of_any one_name (λ _ q. nat_lt greatest q.release) _ name row (right_none _ _ fits) at
 
-  pub can_tell : EachChanged CanTell s.tenants t.tenants
-  can_tell name x row at there some = subst (λ n. n < 2 ^ 64) (told (tenant_of row) x some) (within_bound _ (left_none _ _ (left_none _ _
+  pub can_publish : EachChanged CanPublish s.tenants t.tenants
+  can_publish name x row at there some = subst (λ n. n < 2 ^ 64) (published (tenant_of row) x some) (within_bound _ (left_none _ _ (left_none _ _
       (tenant_fits name (settled_tenant (tenant_of row) x) (get-changed settled_tenant s.tenants (owners tenant_of t.tenants) name
       ∙ (λ i. option_map (perhaps settled_tenant (at i)) ((get-owners tenant_of t.tenants name ∙ ap (option_map tenant_of) there) i)))))))
 

@@ -39,13 +39,13 @@ pub record HasRowRoom (x : TenantChange) (t : TenantRows) : Type 0 where
   pub workers : HasRoomFor x.workers t.workers
 
 -- where there are events, the index can rise
-abbrev pub CanTell : SettledTenant → TenantRows → Type 0
-CanTell x t = is_some x.events ≡ true → t.index + 1 < 2 ^ 64
+abbrev pub CanPublish : SettledTenant → TenantRows → Type 0
+CanPublish x t = is_some x.events ≡ true → t.index + 1 < 2 ^ 64
 
 -- a slot for each changed row, and where there are events, an index that can rise
 pub record HasTenantRoom (x : SettledTenant) (t : TenantRows) : Type 0 where
   pub rows : HasRowRoom x.rows t
-  pub index : CanTell x t
+  pub index : CanPublish x t
 
 -- ---- room that is given back
 

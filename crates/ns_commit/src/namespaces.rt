@@ -1,11 +1,11 @@
-//! What changes of a namespace: its rows, and where events are told its index.
+//! What changes of a namespace: its rows, and where events are published its index.
 
 ghost use Rattle.std.proofs.Common.{subst, sym};
 ghost use Rattle.std.specs.Prelude.{◌≡◌, ◌+◌, ◌<◌, ◌^◌, OnOk};
 ghost use Rattle.ns_change.specs.Changed.{changed_tenant};
-ghost use Rattle.ns_change.specs.Settled.{settled_tenant, tell};
+ghost use Rattle.ns_change.specs.Settled.{publish, settled_tenant};
 ghost use Rattle.ns_types.specs.State.Rows.{Tenant};
-ghost use Rattle.ns_commit.specs.Committed.{CanTell, HasRowRoom, HasTenantRoom, IsTenantCleared};
+ghost use Rattle.ns_commit.specs.Committed.{CanPublish, HasRowRoom, HasTenantRoom, IsTenantCleared};
 ghost use Rattle.ns_world.specs.World.{tenant_of};
 
 use crate::clearing::{clear_allocations, clear_evaluations, clear_names, clear_numbers};
@@ -52,9 +52,9 @@ fn commit_rows(tenant: &mut TenantRows, change: TenantChange)
 }
 
 /// The namespace has one index more, and those events. It takes no memory.
-fn tell(tenant: &mut TenantRows, events: Rows<Event>)
+fn publish(tenant: &mut TenantRows, events: Rows<Event>)
     requires index { tenant.old.index + 1 < 2 ^ 64 }
-    ensures { tenant_of tenant.new ≡ tell (tenant_of tenant.old) events }
+    ensures { tenant_of tenant.new ≡ publish (tenant_of tenant.old) events }
 {
     tenant.index += 1;
     tenant.events.append(events);
@@ -67,7 +67,7 @@ impl Owner<SettledTenant> for TenantRows {
 
     ghost changed = { settled_tenant };
 
-    ghost CanChange = { CanTell };
+    ghost CanChange = { CanPublish };
 
     ghost HasRoom = { HasTenantRoom };
 
@@ -88,7 +88,7 @@ impl Owner<SettledTenant> for TenantRows {
         let SettledTenant { rows, events } = settled;
         commit_rows(self, rows);
         if let Some(events) = events {
-            tell(self, events);
+            publish(self, events);
         }
     }
 

@@ -27,13 +27,13 @@ module _ (step : Step) (s : State) where
 
     -- Its content and the change, or the answer. Where memory is wanting, only that the step itself would be done: whether a
     -- counter passes its bound by it, no change tells.
-    abbrev pub Tells : Tables → Result Prepared Refusal → Type 0
-    Tells t (Ok x) = act step s ≡ Done x.content (with_world (view t x.change))
-    Tells t (Err Refusal.Memory) = is_done (act step s) ≡ true
-    Tells t (Err refusal) = Makes step s (Err refusal) s
+    abbrev pub FitsStep : Tables → Result Prepared Refusal → Type 0
+    FitsStep t (Ok x) = act step s ≡ Done x.content (with_world (view t x.change))
+    FitsStep t (Err Refusal.Memory) = is_done (act step s) ≡ true
+    FitsStep t (Err refusal) = Makes step s (Err refusal) s
 
     pub tells : (outcome : Outcome World) → act step s ≡ lift with_world outcome → (t : Tables) (result : Result Prepared Refusal) →
-        Prepares outcome t result → Tells t result
+        Prepares outcome t result → FitsStep t result
     tells outcome is t (Ok x) h = is ∙ ap (lift with_world) h
     tells outcome is t (Err Refusal.Memory) h = ap is_done is ∙ done outcome h
       where

@@ -121,7 +121,7 @@ module _ (x : Name × Option TenantRows) (rest left slots : Slots) (is : rest �
           h.found k (ap is_some here ∙ there) ∙ here
 
   module _ {A : Type 0} (of : Option TenantRows → Option A) where
-    -- what is told of it is told of the slot
+    -- what holds of it is what the slot has
     moved_as : (k : Name) → cond (same_name k x.0) (of x.1) (but of rest slots k) ≡ but of left slots k
     moved_as k = by (same_name k x.0) refl
       where
@@ -133,9 +133,9 @@ module _ (x : Name × Option TenantRows) (rest left slots : Slots) (is : rest �
         by false e = ap (λ r. cond (is_some r) None (of (flat (find name_cmp k slots))))
             (before k ∙ ap (λ b. cond b (Some x.1) (find name_cmp k left)) e)
 
-    -- nothing is told of it before
-    untold : (k : Name) → same_name k x.0 ≡ true → but of rest slots k ≡ None
-    untold k e = ap (λ r. cond (is_some r) None (of (flat (find name_cmp k slots))))
+    -- the slots before have nothing of it
+    unset : (k : Name) → same_name k x.0 ≡ true → but of rest slots k ≡ None
+    unset k e = ap (λ r. cond (is_some r) None (of (flat (find name_cmp k slots))))
         (before k ∙ ap (λ b. cond b (Some x.1) (find name_cmp k left)) e)
 
     -- nor of a vacant slot
@@ -143,7 +143,7 @@ module _ (x : Name × Option TenantRows) (rest left slots : Slots) (is : rest �
     still_as none k = by (same_name k x.0) refl
       where
         by : (b : Bool) → same_name k x.0 ≡ b → but of rest slots k ≡ cond b (of x.1) (but of rest slots k)
-        by true e = untold k e ∙ sym none
+        by true e = unset k e ∙ sym none
         by false e = refl
 
   -- its rows are those of the slot
@@ -151,10 +151,10 @@ module _ (x : Name × Option TenantRows) (rest left slots : Slots) (is : rest �
   moved key = moved_as (λ slot. row_in slot key.1) key.0
 
   own_before : (n : ℕ) → rows_but rest slots (x.0, n) ≡ None
-  own_before n = untold (λ slot. row_in slot n) x.0 (same_name_refl x.0)
+  own_before n = unset (λ slot. row_in slot n) x.0 (same_name_refl x.0)
 
   pub unnamed_before : quotas_but rest slots x.0 ≡ None
-  unnamed_before = untold quota_in x.0 (same_name_refl x.0)
+  unnamed_before = unset quota_in x.0 (same_name_refl x.0)
 
   -- a vacant slot has no rows
   pub slot_passed : (new : Live) → x.1 ≡ None → new ≡ old → IsIndexing new left slots

@@ -6,6 +6,6 @@ pub mod Preparing
 pub mod Reading
 pub mod Making
 pub mod Administering
-pub mod Telling
+pub mod NodeCommands
 pub mod Working
 pub mod Attempts

@@ -50,7 +50,7 @@ abbrev pub PreparesAsk : Name → AskCommand → Parts → Result Prepared Refus
 PreparesAsk ns command parts result = (secret : Option Name) → right_of command (rights_of parts.acl secret ns) ≡ true →
     PreparesStep (Step.Ask ns secret command) parts result
 
--- ---- what is told of a pool, by each secret that may
+-- ---- what is asked of a pool, by each secret that may
 
 abbrev pub MakesNode : Name → NodeCommand → Parts → Answer → Parts → Type 0
 MakesNode pool command old result new = (secret : Option Name) → pool_right_of command (pool_rights_of old.acl secret pool) ≡ true →

@@ -1,4 +1,4 @@
-//! What is told of a pool and its nodes, as steps over the parts.
+//! Commands on a pool and its nodes, as steps over the parts.
 
 ghost use Rattle.std.specs.Prelude.{◌≡◌, IfOk, false, option_copied, true};
 ghost use Rattle.ns_types.specs.declared.reply.Content.TheVariants as Content;
@@ -35,8 +35,8 @@ fn pool_shown(name: &Text, pool: &Pool) -> Result<Content, AllocError>
 }
 
 impl Parts {
-    /// Whether the secret gives the right to what is told.
-    fn may_tell(&self, pool: &Text, secret: Option<&Text>, command: &NodeCommand) -> bool
+    /// Whether the secret gives the right to the command.
+    fn may_command(&self, pool: &Text, secret: Option<&Text>, command: &NodeCommand) -> bool
         ensures { let rights = pool_rights_of self.now.acl (option_copied secret.entry) pool.now in
             result ≡ pool_right_of command.now rights }
     {
@@ -72,7 +72,7 @@ impl Parts {
     }
 
     /// Answers a command that only reads, by a secret that may.
-    fn read_telling(&self, pool: &Text, command: &NodeCommand) -> Result<Reply, Refusal>
+    fn read_node_command(&self, pool: &Text, command: &NodeCommand) -> Result<Reply, Refusal>
         requires valid { IsValid (state_of self.now) }
         requires index { IsIndexed self.now }
         requires reads { only_reads (served_node command.now) ≡ true }
@@ -104,7 +104,7 @@ impl Parts {
     }
 
     /// What a command that writes comes to, with what it changes, by a secret that may.
-    fn prepare_telling(&self, pool: &Text, command: &NodeCommand) -> Result<Prepared, Refusal>
+    fn prepare_node_command(&self, pool: &Text, command: &NodeCommand) -> Result<Prepared, Refusal>
         requires valid { IsValid (state_of self.now) }
         requires index { IsIndexed self.now }
         requires writes { only_reads (served_node command.now) ≡ false }
@@ -124,19 +124,19 @@ impl Parts {
     }
 
     /// Makes the step of a command that writes, by a secret that may.
-    fn write_telling(&mut self, pool: &Text, command: &NodeCommand) -> Result<Reply, Refusal>
+    fn write_node_command(&mut self, pool: &Text, command: &NodeCommand) -> Result<Reply, Refusal>
         requires valid { IsValid (state_of self.old) }
         requires index { IsIndexed self.old }
         requires writes { only_reads (served_node command.now) ≡ false }
         ensures made { MakesNode pool.now command.now self.old result self.new }
         ensures index { IsIndexed self.new }
     {
-        let prepared = self.prepare_telling(pool, command);
+        let prepared = self.prepare_node_command(pool, command);
         let content = self.make(prepared)?;
         Ok(plain(content))
     }
 
-    /// Makes the step that is told of a pool, or leaves the state as it is.
+    /// Makes the step that is asked of a pool, or leaves the state as it is.
     pub fn node(
         &mut self,
         pool: &Text,
@@ -149,12 +149,12 @@ impl Parts {
             MakesStep step self.old result self.new }
         ensures index { IsIndexed self.new }
     {
-        if !self.may_tell(pool, secret, command) {
+        if !self.may_command(pool, secret, command) {
             return Err(Refusal::Denied);
         }
         match command {
-            NodeCommand::ReadPool | NodeCommand::ListNodes => self.read_telling(pool, command),
-            _ => self.write_telling(pool, command),
+            NodeCommand::ReadPool | NodeCommand::ListNodes => self.read_node_command(pool, command),
+            _ => self.write_node_command(pool, command),
         }
     }
 }

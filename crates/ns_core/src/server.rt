@@ -8,7 +8,7 @@ ghost use Rattle.ns_types.specs.Isolation.{has_pool};
 ghost use Rattle.ns_types.specs.Steps.{Makes, opening};
 ghost use Rattle.ns_types.specs.Validity.{IsValid};
 ghost use Rattle.ns_types.specs.Working.Looks.{first_plan, row_of, served_ready, worker_at};
-ghost use Rattle.ns_broker.specs.Looking.{busy_of, busy_told};
+ghost use Rattle.ns_broker.specs.Looking.{busy_fields, busy_of};
 ghost use Rattle.ns_broker.specs.Snapping.{kept_at};
 ghost use Rattle.ns_drive.specs.Calls.{FinishesBy, HandsIn, snapped};
 ghost use Rattle.ns_steps.specs.Served.{IsServed};
@@ -16,7 +16,7 @@ ghost use Rattle.ns_steps.specs.Served.{IsServed};
 use crate::parts::Parts;
 use ns_broker::Busy;
 use ns_types::acl::{PoolRights, Rights};
-use ns_types::good::{GoodAdmin, GoodAsk, GoodTelling};
+use ns_types::good::{GoodAdmin, GoodAsk, GoodNodeCommand};
 use ns_types::key::EvalKey;
 use ns_types::name::Secret;
 use ns_types::planned::Planned;
@@ -90,12 +90,12 @@ impl Core {
         parts.admin(secret, command.get())
     }
 
-    /// Makes the step that a secret tells of a pool.
+    /// Makes the step that a secret asks of a pool.
     pub fn node(
         &mut self,
         pool: &Text,
         secret: Option<&Text>,
-        command: &GoodTelling,
+        command: &GoodNodeCommand,
     ) -> Result<Reply, Refusal>
         ensures { let step = Step.Node pool.now (option_copied secret.entry) command.now in
             Makes step self.old result self.new }
@@ -219,7 +219,7 @@ impl Core {
 
     /// What the worker is busy with, and how far it is. None: it is idle.
     pub fn phase(&self, worker: u64) -> Option<Busy<'_>>
-        ensures { option_map busy_told result
+        ensures { option_map busy_fields result
             ≡ option_map busy_of (row_of self.now.world worker) }
     {
         ns_broker::phase(&self.parts.tables, &self.parts.turns, worker)

@@ -1,4 +1,4 @@
--- The documents of nodes, and what is told of them.
+-- The documents of nodes.
 use Rattle.std.specs.Prelude.{ℕ, nat_le, not, ◌||◌, List, [], ◌∷◌, ◌++◌, length, map, Option, Some, None, Ok, Bool}
 use Rattle.std.specs.Prelude.{true, false, if◌then◌else◌}
 use Rattle.std.specs.List.Sorted.{IsStrictlySortedBy}

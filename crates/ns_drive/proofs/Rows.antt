@@ -16,18 +16,18 @@ use Rattle.ns_types.proofs.Tests.{not_Some, same_Some}
 use Rattle.ns_broker.specs.Looking.{busy_of}
 use Rattle.ns_broker.specs.Snapping.{kept_at}
 
--- ---- a row that is told
+-- ---- the fields of a row
 
-pub record IsToldOf (row : Option (Name × Worker)) (told : Name × ℕ × Phase × ℕ) : Type 0 where
+pub record HasFields (row : Option (Name × Worker)) (fields : Name × ℕ × Phase × ℕ) : Type 0 where
   pub worker : Worker
-  pub is_row : row ≡ Some (told.0, worker)
-  pub phase : told.2 ≡ worker.phase
-  pub tries : told.3 ≡ worker.tries
+  pub is_row : row ≡ Some (fields.0, worker)
+  pub phase : fields.2 ≡ worker.phase
+  pub tries : fields.3 ≡ worker.tries
 
-pub told_of : (row : Option (Name × Worker)) (told : Name × ℕ × Phase × ℕ) → Some told ≡ option_map busy_of row → IsToldOf row told
-told_of None told is = absurd (not_Some told (sym is))
-told_of (Some (ns, worker)) told is =
-    let same = same_Some told (busy_of (ns, worker)) is in
+pub has_fields : (row : Option (Name × Worker)) (fields : Name × ℕ × Phase × ℕ) → Some fields ≡ option_map busy_of row → HasFields row fields
+has_fields None fields is = absurd (not_Some fields (sym is))
+has_fields (Some (ns, worker)) fields is =
+    let same = same_Some fields (busy_of (ns, worker)) is in
     record {
       worker = worker;
       is_row = ap (λ n. Some (n, worker)) (sym (ap (λ x. x.0) same));

@@ -3,7 +3,7 @@
 ghost use Rattle.std.specs.Prelude.{◌≡◌, IfOk, None, OnErr, Some, option_map};
 ghost use Rattle.ns_types.specs.State.Rows.{World};
 ghost use Rattle.ns_types.specs.Working.Looks.{row_of};
-ghost use Rattle.ns_broker.specs.Looking.{busy_of, busy_told};
+ghost use Rattle.ns_broker.specs.Looking.{busy_fields, busy_of};
 ghost use Rattle.ns_drive.specs.Driving.{driven, IsAtRest};
 ghost use Rattle.ns_drive.specs.Working.{IsDue};
 
@@ -37,7 +37,7 @@ pub(crate) enum Due {
 /// What a busy worker does next.
 fn of_busy(busy: Busy<'_>) -> Result<Due, AllocError>
     ensures { IfOk result (λ due. (w : World) →
-        Some (busy_told busy.entry) ≡ option_map busy_of (row_of w driven) → IsDue w due) }
+        Some (busy_fields busy.entry) ≡ option_map busy_of (row_of w driven) → IsDue w due) }
 {
     let namespace = busy.namespace.clone()?;
     Ok(match busy.phase {

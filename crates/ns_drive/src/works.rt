@@ -3,7 +3,7 @@
 ghost use Rattle.std.specs.Prelude.{◌≡◌, IfOk, Some, option_copied, option_map};
 ghost use Rattle.ns_types.specs.declared.step.Step.TheVariants as Step;
 ghost use Rattle.ns_types.specs.Working.Looks.{row_of, served_ready};
-ghost use Rattle.ns_broker.specs.Looking.{busy_of, busy_told};
+ghost use Rattle.ns_broker.specs.Looking.{busy_fields, busy_of};
 ghost use Rattle.ns_broker.specs.Snapping.{kept_at};
 ghost use Rattle.ns_drive.specs.Attempting.{Attempts, AttemptsFinish, AttemptsSubmit};
 ghost use Rattle.ns_drive.specs.Calls.{snapped};
@@ -33,7 +33,7 @@ pub trait Works: Server {
 
     /// What the worker is busy with, and how far it is. None: it is idle.
     fn phase(&self, worker: u64) -> Option<Busy<'_>>
-        ensures { option_map busy_told result
+        ensures { option_map busy_fields result
             ≡ option_map busy_of (row_of (Self.state self.now).world worker) };
 
     /// Makes the step in which a worker takes the evaluation of that number in the namespace.

@@ -26,5 +26,5 @@ abbrev pub FailsToWrite : {W : Type 0} → (W → Option (List ℕ)) → Counted
 FailsToWrite contents old new bytes = WritesPart contents old new bytes × IsWriteFault old.counts new.counts
 
 -- all of the bytes were written, unless the writer failed
-abbrev pub Tells : {W : Type 0} → (W → Option (List ℕ)) → Counted W → Counted W → List ℕ → Type 0
-Tells contents old new bytes = WritesAll contents old new bytes ⊎ FailsToWrite contents old new bytes
+abbrev pub TriesToWrite : {W : Type 0} → (W → Option (List ℕ)) → Counted W → Counted W → List ℕ → Type 0
+TriesToWrite contents old new bytes = WritesAll contents old new bytes ⊎ FailsToWrite contents old new bytes

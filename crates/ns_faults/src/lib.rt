@@ -4,4 +4,4 @@
 mod lines;
 pub mod status;
 
-pub use lines::{say, tell, tell_mismatch, tell_no_random, tell_no_words};
+pub use lines::{print_fault, print_mismatch, print_no_random, print_no_words, print_text};

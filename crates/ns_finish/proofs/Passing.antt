@@ -37,20 +37,20 @@ use Rattle.ns_finish.specs.Following.{made_follower}
 
 -- ---- an evaluation that is no longer pending is shown otherwise than before
 
-told_apart : (a b : Status) → is_pending a ≡ true → is_pending b ≡ false → same_name (status_text a) (status_text b) ≡ false
-told_apart Status.Pending Status.Pending p q = not_both refl q
-told_apart Status.Pending Status.Blocked p q = refl
-told_apart Status.Pending Status.Complete p q = refl
-told_apart Status.Pending Status.Failed p q = refl
-told_apart Status.Pending Status.Canceled p q = refl
-told_apart Status.Blocked b p q = not_both p refl
-told_apart Status.Complete b p q = not_both p refl
-told_apart Status.Failed b p q = not_both p refl
-told_apart Status.Canceled b p q = not_both p refl
+texts_differ : (a b : Status) → is_pending a ≡ true → is_pending b ≡ false → same_name (status_text a) (status_text b) ≡ false
+texts_differ Status.Pending Status.Pending p q = not_both refl q
+texts_differ Status.Pending Status.Blocked p q = refl
+texts_differ Status.Pending Status.Complete p q = refl
+texts_differ Status.Pending Status.Failed p q = refl
+texts_differ Status.Pending Status.Canceled p q = refl
+texts_differ Status.Blocked b p q = not_both p refl
+texts_differ Status.Complete b p q = not_both p refl
+texts_differ Status.Failed b p q = not_both p refl
+texts_differ Status.Canceled b p q = not_both p refl
 
-told_by : (a b : Evaluation) → same_name (status_text a.status) (status_text b.status) ≡ false → same_evaluation a b ≡ false
+evaluations_differ : (a b : Evaluation) → same_name (status_text a.status) (status_text b.status) ≡ false → same_evaluation a b ≡ false
 unfolding same_evaluation
-told_by a b is =
+evaluations_differ a b is =
     let before = same_name a.job b.job && same_name (kind_text a.kind) (kind_text b.kind) && same_number a.priority b.priority && same_name a.pool b.pool
     && same_name (trigger_text a.trigger) (trigger_text b.trigger) in
     let after : Bool → Bool = λ s. s && option_eq same_number a.previous b.previous && option_eq same_number a.follower b.follower
@@ -121,7 +121,7 @@ touched : (t u : Tenant) (n : ℕ) (e : Evaluation) → get t.evaluations n ≡ 
 touched t u n e at waits h = third_of_four (any_row (λ id _. changes_job t u id) u.jobs) (any_row (λ id _. changes_job t u id) t.jobs)
     (any_row (changes_evaluation t) u.evaluations) (any_row (changes_allocation t) u.allocations)
     (some_row numbers one_number (changes_evaluation t) u.evaluations n h.row h.is_row
-    (ap (λ o. is_changed same_evaluation o h.row) at ∙ ap not (told_by e h.row (told_apart e.status h.row.status waits h.over))))
+    (ap (λ o. is_changed same_evaluation o h.row) at ∙ ap not (evaluations_differ e h.row (texts_differ e.status h.row.status waits h.over))))
 
 -- ---- counters, where a row of the namespace is shown otherwise
 

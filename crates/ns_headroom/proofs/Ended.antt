@@ -38,19 +38,19 @@ and_moved true b c = refl
 and_moved false b c = sym (and-false b)
 
 -- the allocation at a key, with its namespace's record
-abbrev pub told_at : World → Key → Option (Namespace × Allocation)
-told_at w key = option_and_then (λ t. option_map (λ a. (t.namespace, a)) (get t.allocations key.1)) (get w.tenants key.0)
+abbrev pub entry_at : World → Key → Option (Namespace × Allocation)
+entry_at w key = option_and_then (λ t. option_map (λ a. (t.namespace, a)) (get t.allocations key.1)) (get w.tenants key.0)
 
 -- a test of it
 abbrev pub at_key : World → (Namespace → Allocation → Bool) → Key → Bool
-at_key w passes key = option_map_or (λ e. passes e.0 e.1) (told_at w key) false
+at_key w passes key = option_map_or (λ e. passes e.0 e.1) (entry_at w key) false
 
 -- what it leaves, in the world after the step
 abbrev pub rooms_at : World → World → Key → List (Name × Class)
-rooms_at w x key = option_map_or (λ e. room_at x e.1) (told_at w key) []
+rooms_at w x key = option_map_or (λ e. room_at x e.1) (entry_at w key) []
 
 abbrev pub quotas_at : World → Key → List Name
-quotas_at w key = option_map_or (λ e. quota_left e.0) (told_at w key) []
+quotas_at w key = option_map_or (λ e. quota_left e.0) (entry_at w key) []
 
 module _ (w x : World) (keys : List Key) (only : EndsAlone w x keys) where
   abbrev pub rooms : List (Name × Class)
@@ -100,7 +100,7 @@ module _ (w x : World) (keys : List Key) (only : EndsAlone w x keys) where
   -- ---- quotas
 
   left_here : (name : Name) → ends w x (counts_in name) ≡ has_name quotas name
-  left_here name = ends_are (counts_in name) ∙ any_same _ (λ key. list_any (same_name name) (quotas_at w key)) (λ key. by (told_at w key)) keys
+  left_here name = ends_are (counts_in name) ∙ any_same _ (λ key. list_any (same_name name) (quotas_at w key)) (λ key. by (entry_at w key)) keys
       ∙ sym (any_flat (same_name name) (quotas_at w) keys)
     where
       of : (q : Option Name) → option_map_or (same_name name) q false ≡ list_any (same_name name) (option_map_or (λ quota. quota ∷ []) q [])
@@ -135,7 +135,7 @@ module _ (w x : World) (keys : List Key) (only : EndsAlone w x keys) where
     left_on pool e = same_name name e.1.pool && option_map_or serves (option_and_then (λ p. get p.nodes e.1.node) pool) false
 
     abbrev left_at : Option PoolRows → Key → Bool
-    left_at pool key = option_map_or (left_on pool) (told_at w key) false
+    left_at pool key = option_map_or (left_on pool) (entry_at w key) false
 
     room_here : (e : Namespace × Allocation) → list_any (at_room name passes) (room_at x e.1) ≡ left_on (get x.pools name) e
     room_here e = any_map (at_room name passes) (λ class. (e.1.pool, class)) (room_left (node_at x e.1.pool e.1.node))
@@ -156,7 +156,7 @@ module _ (w x : World) (keys : List Key) (only : EndsAlone w x keys) where
         by true is = of (node_at x e.1.pool e.1.node) ∙ ap (λ pool. option_map_or serves (node_at x pool e.1.node) false) (sym (tied one_name name e.1.pool is))
 
     in_rooms : list_any (at_room name passes) rooms ≡ list_any (left_at (get x.pools name)) keys
-    in_rooms = any_flat (at_room name passes) (rooms_at w x) keys ∙ any_same _ (left_at (get x.pools name)) (λ key. by (told_at w key)) keys
+    in_rooms = any_flat (at_room name passes) (rooms_at w x) keys ∙ any_same _ (left_at (get x.pools name)) (λ key. by (entry_at w key)) keys
       where
         by : (o : Option (Namespace × Allocation)) → list_any (at_room name passes) (option_map_or (λ e. room_at x e.1) o [])
             ≡ option_map_or (left_on (get x.pools name)) o false
@@ -199,7 +199,7 @@ module _ (w x : World) (keys : List Key) (only : EndsAlone w x keys) where
           ∙ any_same _ (λ (e : Name × Node). list_any (λ key. at_key w (is_on name e.0) key && serves e.1) keys)
           (λ e. any_with (at_key w (is_on name e.0)) (serves e.1) keys) (entries p.nodes)
           ∙ any_swap (λ (e : Name × Node) key. at_key w (is_on name e.0) key && serves e.1) (entries p.nodes) keys
-          ∙ any_same _ (left_at (Some p)) (λ key. by (told_at w key)) keys
+          ∙ any_same _ (left_at (Some p)) (λ key. by (entry_at w key)) keys
         where
           by : (o : Option (Namespace × Allocation)) →
               list_any (λ (e : Name × Node). option_map_or (λ a. is_on name e.0 a.0 a.1) o false && serves e.1) (entries p.nodes)
@@ -220,7 +220,7 @@ module _ (w x : World) (keys : List Key) (only : EndsAlone w x keys) where
         by : (o : Option PoolRows) → get x.pools name ≡ o →
             list_any passes (option_map_or (released_classes w x name) o []) ≡ list_any (at_room name passes) rooms
         by (Some p) is = pool_is p is
-        by None is = sym (in_rooms ∙ ap (λ pool. list_any (left_at pool) keys) is ∙ any_same _ (λ _. false) (λ key. none (told_at w key)) keys ∙ any_none keys)
+        by None is = sym (in_rooms ∙ ap (λ pool. list_any (left_at pool) keys) is ∙ any_same _ (λ _. false) (λ key. none (entry_at w key)) keys ∙ any_none keys)
 
   -- ---- whom that wakes
 

@@ -152,7 +152,7 @@ added_load row before old new lives put is moves pool node =
     subst (λ (parts : Resources × Resources). MovesLoad parts.0 parts.1 (load_at old pool node) (load_at new pool node)) (λ i. (gone i, come i))
     (moves pool node)
   where
-    -- a part that is told of the row's node is there where the row is live
+    -- a part that is of the row's node is there where the row is live
     there : (part : Name → Name → Resources) →
         part_at row.pool row.node pool node (part row.pool row.node) ≡ (if is_live_on pool node row then part pool node else none)
     there part = by (same_name pool row.pool) (same_name node row.node) refl refl

@@ -107,7 +107,7 @@ unmoved_then a b c x y z first later pool name node is =
     let h = later pool name node is in
     let g = first pool name node h.0 in (g.0, λ key. h.1 key ∙ g.1 key)
 
--- told of the same rows
+-- of the same rows
 pub unmoved_as : (a b c : Key → Option Allocation) (x y : Live) → ((key : Key) → c key ≡ b key) → ShowsUnmoved a b x y → ShowsUnmoved a c x y
 unmoved_as a b c x y same h pool name node is =
     let g = h pool name node is in (g.0, λ key. ap (live_row pool name) (same key) ∙ g.1 key)

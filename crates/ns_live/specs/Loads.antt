@@ -1,4 +1,4 @@
--- What the rows at keys take together. Each sum is told of one resource at a time.
+-- What the rows at keys take together. Each sum is of one resource at a time.
 use Rattle.std.specs.Prelude.{◌≡◌, ℕ, true, IsTrue, Option, Some, None, is_some, sum_by}
 use Rattle.std.specs.Option.{option_map_or}
 use Rattle.std.specs.FinMap.{entries}

@@ -10,7 +10,7 @@ use crate::call::{write_administered, write_asked, write_node_call};
 use crate::member::{Member, secret_or_null, write_end, write_object};
 use json::Writer;
 use ns_json::part::{Part, write_parts};
-use ns_types::good::{GoodAdmin, GoodAsk, GoodTelling};
+use ns_types::good::{GoodAdmin, GoodAsk, GoodNodeCommand};
 use ns_types::step::Step;
 use ns_types::text::Text;
 use std::alloc::{AllocError, Global};
@@ -79,7 +79,7 @@ fn write_node<'a>(
     alloc: Global,
     pool: &'a Text,
     secret: &'a Option<Text>,
-    command: &GoodTelling,
+    command: &GoodNodeCommand,
 ) -> Result<(), AllocError>
     ensures { OnOk result (Follows out.old out.new
         (tokens_of (object_of (step_members (Step.Node pool.now secret.now command.now))))) }

@@ -27,7 +27,7 @@ use Rattle.ns_types.specs.declared.step.NewToken.{NewToken}
 use Rattle.ns_types.specs.declared.step.NodeCommand.{NodeCommand}
 use Rattle.ns_types.specs.declared.step.Step.{Step}
 use Rattle.ns_types.specs.declared.name.NameKind.TheVariants as NameKind
-use Rattle.ns_types.specs.Asking.Good.{is_good_admin, is_good_ask, IsGoodTelling}
+use Rattle.ns_types.specs.Asking.Good.{IsGoodNodeCommand, is_good_admin, is_good_ask}
 use Rattle.ns_types.specs.State.Limits.{is_amount, is_between, is_good_constraint, is_good_task, is_good_group, is_good_registration, is_good_offer}
 use Rattle.ns_types.specs.State.Limits.{is_limit, is_good_quota, is_text, IsInOrder}
 use Rattle.ns_types.specs.State.Name.{is_name}
@@ -40,7 +40,7 @@ use Rattle.ns_json.specs.Logs.{registration_json, offer_json, new_token_json}
 use Rattle.ns_json.specs.Rendering.{object_of, members_of, allowed_json, pools_json, namespace_json, limit_json, limits_json, quota_json}
 use Rattle.ns_json.specs.Rendering.{pool_json, policy_json, token_json, resources_json, task_json, group_json, constraint_json, attributes_json}
 use Rattle.ns_json.specs.Replies.{Entry}
-use Rattle.ns_log_read.specs.Lines.{ask_fits, telling_fits, step_fits, answer_fits, fits, fits_if_any}
+use Rattle.ns_log_read.specs.Lines.{ask_fits, node_command_fits, step_fits, answer_fits, fits, fits_if_any}
 use Rattle.ns_log_read.proofs.Spelled.{is_after, is_greater, is_spelled, items_spelled, members_spelled, list_spelled}
 use Rattle.ns_log_read.proofs.Jobs.{group_parts, registration_parts}
 
@@ -220,7 +220,7 @@ administered_spelled (AdminCommand.DeletePolicy name) h = refl
 administered_spelled (AdminCommand.CreateToken t) h = rw (token_spelled t) refl
 administered_spelled (AdminCommand.DeleteToken accessor) h = refl
 
-node_call_spelled : (c : NodeCommand) → IsGoodTelling c → telling_fits c ≡ true → is_spelled 8 (object_of (node_call c).1) ≡ true
+node_call_spelled : (c : NodeCommand) → IsGoodNodeCommand c → node_command_fits c ≡ true → is_spelled 8 (object_of (node_call c).1) ≡ true
 unfolding node_call
 node_call_spelled NodeCommand.ReadPool h k = refl
 node_call_spelled NodeCommand.ListNodes h k = refl

@@ -8,7 +8,7 @@ use Rattle.ns_types.specs.declared.step.AdminCommand.{AdminCommand}
 use Rattle.ns_types.specs.declared.step.AskCommand.{AskCommand}
 use Rattle.ns_types.specs.declared.step.NodeCommand.{NodeCommand}
 use Rattle.ns_types.specs.declared.step.Step.{Step}
-use Rattle.ns_types.specs.Asking.Good.{is_good_admin, is_good_ask, IsGoodTelling}
+use Rattle.ns_types.specs.Asking.Good.{IsGoodNodeCommand, is_good_admin, is_good_ask}
 use Rattle.ns_types.specs.Asking.Policies.{token_of}
 use Rattle.ns_types.specs.State.Limits.{is_good_namespace, is_good_offer, is_good_policy, is_good_quota, is_good_token, is_pool_name, is_text}
 use Rattle.ns_types.specs.State.Name.{is_name}
@@ -96,7 +96,7 @@ client_back ClientStatus.Complete = refl
 client_back ClientStatus.Failed = refl
 client_back ClientStatus.Lost = refl
 
-node_call_back : (c : NodeCommand) → IsGoodTelling c → node_command_in (node_call c).0 (object_of (node_call c).1) ≡ Ok c
+node_call_back : (c : NodeCommand) → IsGoodNodeCommand c → node_command_in (node_call c).0 (object_of (node_call c).1) ≡ Ok c
 unfolding node_call node_command_in text_in number_in member_in name_in put_node_in status_in eligible_in client_of reported_in of_pool
 node_call_back NodeCommand.ReadPool h = refl
 node_call_back NodeCommand.ListNodes h = refl

@@ -37,15 +37,15 @@ ask_fits (AskCommand.StopAllocation n) = fits n
 ask_fits (AskCommand.Events n) = fits n
 ask_fits _ = true
 
-abbrev pub telling_fits : NodeCommand → Bool
-telling_fits (NodeCommand.Report name report) = fits report.number
-telling_fits _ = true
+abbrev pub node_command_fits : NodeCommand → Bool
+node_command_fits (NodeCommand.Report name report) = fits report.number
+node_command_fits _ = true
 
 -- the numbers that no limit of a step bounds fit 64 bits
 abbrev pub step_fits : Step → Bool
 step_fits (Step.Ask ns secret command) = ask_fits command
 step_fits (Step.Admin secret command) = true
-step_fits (Step.Node pool secret command) = telling_fits command
+step_fits (Step.Node pool secret command) = node_command_fits command
 step_fits (Step.Dequeue worker ns n) = fits worker && fits n
 step_fits (Step.Snap worker ns) = fits worker
 step_fits (Step.Submit worker ns) = fits worker

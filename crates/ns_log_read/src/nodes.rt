@@ -4,8 +4,8 @@ ghost use Rattle.std.specs.Prelude.{◌≤◌, IfOk, IsTrue};
 ghost use Rattle.serde_json.specs.Data.{depth};
 ghost use Rattle.serde_json.specs.Read.{max_depth};
 ghost use Rattle.serde_json.specs.View.{view};
-ghost use Rattle.ns_types.specs.Asking.Good.{IsGoodTelling};
-ghost use Rattle.ns_log_read.specs.Lines.{telling_fits};
+ghost use Rattle.ns_types.specs.Asking.Good.{IsGoodNodeCommand};
+ghost use Rattle.ns_log_read.specs.Lines.{node_command_fits};
 ghost use Rattle.ns_log_read.specs.Reading.{Gives, same, put_node_in, status_in, eligible_in, client_of, reported_in, of_pool, node_command_in};
 
 use crate::document;
@@ -22,8 +22,8 @@ use std::alloc::Global;
 fn put_node(alloc: Global, arguments: &Value) -> Result<NodeCommand, LineFault>
     requires { depth (view arguments.now) ≤ max_depth }
     ensures value { Gives same result (put_node_in (view arguments.now)) }
-    ensures good { IfOk result IsGoodTelling }
-    ensures fits { IfOk result (λ c. IsTrue (telling_fits c)) }
+    ensures good { IfOk result IsGoodNodeCommand }
+    ensures fits { IfOk result (λ c. IsTrue (node_command_fits c)) }
 {
     let node = member(arguments, "Doc")?;
     let name = name(alloc, arguments, "Name", NameKind::Node)?;
@@ -34,8 +34,8 @@ fn put_node(alloc: Global, arguments: &Value) -> Result<NodeCommand, LineFault>
 #[tactic(auto, unfolding(crate::specs::Reading::status_in))]
 fn status(alloc: Global, arguments: &Value) -> Result<NodeCommand, LineFault>
     ensures value { Gives same result (status_in (view arguments.now)) }
-    ensures good { IfOk result IsGoodTelling }
-    ensures fits { IfOk result (λ c. IsTrue (telling_fits c)) }
+    ensures good { IfOk result IsGoodNodeCommand }
+    ensures fits { IfOk result (λ c. IsTrue (node_command_fits c)) }
 {
     let name = text(alloc, arguments, "Name")?;
     let word = word(arguments, "Status")?;
@@ -49,8 +49,8 @@ fn status(alloc: Global, arguments: &Value) -> Result<NodeCommand, LineFault>
 #[tactic(auto, unfolding(crate::specs::Reading::eligible_in))]
 fn eligible(alloc: Global, arguments: &Value) -> Result<NodeCommand, LineFault>
     ensures value { Gives same result (eligible_in (view arguments.now)) }
-    ensures good { IfOk result IsGoodTelling }
-    ensures fits { IfOk result (λ c. IsTrue (telling_fits c)) }
+    ensures good { IfOk result IsGoodNodeCommand }
+    ensures fits { IfOk result (λ c. IsTrue (node_command_fits c)) }
 {
     let name = text(alloc, arguments, "Name")?;
     let word = word(arguments, "Eligibility")?;
@@ -80,8 +80,8 @@ fn client_of(word: &str) -> Result<ClientStatus, LineFault>
 #[tactic(auto, unfolding(crate::specs::Reading::reported_in))]
 fn reported(alloc: Global, arguments: &Value) -> Result<NodeCommand, LineFault>
     ensures value { Gives same result (reported_in (view arguments.now)) }
-    ensures good { IfOk result IsGoodTelling }
-    ensures fits { IfOk result (λ c. IsTrue (telling_fits c)) }
+    ensures good { IfOk result IsGoodNodeCommand }
+    ensures fits { IfOk result (λ c. IsTrue (node_command_fits c)) }
 {
     let client = client_of(word(arguments, "ClientStatus")?)?;
     let name = text(alloc, arguments, "Name")?;
@@ -98,8 +98,8 @@ fn reported(alloc: Global, arguments: &Value) -> Result<NodeCommand, LineFault>
 #[tactic(auto, unfolding(crate::specs::Reading::of_pool))]
 fn of_pool(word: &str) -> Result<NodeCommand, LineFault>
     ensures value { Gives same result (of_pool word.now) }
-    ensures good { IfOk result IsGoodTelling }
-    ensures fits { IfOk result (λ c. IsTrue (telling_fits c)) }
+    ensures good { IfOk result IsGoodNodeCommand }
+    ensures fits { IfOk result (λ c. IsTrue (node_command_fits c)) }
 {
     match word {
         "ReadPool" => Ok(NodeCommand::ReadPool),
@@ -113,8 +113,8 @@ fn of_pool(word: &str) -> Result<NodeCommand, LineFault>
 pub fn node_command(alloc: Global, word: &str, arguments: &Value) -> Result<NodeCommand, LineFault>
     requires { depth (view arguments.now) ≤ max_depth }
     ensures value { Gives same result (node_command_in word.now (view arguments.now)) }
-    ensures good { IfOk result IsGoodTelling }
-    ensures fits { IfOk result (λ c. IsTrue (telling_fits c)) }
+    ensures good { IfOk result IsGoodNodeCommand }
+    ensures fits { IfOk result (λ c. IsTrue (node_command_fits c)) }
 {
     if has(arguments, "Doc") {
         put_node(alloc, arguments)

@@ -13,7 +13,7 @@ use crate::asked::asked;
 use crate::fault::LineFault;
 use crate::member::{member, number, text, text_or_null, word};
 use crate::nodes::node_command;
-use ns_types::good::{GoodAdmin, GoodAsk, GoodTelling};
+use ns_types::good::{GoodAdmin, GoodAsk, GoodNodeCommand};
 use ns_types::step::Step;
 use ns_types::text::Text;
 use serde_json::Value;
@@ -63,7 +63,7 @@ fn node(alloc: Global, step: &Value) -> Result<Step, LineFault>
     let pool = text(alloc, step, "Pool")?;
     let secret = text_or_null(alloc, step, "Secret")?;
     let command = node_command(alloc, word, arguments)?;
-    Ok(Step::Node(pool, secret, GoodTelling::new(command)))
+    Ok(Step::Node(pool, secret, GoodNodeCommand::new(command)))
 }
 
 /// The step of a worker that goes on.

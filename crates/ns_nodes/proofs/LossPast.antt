@@ -56,18 +56,18 @@ use Rattle.std.proofs.Math.Bool.{and-false}
 
 -- ---- an allocation that is lost
 
-told_lost : (s : _) → is_held s ≡ true → same_name (client_text s) (client_text ClientStatus.Lost) ≡ false
-told_lost ClientStatus.Pending is = refl
-told_lost ClientStatus.Running is = refl
-told_lost ClientStatus.Complete is = not_both is refl
-told_lost ClientStatus.Failed is = not_both is refl
-told_lost ClientStatus.Lost is = not_both is refl
+text_differs : (s : _) → is_held s ≡ true → same_name (client_text s) (client_text ClientStatus.Lost) ≡ false
+text_differs ClientStatus.Pending is = refl
+text_differs ClientStatus.Running is = refl
+text_differs ClientStatus.Complete is = not_both is refl
+text_differs ClientStatus.Failed is = not_both is refl
+text_differs ClientStatus.Lost is = not_both is refl
 
 module _ (pool node : Name) where
   -- is shown otherwise
   shown_lost : (a : Allocation) → is_held a.client ≡ true → same_allocation a (record a { client = ClientStatus.Lost }) ≡ false
   unfolding same_allocation
-  shown_lost a is = and_right _ _ (told_lost a.client is)
+  shown_lost a is = and_right _ _ (text_differs a.client is)
 
   changed_when : (a : Allocation) → not (same_allocation a (lost pool node a)) ≡ is_live_on pool node a
   changed_when a = by (is_live_on pool node a) refl

@@ -22,7 +22,7 @@ IsEnd status = (status ≡ SERVED) ⊎ (status ≡ READ_FAULT) ⊎ (status ≡ W
 abbrev pub uncounted : {T : Type 0} → T → Counted T
 uncounted inner = record { inner = inner; counts = no_counts }
 
--- a new server, which drives whom it is told
+-- a new server, which drives whom `driven` names
 abbrev pub opened : {D : Type 0} → Name → D → Driven → Holding State D Driver
 opened secret draws driven = record { server = opening secret; draws = draws; follower = driver_of driven }
 

@@ -18,7 +18,7 @@ use Rattle.ns_faults.specs.Lines.{FailsToWrite}
 use Rattle.ns_pipe.specs.declared.logging.TheConstants.{LOG_LIMIT}
 use Rattle.ns_faults.specs.declared.status.TheConstants.{SERVED, READ_FAULT, WRITE_FAULT, OUT_OF_MEMORY}
 
--- a new server with a log, which drives whom it is told
+-- a new server with a log, which drives whom `driven` names
 abbrev pub opened_log : {D : Type 0} → Name → D → Driven → Holding History D Driver
 opened_log secret draws driven =
     record { server = history_of secret LOG_LIMIT; draws = draws; follower = driver_of driven }

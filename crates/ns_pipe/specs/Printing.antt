@@ -15,7 +15,7 @@ nowhere = record {}
 abbrev pub kept_nowhere : Nowhere → Option (List ℕ)
 kept_nowhere _ = None
 
--- A connection with a new server that drives whom it is told ended with this status. Its replies were written, or its
+-- A connection with a new server that drives whom `driven` names ended with this status. Its replies were written, or its
 -- log in their place.
 abbrev pub EndsPrinted : {D R W : Type 0} → (D → List ℕ → D → Type 0) → (R → Option (List ℕ)) → (W → Option (List ℕ)) →
     Printed → Name → D → Driven → ℕ → Counted R → Counted R → Counted Nowhere → Counted W → Counted W → Type 0

@@ -2,18 +2,18 @@
 
 ghost use Rattle.std.specs.Prelude.{◌≡◌};
 ghost use Rattle.ns_pipe.specs.Ending.{IsEnd, EndsServed, EndsByReader, EndsByWriter, opened};
-ghost use Rattle.ns_faults.specs.Lines.{Tells, status_of, line_of};
+ghost use Rattle.ns_faults.specs.Lines.{TriesToWrite, line_of, status_of};
 
 use ns_api::{Driven, close, open, serve};
 use ns_asked::Draws;
+use ns_faults::print_fault;
 use ns_faults::status::{OUT_OF_MEMORY, READ_FAULT, SERVED, WRITE_FAULT};
-use ns_faults::tell;
 use ns_http::{ConnFault, Counted};
 use ns_types::name::Secret;
 use std::alloc::Global;
 use std::io::{Read, Write};
 
-/// Serves one connection with a new server, which drives whom it is told after each request, and says the exit status. The
+/// Serves one connection with a new server, which drives whom `driven` names after each request, and says the exit status. The
 /// steps of the requests, and those that follow each, are one run.
 pub fn pipe<D: Draws + Drop, R: Read, W: Write, E: Write>(
     alloc: Global,
@@ -34,16 +34,16 @@ pub fn pipe<D: Draws + Drop, R: Read, W: Write, E: Write>(
     ensures out_of_memory { result ≡ OUT_OF_MEMORY
         → (reader.new ≡ reader.old) × (writer.new ≡ writer.old) }
     ensures silent { result ≡ SERVED → errors.new ≡ errors.old }
-    ensures told { (fault : ConnFault) → result ≡ status_of fault
-        → Tells E.contents errors.old errors.new (line_of fault) }
+    ensures fault_line { (fault : ConnFault) → result ≡ status_of fault
+        → TriesToWrite E.contents errors.old errors.new (line_of fault) }
 {
     let Ok(mut api) = open(alloc, bootstrap, draws, driven) else {
-        return tell(ConnFault::Memory, errors);
+        return print_fault(ConnFault::Memory, errors);
     };
     let ended = serve(alloc, reader, writer, &mut api);
     close(api);
     match ended {
         Ok(_) => SERVED,
-        Err(fault) => tell(fault, errors),
+        Err(fault) => print_fault(fault, errors),
     }
 }

@@ -5,13 +5,13 @@ ghost use Rattle.ns_json.specs.Logs.{log_text};
 ghost use Rattle.ns_api.specs.Serving.{holding};
 ghost use Rattle.ns_http.specs.Output.{WritesAll};
 ghost use Rattle.ns_pipe.specs.Ending.{IsEnd};
-ghost use Rattle.ns_faults.specs.Lines.{FailsToWrite, Tells, status_of, line_of};
+ghost use Rattle.ns_faults.specs.Lines.{FailsToWrite, TriesToWrite, line_of, status_of};
 ghost use Rattle.ns_pipe.specs.Logging.{LogsInPart, LogsNothing, LogsServed, LogsToReadFault, opened_log};
 
 use ns_api::{Api, Driven, Driver, close_held, open_held, serve};
 use ns_asked::Draws;
+use ns_faults::print_fault;
 use ns_faults::status::{OUT_OF_MEMORY, READ_FAULT, SERVED, WRITE_FAULT};
-use ns_faults::tell;
 use ns_held::Held;
 use ns_held::laws::chain_is_noted;
 use ns_http::{ConnFault, Counted, write_all};
@@ -80,7 +80,7 @@ fn serve_and_log<D: Draws, R: Read, W: Write, V: Write>(
     }
 }
 
-/// Serves one connection with a new server, which drives whom it is told after each request, and then writes the log of all
+/// Serves one connection with a new server, which drives whom `driven` names after each request, and then writes the log of all
 /// that the server did, after a fault of the reader too. The replies go elsewhere. Says the exit status.
 pub fn pipe_log<D: Draws + Drop, R: Read, W: Write, V: Write, E: Write>(
     alloc: Global,
@@ -107,16 +107,16 @@ pub fn pipe_log<D: Draws + Drop, R: Read, W: Write, V: Write, E: Write>(
         ⊎ LogsNothing replies.old replies.new writer.old writer.new }
     ensures out_of_memory { result ≡ OUT_OF_MEMORY → writer.new ≡ writer.old }
     ensures silent { result ≡ SERVED → errors.new ≡ errors.old }
-    ensures told { (fault : ConnFault) → result ≡ status_of fault
-        → Tells E.contents errors.old errors.new (line_of fault) }
+    ensures fault_line { (fault : ConnFault) → result ≡ status_of fault
+        → TriesToWrite E.contents errors.old errors.new (line_of fault) }
 {
     let Ok(mut api) = open_held(alloc, bootstrap, draws, driven, LOG_LIMIT) else {
-        return tell(ConnFault::Memory, errors);
+        return print_fault(ConnFault::Memory, errors);
     };
     let ended = serve_and_log(alloc, bootstrap, &mut api, reader, replies, writer);
     close_held(api);
     match ended {
         Ok(()) => SERVED,
-        Err(fault) => tell(fault, errors),
+        Err(fault) => print_fault(fault, errors),
     }
 }

@@ -7,7 +7,7 @@ ghost use Rattle.ns_api.specs.declared.following.Driven.{Driven};
 ghost use Rattle.ns_pipe.specs.Asking.{IsHelp, IsMistake, IsNoConnection, IsNoReplay};
 ghost use Rattle.ns_pipe.specs.declared.printed.Printed.{Printed};
 ghost use Rattle.ns_pipe.specs.Ending.{uncounted};
-ghost use Rattle.ns_faults.specs.Lines.{Tells, FailsToWrite, status_of, line_of};
+ghost use Rattle.ns_faults.specs.Lines.{FailsToWrite, TriesToWrite, line_of, status_of};
 ghost use Rattle.ns_pipe.specs.Printing.{EndsPrinted};
 ghost use Rattle.ns_replay_print.specs.Printing.{EndsAlone};
 
@@ -19,7 +19,7 @@ use crate::printed::Printed;
 use ns_api::Driven;
 use ns_asked::Draws;
 use ns_faults::status::{BAD_WORDS, OUT_OF_MEMORY, SERVED, WRITE_FAULT};
-use ns_faults::{say, tell};
+use ns_faults::{print_fault, print_text};
 use ns_http::{ConnFault, Counted, write_all};
 use ns_replay_print::print_replay;
 use ns_types::name::Secret;
@@ -43,12 +43,12 @@ fn show<W: Write, E: Write>(help: &str, writer: &mut Counted<W>, errors: &mut Co
     ensures failed { result ≡ WRITE_FAULT
         → FailsToWrite W.contents writer.old writer.new help.now }
     ensures silent { result ≡ SERVED → errors.new ≡ errors.old }
-    ensures told { result ≡ WRITE_FAULT
-        → Tells E.contents errors.old errors.new (line_of ConnFault.Write) }
+    ensures fault_line { result ≡ WRITE_FAULT
+        → TriesToWrite E.contents errors.old errors.new (line_of ConnFault.Write) }
 {
     match write_all(writer, help.as_bytes()) {
         Ok(()) => SERVED,
-        Err(_) => tell(ConnFault::Write, errors),
+        Err(_) => print_fault(ConnFault::Write, errors),
     }
 }
 
@@ -67,8 +67,8 @@ fn converse<D: Draws + Drop, R: Read + Drop, W: Write + Drop, E: Write>(
         printed secret.now draws driven result.status
         (uncounted reader) result.reader result.unprinted (uncounted writer) result.writer }
     ensures silent { result.status ≡ SERVED → errors.new ≡ errors.old }
-    ensures told { (fault : ConnFault) → result.status ≡ status_of fault
-        → Tells E.contents errors.old errors.new (line_of fault) }
+    ensures fault_line { (fault : ConnFault) → result.status ≡ status_of fault
+        → TriesToWrite E.contents errors.old errors.new (line_of fault) }
 {
     let mut reader = Counted::new(reader);
     let mut writer = Counted::new(writer);
@@ -124,8 +124,8 @@ fn replay<R: Read + Drop, W: Write + Drop, E: Write>(
     ensures ended { EndsAlone R.remaining W.contents namespace.now from result.status
         (uncounted reader) result.reader (uncounted writer) result.writer }
     ensures silent { result.status ≡ SERVED → errors.new ≡ errors.old }
-    ensures told { (fault : ConnFault) → result.status ≡ status_of fault
-        → Tells E.contents errors.old errors.new (line_of fault) }
+    ensures fault_line { (fault : ConnFault) → result.status ≡ status_of fault
+        → TriesToWrite E.contents errors.old errors.new (line_of fault) }
 {
     let mut reader = Counted::new(reader);
     let mut writer = Counted::new(writer);
@@ -159,7 +159,7 @@ pub fn run<D: Draws + Drop, R: Read + Drop, W: Write + Drop, E: Write>(
         → FailsToWrite W.contents (uncounted writer) result.writer text }
     ensures mistake { (text : List ℕ) → IsMistake asked.now text
         → (result.status ≡ BAD_WORDS) × (result.writer ≡ uncounted writer)
-        × Tells E.contents errors.old errors.new text }
+        × TriesToWrite E.contents errors.old errors.new text }
     ensures alone { (namespace : Name) (from : ℕ) → asked.now ≡ Asked.Alone namespace from
         → EndsAlone R.remaining W.contents namespace from result.status
         (uncounted reader) result.reader (uncounted writer) result.writer }
@@ -170,8 +170,8 @@ pub fn run<D: Draws + Drop, R: Read + Drop, W: Write + Drop, E: Write>(
 
     // What is written on the errors goes by the status.
     ensures silent { result.status ≡ SERVED → errors.new ≡ errors.old }
-    ensures told { (fault : ConnFault) → result.status ≡ status_of fault
-        → Tells E.contents errors.old errors.new (line_of fault) }
+    ensures fault_line { (fault : ConnFault) → result.status ≡ status_of fault
+        → TriesToWrite E.contents errors.old errors.new (line_of fault) }
 {
     let mut output = Counted::new(writer);
     let status = match asked {
@@ -183,14 +183,14 @@ pub fn run<D: Draws + Drop, R: Read + Drop, W: Write + Drop, E: Write>(
         }
         Asked::Help(text) => show(text.as_str(), &mut output, errors),
         Asked::Mistake(text) => {
-            say(errors, text.as_str().as_bytes());
+            print_text(errors, text.as_str().as_bytes());
             BAD_WORDS
         }
         Asked::Alone(namespace, from) => {
             let writer = output.into_inner();
             return replay(alloc, namespace, *from, reader, writer, errors);
         }
-        Asked::NoMemory => tell(ConnFault::Memory, errors),
+        Asked::NoMemory => print_fault(ConnFault::Memory, errors),
     };
     Ended {
         status,

@@ -9,7 +9,7 @@ use Rattle.ns_types.specs.State.Rows.{State}
 use Rattle.ns_json.specs.Replies.{Entry}
 use Rattle.ns_replay.specs.declared.fault.ReplayFault.{ReplayFault}
 use Rattle.ns_replay.specs.declared.fault.ReplayFault.TheVariants.{Premise, Differs, NotARun, Memory}
-use Rattle.ns_replay.specs.Abreast.{Advances, IsBreach, IsDifference, IsFaultAt, KeepsPremises, Strikes, Tells}
+use Rattle.ns_replay.specs.Abreast.{Advances, IsBreach, IsDifference, IsFaultAt, KeepsPremises, Replies, Strikes}
 use Rattle.ns_replay.specs.Replay.{Breaks, Fits, FitsIn, IsNoStepAt}
 use Rattle.ns_replay.proofs.Premising.{fitting, unbroken, unfitting}
 
@@ -35,16 +35,16 @@ module _ (ns : Name) (base : State) (entry : Entry) (s t : State) (place : ℕ) 
   breach_at step same (NotARun i) b = absurd b
   breach_at step same Memory b = tt
 
-  module _ (s' : State) (step : Step) (same : step ≡ entry.0) (told : Option Rendered) (tells : Tells step s told s')
+  module _ (s' : State) (step : Step) (same : step ≡ entry.0) (told : Option Rendered) (tells : Replies step s told s')
       (keeps : KeepsPremises ns step s told s') where
-    tells_it : Tells entry.0 s told s'
-    tells_it = subst (λ x. Tells x s told s') same tells
+    replies_it : Replies entry.0 s told s'
+    replies_it = subst (λ x. Replies x s told s') same tells
 
     keeps_it : KeepsPremises ns entry.0 s told s'
     keeps_it = subst (λ x. KeepsPremises ns x s told s') same keeps
 
     none_breaks : Breaks ns entry.0 s → ⊥
-    none_breaks = unbroken ns s s' entry.0 told tells_it keeps_it
+    none_breaks = unbroken ns s s' entry.0 told replies_it keeps_it
 
     pub difference_at : (fault : ReplayFault) → IsDifference ns base entry t place fault → IsFaultAt ns base entry s t place fault
     difference_at (Premise i) d = absurd d

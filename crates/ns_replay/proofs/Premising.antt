@@ -24,7 +24,7 @@ use Rattle.ns_alone.proofs.Records.{others_keep_shares}
 use Rattle.ns_alone.proofs.SameTables.{same_tables_back, same_tables_on}
 use Rattle.ns_answers.specs.Laws.{may_change}
 use Rattle.ns_json.specs.Replies.{Entry, rendered}
-use Rattle.ns_replay.specs.Abreast.{Holds, KeepsPremises, StandsBeside, Tells, may_break}
+use Rattle.ns_replay.specs.Abreast.{Holds, KeepsPremises, Replies, StandsBeside, may_break}
 use Rattle.ns_replay.specs.Replay.{Breaks, Fits, FitsIn}
 
 -- ---- who shares
@@ -162,7 +162,7 @@ module _ (ns : Name) (s t s' : State) (step : Step) (reply : Rendered) (b : Stan
 -- ---- what a step was answered
 
 -- it breaks no premise
-pub unbroken : (ns : Name) (s s' : State) (step : Step) (told : Option Rendered) → Tells step s told s' → KeepsPremises ns step s told s' → Breaks ns step s → ⊥
+pub unbroken : (ns : Name) (s s' : State) (step : Step) (told : Option Rendered) → Replies step s told s' → KeepsPremises ns step s told s' → Breaks ns step s → ⊥
 unbroken ns s s' step None told keeps b = not_Some _ (sym told.0 ∙ b.made)
 unbroken ns s s' step (Some reply) told keeps b = by b.broken
   where
@@ -175,31 +175,31 @@ unbroken ns s s' step (Some reply) told keeps b = by b.broken
 
 -- it is what is logged
 pub fitting : (entry : Entry) (s s' : State) (step : Step) (logged : Rendered) (told : Option Rendered) → step ≡ entry.0 → logged ≡ entry.1 →
-    Tells step s told s' → told ≡ Some logged → Fits entry s s'
+    Replies step s told s' → told ≡ Some logged → Fits entry s s'
 fitting entry s s' step logged told same_step same tells is =
-    subst (λ x. Fits (x, entry.1) s s') same_step (subst (λ r. Fits (step, r) s s') same (subst (λ o. Tells step s o s') is tells))
+    subst (λ x. Fits (x, entry.1) s s') same_step (subst (λ r. Fits (step, r) s s') same (subst (λ o. Replies step s o s') is tells))
 
 -- it is not
 pub unfitting : (entry : Entry) (s s' : State) (step : Step) (logged : Rendered) (told : Option Rendered) → step ≡ entry.0 → logged ≡ entry.1 →
-    Tells step s told s' → (told ≡ Some logged → ⊥) → FitsIn entry s → ⊥
+    Replies step s told s' → (told ≡ Some logged → ⊥) → FitsIn entry s → ⊥
 unfitting entry s s' step logged told same_step same tells not_so f = by told tells not_so
   where
     made : after step s ≡ said f.1.answer f.0
     made = subst (λ x. after x s ≡ said f.1.answer f.0) (sym same_step) f.1.made
 
-    by : (told : Option Rendered) → Tells step s told s' → (told ≡ Some logged → ⊥) → ⊥
+    by : (told : Option Rendered) → Replies step s told s' → (told ≡ Some logged → ⊥) → ⊥
     by None tells not_so = not_Some _ (sym tells.0 ∙ made)
     by (Some reply) tells not_so = not_so (ap Some (sym tells.logged ∙
         ap rendered (one_outcome step s s' f.0 tells.answer f.1.answer tells.made made).0 ∙ f.1.logged ∙ sym same))
 
 -- the premises were looked at
 module _ (ns : Name) (s t s' : State) (step : Step) (b : StandsBeside ns s t) where
-  pub breach : (told : Option Rendered) → Tells step s told s' → IsSomeAnd told (λ reply. (may_break step reply ≡ true) × (Holds ns t s' → ⊥)) →
+  pub breach : (told : Option Rendered) → Replies step s told s' → IsSomeAnd told (λ reply. (may_break step reply ≡ true) × (Holds ns t s' → ⊥)) →
       Breaks ns step s
   breach None tells found = absurd found
   breach (Some reply) tells found = broken ns s t s' step reply b tells found.0 found.1
 
-  pub keeping : (told : Option Rendered) → Tells step s told s' → IfSome told (λ reply. (may_break step reply ≡ false) ⊎ Holds ns t s') →
+  pub keeping : (told : Option Rendered) → Replies step s told s' → IfSome told (λ reply. (may_break step reply ≡ false) ⊎ Holds ns t s') →
       KeepsPremises ns step s told s'
   keeping None tells found = tt
   keeping (Some reply) tells found = kept ns s t s' step reply b tells found

@@ -9,7 +9,7 @@ use Rattle.ns_types.specs.Steps.{Answer, after, said}
 use Rattle.ns_types.proofs.Lists.{not_both}
 use Rattle.ns_runs.specs.Making.{MakesAny}
 use Rattle.ns_runs.specs.Running.{is_no_step}
-use Rattle.ns_replay.specs.Abreast.{Shows, Tells}
+use Rattle.ns_replay.specs.Abreast.{Replies, Shows}
 
 module _ (step : Step) (s s' : State) where
   made_so : (answer : Answer) → IfErr answer (λ refusal. is_no_step refusal ≡ false) → MakesAny step s answer s' → after step s ≡ said answer s'
@@ -18,11 +18,11 @@ module _ (step : Step) (s s' : State) where
   made_so (Err Refusal.NotEnabled) goes m = not_both refl goes
   made_so (Err refusal) goes m = m.0 ∙ ap (said (Err refusal)) (sym m.1)
 
-  tells : (answer : Answer) → MakesAny step s answer s' → (told : Option Rendered) → Shows answer told → Tells step s told s'
+  tells : (answer : Answer) → MakesAny step s answer s' → (told : Option Rendered) → Shows answer told → Replies step s told s'
   tells answer m None shows = subst (λ a. MakesAny step s a s') shows m
   tells answer m (Some reply) shows = record { answer = answer; made = made_so answer shows.0 m; logged = shows.1 }
 
-  pub tells_if : {E : Type 0} (answer : Answer) → MakesAny step s answer s' → (r : Result (Option Rendered) E) → IfOk r (Shows answer) →
-      IfOk r (λ told. Tells step s told s')
-  tells_if answer m (Ok told) shows = tells answer m told shows
-  tells_if answer m (Err error) shows = tt
+  pub replies_if : {E : Type 0} (answer : Answer) → MakesAny step s answer s' → (r : Result (Option Rendered) E) → IfOk r (Shows answer) →
+      IfOk r (λ told. Replies step s told s')
+  replies_if answer m (Ok told) shows = tells answer m told shows
+  replies_if answer m (Err error) shows = tt

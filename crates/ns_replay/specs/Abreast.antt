@@ -39,9 +39,9 @@ Shows answer (Some reply) = IfErr answer (λ refusal. is_no_step refusal ≡ fal
 Shows answer None = answer ≡ Err Refusal.NotEnabled
 
 -- what it is answered in s, as bytes, and that it leads to s'; or it is not enabled
-abbrev pub Tells : Step → State → Option Rendered → State → Type 0
-Tells step s (Some reply) s' = Fits (step, reply) s s'
-Tells step s None s' = (after step s ≡ None) × (s' ≡ s)
+abbrev pub Replies : Step → State → Option Rendered → State → Type 0
+Replies step s (Some reply) s' = Fits (step, reply) s s'
+Replies step s None s' = (after step s ≡ None) × (s' ≡ s)
 
 -- an administrator's step that was not refused, and does not only read
 unfoldable pub may_break : Step → Rendered → Bool

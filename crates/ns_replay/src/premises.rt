@@ -5,7 +5,7 @@ ghost use Rattle.std.specs.Prelude.{IfErr, IfOk, IfSome, IsFalse, IsSomeAnd, IsT
 ghost use Rattle.std.specs.Option.{option_map_or};
 ghost use Rattle.ns_types.specs.Access.Sharing.{is_confined};
 ghost use Rattle.ns_types.specs.Isolation.{namespace_at};
-ghost use Rattle.ns_replay.specs.Abreast.{Holds, IsBreach, KeepsPremises, StandsBeside, Tells};
+ghost use Rattle.ns_replay.specs.Abreast.{Holds, IsBreach, KeepsPremises, Replies, StandsBeside};
 ghost use Rattle.ns_replay.specs.Abreast.{may_break};
 
 use crate::fault::ReplayFault;
@@ -68,7 +68,7 @@ pub fn step_whole(
     step: &Step,
 ) -> Result<Option<Rendered>, ReplayFault>
     requires { StandsBeside namespace.now whole.old alone.now }
-    ensures told { IfOk result (λ told. Tells step.now whole.old told whole.new) }
+    ensures told { IfOk result (λ told. Replies step.now whole.old told whole.new) }
     ensures premises { IfOk result
         (λ told. KeepsPremises namespace.now step.now whole.old told whole.new) }
     ensures breach { IfErr result (IsBreach namespace.now step.now whole.old place) }

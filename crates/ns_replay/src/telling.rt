@@ -2,7 +2,7 @@
 
 ghost use Rattle.std.specs.Prelude.{◌≡◌, ◌↔◌, Err, IfOk, IsFalse, IsTrue, Some};
 ghost use Rattle.ns_runs.specs.Running.{is_no_step};
-ghost use Rattle.ns_replay.specs.Abreast.{Shows, Tells};
+ghost use Rattle.ns_replay.specs.Abreast.{Replies, Shows};
 ghost use Rattle.ns_replay.specs.Replay.{Fits, FitsIn};
 
 use ns_answers::{refused, render};
@@ -46,7 +46,7 @@ fn shown(alloc: Global, answer: &Result<Reply, Refusal>) -> Result<Option<Render
 
 /// Makes the step, and says what it is answered. None: it is out of turn, and not made.
 pub fn tell(alloc: Global, core: &mut Core, asked: &Step) -> Result<Option<Rendered>, AllocError>
-    ensures { IfOk result (λ told. Tells asked.now core.old told core.new) }
+    ensures { IfOk result (λ told. Replies asked.now core.old told core.new) }
 {
     let answer = step(alloc, core, asked);
     let told = shown(alloc, &answer);

@@ -69,8 +69,8 @@ pub data ComesTo (bytes : Name) (from : ℕ) (ns : Name) : Name → Ending → T
       ReplaysTo ns base (base_len from entries) (drop (base_len from entries) entries) lines ending →
       ComesTo bytes from ns lines ending
 
--- the text and the exit status that tell it
-pub record Tells (bytes : Name) (from : ℕ) (ns text : Name) (status : ℕ) : Type 0 where
+-- the text that is printed of it, and the exit status
+pub record IsPrintout (bytes : Name) (from : ℕ) (ns text : Name) (status : ℕ) : Type 0 where
   pub lines : Name
   pub ending : Ending
   pub comes_to : ComesTo bytes from ns lines ending

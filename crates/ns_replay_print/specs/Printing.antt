@@ -6,7 +6,7 @@ use Rattle.ns_http.specs.Whole.{FailsToRead, ReadsAll}
 use Rattle.ns_http.specs.declared.counting.Counted.{Counted}
 use Rattle.ns_faults.specs.Lines.{FailsToWrite}
 use Rattle.ns_faults.specs.declared.status.TheConstants.{READ_FAULT, WRITE_FAULT, OUT_OF_MEMORY}
-use Rattle.ns_replay_print.specs.Outcome.{Tells}
+use Rattle.ns_replay_print.specs.Outcome.{IsPrintout}
 
 module _ {R W : Type 0} (remaining : R → Option (List ℕ)) (contents : W → Option (List ℕ)) where
   -- all of the input was read, and the text was written of what it comes to
@@ -15,7 +15,7 @@ module _ {R W : Type 0} (remaining : R → Option (List ℕ)) (contents : W → 
     pub bytes : Name
     pub text : Name
     pub reads : ReadsAll remaining reader reader' bytes
-    pub tells : Tells bytes from ns text status
+    pub is_printout : IsPrintout bytes from ns text status
     pub writes : WritesAll contents writer writer' text
 
   -- the same, up to a fault of the writer
@@ -25,7 +25,7 @@ module _ {R W : Type 0} (remaining : R → Option (List ℕ)) (contents : W → 
     pub text : Name
     pub status : ℕ
     pub reads : ReadsAll remaining reader reader' bytes
-    pub tells : Tells bytes from ns text status
+    pub is_printout : IsPrintout bytes from ns text status
     pub writes : FailsToWrite contents writer writer' text
 
   -- A replay ended with this status. A fault of the reader, or want of memory, leaves the writer as it was.

@@ -33,7 +33,7 @@ impl Ending {
     }
 }
 
-/// Adds the line that tells the ending.
+/// Adds the line of the ending.
 pub fn push_ending(text: &mut String, ending: Ending) -> Result<(), AllocError>
     ensures { OnOk result (string_bytes text.new ≡ string_bytes text.old ++ last_line ending) }
 {

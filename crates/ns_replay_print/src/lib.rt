@@ -1,5 +1,5 @@
 //! What a log comes to for a namespace alone, as text: the log is read from an input, replayed, and
-//! told line by line.
+//! printed line by line.
 #![tactic(auto)]
 
 mod base;

@@ -1,7 +1,7 @@
 //! What a log comes to.
 
 ghost use Rattle.std.specs.Prelude.{◌≡◌, ◌+◌, ◌^◌, ◌<◌, IfOk, length, string_bytes};
-ghost use Rattle.ns_replay_print.specs.Outcome.{ComesTo, ReplaysTo, Tells, ending_of, place_of};
+ghost use Rattle.ns_replay_print.specs.Outcome.{ComesTo, IsPrintout, ReplaysTo, ending_of, place_of};
 
 use crate::base::base_of;
 use crate::ending::{Ending, push_ending};
@@ -106,29 +106,29 @@ fn outcome_of(
 
 /// A text, and the exit status that goes with it.
 #[derive(Drop)]
-pub struct Told {
+pub struct Printout {
     pub text: String,
     pub status: u8,
 }
 
-/// Tells what the bytes of a log come to for the namespace alone, where the first entries, `from`
+/// What is printed of the bytes of a log for the namespace alone, where the first entries, `from`
 /// or all if there are fewer, make the base.
-pub fn tell_replay(
+pub fn printout_of(
     alloc: Global,
     bytes: &[u8],
     from: u64,
     namespace: &Text,
-) -> Result<Told, AllocError>
-    ensures told { IfOk result (λ told.
-        Tells bytes.now from namespace.now (string_bytes told.text) told.status) }
-    ensures status { IfOk result (λ told. told.status < 3) }
+) -> Result<Printout, AllocError>
+    ensures printout { IfOk result (λ printout.
+        IsPrintout bytes.now from namespace.now (string_bytes printout.text) printout.status) }
+    ensures status { IfOk result (λ printout. printout.status < 3) }
 {
     let Outcome {
         lines: mut text,
         ending,
     } = outcome_of(alloc, bytes, from, namespace)?;
     push_ending(&mut text, ending)?;
-    Ok(Told {
+    Ok(Printout {
         text,
         status: ending.status(),
     })

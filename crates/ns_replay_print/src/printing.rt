@@ -2,12 +2,12 @@
 
 ghost use Rattle.std.specs.Prelude.{◌≡◌, ◌+◌, ◌<◌, ◌≤◌};
 ghost use Rattle.ns_http.specs.Whole.{FailsToRead};
-ghost use Rattle.ns_faults.specs.Lines.{Tells, line_of, status_of};
+ghost use Rattle.ns_faults.specs.Lines.{TriesToWrite, line_of, status_of};
 ghost use Rattle.ns_replay_print.specs.Printing.{Prints, PrintsPart};
 
-use crate::outcome::tell_replay;
+use crate::outcome::printout_of;
+use ns_faults::print_fault;
 use ns_faults::status::{OUT_OF_MEMORY, READ_FAULT, WRITE_FAULT};
-use ns_faults::tell;
 use ns_http::{ConnFault, Counted, READ_LIMIT, read_to_end, write_all};
 use ns_types::text::Text;
 use std::alloc::Global;
@@ -39,19 +39,19 @@ pub fn print_replay<R: Read, W: Write, E: Write>(
     ensures out_of_memory { result ≡ OUT_OF_MEMORY → writer.new ≡ writer.old }
 
     ensures silent { result < READ_FAULT → errors.new ≡ errors.old }
-    ensures told { (fault : ConnFault) → result ≡ status_of fault
-        → Tells E.contents errors.old errors.new (line_of fault) }
+    ensures fault_line { (fault : ConnFault) → result ≡ status_of fault
+        → TriesToWrite E.contents errors.old errors.new (line_of fault) }
     ensures reads { reader.new.counts.calls ≤ reader.old.counts.calls + READ_LIMIT }
 {
     let bytes = match read_to_end(alloc, reader) {
         Ok(bytes) => bytes,
-        Err(fault) => return tell(fault, errors),
+        Err(fault) => return print_fault(fault, errors),
     };
-    let Ok(told) = tell_replay(alloc, bytes.as_slice(), from, namespace) else {
-        return tell(ConnFault::Memory, errors);
+    let Ok(printout) = printout_of(alloc, bytes.as_slice(), from, namespace) else {
+        return print_fault(ConnFault::Memory, errors);
     };
-    match write_all(writer, told.text.as_str().as_bytes()) {
-        Ok(()) => told.status,
-        Err(_) => tell(ConnFault::Write, errors),
+    match write_all(writer, printout.text.as_str().as_bytes()) {
+        Ok(()) => printout.status,
+        Err(_) => print_fault(ConnFault::Write, errors),
     }
 }

@@ -80,16 +80,16 @@ module _ (w : World) (r : Report) (a : Allocation) (within : is_past_bound w ≡
       (ap is_past_bound (settle_same w) ∙ within)
 
   module _ (other : same_client a.client r.client ≡ false) where
-    told : report_of r w a ≡ unless (not (may_become a.client r.client)) Refusal.Conflict (Done Content.Written (reported r a w))
-    told = ap (λ b. if b then Done Content.Written w
+    report_is : report_of r w a ≡ unless (not (may_become a.client r.client)) Refusal.Conflict (Done Content.Written (reported r a w))
+    report_is = ap (λ b. if b then Done Content.Written w
         else unless (not (may_become a.client r.client)) Refusal.Conflict (Done Content.Written (reported r a w))) other
 
     pub never : may_become a.client r.client ≡ false → Comes (Refused Refusal.Conflict)
-    never not_so = still_refused w _ Refusal.Conflict (told ∙ unless_so (not (may_become a.client r.client)) _ _ (ap not not_so))
+    never not_so = still_refused w _ Refusal.Conflict (report_is ∙ unless_so (not (may_become a.client r.client)) _ _ (ap not not_so))
 
     module _ (may : may_become a.client r.client ≡ true) where
       reports : report_of r w a ≡ Done Content.Written (reported r a w)
-      reports = told ∙ unless_not (not (may_become a.client r.client)) _ _ (ap not may)
+      reports = report_is ∙ unless_not (not (may_become a.client r.client)) _ _ (ap not may)
 
       module _ (t : Tenant) (at : get w.tenants r.namespace ≡ Some t) (there : get t.allocations r.number ≡ Some a) where
         pub full : report_passes w t a r.client ≡ true → Comes (Refused Refusal.Full)

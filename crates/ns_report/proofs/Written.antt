@@ -27,25 +27,25 @@ module _ (w : World) (r : Report) (t : Tenant) (at : get w.tenants r.namespace �
   abbrev after : Tenant
   after = with_client r.number r.client t
 
-  abbrev told : World
-  told = change_tenant r.namespace (with_client r.number r.client) w
+  abbrev marked : World
+  marked = change_tenant r.namespace (with_client r.number r.client) w
 
   abbrev evaluation : Tenant → Evaluation
   evaluation t = evaluation_for t a Trigger.AllocFailure
 
-  told_is : told ≡ put_tenant r.namespace after w
-  told_is = ap (λ o. option_map_or (λ t. put_tenant r.namespace (with_client r.number r.client t) w) o w) at
+  marked_is : marked ≡ put_tenant r.namespace after w
+  marked_is = ap (λ o. option_map_or (λ t. put_tenant r.namespace (with_client r.number r.client t) w) o w) at
 
-  after_at : get told.tenants r.namespace ≡ Some after
-  after_at = ap (λ x. get x.tenants r.namespace) told_is ∙ get_put names one_name w.tenants r.namespace after
+  after_at : get marked.tenants r.namespace ≡ Some after
+  after_at = ap (λ x. get x.tenants r.namespace) marked_is ∙ get_put names one_name w.tenants r.namespace after
 
-  reported_if : reported r a w ≡ (if calls_for_one t a r.client then make r.namespace evaluation told else told)
-  reported_if = ap (λ o. if option_map_or (λ t. calls_for_one t a r.client) o false then make r.namespace evaluation told else told) at
+  reported_if : reported r a w ≡ (if calls_for_one t a r.client then make r.namespace evaluation marked else marked)
+  reported_if = ap (λ o. if option_map_or (λ t. calls_for_one t a r.client) o false then make r.namespace evaluation marked else marked) at
 
   -- ---- it calls for no evaluation
 
-  pub told_alone : calls_for_one t a r.client ≡ false → told ≡ reported r a w
-  told_alone calls = sym (reported_if ∙ ap (λ b. if b then make r.namespace evaluation told else told) calls)
+  pub marked_alone : calls_for_one t a r.client ≡ false → marked ≡ reported r a w
+  marked_alone calls = sym (reported_if ∙ ap (λ b. if b then make r.namespace evaluation marked else marked) calls)
 
   -- ---- it calls for one
 
@@ -69,13 +69,13 @@ module _ (w : World) (r : Report) (t : Tenant) (at : get w.tenants r.namespace �
   evaluation_stays = ap (λ jobs. option_map_or (λ job. evaluation_of a.job job.document Trigger.AllocFailure) (get jobs a.job)
       (new_evaluation a.job JobKind.Service a.priority a.pool Trigger.AllocFailure)) jobs_stay
 
-  pub told_made : calls_for_one t a r.client ≡ true → make r.namespace (λ _. evaluation t) told ≡ reported r a w
-  told_made calls = ap (λ o. option_map_or (make_in r.namespace (evaluation t) told) o told) after_at
-      ∙ ap (λ e. make_in r.namespace e told after) (sym evaluation_stays)
-      ∙ sym (reported_if ∙ ap (λ b. if b then make r.namespace evaluation told else told) calls
-      ∙ ap (λ o. option_map_or (λ t. make_in r.namespace (evaluation t) told t) o told) after_at)
+  pub marked_made : calls_for_one t a r.client ≡ true → make r.namespace (λ _. evaluation t) marked ≡ reported r a w
+  marked_made calls = ap (λ o. option_map_or (make_in r.namespace (evaluation t) marked) o marked) after_at
+      ∙ ap (λ e. make_in r.namespace e marked after) (sym evaluation_stays)
+      ∙ sym (reported_if ∙ ap (λ b. if b then make r.namespace evaluation marked else marked) calls
+      ∙ ap (λ o. option_map_or (λ t. make_in r.namespace (evaluation t) marked t) o marked) after_at)
 
-  pub left_there : calls_for_one t a r.client ≡ true → number_passes t a r.client ≡ false → HasEvaluationLeft told r.namespace
+  pub left_there : calls_for_one t a r.client ≡ true → number_passes t a r.client ≡ false → HasEvaluationLeft marked r.namespace
   left_there calls fits z is = subst (λ n. n + 1 < 2 ^ 64) (sym number_stays ∙ ap (λ t. t.evaluation_number) (same_Some _ _ (sym after_at ∙ is)))
       (within_bound (t.evaluation_number + 1) (by (is_at_bound t.evaluation_number) calls fits))
     where
@@ -93,13 +93,13 @@ module _ (w : World) (r : Report) (t : Tenant) (at : get w.tenants r.namespace �
     after_is = ap (λ o. option_map_or (λ a. put_allocation r.number (record a { client = r.client }) t) o t) there
 
     pub reported_alone : calls_for_one t a r.client ≡ false → reported r a w ≡ put_tenant r.namespace (put_allocation r.number row t) w
-    reported_alone calls = sym (told_alone calls) ∙ told_is ∙ ap (λ t. put_tenant r.namespace t w) after_is
+    reported_alone calls = sym (marked_alone calls) ∙ marked_is ∙ ap (λ t. put_tenant r.namespace t w) after_is
 
     pub reported_made : calls_for_one t a r.client ≡ true →
         reported r a w ≡ make_in r.namespace (evaluation t) w (put_allocation r.number row t)
-    reported_made calls = sym (told_made calls)
-        ∙ ap (λ o. option_map_or (make_in r.namespace (evaluation t) told) o told) after_at
-        ∙ (λ i. make_in r.namespace (evaluation t) (told_is i) after)
+    reported_made calls = sym (marked_made calls)
+        ∙ ap (λ o. option_map_or (make_in r.namespace (evaluation t) marked) o marked) after_at
+        ∙ (λ i. make_in r.namespace (evaluation t) (marked_is i) after)
         ∙ ap (λ m. queue (record w { tenants = m }) (r.namespace, after.evaluation_number + 1))
         (insert_twice names one_name w.tenants r.namespace after (with_evaluation (evaluation t) after))
         ∙ ap (make_in r.namespace (evaluation t) w) after_is

@@ -3,8 +3,8 @@
 #![tactic(auto)]
 
 mod bounds;
+mod reporting;
 mod statuses;
-mod telling;
 mod writing;
 
-pub use telling::report;
+pub use reporting::report;

@@ -88,7 +88,7 @@ fn drawers(alloc: Global, connections: u64) -> Result<Vec<SameBits>, AllocError>
     Ok(drawers)
 }
 
-/// Serves, and notes what is told on the errors. The exit status, and the output.
+/// Serves, and notes what is written to the errors. The exit status, and the output.
 fn served<R: Threads + Wait + Clock + Sync + Net<Listener = TcpListener, Stream = TcpStream>>(
     rt: &R,
     alloc: Global,

@@ -1,4 +1,4 @@
--- How a server ended, from its status and what was printed and told.
+-- How a server ended, from its status and what was printed.
 use Rattle.std.specs.Prelude.{◌≡◌, ℕ, List, Option, Result, Ok, Err}
 use Rattle.std.specs.Result.{IsErrOf}
 use Rattle.std.specs.declared.net.socket_addr.SocketAddr.{SocketAddr}
@@ -7,9 +7,9 @@ use Rattle.ns_types.specs.State.Names.{Name}
 use Rattle.ns_held.specs.Logs.{History}
 use Rattle.ns_http.specs.declared.counting.Counted.{Counted}
 use Rattle.ns_http.specs.declared.engine.ConnFault.{ConnFault}
-use Rattle.ns_faults.specs.Lines.{Tells, line_of, mismatch_line, status_of}
+use Rattle.ns_faults.specs.Lines.{TriesToWrite, line_of, mismatch_line, status_of}
 use Rattle.ns_faults.specs.declared.status.TheConstants.{SERVED, MISMATCH, WRITE_FAULT}
-use Rattle.ns_serve.specs.Ending.{EndsInPart, EndsSettled, IsChosen, IsEnd, TellsLast, fault_line, fault_status}
+use Rattle.ns_serve.specs.Ending.{EndsInPart, EndsSettled, IsChosen, IsEnd, IsLastLine, fault_line, fault_status}
 use Rattle.ns_serve.specs.Opening.{opening_lines}
 use Rattle.ns_serve.specs.Printing.{PrintsPart, PrintsRun}
 use Rattle.ns_serve.specs.declared.fault.ServeFault.{ServeFault}
@@ -63,14 +63,14 @@ line_of_mismatch ServeFault.Mismatch e = refl
 
 -- ---- how it ended
 
-module _ {D W E : Type 0} (draws : D → List ℕ → D → Type 0) (contents : W → Option (List ℕ)) (said : E → Option (List ℕ))
+module _ {D W E : Type 0} (draws : D → List ℕ → D → Type 0) (contents : W → Option (List ℕ)) (held : E → Option (List ℕ))
     (given : Option Name) (drawers : List D) where
   pub ends_settled : (address : SocketAddr) (secret : Name) (history : History) (writer writer' : Counted W)
       (errors opened errors' : Counted E) (lines line : List ℕ) → IsChosen draws given drawers secret →
-      lines ≡ opening_lines given address secret → Tells said errors opened lines →
-      PrintsRun contents secret history writer writer' line → Tells said opened errors' line →
-      EndsSettled draws contents said given drawers writer writer' errors errors'
-  ends_settled address secret history writer writer' errors opened errors' lines line chosen are tells prints says = record {
+      lines ≡ opening_lines given address secret → TriesToWrite held errors opened lines →
+      PrintsRun contents secret history writer writer' line → TriesToWrite held opened errors' line →
+      EndsSettled draws contents held given drawers writer writer' errors errors'
+  ends_settled address secret history writer writer' errors opened errors' lines line chosen are wrote prints ended = record {
     address = address;
     secret = secret;
     history = history;
@@ -78,12 +78,12 @@ module _ {D W E : Type 0} (draws : D → List ℕ → D → Type 0) (contents : 
     is_secret = chosen;
     is_run = prints.is_run;
     printed = prints.printed;
-    listens = subst (Tells said errors opened) are tells;
-    settled = subst (Tells said opened errors') prints.counts says;
+    listens = subst (TriesToWrite held errors opened) are wrote;
+    settled = subst (TriesToWrite held opened errors') prints.counts ended;
   }
 
   pub ends_in_part : (secret : Name) (history : History) (writer writer' : Counted W) → IsChosen draws given drawers secret →
-      PrintsPart contents secret history writer writer' → EndsInPart draws contents said given drawers writer writer'
+      PrintsPart contents secret history writer writer' → EndsInPart draws contents held given drawers writer writer'
   ends_in_part secret history writer writer' chosen prints = record {
     secret = secret;
     history = history;
@@ -93,20 +93,20 @@ module _ {D W E : Type 0} (draws : D → List ℕ → D → Type 0) (contents : 
   }
 
   -- behind the first lines
-  pub tells_behind : (address : SocketAddr) (secret : Name) (errors opened errors' : Counted E) (lines line line' : List ℕ) →
-      IsChosen draws given drawers secret → lines ≡ opening_lines given address secret → Tells said errors opened lines →
-      Tells said opened errors' line → line ≡ line' → TellsLast draws contents said given drawers errors errors' line'
-  tells_behind address secret errors opened errors' lines line line' chosen are tells says is = record {
+  pub last_behind : (address : SocketAddr) (secret : Name) (errors opened errors' : Counted E) (lines line line' : List ℕ) →
+      IsChosen draws given drawers secret → lines ≡ opening_lines given address secret → TriesToWrite held errors opened lines →
+      TriesToWrite held opened errors' line → line ≡ line' → IsLastLine draws contents held given drawers errors errors' line'
+  last_behind address secret errors opened errors' lines line line' chosen are wrote ended is = record {
     opened = opened;
-    before = inr (address, secret, chosen, subst (Tells said errors opened) are tells);
-    last = subst (Tells said opened errors') is says;
+    before = inr (address, secret, chosen, subst (TriesToWrite held errors opened) are wrote);
+    last = subst (TriesToWrite held opened errors') is ended;
   }
 
   -- with nothing before it
-  pub tells_alone : (errors errors' : Counted E) (line line' : List ℕ) → Tells said errors errors' line → line ≡ line' →
-      TellsLast draws contents said given drawers errors errors' line'
-  tells_alone errors errors' line line' says is = record {
+  pub last_alone : (errors errors' : Counted E) (line line' : List ℕ) → TriesToWrite held errors errors' line → line ≡ line' →
+      IsLastLine draws contents held given drawers errors errors' line'
+  last_alone errors errors' line line' ended is = record {
     opened = errors;
     before = inl refl;
-    last = subst (Tells said errors errors') is says;
+    last = subst (TriesToWrite held errors errors') is ended;
   }

@@ -1,4 +1,4 @@
--- How a server ended, over what its writer holds and what was told on standard error.
+-- How a server ended, over what its writer holds and what was written to standard error.
 use Rattle.std.specs.Prelude.{◌≡◌, ◌⊎◌, ℕ, List, [], ◌∷◌, ◌++◌, Option, length}
 use Rattle.std.specs.declared.net.socket_addr.SocketAddr.{SocketAddr}
 use Rattle.ns_types.specs.State.Names.{Name}
@@ -6,7 +6,7 @@ use Rattle.ns_json.specs.Logs.{log_text}
 use Rattle.ns_held.specs.Logs.{History}
 use Rattle.ns_http.specs.Output.{WritesAll}
 use Rattle.ns_http.specs.declared.counting.Counted.{Counted}
-use Rattle.ns_faults.specs.Lines.{FailsToWrite, Tells, line_of, mismatch_line, status_of}
+use Rattle.ns_faults.specs.Lines.{FailsToWrite, TriesToWrite, line_of, mismatch_line, status_of}
 use Rattle.ns_faults.specs.declared.status.TheConstants.{SERVED, MISMATCH, READ_FAULT, WRITE_FAULT, OUT_OF_MEMORY}
 use Rattle.ns_serve.specs.Opening.{IsSecret, opening_lines}
 use Rattle.ns_serve.specs.Printing.{IsRun, settled_line}
@@ -32,8 +32,8 @@ IsChosen {D} draws given drawers secret =
     (others : List D) × (last : D) × (drawers ≡ others ++ last ∷ []) × IsSecret draws given last secret
 
 module _ {D W E : Type 0} (draws : D → List ℕ → D → Type 0) (contents : W → Option (List ℕ))
-    (said : E → Option (List ℕ)) (given : Option Name) (drawers : List D) where
-  -- the log of a run was printed; told were where the server listens, and how many entries the log has
+    (held : E → Option (List ℕ)) (given : Option Name) (drawers : List D) where
+  -- the log of a run was printed; to standard error, where the server listens, and how many entries the log has
   pub record EndsSettled (writer writer' : Counted W) (errors errors' : Counted E) : Type 0 where
     pub address : SocketAddr
     pub secret : Name
@@ -42,8 +42,8 @@ module _ {D W E : Type 0} (draws : D → List ℕ → D → Type 0) (contents : 
     pub is_secret : IsChosen draws given drawers secret
     pub is_run : IsRun history
     pub printed : WritesAll contents writer writer' (log_text secret history.log)
-    pub listens : Tells said errors opened (opening_lines given address secret)
-    pub settled : Tells said opened errors' (settled_line (length history.log))
+    pub listens : TriesToWrite held errors opened (opening_lines given address secret)
+    pub settled : TriesToWrite held opened errors' (settled_line (length history.log))
 
   -- a first part of the log of a run was printed, and then the writer failed
   pub record EndsInPart (writer writer' : Counted W) : Type 0 where
@@ -53,9 +53,9 @@ module _ {D W E : Type 0} (draws : D → List ℕ → D → Type 0) (contents : 
     pub is_run : IsRun history
     pub printed : FailsToWrite contents writer writer' (log_text secret history.log)
 
-  -- this line was told last, and before it, if anything, where the server listens
-  pub record TellsLast (errors errors' : Counted E) (line : List ℕ) : Type 0 where
+  -- this line was written last, and before it, if anything, where the server listens
+  pub record IsLastLine (errors errors' : Counted E) (line : List ℕ) : Type 0 where
     pub opened : Counted E
     pub before : (opened ≡ errors) ⊎ ((address : SocketAddr) × (secret : Name) × IsChosen draws given drawers secret
-        × Tells said errors opened (opening_lines given address secret))
-    pub last : Tells said opened errors' line
+        × TriesToWrite held errors opened (opening_lines given address secret))
+    pub last : TriesToWrite held opened errors' line

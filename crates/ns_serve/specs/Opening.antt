@@ -1,4 +1,4 @@
--- How a server begins: by which secret it is opened, and what it tells before it serves.
+-- How a server begins: by which secret it is opened, and what it prints before it serves.
 use Rattle.std.specs.Prelude.{◌≡◌, ℕ, List, [], ◌++◌, Option, Some, None, codes, length}
 use Rattle.std.specs.Net.Text.{socket_text}
 use Rattle.std.specs.declared.net.socket_addr.SocketAddr.{SocketAddr}

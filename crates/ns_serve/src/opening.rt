@@ -15,7 +15,7 @@ use ns_types::name::Secret;
 use std::alloc::{AllocError, Global};
 use std::net::{Net, SocketAddr, TcpListener, TcpStream};
 
-/// A server that listens, with what is told of it.
+/// A server that listens, with the lines that say so.
 #[derive(Drop)]
 pub struct Opened {
     pub door: Door,

@@ -8,7 +8,7 @@ use std::net::SocketAddr;
 pub struct Service {
     /// Where it listens.
     pub address: SocketAddr,
-    /// The secret of the first management token. None: it is drawn, and told.
+    /// The secret of the first management token. None: it is drawn, and printed.
     pub bootstrap: Option<Secret>,
     /// How many workers it has: 1 to 63.
     pub workers: u64,

@@ -2,10 +2,10 @@
 
 ghost use Rattle.std.specs.Prelude.{◌≡◌, ◌≢◌, ◌+◌, [], IfErr, IfOk, IsErrOf, string_bytes, vec_len};
 ghost use Rattle.ns_held.specs.Logs.{History};
-ghost use Rattle.ns_faults.specs.Lines.{Tells, line_of, mismatch_line, status_of};
+ghost use Rattle.ns_faults.specs.Lines.{TriesToWrite, line_of, mismatch_line, status_of};
 ghost use Rattle.ns_serve.specs.Opening.{begun_by};
 ghost use Rattle.ns_serve.specs.Printing.{PrintsPart, PrintsRun};
-ghost use Rattle.ns_serve.specs.Ending.{EndsInPart, EndsSettled, IsEnd, TellsLast, fault_line, fault_status};
+ghost use Rattle.ns_serve.specs.Ending.{EndsInPart, EndsSettled, IsEnd, IsLastLine, fault_line, fault_status};
 
 use crate::fault::ServeFault;
 use crate::opening::{Opened, open};
@@ -15,7 +15,7 @@ use crate::threads::host;
 use ns_asked::Draws;
 use ns_door::Door;
 use ns_faults::status::{MISMATCH, SERVED, WRITE_FAULT};
-use ns_faults::{say, tell, tell_mismatch};
+use ns_faults::{print_fault, print_mismatch, print_text};
 use ns_held::Held;
 use ns_http::{ConnFault, Counted};
 use ns_shared::{Settled, Shared};
@@ -86,18 +86,18 @@ fn serve_printed<
 }
 
 /// Writes the line of the fault, and says its exit status.
-fn tell_fault<E: Write>(fault: ServeFault, errors: &mut Counted<E>) -> u8
+fn print_serve_fault<E: Write>(fault: ServeFault, errors: &mut Counted<E>) -> u8
     ensures status { result ≡ fault_status fault }
-    ensures line { Tells E.contents errors.old errors.new (fault_line fault) }
+    ensures line { TriesToWrite E.contents errors.old errors.new (fault_line fault) }
 {
     match fault {
-        ServeFault::Conn(fault) => tell(fault, errors),
-        ServeFault::Mismatch => tell_mismatch(errors),
+        ServeFault::Conn(fault) => print_fault(fault, errors),
+        ServeFault::Mismatch => print_mismatch(errors),
     }
 }
 
 /// Serves connections until as many were served as are asked for, and says the exit status. Then all that the threads were
-/// answered has to settle with the log, which is printed. Every fault is told in a line, behind the lines that say where the
+/// answered has to settle with the log, which is printed. Every fault is printed as a line, behind the lines that say where the
 /// server listens and which secret was drawn. Of the drawers the last draws the secret, and each other one has a thread that
 /// serves one connection after another.
 pub fn serve<
@@ -124,10 +124,10 @@ pub fn serve<
     ensures write_fault { result ≡ WRITE_FAULT → EndsInPart D.draws W.contents E.contents
         service.now.bootstrap draws.items writer.old writer.new }
     ensures unprinted { result ≢ SERVED → result ≢ WRITE_FAULT → writer.new ≡ writer.old }
-    ensures told { (fault : ConnFault) → result ≡ status_of fault
-        → TellsLast D.draws W.contents E.contents
+    ensures fault_line { (fault : ConnFault) → result ≡ status_of fault
+        → IsLastLine D.draws W.contents E.contents
         service.now.bootstrap draws.items errors.old errors.new (line_of fault) }
-    ensures mismatch { result ≡ MISMATCH → TellsLast D.draws W.contents E.contents
+    ensures mismatch { result ≡ MISMATCH → IsLastLine D.draws W.contents E.contents
         service.now.bootstrap draws.items errors.old errors.new mismatch_line }
 {
     let mut draws = draws;
@@ -136,14 +136,14 @@ pub fn serve<
     };
     let opened = match open(rt, alloc, service, &mut drawer) {
         Ok(opened) => opened,
-        Err(fault) => return tell(fault, errors),
+        Err(fault) => return print_fault(fault, errors),
     };
-    say(errors, opened.lines.as_str().as_bytes());
+    print_text(errors, opened.lines.as_str().as_bytes());
     match serve_printed::<L, _, _, _>(rt, alloc, service, opened, draws, blank, writer) {
         Ok(line) => {
-            say(errors, line.as_str().as_bytes());
+            print_text(errors, line.as_str().as_bytes());
             SERVED
         }
-        Err(fault) => tell_fault(fault, errors),
+        Err(fault) => print_serve_fault(fault, errors),
     }
 }

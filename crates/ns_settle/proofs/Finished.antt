@@ -21,7 +21,7 @@ use Rattle.ns_change.specs.declared.change.Settled.{Settled}
 use Rattle.ns_change.specs.declared.change.TenantChange.{TenantChange}
 use Rattle.ns_world.specs.declared.tables.Tables.{Tables}
 use Rattle.ns_world.specs.declared.tables.TenantRows.{TenantRows}
-use Rattle.ns_change.specs.Settled.{settled_world, tell}
+use Rattle.ns_change.specs.Settled.{publish, settled_world}
 use Rattle.ns_settle.specs.Settles.{any_last, is_last, settled_by, settled_slot, shown_if, unshown}
 use Rattle.ns_change.specs.Changed.{changed, changed_tenant, perhaps}
 use Rattle.ns_release.specs.Released.{woken_keys}
@@ -85,7 +85,7 @@ module _ (w : World) where
   unfolding stamped_tenant
   index_left t x within = by (touches t x) within
     where
-      by : (b : Bool) → is_tenant_past_bound (if b then tell (changed_tenant t (stamped_rows t x)) (changed_events t x) else changed_tenant t x) ≡ false →
+      by : (b : Bool) → is_tenant_past_bound (if b then publish (changed_tenant t (stamped_rows t x)) (changed_events t x) else changed_tenant t x) ≡ false →
           (b && nat_lt greatest (t.index + 1)) ≡ false
       by true within = left_none _ _ (left_none _ _ within)
       by false within = refl

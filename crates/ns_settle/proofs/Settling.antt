@@ -16,7 +16,7 @@ use Rattle.ns_change.specs.declared.change.Change.{Change}
 use Rattle.ns_change.specs.declared.change.Settled.{Settled}
 use Rattle.ns_change.specs.declared.change.TenantChange.{TenantChange}
 use Rattle.ns_change.specs.Changed.{changed, changed_list, changed_pool, changed_quota, changed_tenant, perhaps}
-use Rattle.ns_change.specs.Settled.{classes_in, settled_tenant, settled_world, tell}
+use Rattle.ns_change.specs.Settled.{classes_in, publish, settled_tenant, settled_world}
 use Rattle.ns_release.specs.Released.{woken_keys}
 use Rattle.ns_release.proofs.Model.{map_rows-alike, map_rows-twice, pools_after, quotas_after, wake_pools, wake_quotas, woken_is}
 use Rattle.ns_settle.specs.Settles.{IsSettled, AreStamped, settled_by, settled_slot, shown_if, unshown}
@@ -91,7 +91,7 @@ module _ (w : World) (c awake : Change) where
   stamped_by ns t is = ap (λ x. perhaps settled_tenant x t) (row_of (settled_slot w) (λ _. refl) awake.tenants ns) ∙ by (row_at awake.tenants ns)
     where
       slots : (b : Bool) (x : TenantChange) → settled_tenant t (shown_if b t x) ≡
-          (if b then tell (changed_tenant t (stamped_rows t x)) (changed_events t x) else changed_tenant t x)
+          (if b then publish (changed_tenant t (stamped_rows t x)) (changed_events t x) else changed_tenant t x)
       slots true x = refl
       slots false x = refl
 

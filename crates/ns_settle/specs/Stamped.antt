@@ -15,7 +15,7 @@ use Rattle.ns_types.specs.Settling.Settle.{stamped_allocation, stamped_evaluatio
 use Rattle.ns_types.specs.State.Tables.{map_rows}
 use Rattle.ns_change.specs.declared.change.TenantChange.{TenantChange}
 use Rattle.ns_change.specs.Changed.{changed_tenant}
-use Rattle.ns_change.specs.Settled.{tell}
+use Rattle.ns_change.specs.Settled.{publish}
 use Rattle.ns_release.specs.Shown.{Kind, changes_job_row, changes_row}
 
 -- ---- rows by number: evaluations and allocations
@@ -77,5 +77,5 @@ abbrev pub stamped_rows : Tenant → TenantChange → TenantChange
 stamped_rows t x = stamp_change (t.index + 1) t x
 
 unfoldable pub stamped_tenant : Tenant → TenantChange → Tenant
-stamped_tenant t x = if touches t x then tell (changed_tenant t (stamped_rows t x)) (changed_events t x)
+stamped_tenant t x = if touches t x then publish (changed_tenant t (stamped_rows t x)) (changed_events t x)
     else changed_tenant t x

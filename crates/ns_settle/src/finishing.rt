@@ -15,7 +15,7 @@ ghost use Rattle.ns_world.specs.World.{tenant_of, world_of};
 
 use crate::quotas::released_quotas;
 use crate::rooms::released_rooms;
-use crate::stamping::{stamp_rows, tell_jobs, tell_rows, touches};
+use crate::stamping::{publish_jobs, publish_rows, stamp_rows, touches};
 use crate::waking::woken_keys;
 use keyed::NameTable;
 use ns_change::{Change, Settled, SettledTenant, TenantChange, wake};
@@ -39,14 +39,14 @@ fn events_at(
     ensures { IfOk result (λ events. events ≡ events_at index (tenant_of tenant.now) change.now) }
 {
     let mut events = Rows::new(alloc);
-    tell_jobs(&mut events, tenant, index, change.jobs.as_slice())?;
-    tell_rows(
+    publish_jobs(&mut events, tenant, index, change.jobs.as_slice())?;
+    publish_rows(
         &mut events,
         tenant.evaluations.rows(),
         index,
         change.evaluations.as_slice(),
     )?;
-    tell_rows(
+    publish_rows(
         &mut events,
         tenant.allocations.rows(),
         index,

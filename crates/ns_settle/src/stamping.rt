@@ -22,7 +22,7 @@ use std::alloc::AllocError;
 type JobSlot = (Text, Option<Job>);
 
 /// An event of each changed row, by number.
-pub fn tell_rows<R: Shown>(
+pub fn publish_rows<R: Shown>(
     events: &mut Rows<Event>,
     before: &NumberTable<R>,
     index: u64,
@@ -107,7 +107,7 @@ fn job_topic(slot: &JobSlot) -> Result<Topic, AllocError>
 }
 
 /// An event of each changed job, by id.
-pub fn tell_jobs(
+pub fn publish_jobs(
     events: &mut Rows<Event>,
     tenant: &TenantRows,
     index: u64,

@@ -1,4 +1,4 @@
--- What is told of a worker, and of the evaluation whose plan is served next.
+-- What is seen of a worker, and of the evaluation whose plan is served next.
 use Rattle.std.specs.Prelude.{◌≡◌, ◌<◌, ℕ, Bool, true, false, ◌&&◌, Option, Some, None, MatchOption, nat_eq}
 use Rattle.std.specs.Option.{option_map_or}
 use Rattle.ns_types.specs.declared.worker.Phase.{Phase}
@@ -9,8 +9,8 @@ use Rattle.ns_types.specs.Working.Work.{workers_end}
 use Rattle.ns_shared.specs.declared.changes.Busy.{Busy}
 use Rattle.ns_shared.specs.declared.changes.Planner.{Planner}
 
-abbrev pub told_of : Busy → Name × ℕ × Phase × ℕ
-told_of b = (b.namespace, b.evaluation, b.phase, b.tries)
+abbrev pub fields_of : Busy → Name × ℕ × Phase × ℕ
+fields_of b = (b.namespace, b.evaluation, b.phase, b.tries)
 
 -- ---- a worker that is busy with an evaluation
 

@@ -3,7 +3,7 @@
 ghost use Rattle.std.specs.Prelude.{◌≡◌, IfOk, option_map};
 ghost use Rattle.ns_types.specs.Working.Looks.{row_of, served_ready};
 ghost use Rattle.ns_broker.specs.Looking.{busy_of};
-ghost use Rattle.ns_shared.specs.Looking.{IsFirstAt, IsFirstPlanner, has_evaluation, is_busy_with, told_of};
+ghost use Rattle.ns_shared.specs.Looking.{IsFirstAt, IsFirstPlanner, fields_of, has_evaluation, is_busy_with};
 
 use crate::changes::{Busy, Planner};
 use ns_core::Core;
@@ -27,7 +27,7 @@ pub(crate) fn served(core: &Core) -> Result<Option<EvalKey>, AllocError>
 /// What the worker is busy with. None: it is idle.
 pub(crate) fn busy(core: &Core, worker: u64) -> Result<Option<Busy>, AllocError>
     ensures { IfOk result (λ busy.
-        option_map told_of busy ≡ option_map busy_of (row_of core.now.world worker)) }
+        option_map fields_of busy ≡ option_map busy_of (row_of core.now.world worker)) }
 {
     match core.phase(worker) {
         Some(busy) => Ok(Some(Busy {

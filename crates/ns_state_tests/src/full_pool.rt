@@ -3,11 +3,11 @@ ghost use Rattle.std.specs.Prelude.{IsTrue};
 ghost use Rattle.ns_types.specs.State.Limits.{is_amount};
 
 use crate::made::{numbered, text};
-use crate::nodes::{refusal, registration, told};
+use crate::nodes::{answered, refusal, registration};
 use crate::owned::seen;
 use crate::server::with_core;
 use ns_core::Core;
-use ns_types::good::GoodTelling;
+use ns_types::good::GoodNodeCommand;
 use ns_types::name::NameKind;
 use ns_types::refusal::Refusal;
 use ns_types::reply::{Content, NodeShown, Reply};
@@ -79,8 +79,8 @@ fn listed(answer: &Result<Reply, Refusal>) -> Option<(usize, u64)> {
 
 /// Whether a thousand nodes are listed, of which the first offers so many MHz.
 fn lists(core: &mut Core, root: &Text, pool: &Text, cpu: u64) -> bool {
-    let list = GoodTelling::new(NodeCommand::ListNodes);
-    let listed = seen(told(core, root, pool, &list), listed);
+    let list = GoodNodeCommand::new(NodeCommand::ListNodes);
+    let listed = seen(answered(core, root, pool, &list), listed);
     drop(list);
     listed == Some((1000, cpu))
 }

@@ -1,4 +1,4 @@
-// What is told of nodes, with ample memory: a call that was refused for memory is made again.
+// Commands of nodes, with ample memory: a call that was refused for memory is made again.
 ghost use Rattle.std.specs.Prelude.{IsTrue};
 ghost use Rattle.ns_types.specs.declared.name.NameKind.TheVariants as NameKind;
 ghost use Rattle.ns_types.specs.State.Limits.{is_amount};
@@ -7,7 +7,7 @@ ghost use Rattle.ns_types.specs.State.Name.{is_name};
 use crate::made::{copied, text};
 use crate::owned::seen;
 use ns_core::Core;
-use ns_types::good::GoodTelling;
+use ns_types::good::GoodNodeCommand;
 use ns_types::node::Offer;
 use ns_types::refusal::Refusal;
 use ns_types::reply::{Content, Reply};
@@ -23,7 +23,7 @@ pub(crate) fn registration(
     alloc: Global,
     node: &Text,
     capacity: Resources,
-) -> GoodTelling
+) -> GoodNodeCommand
     requires name { IsTrue (is_name NameKind.Node node.now) }
     requires capacity { IsTrue (is_amount capacity) }
 {
@@ -32,18 +32,18 @@ pub(crate) fn registration(
         attributes: Rows::new(alloc),
         capacity,
     };
-    GoodTelling::new(NodeCommand::PutNode(copied(rt, node), offer))
+    GoodNodeCommand::new(NodeCommand::PutNode(copied(rt, node), offer))
 }
 
-pub(crate) fn eligibility(rt: &impl Abort, node: &Text, eligible: bool) -> GoodTelling {
-    GoodTelling::new(NodeCommand::SetEligible(copied(rt, node), eligible))
+pub(crate) fn eligibility(rt: &impl Abort, node: &Text, eligible: bool) -> GoodNodeCommand {
+    GoodNodeCommand::new(NodeCommand::SetEligible(copied(rt, node), eligible))
 }
 
-pub(crate) fn told(
+pub(crate) fn answered(
     core: &mut Core,
     secret: &Text,
     pool: &Text,
-    command: &GoodTelling,
+    command: &GoodNodeCommand,
 ) -> Result<Reply, Refusal> {
     match core.node(pool, Some(secret), command) {
         Err(Refusal::Memory) => core.node(pool, Some(secret), command),
@@ -66,7 +66,7 @@ pub(crate) fn refusal(
     core: &mut Core,
     secret: &Text,
     pool: &Text,
-    command: &GoodTelling,
+    command: &GoodNodeCommand,
 ) -> Option<Refusal> {
-    seen(told(core, secret, pool, command), refused)
+    seen(answered(core, secret, pool, command), refused)
 }

@@ -7,7 +7,7 @@ use crate::server::with_core;
 use crate::{jobs, nodes};
 use ns_core::Core;
 use ns_runs::{Ran, run, step};
-use ns_types::good::{GoodAdmin, GoodAsk, GoodTelling};
+use ns_types::good::{GoodAdmin, GoodAsk, GoodNodeCommand};
 use ns_types::records::Namespace;
 use ns_types::refusal::Refusal;
 use ns_types::reply::{Content, Reply};
@@ -63,8 +63,8 @@ pub(crate) fn told(answer: &Result<Reply, Refusal>) -> Told {
 
 // ---- the script
 
-/// What is told of the only node: in the first round that it is there, and later that it is eligible.
-pub(crate) fn telling(rt: &impl Abort, alloc: Global, round: u64) -> GoodTelling {
+/// The command of the only node: in the first round it is put, and later it is made eligible.
+pub(crate) fn node_command(rt: &impl Abort, alloc: Global, round: u64) -> GoodNodeCommand {
     let name = text(rt, alloc, "n1");
     if round > 0 {
         return nodes::eligibility(rt, &name, true);
@@ -76,8 +76,8 @@ pub(crate) fn telling(rt: &impl Abort, alloc: Global, round: u64) -> GoodTelling
     nodes::registration(rt, alloc, &name, capacity)
 }
 
-fn tell(rt: &impl Abort, alloc: Global, root: &Text, round: u64) -> Step {
-    let command = telling(rt, alloc, round);
+fn node_step(rt: &impl Abort, alloc: Global, root: &Text, round: u64) -> Step {
+    let command = node_command(rt, alloc, round);
     Step::Node(text(rt, alloc, "default"), Some(copied(rt, root)), command)
 }
 
@@ -108,7 +108,7 @@ fn step_at(
     place: u64,
 ) -> Step {
     match place {
-        0 => tell(rt, alloc, root, round),
+        0 => node_step(rt, alloc, root, round),
         1 => ask(rt, namespace, root, jobs::registration(rt, alloc, round)),
         2 => ask(rt, namespace, root, jobs::list(rt, alloc)),
         _ => work(rt, namespace, round, place),

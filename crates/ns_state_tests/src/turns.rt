@@ -8,7 +8,7 @@ use crate::blocked::{KeyText, is_key};
 use crate::jobs::registration_of;
 use crate::made::{copied, text};
 use crate::owned::{seen, with};
-use crate::runs::{team, telling, told};
+use crate::runs::{node_command, team, told};
 use crate::server::with_core;
 use ns_core::Core;
 use ns_runs::step;
@@ -205,7 +205,7 @@ fn wakes(
     pool: &str,
     woken: &[(u64, KeyText)],
 ) -> bool {
-    let node = telling(rt, alloc, 0);
+    let node = node_command(rt, alloc, 0);
     let node = Step::Node(text(rt, alloc, pool), Some(copied(rt, root)), node);
     let mut right = is_made(alloc, core, node);
     for (worker, wanted) in woken {

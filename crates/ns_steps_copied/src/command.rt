@@ -1,4 +1,4 @@
-//! What is asked or told.
+//! What is asked.
 
 ghost use Rattle.std.specs.Prelude.{◌≡◌, IfOk};
 
@@ -54,11 +54,11 @@ pub fn copied_admin(asked: &AdminCommand) -> Result<AdminCommand, AllocError>
     })
 }
 
-/// What is told of a pool and its nodes.
-pub fn copied_telling(told: &NodeCommand) -> Result<NodeCommand, AllocError>
-    ensures { IfOk result (λ copy. copy ≡ told.now) }
+/// What is asked of a pool and its nodes.
+pub fn copied_node_command(asked: &NodeCommand) -> Result<NodeCommand, AllocError>
+    ensures { IfOk result (λ copy. copy ≡ asked.now) }
 {
-    Ok(match told {
+    Ok(match asked {
         NodeCommand::ReadPool => NodeCommand::ReadPool,
         NodeCommand::ListNodes => NodeCommand::ListNodes,
         NodeCommand::PutNode(name, offer) => {

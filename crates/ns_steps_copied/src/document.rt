@@ -32,12 +32,12 @@ pub fn copied_token(asked: &NewToken) -> Result<NewToken, AllocError>
     })
 }
 
-pub fn copied_report(told: &Report) -> Result<Report, AllocError>
-    ensures { IfOk result (λ report. report ≡ told.now) }
+pub fn copied_report(asked: &Report) -> Result<Report, AllocError>
+    ensures { IfOk result (λ report. report ≡ asked.now) }
 {
     Ok(Report {
-        namespace: told.namespace.clone()?,
-        number: told.number,
-        client: told.client,
+        namespace: asked.namespace.clone()?,
+        number: asked.number,
+        client: asked.client,
     })
 }

@@ -2,8 +2,8 @@
 
 ghost use Rattle.std.specs.Prelude.{◌≡◌, IfOk};
 
-use crate::command::{copied_admin, copied_ask, copied_telling};
-use ns_types::good::{GoodAdmin, GoodAsk, GoodTelling};
+use crate::command::{copied_admin, copied_ask, copied_node_command};
+use ns_types::good::{GoodAdmin, GoodAsk, GoodNodeCommand};
 use ns_types::reply::Rendered;
 use ns_types::step::Step;
 use std::alloc::AllocError;
@@ -23,11 +23,11 @@ fn copied_good_admin(asked: &GoodAdmin) -> Result<GoodAdmin, AllocError>
     Ok(GoodAdmin::new(command))
 }
 
-fn copied_good_telling(told: &GoodTelling) -> Result<GoodTelling, AllocError>
-    ensures { IfOk result (λ copy. copy ≡ told.now) }
+fn copied_good_node_command(asked: &GoodNodeCommand) -> Result<GoodNodeCommand, AllocError>
+    ensures { IfOk result (λ copy. copy ≡ asked.now) }
 {
-    let command = copied_telling(told.get())?;
-    Ok(GoodTelling::new(command))
+    let command = copied_node_command(asked.get())?;
+    Ok(GoodNodeCommand::new(command))
 }
 
 /// A step of its own that is the same.
@@ -39,8 +39,12 @@ pub fn copied_step(step: &Step) -> Result<Step, AllocError>
             Step::Ask(namespace.clone()?, secret.clone()?, copied_good_ask(asked)?)
         }
         Step::Admin(secret, asked) => Step::Admin(secret.clone()?, copied_good_admin(asked)?),
-        Step::Node(pool, secret, told) => {
-            Step::Node(pool.clone()?, secret.clone()?, copied_good_telling(told)?)
+        Step::Node(pool, secret, asked) => {
+            Step::Node(
+                pool.clone()?,
+                secret.clone()?,
+                copied_good_node_command(asked)?,
+            )
         }
         Step::Dequeue(worker, namespace, number) => {
             Step::Dequeue(*worker, namespace.clone()?, *number)

@@ -1,4 +1,4 @@
-//! What is asked or told.
+//! What is asked.
 
 ghost use Rattle.std.specs.Prelude.{◌≡◌, ◌↔◌, IsTrue};
 
@@ -66,8 +66,8 @@ pub fn same_admin(a: &AdminCommand, b: &AdminCommand) -> bool
     }
 }
 
-/// Whether the same is told of a pool and its nodes.
-pub fn same_telling(a: &NodeCommand, b: &NodeCommand) -> bool
+/// Whether the same is asked of a pool and its nodes.
+pub fn same_node_command(a: &NodeCommand, b: &NodeCommand) -> bool
     ensures { IsTrue result ↔ (a.now ≡ b.now) }
 {
     match (a, b) {

@@ -2,7 +2,7 @@
 
 ghost use Rattle.std.specs.Prelude.{◌≡◌, ◌↔◌, IsTrue};
 
-use crate::command::{same_admin, same_ask, same_telling};
+use crate::command::{same_admin, same_ask, same_node_command};
 use ns_equal::Equal;
 use ns_types::reply::Rendered;
 use ns_types::step::Step;
@@ -26,8 +26,8 @@ pub fn same_step(a: &Step, b: &Step) -> bool
         (Step::Admin(secret, asked), Step::Admin(other, second)) => {
             secret.equal(other) && same_admin(asked.get(), second.get())
         }
-        (Step::Node(x, secret, told), Step::Node(y, other, second)) => {
-            x.equal(y) && secret.equal(other) && same_telling(told.get(), second.get())
+        (Step::Node(x, secret, asked), Step::Node(y, other, second)) => {
+            x.equal(y) && secret.equal(other) && same_node_command(asked.get(), second.get())
         }
         (Step::Dequeue(w, x, n), Step::Dequeue(v, y, m)) => {
             same_worker(*w, x, *v, y) && n.equal(m)

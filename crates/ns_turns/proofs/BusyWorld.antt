@@ -7,7 +7,7 @@ use Rattle.keyed.specs.Table.{flat, row_at, rows}
 use Rattle.keyed.proofs.Over.{get-over}
 use Rattle.keyed.proofs.Tables.{get-rows}
 use Rattle.ns_change.specs.Changed.{changed_tenant, perhaps}
-use Rattle.ns_change.specs.Settled.{settled_tenant, settled_world, tell}
+use Rattle.ns_change.specs.Settled.{publish, settled_tenant, settled_world}
 use Rattle.ns_change.specs.declared.change.Settled.{Settled}
 use Rattle.ns_change.specs.declared.change.SettledTenant.{SettledTenant}
 use Rattle.ns_turns.specs.Busy.{IsBusyIndex, busy_after, holds}
@@ -28,9 +28,9 @@ abbrev worker_in : ℕ → Option Tenant → Option Worker
 worker_in n t = option_and_then (λ t. get t.workers n) t
 
 -- events change no worker
-told_same : (events : Option (List Event)) (t : Tenant) → (perhaps tell events t).workers ≡ t.workers
-told_same None t = refl
-told_same (Some events) t = refl
+published_same : (events : Option (List Event)) (t : Tenant) → (perhaps publish events t).workers ≡ t.workers
+published_same None t = refl
+published_same (Some events) t = refl
 
 busy_over : (r : Option (Option Worker)) (was : Option Worker) → busy_after r (is_some was) ≡ is_some (unwrap_or r was)
 busy_over None was = refl
@@ -66,7 +66,7 @@ module _ (t : Tables) (s : Settled) where
   busy_then n (Some t) (Some None) = refl
   busy_then n (Some t) (Some (Some x)) = busy_over (get x.rows.workers n) (get (rows t.workers) n)
       ∙ ap is_some (sym (get-over numbers one_number (rows t.workers) x.rows.workers n))
-      ∙ ap (λ m. is_some (get m n)) (sym (told_same x.events (changed_tenant (tenant_of t) x.rows)))
+      ∙ ap (λ m. is_some (get m n)) (sym (published_same x.events (changed_tenant (tenant_of t) x.rows)))
 
   pub right_after : (old new : BusyWorkers) → IsBusyIndex before old →
       ((ns : Name) (n : ℕ) → holds new n ns ≡ busy_after (row_change (row_at t.tenants ns) (get s.tenants ns) n) (holds old n ns)) → IsBusyIndex after new

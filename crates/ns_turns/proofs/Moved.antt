@@ -16,7 +16,7 @@ use Rattle.ns_types.specs.State.Tables.{any_row}
 use Rattle.ns_types.proofs.Named.{names, numbers, one_name, one_number}
 use Rattle.ns_types.proofs.Tables.{get-map_rows, none_of_any}
 use Rattle.ns_change.specs.Changed.{changed_tenant, perhaps}
-use Rattle.ns_change.specs.Settled.{settled_tenant, settled_world, tell}
+use Rattle.ns_change.specs.Settled.{publish, settled_tenant, settled_world}
 use Rattle.ns_change.specs.declared.change.Settled.{Settled}
 use Rattle.ns_change.specs.declared.change.SettledTenant.{SettledTenant}
 use Rattle.ns_turns.specs.After.{Moves, NoneMoves, StillUnmoved, moves_in, moves_of, moves_slot}
@@ -26,9 +26,9 @@ use Rattle.ns_world.specs.declared.tables.TenantRows.{TenantRows}
 use Rattle.ns_world.proofs.World.{evaluation_nowhere, evaluation_there, tenant_at}
 
 -- events move no evaluation
-told_same : (events : Option (List Event)) (t : Tenant) → (perhaps tell events t).evaluations ≡ t.evaluations
-told_same None t = refl
-told_same (Some events) t = refl
+published_same : (events : Option (List Event)) (t : Tenant) → (perhaps publish events t).evaluations ≡ t.evaluations
+published_same None t = refl
+published_same (Some events) t = refl
 
 pub tenant_settled : (w : World) (s : Settled) (ns : Name) →
     get (settled_world w s).tenants ns ≡ option_map (perhaps settled_tenant (row_at s.tenants ns)) (get w.tenants ns)
@@ -56,7 +56,7 @@ module _ (t : Tables) (s : Settled) (ns : Name) where
     pub after_changed : (y : SettledTenant) (n : ℕ) → row_at s.tenants ns ≡ Some y →
         after n ≡ get (over (rows x.evaluations.slots) y.rows.evaluations) n
     after_changed y n some = settled_at n ∙ (λ i. of n (option_map (perhaps settled_tenant (some i)) (option_map tenant_of (is i))))
-        ∙ ap (λ m. get m n) (told_same y.events (changed_tenant (tenant_of x) y.rows))
+        ∙ ap (λ m. get m n) (published_same y.events (changed_tenant (tenant_of x) y.rows))
 
 -- ---- none moves
 

@@ -1,7 +1,7 @@
 //! Commands whose names, members and lists are within the limits. Contracts see the command.
 
 ghost use Rattle.std.specs.Prelude.{◌≡◌, IsTrue};
-ghost use Rattle.ns_types.specs.Asking.Good.{is_good_admin, is_good_ask, IsGoodTelling};
+ghost use Rattle.ns_types.specs.Asking.Good.{IsGoodNodeCommand, is_good_admin, is_good_ask};
 
 use crate::step::{AdminCommand, AskCommand, NodeCommand};
 use std::marker::Model;
@@ -84,39 +84,39 @@ impl GoodAdmin {
     }
 }
 
-/// What is told of one pool and its nodes.
-pub struct GoodTelling {
+/// What is asked of one pool and its nodes.
+pub struct GoodNodeCommand {
     command: NodeCommand,
 }
 
-impl Drop for GoodTelling {
+impl Drop for GoodNodeCommand {
     fn drop(self) {
-        let GoodTelling { command: _command } = self;
+        let GoodNodeCommand { command: _command } = self;
     }
 }
 
-impl Model for GoodTelling {
+impl Model for GoodNodeCommand {
     ghost use Rattle.ns_types.specs.declared.step.NodeCommand.{NodeCommand};
-    ghost use Rattle.ns_types.specs.Asking.Good.{IsGoodTelling};
+    ghost use Rattle.ns_types.specs.Asking.Good.{IsGoodNodeCommand};
 
     ghost Value = { NodeCommand };
 
     ghost view = { λ c. c.command };
 
-    ghost invariant = { λ c. IsGoodTelling c.command };
+    ghost invariant = { λ c. IsGoodNodeCommand c.command };
 }
 
-impl GoodTelling {
-    pub fn new(command: NodeCommand) -> GoodTelling
-        requires { IsGoodTelling command }
+impl GoodNodeCommand {
+    pub fn new(command: NodeCommand) -> GoodNodeCommand
+        requires { IsGoodNodeCommand command }
         ensures { result ≡ command }
     {
-        GoodTelling { command }
+        GoodNodeCommand { command }
     }
 
     pub fn get(&self) -> &NodeCommand
         ensures same { result.now ≡ self.now }
-        ensures good { IsGoodTelling self.now }
+        ensures good { IsGoodNodeCommand self.now }
     {
         &self.command
     }

@@ -2,7 +2,7 @@
 
 use crate::acl::{Policy, TokenKind};
 use crate::allocation::ClientStatus;
-use crate::good::{GoodAdmin, GoodAsk, GoodTelling};
+use crate::good::{GoodAdmin, GoodAsk, GoodNodeCommand};
 use crate::job::Registration;
 use crate::node::{NodeStatus, Offer};
 use crate::records::{Namespace, Pool, Quota};
@@ -70,7 +70,7 @@ pub struct Report {
     pub client: ClientStatus,
 }
 
-/// What is told of one pool and its nodes.
+/// What is asked of one pool and its nodes.
 #[derive(Drop)]
 pub enum NodeCommand {
     ReadPool,
@@ -86,7 +86,7 @@ pub enum NodeCommand {
 pub enum Step {
     Ask(Text, Option<Text>, GoodAsk),
     Admin(Option<Text>, GoodAdmin),
-    Node(Text, Option<Text>, GoodTelling),
+    Node(Text, Option<Text>, GoodNodeCommand),
     Dequeue(u64, Text, u64),
     Snap(u64, Text),
     Submit(u64, Text),

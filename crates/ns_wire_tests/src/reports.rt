@@ -1,4 +1,4 @@
-// What is told of allocations. Each call may be refused for want of memory once, and then answers as with ample memory.
+// Reports of allocations. Each call may be refused for want of memory once, and then answers as with ample memory.
 use ns_documents::read_report;
 use ns_types::allocation::ClientStatus;
 use ns_types::refusal::{Member, Refusal};

@@ -4,7 +4,7 @@ use Rattle.clap.specs.Words.{Text}
 use Rattle.ns_api.specs.declared.following.Driven.{Driven}
 use Rattle.ns_http.specs.Output.{WritesAll}
 use Rattle.ns_http.specs.declared.counting.Counted.{Counted}
-use Rattle.ns_faults.specs.Lines.{FailsToWrite, Tells}
+use Rattle.ns_faults.specs.Lines.{FailsToWrite, TriesToWrite}
 use Rattle.ns_faults.specs.declared.status.TheConstants.{SERVED, BAD_WORDS, WRITE_FAULT, OUT_OF_MEMORY}
 use Rattle.ns_pipe.specs.Ending.{uncounted}
 use Rattle.ns_pipe.specs.Printing.{EndsPrinted}
@@ -34,14 +34,14 @@ pub record EndsUnserved {R W : Type 0} (reader : R) (writer : W) (ended : Ended 
   pub unread : ended.reader ≡ uncounted reader
   pub unwritten : ended.writer ≡ uncounted writer
 
--- the text of a mistake was told, and nothing was read or written
-pub record EndsRefused {R W E : Type 0} (said : E → Option (List ℕ)) (reader : R) (writer : W)
+-- the text of a mistake was written, and nothing was read or written
+pub record EndsRefused {R W E : Type 0} (held : E → Option (List ℕ)) (reader : R) (writer : W)
     (errors errors' : Counted E) (ended : Ended R W) : Type 0 where
   pub text : Text
   pub status : ended.status ≡ BAD_WORDS
   pub unread : ended.reader ≡ uncounted reader
   pub unwritten : ended.writer ≡ uncounted writer
-  pub tells : Tells said errors errors' text
+  pub line : TriesToWrite held errors errors' text
 
 -- help was written, or a part of it, and then the output failed; nothing was read
 pub record EndsHelped {R W : Type 0} (contents : W → Option (List ℕ)) (reader : R) (writer : W) (ended : Ended R W) : Type 0 where
@@ -55,7 +55,7 @@ abbrev pub OrUnserved : {R W : Type 0} → R → W → (Ended R W → Type 0) �
 OrUnserved reader writer HasEnded ended = HasEnded ended ⊎ EndsUnserved reader writer ended
 
 module _ {D R W E : Type 0} (draws : D → List ℕ → D → Type 0) (remaining : R → Option (List ℕ))
-    (contents : W → Option (List ℕ)) (said : E → Option (List ℕ)) (words : List Text) (drawer : D) (reader : R)
+    (contents : W → Option (List ℕ)) (held : E → Option (List ℕ)) (words : List Text) (drawer : D) (reader : R)
     (writer : W) (errors errors' : Counted E) where
   -- what the words ask for was done, or they were answered with help or a mistake, or there was no memory
   abbrev pub DoesAsked : Ended R W → Type 0
@@ -65,13 +65,13 @@ module _ {D R W E : Type 0} (draws : D → List ℕ → D → Type 0) (remaining
       ⊎ ((namespace : Text) × (from : ℕ) × AsksAlone words namespace from
       × EndsReplayed remaining contents namespace from reader writer ended)
       ⊎ EndsHelped contents reader writer ended
-      ⊎ EndsRefused said reader writer errors errors' ended
+      ⊎ EndsRefused held reader writer errors errors' ended
       ⊎ EndsUnserved reader writer ended
 
--- the words ask for this server, and nothing was read, written or told
+-- the words ask for this server, and nothing was read, or written to the output or to the errors
 pub record IsHandedOn {R W E : Type 0} (words : List Text) (reader : R) (writer : W) (errors errors' : Counted E)
     (service : Service) (reader' : R) (writer' : W) : Type 0 where
   pub asks : AsksServe words service
   pub unread : reader' ≡ reader
   pub unwritten : writer' ≡ writer
-  pub untold : errors' ≡ errors
+  pub silent : errors' ≡ errors

@@ -86,7 +86,7 @@ printed_by (Some text) =
     if bytes_eq text (codes "replies") then Some Printed.Replies
     else if bytes_eq text (codes "log") then Some Printed.Log else None
 
--- `pipe` is given this secret, which is one by its rule, and told whom to drive and what to print
+-- `pipe` is given this secret, which is one by its rule, and with whom to drive and what to print
 pub record IsPipe (named : Named) (secret : Text) (driven : Driven) (printed : Printed) : Type 0 where
   pub given : given_for (codes "pipe") (codes "bootstrap") named ≡ Some secret
   pub is_secret : is_name NameKind.Secret secret ≡ true

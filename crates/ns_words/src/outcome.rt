@@ -8,6 +8,6 @@ use ns_serve::Service;
 pub enum Outcome<R, W> {
     /// It has ended.
     Ended(Ended<R, W>),
-    /// This server is to be run. Nothing was read, written or told: here are the reader and the writer.
+    /// This server is to be run. Nothing was read, or written to the output or to the errors: here are the reader and the writer.
     Serve(Service, R, W),
 }

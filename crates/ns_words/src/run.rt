@@ -4,7 +4,7 @@ ghost use Rattle.std.specs.Prelude.{◌≡◌, ◌⊎◌, ℕ, List};
 ghost use Rattle.clap.specs.Walk.{texts};
 ghost use Rattle.ns_api.specs.declared.following.Driven.{Driven};
 ghost use Rattle.ns_pipe.specs.declared.printed.Printed.{Printed};
-ghost use Rattle.ns_faults.specs.Lines.{Tells, status_of, line_of};
+ghost use Rattle.ns_faults.specs.Lines.{TriesToWrite, line_of, status_of};
 ghost use Rattle.ns_serve.specs.declared.service.Service.{Service};
 ghost use Rattle.ns_words.specs.declared.outcome.Outcome.{Outcome};
 ghost use Rattle.ns_words.specs.Outcome.{IfEnded, IsEnded, MatchOutcome};
@@ -23,7 +23,7 @@ use std::io::{Read, Write};
 
 /// Runs the program with these words, of which the first is its own name: serves a connection with the secret that they
 /// give, drives whom they say and prints what they say; or replays what the namespace that they give did alone, behind as many
-/// entries as they say; or tells what they ask for or what is wrong with them, and then reads no input. A server over TCP is
+/// entries as they say; or writes what they ask for or what is wrong with them, and then reads no input. A server over TCP is
 /// left to `conclude`.
 pub fn run_words<D: Draws + Drop, R: Read + Drop, W: Write + Drop, E: Write>(
     alloc: Global,
@@ -33,7 +33,7 @@ pub fn run_words<D: Draws + Drop, R: Read + Drop, W: Write + Drop, E: Write>(
     writer: W,
     errors: &mut Counted<E>,
 ) -> Outcome<R, W>
-    ensures served_or_told { MatchOutcome result
+    ensures ended_or_served { MatchOutcome result
         (DoesAsked D.draws R.remaining W.contents E.contents
         (texts words.entry.now) draws reader writer errors.old errors.new)
         (IsHandedOn (texts words.entry.now) reader writer errors.old errors.new) }
@@ -56,8 +56,8 @@ pub fn run_words<D: Draws + Drop, R: Read + Drop, W: Write + Drop, E: Write>(
         (EndsHelped W.contents reader writer)) }
 
     ensures silent { IfEnded result (λ ended. ended.status ≡ SERVED → errors.new ≡ errors.old) }
-    ensures told { IfEnded result (λ ended. (fault : ConnFault) → ended.status ≡ status_of fault
-        → Tells E.contents errors.old errors.new (line_of fault)) }
+    ensures fault_line { IfEnded result (λ ended. (fault : ConnFault) → ended.status ≡ status_of fault
+        → TriesToWrite E.contents errors.old errors.new (line_of fault)) }
 {
     match read(alloc, words) {
         Wanted::Serve(service) => Outcome::Serve(service, reader, writer),

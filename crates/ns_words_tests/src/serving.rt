@@ -104,7 +104,7 @@ Usage: nsd serve [OPTIONS] --listen <ADDR>
 
 Options:
       --listen <ADDR>       Where to listen: an IP address and a port, as 127.0.0.1:4646 or [::1]:0
-      --bootstrap <SECRET>  The secret of the first management token: drawn and told without this word
+      --bootstrap <SECRET>  The secret of the first management token: drawn and printed without this word
       --workers <N>         How many workers there are, 1 to 63: 2 without this word
       --connections <N>     How many connections are served at once, 1 to 64: 4 without this word
       --accept <N>          After how many connections to end: never without this word

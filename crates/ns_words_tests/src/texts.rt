@@ -1,7 +1,7 @@
 // What words that ask for nothing are answered, and the lines of faults.
 use crate::same_bits::SameBits;
 use crate::serving;
-use ns_faults::{tell, tell_no_random, tell_no_words};
+use ns_faults::{print_fault, print_no_random, print_no_words};
 use ns_http::{ConnFault, Counted};
 use ns_pipe::{Asked, run};
 use ns_words::{Outcome, run_words};
@@ -11,15 +11,15 @@ use std::rt::HostRuntime;
 
 const NO_INPUT: &[u8] = b"";
 
-/// What was told.
+/// The exit status, and what was written.
 #[derive(Drop)]
-struct Told {
+struct Ran {
     status: u8,
     output: Vec<u8>,
     errors: Vec<u8>,
 }
 
-fn telling(alloc: Global, words: &[&str]) -> Told {
+fn run_with(alloc: Global, words: &[&str]) -> Ran {
     let mut errors = Counted::new(Vec::new(alloc));
     let outcome = run_words(
         alloc,
@@ -33,7 +33,7 @@ fn telling(alloc: Global, words: &[&str]) -> Told {
         Outcome::Ended(ended) => (ended.status, ended.writer.into_inner()),
         Outcome::Serve(..) => (u8::MAX, Vec::new(alloc)),
     };
-    Told {
+    Ran {
         status,
         output,
         errors: errors.into_inner(),
@@ -42,8 +42,8 @@ fn telling(alloc: Global, words: &[&str]) -> Told {
 
 /// Whether the words are bad, for this reason.
 pub(crate) fn are_bad(alloc: Global, words: &[&str], text: &str) -> bool {
-    let told = telling(alloc, words);
-    told.status == 2 && told.output.is_empty() && told.errors.as_slice() == text.as_bytes()
+    let ran = run_with(alloc, words);
+    ran.status == 2 && ran.output.is_empty() && ran.errors.as_slice() == text.as_bytes()
 }
 
 const NO_COMMAND: &str = "error: 'nsd' requires a subcommand but one was not provided
@@ -210,8 +210,8 @@ Exit statuses:
 
 /// Whether the words are answered by this help, on the output.
 fn is_helped(alloc: Global, words: &[&str], help: &str) -> bool {
-    let told = telling(alloc, words);
-    told.status == 0 && told.errors.is_empty() && told.output.as_slice() == help.as_bytes()
+    let ran = run_with(alloc, words);
+    ran.status == 0 && ran.errors.is_empty() && ran.output.as_slice() == help.as_bytes()
 }
 
 #[test]
@@ -223,27 +223,27 @@ fn help_goes_to_the_output(rt: HostRuntime) {
     assert!(rt; is_helped(alloc, &["nsd", "serve", "--help"], serving::HELP));
 }
 
-/// Whether what is told has this status and this line.
-fn is_line(told: (u8, Vec<u8>), status: u8, line: &[u8]) -> bool {
-    let (given, errors) = told;
+/// Whether a run ended with this status and this line.
+fn is_line(ran: (u8, Vec<u8>), status: u8, line: &[u8]) -> bool {
+    let (given, errors) = ran;
     given == status && errors.as_slice() == line
 }
 
 fn fault(alloc: Global, fault: ConnFault) -> (u8, Vec<u8>) {
     let mut errors = Counted::new(Vec::new(alloc));
-    let status = tell(fault, &mut errors);
+    let status = print_fault(fault, &mut errors);
     (status, errors.into_inner())
 }
 
 fn no_random(alloc: Global) -> (u8, Vec<u8>) {
     let mut errors = Counted::new(Vec::new(alloc));
-    let status = tell_no_random(&mut errors);
+    let status = print_no_random(&mut errors);
     (status, errors.into_inner())
 }
 
 fn no_words(alloc: Global, kind: ErrorKind) -> (u8, Vec<u8>) {
     let mut errors = Counted::new(Vec::new(alloc));
-    let status = tell_no_words(&io::Error::from(kind), &mut errors);
+    let status = print_no_words(&io::Error::from(kind), &mut errors);
     (status, errors.into_inner())
 }
 

@@ -5,7 +5,7 @@ use Rattle.ns_http.specs.declared.counting.Counted.{Counted}
 use Rattle.ns_http.specs.declared.engine.ConnFault.{ConnFault}
 use Rattle.ns_faults.specs.Lines.{line_of, mismatch_line, status_of}
 use Rattle.ns_faults.specs.declared.status.TheConstants.{SERVED, MISMATCH, WRITE_FAULT}
-use Rattle.ns_serve.specs.Ending.{EndsInPart, EndsSettled, IsEnd, TellsLast}
+use Rattle.ns_serve.specs.Ending.{EndsInPart, EndsSettled, IsEnd, IsLastLine}
 
 -- this holds with some generators, which draw so
 abbrev pub ForSomeDrawers : {D : Type 0} → (D → List ℕ → D → Type 0) → (List D → Type 0) → Type 0
@@ -13,15 +13,15 @@ ForSomeDrawers {D} draws Holds = (drawers : List D) × Holds drawers
 
 -- a server with this secret, or with one that was drawn, ended with this status
 pub record EndsHosted {D W E : Type 0} (draws : D → List ℕ → D → Type 0) (contents : W → Option (List ℕ))
-    (said : E → Option (List ℕ)) (given : Option Name) (status : ℕ) (writer writer' : Counted W)
+    (held : E → Option (List ℕ)) (given : Option Name) (status : ℕ) (writer writer' : Counted W)
     (errors errors' : Counted E) : Type 0 where
   pub is_end : IsEnd status
   pub settled : status ≡ SERVED → ForSomeDrawers draws (λ drawers.
-      EndsSettled draws contents said given drawers writer writer' errors errors')
+      EndsSettled draws contents held given drawers writer writer' errors errors')
   pub write_fault : status ≡ WRITE_FAULT → ForSomeDrawers draws (λ drawers.
-      EndsInPart draws contents said given drawers writer writer')
+      EndsInPart draws contents held given drawers writer writer')
   pub unprinted : status ≢ SERVED → status ≢ WRITE_FAULT → writer' ≡ writer
-  pub told_last : (fault : ConnFault) → status ≡ status_of fault → ForSomeDrawers draws (λ drawers.
-      TellsLast draws contents said given drawers errors errors' (line_of fault))
+  pub last_line : (fault : ConnFault) → status ≡ status_of fault → ForSomeDrawers draws (λ drawers.
+      IsLastLine draws contents held given drawers errors errors' (line_of fault))
   pub mismatch : status ≡ MISMATCH → ForSomeDrawers draws (λ drawers.
-      TellsLast draws contents said given drawers errors errors' mismatch_line)
+      IsLastLine draws contents held given drawers errors errors' mismatch_line)

@@ -6,7 +6,7 @@ ghost use Rattle.nsd.specs.Hosting.{EndsHosted};
 ghost use Rattle.ns_words.specs.Outcome.{IfServe, MatchOutcome};
 
 use ns_asked::Draws;
-use ns_faults::tell;
+use ns_faults::print_fault;
 use ns_http::Counted;
 use ns_pipe::{Ended, Nowhere};
 use ns_random::{Random, generators};
@@ -42,7 +42,7 @@ fn host<
 {
     let draws = match generators(rt, alloc, service.connections + 1) {
         Ok(draws) => draws,
-        Err(fault) => return tell(fault, errors),
+        Err(fault) => return print_fault(fault, errors),
     };
     let blank = Blank::new(PARTS);
     serve::<Brand, _, _, _, _>(rt, alloc, service, draws, blank, writer, errors)

@@ -4,7 +4,7 @@
 mod host;
 
 use crate::host::conclude;
-use ns_faults::{tell, tell_no_random, tell_no_words};
+use ns_faults::{print_fault, print_no_random, print_no_words};
 use ns_http::{ConnFault, Counted};
 use ns_random::Random;
 use ns_words::run_words;
@@ -23,18 +23,18 @@ fn main(rt: HostRuntime) -> ExitCode {
     let mut errors = Counted::new(rt.stderr());
     let args = match env::args(&rt) {
         Ok(args) => args,
-        Err(error) => return ExitCode::from(tell_no_words(&error, &mut errors)),
+        Err(error) => return ExitCode::from(print_no_words(&error, &mut errors)),
     };
     let words: Result<Vec<String>, AllocError> = args.collect(rt.alloc());
     let Ok(words) = words else {
-        return ExitCode::from(tell(ConnFault::Memory, &mut errors));
+        return ExitCode::from(print_fault(ConnFault::Memory, &mut errors));
     };
     let Ok(texts) = texts(rt.alloc(), words.as_slice()) else {
-        return ExitCode::from(tell(ConnFault::Memory, &mut errors));
+        return ExitCode::from(print_fault(ConnFault::Memory, &mut errors));
     };
     let generator: StdRng = match make_rng(&rt) {
         Ok(generator) => generator,
-        Err(_) => return ExitCode::from(tell_no_random(&mut errors)),
+        Err(_) => return ExitCode::from(print_no_random(&mut errors)),
     };
     let outcome = run_words(
         rt.alloc(),

@@ -23,7 +23,7 @@ use Rattle.ns_types.specs.Settling.Outcome.{Done, unless}
 use Rattle.ns_types.specs.State.Rows.{World, PoolRows, is_ready, allocation_at}
 use Rattle.ns_types.specs.State.Tables.{map_rows}
 use Rattle.ns_types.specs.State.Limits.{IsInOrder}
-use Rattle.ns_types.specs.Asking.Good.{IsGoodTelling}
+use Rattle.ns_types.specs.Asking.Good.{IsGoodNodeCommand}
 use Rattle.ns_types.proofs.Named.{names, one_name, first_of_both, second_of_both}
 use Rattle.ns_types.proofs.TableRows.{row_of_insert, row_of_remove}
 use Rattle.ns_audit.proofs.ValidRecords.Statement.{IsGoodNode, IsGoodPool}
@@ -123,7 +123,7 @@ module _ (w : World) (s : IsRecorded w) (pool : Name) (p : PoolRows) (is : get w
   put : (p' : PoolRows) → IsGoodPool pool p' → IsNear w (put_pool pool p' w)
   put p' good = near_pool w w here pool p p' is good
 
-  asked_in_pool_near : (command : NodeCommand) → IsGoodTelling command → Leads (IsNear w) (asked_in_pool pool command w p)
+  asked_in_pool_near : (command : NodeCommand) → IsGoodNodeCommand command → Leads (IsNear w) (asked_in_pool pool command w p)
   asked_in_pool_near NodeCommand.ReadPool good = here
   asked_in_pool_near NodeCommand.ListNodes good = here
   asked_in_pool_near (NodeCommand.PutNode name offer) good = leads_unless (IsNear w) _ _ _ (λ _. leads_unless (IsNear w) _ _ _ (λ room.
@@ -146,7 +146,7 @@ module _ (w : World) (s : IsRecorded w) (pool : Name) (p : PoolRows) (is : get w
       (same_node_good pool p good_pool name node (record node { eligible = eligible }) at refl))
   asked_in_pool_near (NodeCommand.Report name r) good = report_near w here pool name r p
 
-pub ask_pool_near : (w : World) → IsRecorded w → (pool : Name) (command : NodeCommand) → IsGoodTelling command → Leads (IsNear w) (ask_pool pool command w)
+pub ask_pool_near : (w : World) → IsRecorded w → (pool : Name) (command : NodeCommand) → IsGoodNodeCommand command → Leads (IsNear w) (ask_pool pool command w)
 unfolding ask_pool
 ask_pool_near w s pool command good = leads_found (IsNear w) (get w.pools pool) (asked_in_pool pool command w)
     (λ p is. asked_in_pool_near w s pool p is command good)

@@ -106,7 +106,7 @@ delete_namespace name w = in_tenant w name (λ t.
 abbrev pub with_quota : Quota → Option QuotaRows → QuotaRows
 with_quota quota old = record { quota = quota; release = option_map_or (λ q. q.release) old 0 }
 
--- Neither the headline nor the wire rests on this: the code that puts a quota is told by it.
+-- Neither the headline nor the wire rests on this: the code that puts a quota is specified by it.
 -- the put changes the limits of a quota that is there
 abbrev pub is_relimited : Name → Quota → World → Bool
 is_relimited name quota w = option_map_or (λ old. changes_limits old (with_quota quota (Some old)))

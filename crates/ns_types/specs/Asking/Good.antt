@@ -23,7 +23,7 @@ is_good_admin (AdminCommand.PutPolicy name policy) = is_name NameKind.Policy nam
 is_good_admin (AdminCommand.CreateToken new) = is_name NameKind.Secret new.secret && is_good_token (token_of new)
 is_good_admin _ = true
 
-abbrev pub IsGoodTelling : NodeCommand → Type 0
-IsGoodTelling (NodeCommand.PutNode name offer) = IsTrue (is_name NameKind.Node name && is_good_offer offer) ×
+abbrev pub IsGoodNodeCommand : NodeCommand → Type 0
+IsGoodNodeCommand (NodeCommand.PutNode name offer) = IsTrue (is_name NameKind.Node name && is_good_offer offer) ×
     IsInOrder offer
-IsGoodTelling _ = Unit {0}
+IsGoodNodeCommand _ = Unit {0}

@@ -1,5 +1,5 @@
 -- Allocations that a step ends: the same change of a row at each of some keys.
--- Neither the headline nor the wire rests on this: code that changes many rows, and laws of what that frees, are told by it.
+-- Neither the headline nor the wire rests on this: code that changes many rows, and laws of what that frees, are specified by it.
 use Rattle.std.specs.Prelude.{ℕ, cond, List, fold}
 use Rattle.std.specs.FinMap.{get, insert}
 use Rattle.std.specs.Option.{option_map_or}

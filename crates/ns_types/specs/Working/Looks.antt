@@ -1,4 +1,4 @@
--- Neither the headline nor the wire rests on `first_plan`, `InTurn`, `RefusesPlan`, `InEnding` and `RefusesFinish`: calls are told by them.
+-- Neither the headline nor the wire rests on `first_plan`, `InTurn`, `RefusesPlan`, `InEnding` and `RefusesFinish`: calls are specified by them.
 -- What can be looked at without a step, and what a worker's hand-in answers.
 use Rattle.std.specs.Prelude.{◌≡◌, ◌≢◌, ℕ, Bool, true, false, Option, Some, None, find, nat_eq, option_map}
 use Rattle.std.specs.FinMap.{get, entries, contains_key}

@@ -1,5 +1,5 @@
 -- Parts of a plan, as a state has them: its stops of what is live there, and its placements by their nodes.
--- Neither the headline nor the wire rests on this: the code that applies a plan node by node is told by it.
+-- Neither the headline nor the wire rests on this: the code that applies a plan node by node is specified by it.
 use Rattle.std.specs.Prelude.{ℕ, Bool, false, ◌&&◌, List, filter}
 use Rattle.std.specs.Option.{option_map_or}
 use Rattle.ns_types.specs.declared.plan.Placement.{Placement}

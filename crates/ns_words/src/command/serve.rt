@@ -63,7 +63,7 @@ fn bootstrap<'a>(alloc: Global) -> Arg<'a>
         alloc,
         "bootstrap",
         "SECRET",
-        "The secret of the first management token: drawn and told without this word",
+        "The secret of the first management token: drawn and printed without this word",
     )
 }
 

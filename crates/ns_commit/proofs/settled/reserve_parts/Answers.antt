@@ -1,11 +1,11 @@
 use Rattle.std.proofs.Common.{refl, sym, subst}
 use Rattle.ns_commit.specs.Committed.{CanRise, HavePoolRoom, releases}
 use Rattle.std.proofs.lemmas.Result.{on_ok_weaker}
-use Rattle.ns_commit.proofs.Whole.{can_tell, pools_rise, quotas_rise, same_world}
+use Rattle.ns_commit.proofs.Whole.{can_publish, pools_rise, quotas_rise, same_world}
 use Rattle.ns_commit.proofs.settled.reserve_parts.Goals as goal
 
 pub reserve_all-requires : goal.reserve_all-requires
-reserve_all-requires c = can_tell c.args.settled.now c.args.tables.now c.requires
+reserve_all-requires c = can_publish c.args.settled.now c.args.tables.now c.requires
 
 pub returns-in_err-reserve_all-clause-world : goal.returns-in_err-reserve_all-clause-world
 returns-in_err-reserve_all-clause-world c = same_world c.args.tables.now _ c.reserve_all.ensures.rows refl refl refl refl refl

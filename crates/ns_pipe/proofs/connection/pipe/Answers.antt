@@ -37,7 +37,7 @@ returns-in-Ok-ended-clause-served g c = λ _. let h = c.in-Ok-ended.ensures.ok i
 
 pub returns-in-Err-clause-read_fault : goal.returns-in-Err-clause-read_fault
 returns-in-Err-clause-read_fault g c = λ e.
-    let is = same_fault c.in-Err.fault ConnFault.Read (sym c.tell-in-Err.ensures.status ∙ e) in
+    let is = same_fault c.in-Err.fault ConnFault.Read (sym c.print_fault-in-Err.ensures.status ∙ e) in
     let h = c.in-Err.ensures.read (ap Err is) in (
       h.0,
       holding c.serve-ended.new.api,
@@ -47,7 +47,7 @@ returns-in-Err-clause-read_fault g c = λ e.
 
 pub returns-in-Err-clause-write_fault : goal.returns-in-Err-clause-write_fault
 returns-in-Err-clause-write_fault g c = λ e.
-    let is = same_fault c.in-Err.fault ConnFault.Write (sym c.tell-in-Err.ensures.status ∙ e) in
+    let is = same_fault c.in-Err.fault ConnFault.Write (sym c.print_fault-in-Err.ensures.status ∙ e) in
     let h = c.in-Err.ensures.write (ap Err is) in (
       holding c.serve-ended.new.api,
       from_in_part g.D.Draws.draws _ _ _ c.in-Ok.ensures.taker c.in-Ok.ensures.drawer c.in-Ok.ensures.follower h.0,

@@ -45,7 +45,7 @@ returns-in-Ok-ended-clause-served g c = λ _.
 
 pub returns-in-Err-clause-read_fault : goal.returns-in-Err-clause-read_fault
 returns-in-Err-clause-read_fault g c = λ e.
-    let is = same_fault c.in-Err.fault ConnFault.Read (sym c.tell-in-Err.ensures.status ∙ e) in
+    let is = same_fault c.in-Err.fault ConnFault.Read (sym c.print_fault-in-Err.ensures.status ∙ e) in
     to_read_fault g.D.Draws.draws g.R.Read.remaining g.W.Write.contents g.V.Write.contents _ _
     (same_parts _ _ c.in-Ok.ensures.taker c.in-Ok.ensures.drawer c.in-Ok.ensures.follower) c.args.reader.now
     c.serve_and_log-ended.new.reader c.args.replies.now c.serve_and_log-ended.new.replies c.args.bootstrap.now c.args.writer.now
@@ -54,7 +54,7 @@ returns-in-Err-clause-read_fault g c = λ e.
 
 pub returns-in-Err-clause-write_fault : goal.returns-in-Err-clause-write_fault
 returns-in-Err-clause-write_fault g c = λ e.
-    let is = same_fault c.in-Err.fault ConnFault.Write (sym c.tell-in-Err.ensures.status ∙ e) in
+    let is = same_fault c.in-Err.fault ConnFault.Write (sym c.print_fault-in-Err.ensures.status ∙ e) in
     in_part g.D.Draws.draws g.R.Read.remaining g.W.Write.contents g.V.Write.contents _ _
     (same_parts _ _ c.in-Ok.ensures.taker c.in-Ok.ensures.drawer c.in-Ok.ensures.follower) c.args.reader.now
     c.serve_and_log-ended.new.reader c.args.replies.now c.serve_and_log-ended.new.replies c.args.bootstrap.now c.args.writer.now
@@ -63,4 +63,4 @@ returns-in-Err-clause-write_fault g c = λ e.
 
 pub returns-in-Err-clause-out_of_memory : goal.returns-in-Err-clause-out_of_memory
 returns-in-Err-clause-out_of_memory g c = λ e.
-    c.in-Err.ensures.memory (ap Err (same_fault c.in-Err.fault ConnFault.Memory (sym c.tell-in-Err.ensures.status ∙ e)))
+    c.in-Err.ensures.memory (ap Err (same_fault c.in-Err.fault ConnFault.Memory (sym c.print_fault-in-Err.ensures.status ∙ e)))

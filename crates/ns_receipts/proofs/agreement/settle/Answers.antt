@@ -11,9 +11,9 @@ use Rattle.ns_receipts.proofs.agreement.settle.Goals as goal
 -- an answer that is yes or tells the first fault is yes where receipts and log settle
 yes_where_settled : {A : Type 0} (log : List Entry) (seats : List (List Receipt)) (r : Result A SettleFault)
     → MatchResult r (λ _. Settles log seats) (IsMismatch log seats) → Settles log seats → IsOkUnless r Memory
-yes_where_settled log seats (Ok x) told settled = tt
-yes_where_settled log seats (Err (Mismatch seat place)) told settled = absurd (settled_is_not_faulted log seats seat place settled told)
-yes_where_settled log seats (Err Memory) told settled = refl
+yes_where_settled log seats (Ok x) answer settled = tt
+yes_where_settled log seats (Err (Mismatch seat place)) answer settled = absurd (settled_is_not_faulted log seats seat place settled answer)
+yes_where_settled log seats (Err Memory) answer settled = refl
 
 pub returns-clause-settled : goal.returns-clause-settled
 returns-clause-settled c = yes_where_settled c.args.log.now (map vec_items c.args.seats.now) c.settle_marking.result c.settle_marking.ensures

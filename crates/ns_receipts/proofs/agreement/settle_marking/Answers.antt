@@ -58,13 +58,13 @@ returns-in-Some-first_unmarked c =
     let end : c.loop-number.number ≡ length seats = omega (arith, c.loop-number.auto.number-end, length-map c.args.seats.now vec_items) in
     let marked : AreMarks seats (length seats) marks = subst (λ (n : ℕ). AreMarks seats n marks) end inv.marked in
     let place = c.in-Some-first_unmarked.place in
-    let told = c.in-Some-first_unmarked.ensures in
+    let answer = c.in-Some-first_unmarked.ensures in
     inr (
       sym (length-map c.args.seats.now vec_items),
       record {
         fit = subst (λ (n : ℕ). FitBefore log seats n 0) end inv.fit;
-        within = omega (arith, inv.len, told.within);
-        unnamed = λ named. told.unmarked (marked_by_name seats place marks marked named);
-        before = λ q lt. named_by_marks seats (length seats) q marks marked (told.first q lt);
+        within = omega (arith, inv.len, answer.within);
+        unnamed = λ named. answer.unmarked (marked_by_name seats place marks marked named);
+        before = λ q lt. named_by_marks seats (length seats) q marks marked (answer.first q lt);
       },
     )

@@ -9,6 +9,6 @@ returns-then-has_same_quota c =
     let s = state_of c.args.records.now in
     let t = state_of c.args.other.now in
     let is = sym c.namespace_at.ensures ∙ ap option_copied c.in-Some.is in (
-      λ told. owned c.args.namespace.now s t _ is (c.has_same_quota.ensures.0 c.if-has_same_quota.true) (c.has_same_pools.ensures.0 told),
+      λ same. owned c.args.namespace.now s t _ is (c.has_same_quota.ensures.0 c.if-has_same_quota.true) (c.has_same_pools.ensures.0 same),
       λ same. c.has_same_pools.ensures.1 (owned_pools c.args.namespace.now s t _ is same),
     )

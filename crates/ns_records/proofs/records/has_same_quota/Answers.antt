@@ -6,6 +6,6 @@ use Rattle.ns_records.proofs.records.has_same_quota.Goals as goal
 pub returns-in-Some : goal.returns-in-Some
 returns-in-Some c =
     let P = λ (quota : Name). SameQuota quota (state_of c.args.records.now) (state_of c.args.other.now) in (
-      λ told. each_quota P c.args.namespace.now _ c.in-Some.is (c.is_same_quota.ensures.0 told),
+      λ same. each_quota P c.args.namespace.now _ c.in-Some.is (c.is_same_quota.ensures.0 same),
       λ each. c.is_same_quota.ensures.1 (the_quota P c.args.namespace.now _ c.in-Some.is each),
     )

@@ -1,18 +1,18 @@
 use Rattle.std.proofs.Common.{◌∙◌, string_bytes, subst}
 use Rattle.ns_faults.specs.Lines.{FailsToWrite}
-use Rattle.ns_replay_print.specs.Outcome.{Tells}
+use Rattle.ns_replay_print.specs.Outcome.{IsPrintout}
 use Rattle.ns_replay_print.proofs.printing.print_replay.Goals as goal
 
 pub returns-clause-write_fault : goal.returns-clause-write_fault
 returns-clause-write_fault g c = λ _.
-    let told = c.in-Ok-tell_replay.told in
-    let text = string_bytes told.text in
+    let printout = c.in-Ok-printout_of.printout in
+    let text = string_bytes printout.text in
     record {
       bytes = c.in-Ok.bytes.items;
       text = text;
-      status = told.status;
+      status = printout.status;
       reads = c.in-Ok.ensures.ok;
-      tells = subst (λ b. Tells b c.args.from c.args.namespace.now text told.status) c.as_slice.ensures.value c.in-Ok-tell_replay.ensures.told;
+      is_printout = subst (λ b. IsPrintout b c.args.from c.args.namespace.now text printout.status) c.as_slice.ensures.value c.in-Ok-printout_of.ensures.printout;
       writes = subst (FailsToWrite g.W.Write.contents c.args.writer.now c.write_all.new.writer) (c.as_bytes.ensures.value ∙ c.as_str.ensures.value)
           (c.in-Err-write_all.ensures.err, c.in-Err-write_all.ensures.failed);
     }

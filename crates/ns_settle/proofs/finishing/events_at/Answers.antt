@@ -20,8 +20,8 @@ returns c =
     let at : Topic → Event = λ topic. record { index = c.args.index; topic = topic } in
     let jobs = λ (l : List (Name × Option Job)). map (λ (e : Name × Option Job). at (row_topic e.0 e.1))
     (filter (λ (e : Name × Option Job). changes_job_row t e.0 e.1) l) in
-    c.in_ok-tell_rows-2.ensures ∙ (λ i. (c.in_ok-tell_rows.ensures ∙
-    (λ j. (c.in_ok-tell_jobs.ensures ∙ (λ k. c.new-events.ensures k ++ jobs (c.as_slice.ensures k))) j
+    c.in_ok-publish_rows-2.ensures ∙ (λ i. (c.in_ok-publish_rows.ensures ∙
+    (λ j. (c.in_ok-publish_jobs.ensures ∙ (λ k. c.new-events.ensures k ++ jobs (c.as_slice.ensures k))) j
     ++ events_for c.args.index (topic_at evaluations_shown) (changes_slot evaluations_shown (rows (c.rows.ensures j))) (c.as_slice-2.ensures j))) i
     ++ events_for c.args.index (topic_at allocations_shown) (changes_slot allocations_shown (rows (c.rows-2.ensures i))) (c.as_slice-3.ensures i))
     ∙ three at (λ (e : Name × Option Job). row_topic e.0 e.1) (λ (e : ℕ × Option Evaluation). Topic.EvaluationUpdated e.0)

@@ -5,7 +5,7 @@ use Rattle.ns_types.specs.declared.name.NameKind.TheVariants as NameKind
 use Rattle.ns_types.specs.declared.node.Attribute.{Attribute}
 use Rattle.ns_types.specs.declared.resources.Resources.{Resources}
 use Rattle.ns_types.specs.declared.step.NodeCommand.TheVariants as NodeCommand
-use Rattle.ns_types.specs.Asking.Good.{IsGoodTelling}
+use Rattle.ns_types.specs.Asking.Good.{IsGoodNodeCommand}
 use Rattle.ns_types.specs.State.Limits.{is_amount}
 use Rattle.ns_types.specs.State.Name.{is_name}
 use Rattle.ns_types.specs.State.Names.{Name}
@@ -14,7 +14,7 @@ use Rattle.ns_types.proofs.TableRows.{entries_empty}
 use Rattle.ns_state_tests.proofs.nodes.registration.Goals as goal
 
 abbrev IsGood : Resources → Name → Name → List Attribute → Type 0
-IsGood size node class attributes = IsGoodTelling (NodeCommand.PutNode node
+IsGood size node class attributes = IsGoodNodeCommand (NodeCommand.PutNode node
     (record { class = class; attributes = attributes; capacity = size }))
 
 good : (size : Resources) (node : Name) → IsTrue (is_name NameKind.Node node) → IsTrue (is_amount size) → IsGood size node (codes "linux") []

@@ -105,8 +105,8 @@ same_server s t e = cc
 not_run : (service : Service) (asked : Asked) → Wanted.Serve service ≡ Wanted.Run asked → ⊥
 not_run service asked e = cc
 
-pub returns-in-Run-clause-served_or_told : goal.returns-in-Run-clause-served_or_told
-returns-in-Run-clause-served_or_told g c =
+pub returns-in-Run-clause-ended_or_served : goal.returns-in-Run-clause-ended_or_served
+returns-in-Run-clause-ended_or_served g c =
     let ran = c.run.ensures in
     elim (cases c.in-Run.asked) [
       | inl pipe ↦ inl (
@@ -134,7 +134,7 @@ returns-in-Run-clause-served_or_told g c =
           }
           | inr rest ↦ elim rest [
             | inl mistake ↦ let said = ran.mistake mistake.0 mistake.1 in
-                inr (inl record { text = mistake.0; status = said.0; unread = unread; unwritten = said.1; tells = said.2 })
+                inr (inl record { text = mistake.0; status = said.0; unread = unread; unwritten = said.1; line = said.2 })
             | inr none ↦ let said = ran.no_memory none in
                 inr (inr record { status = said.0; unread = unread; unwritten = said.1 })
           ]
@@ -173,12 +173,12 @@ returns-in-Run-clause-to_serve g c = λ service good.
 pub returns-in-Run-clause-bad : goal.returns-in-Run-clause-bad
 returns-in-Run-clause-bad g c = λ bad.
     let ran = c.run.ensures in
-    let told = c.in-Run.ensures.bad bad in
-    let same = same_run _ _ told.1 in
-    elim told.2 [
+    let ends = c.in-Run.ensures.bad bad in
+    let same = same_run _ _ ends.1 in
+    elim ends.2 [
       | inl mistake ↦ let is = subst (λ a. IsMistake a mistake.0) (sym same) mistake.1 in
           let no = mistaken _ mistake.0 is in let said = ran.mistake mistake.0 is in
-          inl record { text = mistake.0; status = said.0; unread = ran.unread no.0 no.1; unwritten = said.1; tells = said.2 }
+          inl record { text = mistake.0; status = said.0; unread = ran.unread no.0 no.1; unwritten = said.1; line = said.2 }
       | inr no_memory ↦ let none = same ∙ no_memory in let said = ran.no_memory none in
           inr record { status = said.0; unread = ran.unread (no_connection _ none) (no_replay _ none); unwritten = said.1 }
     ]
@@ -186,9 +186,9 @@ returns-in-Run-clause-bad g c = λ bad.
 pub returns-in-Run-clause-helped : goal.returns-in-Run-clause-helped
 returns-in-Run-clause-helped g c = λ help.
     let ran = c.run.ensures in
-    let told = c.in-Run.ensures.help help in
-    let same = same_run _ _ told.1 in
-    elim told.2 [
+    let ends = c.in-Run.ensures.help help in
+    let same = same_run _ _ ends.1 in
+    elim ends.2 [
       | inl shown ↦ let is = subst (λ a. IsHelp a shown.0) (sym same) shown.1 in
           let no = helped _ shown.0 is in
           inl record {
@@ -203,12 +203,12 @@ returns-in-Run-clause-helped g c = λ help.
           inr record { status = said.0; unread = ran.unread (no_connection _ none) (no_replay _ none); unwritten = said.1 }
     ]
 
-pub returns-in-Serve-clause-served_or_told : goal.returns-in-Serve-clause-served_or_told
-returns-in-Serve-clause-served_or_told g c = record {
+pub returns-in-Serve-clause-ended_or_served : goal.returns-in-Serve-clause-ended_or_served
+returns-in-Serve-clause-ended_or_served g c = record {
   asks = c.in-Serve.ensures.gives_serve c.in-Serve.service refl;
   unread = refl;
   unwritten = refl;
-  untold = refl;
+  silent = refl;
 }
 
 pub returns-in-Serve-clause-served : goal.returns-in-Serve-clause-served

@@ -1,9 +1,9 @@
 use Rattle.std.proofs.Common.{◌≡◌, ◌∙◌, ℕ, List, [], Option, arith, inl, inr, refl, sym, subst}
-use Rattle.ns_faults.specs.Lines.{Tells, line_of, status_of}
+use Rattle.ns_faults.specs.Lines.{TriesToWrite, line_of, status_of}
 use Rattle.ns_faults.proofs.Faults.{same_fault}
 use Rattle.ns_http.specs.declared.counting.Counted.{Counted}
 use Rattle.ns_http.specs.declared.engine.ConnFault.{ConnFault}
-use Rattle.ns_serve.specs.Ending.{IsEnd, TellsLast}
+use Rattle.ns_serve.specs.Ending.{IsEnd, IsLastLine}
 use Rattle.ns_types.specs.State.Names.{Name}
 use Rattle.nsd.proofs.host.host.Goals as goal
 
@@ -23,26 +23,26 @@ no_mismatch ConnFault.Read e = omega (arith, e)
 no_mismatch ConnFault.Write e = omega (arith, e)
 no_mismatch ConnFault.Memory e = omega (arith, e)
 
--- nothing was told before this line
-only_fault : {D W E : Type 0} (draws : D → List ℕ → D → Type 0) (contents : W → Option (List ℕ)) (said : E → Option (List ℕ))
+-- nothing was written before this line
+only_fault : {D W E : Type 0} (draws : D → List ℕ → D → Type 0) (contents : W → Option (List ℕ)) (held : E → Option (List ℕ))
     (given : Option Name) (drawers : List D) (errors errors' : Counted E) (a b : ConnFault) → a ≡ b →
-    Tells said errors errors' (line_of a) → TellsLast draws contents said given drawers errors errors' (line_of b)
-only_fault draws contents said given drawers errors errors' a b same tells = record {
+    TriesToWrite held errors errors' (line_of a) → IsLastLine draws contents held given drawers errors errors' (line_of b)
+only_fault draws contents held given drawers errors errors' a b same wrote = record {
   opened = errors;
   before = inl refl;
-  last = subst (λ f. Tells said errors errors' (line_of f)) same tells;
+  last = subst (λ f. TriesToWrite held errors errors' (line_of f)) same wrote;
 }
 
 pub returns-in-Err : goal.returns-in-Err
 returns-in-Err g c = record {
-  is_end = subst IsEnd (sym c.tell.ensures.status) (end_of c.in-Err.fault);
-  settled = λ e. absurd (not_served _ (sym c.tell.ensures.status ∙ e));
-  write_fault = λ e. absurd (c.in-Err.ensures.fault (same_fault _ ConnFault.Write (sym c.tell.ensures.status ∙ e)));
+  is_end = subst IsEnd (sym c.print_fault.ensures.status) (end_of c.in-Err.fault);
+  settled = λ e. absurd (not_served _ (sym c.print_fault.ensures.status ∙ e));
+  write_fault = λ e. absurd (c.in-Err.ensures.fault (same_fault _ ConnFault.Write (sym c.print_fault.ensures.status ∙ e)));
   unprinted = λ _ _. refl;
-  told_last = λ fault e.
-      let same = same_fault c.in-Err.fault fault (sym c.tell.ensures.status ∙ e) in
-      ([], only_fault _ _ _ _ _ _ _ _ _ same c.tell.ensures.line);
-  mismatch = λ e. absurd (no_mismatch _ (sym c.tell.ensures.status ∙ e));
+  last_line = λ fault e.
+      let same = same_fault c.in-Err.fault fault (sym c.print_fault.ensures.status ∙ e) in
+      ([], only_fault _ _ _ _ _ _ _ _ _ same c.print_fault.ensures.line);
+  mismatch = λ e. absurd (no_mismatch _ (sym c.print_fault.ensures.status ∙ e));
 }
 
 pub returns : goal.returns
@@ -51,6 +51,6 @@ returns g c = record {
   settled = λ e. (_, c.serve.ensures.settled e);
   write_fault = λ e. (_, c.serve.ensures.write_fault e);
   unprinted = c.serve.ensures.unprinted;
-  told_last = λ fault e. (_, c.serve.ensures.told fault e);
+  last_line = λ fault e. (_, c.serve.ensures.fault_line fault e);
   mismatch = λ e. (_, c.serve.ensures.mismatch e);
 }

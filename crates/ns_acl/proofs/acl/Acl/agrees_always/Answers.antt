@@ -10,13 +10,13 @@ pub returns-then-agrees_on : goal.returns-then-agrees_on
 returns-then-agrees_on c =
     let s = c.args.self.now in
     let t = c.args.other.now in (
-      λ told. elim c.if-agrees.branch [
+      λ agree. elim c.if-agrees.branch [
         | then-agrees w ↦ for_each_secret c.args.kind c.args.target.now s t _ _ (ap (λ a. a.tokens) (sym c.self.view_is)) (ap (λ a. a.tokens)
             (sym c.other.view_is)) (c.agrees.ensures.0 w.if-agrees.true)
             (All-same (λ slot. IsAlike c.args.kind c.args.target.now s t (Some slot.0)) _ _ (sym w.as_slice.ensures)
             (w.agrees_on.ensures.0 (sym w.value-is ∙ c.if-agrees_on.true)))
             (All-same (λ slot. IsAlike c.args.kind c.args.target.now s t (Some slot.0)) _ _ (sym c.as_slice-then-agrees_on.ensures)
-            (c.agrees_on-then-agrees_on.ensures.0 told))
+            (c.agrees_on-then-agrees_on.ensures.0 agree))
         | else-agrees w ↦ absurd (cc)
       ],
       λ all. c.agrees_on-then-agrees_on.ensures.1 (λ k d inside. all (Some _)),

@@ -1,4 +1,4 @@
-use Rattle.ns_core.proofs.Telling.{loads_of}
+use Rattle.ns_core.proofs.NodeCommands.{loads_of}
 use Rattle.ns_core.proofs.parts.Parts.load.Goals as goal
 use Rattle.ns_core.specs.Viewed.{state_of, world_of}
 

@@ -1,6 +1,6 @@
 use Rattle.std.proofs.Common.{sym, subst}
 use Rattle.ns_types.specs.declared.step.NodeCommand.{NodeCommand}
-use Rattle.ns_core.proofs.Telling.{loads_of}
+use Rattle.ns_core.proofs.NodeCommands.{loads_of}
 use Rattle.ns_core.proofs.parts.Parts.read_in_pool.Goals as goal
 use Rattle.ns_core.specs.Answering.{ReadsPool}
 use Rattle.ns_core.specs.Viewed.{state_of}

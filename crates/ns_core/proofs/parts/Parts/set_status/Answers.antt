@@ -4,7 +4,7 @@ use Rattle.ns_types.specs.declared.step.NodeCommand.TheVariants as NodeCommand
 use Rattle.ns_core.specs.Answering.{PreparesNode}
 use Rattle.ns_core.specs.Viewed.{state_of}
 use Rattle.ns_core.proofs.Keeping.{within}
-use Rattle.ns_core.proofs.Telling.{prepares}
+use Rattle.ns_core.proofs.NodeCommands.{prepares}
 use Rattle.ns_core.proofs.parts.Parts.set_status.Goals as goal
 
 pub set_ready-requires : goal.set_ready-requires

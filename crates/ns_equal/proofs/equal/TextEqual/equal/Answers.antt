@@ -7,6 +7,6 @@ pub returns : goal.returns
 returns c =
     let a = c.args.self.now in
     let b = c.args.other.now in (
-      λ told. same_name_is a b (sym c.same_text.ensures ∙ told),
+      λ equal_is. same_name_is a b (sym c.same_text.ensures ∙ equal_is),
       λ same. c.same_text.ensures ∙ ap (same_name a) (sym same) ∙ same_name_refl a,
     )

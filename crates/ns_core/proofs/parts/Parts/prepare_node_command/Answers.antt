@@ -3,8 +3,8 @@ use Rattle.ns_types.specs.declared.step.NodeCommand.{NodeCommand}
 use Rattle.ns_core.specs.Answering.{PreparesNode}
 use Rattle.ns_core.specs.Viewed.{state_of}
 use Rattle.ns_core.proofs.Keeping.{within}
-use Rattle.ns_core.proofs.Telling.{prepares}
-use Rattle.ns_core.proofs.parts.Parts.prepare_telling.Goals as goal
+use Rattle.ns_core.proofs.NodeCommands.{prepares}
+use Rattle.ns_core.proofs.parts.Parts.prepare_node_command.Goals as goal
 
 pub register_node-requires-clause-bounds : goal.register_node-requires-clause-bounds
 register_node-requires-clause-bounds c = within (state_of c.args.self.now) c.requires.valid

@@ -1,14 +1,14 @@
-//! What requests tell of nodes, and report of the allocations on them.
+//! What requests ask of nodes, and report of the allocations on them.
 
 ghost use Rattle.std.specs.Prelude.{◌≡◌, IfOk, IsTrue};
 ghost use Rattle.ns_types.specs.declared.name.NameKind.TheVariants as NameKind;
 ghost use Rattle.ns_types.specs.State.Name.{is_name};
 ghost use Rattle.ns_http.specs.Head.{asked};
 ghost use Rattle.ns_asked.specs.Parts.{fourth_part, sixth_part};
-ghost use Rattle.ns_asked.specs.Telling.{eligibility_put, node_put, report_put, status_put};
+ghost use Rattle.ns_asked.specs.Nodes.{eligibility_put, node_put, report_put, status_put};
 ghost use Rattle.ns_asked.specs.Wanted.{IsServedWanted, Wants};
 
-use crate::wanted::{Wanted, tells};
+use crate::wanted::{Wanted, commands};
 use ns_documents::{read_eligibility, read_node, read_node_status, read_report};
 use ns_http::Request;
 use ns_types::refusal::Refusal;
@@ -17,7 +17,7 @@ use ns_types::text::Text;
 use std::alloc::Global;
 
 /// A put of the node that the path names, in its pool.
-#[tactic(auto, unfolding(crate::specs::Telling::node_by, crate::specs::Telling::node_of, crate::specs::Parts::bearer_in, crate::specs::Wanted::step_of))]
+#[tactic(auto, unfolding(crate::specs::Nodes::node_by, crate::specs::Nodes::node_of, crate::specs::Parts::bearer_in, crate::specs::Wanted::step_of))]
 pub fn put_node(
     alloc: Global,
     request: &Request<'_>,
@@ -33,11 +33,11 @@ pub fn put_node(
     let pool = pool.clone()?;
     let node = node.clone()?;
     let offer = read_node(alloc, request.body)?;
-    Ok(tells(pool, NodeCommand::PutNode(node, offer)))
+    Ok(commands(pool, NodeCommand::PutNode(node, offer)))
 }
 
 /// The same of its status.
-#[tactic(auto, unfolding(crate::specs::Telling::node_by, crate::specs::Telling::node_of, crate::specs::Parts::bearer_in, crate::specs::Wanted::step_of))]
+#[tactic(auto, unfolding(crate::specs::Nodes::node_by, crate::specs::Nodes::node_of, crate::specs::Parts::bearer_in, crate::specs::Wanted::step_of))]
 pub fn put_status(
     alloc: Global,
     request: &Request<'_>,
@@ -50,11 +50,11 @@ pub fn put_status(
     ensures served { IfOk result IsServedWanted }
 {
     let status = read_node_status(alloc, request.body)?;
-    Ok(tells(pool.clone()?, NodeCommand::SetStatus(node.clone()?, status)))
+    Ok(commands(pool.clone()?, NodeCommand::SetStatus(node.clone()?, status)))
 }
 
 /// The same of its eligibility.
-#[tactic(auto, unfolding(crate::specs::Telling::node_by, crate::specs::Telling::node_of, crate::specs::Parts::bearer_in, crate::specs::Wanted::step_of))]
+#[tactic(auto, unfolding(crate::specs::Nodes::node_by, crate::specs::Nodes::node_of, crate::specs::Parts::bearer_in, crate::specs::Wanted::step_of))]
 pub fn put_eligibility(
     alloc: Global,
     request: &Request<'_>,
@@ -67,14 +67,14 @@ pub fn put_eligibility(
     ensures served { IfOk result IsServedWanted }
 {
     let eligible = read_eligibility(alloc, request.body)?;
-    Ok(tells(
+    Ok(commands(
         pool.clone()?,
         NodeCommand::SetEligible(node.clone()?, eligible),
     ))
 }
 
 /// A report of an allocation on the node that the path names. The document names the allocation.
-#[tactic(auto, unfolding(crate::specs::Telling::node_by, crate::specs::Telling::node_of, crate::specs::Parts::bearer_in, crate::specs::Wanted::step_of))]
+#[tactic(auto, unfolding(crate::specs::Nodes::node_by, crate::specs::Nodes::node_of, crate::specs::Parts::bearer_in, crate::specs::Wanted::step_of))]
 pub fn put_report(
     alloc: Global,
     request: &Request<'_>,
@@ -87,5 +87,5 @@ pub fn put_report(
     ensures served { IfOk result IsServedWanted }
 {
     let report = read_report(alloc, request.body)?;
-    Ok(tells(pool.clone()?, NodeCommand::Report(node.clone()?, report)))
+    Ok(commands(pool.clone()?, NodeCommand::Report(node.clone()?, report)))
 }

@@ -5,7 +5,7 @@ use Rattle.ns_world.specs.World.{tenant_of, world_of}
 use Rattle.ns_change.proofs.Prepares.{prepares_as}
 use Rattle.ns_jobs.proofs.Prepared.{there}
 use Rattle.ns_report.proofs.Asked.{again, full, never, written}
-use Rattle.ns_report.proofs.telling.report_of.Goals as goal
+use Rattle.ns_report.proofs.reporting.report_of.Goals as goal
 
 pub returns-then-same_client : goal.returns-then-same_client
 returns-then-same_client c = again (world_of c.args.tables.now) c.args.report.now c.args.row.now c.requires.bounds

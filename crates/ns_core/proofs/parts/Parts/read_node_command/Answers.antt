@@ -4,7 +4,7 @@ use Rattle.std.proofs.lemmas.Result.{err_from_is_err_and}
 use Rattle.ns_types.specs.Steps.{said}
 use Rattle.ns_core.specs.Viewed.{state_of}
 use Rattle.ns_core.proofs.Reading.{pool_reads}
-use Rattle.ns_core.proofs.parts.Parts.read_telling.Goals as goal
+use Rattle.ns_core.proofs.parts.Parts.read_node_command.Goals as goal
 
 pub returns-in_err-content : goal.returns-in_err-content
 returns-in_err-content c = λ secret allowed.

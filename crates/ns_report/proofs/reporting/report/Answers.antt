@@ -4,7 +4,7 @@ use Rattle.ns_world.specs.World.{tenant_of, world_of}
 use Rattle.ns_change.proofs.Prepares.{prepares_as}
 use Rattle.ns_jobs.proofs.Prepared.{absent, there}
 use Rattle.ns_report.proofs.Asked.{elsewhere, no_allocation, no_namespace, nowhere, on_it}
-use Rattle.ns_report.proofs.telling.report.Goals as goal
+use Rattle.ns_report.proofs.reporting.report.Goals as goal
 
 pub returns-then-not-has_node : goal.returns-then-not-has_node
 returns-then-not-has_node c = nowhere (world_of c.args.tables.now) c.args.pool.now c.args.name.now c.args.report.now

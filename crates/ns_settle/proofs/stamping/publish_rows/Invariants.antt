@@ -2,7 +2,7 @@ use Rattle.std.proofs.Common.{◌≡◌, ◌++◌, drop}
 use Rattle.keyed.specs.Table.{rows}
 use Rattle.ns_release.specs.Shown.{changes_slot}
 use Rattle.ns_settle.specs.Stamped.{events_for, topic_at}
-use Rattle.ns_settle.proofs.stamping.tell_rows.Given as goal
+use Rattle.ns_settle.proofs.stamping.publish_rows.Given as goal
 
 abbrev pub invariant-loop-slot : goal.invariant-loop-slot
 invariant-loop-slot g l =
