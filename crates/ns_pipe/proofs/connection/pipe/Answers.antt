@@ -1,4 +1,4 @@
-use Rattle.std.proofs.Common.{◌≡◌, ℕ, List, Err, ap, ◌∙◌, sym, subst, ap₂}
+use Rattle.std.proofs.Common.{◌≡◌, ℕ, List, Err, ap, ◌∙◌, sym, subst}
 use Rattle.ns_http.specs.Conversation.{Streams}
 use Rattle.ns_http.specs.declared.engine.ConnFault.{ConnFault}
 use Rattle.ns_types.specs.Wire.Http.{End}
@@ -8,12 +8,8 @@ use Rattle.ns_api.specs.Answering.{Holding}
 use Rattle.ns_api.specs.Cores.{ServedByCore, ServedByCoreInPart}
 use Rattle.ns_api.specs.Serving.{holding}
 use Rattle.ns_faults.proofs.Faults.{same_fault}
+use Rattle.ns_pipe.proofs.Holdings.{same_parts}
 use Rattle.ns_pipe.proofs.connection.pipe.Goals as goal
-
-same_parts : {D : Type 0} {old new : Holding State D Driver} → old.server ≡ new.server → old.draws ≡ new.draws → old.follower ≡ new.follower → old ≡ new
-same_parts {D} {old} {new} p q v =
-    let make : State → D → Driver → Holding State D Driver = λ s d f. record { server = s; draws = d; follower = f } in
-    subst (λ f. old ≡ make new.server new.draws f) v (ap₂ (λ s d. make s d old.follower) p q)
 
 module _ {D : Type 0} (draws : D → List ℕ → D → Type 0) where
   -- from what was opened

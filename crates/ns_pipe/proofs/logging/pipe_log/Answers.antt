@@ -1,4 +1,4 @@
-use Rattle.std.proofs.Common.{◌≡◌, ◌⊎◌, ℕ, List, Option, Err, inl, inr, ap, ◌∙◌, sym, subst, ap₂}
+use Rattle.std.proofs.Common.{◌≡◌, ◌⊎◌, ℕ, List, Option, Err, inl, inr, ap, ◌∙◌, sym, subst}
 use Rattle.ns_types.specs.State.Names.{Name}
 use Rattle.ns_held.specs.Logs.{History}
 use Rattle.ns_http.specs.declared.counting.Counted.{Counted}
@@ -7,13 +7,8 @@ use Rattle.ns_api.specs.declared.following.Driver.{Driver}
 use Rattle.ns_api.specs.Answering.{Holding}
 use Rattle.ns_faults.proofs.Faults.{same_fault}
 use Rattle.ns_pipe.specs.Logging.{LogsInPart, LogsNothing, LogsServed, LogsToReadFault}
+use Rattle.ns_pipe.proofs.Holdings.{same_parts}
 use Rattle.ns_pipe.proofs.logging.pipe_log.Goals as goal
-
-same_parts : {D : Type 0} (old new : Holding History D Driver) → old.server ≡ new.server → old.draws ≡ new.draws →
-    old.follower ≡ new.follower → old ≡ new
-same_parts {D} old new p q v =
-    let make : History → D → Driver → Holding History D Driver = λ s d f. record { server = s; draws = d; follower = f } in
-    subst (λ f. old ≡ make new.server new.draws f) v (ap₂ (λ s d. make s d old.follower) p q)
 
 module _ {D R W V : Type 0} (draws : D → List ℕ → D → Type 0) (remaining : R → Option (List ℕ)) (contents : W → Option (List ℕ))
     (replied : V → Option (List ℕ)) (old new : Holding History D Driver) (same : old ≡ new) (reader reader' : Counted R)
@@ -38,7 +33,7 @@ module _ {D R W V : Type 0} (draws : D → List ℕ → D → Type 0) (remaining
 pub returns-in-Ok-ended-clause-served : goal.returns-in-Ok-ended-clause-served
 returns-in-Ok-ended-clause-served g c = λ _.
     served g.D.Draws.draws g.R.Read.remaining g.W.Write.contents g.V.Write.contents _ _
-    (same_parts _ _ c.in-Ok.ensures.taker c.in-Ok.ensures.drawer c.in-Ok.ensures.follower) c.args.reader.now
+    (same_parts c.in-Ok.ensures.taker c.in-Ok.ensures.drawer c.in-Ok.ensures.follower) c.args.reader.now
     c.serve_and_log-ended.new.reader c.args.replies.now c.serve_and_log-ended.new.replies c.args.bootstrap.now c.args.writer.now
     c.serve_and_log-ended.new.writer
     c.in-Ok-ended.ensures.served
@@ -47,7 +42,7 @@ pub returns-in-Err-clause-read_fault : goal.returns-in-Err-clause-read_fault
 returns-in-Err-clause-read_fault g c = λ e.
     let is = same_fault c.in-Err.fault ConnFault.Read (sym c.print_fault-in-Err.ensures.status ∙ e) in
     to_read_fault g.D.Draws.draws g.R.Read.remaining g.W.Write.contents g.V.Write.contents _ _
-    (same_parts _ _ c.in-Ok.ensures.taker c.in-Ok.ensures.drawer c.in-Ok.ensures.follower) c.args.reader.now
+    (same_parts c.in-Ok.ensures.taker c.in-Ok.ensures.drawer c.in-Ok.ensures.follower) c.args.reader.now
     c.serve_and_log-ended.new.reader c.args.replies.now c.serve_and_log-ended.new.replies c.args.bootstrap.now c.args.writer.now
     c.serve_and_log-ended.new.writer
     (c.in-Err.ensures.read (ap Err is))
@@ -56,7 +51,7 @@ pub returns-in-Err-clause-write_fault : goal.returns-in-Err-clause-write_fault
 returns-in-Err-clause-write_fault g c = λ e.
     let is = same_fault c.in-Err.fault ConnFault.Write (sym c.print_fault-in-Err.ensures.status ∙ e) in
     in_part g.D.Draws.draws g.R.Read.remaining g.W.Write.contents g.V.Write.contents _ _
-    (same_parts _ _ c.in-Ok.ensures.taker c.in-Ok.ensures.drawer c.in-Ok.ensures.follower) c.args.reader.now
+    (same_parts c.in-Ok.ensures.taker c.in-Ok.ensures.drawer c.in-Ok.ensures.follower) c.args.reader.now
     c.serve_and_log-ended.new.reader c.args.replies.now c.serve_and_log-ended.new.replies c.args.bootstrap.now c.args.writer.now
     c.serve_and_log-ended.new.writer
     (c.in-Err.ensures.write (ap Err is))
