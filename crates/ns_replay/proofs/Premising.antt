@@ -162,7 +162,8 @@ module _ (ns : Name) (s t s' : State) (step : Step) (reply : Rendered) (b : Stan
 -- ---- what a step was answered
 
 -- it breaks no premise
-pub unbroken : (ns : Name) (s s' : State) (step : Step) (told : Option Rendered) → Replies step s told s' → KeepsPremises ns step s told s' → Breaks ns step s → ⊥
+pub unbroken : (ns : Name) (s s' : State) (step : Step) (told : Option Rendered) → Replies step s told s' →
+    KeepsPremises ns step s told s' → Breaks ns step s → ⊥
 unbroken ns s s' step None told keeps b = not_Some _ (sym told.0 ∙ b.made)
 unbroken ns s s' step (Some reply) told keeps b = by b.broken
   where

@@ -63,13 +63,13 @@ line_of_mismatch ServeFault.Mismatch e = refl
 
 -- ---- how it ended
 
-module _ {D W E : Type 0} (draws : D → List ℕ → D → Type 0) (contents : W → Option (List ℕ)) (held : E → Option (List ℕ))
+module _ {D W E : Type 0} (draws : D → List ℕ → D → Type 0) (contents : W → Option (List ℕ)) (error_text : E → Option (List ℕ))
     (given : Option Name) (drawers : List D) where
   pub ends_settled : (address : SocketAddr) (secret : Name) (history : History) (writer writer' : Counted W)
       (errors opened errors' : Counted E) (lines line : List ℕ) → IsChosen draws given drawers secret →
-      lines ≡ opening_lines given address secret → TriesToWrite held errors opened lines →
-      PrintsRun contents secret history writer writer' line → TriesToWrite held opened errors' line →
-      EndsSettled draws contents held given drawers writer writer' errors errors'
+      lines ≡ opening_lines given address secret → TriesToWrite error_text errors opened lines →
+      PrintsRun contents secret history writer writer' line → TriesToWrite error_text opened errors' line →
+      EndsSettled draws contents error_text given drawers writer writer' errors errors'
   ends_settled address secret history writer writer' errors opened errors' lines line chosen are wrote prints ended = record {
     address = address;
     secret = secret;
@@ -78,12 +78,12 @@ module _ {D W E : Type 0} (draws : D → List ℕ → D → Type 0) (contents : 
     is_secret = chosen;
     is_run = prints.is_run;
     printed = prints.printed;
-    listens = subst (TriesToWrite held errors opened) are wrote;
-    settled = subst (TriesToWrite held opened errors') prints.counts ended;
+    listens = subst (TriesToWrite error_text errors opened) are wrote;
+    settled = subst (TriesToWrite error_text opened errors') prints.counts ended;
   }
 
   pub ends_in_part : (secret : Name) (history : History) (writer writer' : Counted W) → IsChosen draws given drawers secret →
-      PrintsPart contents secret history writer writer' → EndsInPart draws contents held given drawers writer writer'
+      PrintsPart contents secret history writer writer' → EndsInPart draws contents error_text given drawers writer writer'
   ends_in_part secret history writer writer' chosen prints = record {
     secret = secret;
     history = history;
@@ -94,19 +94,19 @@ module _ {D W E : Type 0} (draws : D → List ℕ → D → Type 0) (contents : 
 
   -- behind the first lines
   pub last_behind : (address : SocketAddr) (secret : Name) (errors opened errors' : Counted E) (lines line line' : List ℕ) →
-      IsChosen draws given drawers secret → lines ≡ opening_lines given address secret → TriesToWrite held errors opened lines →
-      TriesToWrite held opened errors' line → line ≡ line' → IsLastLine draws contents held given drawers errors errors' line'
+      IsChosen draws given drawers secret → lines ≡ opening_lines given address secret → TriesToWrite error_text errors opened lines →
+      TriesToWrite error_text opened errors' line → line ≡ line' → IsLastLine draws contents error_text given drawers errors errors' line'
   last_behind address secret errors opened errors' lines line line' chosen are wrote ended is = record {
     opened = opened;
-    before = inr (address, secret, chosen, subst (TriesToWrite held errors opened) are wrote);
-    last = subst (TriesToWrite held opened errors') is ended;
+    before = inr (address, secret, chosen, subst (TriesToWrite error_text errors opened) are wrote);
+    last = subst (TriesToWrite error_text opened errors') is ended;
   }
 
   -- with nothing before it
-  pub last_alone : (errors errors' : Counted E) (line line' : List ℕ) → TriesToWrite held errors errors' line → line ≡ line' →
-      IsLastLine draws contents held given drawers errors errors' line'
+  pub last_alone : (errors errors' : Counted E) (line line' : List ℕ) → TriesToWrite error_text errors errors' line → line ≡ line' →
+      IsLastLine draws contents error_text given drawers errors errors' line'
   last_alone errors errors' line line' ended is = record {
     opened = errors;
     before = inl refl;
-    last = subst (TriesToWrite held errors errors') is ended;
+    last = subst (TriesToWrite error_text errors errors') is ended;
   }

@@ -32,7 +32,7 @@ IsChosen {D} draws given drawers secret =
     (others : List D) × (last : D) × (drawers ≡ others ++ last ∷ []) × IsSecret draws given last secret
 
 module _ {D W E : Type 0} (draws : D → List ℕ → D → Type 0) (contents : W → Option (List ℕ))
-    (held : E → Option (List ℕ)) (given : Option Name) (drawers : List D) where
+    (error_text : E → Option (List ℕ)) (given : Option Name) (drawers : List D) where
   -- the log of a run was printed; to standard error, where the server listens, and how many entries the log has
   pub record EndsSettled (writer writer' : Counted W) (errors errors' : Counted E) : Type 0 where
     pub address : SocketAddr
@@ -42,8 +42,8 @@ module _ {D W E : Type 0} (draws : D → List ℕ → D → Type 0) (contents : 
     pub is_secret : IsChosen draws given drawers secret
     pub is_run : IsRun history
     pub printed : WritesAll contents writer writer' (log_text secret history.log)
-    pub listens : TriesToWrite held errors opened (opening_lines given address secret)
-    pub settled : TriesToWrite held opened errors' (settled_line (length history.log))
+    pub listens : TriesToWrite error_text errors opened (opening_lines given address secret)
+    pub settled : TriesToWrite error_text opened errors' (settled_line (length history.log))
 
   -- a first part of the log of a run was printed, and then the writer failed
   pub record EndsInPart (writer writer' : Counted W) : Type 0 where
@@ -57,5 +57,5 @@ module _ {D W E : Type 0} (draws : D → List ℕ → D → Type 0) (contents : 
   pub record IsLastLine (errors errors' : Counted E) (line : List ℕ) : Type 0 where
     pub opened : Counted E
     pub before : (opened ≡ errors) ⊎ ((address : SocketAddr) × (secret : Name) × IsChosen draws given drawers secret
-        × TriesToWrite held errors opened (opening_lines given address secret))
-    pub last : TriesToWrite held opened errors' line
+        × TriesToWrite error_text errors opened (opening_lines given address secret))
+    pub last : TriesToWrite error_text opened errors' line

@@ -35,13 +35,13 @@ pub record EndsUnserved {R W : Type 0} (reader : R) (writer : W) (ended : Ended 
   pub unwritten : ended.writer ≡ uncounted writer
 
 -- the text of a mistake was written, and nothing was read or written
-pub record EndsRefused {R W E : Type 0} (held : E → Option (List ℕ)) (reader : R) (writer : W)
+pub record EndsRefused {R W E : Type 0} (error_text : E → Option (List ℕ)) (reader : R) (writer : W)
     (errors errors' : Counted E) (ended : Ended R W) : Type 0 where
   pub text : Text
   pub status : ended.status ≡ BAD_WORDS
   pub unread : ended.reader ≡ uncounted reader
   pub unwritten : ended.writer ≡ uncounted writer
-  pub line : TriesToWrite held errors errors' text
+  pub line : TriesToWrite error_text errors errors' text
 
 -- help was written, or a part of it, and then the output failed; nothing was read
 pub record EndsHelped {R W : Type 0} (contents : W → Option (List ℕ)) (reader : R) (writer : W) (ended : Ended R W) : Type 0 where
@@ -55,7 +55,7 @@ abbrev pub OrUnserved : {R W : Type 0} → R → W → (Ended R W → Type 0) �
 OrUnserved reader writer HasEnded ended = HasEnded ended ⊎ EndsUnserved reader writer ended
 
 module _ {D R W E : Type 0} (draws : D → List ℕ → D → Type 0) (remaining : R → Option (List ℕ))
-    (contents : W → Option (List ℕ)) (held : E → Option (List ℕ)) (words : List Text) (drawer : D) (reader : R)
+    (contents : W → Option (List ℕ)) (error_text : E → Option (List ℕ)) (words : List Text) (drawer : D) (reader : R)
     (writer : W) (errors errors' : Counted E) where
   -- what the words ask for was done, or they were answered with help or a mistake, or there was no memory
   abbrev pub DoesAsked : Ended R W → Type 0
@@ -65,7 +65,7 @@ module _ {D R W E : Type 0} (draws : D → List ℕ → D → Type 0) (remaining
       ⊎ ((namespace : Text) × (from : ℕ) × AsksAlone words namespace from
       × EndsReplayed remaining contents namespace from reader writer ended)
       ⊎ EndsHelped contents reader writer ended
-      ⊎ EndsRefused held reader writer errors errors' ended
+      ⊎ EndsRefused error_text reader writer errors errors' ended
       ⊎ EndsUnserved reader writer ended
 
 -- the words ask for this server, and nothing was read, or written to the output or to the errors

@@ -56,7 +56,8 @@ pub fn run_words<D: Draws + Drop, R: Read + Drop, W: Write + Drop, E: Write>(
         (EndsHelped W.contents reader writer)) }
 
     ensures silent { IfEnded result (λ ended. ended.status ≡ SERVED → errors.new ≡ errors.old) }
-    ensures fault_line { IfEnded result (λ ended. (fault : ConnFault) → ended.status ≡ status_of fault
+    ensures fault_line { IfEnded result (λ ended. (fault : ConnFault)
+        → ended.status ≡ status_of fault
         → TriesToWrite E.contents errors.old errors.new (line_of fault)) }
 {
     match read(alloc, words) {

@@ -13,15 +13,15 @@ ForSomeDrawers {D} draws Holds = (drawers : List D) × Holds drawers
 
 -- a server with this secret, or with one that was drawn, ended with this status
 pub record EndsHosted {D W E : Type 0} (draws : D → List ℕ → D → Type 0) (contents : W → Option (List ℕ))
-    (held : E → Option (List ℕ)) (given : Option Name) (status : ℕ) (writer writer' : Counted W)
+    (error_text : E → Option (List ℕ)) (given : Option Name) (status : ℕ) (writer writer' : Counted W)
     (errors errors' : Counted E) : Type 0 where
   pub is_end : IsEnd status
   pub settled : status ≡ SERVED → ForSomeDrawers draws (λ drawers.
-      EndsSettled draws contents held given drawers writer writer' errors errors')
+      EndsSettled draws contents error_text given drawers writer writer' errors errors')
   pub write_fault : status ≡ WRITE_FAULT → ForSomeDrawers draws (λ drawers.
-      EndsInPart draws contents held given drawers writer writer')
+      EndsInPart draws contents error_text given drawers writer writer')
   pub unprinted : status ≢ SERVED → status ≢ WRITE_FAULT → writer' ≡ writer
   pub last_line : (fault : ConnFault) → status ≡ status_of fault → ForSomeDrawers draws (λ drawers.
-      IsLastLine draws contents held given drawers errors errors' (line_of fault))
+      IsLastLine draws contents error_text given drawers errors errors' (line_of fault))
   pub mismatch : status ≡ MISMATCH → ForSomeDrawers draws (λ drawers.
-      IsLastLine draws contents held given drawers errors errors' mismatch_line)
+      IsLastLine draws contents error_text given drawers errors errors' mismatch_line)

@@ -86,20 +86,20 @@ change (Step.Apply worker ns) w = apply worker ns w
 change (Step.Finish worker ns) w = finish worker ns w
 change (Step.Nack worker ns) w = nack worker ns w
 
-own_of_pool : (part : Part) (w : World) (pool : Name) (command : NodeCommand) → (part.pools pool && concerns_part part command) ≡ true →
+own_pool : (part : Part) (w : World) (pool : Name) (command : NodeCommand) → (part.pools pool && concerns_part part command) ≡ true →
     AsksPoolOn part w true pool command
-own_of_pool part w pool NodeCommand.ReadPool own = first_of_both _ _ own
-own_of_pool part w pool NodeCommand.ListNodes own = first_of_both _ _ own
-own_of_pool part w pool (NodeCommand.PutNode name offer) own = first_of_both _ _ own
-own_of_pool part w pool (NodeCommand.DeleteNode name) own = first_of_both _ _ own
-own_of_pool part w pool (NodeCommand.SetStatus name status) own = first_of_both _ _ own
-own_of_pool part w pool (NodeCommand.SetEligible name eligible) own = first_of_both _ _ own
-own_of_pool part w pool (NodeCommand.Report name r) own = (first_of_both _ _ own, second_of_both _ _ own)
+own_pool part w pool NodeCommand.ReadPool own = first_of_both _ _ own
+own_pool part w pool NodeCommand.ListNodes own = first_of_both _ _ own
+own_pool part w pool (NodeCommand.PutNode name offer) own = first_of_both _ _ own
+own_pool part w pool (NodeCommand.DeleteNode name) own = first_of_both _ _ own
+own_pool part w pool (NodeCommand.SetStatus name status) own = first_of_both _ _ own
+own_pool part w pool (NodeCommand.SetEligible name eligible) own = first_of_both _ _ own
+own_pool part w pool (NodeCommand.Report name r) own = (first_of_both _ _ own, second_of_both _ _ own)
 
 pub is_of_own : (part : Part) (w : World) (step : Step) → belongs part step ≡ true → IsOn part w true step
 is_of_own part w (Step.Ask ns secret command) own = own
 is_of_own part w (Step.Admin secret command) own = not_both own refl
-is_of_own part w (Step.Node pool secret command) own = own_of_pool part w pool command own
+is_of_own part w (Step.Node pool secret command) own = own_pool part w pool command own
 is_of_own part w (Step.Dequeue worker ns n) own = own
 is_of_own part w (Step.Snap worker ns) own = own
 is_of_own part w (Step.Submit worker ns) own = own
@@ -107,15 +107,15 @@ is_of_own part w (Step.Apply worker ns) own = own
 is_of_own part w (Step.Finish worker ns) own = own
 is_of_own part w (Step.Nack worker ns) own = own
 
-other_of_pool : (part : Part) (w : World) (pool : Name) (command : NodeCommand) → IsAtHome part w → (part.pools pool && concerns_part part command) ≡ false →
+other_pool : (part : Part) (w : World) (pool : Name) (command : NodeCommand) → IsAtHome part w → (part.pools pool && concerns_part part command) ≡ false →
     AsksPoolOn part w false pool command
-other_of_pool part w pool NodeCommand.ReadPool home other = and_yes _ other
-other_of_pool part w pool NodeCommand.ListNodes home other = and_yes _ other
-other_of_pool part w pool (NodeCommand.PutNode name offer) home other = and_yes _ other
-other_of_pool part w pool (NodeCommand.DeleteNode name) home other = and_yes _ other
-other_of_pool part w pool (NodeCommand.SetStatus name status) home other = and_yes _ other
-other_of_pool part w pool (NodeCommand.SetEligible name eligible) home other = and_yes _ other
-other_of_pool part w pool (NodeCommand.Report name r) home other = by (part.pools pool) refl other
+other_pool part w pool NodeCommand.ReadPool home other = and_yes _ other
+other_pool part w pool NodeCommand.ListNodes home other = and_yes _ other
+other_pool part w pool (NodeCommand.PutNode name offer) home other = and_yes _ other
+other_pool part w pool (NodeCommand.DeleteNode name) home other = and_yes _ other
+other_pool part w pool (NodeCommand.SetStatus name status) home other = and_yes _ other
+other_pool part w pool (NodeCommand.SetEligible name eligible) home other = and_yes _ other
+other_pool part w pool (NodeCommand.Report name r) home other = by (part.pools pool) refl other
   where
     by : (b : Bool) → part.pools pool ≡ b → (b && part.spaces r.namespace) ≡ false → ReportsOn part w false pool r
     by true is e = inl e
@@ -124,7 +124,7 @@ other_of_pool part w pool (NodeCommand.Report name r) home other = by (part.pool
 pub is_of_other : (part : Part) (w : World) (step : Step) → IsAtHome part w → belongs part step ≡ false → is_admin step ≡ false → IsOn part w false step
 is_of_other part w (Step.Ask ns secret command) home other plain = other
 is_of_other part w (Step.Admin secret command) home other plain = not_both refl plain
-is_of_other part w (Step.Node pool secret command) home other plain = other_of_pool part w pool command home other
+is_of_other part w (Step.Node pool secret command) home other plain = other_pool part w pool command home other
 is_of_other part w (Step.Dequeue worker ns n) home other plain = other
 is_of_other part w (Step.Snap worker ns) home other plain = other
 is_of_other part w (Step.Submit worker ns) home other plain = other
@@ -132,20 +132,20 @@ is_of_other part w (Step.Apply worker ns) home other plain = other
 is_of_other part w (Step.Finish worker ns) home other plain = other
 is_of_other part w (Step.Nack worker ns) home other plain = other
 
-rest_of_pool : (part : Part) (w : World) (pool : Name) (command : NodeCommand) → AsksPoolOn part w true pool command → AsksPoolOn (rest part) w false pool command
-rest_of_pool part w pool NodeCommand.ReadPool own = ap not own
-rest_of_pool part w pool NodeCommand.ListNodes own = ap not own
-rest_of_pool part w pool (NodeCommand.PutNode name offer) own = ap not own
-rest_of_pool part w pool (NodeCommand.DeleteNode name) own = ap not own
-rest_of_pool part w pool (NodeCommand.SetStatus name status) own = ap not own
-rest_of_pool part w pool (NodeCommand.SetEligible name eligible) own = ap not own
-rest_of_pool part w pool (NodeCommand.Report name r) own = inl (ap not own.1)
+rest_pool : (part : Part) (w : World) (pool : Name) (command : NodeCommand) → AsksPoolOn part w true pool command → AsksPoolOn (rest part) w false pool command
+rest_pool part w pool NodeCommand.ReadPool own = ap not own
+rest_pool part w pool NodeCommand.ListNodes own = ap not own
+rest_pool part w pool (NodeCommand.PutNode name offer) own = ap not own
+rest_pool part w pool (NodeCommand.DeleteNode name) own = ap not own
+rest_pool part w pool (NodeCommand.SetStatus name status) own = ap not own
+rest_pool part w pool (NodeCommand.SetEligible name eligible) own = ap not own
+rest_pool part w pool (NodeCommand.Report name r) own = inl (ap not own.1)
 
 -- what is its own is not of the rest
 pub not_of_rest : (part : Part) (w : World) (step : Step) → IsOn part w true step → IsOn (rest part) w false step
 not_of_rest part w (Step.Ask ns secret command) own = ap not own
 not_of_rest part w (Step.Admin secret command) own = own
-not_of_rest part w (Step.Node pool secret command) own = rest_of_pool part w pool command own
+not_of_rest part w (Step.Node pool secret command) own = rest_pool part w pool command own
 not_of_rest part w (Step.Dequeue worker ns n) own = ap not own
 not_of_rest part w (Step.Snap worker ns) own = ap not own
 not_of_rest part w (Step.Submit worker ns) own = ap not own

@@ -24,13 +24,13 @@ no_mismatch ConnFault.Write e = omega (arith, e)
 no_mismatch ConnFault.Memory e = omega (arith, e)
 
 -- nothing was written before this line
-only_fault : {D W E : Type 0} (draws : D → List ℕ → D → Type 0) (contents : W → Option (List ℕ)) (held : E → Option (List ℕ))
+only_fault : {D W E : Type 0} (draws : D → List ℕ → D → Type 0) (contents : W → Option (List ℕ)) (error_text : E → Option (List ℕ))
     (given : Option Name) (drawers : List D) (errors errors' : Counted E) (a b : ConnFault) → a ≡ b →
-    TriesToWrite held errors errors' (line_of a) → IsLastLine draws contents held given drawers errors errors' (line_of b)
-only_fault draws contents held given drawers errors errors' a b same wrote = record {
+    TriesToWrite error_text errors errors' (line_of a) → IsLastLine draws contents error_text given drawers errors errors' (line_of b)
+only_fault draws contents error_text given drawers errors errors' a b same wrote = record {
   opened = errors;
   before = inl refl;
-  last = subst (λ f. TriesToWrite held errors errors' (line_of f)) same wrote;
+  last = subst (λ f. TriesToWrite error_text errors errors' (line_of f)) same wrote;
 }
 
 pub returns-in-Err : goal.returns-in-Err
