@@ -260,7 +260,8 @@ impl<K: Ord + Hash + SlotKey + IndexKey + Drop, V: Drop> Slots<K, V> {
 
     /// The row at `key`, to be changed where it stands.
     pub(crate) fn get_mut(&mut self, key: &K) -> Option<&mut V>
-        ensures* writes_back { sem 𝓛 (lends_at_key K.row V.row K.Ord K.hash_input self.entry key.now result) }
+        ensures* writes_back { sem 𝓛
+            (lends_at_key K.row V.row K.Ord K.hash_input self.entry key.now result) }
         ensures value { option_copied_mut result ≡ row K.cmp key.now self.old }
     {
         let Some(i) = self.find(key) else {

@@ -43,9 +43,15 @@ impl Model for Held {
 
     ghost coded = { Prim.hlevel (codes, code) };
 
-    ghost view = { λ h. record { base = h.base.value; log = h.log.items; state = h.core; limit = h.limit } };
+    ghost view = { λ h. record {
+      base = h.base.value;
+      log = h.log.items;
+      state = h.core;
+      limit = h.limit;
+    } };
 
-    ghost invariant = { λ h. IsKept h.base.value h.log.items h.core × (length h.log.items ≤ h.limit) };
+    ghost invariant = { λ h. IsKept h.base.value h.log.items h.core
+        × (length h.log.items ≤ h.limit) };
 }
 
 impl Held {

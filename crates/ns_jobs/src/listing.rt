@@ -58,7 +58,8 @@ fn add_listed<V: Listed>(
     number: u64,
     row: Option<&V>,
 ) -> Result<(), AllocError>
-    ensures { OnOk result (listed.new ≡ listed.old ++ rows_shown V.as_shown V.is_listed namespace.now
+    ensures { OnOk result (listed.new
+        ≡ listed.old ++ rows_shown V.as_shown V.is_listed namespace.now
         command.now ((number, option_copied row.entry) ∷ [])) }
 {
     if let Some(row) = row {
