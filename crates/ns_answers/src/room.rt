@@ -19,7 +19,7 @@ use std::marker::Model;
 
 /// Room for the answer of a step, which is taken before the step. Contracts see in how many bytes a body or the text
 /// of a refusal may be written, and the body that is to answer a new token.
-#[derive(Debug, Drop)]
+#[derive(Drop)]
 pub struct Room {
     text: String,
     token: Option<String>,

@@ -35,7 +35,7 @@ impl<T: Server> Follows<T> for NoFollower {
 }
 
 /// Whom a server drives after each request.
-#[derive(Clone, Copy, Debug, PartialEq, Eq)]
+#[derive(Clone, Copy, PartialEq, Eq)]
 pub enum Driven {
     Nobody,
     /// Worker 0: it takes what is ready, places it, has its plans applied and finishes, at most 10,000 steps at a time.

@@ -102,7 +102,7 @@ pub(crate) fn names_in(
 // ---- the worker
 
 /// Whether something of a plan was done, and whether something was not.
-#[derive(Clone, Copy, Debug)]
+#[derive(Clone, Copy)]
 pub(crate) struct Effect {
     pub(crate) has_committed: bool,
     pub(crate) has_dropped: bool,

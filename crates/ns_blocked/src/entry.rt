@@ -6,7 +6,7 @@ use ns_types::rows::Rows;
 use ns_types::text::Text;
 
 /// What a blocked evaluation waits for: its quota, or else its pool.
-#[derive(Debug, Drop)]
+#[derive(Drop)]
 pub enum Waits {
     Quota(Text),
     Pool(Text),

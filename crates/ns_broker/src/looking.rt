@@ -18,7 +18,7 @@ use ns_world::{Tables, TenantRows};
 type TenantSlot = (Text, Option<TenantRows>);
 
 /// What a worker is busy with.
-#[derive(Clone, Copy, Debug)]
+#[derive(Clone, Copy)]
 pub struct Busy<'a> {
     pub namespace: &'a Text,
     /// The number of its evaluation there.

@@ -3,7 +3,7 @@
 use ns_types::refusal::Refusal;
 use std::alloc::AllocError;
 
-#[derive(Clone, Copy, Debug, PartialEq, Eq)]
+#[derive(Clone, Copy, PartialEq, Eq)]
 pub enum Stop {
     /// The worker is idle, and nothing is ready.
     Rests,

@@ -6,7 +6,7 @@ ghost use Rattle.ns_http.specs.Counts.{HasGrown, no_counts, is_interruption, aft
 use std::io::{self, ErrorKind, Read, Write};
 
 /// What was counted. The numbers stop at the greatest that they hold.
-#[derive(Clone, Copy, Debug, PartialEq, Eq)]
+#[derive(Clone, Copy, PartialEq, Eq)]
 pub struct Counts {
     calls: u64,
     faults: u64,
@@ -95,7 +95,7 @@ pub(crate) fn is_interruption(error: &io::Error) -> bool
 }
 
 /// A reader or a writer that counts its calls and its faults.
-#[derive(Debug, Drop)]
+#[derive(Drop)]
 pub struct Counted<T> {
     inner: T,
     counts: Counts,

@@ -16,7 +16,7 @@ use ns_types::reply::{Content, Reply, Response};
 use std::alloc::{AllocError, Global};
 
 /// Room for the reply of a write, which is made before its step.
-#[derive(Debug, Drop)]
+#[derive(Drop)]
 pub struct Room {
     bytes: Vec<u8>,
     ghost empty: { bytes.items ≡ [] },

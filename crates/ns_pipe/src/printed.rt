@@ -1,7 +1,7 @@
 //! What is printed of a connection.
 
 /// What standard output gets.
-#[derive(Clone, Copy, Debug, PartialEq, Eq)]
+#[derive(Clone, Copy, PartialEq, Eq)]
 pub enum Printed {
     /// The replies, as HTTP.
     Replies,

@@ -8,7 +8,7 @@ ghost use Rattle.ns_plan.specs.Amounts.{added, amount_of, capped};
 use ns_types::resources::{Limit, Limits, Resources};
 
 /// A sum of sizes: past 128 bits it stays at the greatest number, which no limit of 64 bits reaches.
-#[derive(Clone, Copy, Debug)]
+#[derive(Clone, Copy)]
 pub(crate) struct Amount {
     cpu: u128,
     memory: u128,

@@ -13,7 +13,7 @@ use ns_types::resources::Resources;
 use ns_types::snapshot::Snapshot;
 
 /// The placements on one node.
-#[derive(Clone, Copy, Debug)]
+#[derive(Clone, Copy)]
 pub(crate) struct Part {
     /// What they take together.
     pub(crate) size: Amount,

@@ -21,7 +21,7 @@ use ns_types::snapshot::Snapshot;
 use ns_types::text::{Text, same_text};
 
 /// What is left of a node's load and of the quota's use.
-#[derive(Clone, Copy, Debug)]
+#[derive(Clone, Copy)]
 pub(crate) struct Left {
     pub(crate) load: Resources,
     pub(crate) used: Resources,

@@ -6,7 +6,7 @@ ghost use Rattle.ns_replay_print.specs.Text.{last_line, status_of};
 use std::alloc::AllocError;
 
 /// How the replay of a log ended. Lines count from 1, and places count entries from 0.
-#[derive(Clone, Copy, Debug, PartialEq, Eq)]
+#[derive(Clone, Copy, PartialEq, Eq)]
 pub enum Ending {
     /// A server that holds the namespace alone answers its own steps as the log has them.
     Same,

@@ -21,7 +21,7 @@ use std::marker::Model;
 
 /// Room for the reply of a write, which is made before its step. Each has room for numbers, and for
 /// a reply that says nothing. The room of a token also holds the body that is to answer it.
-#[derive(Debug, Drop)]
+#[derive(Drop)]
 pub struct Room {
     numbers: ns_json::Room,
     token: Option<String>,

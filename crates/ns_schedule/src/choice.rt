@@ -11,7 +11,7 @@ use ns_preempt::{best_victims, victims};
 use ns_types::resources::Resources;
 
 /// A node, and how many of those whom the job may evict there give way.
-#[derive(Clone, Copy, Debug)]
+#[derive(Clone, Copy)]
 pub(crate) struct Chosen {
     pub node: usize,
     pub victims: usize,

@@ -6,7 +6,7 @@ use crate::rows::Rows;
 use crate::text::Text;
 use std::alloc::AllocError;
 
-#[derive(Clone, Copy, Debug, PartialEq, Eq)]
+#[derive(Clone, Copy, PartialEq, Eq)]
 pub enum RuleKind {
     Namespace,
     Pool,
@@ -31,7 +31,7 @@ impl Clone for Pattern {
 }
 
 /// What a rule gives.
-#[derive(Clone, Copy, Debug, PartialEq, Eq)]
+#[derive(Clone, Copy, PartialEq, Eq)]
 pub struct Grants {
     pub list_jobs: bool,
     pub read_job: bool,
@@ -110,7 +110,7 @@ impl Clone for Policy {
     }
 }
 
-#[derive(Clone, Copy, Debug, PartialEq, Eq)]
+#[derive(Clone, Copy, PartialEq, Eq)]
 pub enum TokenKind {
     Client,
     Management,
@@ -137,7 +137,7 @@ impl Drop for Token {
 }
 
 /// What a secret may do in a namespace.
-#[derive(Clone, Copy, Debug, PartialEq, Eq)]
+#[derive(Clone, Copy, PartialEq, Eq)]
 pub struct Rights {
     pub list_jobs: bool,
     pub read_job: bool,
@@ -146,7 +146,7 @@ pub struct Rights {
 }
 
 /// What a secret may do in a pool.
-#[derive(Clone, Copy, Debug, PartialEq, Eq)]
+#[derive(Clone, Copy, PartialEq, Eq)]
 pub struct PoolRights {
     pub read: bool,
     pub write: bool,

@@ -6,14 +6,14 @@ ghost use Rattle.ns_types.specs.State.Rows.{is_live};
 use crate::resources::Resources;
 use crate::text::Text;
 
-#[derive(Clone, Copy, Debug, PartialEq, Eq)]
+#[derive(Clone, Copy, PartialEq, Eq)]
 pub enum DesiredStatus {
     Run,
     Stop,
     Evict,
 }
 
-#[derive(Clone, Copy, Debug, PartialEq, Eq)]
+#[derive(Clone, Copy, PartialEq, Eq)]
 pub enum ClientStatus {
     Pending,
     Running,

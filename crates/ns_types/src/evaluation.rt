@@ -8,7 +8,7 @@ use crate::rows::Rows;
 use crate::text::Text;
 use std::alloc::AllocError;
 
-#[derive(Clone, Copy, Debug, PartialEq, Eq)]
+#[derive(Clone, Copy, PartialEq, Eq)]
 pub enum Status {
     Pending,
     Blocked,
@@ -18,7 +18,7 @@ pub enum Status {
 }
 
 /// What an evaluation was made for.
-#[derive(Clone, Copy, Debug, PartialEq, Eq)]
+#[derive(Clone, Copy, PartialEq, Eq)]
 pub enum Trigger {
     JobRegister,
     JobDeregister,

@@ -8,7 +8,7 @@ use std::alloc::{AllocError, Global};
 use uuid::Uuid;
 
 /// What an id is of.
-#[derive(Clone, Copy, Debug, PartialEq, Eq)]
+#[derive(Clone, Copy, PartialEq, Eq)]
 pub enum IdKind {
     Evaluation,
     Allocation,

@@ -7,7 +7,7 @@ use crate::rows::Rows;
 use crate::text::Text;
 use std::alloc::AllocError;
 
-#[derive(Clone, Copy, Debug, PartialEq, Eq)]
+#[derive(Clone, Copy, PartialEq, Eq)]
 pub enum JobKind {
     Service,
     Batch,
@@ -58,7 +58,7 @@ impl Clone for Group {
     }
 }
 
-#[derive(Clone, Copy, Debug, PartialEq, Eq)]
+#[derive(Clone, Copy, PartialEq, Eq)]
 pub enum Operand {
     Equal,
     NotEqual,

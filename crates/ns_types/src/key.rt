@@ -7,7 +7,6 @@ use std::alloc::AllocError;
 use std::marker::Model;
 
 /// An entry of a list of evaluations.
-#[derive(Debug)]
 pub struct EvalKey {
     namespace: Text,
     number: u64,

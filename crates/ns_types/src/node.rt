@@ -59,7 +59,7 @@ impl Clone for Class {
     }
 }
 
-#[derive(Clone, Copy, Debug, PartialEq, Eq)]
+#[derive(Clone, Copy, PartialEq, Eq)]
 pub enum NodeStatus {
     Ready,
     Down,

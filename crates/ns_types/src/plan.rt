@@ -62,7 +62,7 @@ impl Drop for Plan {
 }
 
 /// A missing allocation of a group of the job.
-#[derive(Clone, Copy, Debug, PartialEq, Eq)]
+#[derive(Clone, Copy, PartialEq, Eq)]
 pub struct Demand {
     pub group: u64,
     pub size: Resources,

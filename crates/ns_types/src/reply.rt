@@ -13,7 +13,7 @@ use crate::rows::Rows;
 use crate::text::Text;
 use std::alloc::{Allocator, Global};
 
-#[derive(Clone, Copy, Debug, PartialEq, Eq)]
+#[derive(Clone, Copy, PartialEq, Eq)]
 pub enum JobStatus {
     Dead,
     Running,
@@ -183,7 +183,7 @@ pub enum Response<A: Allocator = Global> {
 }
 
 /// Why the head of a request is refused.
-#[derive(Clone, Copy, Debug, PartialEq, Eq)]
+#[derive(Clone, Copy, PartialEq, Eq)]
 pub enum HeadFault {
     BadHead,
     NeedLength,

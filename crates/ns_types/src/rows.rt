@@ -5,7 +5,6 @@ ghost use Rattle.std.specs.Prelude.{◌≡◌, ◌++◌, ◌∷◌, [], IfOk, On
 use std::alloc::{AllocError, Global};
 use std::marker::Model;
 
-#[derive(Debug)]
 pub struct Rows<T> {
     items: Vec<T>,
 }

@@ -17,7 +17,6 @@ use std::hash::{Hash, Hasher};
 use std::marker::Model;
 
 /// A text of a row, compared by its bytes.
-#[derive(Debug)]
 pub struct Text {
     text: String,
 }

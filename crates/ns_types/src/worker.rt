@@ -9,7 +9,7 @@ use crate::snapshot::Snapshot;
 use std::alloc::AllocError;
 use std::marker::Model;
 
-#[derive(Clone, Copy, Debug, PartialEq, Eq)]
+#[derive(Clone, Copy, PartialEq, Eq)]
 pub enum Phase {
     /// It has the evaluation, and no snapshot yet.
     Took,

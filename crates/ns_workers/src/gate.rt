@@ -12,7 +12,7 @@ use ns_types::snapshot::Snapshot;
 use std::alloc::Global;
 
 /// A step that a worker has made.
-#[derive(Clone, Copy, Debug, PartialEq, Eq)]
+#[derive(Clone, Copy, PartialEq, Eq)]
 pub enum Point {
     Took,
     Snapped,
@@ -43,7 +43,7 @@ pub trait Gate {
 }
 
 /// Always open.
-#[derive(Clone, Copy, Debug)]
+#[derive(Clone, Copy)]
 pub struct Open;
 
 impl Gate for Open {

@@ -7,7 +7,7 @@ ghost use Rattle.ns_workers.specs.Halting.{halt_of};
 use ns_types::refusal::Refusal;
 use std::alloc::AllocError;
 
-#[derive(Clone, Copy, Debug, PartialEq, Eq)]
+#[derive(Clone, Copy, PartialEq, Eq)]
 pub enum Halt {
     /// Another was faster. It looks again at once, since the server has changed.
     Late,
