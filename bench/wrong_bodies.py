@@ -2,13 +2,13 @@
 
     python3 bench/wrong_bodies.py                those that changed since they were last tried, or whose crate did, or one below it
     python3 bench/wrong_bodies.py ns_held keyed  every one of these crates
-    python3 bench/wrong_bodies.py --anew         every one, from nothing: also what rt itself keeps of earlier runs is not used
+    python3 bench/wrong_bodies.py --anew         every one, also where rt itself keeps what an earlier run on this machine found
     python3 bench/wrong_bodies.py --standing     proves nothing, and takes a second: whether each one can be read and applied,
                                                  those of the gate in `crates/CRATE/must-fail` too
 
 It copies the crates to be tried and those below them, as the files that git tracks stand in the work tree, into a folder of its own.
 There `rt all check` proves them, and `rt must-fail` begins with what that kept. Both take what a check of the same text left in
-another folder on this machine, so after `rt all check` here nothing but the edits is proved. RT_JOBS is how many run side by side.
+another folder on this machine, so after `rt all check` here only the edits are tried. RT_JOBS says how many run side by side.
 
 `wrong-bodies/TRIED` has a line for each edit that was refused, with a sum of the edit, of its crate and of all crates below it. It is
 written after each round of some crates. A refusal that says little of a contract, by rt's own word, gives no line: such an edit has to be
@@ -169,9 +169,18 @@ def rounds(chosen):
 
 
 def told(lines):
-    """What rt says of each edit."""
-    found = [SAID.match(line) for line in lines]
-    return {f"{it[1]}/{it[2]}": it[3] for it in found if it}
+    """What rt says of each edit, with the lines that it shows of the compiler's below."""
+    found, last = {}, None
+    for line in lines:
+        it = SAID.match(line)
+        if it:
+            last = f"{it[1]}/{it[2]}"
+            found[last] = it[3]
+        elif line.startswith("rt: "):
+            last = None
+        elif last:
+            found[last] += f"\n    {line}"
+    return found
 
 
 def note(chosen, said, sums, tried):
@@ -286,7 +295,7 @@ def main():
     lacking = [name for name in names if not os.path.isdir(f"{BODIES}/{name}")]
     odd = [word for word in words if word not in ("--anew", *names)]
     if lacking or odd:
-        print(f"{(odd + lacking)[0]} is no flag of this script, and no crate that {BODIES} has wrong bodies of", file=sys.stderr)
+        print(f"{(odd + lacking)[0]}: neither a flag nor a crate with wrong bodies in {BODIES}", file=sys.stderr)
         return 2
     # (a copy is removed however the run is ended)
     signal.signal(signal.SIGTERM, lambda *_: sys.exit(143))
