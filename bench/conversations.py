@@ -1,4 +1,4 @@
-"""Writes the stored input and output of `crates/conversations` from the exchanges in `bench/conversations/*.txt`.
+"""Writes the conversations in the stored input and output of `crates/plays` from the exchanges in `bench/conversations/*.txt`.
 
 A conversation begins by `=== SECRET STEP NAME`: the bootstrap secret, by how much each draw is greater than the one
 before, and what the conversation shows. Then come its exchanges:
@@ -18,7 +18,10 @@ import glob
 import os
 import sys
 
-TOP = os.path.dirname(os.path.dirname(os.path.abspath(__file__)))
+sys.dont_write_bytecode = True
+
+from plays import TOP, Parts
+
 PHRASES = {
     "200": "OK",
     "400": "Bad Request",
@@ -99,12 +102,14 @@ def sent(name, pairs):
 
 
 def assembled(paths):
-    given, taken = [], []
+    parts = Parts()
     for name, pairs, is_cut in conversations(paths):
-        end, status = ("\n", "3\nread fault") if is_cut else ("", "0")
-        given.append(f"=== {name}\n" + sent(name, pairs) + end)
-        taken.append(f"=== {name}\n" + "".join(reply(*told) for _, told in pairs) + f"\nstatus {status}\n")
-    return {"stdin": "\n".join(given), "stdout": "".join(taken)}
+        given, replies = sent(name, pairs), "".join(reply(*told) for _, told in pairs)
+        if is_cut:
+            parts.add(f"serve {name}", given + "\n", replies, 3, "read fault\n")
+        else:
+            parts.add(f"serve {name}", given, replies, 0)
+    return parts
 
 
 def stored():
@@ -112,9 +117,7 @@ def stored():
 
 
 def main():
-    for name, text in assembled(stored()).items():
-        with open(os.path.join(TOP, "crates", "conversations", name), "w", encoding="utf-8", newline="") as file:
-            file.write(text)
+    assembled(stored()).put(("serve",))
     return 0
 
 

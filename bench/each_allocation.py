@@ -1,12 +1,13 @@
-"""Runs a program on its stored input once for each allocation that it makes, and refuses that one.
+"""Runs the stored scripts of `crates/plays` once for each allocation that they make, and refuses that one.
 
-    python3 bench/each_allocation.py scripts             crates/scripts on crates/scripts/stdin
-    python3 bench/each_allocation.py scripts 500         the first 500 allocations of each part
+    python3 bench/each_allocation.py             all allocations of each script
+    python3 bench/each_allocation.py 500         the first 500 of each
 
-The program is the one that `rt run` built (crates/NAME/out/NAME). The input is cut at its lines that begin with `=== `, and each
-part is run alone: first with ample memory, then with the first allocation refused, the second, and so on. A run has to write
-what it writes with ample memory, or end for want of memory itself, with a status that is not 0 and the beginning of what it
-writes with ample memory. Whatever else it does is printed, and the exit status is 1. It needs a C compiler, `cc`.
+The program is the one that `rt run` built (crates/plays/out/plays). Each script is run alone: first with ample memory, then with the
+first allocation refused, the second, and so on. A run has to write what it writes with ample memory, or end for want of memory
+itself, with a status that is not 0 and the beginning of what it writes with ample memory. Whatever else it does is printed, and the
+exit status is 1. The other parts are left out, since they show what the server says where memory is wanting. It needs a C compiler,
+`cc`.
 """
 
 import os
@@ -14,6 +15,10 @@ import pathlib
 import subprocess
 import sys
 import tempfile
+
+sys.dont_write_bytecode = True
+
+from plays import MARK, path_of, stored
 
 # Stands between the program and the allocator, and refuses the call of that number.
 REFUSING = """
@@ -56,23 +61,9 @@ __attribute__((destructor)) static void end(void) {
 }
 """
 
-MARK = b"=== "
-
-
-def parts(text):
-    """The input cut before each line that begins with the mark."""
-    cuts = [0] if text.startswith(MARK) else []
-    at = text.find(b"\n" + MARK)
-    while at >= 0:
-        cuts.append(at + 1)
-        at = text.find(b"\n" + MARK, at + 1)
-    return [text[begin:end] for begin, end in zip(cuts, cuts[1:] + [len(text)])]
-
-
 class Program:
-    def __init__(self, name, folder):
-        root = pathlib.Path(__file__).resolve().parent.parent
-        self.path = root / "crates" / name / "out" / name
+    def __init__(self, folder):
+        self.path = path_of("out/plays")
         self.folder = pathlib.Path(folder)
         self.library = self.folder / "refusing.so"
         source = self.folder / "refusing.c"
@@ -89,9 +80,9 @@ class Program:
         return int((self.folder / "calls").read_text())
 
 
-def try_part(program, text, most):
+def try_part(program, part, most):
     """How many runs answered as with ample memory, gave up for memory, and did neither."""
-    name = text.split(b"\n", 1)[0].decode()
+    name, text = part.split("\n", 1)[0], (MARK + part).removeprefix("\n").encode()
     status, ample = program.run(text)
     assert status == 0, f"{name} ends with status {status} with ample memory"
     many = min(program.calls(), most)
@@ -110,12 +101,10 @@ def try_part(program, text, most):
 
 
 def main():
-    name = sys.argv[1]
-    most = int(sys.argv[2]) if len(sys.argv) > 2 else sys.maxsize
-    text = pathlib.Path(__file__).resolve().parent.parent.joinpath("crates", name, "stdin").read_bytes()
+    most = int(sys.argv[1]) if len(sys.argv) > 1 else sys.maxsize
     with tempfile.TemporaryDirectory() as folder:
-        program = Program(name, folder)
-        wrong = sum(try_part(program, part, most) for part in parts(text))
+        program = Program(folder)
+        wrong = sum(try_part(program, part, most) for part in stored("stdin", ("script",)))
     sys.exit(1 if wrong else 0)
 
 

@@ -1,9 +1,9 @@
-"""Writes the stored input and output of `crates/replays`, and `examples/two-lists.log`.
+"""Writes the logs in the stored input and output of `crates/plays`, and `examples/two-lists.log`.
 
 A part begins by one of these lines:
 
     === log NAME                 requests over one connection, and the log that is printed of them; no worker is driven
-    === driven NAME              the same where a worker is driven after each request
+    === log driven NAME          the same where a worker is driven after each request
     === alone NS FROM NAME       a log, and what `nsd alone NS --from FROM` prints of it
     === rounds NS FROM TIMES NAME    requests, then `--- again` and requests that are made TIMES times, a worker driven;
                                  of their log, what `nsd alone` prints last and how many lines there are
@@ -19,7 +19,8 @@ import sys
 
 sys.dont_write_bytecode = True
 
-from conversations import TOP, conversations
+from conversations import conversations
+from plays import TOP, Parts
 
 HEAD = "nsd-log 1 root"
 UUID = "0a0a0a0a-0a0a-4a0a-8a0a-0a0a0a0a0a0"
@@ -147,14 +148,7 @@ def step_changed(log, place, **members):
 # ---- what is stored
 
 
-class Parts:
-    def __init__(self):
-        self.given, self.printed = [], []
-
-    def add(self, head, given, printed, status, errors=""):
-        self.given.append(f"=== {head}\n{given}")
-        self.printed.append(f"=== {head}\n{printed}\nstatus {status}\n{errors}")
-
+class Logs(Parts):
     def alone(self, name, log, printed, status, ns="ta", first=8):
         text = log if isinstance(log, str) else log_of(log)
         self.add(f"alone {ns} {first} {name}", text, printed, status)
@@ -392,7 +386,7 @@ def connections(parts):
         entry(ask("ta", "QuotaUsage", {"Name": "qa"}), *told[15]),
     ]
     with open(os.path.join(TOP, "examples", "neighbours.http"), encoding="utf-8", newline="") as file:
-        parts.add("driven a_tenant_beside_a_neighbour", file.read(), log_of(log), 0)
+        parts.add("log driven a_tenant_beside_a_neighbour", file.read(), log_of(log), 0)
     parts.same("a_tenant_beside_a_neighbour_alone", log, [*range(14, 20), *range(25, 29)])
     parts.same("the_neighbour_alone", log, [*range(8, 14), *range(20, 25)], ns="tb")
     document = compact({"Job": {"ID": "web", "TaskGroups": [{"Name": "g", "Tasks": [{"Name": "t"}]}]}})
@@ -545,23 +539,17 @@ def pasted(parts):
     parts.fault("the_log_to_paste_from_its_beginning", TWO_LISTS, [], "premise fails at 0", first=0)
 
 
-def write(path, text):
-    with open(os.path.join(TOP, path), "w", encoding="utf-8", newline="") as file:
-        file.write(text)
-
-
 def stored_parts():
-    parts = Parts()
+    parts = Logs()
     for add in (lists, answers, steps, bad_lines, administrators, sharing, connections, tutorial, rounds, pasted):
         add(parts)
     return parts
 
 
 def main():
-    parts = stored_parts()
-    write("crates/replays/stdin", "\n".join(parts.given))
-    write("crates/replays/stdout", "".join(parts.printed))
-    write("examples/two-lists.log", log_of(TWO_LISTS))
+    stored_parts().put(("log", "alone", "rounds"))
+    with open(os.path.join(TOP, "examples", "two-lists.log"), "w", encoding="utf-8", newline="") as file:
+        file.write(log_of(TWO_LISTS))
     return 0
 
 

@@ -26,6 +26,7 @@ import tempfile
 
 sys.dont_write_bytecode = True
 
+import plays
 from conversations import TOP, conversations, reply, request, stored
 from logs import stored_parts
 from tutorial import Shell, blocks, needs_program
@@ -84,7 +85,7 @@ class Stored:
 
         for part in stored_parts().given:
             head, given = part.split("\n", 1)
-            self.inputs.add((words_of(head.split(" ")[1:]), given))
+            self.inputs.add((words_of(head.split(" ")), given))
             self.texts |= set(given.split("\n"))
 
     def add(self, asked, told):
@@ -94,16 +95,17 @@ class Stored:
         self.answers.add((method, target, status, "" if status == "200" else said))
         self.texts |= {DRAWN.sub("*", text) for text in [body, said, *said.split("\n"), rules_in(body)]}
 
-    def add_scripts(self, text):
-        for method, target, status in re.findall(r"^([A-Z]+) (\S+).*\n(\d{3}) ", text, re.M):
-            self.answers.add((method, target, status, ""))
+    def add_scripts(self):
+        for part in plays.stored("stdout", ("script",)):
+            for method, target, status in re.findall(r"^([A-Z]+) (\S+).*\n(\d{3}) ", part, re.M):
+                self.answers.add((method, target, status, ""))
 
 
 def words_of(head):
     """The words with which the program would do what a stored log is for."""
     if head[0] == "alone":
         return f"alone {head[1]} --from {head[2]}"
-    return "pipe --bootstrap root" + (" --drive" if head[0] == "driven" else "") + " --print log"
+    return "pipe --bootstrap root" + (" --drive" if head[1] == "driven" else "") + " --print log"
 
 
 def rules_in(body):
@@ -240,7 +242,7 @@ def refusal_faults(text, known):
 
 def faults():
     known = Stored()
-    known.add_scripts(read("crates/scripts/stdout"))
+    known.add_scripts()
     functions = [block for block in indented(read("docs/API.md")) if block.startswith("ask()")]
     for page in PAGES:
         text = read(page)

@@ -1,7 +1,6 @@
-//! What a server lends for one request: its core, and the draws that are known beforehand.
+//! The core that a server lends for one request.
 
 use ns_api::Takes;
-use ns_asked::Draws;
 use ns_chains::Server;
 use ns_core::Core;
 use ns_types::refusal::Refusal;
@@ -29,23 +28,5 @@ impl Takes for Lent<'_> {
         let answer = self.core.take(&step);
         drop(step);
         answer
-    }
-}
-
-/// Draws sixteen times the same byte, one more each time.
-#[derive(Drop)]
-pub struct LentDraws<'a> {
-    pub next: &'a mut u8,
-}
-
-impl Draws for LentDraws<'_> {
-    ghost use Rattle.std.specs.Prelude.{◌≡◌, replicate};
-
-    ghost draws = { λ old bytes new. bytes ≡ replicate 16 old.next.now };
-
-    fn draw(&mut self) -> [u8; 16] {
-        let bytes = [*self.next; 16];
-        *self.next = self.next.wrapping_add(1);
-        bytes
     }
 }

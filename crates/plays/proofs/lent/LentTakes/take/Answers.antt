@@ -1,6 +1,6 @@
 use Rattle.std.proofs.Common.{ap, inl}
 use Rattle.ns_api.proofs.Taken.{core_rests, core_takes}
-use Rattle.scripts.proofs.lent.LentTakes.take.Goals as goal
+use Rattle.plays.proofs.lent.LentTakes.take.Goals as goal
 
 pub returns-clause-made : goal.returns-clause-made
 returns-clause-made c =

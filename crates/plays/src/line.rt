@@ -1,5 +1,6 @@
 //! What a line of a script says.
 
+use crate::words::{first_word, number};
 use ns_types::name::{Name, NameKind};
 
 #[derive(Clone, Copy)]
@@ -34,18 +35,6 @@ pub enum Call<'a> {
     Served,
     Planned,
     Phase(u64),
-}
-
-/// The first word, and what stands behind the space after it.
-fn first_word(text: &str) -> (&str, &str) {
-    match text.split_once(' ') {
-        Some(words) => words,
-        None => (text, ""),
-    }
-}
-
-fn number(text: &str) -> Option<u64> {
-    text.parse().ok()
 }
 
 fn namespace(text: &str) -> Option<&str> {

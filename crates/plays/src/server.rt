@@ -1,10 +1,12 @@
 //! The server of a script.
 
 use crate::answers::{write_key, write_phase, write_refusal, write_response, write_snapped};
-use crate::lent::{Lent, LentDraws};
+use crate::lent::Lent;
 use crate::line::{Call, Line, Work};
+use crate::same_bytes::SameBytes;
 use crate::steps::Step;
 use crate::taken::Snapshots;
+use crate::words::ROOT;
 use anyhow::Context;
 use ns_api::{Api, NoFollower};
 use ns_core::Core;
@@ -18,11 +20,8 @@ use ns_types::text::Text;
 use std::alloc::{AllocError, Global};
 use std::io::Write;
 
-/// The secret of the first token.
-const ROOT: &str = "root";
-
 #[derive(Drop)]
-pub struct Server<'a> {
+struct Server<'a> {
     alloc: Global,
     core: Core,
     /// That of the requests that follow.
@@ -48,7 +47,7 @@ fn is_unanswered(answer: &Result<Response, AllocError>) -> bool {
 }
 
 impl<'a> Server<'a> {
-    pub fn new(alloc: Global) -> anyhow::Result<Server<'a>> {
+    fn new(alloc: Global) -> anyhow::Result<Server<'a>> {
         let root = Secret::read(alloc, ROOT)?.context("a bad secret")?;
         let core = Core::new(alloc, &root)?;
         Ok(Server {
@@ -64,8 +63,9 @@ impl<'a> Server<'a> {
         let lent = Lent {
             core: &mut self.core,
         };
-        let draws = LentDraws {
+        let draws = SameBytes {
             next: &mut self.next,
+            step: 1,
         };
         let mut api = Api::new(self.alloc, lent, draws, NoFollower)?;
         let response = api.answer(request);
@@ -169,7 +169,7 @@ impl<'a> Server<'a> {
     }
 
     /// Writes each line, and below it what it is answered.
-    pub fn play<W: Write>(&mut self, lines: &'a str, out: &mut W) -> anyhow::Result<()> {
+    fn play<W: Write>(&mut self, lines: &'a str, out: &mut W) -> anyhow::Result<()> {
         for text in lines.split('\n') {
             writeln!(out, "{text}")?;
             let line = Line::read(text).context("a line that says nothing")?;
@@ -177,4 +177,12 @@ impl<'a> Server<'a> {
         }
         Ok(())
     }
+}
+
+/// Plays the lines of a script with a new server.
+pub fn script<W: Write>(alloc: Global, lines: &str, out: &mut W) -> anyhow::Result<()> {
+    let mut server = Server::new(alloc)?;
+    let played = server.play(lines, out);
+    drop(server);
+    played
 }

@@ -1,0 +1,99 @@
+//! One connection with a new server, of which the replies or the log are shown.
+
+use crate::ended::Ended;
+use crate::same_bytes::SameBytes;
+use crate::words::{BAD_HEAD, ROOT, first_word};
+use anyhow::Context;
+use ns_api::Driven;
+use ns_http::Counted;
+use ns_pipe::{pipe, pipe_log};
+use ns_types::name::Secret;
+use std::alloc::Global;
+
+/// A name that begins with `driven` is that of a part whose server drives a worker after each request.
+fn driven_of(name: &str) -> Driven {
+    if name.starts_with("driven ") {
+        Driven::Worker
+    } else {
+        Driven::Nobody
+    }
+}
+
+/// The text with the spaces that the name begins with: `spaces`, how many, and the rest of the name.
+fn spaced(alloc: Global, text: &str, name: &str) -> anyhow::Result<String> {
+    let mut input = String::from_str(alloc, text)?;
+    if let Some(rest) = name.strip_prefix("spaces ") {
+        let (count, _) = first_word(rest);
+        let count: u64 = count.parse().ok().context(BAD_HEAD)?;
+        for _ in 0..count {
+            input.push_str(" ")?;
+        }
+    }
+    Ok(input)
+}
+
+/// Serves the requests, for the replies. The words are the bootstrap secret, the step of the draws, and a name, before which stands
+/// `driven` where a worker is driven, or `spaces` with a number where so many spaces follow the requests.
+pub fn serve(alloc: Global, words: &str, requests: &str) -> anyhow::Result<Ended> {
+    let (secret, words) = first_word(words);
+    let (step, name) = first_word(words);
+    let bootstrap = Secret::read(alloc, secret)?.context(BAD_HEAD)?;
+    let step = step.parse().ok().context(BAD_HEAD)?;
+    let requests = spaced(alloc, requests, name)?;
+    let mut next = 1;
+    let mut errors = Counted::new(Vec::new(alloc));
+    let mut reader = Counted::new(requests.as_bytes());
+    let mut writer = Counted::new(Vec::new(alloc));
+    let draws = SameBytes {
+        next: &mut next,
+        step,
+    };
+    let status = pipe(
+        alloc,
+        &bootstrap,
+        draws,
+        driven_of(name),
+        &mut reader,
+        &mut writer,
+        &mut errors,
+    );
+    Ok(Ended {
+        status,
+        written: writer.into_inner(),
+        errors: errors.into_inner(),
+    })
+}
+
+/// Serves the requests, for their log. Each draw is the same.
+pub fn log_of(alloc: Global, requests: &str, driven: Driven) -> anyhow::Result<Ended> {
+    let bootstrap = Secret::read(alloc, ROOT)?.context("no secret")?;
+    let mut next = 1;
+    let mut errors = Counted::new(Vec::new(alloc));
+    let mut reader = Counted::new(requests.as_bytes());
+    let mut replies = Counted::new(Vec::new(alloc));
+    let mut writer = Counted::new(Vec::new(alloc));
+    let draws = SameBytes {
+        next: &mut next,
+        step: 0,
+    };
+    let status = pipe_log(
+        alloc,
+        &bootstrap,
+        draws,
+        driven,
+        &mut reader,
+        &mut replies,
+        &mut writer,
+        &mut errors,
+    );
+    Ok(Ended {
+        status,
+        written: writer.into_inner(),
+        errors: errors.into_inner(),
+    })
+}
+
+/// The same by a head, whose words are a name, before which stands `driven` where a worker is driven.
+pub fn log(alloc: Global, name: &str, requests: &str) -> anyhow::Result<Ended> {
+    log_of(alloc, requests, driven_of(name))
+}

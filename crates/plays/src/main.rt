@@ -1,0 +1,61 @@
+//! Plays stored parts, each with a server of its own, whose draws are fixed: connections of which the replies or the log are shown,
+//! logs of which a namespace's own part is replayed alone, and scripts, in which workers make their steps between requests.
+#![tactic(auto)]
+
+mod answers;
+mod connection;
+mod ended;
+mod lent;
+mod line;
+mod repeated;
+mod replayed;
+mod same_bytes;
+mod server;
+mod steps;
+mod taken;
+mod words;
+
+use crate::connection::{log, serve};
+use crate::repeated::rounds;
+use crate::replayed::alone;
+use crate::server::script;
+use crate::words::{BAD_HEAD, first_word};
+use anyhow::Context;
+use std::alloc::Global;
+use std::io::{Read, Write};
+
+/// Begins each part, on a line of its own.
+const MARK: &str = "\n=== ";
+
+/// Plays one part: its first line begins with a word that says its kind.
+fn play<W: Write>(alloc: Global, part: &str, out: &mut W) -> anyhow::Result<()> {
+    let (head, text) = part.split_once('\n').context(BAD_HEAD)?;
+    writeln!(out, "=== {head}")?;
+    let (kind, rest) = first_word(head);
+    match kind {
+        "serve" => serve(alloc, rest, text)?.print(out),
+        "log" => log(alloc, rest, text)?.print(out),
+        "alone" => alone(alloc, rest, text.as_bytes())?.print(out),
+        "rounds" => rounds(alloc, rest, text)?.print(out),
+        "script" => script(alloc, text, out),
+        _ => anyhow::bail!("a part of no known kind"),
+    }
+}
+
+/// Plays the parts of the text, one after the other.
+fn play_all<W: Write>(alloc: Global, text: &str, out: &mut W) -> anyhow::Result<()> {
+    for part in text.split(MARK) {
+        play(alloc, part, out)?;
+    }
+    Ok(())
+}
+
+/// Line feeds at the end of the input belong to no part.
+fn main(rt: HostRuntime) -> anyhow::Result<()> {
+    let alloc = rt.alloc();
+    let mut text = String::from_str(alloc, "\n")?;
+    rt.stdin().read_to_string(&mut text)?;
+    let text = text.as_str().trim_end_matches('\n');
+    let parts = text.strip_prefix(MARK).context("no part")?;
+    play_all(alloc, parts, &mut rt.stdout())
+}

@@ -1,0 +1,19 @@
+//! The words of a line.
+
+/// What the head of a part is called where it lacks a word, or has another one.
+pub const BAD_HEAD: &str = "a bad first line";
+
+/// The bootstrap secret of a server whose part names none.
+pub const ROOT: &str = "root";
+
+/// The first word, and what stands behind the space after it.
+pub fn first_word(text: &str) -> (&str, &str) {
+    match text.split_once(' ') {
+        Some(words) => words,
+        None => (text, ""),
+    }
+}
+
+pub fn number(text: &str) -> Option<u64> {
+    text.parse().ok()
+}
