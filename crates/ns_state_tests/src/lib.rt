@@ -1,4 +1,4 @@
-//! Tests of the crates that hold the state, through their public calls.
+//! Tests of the crates that hold the state and that keep, write and read its log, through their public calls.
 #![tactic(auto)]
 
 #[cfg(test)]
@@ -10,6 +10,8 @@ mod full_pool;
 #[cfg(test)]
 mod jobs;
 #[cfg(test)]
+mod keeping;
+#[cfg(test)]
 mod limits;
 #[cfg(test)]
 mod made;
@@ -20,11 +22,17 @@ mod owned;
 #[cfg(test)]
 mod plans;
 #[cfg(test)]
+mod reading;
+#[cfg(test)]
 mod runs;
 #[cfg(test)]
 mod server;
 #[cfg(test)]
+mod settling;
+#[cfg(test)]
 mod sharing;
+#[cfg(test)]
+mod steps;
 #[cfg(test)]
 mod turns;
 #[cfg(test)]

@@ -1,6 +1,12 @@
-//! Tests of the crates that read requests and write replies, through their public calls.
+//! Tests of the crates that read requests and write replies, of the arguments and of a run by them, through their public calls: what
+//! stored lines cannot show, as readers and writers that fail, and texts on standard error. Expected bytes are written from the
+//! formats, not from the program.
 #![tactic(auto)]
 
+#[cfg(test)]
+mod asked;
+#[cfg(test)]
+mod faults;
 #[cfg(test)]
 mod http;
 #[cfg(test)]
@@ -16,4 +22,10 @@ mod replies;
 #[cfg(test)]
 mod reports;
 #[cfg(test)]
+mod same_bits;
+#[cfg(test)]
 mod secrets;
+#[cfg(test)]
+mod serving;
+#[cfg(test)]
+mod texts;
