@@ -20,8 +20,6 @@ mod repeated;
 #[cfg(test)]
 mod replies;
 #[cfg(test)]
-mod reports;
-#[cfg(test)]
 mod same_bits;
 #[cfg(test)]
 mod secrets;
