@@ -1,5 +1,6 @@
 // What no request shows: lists so deep that no stored text has them, and the texts of faults. Each call may be refused for want of
 // memory once, and then answers as with ample memory.
+use crate::repeated::repeated;
 use ns_policy::{RuleFault, read_rules};
 use ns_types::acl::Rule;
 use ns_types::rows::Rows;
@@ -17,22 +18,10 @@ fn fault_of(alloc: Global, text: &str) -> Option<RuleFault> {
     read(alloc, text).err()
 }
 
-/// The attribute whose value is so many lists, one in the other.
-fn lists(alloc: Global, depth: usize) -> Result<String, AllocError> {
-    let mut text = String::from_str(alloc, "x=")?;
-    for _ in 0..depth {
-        text.push_str("[")?;
-    }
-    for _ in 0..depth {
-        text.push_str("]")?;
-    }
-    Ok(text)
-}
-
-/// The fault of that attribute, where this follows.
+/// The fault of the attribute whose value is so many lists, one in the other, where this follows.
 fn fault_of_lists(alloc: Global, depth: usize, end: &str) -> Result<Option<RuleFault>, AllocError> {
-    let mut text = lists(alloc, depth)?;
-    text.push_str(end)?;
+    let opened = repeated(alloc, "x=", "[", depth, "")?;
+    let text = repeated(alloc, opened.as_str(), "]", depth, end)?;
     Ok(fault_of(alloc, text.as_str()))
 }
 
