@@ -1,5 +1,7 @@
 // A server keeps its log, whose text is written by hand.
-use crate::steps::{TEXT, job_is_registered, jobs_are_listed, pool_is_put, root, text};
+use crate::made::text;
+use crate::server::root;
+use crate::steps::{TEXT, job_is_registered, jobs_are_listed, pool_is_put};
 use ns_core::Core;
 use ns_held::Held;
 use ns_log::log_text;

@@ -1,6 +1,8 @@
 // Receipts of two callers, settled against the log of a server.
 use crate::keeping::kept;
-use crate::steps::{job_is_registered, pool_is_put, text};
+use crate::made::text;
+use crate::owned::push;
+use crate::steps::{job_is_registered, pool_is_put};
 use ns_held::Held;
 use ns_receipts::{Receipt, SettleFault, settle};
 use ns_types::reply::Rendered;
@@ -45,24 +47,10 @@ fn of_worker(rt: &impl Abort, alloc: Global) -> Receipt {
     }
 }
 
-fn push(rt: &impl Abort, seat: &mut Vec<Receipt>, receipt: Receipt) {
-    seat.push(receipt).expect(rt, "memory");
-}
-
-/// The receipts of a caller that put the pool and, if it says so, of the worker's step.
-fn first(rt: &impl Abort, alloc: Global, worked: bool) -> Vec<Receipt> {
+/// The receipts of a caller that asked this and, if it says so, took the worker's step.
+fn seat(rt: &impl Abort, alloc: Global, asked: Receipt, worked: bool) -> Vec<Receipt> {
     let mut seat = Vec::new(alloc);
-    push(rt, &mut seat, of_pool(rt, alloc));
-    if worked {
-        push(rt, &mut seat, of_worker(rt, alloc));
-    }
-    seat
-}
-
-/// The receipts of a caller that registered the job and, if it says so, of the worker's step.
-fn second(rt: &impl Abort, alloc: Global, body: &str, worked: bool) -> Vec<Receipt> {
-    let mut seat = Vec::new(alloc);
-    push(rt, &mut seat, of_job(rt, alloc, body));
+    push(rt, &mut seat, asked);
     if worked {
         push(rt, &mut seat, of_worker(rt, alloc));
     }
@@ -78,8 +66,8 @@ fn settled(
     second: Vec<Receipt>,
 ) -> Result<(), SettleFault> {
     let mut seats = Vec::new(alloc);
-    seats.push(first).expect(rt, "memory");
-    seats.push(second).expect(rt, "memory");
+    push(rt, &mut seats, first);
+    push(rt, &mut seats, second);
     settle(alloc, held.log(), seats.as_slice())
 }
 
@@ -88,8 +76,8 @@ fn receipts_settle_or_differ_at_the_first_fault(rt: HostRuntime) {
     let alloc = rt.alloc();
     let held = kept(&rt, alloc);
     let with = |worked: bool, body: &str, again: bool| {
-        let first = first(&rt, alloc, worked);
-        let second = second(&rt, alloc, body, again);
+        let first = seat(&rt, alloc, of_pool(&rt, alloc), worked);
+        let second = seat(&rt, alloc, of_job(&rt, alloc, body), again);
         settled(&rt, alloc, &held, first, second)
     };
     let at = |seat: u64, place: u64| Err(SettleFault::Mismatch { seat, place });
