@@ -1,5 +1,6 @@
 // What no request shows: replies to writes without the room of a write. Each is made again where memory ran out.
 ghost use Rattle.std.specs.Prelude.{◌≡◌, IfOk};
+ghost use Rattle.ns_replies.specs.Rendered.{IsRendered};
 
 use ns_replies::render;
 use ns_types::reply::{Content, Reply, Response};
@@ -17,13 +18,19 @@ fn boxed(alloc: Global, content: Content) -> Result<Box<Reply>, AllocError>
     Ok(Box::new(alloc, reply)?)
 }
 
+/// The response that shows the content.
+fn response(alloc: Global, content: Content) -> Result<Response, AllocError>
+    requires { IsRendered content }
+{
+    let reply = boxed(alloc, content)?;
+    render(alloc, &reply)
+}
+
 fn made(alloc: Global, registers: bool) -> Result<Response, AllocError> {
     if registers {
-        let reply = boxed(alloc, Content::Registered(1, 7, 1))?;
-        render(alloc, &reply)
+        response(alloc, Content::Registered(1, 7, 1))
     } else {
-        let reply = boxed(alloc, Content::Written)?;
-        render(alloc, &reply)
+        response(alloc, Content::Written)
     }
 }
 
