@@ -1,4 +1,4 @@
-"""Tries the wrong bodies `wrong-bodies/CRATE/*.edit`, as `rt must-fail` does: the prover has to refuse each.
+"""Tries the wrong bodies `wrong-bodies/CRATE/*.edit`, as the gate tries its own: the prover has to refuse each.
 
     python3 bench/wrong_bodies.py                those that changed since they were last tried, or whose crate did, or one below it
     python3 bench/wrong_bodies.py ns_held keyed  every one of these crates
@@ -7,8 +7,8 @@
                                                  those of the gate in `crates/CRATE/must-fail` too
 
 It copies the crates to be tried and those below them, as the files that git tracks stand in the work tree, into a folder of its own.
-There `rt all check` proves them, and `rt must-fail` begins with what that kept. Both take what a check of the same text left in
-another folder on this machine, so after `rt all check` here only the edits are tried. RT_JOBS says how many run side by side.
+There `rt ci` tries them as if they were the gate's. It takes what a run of the gate proved on this machine, so after `rt ci` here each
+crate is proved once more, for its edits, and no crate for those above it. RT_JOBS says how many run side by side.
 
 `wrong-bodies/TRIED` has a line for each edit that was refused, with a sum of the edit, of its crate and of all crates below it. It is
 written after each round of some crates. A refusal that says little of a contract, by rt's own word, gives no line: such an edit has to be
@@ -36,9 +36,7 @@ SAID = re.compile(r"rt: must-fail (\w+)/(\S+)\.edit: (.*)")
 REFUSED = "refused, as it must be"
 SAYS_LITTLE = f"{REFUSED} (only "
 # A round ends with the crate that brings it to this many edits: enough for the processors, few enough to lose by a run that is cut off.
-ROUND = 24
-# What a check may take of the memory.
-CHECK = 4_000_000_000
+ROUND = 48
 # How many of rt's last lines are shown where it fails.
 LAST = 40
 
@@ -146,16 +144,6 @@ def rt(words, room):
     return ran.returncode, said.splitlines()
 
 
-def at_once():
-    """How many checks may run side by side."""
-    given = os.environ.get("RT_JOBS", "")
-    if given.isdigit() and given != "0":
-        return int(given)
-    with open("/proc/meminfo", encoding="utf-8") as file:
-        free = 1024 * int(re.search(r"MemAvailable:\s+(\d+)", file.read())[1])
-    return max(1, min(len(os.sched_getaffinity(0)), free // CHECK))
-
-
 def rounds(chosen):
     """The edits in rounds of whole crates, lowest first."""
     gathered = []
@@ -187,7 +175,7 @@ def note(chosen, said, sums, tried):
     """Takes down which of these edits were refused, and returns why the others were not."""
     why = {}
     for edit in chosen:
-        word = said.get(edit, "NOT TRIED: rt says nothing of it")
+        word = said.get(edit, "NOT TRIED: its crate, or one below it, is not proved as it stands")
         if word.startswith(REFUSED) and not word.startswith(SAYS_LITTLE):
             tried[edit] = sums[edit]
         else:
@@ -203,13 +191,9 @@ def try_in(room, chosen, more, sums, tried):
     print(f"{len(chosen)} wrong bodies to try; their crates and those below are {len(crates)}", flush=True)
     os.makedirs(f"{room}/tmp")
     copy(crates, chosen, f"{room}/tree")
-    status, lines = rt(["all", "check", "--jobs", str(at_once())], room)
-    if status:
-        print("\n".join(lines[-LAST:]))
-        return note(chosen, dict.fromkeys(chosen, "NOT TRIED: its crate or one below it is not proved as it stands"), sums, tried)
     why = {}
     for part in rounds(chosen):
-        _, lines = rt(["must-fail", *more, *dict.fromkeys(map(crate_of, part))], room)
+        _, lines = rt(["ci", *more, *dict.fromkeys(map(crate_of, part))], room)
         said = told(lines)
         if not said:
             print("\n".join(lines[-LAST:]))

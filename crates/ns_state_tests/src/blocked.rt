@@ -26,8 +26,25 @@ enum Source<'a> {
     Pool(&'a str),
 }
 
-/// Who waits, and for what.
-type Waiter<'a> = (KeyText<'a>, Source<'a>);
+#[derive(Clone, Copy)]
+struct Waiter<'a> {
+    key: KeyText<'a>,
+    source: Source<'a>,
+    escapes: bool,
+    infeasible: &'a [Named<'a>],
+}
+
+impl<'a> Waiter<'a> {
+    /// One that found no class infeasible.
+    fn feasible(key: KeyText<'a>, source: Source<'a>) -> Waiter<'a> {
+        Waiter {
+            key,
+            source,
+            escapes: false,
+            infeasible: &[],
+        }
+    }
+}
 
 // ---- what goes into the list
 
@@ -54,16 +71,15 @@ fn classes(rt: &impl Abort, alloc: Global, names: &[Named]) -> Rows<Class> {
     rows
 }
 
-/// One that found no class infeasible.
-fn entry(rt: &impl Abort, alloc: Global, (waiting, source): Waiter) -> Entry {
+fn entry(rt: &impl Abort, alloc: Global, waiter: &Waiter) -> Entry {
     Entry {
-        key: key(rt, alloc, waiting),
-        waits: match source {
+        key: key(rt, alloc, waiter.key),
+        waits: match waiter.source {
             Source::Quota(name) => Waits::Quota(text(rt, alloc, name)),
             Source::Pool(name) => Waits::Pool(text(rt, alloc, name)),
         },
-        escapes: false,
-        infeasible: Rows::new(alloc),
+        escapes: waiter.escapes,
+        infeasible: classes(rt, alloc, waiter.infeasible),
     }
 }
 
@@ -74,7 +90,7 @@ fn has(list: &BlockedList, key: &EvalKey) -> bool
 }
 
 /// Puts one at the end.
-fn block(rt: &impl Abort, alloc: Global, list: &mut BlockedList, waiter: Waiter) {
+fn block(rt: &impl Abort, alloc: Global, list: &mut BlockedList, waiter: &Waiter) {
     let entries = [entry(rt, alloc, waiter)];
     list.reserve(&entries).expect(rt, "memory");
     let [entry] = entries;
@@ -90,13 +106,21 @@ fn are_new(list: &BlockedList, first: &Entry, second: &Entry) -> bool
 }
 
 /// Puts two at the end.
-fn append(rt: &impl Abort, alloc: Global, list: &mut BlockedList, first: Waiter, second: Waiter) {
+fn append(rt: &impl Abort, alloc: Global, list: &mut BlockedList, first: &Waiter, second: &Waiter) {
     let first = entry(rt, alloc, first);
     let second = entry(rt, alloc, second);
     assert!(rt; are_new(list, &first, &second));
     let entries = both(rt, alloc, first, second);
     list.reserve(entries.as_slice()).expect(rt, "memory");
     list.append(entries);
+}
+
+fn blocked(rt: &impl Abort, alloc: Global, waiters: &[Waiter]) -> BlockedList {
+    let mut list = BlockedList::new(alloc);
+    for waiter in waiters {
+        block(rt, alloc, &mut list, waiter);
+    }
+    list
 }
 
 // ---- what comes out of it
@@ -112,6 +136,14 @@ fn are_keys(keys: &[EvalKey], expected: &[KeyText]) -> bool {
         right &= is_key(key, *expected);
     }
     right
+}
+
+fn is_among(keys: &[KeyText], key: &EvalKey) -> bool {
+    let mut is_there = false;
+    for named in keys {
+        is_there |= is_key(key, *named);
+    }
+    is_there
 }
 
 /// Whether these are the keys in the slots, in this order. A vacant slot has none.
@@ -167,13 +199,157 @@ fn woken(
     woken.expect(rt, "memory")
 }
 
+/// The same, where it is all that a step releases.
+fn woken_by_step(
+    rt: &impl Abort,
+    alloc: Global,
+    list: &mut BlockedList,
+    source: Source,
+    names: &[Named],
+) -> Vec<EvalKey> {
+    let releases = match source {
+        Source::Quota(name) => Releases {
+            pools: Rows::new(alloc),
+            quotas: only(rt, alloc, text(rt, alloc, name)),
+        },
+        Source::Pool(name) => Releases {
+            pools: only(rt, alloc, released_pool(rt, alloc, name, names)),
+            quotas: Rows::new(alloc),
+        },
+    };
+    list.release(&releases).expect(rt, "memory")
+}
+
+/// Whether all that wait are in the list but these.
+fn keeps_others(
+    rt: &impl Abort,
+    alloc: Global,
+    list: &BlockedList,
+    waiters: &[Waiter],
+    woken: &[KeyText],
+) -> bool {
+    let mut right = true;
+    for waiter in waiters {
+        let key = key(rt, alloc, waiter.key);
+        right &= has(list, &key) != is_among(woken, &key);
+    }
+    right
+}
+
 // ---- tests
 
 const LINUX: Named = ("large", "linux");
 
+const BSD: Named = ("large", "bsd");
+
+const SMALL: Named = ("small", "linux");
+
+/// What is released, with the classes of the nodes that have room, and whom that wakes.
+type Case<'a> = (Source<'a>, &'a [Named<'a>], &'a [KeyText<'a>]);
+
+/// Whether the release of the case wakes these, by itself or as all that a step releases.
+fn wakes_these(
+    rt: &impl Abort,
+    alloc: Global,
+    list: &mut BlockedList,
+    (source, names, expected): Case,
+    is_step: bool,
+) -> bool {
+    let keys = if is_step {
+        woken_by_step(rt, alloc, list, source, names)
+    } else {
+        woken(rt, alloc, list, source, names)
+    };
+    are_keys(keys.as_slice(), expected)
+}
+
+/// Whether it wakes these of the waiters, and the others wait on.
+fn wakes(rt: &impl Abort, alloc: Global, waiters: &[Waiter], case: Case, is_step: bool) -> bool {
+    let mut list = blocked(rt, alloc, waiters);
+    wakes_these(rt, alloc, &mut list, case, is_step)
+        & keeps_others(rt, alloc, &list, waiters, case.2)
+}
+
 const DEFAULT: Source = Source::Pool("default");
 
 const GPU: Source = Source::Pool("gpu");
+
+static WAITERS: [Waiter; 7] = [
+    Waiter {
+        key: ("ta", 1),
+        source: DEFAULT,
+        escapes: false,
+        infeasible: &[],
+    },
+    Waiter {
+        key: ("tb", 1),
+        source: Source::Quota("default"),
+        escapes: false,
+        infeasible: &[],
+    },
+    Waiter {
+        key: ("ta", 2),
+        source: GPU,
+        escapes: false,
+        infeasible: &[],
+    },
+    Waiter {
+        key: ("tb", 2),
+        source: DEFAULT,
+        escapes: false,
+        infeasible: &[LINUX],
+    },
+    Waiter {
+        key: ("ta", 3),
+        source: DEFAULT,
+        escapes: true,
+        infeasible: &[LINUX],
+    },
+    Waiter {
+        key: ("tb", 3),
+        source: Source::Quota("q"),
+        escapes: false,
+        infeasible: &[LINUX],
+    },
+    Waiter {
+        key: ("ta", 4),
+        source: DEFAULT,
+        escapes: false,
+        infeasible: &[LINUX, BSD],
+    },
+];
+
+static CASES: [Case; 10] = [
+    (DEFAULT, &[LINUX], &[("ta", 1), ("ta", 3)]),
+    (DEFAULT, &[BSD], &[("ta", 1), ("tb", 2), ("ta", 3)]),
+    (
+        DEFAULT,
+        &[SMALL],
+        &[("ta", 1), ("tb", 2), ("ta", 3), ("ta", 4)],
+    ),
+    (DEFAULT, &[LINUX, BSD], &[("ta", 1), ("tb", 2), ("ta", 3)]),
+    (DEFAULT, &[], &[]),
+    (GPU, &[LINUX], &[("ta", 2)]),
+    (Source::Pool("q"), &[SMALL], &[]),
+    (Source::Quota("q"), &[], &[("tb", 3)]),
+    (Source::Quota("default"), &[], &[("tb", 1)]),
+    (Source::Quota("gpu"), &[], &[]),
+];
+
+/// Whether each case is answered so.
+fn all_wake(rt: &impl Abort, alloc: Global, is_step: bool) -> bool {
+    let mut right = true;
+    for case in &CASES {
+        right &= wakes(rt, alloc, &WAITERS, *case, is_step);
+    }
+    right
+}
+
+#[test]
+fn a_release_wakes_its_own_that_can_use_a_class(rt: HostRuntime) {
+    assert!(rt; all_wake(&rt, rt.alloc(), false));
+    assert!(rt; all_wake(&rt, rt.alloc(), true));
+}
 
 /// Two pools and two quotas, one of the pools twice.
 fn several(rt: &impl Abort, alloc: Global) -> Releases {
@@ -203,7 +379,7 @@ fn several_wake(
 }
 
 /// Of many places, each with no class that it found infeasible.
-static SCATTERED: [Waiter; 8] = [
+static SCATTERED: [(KeyText, Source); 8] = [
     (("tb", 9), DEFAULT),
     (("ta", 4), Source::Quota("qa")),
     (("tb", 2), GPU),
@@ -224,15 +400,14 @@ static SCATTERED_WOKEN: [KeyText; 6] = [
 ];
 
 fn block_scattered(rt: &impl Abort, alloc: Global, list: &mut BlockedList) {
-    for waiter in &SCATTERED {
-        block(rt, alloc, list, *waiter);
+    for (key, source) in &SCATTERED {
+        block(rt, alloc, list, &Waiter::feasible(*key, *source));
     }
 }
 
-/// Whether room on no class wakes nobody, the others wait on, and a second release wakes nobody.
+/// Whether the others wait on, and a second release wakes nobody.
 fn wakes_in_order(rt: &impl Abort, alloc: Global, list: &mut BlockedList) -> bool {
-    wakes_these(rt, alloc, list, (DEFAULT, &[], &[]))
-        & several_wake(rt, alloc, list, &SCATTERED_WOKEN)
+    several_wake(rt, alloc, list, &SCATTERED_WOKEN)
         & wait(rt, alloc, list, Source::Pool("arm"), &[("ta", 1)])
         & wait(rt, alloc, list, Source::Quota("qc"), &[("tb", 4)])
         & several_wake(rt, alloc, list, &[])
@@ -244,20 +419,6 @@ fn several_are_woken_in_the_order_of_the_list(rt: HostRuntime) {
     let mut list = BlockedList::new(alloc);
     block_scattered(&rt, alloc, &mut list);
     assert!(rt; wakes_in_order(&rt, alloc, &mut list));
-}
-
-/// What is released, with the classes of the nodes that have room, and whom that wakes.
-type Case<'a> = (Source<'a>, &'a [Named<'a>], &'a [KeyText<'a>]);
-
-/// Whether the release of the case wakes these.
-fn wakes_these(
-    rt: &impl Abort,
-    alloc: Global,
-    list: &mut BlockedList,
-    (source, names, expected): Case,
-) -> bool {
-    let keys = woken(rt, alloc, list, source, names);
-    are_keys(keys.as_slice(), expected)
 }
 
 fn untrack(rt: &impl Abort, alloc: Global, list: &mut BlockedList, expected: KeyText) -> bool {
@@ -275,8 +436,21 @@ fn block_each(
     keys: &[KeyText],
 ) {
     for key in keys {
-        block(rt, alloc, list, (*key, source));
+        block(rt, alloc, list, &Waiter::feasible(*key, source));
     }
+}
+
+/// Puts both at the end at once.
+fn append_both(
+    rt: &impl Abort,
+    alloc: Global,
+    list: &mut BlockedList,
+    source: Source,
+    first: KeyText,
+    second: KeyText,
+) {
+    let first = Waiter::feasible(first, source);
+    append(rt, alloc, list, &first, &Waiter::feasible(second, source));
 }
 
 static FIRST: [KeyText; 3] = [("tb", 2), ("ta", 2), ("tb", 1)];
@@ -290,10 +464,10 @@ fn forgets(rt: &impl Abort, alloc: Global, list: &mut BlockedList, source: Sourc
     block_each(rt, alloc, list, source, &FIRST);
     let mut right = untrack(rt, alloc, list, ("ta", 2));
     right &= untrack(rt, alloc, list, ("ta", 1));
-    append(rt, alloc, list, (("ta", 1), source), (("ta", 2), source));
+    append_both(rt, alloc, list, source, ("ta", 1), ("ta", 2));
     right &= wait(rt, alloc, list, source, &WAITING);
     right &= untrack(rt, alloc, list, ("tb", 1));
-    right & wakes_these(rt, alloc, list, (source, &[LINUX], &WOKEN))
+    right & wakes_these(rt, alloc, list, (source, &[LINUX], &WOKEN), false)
 }
 
 fn a_list_forgets(rt: &impl Abort, alloc: Global, source: Source) -> bool {
