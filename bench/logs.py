@@ -22,7 +22,6 @@ sys.dont_write_bytecode = True
 from conversations import conversations
 from plays import TOP, Parts
 
-HEAD = "nsd-log 1 root"
 UUID = "0a0a0a0a-0a0a-4a0a-8a0a-0a0a0a0a0a0"
 
 
@@ -30,8 +29,17 @@ def compact(value):
     return json.dumps(value, separators=(",", ":"), sort_keys=True)
 
 
+def head(start, secret="root"):
+    return f"nsd-log 3 {start} {secret}"
+
+
 def log_of(lines):
-    return "\n".join([HEAD, *lines]) + "\n"
+    return "\n".join([head(0), *lines]) + "\n"
+
+
+def with_heads(lines, place, *heads):
+    """The log with these lines in front of the entry at the place."""
+    return log_of([*lines[:place], *heads, *lines[place:]])
 
 
 # ---- entries
@@ -266,13 +274,14 @@ def without(members, name):
 
 def bad_lines(parts):
     """Lines that no server writes: cut, in other bytes, with members that are missing or of another kind."""
-    lines = [HEAD, *ROUNDS]
+    lines = [head(0), *ROUNDS]
     for place, line in enumerate(lines):
         parts.bad(f"cut_in_line_{place + 1}", "\n".join([*lines[:place], line[: len(line) // 2]]) + "\n", place + 1)
     parts.bad("no_line_feed_at_the_end", log_of(LISTS)[:-1], 12)
     parts.bad("an_empty_line", log_of(LISTS) + "\n", 13)
     parts.bad("no_line_at_all", "", 1)
-    parts.bad("another_version", log_of(LISTS).replace("nsd-log 1 ", "nsd-log 2 "), 1)
+    for version in ("1", "2", "2 0", "4 0"):
+        parts.bad(f"version_{version}".replace(" ", "_"), log_of(LISTS).replace("nsd-log 3 0 ", f"nsd-log {version} "), 1)
     told = json.loads(ROUNDS[9])
     step = told["Step"]
 
@@ -294,6 +303,37 @@ def bad_lines(parts):
     order = {member: told[member] for member in ("Index", "Body", "Status", "Step")}
     bad("members_in_another_order", json.dumps(order, separators=(",", ":")))
     bad("a_space_between", json.dumps(told, sort_keys=True))
+
+
+def segments(parts):
+    """Logs in segments: each begins with the number of entries so far and the same secret. Places run through."""
+    own = lines_of(LISTS, [8, 10]) + "same\n"
+    parts.alone("in_segments_of_6_and_5", with_heads(LISTS, 6, head(6)), own, 0)
+    parts.alone("a_segment_of_no_entries", with_heads(LISTS, 6, head(6), head(6)), own, 0)
+    parts.alone("a_segment_of_one_entry", log_of([*LISTS[:6], head(6), LISTS[6], head(7), *LISTS[7:]]), own, 0)
+    parts.alone("a_segment_that_begins_behind_the_base", with_heads(LISTS, 9, head(9)), own, 0)
+    parts.alone("no_entries_after_the_last_head", with_heads(LISTS, 11, head(11)), own, 0)
+    parts.alone("two_heads_before_all_entries", with_heads(LISTS, 0, head(0)), own, 0)
+    altered = with_heads(changed(LISTS, 10, Body="[1]"), 9, head(9))
+    parts.alone("an_altered_reply_of_the_second_segment", altered, lines_of(LISTS, [8]) + "differs at 10\n", 1)
+    parts.bad("a_segment_left_out", log_of([*LISTS[:4], head(6), *LISTS[6:]]), 6)
+    parts.bad("a_segment_twice", log_of([*LISTS[:6], head(0), *LISTS[:6], head(6), *LISTS[6:]]), 8)
+    parts.bad("a_first_head_that_starts_later", head(1) + "\n" + "\n".join(LISTS) + "\n", 1)
+    heads = [
+        ("an_earlier_start", head(5)),
+        ("a_later_start", head(7)),
+        ("a_start_with_a_nought_in_front", head("06")),
+        ("a_start_with_a_sign", head("+6")),
+        ("no_start", "nsd-log 3 root"),
+        ("another_secret", head(6, "toor")),
+        ("a_secret_and_more", head(6, "root2")),
+        ("a_head_of_the_first_version", "nsd-log 1 root"),
+        ("a_head_of_another_version", "nsd-log 4 6 root"),
+        ("a_head_that_is_cut", "nsd-log 3 6"),
+        ("a_space_behind_the_head", head(6) + " "),
+    ]
+    for name, line in heads:
+        parts.bad(f"a_segment_with_{name}", with_heads(LISTS, 6, line), 8)
 
 
 def administrators(parts):
@@ -541,7 +581,7 @@ def pasted(parts):
 
 def stored_parts():
     parts = Logs()
-    for add in (lists, answers, steps, bad_lines, administrators, sharing, connections, tutorial, rounds, pasted):
+    for add in (lists, answers, steps, bad_lines, segments, administrators, sharing, connections, tutorial, rounds, pasted):
         add(parts)
     return parts
 

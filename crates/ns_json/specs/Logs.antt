@@ -1,5 +1,6 @@
--- The text of a log: a first line with the bootstrap secret, then one line for each entry.
-use Rattle.std.specs.Prelude.{ℕ, List, [], ◌∷◌, ◌++◌, Option, Some, None, flat_map, codes}
+-- The text of a log: a first line with the bootstrap secret, then one line for each entry. Of a log that was given out in
+-- segments each has such a first line, which says how many entries come before it.
+use Rattle.std.specs.Prelude.{ℕ, List, [], ◌∷◌, ◌++◌, Option, Some, None, flat_map, codes, decimal}
 use Rattle.serde_json.specs.Data.{Data, null, boolean, string}
 use Rattle.serde_json.specs.Written.{compact_text}
 use Rattle.ns_types.specs.declared.job.Registration.{Registration}
@@ -170,6 +171,15 @@ entry_json e = object_of (
 abbrev pub line_of : Name → Name
 line_of text = text ++ 10 ∷ []
 
-unfoldable pub log_text : Name → List Entry → Name
-log_text secret log = line_of (codes "nsd-log 1 " ++ secret) ++
+-- the line in front of a segment
+abbrev pub head_text : ℕ → Name → Name
+head_text start secret = codes "nsd-log 3 " ++ decimal start ++ codes " " ++ secret
+
+-- a segment, before which come so many entries
+unfoldable pub segment_text : Name → ℕ → List Entry → Name
+segment_text secret start log = line_of (head_text start secret) ++
     flat_map (λ e. line_of (compact_text (entry_json e))) log
+
+-- a log that is one segment
+abbrev pub log_text : Name → List Entry → Name
+log_text secret log = segment_text secret 0 log

@@ -13,7 +13,7 @@ entry_text e = compact_text (entry_json e)
 abbrev pub BeginsWith : Name → Name → Type 0
 BeginsWith text line = (rest : Name) × (text ≡ line_of line ++ rest)
 
--- so many bytes has the line of the entry, if the text begins with it
-abbrev pub IsLineLen : Name → Entry → Option ℕ → Type 0
-IsLineLen text e (Some len) = (text ≡ line_of (entry_text e) ++ drop len text) × (0 < len) × (len ≤ length text)
-IsLineLen text e None = BeginsWith text (entry_text e) → ⊥
+-- so many bytes has this line, if the text begins with it
+abbrev pub IsLineLen : Name → Name → Option ℕ → Type 0
+IsLineLen text line (Some len) = (text ≡ line_of line ++ drop len text) × (0 < len) × (len ≤ length text)
+IsLineLen text line None = BeginsWith text line → ⊥

@@ -11,5 +11,5 @@ mod registration;
 mod step;
 
 pub use entry::{Entry, entry_line};
-pub use line::line_len;
-pub use log::log_text;
+pub use line::{head_len, line_len};
+pub use log::{head_line, log_text, segment_text};

@@ -79,7 +79,7 @@ digits_lack (d ∷ ds) h = (
   digits_lack ds h.1,
 )
 
-decimal_lacks : (n : ℕ) → n < 2 ^ 64 → Lacks (decimal n)
+pub decimal_lacks : (n : ℕ) → n < 2 ^ 64 → Lacks (decimal n)
 decimal_lacks n h = digits_lack (decimal n) (decimal_is_IsNumeral n h).0.1
 
 number_lacks : (x : Num) → is_spelled_number x ≡ true → Lacks (number_text x)

@@ -1,11 +1,12 @@
 -- The lines of entries, and the first line.
-use Rattle.std.proofs.Common.{◌≡◌, ℕ, zero, suc, ◌+◌, ◌<◌, ◌≤◌, List, [], ◌∷◌, ◌++◌, length, take, drop, get_or, Bool, true, false, nat_lt}
-use Rattle.std.proofs.Common.{Some, None, Ok, Err, refl, sym, ap, subst, ◌∙◌, arith, append_assoc, append-nil, codes}
+use Rattle.std.proofs.Common.{◌≡◌, ℕ, zero, suc, ◌+◌, ◌-◌, ◌^◌, ◌<◌, ◌≤◌, List, [], ◌∷◌, ◌++◌, length, take, drop, get_or, Bool, true, false, nat_lt}
+use Rattle.std.proofs.Common.{Some, None, Ok, Err, refl, sym, ap, subst, ◌∙◌, arith, append_assoc, append-nil, codes, decimal, length-append, length-drop}
 use Rattle.std.specs.Prelude.{IsUtf8}
-use Rattle.std.specs.List.{flat_map, position, position_or_len}
+use Rattle.std.specs.List.{position, position_or_len}
 use Rattle.std.proofs.lemmas.Bool.{eqb-true, eqb-false, ltb-false}
 use Rattle.std.proofs.lemmas.List.{take-append-drop, drop_more}
 use Rattle.std.proofs.lemmas.List.Quantifiers.{position-Some}
+use Rattle.std.proofs.lemmas.Fmt.{decimal_digit}
 use Rattle.std.proofs.lemmas.Option.{none-some, same_Some}
 use Rattle.serde_json.specs.Data.{Data}
 use Rattle.serde_json.specs.Read.{read}
@@ -13,15 +14,17 @@ use Rattle.ns_types.specs.declared.name.NameKind.TheVariants as NameKind
 use Rattle.ns_types.specs.State.Lists.{Each}
 use Rattle.ns_types.specs.State.Name.{is_name}
 use Rattle.ns_types.specs.State.Names.{Name}
-use Rattle.ns_json.specs.Logs.{entry_json, line_of, log_text}
+use Rattle.ns_json.specs.Logs.{entry_json, head_text, line_of}
 use Rattle.ns_json.specs.Replies.{Entry}
 use Rattle.ns_documents.proofs.Attributes.{same_Ok}
 use Rattle.ns_log.specs.Lines.{BeginsWith, IsLineLen, entry_text}
 use Rattle.ns_log_read.specs.declared.fault.LineFault.TheVariants.{Bad}
-use Rattle.ns_log_read.specs.Lines.{IsWithin, IsWritable, IsLogOf, HasBadHead, HasBadEntry, IsBadAfter, first_text}
-use Rattle.ns_log_read.specs.Reading.{Read, Gives, same, entry_in, is_feed, BeginsWithLine, ReadsBack, IsNoFirst, HasEntries, StopsAfter}
+use Rattle.ns_log_read.specs.Lines.{CanStand, HasBadEntry, HasBadHead, IsBadAfter, IsLogOf, IsWithin, LogLine}
+use Rattle.ns_log_read.specs.Lines.{entries_of, first_text, line_text, lines_text, next}
+use Rattle.ns_log_read.specs.Reading.{Read, Gives, same, entry_in, is_feed, BeginsWithLine, ReadsBack, IsNext, IsNoFirst, HasEntries}
+use Rattle.ns_log_read.specs.Reading.{HasSoFar, StopsAfter, opening_text}
 use Rattle.ns_log_read.proofs.Spelled.{read_spelled}
-use Rattle.ns_log_read.proofs.Feeds.{Lacks, lacks_both, lacks_by, text_lacks, secret_lacks, one_line}
+use Rattle.ns_log_read.proofs.Feeds.{Lacks, decimal_lacks, lacks_both, lacks_by, text_lacks, secret_lacks, one_line}
 use Rattle.ns_log_read.proofs.Steps.{entry_back}
 use Rattle.ns_log_read.proofs.Entries.{entry_spelled}
 
@@ -117,61 +120,176 @@ other_spelling text i x at back other = λ e w b.
     other (subst (λ y. BeginsWith text (entry_text y)) found b)
 
 pub is_line : (text : Name) (i len : ℕ) (x : Entry) → Some i ≡ position is_feed text → IsWithin x → IsUtf8 (take i text) →
-    IsLineLen text x (Some len) → BeginsWithLine text x len
+    IsLineLen text (entry_text x) (Some len) → BeginsWithLine text x len
 is_line text i len x at within utf8 h =
     let line = first_is text i (entry_text x) at (entry_lacks x within) (drop len text, h.0) in
     record { writable = record { within = within; text = subst IsUtf8 line utf8 }; is_text = h.0; some = h.1; within = h.2 }
 
--- ---- the first line
+-- ---- the line in front of a segment
+
+pub head_lacks : (start : ℕ) (secret : Name) → start < 2 ^ 64 → is_name NameKind.Secret secret ≡ true → Lacks (head_text start secret)
+head_lacks start secret low h =
+    let number = lacks_both (codes "nsd-log 3 ") (decimal start) (lacks_by (codes "nsd-log 3 ") refl) (decimal_lacks start low) in
+    let front = lacks_both (codes "nsd-log 3 " ++ decimal start) (codes " ") number (lacks_by (codes " ") refl) in
+    lacks_both (codes "nsd-log 3 " ++ decimal start ++ codes " ") secret front (secret_lacks secret h)
+
+-- it is no entry's
+differ : (xs ys : Name) → 123 ∷ xs ≡ 110 ∷ ys → ⊥
+differ xs ys is = let first : ◌≡◌ {A = ℕ} 123 110 = cc in omega (arith, first)
+
+pub no_entry_head : (e : Entry) (start : ℕ) (secret : Name) → entry_text e ≡ head_text start secret → ⊥
+unfolding entry_json
+no_entry_head e start secret is = differ _ _ is
+
+-- the first line spelled out
+pub opening_is : (secret : Name) → opening_text secret ≡ first_text secret
+opening_is secret = ap (λ (d : Name). codes "nsd-log 3 " ++ d ++ codes " " ++ secret) (sym (decimal_digit 0 (omega arith)))
 
 pub first_lacks : (secret : Name) → is_name NameKind.Secret secret ≡ true → Lacks (first_text secret)
-first_lacks secret h = lacks_both (codes "nsd-log 1 ") secret (lacks_by (codes "nsd-log 1 ") refl) (secret_lacks secret h)
+first_lacks secret h = head_lacks 0 secret (omega arith) h
 
 pub no_head : (text : Name) → None ≡ position is_feed text → HasBadHead text
 no_head text none = λ secret h b. no_line text (first_text secret) none b
 
 pub bad_head : (text : Name) (i : ℕ) → Some i ≡ position is_feed text → IsNoFirst (take i text) → HasBadHead text
-bad_head text i at bad = λ secret h b. bad secret h (first_is text i (first_text secret) at (first_lacks secret h) b)
+bad_head text i at bad = λ secret h b. bad secret h (first_is text i (first_text secret) at (first_lacks secret h) b ∙ sym (opening_is secret))
 
-pub good_head : (text secret : Name) (i : ℕ) → Some i ≡ position is_feed text → take i text ≡ first_text secret →
+pub good_head : (text secret : Name) (i : ℕ) → Some i ≡ position is_feed text → take i text ≡ opening_text secret →
     text ≡ line_of (first_text secret) ++ drop (i + 1) text
-good_head text secret i at is = first_split text i at ∙ ap (λ l. line_of l ++ drop (i + 1) text) is
+good_head text secret i at is = first_split text i at ∙ ap (λ l. line_of l ++ drop (i + 1) text) (is ∙ opening_is secret)
 
--- ---- lists of lines
+-- ---- lines
 
-abbrev pub line : Entry → Name
-line e = line_of (entry_text e)
+-- one of a log
+abbrev pub line : Name → ℕ → LogLine → Name
+line secret start l = line_of (line_text secret start l)
 
-abbrev pub lines : List Entry → Name
-lines es = flat_map line es
+-- how many entries come before what follows the lines
+abbrev pub behind : ℕ → List LogLine → ℕ
+behind start [] = start
+behind start (l ∷ ls) = behind (next start l) ls
 
-pub each_more : (es : List Entry) (e : Entry) → Each IsWritable es → IsWritable e → Each IsWritable (es ++ e ∷ [])
-each_more [] e h w = (w, tt)
-each_more (x ∷ es) e h w = (h.0, each_more es e h.1 w)
+pub behind_is : (start : ℕ) (ls : List LogLine) → behind start ls ≡ start + length (entries_of ls)
+behind_is start [] = omega arith
+behind_is start (LogLine.head ∷ ls) = behind_is start ls
+behind_is start (LogLine.entry e ∷ ls) = let more : behind (start + 1) ls ≡ (start + 1) + length (entries_of ls) = behind_is (start + 1) ls in omega arith
+
+pub count_is : (ls : List LogLine) → behind 0 ls ≡ length (entries_of ls)
+count_is ls = let is : behind 0 ls ≡ 0 + length (entries_of ls) = behind_is 0 ls in omega arith
+
+pub few_entries : (ls : List LogLine) → length (entries_of ls) ≤ length ls
+few_entries [] = omega arith
+few_entries (LogLine.head ∷ ls) = let more : length (entries_of ls) ≤ length ls = few_entries ls in omega arith
+few_entries (LogLine.entry e ∷ ls) = let more : length (entries_of ls) ≤ length ls = few_entries ls in omega arith
+
+-- the first one, and what comes after
+pub lines_first : (secret : Name) (start : ℕ) (l : LogLine) (ls : List LogLine) (rest : Name) →
+    lines_text secret start (l ∷ ls) ++ rest ≡ line secret start l ++ (lines_text secret (next start l) ls ++ rest)
+lines_first secret start l ls rest = append_assoc (line secret start l) (lines_text secret (next start l) ls) rest
+
+-- one more
+pub text_more : (secret : Name) (start : ℕ) (ls : List LogLine) (l : LogLine) (rest : Name) →
+    lines_text secret start (ls ++ l ∷ []) ++ rest ≡ lines_text secret start ls ++ (line secret (behind start ls) l ++ rest)
+text_more secret start [] l rest = lines_first secret start l [] rest
+text_more secret start (x ∷ ls) l rest =
+    lines_first secret start x (ls ++ l ∷ []) rest ∙ ap (λ t. line secret start x ++ t) (text_more secret (next start x) ls l rest)
+    ∙ sym (lines_first secret start x ls (line secret (behind (next start x) ls) l ++ rest))
+
+pub entries_more : (ls : List LogLine) (l : LogLine) → entries_of (ls ++ l ∷ []) ≡ entries_of ls ++ entries_of (l ∷ [])
+entries_more [] l = refl
+entries_more (LogLine.head ∷ ls) l = entries_more ls l
+entries_more (LogLine.entry e ∷ ls) l = ap (λ es. e ∷ es) (entries_more ls l)
+
+pub each_more : (ls : List LogLine) (l : LogLine) → Each CanStand ls → CanStand l → Each CanStand (ls ++ l ∷ [])
+each_more [] l h w = (w, tt)
+each_more (x ∷ ls) l h w = (h.0, each_more ls l h.1 w)
+
+-- ---- line after line
+
+pub begun : (text secret : Name) → HasSoFar text secret text [] 2
+begun text secret = record {
+  lines = [];
+  before = record { writable = tt; is_text = refl };
+  are_entries = refl;
+  is_number = refl;
+  few = omega arith;
+}
+
+pub so_far_more : (text secret rest : Name) (entries entries' : List Entry) (number len : ℕ) (l : LogLine) →
+    HasSoFar text secret rest entries number → IsNext rest secret (length entries) l len → entries' ≡ entries ++ entries_of (l ∷ []) →
+    HasSoFar text secret (drop len rest) entries' (number + 1)
+so_far_more text secret rest entries entries' number len l h n is =
+    let at : length entries ≡ behind 0 h.lines = ap length h.are_entries ∙ sym (count_is h.lines) in
+    let begins : rest ≡ line secret (behind 0 h.lines) l ++ drop len rest =
+    subst (λ k. rest ≡ line secret k l ++ drop len rest) at n.is_text in
+    let one : length (h.lines ++ l ∷ []) ≡ length h.lines + 1 = length-append h.lines (l ∷ []) in
+    let rest_len : length (drop len rest) ≡ length rest - len = length-drop len rest in
+    let number_is : number ≡ length h.lines + 2 = h.is_number in
+    let few : length h.lines + length rest ≤ length text = h.few in
+    let some : 0 < len = n.some in
+    let within : len ≤ length rest = n.within in
+    record {
+      lines = h.lines ++ l ∷ [];
+      before = record {
+        writable = each_more h.lines l h.before.writable n.writable;
+        is_text =
+            h.before.is_text ∙ ap (λ t. lines_text secret 0 h.lines ++ t) begins
+            ∙ sym (text_more secret 0 h.lines l (drop len rest));
+      };
+      are_entries = is ∙ ap (λ es. es ++ entries_of (l ∷ [])) h.are_entries ∙ sym (entries_more h.lines l);
+      is_number = omega arith;
+      few = omega arith;
+    }
+
+-- there are fewer entries than bytes
+pub so_far_few : (text secret rest : Name) (entries : List Entry) (number : ℕ) → HasSoFar text secret rest entries number →
+    length entries ≤ length text
+so_far_few text secret rest entries number h =
+    let at : length entries ≡ length (entries_of h.lines) = ap length h.are_entries in
+    let low : length (entries_of h.lines) ≤ length h.lines = few_entries h.lines in
+    let few : length h.lines + length rest ≤ length text = h.few in
+    omega arith
+
+pub so_far_number : (text secret rest : Name) (entries : List Entry) (number : ℕ) → HasSoFar text secret rest entries number →
+    number + length rest ≤ length text + 2
+so_far_number text secret rest entries number h =
+    let number_is : number ≡ length h.lines + 2 = h.is_number in
+    let few : length h.lines + length rest ≤ length text = h.few in
+    omega arith
+
+pub entry_next : (text secret : Name) (start len : ℕ) (e : Entry) → BeginsWithLine text e len → IsNext text secret start (LogLine.entry e) len
+entry_next text secret start len e b = record { writable = b.writable; is_text = b.is_text; some = b.some; within = b.within }
+
+pub head_next : (text secret : Name) (start len : ℕ) → IsLineLen text (head_text start secret) (Some len) →
+    IsNext text secret start LogLine.head len
+head_next text secret start len h = record { writable = tt; is_text = h.0; some = h.1; within = h.2 }
 
 -- ---- whole logs
 
 pub log_is : (text secret rest : Name) (es : List Entry) → is_name NameKind.Secret secret ≡ true → text ≡ line_of (first_text secret) ++ rest →
-    HasEntries rest [] es → IsLogOf text secret es
-unfolding log_text
+    HasEntries rest secret es → IsLogOf text secret es
 log_is text secret rest es named is h = record {
-  is_secret = named;
-  writable = h.writable;
-  is_text = is ∙ ap (λ r. line_of (first_text secret) ++ r) (h.is_text ∙ append-nil (lines es));
+  lines = h.lines;
+  has_lines = record {
+    is_secret = named;
+    writable = h.has_lines.writable;
+    few = subst (λ (xs : List Entry). length xs < 2 ^ 64) h.are_entries h.few;
+    is_text = is ∙ ap (λ r. line_of (first_text secret) ++ r) (h.has_lines.is_text ∙ append-nil (lines_text secret 0 h.lines));
+  };
+  are_entries = h.are_entries;
 }
 
 pub fault_is : (text secret rest : Name) (n : ℕ) → is_name NameKind.Secret secret ≡ true → text ≡ line_of (first_text secret) ++ rest →
-    StopsAfter rest n → IsBadAfter text n
-unfolding log_text
+    StopsAfter rest secret n → IsBadAfter text n
 fault_is text secret rest n named is h = record {
   secret = secret;
-  entries = h.entries;
-  before = log_text secret h.entries;
+  lines = h.lines;
+  before = line_of (first_text secret) ++ lines_text secret 0 h.lines;
   rest = h.rest;
-  is_log = record { is_secret = named; writable = h.before.writable; is_text = refl };
+  is_log = record { is_secret = named; writable = h.before.writable; few = h.few; is_text = refl };
   is_text =
       is ∙ ap (λ r. line_of (first_text secret) ++ r) h.before.is_text
-      ∙ sym (append_assoc (line_of (first_text secret)) (lines h.entries) h.rest);
+      ∙ sym (append_assoc (line_of (first_text secret)) (lines_text secret 0 h.lines) h.rest);
   is_number = h.is_number;
   is_more = h.is_more;
   is_bad = h.is_bad;

@@ -1,6 +1,6 @@
 -- Which texts are logs, and which line of another text is the first bad one.
-use Rattle.std.specs.Prelude.{◌≡◌, ◌≢◌, ◌⊎◌, ℕ, ◌+◌, ◌^◌, ◌&&◌, nat_lt, Bool, true, List, [], ◌++◌, length, Option, Ok}
-use Rattle.std.specs.Prelude.{codes, IsTrue, IsUtf8}
+use Rattle.std.specs.Prelude.{◌≡◌, ◌≢◌, ◌⊎◌, ℕ, ◌+◌, ◌<◌, ◌^◌, ◌&&◌, nat_lt, Bool, true, List, [], ◌∷◌, ◌++◌, length, Option, Ok}
+use Rattle.std.specs.Prelude.{IsTrue, IsUtf8}
 use Rattle.std.specs.Option.{option_map_or}
 use Rattle.ns_types.specs.declared.name.NameKind.TheVariants as NameKind
 use Rattle.ns_types.specs.declared.reply.Rendered.{Rendered}
@@ -13,7 +13,7 @@ use Rattle.ns_types.specs.State.Name.{is_name}
 use Rattle.ns_types.specs.State.Names.{Name}
 use Rattle.ns_types.specs.Within.{IsGoodStep}
 use Rattle.ns_policy.specs.Json.{rules_of}
-use Rattle.ns_json.specs.Logs.{log_text}
+use Rattle.ns_json.specs.Logs.{head_text, line_of}
 use Rattle.ns_json.specs.Replies.{Entry}
 use Rattle.ns_log.specs.Lines.{BeginsWith, entry_text}
 
@@ -21,7 +21,7 @@ use Rattle.ns_log.specs.Lines.{BeginsWith, entry_text}
 
 -- the first line of a log, without the line feed
 abbrev pub first_text : Name → Name
-first_text secret = codes "nsd-log 1 " ++ secret
+first_text secret = head_text 0 secret
 
 abbrev pub fits : ℕ → Bool
 fits n = nat_lt n (2 ^ 64)
@@ -80,11 +80,48 @@ pub record IsWritable (e : Entry) : Type 0 where
 
 -- ---- logs
 
--- the text is that of the secret and of the entries
-pub record IsLogOf (text secret : Name) (entries : List Entry) : Type 0 where
+-- a line after the first: the one in front of the next segment, or an entry's
+pub data LogLine : Type 0 where
+  head : LogLine
+  entry : Entry → LogLine
+
+abbrev pub CanStand : LogLine → Type 0
+CanStand LogLine.head = Unit {0}
+CanStand (LogLine.entry e) = IsWritable e
+
+abbrev pub entries_of : List LogLine → List Entry
+entries_of [] = []
+entries_of (LogLine.head ∷ lines) = entries_of lines
+entries_of (LogLine.entry e ∷ lines) = e ∷ entries_of lines
+
+-- of a line before which come so many entries: its text without the line feed
+abbrev pub line_text : Name → ℕ → LogLine → Name
+line_text secret start LogLine.head = head_text start secret
+line_text secret start (LogLine.entry e) = entry_text e
+
+-- and how many come before the next line
+abbrev pub next : ℕ → LogLine → ℕ
+next start LogLine.head = start
+next start (LogLine.entry e) = start + 1
+
+abbrev pub lines_text : Name → ℕ → List LogLine → Name
+lines_text secret start [] = []
+lines_text secret start (line ∷ lines) =
+    line_of (line_text secret start line) ++ lines_text secret (next start line) lines
+
+-- the text is that of the secret and of these lines: a line in front of a segment names the same secret, and says how many
+-- entries come before it
+pub record HasLines (text secret : Name) (lines : List LogLine) : Type 0 where
   pub is_secret : IsTrue (is_name NameKind.Secret secret)
-  pub writable : Each IsWritable entries
-  pub is_text : text ≡ log_text secret entries
+  pub writable : Each CanStand lines
+  pub few : length (entries_of lines) < 2 ^ 64
+  pub is_text : text ≡ line_of (first_text secret) ++ lines_text secret 0 lines
+
+-- the text is that of the secret and of the entries, in one segment or more
+pub record IsLogOf (text secret : Name) (entries : List Entry) : Type 0 where
+  pub lines : List LogLine
+  pub has_lines : HasLines text secret lines
+  pub are_entries : entries ≡ entries_of lines
 
 -- ---- the first bad line
 
@@ -96,17 +133,22 @@ HasBadHead text = (secret : Name) → IsTrue (is_name NameKind.Secret secret) �
 abbrev pub HasBadEntry : Name → Type 0
 HasBadEntry text = (e : Entry) → IsWritable e → BeginsWith text (entry_text e) → ⊥
 
--- The lines before the n-th are a log's text. Something comes after them, and its first line is no entry's.
+-- nor with the one in front of a segment
+pub record HasBadLine (secret : Name) (start : ℕ) (text : Name) : Type 0 where
+  pub no_entry : HasBadEntry text
+  pub no_head : BeginsWith text (head_text start secret) → ⊥
+
+-- The lines before the n-th are a log's text. Something comes after them, and its first line is no line of that log.
 pub record IsBadAfter (text : Name) (n : ℕ) : Type 0 where
   pub secret : Name
-  pub entries : List Entry
+  pub lines : List LogLine
   pub before : Name
   pub rest : Name
-  pub is_log : IsLogOf before secret entries
+  pub is_log : HasLines before secret lines
   pub is_text : text ≡ before ++ rest
-  pub is_number : n ≡ length entries + 2
+  pub is_number : n ≡ length lines + 2
   pub is_more : rest ≢ []
-  pub is_bad : HasBadEntry rest
+  pub is_bad : HasBadLine secret (length (entries_of lines)) rest
 
 -- lines are counted from 1
 abbrev pub IsFault : Name → ℕ → Type 0

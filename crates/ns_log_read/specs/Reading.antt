@@ -1,6 +1,6 @@
 -- For private clauses: the entry that the JSON of a line stands for, if it is one that a log writes.
 use Rattle.std.specs.Prelude.{ℕ, ◌^◌, ◌∷◌, [], nat_lt, List, Bool, true, false, Option, Some, None, is_some, option_and_then, Result, Ok, Err}
-use Rattle.std.specs.Prelude.{◌≡◌, ◌≢◌, ◌<◌, ◌≤◌, ◌==◌, ◌+◌, ◌++◌, drop, length, flat_map, codes, IsTrue, if◌then◌else◌}
+use Rattle.std.specs.Prelude.{◌≡◌, ◌≢◌, ◌<◌, ◌≤◌, ◌==◌, ◌+◌, ◌++◌, drop, length, codes, IsTrue, if◌then◌else◌}
 use Rattle.std.specs.Str.{bytes_eq}
 use Rattle.serde_json.specs.Data.{Data}
 use Rattle.serde_json.specs.Find.{get, as_str, as_bool, as_u64, as_number}
@@ -27,7 +27,7 @@ use Rattle.ns_documents.specs.Access.{policy_in, token_in}
 use Rattle.ns_documents.specs.Nodes.{node_in, one_of}
 use Rattle.ns_documents.specs.Records.{namespace_in, quota_in, pool_in}
 use Rattle.ns_log.specs.Lines.{entry_text}
-use Rattle.ns_log_read.specs.Lines.{IsWritable, HasBadEntry, first_text}
+use Rattle.ns_log_read.specs.Lines.{CanStand, HasBadLine, IsWritable, LogLine, entries_of, line_text, lines_text}
 use Rattle.ns_log_read.specs.declared.fault.LineFault.{LineFault}
 use Rattle.ns_log_read.specs.declared.fault.LineFault.TheVariants.{Bad, Memory}
 
@@ -361,19 +361,50 @@ pub record BeginsWithLine (text : Name) (e : Entry) (len : ℕ) : Type 0 where
   pub some : 0 < len
   pub within : len ≤ length text
 
+-- the first line spelled out
+abbrev pub opening_text : Name → Name
+opening_text secret = codes "nsd-log 3 0 " ++ secret
+
 abbrev pub IsNoFirst : Name → Type 0
-IsNoFirst line = (secret : Name) → IsTrue (is_name Kind.Secret secret) → line ≡ first_text secret → ⊥
+IsNoFirst line = (secret : Name) → IsTrue (is_name Kind.Secret secret) → line ≡ opening_text secret → ⊥
 
--- the text is that of these entries, and more
-pub record HasEntries (text rest : Name) (entries : List Entry) : Type 0 where
-  pub writable : Each IsWritable entries
-  pub is_text : text ≡ flat_map (λ e. line_of (entry_text e)) entries ++ rest
+-- the text is that of these lines, before which comes no entry, and more
+pub record HasLinesThen (text secret rest : Name) (lines : List LogLine) : Type 0 where
+  pub writable : Each CanStand lines
+  pub is_text : text ≡ lines_text secret 0 lines ++ rest
 
--- After entries something comes that begins with none. Its line is the n-th, where the first entry's is the second.
-pub record StopsAfter (text : Name) (n : ℕ) : Type 0 where
-  pub entries : List Entry
+-- the text is that of these entries, in one segment or more
+pub record HasEntries (text secret : Name) (entries : List Entry) : Type 0 where
+  pub lines : List LogLine
+  pub has_lines : HasLinesThen text secret [] lines
+  pub are_entries : entries ≡ entries_of lines
+  pub few : length entries < 2 ^ 64
+
+-- after lines something comes that begins with none
+pub record StopsAfter (text secret : Name) (n : ℕ) : Type 0 where
+  pub lines : List LogLine
   pub rest : Name
-  pub before : HasEntries text rest entries
-  pub is_number : n ≡ length entries + 2
+  pub before : HasLinesThen text secret rest lines
+  pub few : length (entries_of lines) < 2 ^ 64
+  pub is_number : n ≡ length lines + 2
   pub is_more : rest ≢ []
-  pub is_bad : HasBadEntry rest
+  pub is_bad : HasBadLine secret (length (entries_of lines)) rest
+
+abbrev pub line_from : Option Entry → LogLine
+line_from None = LogLine.head
+line_from (Some e) = LogLine.entry e
+
+-- the text begins with this line, before which come so many entries, and which has so many bytes
+pub record IsNext (text secret : Name) (start : ℕ) (line : LogLine) (len : ℕ) : Type 0 where
+  pub writable : CanStand line
+  pub is_text : text ≡ line_of (line_text secret start line) ++ drop len text
+  pub some : 0 < len
+  pub within : len ≤ length text
+
+-- so far: lines with these entries, the next one being of this number
+pub record HasSoFar (text secret rest : Name) (entries : List Entry) (number : ℕ) : Type 0 where
+  pub lines : List LogLine
+  pub before : HasLinesThen text secret rest lines
+  pub are_entries : entries ≡ entries_of lines
+  pub is_number : number ≡ length lines + 2
+  pub few : length lines + length rest ≤ length text

@@ -5,7 +5,7 @@ ghost use Rattle.ns_types.specs.declared.name.NameKind.TheVariants as NameKind;
 ghost use Rattle.ns_types.specs.State.Name.{is_name};
 ghost use Rattle.ns_json.specs.Logs.{line_of};
 ghost use Rattle.ns_log_read.specs.Lines.{HasBadHead, first_text};
-ghost use Rattle.ns_log_read.specs.Reading.{IsNoFirst};
+ghost use Rattle.ns_log_read.specs.Reading.{IsNoFirst, opening_text};
 
 use crate::fault::LineFault;
 use crate::line::line_end;
@@ -14,11 +14,11 @@ use std::alloc::Global;
 
 /// The secret that the first line names.
 fn secret_of(alloc: Global, line: &[u8]) -> Result<Secret, LineFault>
-    ensures text { IfOk result (λ s. line.now ≡ first_text s) }
+    ensures text { IfOk result (λ s. line.now ≡ opening_text s) }
     ensures is_secret { IfOk result (λ s. IsTrue (is_name NameKind.Secret s)) }
     ensures bad { result ≡ Err LineFault.Bad → IsNoFirst line.now }
 {
-    let Some(secret) = line.strip_prefix(b"nsd-log 1 ") else {
+    let Some(secret) = line.strip_prefix(b"nsd-log 3 0 ") else {
         return Err(LineFault::Bad);
     };
     let Ok(secret) = str::from_utf8(secret) else {

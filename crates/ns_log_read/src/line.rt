@@ -5,12 +5,15 @@ ghost use Rattle.std.specs.List.{position};
 ghost use Rattle.serde_json.specs.Data.{depth};
 ghost use Rattle.serde_json.specs.Read.{read, max_depth};
 ghost use Rattle.serde_json.specs.View.{view};
-ghost use Rattle.ns_log_read.specs.Lines.{IsWithin, HasBadEntry};
-ghost use Rattle.ns_log_read.specs.Reading.{BeginsWithLine, ReadsBack, is_feed};
+ghost use Rattle.ns_json.specs.Logs.{head_text};
+ghost use Rattle.ns_log.specs.Lines.{BeginsWith};
+ghost use Rattle.ns_log_read.specs.Lines.{HasBadEntry, HasBadLine, IsWithin, LogLine};
+ghost use Rattle.ns_log_read.specs.Reading.{BeginsWithLine, IsNext, ReadsBack, is_feed, line_from};
 
 use crate::entry::entry;
 use crate::fault::LineFault;
-use ns_log::{Entry, line_len};
+use ns_log::{Entry, head_len, line_len};
+use ns_types::name::Secret;
 use serde_json::Value;
 use std::alloc::Global;
 
@@ -52,13 +55,13 @@ fn candidate(alloc: Global, line: &[u8]) -> Result<Entry, LineFault>
 
 /// An entry, and how many bytes its line has.
 #[derive(Drop)]
-pub struct Line {
-    pub entry: Entry,
-    pub len: usize,
+struct Line {
+    entry: Entry,
+    len: usize,
 }
 
 /// The entry with whose line the text begins.
-pub fn next_entry(alloc: Global, text: &[u8]) -> Result<Line, LineFault>
+fn next_entry(alloc: Global, text: &[u8]) -> Result<Line, LineFault>
     ensures ok { IfOk result (λ l. BeginsWithLine text.now l.entry l.len) }
     ensures bad { result ≡ Err LineFault.Bad → HasBadEntry text.now }
 {
@@ -76,5 +79,41 @@ pub fn next_entry(alloc: Global, text: &[u8]) -> Result<Line, LineFault>
             drop(entry);
             Err(LineFault::Memory)
         }
+    }
+}
+
+/// A line: its entry, unless it stands in front of a segment, and how many bytes it has.
+#[derive(Drop)]
+pub struct Next {
+    pub entry: Option<Entry>,
+    pub len: usize,
+}
+
+/// The line in front of a segment before which come so many entries, if the text begins with it.
+fn next_head(alloc: Global, text: &[u8], secret: &Secret, start: u64) -> Result<Next, LineFault>
+    ensures none { IfOk result (λ l. l.entry ≡ None) }
+    ensures ok { IfOk result (λ l. IsNext text.now secret.now start LogLine.head l.len) }
+    ensures bad { result ≡ Err LineFault.Bad →
+        BeginsWith text.now (head_text start secret.now) → ⊥ }
+{
+    match head_len(alloc, text, secret, start)? {
+        Some(len) => Ok(Next { entry: None, len }),
+        None => Err(LineFault::Bad),
+    }
+}
+
+/// The line that the text begins with, where so many entries come before it.
+pub fn next_line(alloc: Global, text: &[u8], secret: &Secret, start: u64) -> Result<Next, LineFault>
+    ensures ok { IfOk result (λ l. IsNext text.now secret.now start (line_from l.entry) l.len) }
+    ensures bad { result ≡ Err LineFault.Bad → HasBadLine secret.now start text.now }
+{
+    match next_entry(alloc, text) {
+        Ok(line) => {
+            let Line { entry, len } = line;
+            let entry = Some(entry);
+            Ok(Next { entry, len })
+        }
+        Err(LineFault::Bad) => next_head(alloc, text, secret, start),
+        Err(LineFault::Memory) => Err(LineFault::Memory),
     }
 }

@@ -54,8 +54,8 @@ fn a_line_that_is_cut_is_bad(rt: HostRuntime) {
 
 /// A line that says the same in other bytes, or that no step within the limits has, and which one it is.
 const BAD: [(&str, &str, u64); 8] = [
-    ("nsd-log 1 root", "nsd-log 9 root", 1),
-    ("nsd-log 1 root", "nsd-log 1 r t", 1),
+    ("nsd-log 3 0 root", "nsd-log 9 0 root", 1),
+    ("nsd-log 3 0 root", "nsd-log 3 0 r t", 1),
     (
         "{\"Body\":\"{}\",\"Index\":null",
         "{\"Index\":null,\"Body\":\"{}\"",

@@ -1,6 +1,6 @@
 use Rattle.std.proofs.Common.{◌≡◌, ◌∙◌, take, sym, subst, None, Some, Ok, Err}
 use Rattle.std.proofs.lemmas.Result.{err_from_is_err_and, IfOk-at_ok}
-use Rattle.ns_log.specs.Lines.{IsLineLen}
+use Rattle.ns_log.specs.Lines.{IsLineLen, entry_text}
 use Rattle.ns_log_read.specs.declared.fault.LineFault.TheVariants.{Bad}
 use Rattle.ns_log_read.specs.Reading.{ReadsBack}
 use Rattle.ns_log_read.proofs.Lines.{no_entry, bad_candidate, other_spelling, is_line}
@@ -20,10 +20,10 @@ pub returns-in-Ok-Some-clause-ok : goal.returns-in-Ok-Some-clause-ok
 returns-in-Ok-Some-clause-ok c =
     let is : c.line_len.result ≡ Ok (Some c.in-Ok-Some.len) = cc in
     is_line c.args.text.now c.in-Some.end c.in-Ok-Some.len c.in_ok-entry.entry (cc) c.in_ok-entry.ensures.within c.in_ok-entry.ensures.text
-    (IfOk-at_ok (IsLineLen c.args.text.now c.in_ok-entry.entry) is c.line_len.ensures)
+    (IfOk-at_ok (IsLineLen c.args.text.now (entry_text c.in_ok-entry.entry)) is c.line_len.ensures)
 
 pub returns-in-Ok-None-clause-bad : goal.returns-in-Ok-None-clause-bad
 returns-in-Ok-None-clause-bad c = λ e.
     let is : c.line_len.result ≡ Ok None = cc in
     other_spelling c.args.text.now c.in-Some.end c.in_ok-entry.entry (sym c.in-Some.is ∙ c.line_end.ensures.value) c.in_ok-entry.ensures.back
-    (IfOk-at_ok (IsLineLen c.args.text.now c.in_ok-entry.entry) is c.line_len.ensures)
+    (IfOk-at_ok (IsLineLen c.args.text.now (entry_text c.in_ok-entry.entry)) is c.line_len.ensures)
