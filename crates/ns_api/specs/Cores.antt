@@ -17,7 +17,7 @@ use Rattle.ns_api.specs.Serving.{Served, ServedInPart}
 
 -- a new server with a log
 abbrev pub history_of : Name → ℕ → History
-history_of secret limit = record { base = opening secret; log = []; state = opening secret; limit = limit }
+history_of secret limit = record { base = opening secret; start = 0; log = []; state = opening secret; limit = limit }
 
 -- ---- without a log
 

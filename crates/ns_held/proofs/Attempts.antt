@@ -48,6 +48,7 @@ pub are_noted : (old new : History) (steps : List Step) (answers : List Answer) 
 are_noted old new [] [] c = record {
   entries = ap (λ (h : History). h.log) c ∙ sym (append-nil old.log);
   base = ap (λ (h : History). h.base) c;
+  start = ap (λ (h : History). h.start) c;
   limit = ap (λ (h : History). h.limit) c;
 }
 are_noted old new (step ∷ steps) (answer ∷ answers) c =
@@ -57,6 +58,7 @@ are_noted old new (step ∷ steps) (answer ∷ answers) c =
       entries = rest.entries ∙ ap (λ log. log ++ zip steps (map rendered answers)) first.entry
           ∙ append_assoc old.log ((step, rendered answer) ∷ []) (zip steps (map rendered answers));
       base = rest.base ∙ first.base;
+      start = rest.start ∙ first.start;
       limit = rest.limit ∙ first.limit;
     }
 are_noted old new [] (answer ∷ answers) c = absurd c

@@ -81,15 +81,15 @@ kept_by base limit log s step (Err Refusal.Foreign) s' k place m = within_same b
 
 -- ---- and says what it did
 
-abbrev pub history : State → List Entry → State → ℕ → History
-history base log s limit = record { base = base; log = log; state = s; limit = limit }
+abbrev pub history : State → ℕ → List Entry → State → ℕ → History
+history base start log s limit = record { base = base; start = start; log = log; state = s; limit = limit }
 
 abbrev pub after_call : History → List Entry → State → History
-after_call old log s = record { base = old.base; log = log; state = s; limit = old.limit }
+after_call old log s = record { base = old.base; start = old.start; log = log; state = s; limit = old.limit }
 
 pub logged : (old : History) (step : Step) (answer : Answer) (s' : State) → after step old.state ≡ said answer s' →
     IsLogged step old answer (after_call old (old.log ++ (step, rendered answer) ∷ []) s')
-logged old step answer s' made = record { made = made; noted = record { entry = refl; base = refl; limit = refl } }
+logged old step answer s' made = record { made = made; noted = record { entry = refl; base = refl; start = refl; limit = refl } }
 
 pub unchanged : (old : History) (s' : State) → s' ≡ old.state → after_call old old.log s' ≡ old
 unchanged old s' same = ap (after_call old old.log) same

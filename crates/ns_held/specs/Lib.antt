@@ -3,3 +3,4 @@ pub mod Logs
 pub mod Noting
 pub mod Planned
 pub mod Rendered
+pub mod Rotation

@@ -1,5 +1,5 @@
 -- A server with the log of what it did since a first state.
-use Rattle.std.specs.Prelude.{◌≡◌, ◌<◌, ◌≤◌, ℕ, List, [], ◌∷◌, ◌++◌, length, map, zip, None, Err}
+use Rattle.std.specs.Prelude.{◌≡◌, ◌<◌, ◌≤◌, ℕ, ◌+◌, ◌-◌, ◌^◌, List, [], ◌∷◌, ◌++◌, length, map, zip, None, Err}
 use Rattle.ns_types.specs.declared.refusal.Refusal.{Refusal}
 use Rattle.ns_types.specs.declared.step.Step.{Step}
 use Rattle.ns_types.specs.State.Rows.{State}
@@ -7,16 +7,27 @@ use Rattle.ns_types.specs.Steps.{Answer, after}
 use Rattle.ns_chains.specs.Chains.{IsMade}
 use Rattle.ns_json.specs.Replies.{Entry, IsKept, rendered}
 
--- where it began, what it did since, with each answer as bytes, and where it is; and how many entries it keeps
+-- Where the log began, and how many entries were given out before; what the server did since, with each answer as bytes,
+-- and where it is; and how many entries the log takes. Entry i of the log has the place start + i.
 pub record History : Type 0 where
   pub base : State
+  pub start : ℕ
   pub log : List Entry
   pub state : State
   pub limit : ℕ
 
--- the log's steps and rendered answers are a run from the base to the state, and are no more than the limit
+-- the place of the next entry
+abbrev pub next_place : History → ℕ
+next_place h = h.start + length h.log
+
+-- no entry has this place
+abbrev pub places_end : ℕ
+places_end = 2 ^ 64 - 1
+
+-- the log's steps and rendered answers are a run from the base to the state, and are no more than the limit; and there is a
+-- place for as many
 abbrev pub Stands : History → Type 0
-Stands h = IsKept h.base h.log h.state × (length h.log ≤ h.limit)
+Stands h = (IsKept h.base h.log h.state × (length h.log ≤ h.limit)) × (h.start + h.limit < 2 ^ 64)
 
 abbrev pub IsFull : History → Type 0
 IsFull h = length h.log ≡ h.limit
@@ -28,6 +39,7 @@ HasPlace h = length h.log < h.limit
 pub record IsNoted (old : History) (step : Step) (answer : Answer) (new : History) : Type 0 where
   pub entry : new.log ≡ old.log ++ (step, rendered answer) ∷ []
   pub base : new.base ≡ old.base
+  pub start : new.start ≡ old.start
   pub limit : new.limit ≡ old.limit
 
 -- the step was made with that answer, and noted
@@ -38,6 +50,7 @@ IsLogged step old answer new = IsMade (λ h. h.state) IsNoted old step answer ne
 pub record AreNoted (old : History) (steps : List Step) (answers : List Answer) (new : History) : Type 0 where
   pub entries : new.log ≡ old.log ++ zip steps (map rendered answers)
   pub base : new.base ≡ old.base
+  pub start : new.start ≡ old.start
   pub limit : new.limit ≡ old.limit
 
 -- What a call for a step does, by its answer. That the log is full comes before all else, and want of memory may come

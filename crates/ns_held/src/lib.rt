@@ -9,6 +9,7 @@ mod preparing;
 mod rendered;
 mod rendering;
 mod requests;
+mod rotation;
 mod work;
 
 pub use held::Held;

@@ -12,14 +12,17 @@ note-requires-clause-room c = enough_made (Step.Apply c.args.worker c.args.names
     ∙ ap (room_of (Step.Apply c.args.worker c.args.namespace.now)) c.worker_at-row.ensures) c.apply-answer.ensures
 
 pub invariant_of-self-2 : goal.invariant_of-self-2
-invariant_of-self-2 c = call_keeps c.self.inside.base.value c.self.inside.limit c.self.inside.log.items c.note.new.log.items c.self.inside.core
-    (Step.Apply c.args.worker c.args.namespace.now) c.in_ok-step.step c.apply-answer.result c.apply-answer.new.self
-    c.self.invariant.0 c.in_ok-step.ensures.begins c.apply-answer.ensures
-    (ap (λ m. m.0) c.in_ok-step.ensures.made)
-    (c.note.ensures ∙ ap (noted c.in_ok-step.step c.apply-answer.result) c.in_ok-step.ensures.same)
+invariant_of-self-2 c = (
+  call_keeps c.self.inside.base.value c.self.inside.limit c.self.inside.log.items c.note.new.log.items c.self.inside.core
+      (Step.Apply c.args.worker c.args.namespace.now) c.in_ok-step.step c.apply-answer.result c.apply-answer.new.self
+      c.self.invariant.0.0 c.in_ok-step.ensures.begins c.apply-answer.ensures
+      (ap (λ m. m.0) c.in_ok-step.ensures.made)
+      (c.note.ensures ∙ ap (noted c.in_ok-step.step c.apply-answer.result) c.in_ok-step.ensures.same),
+  c.self.invariant.1,
+)
 
 pub returns : goal.returns
-returns c = call_logs (history c.self.inside.base.value c.self.inside.log.items c.self.inside.core c.self.inside.limit) c.args.self.now
+returns c = call_logs (history c.self.inside.base.value c.self.inside.start c.self.inside.log.items c.self.inside.core c.self.inside.limit) c.args.self.now
     c.note.new.log.items (Step.Apply c.args.worker c.args.namespace.now) c.in_ok-step.step c.apply-answer.result c.apply-answer.new.self
     (sym c.self.view_is) c.in_ok-step.ensures.begins c.apply-answer.ensures
     (ap (λ m. m.0) c.in_ok-step.ensures.made)

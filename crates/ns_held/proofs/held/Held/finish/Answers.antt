@@ -12,10 +12,13 @@ note-requires-clause-room c = enough_finished c.args.worker c.args.namespace.now
     c.in_ok-step.room (ap (λ m. m.1) c.in_ok-step.ensures.made) c.finish-answer.ensures
 
 pub invariant_of-self-2 : goal.invariant_of-self-2
-invariant_of-self-2 c = kept_as c.self.inside.base.value c.self.inside.limit c.self.inside.log.items c.note.new.log.items
-    (Step.Finish c.args.worker c.args.namespace.now) c.in_ok-step.step
-    c.finish-answer.result c.finish-answer.new.self
-    (ap (λ m. m.0) c.in_ok-step.ensures.made)
-    (c.note.ensures ∙ ap (noted c.in_ok-step.step c.finish-answer.result) c.in_ok-step.ensures.same)
-    (finish_keeps c.args.worker c.args.namespace.now c.args.planned.now c.self.inside.base.value c.self.inside.limit c.self.inside.log.items
-    c.self.inside.core c.finish-answer.result c.finish-answer.new.self c.self.invariant.0 c.in_ok-step.ensures.begins c.finish-answer.ensures)
+invariant_of-self-2 c = (
+  kept_as c.self.inside.base.value c.self.inside.limit c.self.inside.log.items c.note.new.log.items
+      (Step.Finish c.args.worker c.args.namespace.now) c.in_ok-step.step
+      c.finish-answer.result c.finish-answer.new.self
+      (ap (λ m. m.0) c.in_ok-step.ensures.made)
+      (c.note.ensures ∙ ap (noted c.in_ok-step.step c.finish-answer.result) c.in_ok-step.ensures.same)
+      (finish_keeps c.args.worker c.args.namespace.now c.args.planned.now c.self.inside.base.value c.self.inside.limit c.self.inside.log.items
+      c.self.inside.core c.finish-answer.result c.finish-answer.new.self c.self.invariant.0.0 c.in_ok-step.ensures.begins c.finish-answer.ensures),
+  c.self.invariant.1,
+)

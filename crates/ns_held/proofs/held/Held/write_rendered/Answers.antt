@@ -14,13 +14,16 @@ note_given-given-requires-clause-room c = enough_made c.args.step c.self.inside.
     (subst (λ step. Makes step c.self.inside.core c.take-answer.result c.take-answer.new.self) c.in_ok-step.ensures.step c.take-answer.ensures)
 
 pub invariant_of-self-2 : goal.invariant_of-self-2
-invariant_of-self-2 c = call_keeps c.self.inside.base.value c.self.inside.limit c.self.inside.log.items c.note_given-given.new.log.items c.self.inside.core
-    c.args.step c.in_ok-step.step c.take-answer.result c.take-answer.new.self c.self.invariant.0 c.in_ok-step.ensures.begins
-    (subst (λ step. Makes step c.self.inside.core c.take-answer.result c.take-answer.new.self) c.in_ok-step.ensures.step c.take-answer.ensures)
-    c.in_ok-step.ensures.step (c.note_given-given.ensures.noted ∙ ap (noted c.in_ok-step.step c.take-answer.result) c.in_ok-step.ensures.same)
+invariant_of-self-2 c = (
+  call_keeps c.self.inside.base.value c.self.inside.limit c.self.inside.log.items c.note_given-given.new.log.items c.self.inside.core
+      c.args.step c.in_ok-step.step c.take-answer.result c.take-answer.new.self c.self.invariant.0.0 c.in_ok-step.ensures.begins
+      (subst (λ step. Makes step c.self.inside.core c.take-answer.result c.take-answer.new.self) c.in_ok-step.ensures.step c.take-answer.ensures)
+      c.in_ok-step.ensures.step (c.note_given-given.ensures.noted ∙ ap (noted c.in_ok-step.step c.take-answer.result) c.in_ok-step.ensures.same),
+  c.self.invariant.1,
+)
 
 pub returns : goal.returns
-returns c = call_gives (history c.self.inside.base.value c.self.inside.log.items c.self.inside.core c.self.inside.limit) c.args.self.now
+returns c = call_gives (history c.self.inside.base.value c.self.inside.start c.self.inside.log.items c.self.inside.core c.self.inside.limit) c.args.self.now
     c.note_given-given.new.log.items c.args.step c.in_ok-step.step c.take-answer.result c.take-answer.new.self c.note_given-given.result (sym c.self.view_is)
     c.in_ok-step.ensures.begins
     (subst (λ step. Makes step c.self.inside.core c.take-answer.result c.take-answer.new.self) c.in_ok-step.ensures.step c.take-answer.ensures)
