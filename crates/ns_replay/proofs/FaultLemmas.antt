@@ -18,22 +18,13 @@ use Rattle.ns_replay.specs.declared.fault.ReplayFault.{ReplayFault}
 use Rattle.ns_replay.specs.declared.fault.ReplayFault.TheVariants.{Premise, Differs, NotARun, Memory}
 use Rattle.ns_replay.specs.Abreast.{IsFaultAt}
 use Rattle.ns_replay.specs.Laws.{DiffersFromBoth, KeptNeverDiffers, OneFault, OneReplay, ReplayedHasNoFault}
-use Rattle.ns_replay.specs.Replay.{Breaks, Fits, FitsIn, IsFault, IsReached, IsReplayed, replies_of, steps_of}
+use Rattle.ns_rerun.specs.Replying.{Fits, FitsIn}
+use Rattle.ns_rerun.proofs.Determined.{fits_at, run_once}
+use Rattle.ns_replay.specs.Replay.{Breaks, IsFault, IsReached, IsReplayed, replies_of, steps_of}
 use Rattle.ns_replay.proofs.Abreast.{own_alike}
 use Rattle.ns_replay.proofs.Replayed.{abreast, first_unshared, run_of}
 
--- ---- runs are determined
-
-run_once : (s x y : State) (steps : List Step) (answers others : List Answer) → Run s steps answers x → Run s steps others y → (answers ≡ others) × (x ≡ y)
-run_once s x y [] [] [] run other = (refl, run ∙ sym other)
-run_once s x y (step ∷ steps) (answer ∷ answers) (said_too ∷ others) run other =
-    let one = one_outcome step s run.0 other.0 answer said_too run.1 other.1 in
-    let rest = run_once run.0 x y steps answers others run.2 (subst (λ m. Run m steps others y) (sym one.1) other.2) in
-    ((λ i. one.0 i ∷ rest.0 i), rest.1)
-run_once s x y [] (answer ∷ answers) others run other = absurd run
-run_once s x y [] [] (answer ∷ others) run other = absurd other
-run_once s x y (step ∷ steps) [] others run other = absurd run
-run_once s x y (step ∷ steps) (answer ∷ answers) [] run other = absurd other
+-- ---- what is replayed is determined
 
 module _ (ns : Name) (base : State) (log : List Entry) where
   same_states : (s t x y : State) → IsReplayed ns base log s t → IsReplayed ns base log x y → (s ≡ x) × (t ≡ y)
@@ -81,19 +72,6 @@ goes_on_at ns (e ∷ log) (suc place) entry s s1 (answer ∷ answers) i logged a
     let rest : map rendered answers ≡ replies_of log = cc in
     let later = goes_on_at ns log place entry i.0 s1 answers i.4 rest at in
     (later.0, answer ∷ later.1, (i.0, i.2, later.2), later.3)
-
-fits_at : (log : List Entry) (place : ℕ) (entry : Entry) (s s1 : State) (answers : List Answer) → Run s (steps_of log) answers s1 →
-    map rendered answers ≡ replies_of log → slice_get log place ≡ Some entry →
-    (mid : State) × (before : List Answer) × Run s (steps_of (take place log)) before mid × FitsIn entry mid
-fits_at [] place entry s s1 answers i logged at = absurd (not_Some entry at)
-fits_at (e ∷ log) place entry s s1 [] i logged at = absurd i
-fits_at (e ∷ log) zero entry s s1 (answer ∷ answers) i logged at =
-    let here : rendered answer ≡ e.1 = cc in
-    (s, [], refl, subst (λ e. FitsIn e s) (same_Some e entry at) (i.0, record { answer = answer; made = i.1; logged = here }))
-fits_at (e ∷ log) (suc place) entry s s1 (answer ∷ answers) i logged at =
-    let rest : map rendered answers ≡ replies_of log = cc in
-    let later = fits_at log place entry i.0 s1 answers i.2 rest at in
-    (later.0, answer ∷ later.1, (i.0, i.1, later.2), later.3)
 
 unbroken : (ns : Name) (entry : Entry) (s : State) → GoesOn ns entry s → Breaks ns entry.0 s → ⊥
 unbroken ns entry s g b = by b.broken

@@ -1,6 +1,5 @@
 pub mod Abreast
 pub mod Premising
-pub mod Told
 pub mod Entering
 pub mod Replayed
 pub mod FaultLemmas

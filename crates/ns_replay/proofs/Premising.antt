@@ -24,8 +24,9 @@ use Rattle.ns_alone.proofs.Records.{others_keep_shares}
 use Rattle.ns_alone.proofs.SameTables.{same_tables_back, same_tables_on}
 use Rattle.ns_answers.specs.Laws.{may_change}
 use Rattle.ns_json.specs.Replies.{Entry, rendered}
-use Rattle.ns_replay.specs.Abreast.{Holds, KeepsPremises, Replies, StandsBeside, may_break}
-use Rattle.ns_replay.specs.Replay.{Breaks, Fits, FitsIn}
+use Rattle.ns_replay.specs.Abreast.{Holds, KeepsPremises, StandsBeside, may_break}
+use Rattle.ns_rerun.specs.Replying.{Fits, FitsIn, Replies}
+use Rattle.ns_replay.specs.Replay.{Breaks}
 
 -- ---- who shares
 

@@ -18,7 +18,8 @@ use Rattle.ns_json.specs.Replies.{Entry, rendered}
 use Rattle.ns_replay.specs.declared.fault.ReplayFault.{ReplayFault}
 use Rattle.ns_replay.specs.declared.fault.ReplayFault.TheVariants.{Premise, Differs, NotARun, Memory}
 use Rattle.ns_replay.specs.Abreast.{Advances, IsAbreast, IsFaultAt, Strikes, with_reply}
-use Rattle.ns_replay.specs.Replay.{Fits, IsFault, IsReached, IsReplayed, RepliesAlone, own_entries, replies_of, steps_of}
+use Rattle.ns_rerun.specs.Replying.{Fits}
+use Rattle.ns_replay.specs.Replay.{IsFault, IsReached, IsReplayed, RepliesAlone, own_entries, replies_of, steps_of}
 use Rattle.ns_replay.proofs.Abreast.{abreast_first, abreast_run, own_alike}
 
 -- ---- isolated runs

@@ -17,7 +17,8 @@ use Rattle.ns_json.specs.Replies.{Entry, rendered}
 use Rattle.ns_runs.specs.Running.{is_no_step}
 use Rattle.ns_replay.specs.declared.fault.ReplayFault.{ReplayFault}
 use Rattle.ns_replay.specs.declared.fault.ReplayFault.TheVariants.{Premise, Differs, NotARun, Memory}
-use Rattle.ns_replay.specs.Replay.{Breaks, DiffersAt, Fits, FitsIn, IsNoStepAt}
+use Rattle.ns_rerun.specs.Replying.{Fits, FitsIn}
+use Rattle.ns_replay.specs.Replay.{Breaks, DiffersAt, IsNoStepAt}
 
 -- s has what isolation rests on, the namespace is unshared there, and t holds exactly what it has in s
 pub record StandsBeside (ns : Name) (s t : State) : Type 0 where
@@ -32,16 +33,6 @@ pub record IsAbreast (ns : Name) (base s t : State) : Type 0 where
   pub rights : (secret : Option Name) → rights_of s.acl secret ns ≡ rights_of base.acl secret ns
 
 -- ---- one step
-
--- the bytes of the answer of a step; or the call was out of turn
-abbrev pub Shows : Answer → Option Rendered → Type 0
-Shows answer (Some reply) = IfErr answer (λ refusal. is_no_step refusal ≡ false) × (rendered answer ≡ reply)
-Shows answer None = answer ≡ Err Refusal.NotEnabled
-
--- what it is answered in s, as bytes, and that it leads to s'; or it is not enabled
-abbrev pub Replies : Step → State → Option Rendered → State → Type 0
-Replies step s (Some reply) s' = Fits (step, reply) s s'
-Replies step s None s' = (after step s ≡ None) × (s' ≡ s)
 
 -- an administrator's step that was not refused, and does not only read
 unfoldable pub may_break : Step → Rendered → Bool

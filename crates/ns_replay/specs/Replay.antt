@@ -9,6 +9,8 @@ use Rattle.ns_types.specs.State.Names.{Name}
 use Rattle.ns_types.specs.State.Rows.{State}
 use Rattle.ns_types.specs.Steps.{Answer, Run, after, said}
 use Rattle.ns_json.specs.Replies.{Entry, rendered}
+use Rattle.ns_rerun.specs.Replying.{FitsIn}
+use Rattle.ns_rerun.specs.declared.rerunning.RerunFault.{RerunFault}
 use Rattle.ns_replay.specs.declared.fault.ReplayFault.{ReplayFault}
 use Rattle.ns_replay.specs.declared.fault.ReplayFault.TheVariants.{Premise, Differs, NotARun, Memory}
 
@@ -23,15 +25,6 @@ replies_of log = map (λ e. e.1) log
 -- those of the namespace's own steps, as the base has it
 abbrev pub own_entries : Name → State → List Entry → List Entry
 own_entries ns base log = filter (λ e. is_own ns base e.0) log
-
--- in s the step is enabled and answered as logged, and leads to s'
-pub record Fits (entry : Entry) (s s' : State) : Type 0 where
-  pub answer : Answer
-  pub made : after entry.0 s ≡ said answer s'
-  pub logged : rendered answer ≡ entry.1
-
-abbrev pub FitsIn : Entry → State → Type 0
-FitsIn entry s = (s' : State) × Fits entry s s'
 
 -- ---- a log that is replayed
 
@@ -79,6 +72,11 @@ pub record IsNoStepAt (ns : Name) (base : State) (entry : Entry) (s t : State) :
   pub unfit : FitsIn entry s → ⊥
 
 -- ---- faults of a log
+
+-- a log that is no run of the whole server
+abbrev pub replay_fault : RerunFault → ReplayFault
+replay_fault (RerunFault.NotARun place) = NotARun place
+replay_fault RerunFault.Memory = Memory
 
 -- the entry at the place, and the states to which the log before it leads: all is as it should be there
 pub record IsReached (ns : Name) (base : State) (log : List Entry) (place : ℕ) (entry : Entry) (s t : State) : Type 0 where

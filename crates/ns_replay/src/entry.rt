@@ -7,9 +7,9 @@ ghost use Rattle.ns_replay.specs.Abreast.{Advances, IsAbreast, IsDifference, IsF
 use crate::fault::ReplayFault;
 use crate::own::is_own;
 use crate::premises::step_whole;
-use crate::telling::{is_logged, tell};
 use ns_core::Core;
 use ns_log::Entry;
+use ns_rerun::{is_logged, reply_to};
 use ns_types::reply::Rendered;
 use ns_types::text::Text;
 use std::alloc::Global;
@@ -32,7 +32,7 @@ fn step_alone(
     if !is_own(base, entry.step(), namespace) {
         return Ok(None);
     }
-    let told = tell(alloc, alone, entry.step())?;
+    let told = reply_to(alloc, alone, entry.step())?;
     if !is_logged(&told, entry.rendered()) {
         return Err(ReplayFault::Differs(place));
     }

@@ -3,6 +3,7 @@
 ghost use Rattle.std.specs.Prelude.{◌≡◌};
 ghost use Rattle.ns_replay.specs.declared.fault.ReplayFault.TheVariants.{Memory};
 
+use ns_rerun::RerunFault;
 use std::alloc::AllocError;
 use thiserror::Error;
 
@@ -27,5 +28,18 @@ impl From<AllocError> for ReplayFault {
 
     fn from(_error: AllocError) -> ReplayFault {
         ReplayFault::Memory
+    }
+}
+
+impl From<RerunFault> for ReplayFault {
+    ghost use Rattle.ns_replay.specs.Replay.{replay_fault};
+
+    ghost from_gives = { λ fault result. result ≡ replay_fault fault };
+
+    fn from(fault: RerunFault) -> ReplayFault {
+        match fault {
+            RerunFault::NotARun(place) => ReplayFault::NotARun(place),
+            RerunFault::Memory => ReplayFault::Memory,
+        }
     }
 }

@@ -8,9 +8,7 @@ pub mod laws;
 mod own;
 mod premises;
 mod replay;
-mod telling;
 
 pub use fault::ReplayFault;
 pub use own::is_own;
 pub use replay::replay_alone;
-pub use telling::fit;

@@ -5,13 +5,14 @@ ghost use Rattle.std.specs.Prelude.{IfErr, IfOk, IfSome, IsFalse, IsSomeAnd, IsT
 ghost use Rattle.std.specs.Option.{option_map_or};
 ghost use Rattle.ns_types.specs.Access.Sharing.{is_confined};
 ghost use Rattle.ns_types.specs.Isolation.{namespace_at};
-ghost use Rattle.ns_replay.specs.Abreast.{Holds, IsBreach, KeepsPremises, Replies, StandsBeside};
+ghost use Rattle.ns_rerun.specs.Replying.{Replies};
+ghost use Rattle.ns_replay.specs.Abreast.{Holds, IsBreach, KeepsPremises, StandsBeside};
 ghost use Rattle.ns_replay.specs.Abreast.{may_break};
 
 use crate::fault::ReplayFault;
-use crate::telling::tell;
 use ns_answers::may_change;
 use ns_core::Core;
+use ns_rerun::reply_to;
 use ns_types::reply::Rendered;
 use ns_types::step::Step;
 use ns_types::text::Text;
@@ -73,7 +74,7 @@ pub fn step_whole(
         (λ told. KeepsPremises namespace.now step.now whole.old told whole.new) }
     ensures breach { IfErr result (IsBreach namespace.now step.now whole.old place) }
 {
-    let told = tell(alloc, whole, step)?;
+    let told = reply_to(alloc, whole, step)?;
     if is_broken(whole, alone, namespace, step, &told) {
         return Err(ReplayFault::Premise(place));
     }

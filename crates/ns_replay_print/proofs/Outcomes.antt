@@ -11,7 +11,8 @@ use Rattle.ns_log_read.specs.Lines.{IsLogOf}
 use Rattle.ns_replay.specs.declared.fault.ReplayFault.{ReplayFault}
 use Rattle.ns_replay.specs.Replay.{IsFault, RepliesAlone, own_entries, replies_of}
 use Rattle.ns_replay_print.specs.declared.ending.Ending.{Ending}
-use Rattle.ns_replay_print.specs.Outcome.{ComesTo, IsNoRunAt, ReplaysTo, base_len, ending_of, place_of}
+use Rattle.ns_rerun.specs.Rerunning.{IsNoRunAt}
+use Rattle.ns_replay_print.specs.Outcome.{ComesTo, ReplaysTo, base_len, ending_of, place_of}
 use Rattle.ns_replay_print.specs.Text.{own_lines}
 
 -- ---- entries that are replayed

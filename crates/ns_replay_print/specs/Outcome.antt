@@ -6,9 +6,10 @@ use Rattle.ns_types.specs.Steps.{opening}
 use Rattle.ns_json.specs.Replies.{Entry, IsKept}
 use Rattle.ns_log_read.specs.Lines as lines
 use Rattle.ns_log_read.specs.Lines.{IsLogOf}
+use Rattle.ns_rerun.specs.Rerunning.{IsNoRunAt}
 use Rattle.ns_replay.specs.declared.fault.ReplayFault.{ReplayFault}
 use Rattle.ns_replay.specs.declared.fault.ReplayFault.TheVariants as Fault
-use Rattle.ns_replay.specs.Replay.{FitsIn, IsFault, RepliesAlone, own_entries, replies_of}
+use Rattle.ns_replay.specs.Replay.{IsFault, RepliesAlone, own_entries, replies_of}
 use Rattle.ns_replay_print.specs.declared.ending.Ending.{Ending}
 use Rattle.ns_replay_print.specs.Text.{last_line, own_lines, status_of}
 
@@ -17,14 +18,6 @@ use Rattle.ns_replay_print.specs.Text.{last_line, own_lines, status_of}
 -- how many entries make the base: so many, or all if there are fewer
 abbrev pub base_len : ℕ → List Entry → ℕ
 base_len from entries = min from (length entries)
-
--- the entry at the place does not fit after those before it, which are a run from s
-pub record IsNoRunAt (s : State) (entries : List Entry) (place : ℕ) : Type 0 where
-  pub entry : Entry
-  pub state : State
-  pub is_entry : slice_get entries place ≡ Some entry
-  pub before : IsKept s (take place entries) state
-  pub unfit : FitsIn entry state → ⊥
 
 -- why entries make no base
 abbrev pub IsBaseFault : State → List Entry → ReplayFault → Type 0

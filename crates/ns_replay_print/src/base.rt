@@ -1,29 +1,16 @@
 //! The server from which a log is replayed.
 
-ghost use Rattle.std.specs.Prelude.{IfErr, IfOk, OnOk};
+ghost use Rattle.std.specs.Prelude.{IfErr, IfOk};
 ghost use Rattle.ns_types.specs.Steps.{opening};
 ghost use Rattle.ns_json.specs.Replies.{IsKept};
 ghost use Rattle.ns_replay_print.specs.Outcome.{IsBaseFault};
 
 use ns_core::Core;
 use ns_log::Entry;
-use ns_replay::{ReplayFault, fit};
+use ns_replay::ReplayFault;
+use ns_rerun::rerun;
 use ns_types::name::Secret;
 use std::alloc::Global;
-
-/// Makes the steps of the entries. Each must be answered as is logged: the first that is not is the
-/// fault.
-fn make_entries(alloc: Global, base: &mut Core, entries: &[Entry]) -> Result<(), ReplayFault>
-    ensures made { OnOk result (IsKept base.old entries.now base.new) }
-    ensures fault { IfErr result (IsBaseFault base.old entries.now) }
-{
-    for (place, entry) in entries.iter().enumerate() {
-        if !fit(alloc, base, entry)? {
-            return Err(ReplayFault::NotARun(place as u64));
-        }
-    }
-    Ok(())
-}
 
 /// A new server with that bootstrap secret, which has made the steps of the entries. Each must be
 /// answered as is logged: the first that is not is the fault.
@@ -32,11 +19,11 @@ pub fn base_of(alloc: Global, secret: &Secret, entries: &[Entry]) -> Result<Core
     ensures fault { IfErr result (IsBaseFault (opening secret.now) entries.now) }
 {
     let mut base = Core::new(alloc, secret)?;
-    match make_entries(alloc, &mut base, entries) {
+    match rerun(alloc, &mut base, entries) {
         Ok(()) => Ok(base),
         Err(fault) => {
             drop(base);
-            Err(fault)
+            Err(fault.into())
         }
     }
 }

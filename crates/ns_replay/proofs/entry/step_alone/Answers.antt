@@ -19,7 +19,7 @@ returns-then-not-is_logged-clause-differs c =
     let base = c.args.base.now in (
       refl,
       ap (λ (step : Step). is_own ns base step) (sym c.step.ensures) ∙ sym c.is_own.ensures ∙ c.if-not-is_own.false,
-      unfitting c.args.entry.now c.args.alone.now c.tell.new.core c.step-2.result.now c.rendered.result.now c.in_ok-told.told c.step-2.ensures
+      unfitting c.args.entry.now c.args.alone.now c.reply_to.new.core c.step-2.result.now c.rendered.result.now c.in_ok-told.told c.step-2.ensures
           c.rendered.ensures c.in_ok-told.ensures (logged_not c.is_logged.ensures c.if-not-is_logged.true),
     )
 
@@ -28,8 +28,8 @@ returns-clause-strikes c =
     let ns = c.args.namespace.now in
     let base = c.args.base.now in
     let so = c.is_logged.ensures.0 c.if-not-is_logged.false in
-    strikes_own (is_own ns base c.args.entry.now.0) c.args.entry.now c.args.alone.now c.tell.new.core c.in_ok-told.told
+    strikes_own (is_own ns base c.args.entry.now.0) c.args.entry.now c.args.alone.now c.reply_to.new.core c.in_ok-told.told
     (ap (λ (step : Step). is_own ns base step) (sym c.step.ensures) ∙ sym c.is_own.ensures ∙ c.if-not-is_own.false)
-    (fitting c.args.entry.now c.args.alone.now c.tell.new.core c.step-2.result.now c.rendered.result.now c.in_ok-told.told c.step-2.ensures
+    (fitting c.args.entry.now c.args.alone.now c.reply_to.new.core c.step-2.result.now c.rendered.result.now c.in_ok-told.told c.step-2.ensures
     c.rendered.ensures c.in_ok-told.ensures so)
     (so ∙ ap Some c.rendered.ensures)

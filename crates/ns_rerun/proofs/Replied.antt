@@ -9,7 +9,7 @@ use Rattle.ns_types.specs.Steps.{Answer, after, said}
 use Rattle.ns_types.proofs.Lists.{not_both}
 use Rattle.ns_runs.specs.Making.{MakesAny}
 use Rattle.ns_runs.specs.Running.{is_no_step}
-use Rattle.ns_replay.specs.Abreast.{Replies, Shows}
+use Rattle.ns_rerun.specs.Replying.{Replies, Shows}
 
 module _ (step : Step) (s s' : State) where
   made_so : (answer : Answer) → IfErr answer (λ refusal. is_no_step refusal ≡ false) → MakesAny step s answer s' → after step s ≡ said answer s'

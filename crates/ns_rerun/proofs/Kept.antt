@@ -7,10 +7,10 @@ use Rattle.ns_types.specs.State.Rows.{State}
 use Rattle.ns_types.specs.Steps.{Run}
 use Rattle.ns_json.specs.Replies.{Entry, IsKept, rendered}
 use Rattle.ns_chains.proofs.Runs.{run_then}
-use Rattle.ns_replay.specs.Replay.{Fits, FitsIn}
-use Rattle.ns_replay.specs.declared.fault.ReplayFault.{ReplayFault}
-use Rattle.ns_replay.specs.declared.fault.ReplayFault.TheVariants.{Memory}
-use Rattle.ns_replay_print.specs.Outcome.{IsBaseFault, IsNoRunAt}
+use Rattle.ns_rerun.specs.Replying.{Fits, FitsIn}
+use Rattle.ns_rerun.specs.declared.rerunning.RerunFault.{RerunFault}
+use Rattle.ns_rerun.specs.declared.rerunning.RerunFault.TheVariants.{Memory}
+use Rattle.ns_rerun.specs.Rerunning.{IsNoRunAt, IsRerunFault}
 
 kept_then : (s mid s' : State) (log : List Entry) (entry : Entry) → IsKept s log mid → Fits entry mid s' → IsKept s (log ++ entry ∷ []) s'
 kept_then s mid s' log entry k f = record {
@@ -36,8 +36,8 @@ module _ (s mid : State) (entries : List Entry) (i : ℕ) (entry : Entry) (withi
     unfit = unfit;
   }
 
--- want of memory is a fault of any base
-pub no_memory : {T : Type 0} (s : State) (entries : List Entry) (r : Result T ReplayFault) → IsErrAnd r (λ fault. fault ≡ Memory) →
-    IfErr r (IsBaseFault s entries)
+-- want of memory is a fault of any log
+pub no_memory : {T : Type 0} (s : State) (entries : List Entry) (r : Result T RerunFault) → IsErrAnd r (λ fault. fault ≡ Memory) →
+    IfErr r (IsRerunFault s entries)
 no_memory s entries (Ok x) is = tt
-no_memory s entries (Err fault) is = subst (IsBaseFault s entries) (sym is) tt
+no_memory s entries (Err fault) is = subst (IsRerunFault s entries) (sym is) tt

@@ -2,8 +2,7 @@
 
 ghost use Rattle.std.specs.Prelude.{◌≡◌, ◌↔◌, Err, IfOk, IsFalse, IsTrue, Some};
 ghost use Rattle.ns_runs.specs.Running.{is_no_step};
-ghost use Rattle.ns_replay.specs.Abreast.{Replies, Shows};
-ghost use Rattle.ns_replay.specs.Replay.{Fits, FitsIn};
+ghost use Rattle.ns_rerun.specs.Replying.{Fits, FitsIn, Replies, Shows};
 
 use ns_answers::{refused, render};
 use ns_core::Core;
@@ -45,31 +44,35 @@ fn shown(alloc: Global, answer: &Result<Reply, Refusal>) -> Result<Option<Render
 }
 
 /// Makes the step, and says what it is answered. None: it is out of turn, and not made.
-pub fn tell(alloc: Global, core: &mut Core, asked: &Step) -> Result<Option<Rendered>, AllocError>
-    ensures { IfOk result (λ told. Replies asked.now core.old told core.new) }
+pub fn reply_to(
+    alloc: Global,
+    core: &mut Core,
+    asked: &Step,
+) -> Result<Option<Rendered>, AllocError>
+    ensures { IfOk result (λ reply. Replies asked.now core.old reply core.new) }
 {
     let answer = step(alloc, core, asked);
-    let told = shown(alloc, &answer);
+    let reply = shown(alloc, &answer);
     drop(answer);
-    told
+    reply
 }
 
 /// Whether that is what is logged.
-pub fn is_logged(told: &Option<Rendered>, logged: &Rendered) -> bool
-    ensures { IsTrue result ↔ (told.now ≡ Some logged.now) }
+pub fn is_logged(reply: &Option<Rendered>, logged: &Rendered) -> bool
+    ensures { IsTrue result ↔ (reply.now ≡ Some logged.now) }
 {
-    match told {
-        Some(reply) => same_rendered(reply, logged),
+    match reply {
+        Some(rendered) => same_rendered(rendered, logged),
         None => false,
     }
 }
 
 /// Makes the step of the entry, and says whether it is answered as is logged. If not, or where it is out of turn, the entry does
 /// not fit.
-pub fn fit(alloc: Global, core: &mut Core, entry: &Entry) -> Result<bool, AllocError>
+pub(crate) fn fit(alloc: Global, core: &mut Core, entry: &Entry) -> Result<bool, AllocError>
     ensures fits { IfOk result (λ fits. IsTrue fits → Fits entry.now core.old core.new) }
     ensures unfit { IfOk result (λ fits. IsFalse fits → FitsIn entry.now core.old → ⊥) }
 {
-    let told = tell(alloc, core, entry.step())?;
-    Ok(is_logged(&told, entry.rendered()))
+    let reply = reply_to(alloc, core, entry.step())?;
+    Ok(is_logged(&reply, entry.rendered()))
 }

@@ -1,0 +1,3 @@
+pub mod Determined
+mod Kept
+mod Replied
