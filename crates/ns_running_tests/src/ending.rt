@@ -3,7 +3,7 @@
 ghost use Rattle.std.specs.Prelude.{◌≡◌};
 
 use crate::guest::{guest, look, register, seat_of};
-use crate::server::opened;
+use crate::server::{opened, settle};
 use ns_receipts::SettleFault;
 use ns_shared::{PARTS, Seat, Shared};
 use std::alloc::Global;
@@ -48,7 +48,7 @@ fn one_is_missing<L: Ledger, R: Wait + Abort>(
         .push(registered(rt, alloc, &shared, "a"))
         .expect(rt, "memory");
     drop(shown(rt, alloc, &shared));
-    shared.end().settle(alloc, seats).err()
+    settle(rt, alloc, shared, seats).err()
 }
 
 #[test]

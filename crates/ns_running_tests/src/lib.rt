@@ -17,6 +17,8 @@ mod port;
 #[cfg(test)]
 mod reading;
 #[cfg(test)]
+mod rotating;
+#[cfg(test)]
 mod scheduling;
 #[cfg(test)]
 mod server;

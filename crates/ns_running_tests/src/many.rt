@@ -2,7 +2,7 @@
 ghost use Rattle.std.specs.Prelude.{◌≡◌};
 
 use crate::guest::{guest, look, register, seat_of};
-use crate::server::opened;
+use crate::server::{opened, settle};
 use ns_shared::{PARTS, Seat, Shared};
 use std::alloc::Global;
 use std::marker::Brand;
@@ -77,7 +77,7 @@ fn settles<L: Ledger + Send + Sync, R: Threads + Wait + Clock + Abort + Sync>(
     let shared = opened::<L, R>(rt, alloc, 2 * CLIENTS as u64, blank);
     let start = Barrier::new(CLIENTS);
     let seats = visited(rt, alloc, &shared, &start);
-    shared.end().settle(alloc, seats).is_ok()
+    settle(rt, alloc, shared, seats).is_ok()
 }
 
 #[test]

@@ -4,9 +4,9 @@ ghost use Rattle.std.specs.Prelude.{◌≡◌};
 
 use crate::guest::{Guest, guest, look, register, seat, seat_of, set_up};
 use crate::meeting::{Inside, Meeting, await_that};
-use crate::server::opened;
+use crate::server::{opened, settle};
 use ns_shared::{PARTS, Seat, Shared};
-use ns_workers::{applier, worker};
+use ns_workers::{Nowhere, applier, worker};
 use std::alloc::Global;
 use std::marker::Brand;
 use std::process::Abort;
@@ -98,7 +98,7 @@ fn perform<L: Ledger, R: Wait + Clock + Abort>(
     }
     let mut seat = seat(rt, alloc, shared);
     if number == 2 {
-        applier(rt, alloc, shared, &mut seat);
+        applier(rt, alloc, shared, &mut Nowhere, &mut seat);
     } else {
         let inside = Inside { rt, meeting };
         worker(rt, alloc, shared, &inside, number as u64, &mut seat);
@@ -134,7 +134,7 @@ fn schedules<L: Ledger + Send + Sync, R: Threads + Wait + Clock + Abort + Sync>(
     let shared = opened::<L, R>(rt, alloc, 100, blank);
     let meeting = Meeting::new(2);
     let seats = performed(rt, alloc, &shared, &meeting);
-    meeting.is_full() && shared.end().settle(alloc, seats).is_ok()
+    meeting.is_full() && settle(rt, alloc, shared, seats).is_ok()
 }
 
 #[test]

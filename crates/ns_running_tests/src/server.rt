@@ -3,13 +3,14 @@ ghost use Rattle.std.specs.Prelude.{◌≡◌};
 
 use ns_core::Core;
 use ns_held::Held;
-use ns_shared::Shared;
+use ns_receipts::SettleFault;
+use ns_shared::{Seat, Settled, Shared};
 use ns_types::name::Secret;
 use std::alloc::Global;
 use std::process::Abort;
 use std::sync::ledger::{Blank, Ledger};
 
-fn core(rt: &impl Abort, alloc: Global) -> Core {
+pub(crate) fn core(rt: &impl Abort, alloc: Global) -> Core {
     let root = Secret::read(alloc, "root").expect(rt, "memory");
     let root = root.expect(rt, "a secret");
     Core::new(alloc, &root).expect(rt, "memory")
@@ -25,5 +26,18 @@ pub(crate) fn opened<L: Ledger, R: Abort>(
     requires name { blank.name ≡ L.name }
     requires parts { (blank.parts ≡ L.parts) × (L.parts ≡ 18446744073709551615) }
 {
-    Shared::new(Held::new(alloc, core(rt, alloc), limit), blank)
+    Shared::new(Held::new(alloc, core(rt, alloc), limit), blank, None)
+}
+
+/// What settling says of the seats of a server that was opened so, whose log was never given out.
+pub(crate) fn settle<L: Ledger, R: Abort>(
+    rt: &R,
+    alloc: Global,
+    shared: Shared<L>,
+    seats: Vec<Seat<L>>,
+) -> Result<Settled, SettleFault>
+    requires { L.parts ≡ 18446744073709551615 }
+{
+    let first = core(rt, alloc);
+    shared.end().settle(alloc, seats, &first, Vec::new(alloc))
 }

@@ -17,7 +17,7 @@ fn stored_run(rt: HostRuntime) -> Result<(), Fail> {
         assert!(rt; rest.starts_with("HTTP/1.1 200 OK\r\n"));
         assert!(rt; rest.contains("\"ID\":\"web\""));
     }
-    assert!(rt; ending.log().starts_with("nsd-log 1 root\n"));
+    assert!(rt; ending.log().starts_with("nsd-log 3 0 root\n"));
     assert!(rt; ending.log().lines().count() > 2);
     assert!(rt; is_settled(alloc, &ending)?);
     Ok(())
@@ -65,7 +65,7 @@ fn drawn_secret(rt: HostRuntime) -> Result<(), Fail> {
     let ending = run(&rt, alloc, &service, output, 1, Visit::Leaves)?;
     assert_eq!(rt;
         ending.log(),
-        "nsd-log 1 01010101-0101-4101-8101-010101010101\n"
+        "nsd-log 3 0 01010101-0101-4101-8101-010101010101\n"
     );
     let (_, rest) = ending.errors().split_once('\n').ok_or("one line")?;
     assert_eq!(rt;

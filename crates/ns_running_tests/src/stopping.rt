@@ -10,7 +10,7 @@ use ns_types::planned::Planned;
 use ns_types::refusal::Refusal;
 use ns_types::shared;
 use ns_types::snapshot::Snapshot;
-use ns_workers::{Gate, Open, Point, applier, worker};
+use ns_workers::{Gate, Nowhere, Open, Point, applier, worker};
 use std::alloc::Global;
 use std::marker::Brand;
 use std::process::Abort;
@@ -67,7 +67,7 @@ fn works<L: Ledger, G: Gate, R: Wait + Clock + Abort>(
 /// How many steps the applier makes until it ends.
 fn applies<L: Ledger, R: Wait + Clock + Abort>(rt: &R, alloc: Global, shared: &Shared<L>) -> usize {
     let mut seat = seat(rt, alloc, shared);
-    applier(rt, alloc, shared, &mut seat);
+    applier(rt, alloc, shared, &mut Nowhere, &mut seat);
     seat.receipts().len()
 }
 

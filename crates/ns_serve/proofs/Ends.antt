@@ -4,7 +4,7 @@ use Rattle.std.specs.Result.{IsErrOf}
 use Rattle.std.specs.declared.net.socket_addr.SocketAddr.{SocketAddr}
 use Rattle.std.proofs.Common.{ap, arith, inl, inr, refl, subst}
 use Rattle.ns_types.specs.State.Names.{Name}
-use Rattle.ns_held.specs.Logs.{History}
+use Rattle.ns_shared.specs.Settling.{Settlement}
 use Rattle.ns_http.specs.declared.counting.Counted.{Counted}
 use Rattle.ns_http.specs.declared.engine.ConnFault.{ConnFault}
 use Rattle.ns_faults.specs.Lines.{TriesToWrite, line_of, mismatch_line, status_of}
@@ -65,15 +65,15 @@ line_of_mismatch ServeFault.Mismatch e = refl
 
 module _ {D W E : Type 0} (draws : D → List ℕ → D → Type 0) (contents : W → Option (List ℕ)) (error_text : E → Option (List ℕ))
     (given : Option Name) (drawers : List D) where
-  pub ends_settled : (address : SocketAddr) (secret : Name) (history : History) (writer writer' : Counted W)
+  pub ends_settled : (address : SocketAddr) (secret : Name) (settlement : Settlement) (writer writer' : Counted W)
       (errors opened errors' : Counted E) (lines line : List ℕ) → IsChosen draws given drawers secret →
       lines ≡ opening_lines given address secret → TriesToWrite error_text errors opened lines →
-      PrintsRun contents secret history writer writer' line → TriesToWrite error_text opened errors' line →
+      PrintsRun contents secret settlement writer writer' line → TriesToWrite error_text opened errors' line →
       EndsSettled draws contents error_text given drawers writer writer' errors errors'
-  ends_settled address secret history writer writer' errors opened errors' lines line chosen are wrote prints ended = record {
+  ends_settled address secret settlement writer writer' errors opened errors' lines line chosen are wrote prints ended = record {
     address = address;
     secret = secret;
-    history = history;
+    settlement = settlement;
     opened = opened;
     is_secret = chosen;
     is_run = prints.is_run;
@@ -82,11 +82,11 @@ module _ {D W E : Type 0} (draws : D → List ℕ → D → Type 0) (contents : 
     settled = subst (TriesToWrite error_text opened errors') prints.counts ended;
   }
 
-  pub ends_in_part : (secret : Name) (history : History) (writer writer' : Counted W) → IsChosen draws given drawers secret →
-      PrintsPart contents secret history writer writer' → EndsInPart draws contents error_text given drawers writer writer'
-  ends_in_part secret history writer writer' chosen prints = record {
+  pub ends_in_part : (secret : Name) (settlement : Settlement) (writer writer' : Counted W) → IsChosen draws given drawers secret →
+      PrintsPart contents secret settlement writer writer' → EndsInPart draws contents error_text given drawers writer writer'
+  ends_in_part secret settlement writer writer' chosen prints = record {
     secret = secret;
-    history = history;
+    settlement = settlement;
     is_secret = chosen;
     is_run = prints.is_run;
     printed = prints.printed;

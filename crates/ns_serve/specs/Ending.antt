@@ -3,13 +3,13 @@ use Rattle.std.specs.Prelude.{◌≡◌, ◌⊎◌, ℕ, List, [], ◌∷◌, �
 use Rattle.std.specs.declared.net.socket_addr.SocketAddr.{SocketAddr}
 use Rattle.ns_types.specs.State.Names.{Name}
 use Rattle.ns_json.specs.Logs.{log_text}
-use Rattle.ns_held.specs.Logs.{History}
+use Rattle.ns_shared.specs.Settling.{Settlement}
 use Rattle.ns_http.specs.Output.{WritesAll}
 use Rattle.ns_http.specs.declared.counting.Counted.{Counted}
 use Rattle.ns_faults.specs.Lines.{FailsToWrite, TriesToWrite, line_of, mismatch_line, status_of}
 use Rattle.ns_faults.specs.declared.status.TheConstants.{SERVED, MISMATCH, READ_FAULT, WRITE_FAULT, OUT_OF_MEMORY}
 use Rattle.ns_serve.specs.Opening.{IsSecret, opening_lines}
-use Rattle.ns_serve.specs.Printing.{IsRun, settled_line}
+use Rattle.ns_serve.specs.Printing.{IsRunOf, settled_line}
 use Rattle.ns_serve.specs.declared.fault.ServeFault.{ServeFault}
 
 -- the exit status of a server
@@ -37,21 +37,21 @@ module _ {D W E : Type 0} (draws : D → List ℕ → D → Type 0) (contents : 
   pub record EndsSettled (writer writer' : Counted W) (errors errors' : Counted E) : Type 0 where
     pub address : SocketAddr
     pub secret : Name
-    pub history : History
+    pub settlement : Settlement
     pub opened : Counted E
     pub is_secret : IsChosen draws given drawers secret
-    pub is_run : IsRun history
-    pub printed : WritesAll contents writer writer' (log_text secret history.log)
+    pub is_run : IsRunOf secret settlement
+    pub printed : WritesAll contents writer writer' (log_text secret settlement.log)
     pub listens : TriesToWrite error_text errors opened (opening_lines given address secret)
-    pub settled : TriesToWrite error_text opened errors' (settled_line (length history.log))
+    pub settled : TriesToWrite error_text opened errors' (settled_line (length settlement.log))
 
   -- a first part of the log of a run was printed, and then the writer failed
   pub record EndsInPart (writer writer' : Counted W) : Type 0 where
     pub secret : Name
-    pub history : History
+    pub settlement : Settlement
     pub is_secret : IsChosen draws given drawers secret
-    pub is_run : IsRun history
-    pub printed : FailsToWrite contents writer writer' (log_text secret history.log)
+    pub is_run : IsRunOf secret settlement
+    pub printed : FailsToWrite contents writer writer' (log_text secret settlement.log)
 
   -- this line was written last, and before it, if anything, where the server listens
   pub record IsLastLine (errors errors' : Counted E) (line : List ℕ) : Type 0 where

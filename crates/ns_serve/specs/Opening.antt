@@ -24,7 +24,7 @@ IsSecret {D} draws None drawer secret = (new : D) × IsDrawn draws drawer new se
 -- it is new, opened by that secret, and its log is empty and has at most so many entries
 abbrev pub begun_by : Name → ℕ → History
 begun_by secret limit =
-    record { base = opening secret; log = []; state = opening secret; limit = limit }
+    record { base = opening secret; start = 0; log = []; state = opening secret; limit = limit }
 
 -- ---- the first lines on standard error
 

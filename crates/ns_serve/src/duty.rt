@@ -10,7 +10,7 @@ use crate::house::House;
 use ns_asked::Draws;
 use ns_clients::{Chair, Client};
 use ns_shared::Seat;
-use ns_workers::{Open, applier, worker};
+use ns_workers::{Nowhere, Open, applier, worker};
 use std::alloc::Global;
 use std::rt::Clock;
 use std::sync::Wait;
@@ -77,7 +77,7 @@ pub fn perform<L: Ledger, R: Wait + Clock, D: Draws + Drop>(
             Ok(seat)
         }
         Duty::Applier => {
-            applier(rt, alloc, house.shared, &mut seat);
+            applier(rt, alloc, house.shared, &mut Nowhere, &mut seat);
             Ok(seat)
         }
     }

@@ -66,3 +66,15 @@ impl From<ConnFault> for ServeFault {
         ServeFault::Conn(fault)
     }
 }
+
+impl From<AllocError> for ServeFault {
+    ghost use Rattle.std.specs.Prelude.{◌≡◌};
+    ghost use Rattle.ns_http.specs.declared.engine.ConnFault.TheVariants as ConnFault;
+    ghost use Rattle.ns_serve.specs.declared.fault.ServeFault.TheVariants.{Conn};
+
+    ghost from_gives = { λ _ fault. fault ≡ Conn ConnFault.Memory };
+
+    fn from(_: AllocError) -> ServeFault {
+        ServeFault::Conn(ConnFault::Memory)
+    }
+}

@@ -1,6 +1,7 @@
 //! The log of a server that settled, printed.
 
 ghost use Rattle.std.specs.Prelude.{◌≡◌, ◌≢◌, ◌⊎◌, IfErr, IfOk, IsErrOf, string_bytes};
+ghost use Rattle.ns_types.specs.Steps.{opening};
 ghost use Rattle.ns_http.specs.declared.engine.ConnFault.TheVariants as ConnFault;
 ghost use Rattle.ns_serve.specs.Printing.{PrintsPart, PrintsRun};
 ghost use Rattle.ns_serve.specs.declared.fault.ServeFault.TheVariants as ServeFault;
@@ -20,6 +21,7 @@ pub fn print_log<W: Write>(
     settled: &Settled,
     writer: &mut Counted<W>,
 ) -> Result<String, ServeFault>
+    requires { settled.now.base ≡ opening secret.now }
     ensures printed { IfOk result (λ line. PrintsRun W.contents secret.now settled.now
         writer.old writer.new (string_bytes line)) }
     ensures write { IsErrOf result (ServeFault.Conn ConnFault.Write)
@@ -27,7 +29,7 @@ pub fn print_log<W: Write>(
     ensures unprinted { IfErr result (λ fault. fault ≢ ServeFault.Conn ConnFault.Write
         → (fault ≡ ServeFault.Conn ConnFault.Memory) × (writer.new ≡ writer.old)) }
 {
-    let log = settled.held().log();
+    let log = settled.log();
     let Ok(text) = log_text(alloc, secret, log) else {
         return Err(ServeFault::Conn(ConnFault::Memory));
     };

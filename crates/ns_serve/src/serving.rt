@@ -1,7 +1,8 @@
 //! A server on a TCP port.
 
 ghost use Rattle.std.specs.Prelude.{◌≡◌, ◌≢◌, ◌+◌, [], IfErr, IfOk, IsErrOf, string_bytes, vec_len};
-ghost use Rattle.ns_held.specs.Logs.{History};
+ghost use Rattle.ns_types.specs.Steps.{opening};
+ghost use Rattle.ns_shared.specs.Settling.{Settlement};
 ghost use Rattle.ns_faults.specs.Lines.{TriesToWrite, line_of, mismatch_line, status_of};
 ghost use Rattle.ns_serve.specs.Opening.{begun_by};
 ghost use Rattle.ns_serve.specs.Printing.{PrintsPart, PrintsRun};
@@ -13,12 +14,14 @@ use crate::printing::print_log;
 use crate::service::Service;
 use crate::threads::host;
 use ns_asked::Draws;
+use ns_core::Core;
 use ns_door::Door;
 use ns_faults::status::{MISMATCH, SERVED, WRITE_FAULT};
 use ns_faults::{print_fault, print_mismatch, print_text};
 use ns_held::Held;
 use ns_http::{ConnFault, Counted};
 use ns_shared::{Settled, Shared};
+use ns_types::name::Secret;
 use std::alloc::Global;
 use std::io::Write;
 use std::net::{Net, TcpListener, TcpStream};
@@ -27,24 +30,30 @@ use std::sync::Wait;
 use std::sync::ledger::{Blank, Ledger};
 use std::thread::Threads;
 
-/// Serves connections, and gives the server with its log, which settled with what all threads were answered.
+/// Serves connections, and gives the log, which settled with what all threads were answered and is a run of the server that the
+/// secret opens.
 fn serve_settled<L: Ledger + Send + Sync, R: Threads + Wait + Clock + Sync, D: Draws + Drop + Send>(
     rt: &R,
     alloc: Global,
     service: &Service,
     door: &Door,
+    secret: &Secret,
     held: Held,
     draws: Vec<D>,
     blank: Blank,
 ) -> Result<Settled, ServeFault>
     requires empty { held.log ≡ [] }
+    requires first { held.start ≡ 0 }
     requires name { blank.name ≡ L.name }
     requires parts { (blank.parts ≡ L.parts) × (L.parts ≡ 18446744073709551615) }
-    ensures { result ≢ Err (ServeFault.Conn ConnFault.Write) }
+    ensures begins { IfOk result (λ settled. settled.base ≡ opening secret.now) }
+    ensures no_write { result ≢ Err (ServeFault.Conn ConnFault.Write) }
 {
-    let shared = Shared::<L>::new(held, blank);
+    let shared = Shared::<L>::new(held, blank, None);
     let seats = host(rt, alloc, &shared, door, service, draws)?;
-    Ok(shared.end().settle(alloc, seats)?)
+    let first = Core::new(alloc, secret)?;
+    let segments = Vec::new(alloc);
+    Ok(shared.end().settle(alloc, seats, &first, segments)?)
 }
 
 /// Serves connections, prints the log, and gives the line that says how many entries it has.
@@ -66,10 +75,10 @@ fn serve_printed<
     requires begun { opened.held ≡ begun_by opened.secret service.now.log_limit }
     requires name { blank.name ≡ L.name }
     requires parts { (blank.parts ≡ L.parts) × (L.parts ≡ 18446744073709551615) }
-    ensures printed { IfOk result (λ line. (history : History)
-        × PrintsRun W.contents opened.secret history writer.old writer.new (string_bytes line)) }
-    ensures write { IsErrOf result (ServeFault.Conn ConnFault.Write) → (history : History)
-        × PrintsPart W.contents opened.secret history writer.old writer.new }
+    ensures printed { IfOk result (λ line. (settlement : Settlement)
+        × PrintsRun W.contents opened.secret settlement writer.old writer.new (string_bytes line)) }
+    ensures write { IsErrOf result (ServeFault.Conn ConnFault.Write) → (settlement : Settlement)
+        × PrintsPart W.contents opened.secret settlement writer.old writer.new }
     ensures unprinted { IfErr result (λ fault. fault ≢ ServeFault.Conn ConnFault.Write
         → writer.new ≡ writer.old) }
 {
@@ -79,7 +88,7 @@ fn serve_printed<
         held,
         ..
     } = opened;
-    match serve_settled::<L, _, _>(rt, alloc, service, &door, held, draws, blank) {
+    match serve_settled::<L, _, _>(rt, alloc, service, &door, &secret, held, draws, blank) {
         Ok(settled) => print_log(alloc, &secret, &settled, writer),
         Err(fault) => Err(fault),
     }

@@ -1,5 +1,5 @@
 -- A call that makes a step adds one entry, for whose answer there was room, and any other adds none.
-use Rattle.std.specs.Prelude.{◌≡◌, ◌+◌, ℕ, Bool, true, false, if◌then◌else◌, length, List, Option, Result, Some, None, Ok, Err, IfOk}
+use Rattle.std.specs.Prelude.{◌≡◌, ◌+◌, ℕ, Bool, true, false, if◌then◌else◌, length, List, Option, Result, Some, None, Ok, Err, IfOk, OnErr}
 use Rattle.std.proofs.Common.{refl, ap, sym, subst, ◌∙◌, arith, inl, inr, length-append, [], ◌∷◌}
 use Rattle.ns_types.specs.declared.refusal.Refusal.{Refusal}
 use Rattle.ns_types.specs.declared.reply.Rendered.{Rendered}
@@ -12,8 +12,10 @@ use Rattle.ns_answers.specs.Laws.{may_change, row_of}
 use Rattle.ns_answers.specs.Rooms.{HasRoom, Room, room_of}
 use Rattle.ns_answers.proofs.Made.{made_has_room}
 use Rattle.ns_receipts.specs.declared.receipt.Receipt.{Receipt}
-use Rattle.ns_held.specs.Logs.{History}
+use Rattle.ns_held.specs.Logs.{History, next_place}
 use Rattle.ns_held.specs.Noting.{Begins, is_answer}
+use Rattle.ns_held.specs.Rotation.{IsRotated}
+use Rattle.ns_segments.specs.Segments.{Given}
 use Rattle.ns_held.specs.Rendered.{LogsRendered, rendered_step}
 use Rattle.ns_held.proofs.Adding.{Adds}
 use Rattle.ns_shared.specs.Receiving.{Asks, LogsAsked, answered, count, receipt, receipt_of, received, response_of}
@@ -25,11 +27,11 @@ counts answer true is = ap (λ (x : Bool). count (if x then Some (rendered answe
 counts answer false is = ap (λ (x : Bool). count (if x then Some (rendered answer) else None)) is
 
 pub adds_count : (step : Step) (old : History) (answer : Answer) (new : History) → Adds step old answer new →
-    length new.log ≡ length old.log + count (rendered_step answer)
+    next_place new ≡ next_place old + count (rendered_step answer)
 adds_count step old answer new (inl a) =
     let more = ap length a.1.noted.entry in
-    omega (arith, more, length-append old.log ((step, rendered answer) ∷ []), counts answer true a.0)
-adds_count step old answer new (inr a) = let same = ap (λ (h : History). length h.log) a.1 in omega (arith, same, counts answer false a.0)
+    omega (arith, more, a.1.noted.start, length-append old.log ((step, rendered answer) ∷ []), counts answer true a.0)
+adds_count step old answer new (inr a) = let same = ap next_place a.1 in omega (arith, same, counts answer false a.0)
 
 -- ---- and room for its answer
 
@@ -43,12 +45,12 @@ adds_room step old (Err refusal) new room may is a = tt
 -- ---- a step that a request asks for
 
 pub asked_count : {A : Type 0} (step : Step) (old : History) (result : Result (Response A) Refusal) (new : History) →
-    LogsAsked step old result new → length new.log ≡ length old.log + count (answered result)
+    LogsAsked step old result new → next_place new ≡ next_place old + count (answered result)
 asked_count step old (Ok response) new l =
     let more = ap length l.1.1.noted.entry in
-    omega (arith, more, length-append old.log ((step, rendered l.1.0) ∷ []))
-asked_count step old (Err Refusal.LogFull) new l = let same = ap (λ (h : History). length h.log) l.1 in omega (arith, same)
-asked_count step old (Err Refusal.Memory) new l = let same = ap (λ (h : History). length h.log) l.1 in omega (arith, same)
+    omega (arith, more, l.1.1.noted.start, length-append old.log ((step, rendered l.1.0) ∷ []))
+asked_count step old (Err Refusal.LogFull) new l = let same = ap next_place l.1 in omega (arith, same)
+asked_count step old (Err Refusal.Memory) new l = let same = ap next_place l.1 in omega (arith, same)
 asked_count step old (Err refusal) new l = absurd l
 
 pub refused_asked : (A : Type 0) (step : Step) (old : History) (refusal : Refusal) (new : History) →
@@ -93,3 +95,13 @@ asks step place old new (Ok response) seat seat' l same = (place, same)
 asks step place old new (Err Refusal.LogFull) seat seat' l same = (same, inr refl)
 asks step place old new (Err Refusal.Memory) seat seat' l same = (same, inl refl)
 asks step place old new (Err refusal) seat seat' l same = absurd l
+
+-- ---- a rotation, which adds none
+
+pub rotated_counts : (result : Result Given Refusal) (old new : History) → IfOk result (λ segment. IsRotated old segment new) →
+    OnErr result (new ≡ old) → next_place new ≡ next_place old
+rotated_counts (Ok segment) old new rotated same =
+    let start : new.start ≡ old.start + length old.log = rotated.start in
+    let none : length new.log ≡ 0 = ap length rotated.log in
+    omega arith
+rotated_counts (Err refusal) old new rotated same = ap next_place same

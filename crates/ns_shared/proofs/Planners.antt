@@ -9,7 +9,6 @@ use Rattle.ns_types.proofs.Tables.{each_row}
 use Rattle.ns_types.specs.State.Names.{Key, Name, same_name}
 use Rattle.ns_types.specs.State.Rows.{Tenant, World}
 use Rattle.ns_types.specs.Working.Worker.{Worker}
-use Rattle.ns_types.specs.Working.Looks.{row_of, worker_at}
 use Rattle.ns_shared.specs.Looking.{has_evaluation, is_busy_with}
 
 module _ (w : World) (n : ℕ) (key : Key) (none : has_evaluation w n key ≡ false) where

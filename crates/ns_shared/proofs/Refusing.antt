@@ -1,8 +1,7 @@
 -- A worker's call that made no step was refused by what is no step.
-use Rattle.std.specs.Prelude.{◌≡◌, ℕ, false, List, Option, Ok, Err}
+use Rattle.std.specs.Prelude.{◌≡◌, ℕ, false, List, Ok, Err}
 use Rattle.std.proofs.Common.{refl}
 use Rattle.ns_types.specs.declared.refusal.Refusal.{Refusal}
-use Rattle.ns_types.specs.declared.reply.Rendered.{Rendered}
 use Rattle.ns_types.specs.declared.snapshot.Snapshot.{Snapshot}
 use Rattle.ns_types.specs.declared.step.Step.{Step}
 use Rattle.ns_types.specs.State.Names.{Name}

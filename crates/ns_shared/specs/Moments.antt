@@ -1,6 +1,8 @@
 -- How it stands with those who share a server: whom a call wakes, and who entered and left.
-use Rattle.std.specs.Prelude.{ℕ, ◌+◌, ◌-◌, ◌%◌, ◌^◌, Bool, true, false, ◌||◌, if◌then◌else◌, is_some}
+use Rattle.std.specs.Prelude.{ℕ, ◌+◌, ◌-◌, ◌%◌, ◌^◌, ◌==◌, Bool, true, false, ◌||◌, if◌then◌else◌, is_some, length}
+use Rattle.std.specs.Prelude.{Option, Some, None}
 use Rattle.ns_types.specs.State.Rows.{World}
+use Rattle.ns_held.specs.Logs.{History}
 use Rattle.ns_types.specs.Working.Looks.{served_ready}
 use Rattle.ns_shared.specs.declared.changes.Role.{Role}
 use Rattle.ns_shared.specs.declared.changes.Stage.{Stage}
@@ -14,6 +16,15 @@ is_stirred Wakes.Nobody is_closed w = false
 is_stirred Wakes.WhereServed is_closed w = is_some (served_ready w)
 is_stirred Wakes.WhereServedOrClosed is_closed w = is_closed || is_some (served_ready w)
 is_stirred Wakes.All is_closed w = true
+
+-- whether the log has just as many entries as it is rotated at; so it is once, on its way to more
+abbrev pub is_due : Option ℕ → ℕ → Bool
+is_due (Some entries) len = len == entries
+is_due None len = false
+
+-- whether there is something to do for those whom the call wakes, or for the applier: to rotate the log
+abbrev pub stirs : Wakes → Option ℕ → Bool → History → Bool
+stirs wakes rotates_at is_closed h = is_stirred wakes is_closed h.state.world || is_due rotates_at (length h.log)
 
 -- one change more, where there is; the number wraps
 abbrev pub changes_after : Bool → ℕ → ℕ

@@ -1,9 +1,9 @@
 //! What lies under the lock of a shared server.
 
-ghost use Rattle.std.specs.Prelude.{◌≡◌, false, is_some, true};
+ghost use Rattle.std.specs.Prelude.{◌≡◌, false, is_some, length, true};
 ghost use Rattle.ns_types.specs.Working.Looks.{served_ready};
 ghost use Rattle.ns_shared.specs.declared.changes.Stage.TheVariants as Stage;
-ghost use Rattle.ns_shared.specs.Moments.{changes_after, is_left, is_stirred};
+ghost use Rattle.ns_shared.specs.Moments.{changes_after, is_due, is_left, is_stirred, stirs};
 ghost use Rattle.ns_shared.specs.Moments.{stage_entered, stage_left, workers_entered, workers_left};
 
 use crate::changes::{Moment, Role, Stage, Wakes};
@@ -78,15 +78,25 @@ impl<L: Ledger> Desk<L> {
         }
     }
 
-    /// Counts a change, if there is something to do for those whom the call wakes. Whether there is.
-    pub(crate) fn stir(&mut self, wakes: Wakes) -> bool
-        ensures stirred { let world = self.old.kept.held.state.world in
-            result ≡ is_stirred wakes self.old.is_closed world }
-        ensures desk { let world = self.old.kept.held.state.world in
-            let stirred = is_stirred wakes self.old.is_closed world in
+    /// Whether the log has just as many entries as it is rotated at.
+    fn is_due(&self, rotates_at: Option<u64>) -> bool
+        ensures { result ≡ is_due rotates_at (length self.now.kept.held.log) }
+    {
+        match rotates_at {
+            Some(entries) => self.kept.entries() == entries,
+            None => false,
+        }
+    }
+
+    /// Counts a change, if there is something to do for those whom the call wakes, or the log is to be rotated. Whether there is.
+    pub(crate) fn stir(&mut self, wakes: Wakes, rotates_at: Option<u64>) -> bool
+        ensures stirred { let held = self.old.kept.held in
+            result ≡ stirs wakes rotates_at self.old.is_closed held }
+        ensures desk { let held = self.old.kept.held in
+            let stirred = stirs wakes rotates_at self.old.is_closed held in
             self.new ≡ record self.old { changes = changes_after stirred self.old.changes } }
     {
-        if !self.is_stirred(wakes) {
+        if !self.is_stirred(wakes) && !self.is_due(rotates_at) {
             return false;
         }
         self.changes = self.changes.wrapping_add(1);

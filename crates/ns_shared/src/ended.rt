@@ -1,11 +1,15 @@
 //! A server with its log, and the book that counts the entries.
 
-ghost use Rattle.std.specs.Prelude.{◌≡◌, ◌+◌, [], IfNone, IfSome, length};
+ghost use Rattle.std.specs.Prelude.{◌≡◌, ◌+◌, [], IfErr, IfNone, IfOk, IfSome, OnErr, length};
+ghost use Rattle.ns_types.specs.declared.refusal.Refusal.TheVariants as Refusal;
 ghost use Rattle.ns_steps.specs.Served.{IsServed};
+ghost use Rattle.ns_held.specs.Logs.{next_place};
+ghost use Rattle.ns_held.specs.Rotation.{IsRotated};
 ghost use Rattle.ns_shared.specs.Receiving.{LogsAsked, answered, received};
 
 use crate::seat::{Seat, prepare_copy, receive_given};
 use ns_held::Held;
+use ns_segments::Segment;
 use ns_types::refusal::Refusal;
 use ns_types::reply::Response;
 use ns_types::step::Step;
@@ -15,7 +19,8 @@ use std::sync::ledger::{Blank, Book, Ledger, Share};
 /// The parts of the ledger: one for each seat.
 pub const PARTS: u64 = u64::MAX;
 
-/// A server with its log, the book that counts the log's entries, and the parts that no seat has.
+/// A server with its log, the book that counts the entries, those that were given out among them, and the parts that no seat
+/// has.
 #[derive(Drop)]
 pub struct Ended<L: Ledger> {
     pub(crate) held: Held,
@@ -23,7 +28,7 @@ pub struct Ended<L: Ledger> {
     pub seats: u64,
     pub(crate) book: Book<L>,
     pub(crate) rest: Share<L>,
-    ghost counted: { book.total ≡ length held.log },
+    ghost counted: { book.total ≡ next_place held },
     ghost parted: { rest.parts + seats ≡ 18446744073709551615 },
     ghost unused: { rest.amount ≡ 0 },
 }
@@ -32,6 +37,7 @@ impl<L: Ledger> Ended<L> {
     /// With no seats yet.
     pub(crate) fn new(held: Held, blank: Blank) -> Ended<L>
         requires empty { held.log ≡ [] }
+        requires first { held.start ≡ 0 }
         requires name { blank.name ≡ L.name }
         requires parts { (blank.parts ≡ L.parts) × (L.parts ≡ 18446744073709551615) }
         ensures held { result.held ≡ held }
@@ -75,7 +81,7 @@ impl<L: Ledger> Ended<L> {
     ) -> Result<Response, Refusal>
         requires { IsServed step }
         ensures logged { LogsAsked step self.old.held result self.new.held }
-        ensures received { let place = length self.old.held.log in
+        ensures received { let place = next_place self.old.held in
             seat.new ≡ received place step (answered result) seat.old }
     {
         let Ended { held, book, .. } = self;
@@ -87,8 +93,25 @@ impl<L: Ledger> Ended<L> {
                 return Err(refusal);
             }
         };
-        let place = held.log().len() as u64;
+        let place = held.next_place();
         let given = held.take_rendered(alloc, step);
         receive_given(receipts, share, book, place, copy, given)
+    }
+
+    /// How many entries the log has.
+    pub(crate) fn entries(&self) -> u64
+        ensures { result ≡ length self.now.held.log }
+    {
+        self.held.log().len() as u64
+    }
+
+    /// Gives out the log, and begins the next one where the server is. It is no step, and the book stays as it is.
+    pub(crate) fn rotate(&mut self, alloc: Global) -> Result<Segment, Refusal>
+        ensures rotated { IfOk result (λ segment. IsRotated self.old.held segment self.new.held) }
+        ensures same { OnErr result (self.new.held ≡ self.old.held) }
+        ensures memory { IfErr result (λ refusal. refusal ≡ Refusal.Memory) }
+        ensures seats { self.new.seats ≡ self.old.seats }
+    {
+        self.held.rotate(alloc)
     }
 }

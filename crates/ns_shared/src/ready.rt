@@ -5,6 +5,7 @@ ghost use Rattle.std.specs.Prelude.{slice_get, vec_capacity, vec_len};
 ghost use Rattle.ns_types.specs.declared.refusal.Refusal.TheVariants as Refusal;
 ghost use Rattle.ns_answers.specs.Rooms.{HasRoom, room_of};
 ghost use Rattle.ns_work.specs.Works.{step_of};
+ghost use Rattle.ns_held.specs.Logs.{next_place};
 ghost use Rattle.ns_held.specs.Noting.{Begins};
 ghost use Rattle.ns_held.specs.Rendered.{rendered_step};
 ghost use Rattle.ns_shared.specs.Copying.{entry_answer};
@@ -25,25 +26,33 @@ use ns_work::{Work, step_of};
 use std::alloc::Global;
 use std::sync::ledger::{Book, Ledger, Share};
 
-/// A step that is about to be made, with room for its answer, and the place that its entry will have in the log.
+/// A step that is about to be made, with room for its answer, the place that its entry will have, and how many entries of
+/// the log are before it.
 #[derive(Drop)]
 pub(crate) struct Ready {
     pub(crate) step: Step,
     pub(crate) room: Room,
     pub(crate) place: u64,
+    pub(crate) number: u64,
 }
 
-/// The step with room for its answer, by the row of the worker whose step it is.
-fn with_room(alloc: Global, step: Step, place: u64, row: Option<&Worker>) -> Result<Ready, Refusal>
+/// The step with room for its answer, by the row of the worker whose step it is, as the next one of the server.
+fn with_room(alloc: Global, held: &Held, step: Step, row: Option<&Worker>) -> Result<Ready, Refusal>
     ensures made { IfOk result (λ ready. ready ≡ record {
       step = step;
       room = room_of step (option_copied row.entry);
-      place = place;
+      place = next_place held.now;
+      number = length held.now.log;
     }) }
     ensures memory { IfErr result (λ refusal. refusal ≡ Refusal.Memory) }
 {
     match Room::for_step(alloc, &step, row) {
-        Ok(room) => Ok(Ready { step, room, place }),
+        Ok(room) => Ok(Ready {
+            step,
+            room,
+            place: held.next_place(),
+            number: held.log().len() as u64,
+        }),
         Err(_) => {
             drop(step);
             Err(Refusal::Memory)
@@ -69,13 +78,14 @@ pub(crate) fn prepare_work(
         IfOk result (λ ready. ready ≡ record {
           step = step;
           room = room_of step (option_copied row.entry);
-          place = length held.now.log;
+          place = next_place held.now;
+          number = length held.now.log;
         }) }
 {
     begin(held)?;
     receipts.reserve(1)?;
     let step = step_of(work, worker, namespace.clone()?);
-    with_room(alloc, step, held.log().len() as u64, row)
+    with_room(alloc, held, step, row)
 }
 
 /// Adds the receipt of a step that was made, with the answer that its entry has, and counts it. It takes no memory.
@@ -90,7 +100,7 @@ pub(crate) fn receive_answer<L: Ledger>(
     requires place { vec_len receipts.old < vec_capacity receipts.old }
     requires part { share.old.parts ≡ 1 }
     requires room { IfOk answer.now (λ reply. HasRoom ready.room reply.content) }
-    requires entry { let made = option_map entry_answer (slice_get log.now ready.place) in
+    requires entry { let made = option_map entry_answer (slice_get log.now ready.number) in
         made ≡ rendered_step answer.now }
     ensures receipts { let rendered = rendered_step answer.now in
         receipts.new.items ≡ received ready.place ready.step rendered receipts.old.items }
@@ -100,7 +110,12 @@ pub(crate) fn receive_answer<L: Ledger>(
     ensures amount { share.new.amount ≡ share.old.amount + count (rendered_step answer.now) }
     ensures total { book.new.total ≡ book.old.total + count (rendered_step answer.now) }
 {
-    let Ready { step, room, place } = ready;
-    let rendered = repeat_entry(room, log, place, answer);
+    let Ready {
+        step,
+        room,
+        place,
+        number,
+    } = ready;
+    let rendered = repeat_entry(room, log, number, answer);
     receive(receipts, share, book, place, step, rendered);
 }

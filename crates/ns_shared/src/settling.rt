@@ -1,52 +1,102 @@
-//! Whether the receipts of all seats and the log agree.
+//! Whether segments, the receipts of all seats and the log agree.
 
-ghost use Rattle.std.specs.Prelude.{◌≡◌, ◌+◌, ℕ, IfOk, IsErrOf, IsOkUnless, OnOk};
+ghost use Rattle.std.specs.Prelude.{◌≡◌, ◌+◌, ◌≤◌, ℕ, IfOk, IsErrOf, IsOkUnless, OnOk};
 ghost use Rattle.std.specs.Prelude.{length, map, sum_by, vec_items, vec_len};
+ghost use Rattle.ns_types.specs.State.Rows.{State};
+ghost use Rattle.ns_json.specs.Replies.{IsKept};
 ghost use Rattle.ns_receipts.specs.declared.fault.SettleFault.TheVariants as SettleFault;
-ghost use Rattle.ns_receipts.specs.Settling.{IsFault, Settles};
+ghost use Rattle.ns_receipts.specs.Settling.{Settles};
+ghost use Rattle.ns_segments.specs.Segments.{Follows, joined};
+ghost use Rattle.ns_held.specs.Logs.{next_place};
 ghost use Rattle.ns_shared.specs.Ending.{held_of};
+ghost use Rattle.ns_shared.specs.Settling.{IsMismatch, IsOf, IsRun, SettlesNot, present};
 
 use crate::ended::Ended;
 use crate::seat::Seat;
+use ns_core::Core;
 use ns_held::Held;
+use ns_log::Entry;
 use ns_receipts::{Receipt, SettleFault, settle};
+use ns_rerun::{RerunFault, rerun_from};
+use ns_segments::{Segment, follow, join};
 use std::alloc::{AllocError, Global};
 use std::marker::Model;
+use std::snapshot::Snapshot;
 use std::sync::ledger::{Ledger, Share};
 
-/// A server with its log, with which the receipts of seats have settled. `Ended::settle` alone makes one. Contracts see it
-/// as a history.
+/// A log with which the receipts of seats have settled, whole: with what was given out of it in segments. `Ended::settle` alone
+/// makes one. Contracts see it as a settlement.
 pub struct Settled {
-    held: Held,
+    /// Where the log begins.
+    base: Snapshot<Core>,
+    log: Vec<Entry>,
+    /// How many of its entries were given out.
+    given: u64,
+    /// Where the log leads.
+    core: Core,
 }
 
 impl Drop for Settled {
     fn drop(self) {
-        let Settled { held: _held } = self;
+        let Settled {
+            base: _base,
+            log: _log,
+            given: _,
+            core: _core,
+        } = self;
     }
 }
 
 impl Model for Settled {
     ghost use Rattle.std.specs.Coded.{codes};
     ghost use Rattle.std.specs.FinMap.{code};
-    ghost use Rattle.ns_held.specs.Logs.{History};
-    ghost use Rattle.ns_shared.specs.Settling.{IsSettled};
+    ghost use Rattle.std.specs.Prelude.{◌≤◌, length};
+    ghost use Rattle.ns_json.specs.Replies.{IsKept};
+    ghost use Rattle.ns_shared.specs.Settling.{IsSettled, Settlement};
 
-    ghost Value = { History };
+    ghost Value = { Settlement };
 
     ghost coded = { Prim.hlevel (codes, code) };
 
-    ghost view = { λ s. s.held };
+    ghost view = { λ s. record {
+      base = s.base.value;
+      log = s.log.items;
+      given = s.given;
+      state = s.core;
+    } };
 
-    ghost invariant = { λ s. IsSettled s.held.log };
+    ghost invariant = { λ s. IsKept s.base.value s.log.items s.core
+        × IsSettled s.log.items × (s.given ≤ length s.log.items) };
 }
 
 impl Settled {
-    /// The server with its log, to be looked at.
-    pub fn held(&self) -> &Held
-        ensures { result.now ≡ self.now }
+    /// The server where the log leads, to be looked at.
+    pub fn core(&self) -> &Core
+        ensures { result.now ≡ self.now.state }
     {
-        &self.held
+        &self.core
+    }
+
+    /// All entries, in the order of their steps.
+    pub fn log(&self) -> &[Entry]
+        ensures entries { result.now ≡ self.now.log }
+        ensures run { IsRun self.now }
+    {
+        self.log.as_slice()
+    }
+
+    /// How many of the entries were given out in segments.
+    pub fn given(&self) -> u64
+        ensures { result ≡ self.now.given }
+    {
+        self.given
+    }
+
+    /// The entries that were not given out.
+    pub fn present(&self) -> &[Entry]
+        ensures { result.now ≡ present self.now }
+    {
+        &self.log[self.given as usize..]
     }
 }
 
@@ -80,7 +130,7 @@ fn hand_in<L: Ledger>(
     ensures held { IfOk result (λ given. given.0 ≡ ended.held) }
     ensures receipts { IfOk result (λ given. map vec_items given.1.items ≡ seats.items) }
     ensures counts { OnOk result (vec_len seats ≡ ended.seats
-        → length ended.held.log ≡ sum_by (λ receipts. length receipts) seats.items) }
+        → next_place ended.held ≡ sum_by (λ receipts. length receipts) seats.items) }
 {
     let Ended {
         held,
@@ -96,6 +146,41 @@ fn hand_in<L: Ledger>(
     Ok((held, lists))
 }
 
+/// The log of so many seats, settled: their receipts agree with it, and it is a run from the first state.
+fn settle_run(
+    alloc: Global,
+    first: &Core,
+    given: u64,
+    log: Vec<Entry>,
+    lists: Vec<Vec<Receipt>>,
+) -> Result<Settled, SettleFault>
+    requires given { given ≤ length log.items }
+    ensures base { IfOk result (λ settled. settled.base ≡ first.now) }
+    ensures log { IfOk result (λ settled. settled.log ≡ log.items) }
+    ensures given { IfOk result (λ settled. settled.given ≡ given) }
+    ensures run { IfOk result (λ settled. IsRun settled) }
+    ensures receipts { OnOk result (Settles log.items (map vec_items lists.items)) }
+    ensures settled { (last : State) → Settles log.items (map vec_items lists.items)
+        → IsKept first.now log.items last → IsOkUnless result SettleFault.Memory }
+    ensures mismatch { (seat place : ℕ) → IsErrOf result (SettleFault.Mismatch seat place)
+        → SettlesNot first.now log.items (map vec_items lists.items) seat place }
+{
+    let seat = lists.len() as u64;
+    if let Err(fault) = settle(alloc, log.as_slice(), lists.as_slice()) {
+        return Err(fault);
+    }
+    match rerun_from(alloc, first, log.as_slice()) {
+        Ok(core) => Ok(Settled {
+            base: Snapshot::of(first),
+            log,
+            given,
+            core,
+        }),
+        Err(RerunFault::NotARun(place)) => Err(SettleFault::Mismatch { seat, place }),
+        Err(RerunFault::Memory) => Err(SettleFault::Memory),
+    }
+}
+
 impl<L: Ledger> Ended<L> {
     /// The server with its log, to be looked at.
     pub fn held(&self) -> &Held
@@ -104,30 +189,54 @@ impl<L: Ledger> Ended<L> {
         &self.held
     }
 
-    /// Hands out the server with its log, if the receipts of the seats settle with it: within each seat the places rise, all
-    /// receipts together name each place of the log once, and each receipt tells of the entry at its place. Where all seats
-    /// that were made are handed in, they have as many receipts as the log has entries.
+    /// Hands out the log, whole, if the segments, the receipts of the seats and the log agree. Looked at are, in this order:
+    ///
+    /// 1. whether the segments follow each other from the first entry on, and the log follows the last;
+    /// 2. whether the receipts settle with the segments and the log, joined: within each seat the places rise, all receipts
+    ///    together name each place once, and each receipt tells of the entry at its place;
+    /// 3. whether the joined log is a run from the first state, with its replies.
+    ///
+    /// The first fault is a mismatch: of 1 and 3 with the number of seats and the place. Where all seats that were made are
+    /// handed in, they have as many receipts as there were entries.
     #[tactic(none)]
-    pub fn settle(self, alloc: Global, seats: Vec<Seat<L>>) -> Result<Settled, SettleFault>
+    pub fn settle(
+        self,
+        alloc: Global,
+        seats: Vec<Seat<L>>,
+        first: &Core,
+        segments: Vec<Segment>,
+    ) -> Result<Settled, SettleFault>
         requires { L.parts ≡ 18446744073709551615 }
-        ensures same { IfOk result (λ settled. settled ≡ held_of self) }
-        ensures ok { OnOk result (Settles (held_of self).log seats.items) }
-        ensures settled { Settles (held_of self).log seats.items
+        ensures log { let held = held_of self in IfOk result
+            (λ settled. IsOf first.now segments.items held.start held.log settled) }
+        ensures follow { OnOk result (Follows 0 segments.items (held_of self).start) }
+        ensures receipts { OnOk result
+            (Settles (joined segments.items (held_of self).log) seats.items) }
+        ensures run { IfOk result (λ settled. IsRun settled) }
+        ensures settled { (last : State) → Follows 0 segments.items (held_of self).start
+            → Settles (joined segments.items (held_of self).log) seats.items
+            → IsKept first.now (joined segments.items (held_of self).log) last
             → IsOkUnless result SettleFault.Memory }
         ensures mismatch { (seat place : ℕ) → IsErrOf result (SettleFault.Mismatch seat place)
-            → IsFault (held_of self).log seats.items seat place }
+            → let held = held_of self in
+            IsMismatch first.now segments.items held.start held.log seats.items seat place }
         ensures counts { (IsErrOf result SettleFault.Memory → ⊥) → vec_len seats ≡ self.seats
-            → length (held_of self).log ≡ sum_by (λ receipts. length receipts) seats.items }
+            → next_place (held_of self) ≡ sum_by (λ receipts. length receipts) seats.items }
     {
         let Ok((held, lists)) = hand_in(alloc, self, seats) else {
+            drop(segments);
             return Err(SettleFault::Memory);
         };
-        match settle(alloc, held.log(), lists.as_slice()) {
-            Ok(()) => Ok(Settled { held }),
-            Err(fault) => {
-                drop(held);
-                Err(fault)
-            }
+        let given = held.start();
+        if let Err(place) = follow(segments.as_slice(), given) {
+            let seat = lists.len() as u64;
+            drop(segments);
+            drop(held);
+            return Err(SettleFault::Mismatch { seat, place });
         }
+        let Ok(log) = join(alloc, segments, held.into_log()) else {
+            return Err(SettleFault::Memory);
+        };
+        settle_run(alloc, first, given, log, lists)
     }
 }

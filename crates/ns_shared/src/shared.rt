@@ -1,10 +1,11 @@
 //! A server that threads share.
 
-ghost use Rattle.std.specs.Prelude.{◌≡◌, ◌≢◌, [], IfSome};
+ghost use Rattle.std.specs.Prelude.{◌≡◌, ◌≢◌, [], IfErr, IfSome};
+ghost use Rattle.ns_types.specs.declared.refusal.Refusal.TheVariants as Refusal;
 ghost use Rattle.ns_types.specs.declared.step.Step.TheVariants as Step;
 ghost use Rattle.ns_drive.specs.Calls.{snapped};
 ghost use Rattle.ns_steps.specs.Served.{IsServed};
-ghost use Rattle.ns_shared.specs.Moments.{changes_after, is_stirred};
+ghost use Rattle.ns_shared.specs.Moments.{changes_after, stirs};
 ghost use Rattle.ns_shared.specs.Receiving.{Asks, Receives};
 
 use crate::changes::{Busy, Moment, Planner, Role, Wakes};
@@ -14,6 +15,7 @@ use crate::looking;
 use crate::seat::Seat;
 use ns_answers::may_change;
 use ns_held::Held;
+use ns_segments::Segment;
 use ns_types::key::EvalKey;
 use ns_types::planned::Planned;
 use ns_types::refusal::Refusal;
@@ -31,6 +33,8 @@ use std::sync::{Condvar, Mutex, Wait};
 pub struct Shared<L: Ledger> {
     desk: Mutex<Desk<L>>,
     changed: Condvar,
+    /// With how many entries the log is rotated. None: never.
+    pub rotates_at: Option<u64>,
 }
 
 impl<L: Ledger> Drop for Shared<L> {
@@ -38,21 +42,26 @@ impl<L: Ledger> Drop for Shared<L> {
         let Shared {
             desk: _desk,
             changed: _changed,
+            rotates_at: _,
         } = self;
     }
 }
 
 impl<L: Ledger> Shared<L> {
-    /// Shares a server whose log begins, counted by this ledger.
-    pub fn new(held: Held, blank: Blank) -> Shared<L>
+    /// Shares a server whose log begins, counted by this ledger. Who adds an entry wakes the applier where the log has as many as
+    /// it is rotated at.
+    pub fn new(held: Held, blank: Blank, rotates_at: Option<u64>) -> Shared<L>
         requires empty { held.log ≡ [] }
+        requires first { held.start ≡ 0 }
         requires name { blank.name ≡ L.name }
         requires parts { (blank.parts ≡ L.parts) × (L.parts ≡ 18446744073709551615) }
+        ensures { result.rotates_at ≡ rotates_at }
     {
         let desk = Desk::new(Ended::new(held, blank));
         Shared {
             desk: Mutex::new(desk),
             changed: Condvar::new(),
+            rotates_at,
         }
     }
 
@@ -65,11 +74,11 @@ impl<L: Ledger> Shared<L> {
 
     /// Wakes those who wait, if there is something to do for them. Changes are counted exactly where it does.
     fn wake(&self, desk: &mut Desk<L>, wakes: Wakes)
-        ensures { let world = desk.old.kept.held.state.world in
-            let stirred = is_stirred wakes desk.old.is_closed world in
+        ensures { let held = desk.old.kept.held in
+            let stirred = stirs wakes self.now.rotates_at desk.old.is_closed held in
             desk.new ≡ record desk.old { changes = changes_after stirred desk.old.changes } }
     {
-        if desk.stir(wakes) {
+        if desk.stir(wakes, self.rotates_at) {
             self.changed.notify_all();
         }
     }
@@ -113,6 +122,7 @@ impl<L: Ledger> Shared<L> {
         let answer = desk
             .kept
             .dequeue(alloc, seat, worker, namespace, evaluation);
+        self.wake(&mut desk, Wakes::Nobody);
         answer
     }
 
@@ -131,6 +141,7 @@ impl<L: Ledger> Shared<L> {
     {
         let mut desk = self.desk.lock(rt);
         let seen = desk.kept.snap(alloc, seat, worker, namespace);
+        self.wake(&mut desk, Wakes::Nobody);
         seen
     }
 
@@ -208,6 +219,18 @@ impl<L: Ledger> Shared<L> {
         answer
     }
 
+    /// Gives out the log, and begins the next one where the server is. It makes no step, adds no receipt, and wakes nobody.
+    pub fn rotate<R: Wait>(&self, rt: &R, alloc: Global) -> Result<Segment, Refusal>
+        ensures { IfErr result (λ refusal. refusal ≡ Refusal.Memory) }
+    {
+        self.desk.lock(rt).kept.rotate(alloc)
+    }
+
+    /// How many entries the log has now.
+    pub fn entries<R: Wait>(&self, rt: &R) -> u64 {
+        self.desk.lock(rt).kept.entries()
+    }
+
     /// The evaluation that is served next.
     pub fn served<R: Wait>(&self, rt: &R) -> Result<Option<EvalKey>, AllocError> {
         looking::served(self.desk.lock(rt).kept.held.core())
@@ -267,6 +290,7 @@ impl<L: Ledger> Shared<L> {
         let Shared {
             desk,
             changed: _changed,
+            rotates_at: _,
         } = self;
         let Desk { kept, .. } = desk.into_inner();
         kept

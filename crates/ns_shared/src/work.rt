@@ -1,11 +1,11 @@
 //! The steps of workers, each with its receipt.
 
-ghost use Rattle.std.specs.Prelude.{◌≡◌, ◌+◌, ◌<◌, IfOk, Some, length, option_map, slice_get, vec_capacity, vec_len};
+ghost use Rattle.std.specs.Prelude.{◌≡◌, ◌+◌, ◌<◌, IfOk, Some, option_map, slice_get, vec_capacity, vec_len};
 ghost use Rattle.ns_types.specs.declared.step.Step.TheVariants as Step;
 ghost use Rattle.ns_broker.specs.Snapping.{kept_at};
 ghost use Rattle.ns_drive.specs.Calls.{snapped};
 ghost use Rattle.ns_answers.specs.Rooms.{HasRoom};
-ghost use Rattle.ns_held.specs.Logs.{Logs};
+ghost use Rattle.ns_held.specs.Logs.{Logs, next_place};
 ghost use Rattle.ns_held.specs.Planned.{LogsFinish, LogsSubmit};
 ghost use Rattle.ns_held.specs.Rendered.{rendered_step};
 ghost use Rattle.ns_shared.specs.Copying.{entry_answer};
@@ -39,7 +39,7 @@ fn receive_snapped<L: Ledger>(
     requires place { vec_len receipts.old < vec_capacity receipts.old }
     requires part { share.old.parts ≡ 1 }
     requires room { IfOk (snapped seen.now) (λ reply. HasRoom ready.room reply.content) }
-    requires entry { let made = option_map entry_answer (slice_get log.now ready.place) in
+    requires entry { let made = option_map entry_answer (slice_get log.now ready.number) in
         made ≡ rendered_step (snapped seen.now) }
     ensures receipts { let rendered = rendered_step (snapped seen.now) in
         receipts.new.items ≡ received ready.place ready.step rendered receipts.old.items }
@@ -67,7 +67,7 @@ impl<L: Ledger> Ended<L> {
     ) -> Result<Reply, Refusal>
         ensures logged { let step = Step.Dequeue worker namespace.now evaluation in
             Logs step self.old.held result self.new.held }
-        ensures received { let place = length self.old.held.log in
+        ensures received { let place = next_place self.old.held in
             let step = Step.Dequeue worker namespace.now evaluation in
             seat.new ≡ received place step (rendered_step result) seat.old }
         ensures seat { let step = Step.Dequeue worker namespace.now evaluation in
@@ -100,7 +100,7 @@ impl<L: Ledger> Ended<L> {
             Logs step self.old.held (snapped result) self.new.held }
         ensures kept { let w = self.new.held.state.world in
             IfOk result (λ seen. kept_at w worker namespace.now ≡ Some seen) }
-        ensures received { let place = length self.old.held.log in
+        ensures received { let place = next_place self.old.held in
             let step = Step.Snap worker namespace.now in
             seat.new ≡ received place step (rendered_step (snapped result)) seat.old }
         ensures seat { let step = Step.Snap worker namespace.now in
@@ -124,7 +124,7 @@ impl<L: Ledger> Ended<L> {
     ) -> Result<Reply, Refusal>
         ensures logged { let held = self.old.held in
             LogsSubmit worker namespace.now planned held result self.new.held }
-        ensures received { let place = length self.old.held.log in
+        ensures received { let place = next_place self.old.held in
             let step = Step.Submit worker namespace.now in
             seat.new ≡ received place step (rendered_step result) seat.old }
         ensures seat { let step = Step.Submit worker namespace.now in
@@ -154,7 +154,7 @@ impl<L: Ledger> Ended<L> {
     ) -> Result<Reply, Refusal>
         ensures logged { let step = Step.Apply worker namespace.now in
             Logs step self.old.held result self.new.held }
-        ensures received { let place = length self.old.held.log in
+        ensures received { let place = next_place self.old.held in
             let step = Step.Apply worker namespace.now in
             seat.new ≡ received place step (rendered_step result) seat.old }
         ensures seat { let step = Step.Apply worker namespace.now in
@@ -179,7 +179,7 @@ impl<L: Ledger> Ended<L> {
     ) -> Result<Reply, Refusal>
         ensures logged { let held = self.old.held in
             LogsFinish worker namespace.now planned.now held result self.new.held }
-        ensures received { let place = length self.old.held.log in
+        ensures received { let place = next_place self.old.held in
             let step = Step.Finish worker namespace.now in
             seat.new ≡ received place step (rendered_step result) seat.old }
         ensures seat { let step = Step.Finish worker namespace.now in
@@ -202,7 +202,7 @@ impl<L: Ledger> Ended<L> {
     ) -> Result<Reply, Refusal>
         ensures logged { let step = Step.Nack worker namespace.now in
             Logs step self.old.held result self.new.held }
-        ensures received { let place = length self.old.held.log in
+        ensures received { let place = next_place self.old.held in
             let step = Step.Nack worker namespace.now in
             seat.new ≡ received place step (rendered_step result) seat.old }
         ensures seat { let step = Step.Nack worker namespace.now in

@@ -12,6 +12,7 @@ use Rattle.ns_workers.specs.declared.applying.Course.{Course}
 abbrev pub halt_of : Refusal → Halt
 halt_of Refusal.NotEnabled = Halt.Late
 halt_of Refusal.Memory = Halt.Memory
+halt_of Refusal.LogFull = Halt.Full
 halt_of Refusal.Foreign = Halt.Leaves
 halt_of _ = Halt.Ends
 
@@ -22,6 +23,7 @@ abbrev pub course_of : Answer → Course
 course_of (Ok reply) = Course.GoesOn
 course_of (Err Refusal.NotEnabled) = Course.GoesOn
 course_of (Err Refusal.Memory) = Course.Pauses
+course_of (Err Refusal.LogFull) = Course.Full
 course_of (Err _) = Course.Ends
 
 -- no plan comes any more

@@ -1,9 +1,11 @@
 //! The applier.
 
-ghost use Rattle.std.specs.Prelude.{◌≡◌, IsFalse, IsTrue, false, true};
+ghost use Rattle.std.specs.Prelude.{◌≡◌, IsFalse, IsNone, IsTrue, false, true};
 ghost use Rattle.ns_workers.specs.Growing.{Grows, IsApply, IsApplyOf};
 ghost use Rattle.ns_workers.specs.Halting.{is_over, course_of};
+ghost use Rattle.ns_workers.specs.Keeping.{TakesSome};
 
+use crate::keep::Keep;
 use crate::pausing::pause;
 use ns_shared::{Moment, Planner, Role, Seat, Shared};
 use ns_types::refusal::Refusal;
@@ -19,6 +21,8 @@ enum Course {
     GoesOn,
     /// It tries again after a pause.
     Pauses,
+    /// The log is full. The same, where the log is rotated; else it closes the server, and ends.
+    Full,
     /// It closes the server, and ends.
     Ends,
 }
@@ -29,8 +33,21 @@ fn course_after(answer: Result<Reply, Refusal>) -> Course
     match answer {
         Ok(_) | Err(Refusal::NotEnabled) => Course::GoesOn,
         Err(Refusal::Memory) => Course::Pauses,
+        Err(Refusal::LogFull) => Course::Full,
         Err(_) => Course::Ends,
     }
+}
+
+/// Closes the server, where the log is full for ever. Whether the applier goes on: after a pause, where the log is rotated.
+fn outlasts_full<L: Ledger, R: Wait + Clock>(rt: &R, shared: &Shared<L>) -> bool
+    ensures { IsNone shared.now.rotates_at → IsFalse result }
+{
+    if shared.rotates_at.is_none() {
+        shared.close(rt);
+        return false;
+    }
+    pause(rt);
+    true
 }
 
 /// Applies the plan. Whether the applier goes on.
@@ -50,6 +67,7 @@ fn apply<L: Ledger, R: Wait + Clock>(
             pause(rt);
             true
         }
+        Course::Full => outlasts_full(rt, shared),
         Course::Ends => {
             shared.close(rt);
             false
@@ -76,17 +94,50 @@ fn await_plan<L: Ledger, R: Wait>(rt: &R, shared: &Shared<L>, seen: Moment) -> b
     true
 }
 
+/// Whether the log has as many entries as it is rotated at, or more.
+fn is_due<L: Ledger, R: Wait>(rt: &R, shared: &Shared<L>) -> bool
+    ensures { IsNone shared.now.rotates_at → IsFalse result }
+{
+    match shared.rotates_at {
+        Some(entries) => shared.entries(rt) >= entries,
+        None => false,
+    }
+}
+
+/// Rotates the log where that is due, and hands the segment to the keeper with no lock held. False: memory is wanting, so that it
+/// has to be tried again.
+fn rotate<L: Ledger, K: Keep, R: Wait>(
+    rt: &R,
+    alloc: Global,
+    shared: &Shared<L>,
+    keeper: &mut K,
+) -> bool
+    ensures takes { TakesSome K.takes keeper.old keeper.new }
+    ensures never { IsNone shared.now.rotates_at → IsTrue result × (keeper.new ≡ keeper.old) }
+{
+    if !is_due(rt, shared) {
+        return true;
+    }
+    match shared.rotate(rt, alloc) {
+        Ok(segment) => {
+            keeper.keep(alloc, segment);
+            true
+        }
+        Err(_) => false,
+    }
+}
+
 /// Applies the plan that is served next, or waits. Whether the applier goes on. The count of changes is taken before it
 /// looks, so no change is missed.
-fn step<L: Ledger, R: Wait + Clock>(
+fn apply_next<L: Ledger, R: Wait + Clock>(
     rt: &R,
     alloc: Global,
     shared: &Shared<L>,
     seat: &mut Seat<L>,
+    seen: Moment,
 ) -> bool
     ensures { Grows IsApply seat.old seat.new }
 {
-    let seen = shared.now(rt);
     match shared.first_plan(rt) {
         Ok(Some(planner)) => apply(rt, alloc, shared, seat, &planner),
         Ok(None) => await_plan(rt, shared, seen),
@@ -97,21 +148,45 @@ fn step<L: Ledger, R: Wait + Clock>(
     }
 }
 
-/// Applies one plan after another. For want of memory it tries again after a pause. Where a counter or the log is full it
-/// closes the server and ends; it ends as well once the server is closed, no plan waits and no worker is left.
-///
-/// It has to run beside the workers: one whose plan waits goes on only once it was applied, or the applier has ended.
-pub fn applier<L: Ledger, R: Wait + Clock>(
+/// Rotates the log where that is due, and then applies the plan that is served next, or waits. Whether the applier goes on.
+fn step<L: Ledger, K: Keep, R: Wait + Clock>(
     rt: &R,
     alloc: Global,
     shared: &Shared<L>,
+    keeper: &mut K,
+    seat: &mut Seat<L>,
+) -> bool
+    ensures grows { Grows IsApply seat.old seat.new }
+    ensures takes { TakesSome K.takes keeper.old keeper.new }
+    ensures never { IsNone shared.now.rotates_at → keeper.new ≡ keeper.old }
+{
+    let seen = shared.now(rt);
+    if !rotate(rt, alloc, shared, keeper) {
+        pause(rt);
+        return true;
+    }
+    apply_next(rt, alloc, shared, seat, seen)
+}
+
+/// Applies one plan after another, and rotates the log before a plan, where it has as many entries as it is rotated at or more. The
+/// keeper takes the segments. For want of memory it tries again after a pause. Where a counter is full, or the log for ever, it
+/// closes the server and ends; it ends as well once the server is closed, no plan waits and no worker is left.
+///
+/// It has to run beside the workers: one whose plan waits goes on only once it was applied, or the applier has ended.
+pub fn applier<L: Ledger, K: Keep, R: Wait + Clock>(
+    rt: &R,
+    alloc: Global,
+    shared: &Shared<L>,
+    keeper: &mut K,
     seat: &mut Seat<L>,
 )
-    ensures { Grows IsApply seat.old seat.new }
+    ensures grows { Grows IsApply seat.old seat.new }
+    ensures takes { TakesSome K.takes keeper.old keeper.new }
+    ensures never { IsNone shared.now.rotates_at → keeper.new ≡ keeper.old }
 {
     shared.enter(rt, Role::Applier);
     for _ in rt.forever() {
-        if !step(rt, alloc, shared, seat) {
+        if !step(rt, alloc, shared, keeper, seat) {
             break;
         }
     }

@@ -13,6 +13,8 @@ pub enum Halt {
     Late,
     /// It gives its evaluation back, and goes on after a pause.
     Memory,
+    /// The log is full. It ends, unless the log is rotated: then it goes on after a pause.
+    Full,
     /// It gives its evaluation back if it may, and ends.
     Leaves,
     /// It ends.
@@ -34,6 +36,7 @@ impl From<Refusal> for Halt {
         match refusal {
             Refusal::NotEnabled => Halt::Late,
             Refusal::Memory => Halt::Memory,
+            Refusal::LogFull => Halt::Full,
             Refusal::Foreign => Halt::Leaves,
             _ => Halt::Ends,
         }

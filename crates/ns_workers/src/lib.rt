@@ -1,13 +1,16 @@
-//! Workers that plan side by side, and the one that applies their plans: loops over the calls of a shared server.
+//! Workers that plan side by side, and the one that applies their plans and rotates the log: loops over the calls of a shared
+//! server.
 #![tactic(auto)]
 
 mod applying;
 mod gate;
 mod halt;
+mod keep;
 mod pausing;
 mod turn;
 mod working;
 
 pub use applying::applier;
 pub use gate::{Gate, Open, Point};
+pub use keep::{Keep, Nowhere};
 pub use working::worker;

@@ -1,6 +1,6 @@
 //! Workers.
 
-ghost use Rattle.std.specs.Prelude.{◌≡◌, IsFalse, IsTrue};
+ghost use Rattle.std.specs.Prelude.{◌≡◌, IsFalse, IsNone, IsTrue};
 ghost use Rattle.ns_workers.specs.declared.halt.Halt.TheVariants as Halt;
 ghost use Rattle.ns_workers.specs.Growing.{Grows, IsOfWorker};
 
@@ -15,7 +15,18 @@ use std::rt::Clock;
 use std::sync::Wait;
 use std::sync::ledger::Ledger;
 
-/// Gives the evaluation back, and pauses. Whether the worker goes on: not where a counter or the log is full.
+/// Pauses where the log is rotated and the applier, who rotates it, has not ended. Whether the worker goes on.
+fn await_rotation<L: Ledger, G: Gate, R: Wait + Clock>(post: &Post<'_, L, G, R>) -> bool
+    ensures { IsNone post.now.shared.now.rotates_at → IsFalse result }
+{
+    if post.shared.rotates_at.is_none() || post.shared.now(post.rt).applier_left {
+        return false;
+    }
+    pause(post.rt);
+    true
+}
+
+/// Gives the evaluation back, and pauses. Whether the worker goes on: not where a counter is full, or the log for ever.
 fn goes_on_later<L: Ledger, G: Gate, R: Wait + Clock>(
     post: &Post<'_, L, G, R>,
     seat: &mut Seat<L>,
@@ -23,11 +34,14 @@ fn goes_on_later<L: Ledger, G: Gate, R: Wait + Clock>(
 ) -> bool
     ensures { Grows (IsOfWorker post.now.number) seat.old seat.new }
 {
-    if post.give_back(seat, kept) == Err(Halt::Ends) {
-        return false;
+    match post.give_back(seat, kept) {
+        Err(Halt::Ends) => false,
+        Err(Halt::Full) => await_rotation(post),
+        _ => {
+            pause(post.rt);
+            true
+        }
     }
-    pause(post.rt);
-    true
 }
 
 /// Whether the worker goes on, after it gave its evaluation back where that is due.
@@ -39,12 +53,14 @@ fn goes_on<L: Ledger, G: Gate, R: Wait + Clock>(
 ) -> bool
     ensures grows { Grows (IsOfWorker post.now.number) seat.old seat.new }
     ensures late { halt ≡ Halt.Late → IsTrue result }
+    ensures full { halt ≡ Halt.Full → IsNone post.now.shared.now.rotates_at → IsFalse result }
     ensures leaves { halt ≡ Halt.Leaves → IsFalse result }
     ensures ends { halt ≡ Halt.Ends → IsFalse result }
 {
     match halt {
         Halt::Late => true,
         Halt::Memory => goes_on_later(post, seat, kept),
+        Halt::Full => await_rotation(post),
         Halt::Leaves => {
             // What may not be given back stays with the worker.
             let _ = post.give_back(seat, kept);
@@ -69,8 +85,9 @@ fn step<L: Ledger, G: Gate, R: Wait + Clock>(
 }
 
 /// Takes what is ready, plans it with no lock held, and finishes it once its plan was applied. For want of memory it gives
-/// its evaluation back, and pauses before it tries again. It ends where a counter or the log is full, where the gate lets
-/// it go no further, where its plan waits and the applier has ended, and where it is idle once the server is closed.
+/// its evaluation back, and pauses before it tries again; where the log is full and is rotated, it pauses until it was. It ends
+/// where a counter is full, or the log for ever, where the gate lets it go no further, where its plan waits and the applier has
+/// ended, and where it is idle once the server is closed.
 ///
 /// Each worker has a number of its own, below 64: one with another number ends at once. One that enters once the server is
 /// closed takes nothing, so none need have entered before the applier may end.

@@ -1,8 +1,9 @@
-use Rattle.std.proofs.Common.{ap, arith, length, refl, ◌∙◌}
+use Rattle.std.proofs.Common.{ap, arith, refl, ◌∙◌}
 use Rattle.ns_types.specs.declared.step.Step.TheVariants as Step
 use Rattle.ns_types.specs.State.Rows.{State}
 use Rattle.ns_types.specs.Working.Looks.{worker_at}
 use Rattle.ns_answers.specs.Rooms.{room_of}
+use Rattle.ns_held.specs.Logs.{next_place}
 use Rattle.ns_held.specs.Rendered.{rendered_step}
 use Rattle.ns_held.proofs.Adding.{logs_adds}
 use Rattle.ns_shared.specs.declared.ready.Ready.{Ready}
@@ -21,10 +22,10 @@ receive_answer-requires-clause-room g c = adds_room (Step.Apply c.args.worker c.
 
 pub receive_answer-requires-clause-entry : goal.receive_answer-requires-clause-entry
 receive_answer-requires-clause-entry g c = entry_behind (Step.Apply c.args.worker c.args.namespace.now) c.args.self.now.held c.apply-answer.result
-    c.apply-answer.new.self c.in_ok-ready.ready.place c.log.result.now
+    c.apply-answer.new.self c.in_ok-ready.ready.number c.log.result.now
     (logs_adds (Step.Apply c.args.worker c.args.namespace.now) c.args.self.now.held c.apply-answer.result c.apply-answer.new.self
     c.apply-answer.ensures)
-    (ap (λ (r : Ready). r.place) c.in_ok-ready.ensures.made) c.log.ensures.entries
+    (ap (λ (r : Ready). r.number) c.in_ok-ready.ensures.made) c.log.ensures.entries
 
 pub invariant_of-self-2-clause-counted : goal.invariant_of-self-2-clause-counted
 invariant_of-self-2-clause-counted g c = omega (
@@ -37,14 +38,14 @@ invariant_of-self-2-clause-counted g c = omega (
 )
 
 pub returns-clause-received : goal.returns-clause-received
-returns-clause-received g c = c.receive_answer.ensures.receipts ∙ received_same c.in_ok-ready.ready.place (length c.args.self.now.held.log)
+returns-clause-received g c = c.receive_answer.ensures.receipts ∙ received_same c.in_ok-ready.ready.place (next_place c.args.self.now.held)
     c.in_ok-ready.ready.step (Step.Apply c.args.worker c.args.namespace.now)
     (rendered_step c.apply-answer.result) (rendered_step c.apply-answer.result) c.prepare_work.new.receipts.items c.args.seat.now
     (ap (λ (r : Ready). r.place) c.in_ok-ready.ensures.made) (ap (λ (r : Ready). r.step) c.in_ok-ready.ensures.made) refl
     (c.in_ok-ready.ensures.same ∙ c.seat.view_is)
 
 pub returns-clause-seat : goal.returns-clause-seat
-returns-clause-seat g c = gains (Step.Apply c.args.worker c.args.namespace.now) (length c.args.self.now.held.log) c.apply-answer.result
+returns-clause-seat g c = gains (Step.Apply c.args.worker c.args.namespace.now) (next_place c.args.self.now.held) c.apply-answer.result
     c.args.seat.now c.receive_answer.new.receipts.items
     (logs_refused (Step.Apply c.args.worker c.args.namespace.now) c.args.self.now.held c.apply-answer.result c.apply-answer.new.self
     c.apply-answer.ensures)

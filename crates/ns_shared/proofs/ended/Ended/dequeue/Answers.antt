@@ -1,5 +1,6 @@
-use Rattle.std.proofs.Common.{ap, arith, length, refl, ◌∙◌}
+use Rattle.std.proofs.Common.{ap, arith, refl, ◌∙◌}
 use Rattle.ns_types.specs.declared.step.Step.TheVariants as Step
+use Rattle.ns_held.specs.Logs.{next_place}
 use Rattle.ns_held.specs.Rendered.{rendered_step}
 use Rattle.ns_held.proofs.Adding.{logs_adds}
 use Rattle.ns_shared.specs.declared.ready.Ready.{Ready}
@@ -17,10 +18,10 @@ receive_answer-requires-clause-room g c = adds_room (Step.Dequeue c.args.worker 
 
 pub receive_answer-requires-clause-entry : goal.receive_answer-requires-clause-entry
 receive_answer-requires-clause-entry g c = entry_behind (Step.Dequeue c.args.worker c.args.namespace.now c.args.evaluation) c.args.self.now.held
-    c.dequeue-answer.result c.dequeue-answer.new.self c.in_ok-ready.ready.place c.log.result.now
+    c.dequeue-answer.result c.dequeue-answer.new.self c.in_ok-ready.ready.number c.log.result.now
     (logs_adds (Step.Dequeue c.args.worker c.args.namespace.now c.args.evaluation) c.args.self.now.held c.dequeue-answer.result c.dequeue-answer.new.self
     c.dequeue-answer.ensures)
-    (ap (λ (r : Ready). r.place) c.in_ok-ready.ensures.made) c.log.ensures.entries
+    (ap (λ (r : Ready). r.number) c.in_ok-ready.ensures.made) c.log.ensures.entries
 
 pub invariant_of-self-2-clause-counted : goal.invariant_of-self-2-clause-counted
 invariant_of-self-2-clause-counted g c = omega (
@@ -33,14 +34,14 @@ invariant_of-self-2-clause-counted g c = omega (
 )
 
 pub returns-clause-received : goal.returns-clause-received
-returns-clause-received g c = c.receive_answer.ensures.receipts ∙ received_same c.in_ok-ready.ready.place (length c.args.self.now.held.log)
+returns-clause-received g c = c.receive_answer.ensures.receipts ∙ received_same c.in_ok-ready.ready.place (next_place c.args.self.now.held)
     c.in_ok-ready.ready.step (Step.Dequeue c.args.worker c.args.namespace.now c.args.evaluation)
     (rendered_step c.dequeue-answer.result) (rendered_step c.dequeue-answer.result) c.prepare_work.new.receipts.items c.args.seat.now
     (ap (λ (r : Ready). r.place) c.in_ok-ready.ensures.made) (ap (λ (r : Ready). r.step) c.in_ok-ready.ensures.made) refl
     (c.in_ok-ready.ensures.same ∙ c.seat.view_is)
 
 pub returns-clause-seat : goal.returns-clause-seat
-returns-clause-seat g c = gains (Step.Dequeue c.args.worker c.args.namespace.now c.args.evaluation) (length c.args.self.now.held.log) c.dequeue-answer.result
+returns-clause-seat g c = gains (Step.Dequeue c.args.worker c.args.namespace.now c.args.evaluation) (next_place c.args.self.now.held) c.dequeue-answer.result
     c.args.seat.now c.receive_answer.new.receipts.items
     (logs_refused (Step.Dequeue c.args.worker c.args.namespace.now c.args.evaluation) c.args.self.now.held c.dequeue-answer.result c.dequeue-answer.new.self
     c.dequeue-answer.ensures)

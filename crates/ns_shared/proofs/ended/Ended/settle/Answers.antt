@@ -1,14 +1,16 @@
-use Rattle.std.proofs.Common.{ap, map, refl, subst, vec_items, ◌∙◌}
+use Rattle.std.proofs.Common.{◌≤◌, ◌∙◌, ap, length, map, refl, subst, sym, vec_items}
+use Rattle.std.proofs.lemmas.List.{length-map}
 use Rattle.ns_held.specs.Logs.{History}
-use Rattle.ns_receipts.specs.Settling.{Settles}
-use Rattle.ns_shared.proofs.SettledAlike.{fault_same, no_mismatch, same_fault, settles_back, settles_same}
+use Rattle.ns_segments.specs.Segments.{Follows, IsGap, joined}
+use Rattle.ns_segments.proofs.Joined.{given_within}
+use Rattle.ns_shared.proofs.SettledAlike.{follows, gap_is_unsettled, gaps, is_of, mismatch, no_mismatch, receipts, settled}
 use Rattle.ns_shared.proofs.ended.Ended.settle.Goals as goal
 
 pub hand_in-requires : goal.hand_in-requires
 hand_in-requires g c = c.requires
 
 pub returns-in_default-clause-settled : goal.returns-in_default-clause-settled
-returns-in_default-clause-settled g c s = refl
+returns-in_default-clause-settled g c last f s k = refl
 
 pub returns-in_default-clause-mismatch : goal.returns-in_default-clause-mismatch
 returns-in_default-clause-mismatch g c seat place is = no_mismatch _ seat place refl is
@@ -16,40 +18,101 @@ returns-in_default-clause-mismatch g c seat place is = no_mismatch _ seat place 
 pub returns-in_default-clause-counts : goal.returns-in_default-clause-counts
 returns-in_default-clause-counts g c never all = absurd (never refl)
 
-pub invariant_of-result : goal.invariant_of-result
-invariant_of-result g c = (
-  map vec_items c.as_slice.result.now,
-  subst (λ log. Settles log (map vec_items c.as_slice.result.now)) c.log.ensures.entries c.in-Ok-settle.ensures.ok,
-)
+-- ---- the segments do not follow each other
 
-pub returns-in-Ok-settle-clause-same : goal.returns-in-Ok-settle-clause-same
-returns-in-Ok-settle-clause-same g c = c.in-Ok.ensures.held
+pub returns-in-Err-clause-settled : goal.returns-in-Err-clause-settled
+returns-in-Err-clause-settled g c last f s k =
+    let starts = c.start-given.ensures ∙ ap (λ (h : History). h.start) c.in-Ok.ensures.held in
+    let gap = subst (λ x. IsGap 0 x c.start-given.result c.in-Err.place) c.as_slice.ensures.value c.in-Err.ensures.gap in
+    gap_is_unsettled c.args.first.now c.args.segments.items c.args.self.held.start c.start-given.result c.args.self.held.log
+    (joined c.args.segments.items c.args.self.held.log) c.args.seats.items (map vec_items c.in-Ok.lists.items)
+    starts refl c.in-Ok.ensures.receipts c.in-Err.place gap f
 
-pub returns-in-Ok-settle-clause-ok : goal.returns-in-Ok-settle-clause-ok
-returns-in-Ok-settle-clause-ok g c = settles_same c.log.result.now c.args.self.held.log (map vec_items c.as_slice.result.now) c.args.seats.items
-    (c.log.ensures.entries ∙ ap (λ (h : History). h.log) c.in-Ok.ensures.held)
-    (ap (map vec_items) c.as_slice.ensures.value ∙ c.in-Ok.ensures.receipts)
-    c.in-Ok-settle.ensures.ok
+pub returns-in-Err-clause-mismatch : goal.returns-in-Err-clause-mismatch
+returns-in-Err-clause-mismatch g c seat place is =
+    let starts = c.start-given.ensures ∙ ap (λ (h : History). h.start) c.in-Ok.ensures.held in
+    let gap = subst (λ x. IsGap 0 x c.start-given.result c.in-Err.place) c.as_slice.ensures.value c.in-Err.ensures.gap in
+    gaps c.args.first.now c.args.segments.items c.args.self.held.start c.start-given.result c.args.self.held.log
+    (joined c.args.segments.items c.args.self.held.log) c.args.seats.items (map vec_items c.in-Ok.lists.items)
+    starts refl c.in-Ok.ensures.receipts c.len-seat.result c.in-Err.place seat place
+    (c.len-seat.ensures ∙ c.in-Ok.lists.ok.0 ∙ sym (length-map c.in-Ok.lists.items vec_items)) gap is
 
-pub returns-in-Ok-settle-clause-mismatch : goal.returns-in-Ok-settle-clause-mismatch
-returns-in-Ok-settle-clause-mismatch g c seat place is = no_mismatch _ seat place refl is
+pub returns-in-Err-clause-counts : goal.returns-in-Err-clause-counts
+returns-in-Err-clause-counts g c never all = c.in-Ok.ensures.counts all
 
-pub returns-in-Ok-settle-clause-counts : goal.returns-in-Ok-settle-clause-counts
-returns-in-Ok-settle-clause-counts g c never all = c.in-Ok.ensures.counts all
+-- ---- no memory to join them
+
+pub returns-in_default-join-clause-settled : goal.returns-in_default-join-clause-settled
+returns-in_default-join-clause-settled g c last f s k = refl
+
+pub returns-in_default-join-clause-mismatch : goal.returns-in_default-join-clause-mismatch
+returns-in_default-join-clause-mismatch g c seat place is = no_mismatch _ seat place refl is
+
+pub returns-in_default-join-clause-counts : goal.returns-in_default-join-clause-counts
+returns-in_default-join-clause-counts g c never all = absurd (never refl)
+
+-- ---- they are joined
+
+pub settle_run-requires : goal.settle_run-requires
+settle_run-requires g c =
+    let follow = subst (λ x. Follows 0 x c.start-given.result) c.as_slice.ensures.value c.in_default-follow.ensures.ok in
+    record {
+      given = subst (λ log. c.start-given.result ≤ length log) (sym c.in-Ok-join.ensures)
+          (given_within c.args.segments.items c.start-given.result c.into_log.result.items follow);
+    }
+
+pub returns-clause-log : goal.returns-clause-log
+returns-clause-log g c =
+    let starts = c.start-given.ensures ∙ ap (λ (h : History). h.start) c.in-Ok.ensures.held in
+    let log = c.into_log.ensures ∙ ap (λ (h : History). h.log) c.in-Ok.ensures.held in
+    let joins = c.in-Ok-join.ensures ∙ ap (joined c.args.segments.items) log in
+    let follow = subst (λ x. Follows 0 x c.start-given.result) c.as_slice.ensures.value c.in_default-follow.ensures.ok in
+    is_of c.args.first.now c.args.segments.items c.args.self.held.start c.start-given.result c.args.self.held.log
+    c.in-Ok-join.log.items c.args.seats.items (map vec_items c.in-Ok.lists.items) starts joins c.in-Ok.ensures.receipts follow
+    c.settle_run.result c.settle_run.ensures.base c.settle_run.ensures.log c.settle_run.ensures.given
+
+pub returns-clause-follow : goal.returns-clause-follow
+returns-clause-follow g c =
+    let starts = c.start-given.ensures ∙ ap (λ (h : History). h.start) c.in-Ok.ensures.held in
+    let log = c.into_log.ensures ∙ ap (λ (h : History). h.log) c.in-Ok.ensures.held in
+    let joins = c.in-Ok-join.ensures ∙ ap (joined c.args.segments.items) log in
+    let follow = subst (λ x. Follows 0 x c.start-given.result) c.as_slice.ensures.value c.in_default-follow.ensures.ok in
+    follows c.args.first.now c.args.segments.items c.args.self.held.start c.start-given.result c.args.self.held.log
+    c.in-Ok-join.log.items c.args.seats.items (map vec_items c.in-Ok.lists.items) starts joins c.in-Ok.ensures.receipts follow
+    c.settle_run.result
+
+pub returns-clause-receipts : goal.returns-clause-receipts
+returns-clause-receipts g c =
+    let starts = c.start-given.ensures ∙ ap (λ (h : History). h.start) c.in-Ok.ensures.held in
+    let log = c.into_log.ensures ∙ ap (λ (h : History). h.log) c.in-Ok.ensures.held in
+    let joins = c.in-Ok-join.ensures ∙ ap (joined c.args.segments.items) log in
+    let follow = subst (λ x. Follows 0 x c.start-given.result) c.as_slice.ensures.value c.in_default-follow.ensures.ok in
+    receipts c.args.first.now c.args.segments.items c.args.self.held.start c.start-given.result c.args.self.held.log
+    c.in-Ok-join.log.items c.args.seats.items (map vec_items c.in-Ok.lists.items) starts joins c.in-Ok.ensures.receipts follow
+    c.settle_run.result c.settle_run.ensures.receipts
+
+pub returns-clause-run : goal.returns-clause-run
+returns-clause-run g c = c.settle_run.ensures.run
 
 pub returns-clause-settled : goal.returns-clause-settled
-returns-clause-settled g c s = c.in-Err.ensures.settled
-    (settles_back c.log.result.now c.args.self.held.log (map vec_items c.as_slice.result.now) c.args.seats.items
-    (c.log.ensures.entries ∙ ap (λ (h : History). h.log) c.in-Ok.ensures.held)
-    (ap (map vec_items) c.as_slice.ensures.value ∙ c.in-Ok.ensures.receipts)
-    s)
+returns-clause-settled g c last f s k =
+    let starts = c.start-given.ensures ∙ ap (λ (h : History). h.start) c.in-Ok.ensures.held in
+    let log = c.into_log.ensures ∙ ap (λ (h : History). h.log) c.in-Ok.ensures.held in
+    let joins = c.in-Ok-join.ensures ∙ ap (joined c.args.segments.items) log in
+    let follow = subst (λ x. Follows 0 x c.start-given.result) c.as_slice.ensures.value c.in_default-follow.ensures.ok in
+    settled c.args.first.now c.args.segments.items c.args.self.held.start c.start-given.result c.args.self.held.log
+    c.in-Ok-join.log.items c.args.seats.items (map vec_items c.in-Ok.lists.items) starts joins c.in-Ok.ensures.receipts follow
+    c.settle_run.result c.settle_run.ensures.settled last s k
 
 pub returns-clause-mismatch : goal.returns-clause-mismatch
 returns-clause-mismatch g c seat place is =
-    fault_same c.log.result.now c.args.self.held.log (map vec_items c.as_slice.result.now) c.args.seats.items
-    (c.log.ensures.entries ∙ ap (λ (h : History). h.log) c.in-Ok.ensures.held)
-    (ap (map vec_items) c.as_slice.ensures.value ∙ c.in-Ok.ensures.receipts)
-    seat place (c.in-Err.ensures.mismatch seat place (same_fault c.in-Err.fault seat place is))
+    let starts = c.start-given.ensures ∙ ap (λ (h : History). h.start) c.in-Ok.ensures.held in
+    let log = c.into_log.ensures ∙ ap (λ (h : History). h.log) c.in-Ok.ensures.held in
+    let joins = c.in-Ok-join.ensures ∙ ap (joined c.args.segments.items) log in
+    let follow = subst (λ x. Follows 0 x c.start-given.result) c.as_slice.ensures.value c.in_default-follow.ensures.ok in
+    mismatch c.args.first.now c.args.segments.items c.args.self.held.start c.start-given.result c.args.self.held.log
+    c.in-Ok-join.log.items c.args.seats.items (map vec_items c.in-Ok.lists.items) starts joins c.in-Ok.ensures.receipts follow
+    c.settle_run.result c.settle_run.ensures.mismatch seat place is
 
 pub returns-clause-counts : goal.returns-clause-counts
 returns-clause-counts g c never all = c.in-Ok.ensures.counts all

@@ -1,6 +1,7 @@
-use Rattle.std.proofs.Common.{ap, arith, length, refl, ◌∙◌}
+use Rattle.std.proofs.Common.{ap, arith, refl, ◌∙◌}
 use Rattle.ns_types.specs.declared.step.Step.TheVariants as Step
 use Rattle.ns_drive.specs.Calls.{snapped}
+use Rattle.ns_held.specs.Logs.{next_place}
 use Rattle.ns_held.specs.Rendered.{rendered_step}
 use Rattle.ns_held.proofs.Adding.{logs_adds}
 use Rattle.ns_shared.specs.declared.ready.Ready.{Ready}
@@ -18,10 +19,10 @@ receive_snapped-requires-clause-room g c = adds_room (Step.Snap c.args.worker c.
 
 pub receive_snapped-requires-clause-entry : goal.receive_snapped-requires-clause-entry
 receive_snapped-requires-clause-entry g c = entry_behind (Step.Snap c.args.worker c.args.namespace.now) c.args.self.now.held (snapped c.snap-seen.result)
-    c.snap-seen.new.self c.in_ok-ready.ready.place c.log.result.now
+    c.snap-seen.new.self c.in_ok-ready.ready.number c.log.result.now
     (logs_adds (Step.Snap c.args.worker c.args.namespace.now) c.args.self.now.held (snapped c.snap-seen.result) c.snap-seen.new.self
     c.snap-seen.ensures.logged)
-    (ap (λ (r : Ready). r.place) c.in_ok-ready.ensures.made) c.log.ensures.entries
+    (ap (λ (r : Ready). r.number) c.in_ok-ready.ensures.made) c.log.ensures.entries
 
 pub invariant_of-self-2-clause-counted : goal.invariant_of-self-2-clause-counted
 invariant_of-self-2-clause-counted g c = omega (
@@ -34,14 +35,14 @@ invariant_of-self-2-clause-counted g c = omega (
 )
 
 pub returns-clause-received : goal.returns-clause-received
-returns-clause-received g c = c.receive_snapped.ensures.receipts ∙ received_same c.in_ok-ready.ready.place (length c.args.self.now.held.log)
+returns-clause-received g c = c.receive_snapped.ensures.receipts ∙ received_same c.in_ok-ready.ready.place (next_place c.args.self.now.held)
     c.in_ok-ready.ready.step (Step.Snap c.args.worker c.args.namespace.now)
     (rendered_step (snapped c.snap-seen.result)) (rendered_step (snapped c.snap-seen.result)) c.prepare_work.new.receipts.items c.args.seat.now
     (ap (λ (r : Ready). r.place) c.in_ok-ready.ensures.made) (ap (λ (r : Ready). r.step) c.in_ok-ready.ensures.made) refl
     (c.in_ok-ready.ensures.same ∙ c.seat.view_is)
 
 pub returns-clause-seat : goal.returns-clause-seat
-returns-clause-seat g c = gains (Step.Snap c.args.worker c.args.namespace.now) (length c.args.self.now.held.log) (snapped c.snap-seen.result)
+returns-clause-seat g c = gains (Step.Snap c.args.worker c.args.namespace.now) (next_place c.args.self.now.held) (snapped c.snap-seen.result)
     c.args.seat.now c.receive_snapped.new.receipts.items
     (logs_refused (Step.Snap c.args.worker c.args.namespace.now) c.args.self.now.held (snapped c.snap-seen.result) c.snap-seen.new.self
     c.snap-seen.ensures.logged)

@@ -1,5 +1,6 @@
-use Rattle.std.proofs.Common.{ap, arith, length, refl, ◌∙◌}
+use Rattle.std.proofs.Common.{ap, arith, refl, ◌∙◌}
 use Rattle.ns_types.specs.declared.step.Step.TheVariants as Step
+use Rattle.ns_held.specs.Logs.{next_place}
 use Rattle.ns_held.specs.Rendered.{rendered_step}
 use Rattle.ns_held.proofs.Adding.{submit_adds}
 use Rattle.ns_shared.specs.declared.ready.Ready.{Ready}
@@ -17,10 +18,10 @@ receive_answer-requires-clause-room g c = adds_room (Step.Submit c.args.worker c
 
 pub receive_answer-requires-clause-entry : goal.receive_answer-requires-clause-entry
 receive_answer-requires-clause-entry g c = entry_behind (Step.Submit c.args.worker c.args.namespace.now) c.args.self.now.held c.submit-answer.result
-    c.submit-answer.new.self c.in-Ok.ready.place c.log.result.now
+    c.submit-answer.new.self c.in-Ok.ready.number c.log.result.now
     (submit_adds c.args.worker c.args.namespace.now c.args.planned c.args.self.now.held c.submit-answer.result c.submit-answer.new.self
     c.submit-answer.ensures)
-    (ap (λ (r : Ready). r.place) c.in-Ok.ensures.made) c.log.ensures.entries
+    (ap (λ (r : Ready). r.number) c.in-Ok.ensures.made) c.log.ensures.entries
 
 pub invariant_of-self-2-clause-counted : goal.invariant_of-self-2-clause-counted
 invariant_of-self-2-clause-counted g c = omega (
@@ -33,14 +34,14 @@ invariant_of-self-2-clause-counted g c = omega (
 )
 
 pub returns-clause-received : goal.returns-clause-received
-returns-clause-received g c = c.receive_answer.ensures.receipts ∙ received_same c.in-Ok.ready.place (length c.args.self.now.held.log)
+returns-clause-received g c = c.receive_answer.ensures.receipts ∙ received_same c.in-Ok.ready.place (next_place c.args.self.now.held)
     c.in-Ok.ready.step (Step.Submit c.args.worker c.args.namespace.now)
     (rendered_step c.submit-answer.result) (rendered_step c.submit-answer.result) c.prepare_work-prepared.new.receipts.items c.args.seat.now
     (ap (λ (r : Ready). r.place) c.in-Ok.ensures.made) (ap (λ (r : Ready). r.step) c.in-Ok.ensures.made) refl
     (c.in-Ok.ensures.same ∙ c.seat.view_is)
 
 pub returns-clause-seat : goal.returns-clause-seat
-returns-clause-seat g c = gains (Step.Submit c.args.worker c.args.namespace.now) (length c.args.self.now.held.log) c.submit-answer.result
+returns-clause-seat g c = gains (Step.Submit c.args.worker c.args.namespace.now) (next_place c.args.self.now.held) c.submit-answer.result
     c.args.seat.now c.receive_answer.new.receipts.items
     (submit_refused c.args.worker c.args.namespace.now c.args.planned c.args.self.now.held c.submit-answer.result c.submit-answer.new.self
     c.submit-answer.ensures)

@@ -1,6 +1,7 @@
 use Rattle.std.proofs.Common.{ap, arith, sym, subst, length, ◌∙◌}
 use Rattle.std.specs.contracts.alloc.Global.{the_row}
 use Rattle.ns_types.specs.declared.step.Step.{Step}
+use Rattle.ns_held.specs.Logs.{next_place}
 use Rattle.ns_shared.specs.Receiving.{LogsAsked, answered, count, receipt_of, response_of}
 use Rattle.ns_shared.proofs.Adding.{asked_count, begin_asked, given_asked, given_same, received_length, received_same}
 use Rattle.ns_shared.proofs.ended.Ended.take.Goals as goal
@@ -48,7 +49,7 @@ invariant_of-seat-2 g c = (
     c.seat.invariant.1,
     ap length c.prepare_copy.ensures.same,
     ap length c.receive_given.ensures.receipts,
-    received_length (length c.log.result.now) c.in-Ok.copy (receipt_of c.take_rendered-given.result) c.prepare_copy.new.receipts.items,
+    received_length c.next_place-place.result c.in-Ok.copy (receipt_of c.take_rendered-given.result) c.prepare_copy.new.receipts.items,
     c.receive_given.ensures.amount,
   ),
 )
@@ -59,10 +60,10 @@ returns-clause-logged g c =
     (given_asked c.args.step c.args.self.now.held c.take_rendered-given.result c.take_rendered-given.new.self c.take_rendered-given.ensures)
 
 pub returns-clause-received : goal.returns-clause-received
-returns-clause-received g c = c.receive_given.ensures.receipts ∙ received_same (length c.log.result.now) (length c.args.self.now.held.log)
+returns-clause-received g c = c.receive_given.ensures.receipts ∙ received_same c.next_place-place.result (next_place c.args.self.now.held)
     c.in-Ok.copy c.args.step (receipt_of c.take_rendered-given.result) (answered c.receive_given.result)
     c.prepare_copy.new.receipts.items c.args.seat.now
-    (ap length c.log.ensures.entries) c.in-Ok.ensures.step
+    c.next_place-place.ensures c.in-Ok.ensures.step
     (given_same c.args.step c.args.self.now.held c.take_rendered-given.result c.take_rendered-given.new.self c.take_rendered-given.ensures
     ∙ ap answered (sym c.receive_given.ensures.response))
     (c.prepare_copy.ensures.same ∙ c.seat.view_is)

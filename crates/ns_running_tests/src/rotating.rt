@@ -1,0 +1,101 @@
+// A server whose log is given out in a segment: what its callers were answered settles with the segment and the log after it.
+ghost use Rattle.std.specs.Prelude.{◌≡◌};
+
+use crate::guest::{guest, look, register, seat_of, set_up};
+use crate::server::{core, opened};
+use ns_core::Core;
+use ns_held::Held;
+use ns_receipts::SettleFault;
+use ns_segments::Segment;
+use ns_shared::{PARTS, Seat, Settled, Shared};
+use std::alloc::Global;
+use std::marker::Brand;
+use std::process::Abort;
+use std::sync::Wait;
+use std::sync::ledger::{Blank, Ledger};
+
+const JOBS: &str = "/v1/jobs?namespace=tb";
+
+/// A server with the pools, the quota, the namespaces and the nodes of the set-up.
+fn base<L: Ledger, R: Wait + Abort>(rt: &R, alloc: Global, blank: Blank) -> Core
+    requires name { blank.name ≡ L.name }
+    requires parts { (blank.parts ≡ L.parts) × (L.parts ≡ 18446744073709551615) }
+{
+    let shared = opened::<L, R>(rt, alloc, 8, blank);
+    let mut guest = guest(rt, alloc, &shared);
+    set_up(rt, alloc, &mut guest);
+    drop(seat_of(guest));
+    let ended = shared.end();
+    ended.held().core().copy(alloc).expect(rt, "memory")
+}
+
+/// Registers a job three times over one seat. The log takes two entries, and is given out behind the second.
+fn register_thrice<L: Ledger, R: Wait + Abort>(
+    rt: &R,
+    alloc: Global,
+    shared: &Shared<L>,
+) -> (Seat<L>, Segment) {
+    let mut guest = guest(rt, alloc, shared);
+    drop(register(rt, alloc, &mut guest, JOBS, "a"));
+    drop(register(rt, alloc, &mut guest, JOBS, "a"));
+    let refused = look(rt, alloc, &mut guest, JOBS);
+    assert!(rt; refused.as_str().ends_with("log full"), "{refused}");
+    let segment = shared.rotate(rt, alloc).ok().expect(rt, "memory");
+    assert!(rt; segment.start() == 0 && segment.entries().len() == 2);
+    assert!(rt; shared.entries(rt) == 0);
+    drop(register(rt, alloc, &mut guest, JOBS, "a"));
+    assert!(rt; shared.entries(rt) == 1);
+    (seat_of(guest), segment)
+}
+
+/// The third receipt names the place behind the segment, and the index of the third registration.
+fn check_third<L: Ledger, R: Abort>(rt: &R, seat: &Seat<L>) {
+    let third = seat.receipts().get(2).expect(rt, "three receipts");
+    assert!(rt; third.place == 2 && third.rendered.index == Some(3));
+}
+
+/// What settling says of the three registrations on a server in the state of the base, from this first server: with the segment
+/// that was given out, or with none.
+fn settled<L: Ledger, R: Wait + Abort>(
+    rt: &R,
+    alloc: Global,
+    base: &Core,
+    first: &Core,
+    has_segment: bool,
+    blank: Blank,
+) -> Result<Settled, SettleFault>
+    requires name { blank.name ≡ L.name }
+    requires parts { (blank.parts ≡ L.parts) × (L.parts ≡ 18446744073709551615) }
+{
+    let core = base.copy(alloc).expect(rt, "memory");
+    let shared = Shared::<L>::new(Held::new(alloc, core, 2), blank, None);
+    let (seat, segment) = register_thrice(rt, alloc, &shared);
+    check_third(rt, &seat);
+    let mut seats = Vec::new(alloc);
+    seats.push(seat).expect(rt, "memory");
+    let mut segments = Vec::new(alloc);
+    if has_segment {
+        segments.push(segment).expect(rt, "memory");
+    }
+    shared.end().settle(alloc, seats, first, segments)
+}
+
+#[test]
+fn rotation_and_settle(rt: HostRuntime) {
+    let alloc = rt.alloc();
+    let base = base::<Brand, _>(&rt, alloc, Blank::new(PARTS));
+    let whole = settled::<Brand, _>(&rt, alloc, &base, &base, true, Blank::new(PARTS));
+    let whole = whole.ok().expect(&rt, "it settles");
+    assert!(rt; whole.log().len() == 3 && whole.given() == 2 && whole.present().len() == 1);
+    let cut = settled::<Brand, _>(&rt, alloc, &base, &base, false, Blank::new(PARTS));
+    assert!(rt; cut.err() == Some(SettleFault::Mismatch { seat: 1, place: 0 }));
+}
+
+#[test]
+fn the_log_of_another_server(rt: HostRuntime) {
+    let alloc = rt.alloc();
+    let base = base::<Brand, _>(&rt, alloc, Blank::new(PARTS));
+    let new = core(&rt, alloc);
+    let other = settled::<Brand, _>(&rt, alloc, &base, &new, true, Blank::new(PARTS));
+    assert!(rt; other.err() == Some(SettleFault::Mismatch { seat: 1, place: 0 }));
+}
