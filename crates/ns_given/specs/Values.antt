@@ -47,3 +47,8 @@ accept_by (Some text) = option_map Some (number_between 1 (2 ^ 64 - 1) text)
 -- a million, where nothing is said
 abbrev pub log_limit_by : Option (List ℕ) → Option ℕ
 log_limit_by = number_by 1000000 1 (2 ^ 64 - 1)
+
+-- never, where nothing is said; else from one on and below the limit
+abbrev pub rotate_by : ℕ → Option (List ℕ) → Option (Option ℕ)
+rotate_by limit None = Some None
+rotate_by limit (Some text) = option_map Some (number_between 1 (limit - 1) text)

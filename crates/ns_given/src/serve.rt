@@ -1,7 +1,7 @@
 //! What is given to `serve`. None: a value is not what it has to be.
 
 ghost use Rattle.std.specs.Prelude.{◌≡◌, IfOk, option_map};
-ghost use Rattle.ns_given.specs.Values.{accept_by, connections_by, log_limit_by, secret_by, workers_by};
+ghost use Rattle.ns_given.specs.Values.{accept_by, connections_by, log_limit_by, rotate_by, secret_by, workers_by};
 
 use crate::number::{number_between, number_by};
 use ns_types::name::Secret;
@@ -50,4 +50,14 @@ pub fn log_limit(given: Option<&str>) -> Option<u64>
     ensures { result ≡ log_limit_by (option_map (λ s. s.now) given.entry) }
 {
     number_by(1_000_000, 1, u64::MAX, given)
+}
+
+/// With how many entries the log is rotated, by what is given for it and the limit of the log.
+pub fn rotate(log_limit: u64, given: Option<&str>) -> Option<Option<u64>>
+    ensures { result ≡ rotate_by log_limit (option_map (λ s. s.now) given.entry) }
+{
+    match given {
+        None => Some(None),
+        Some(text) => number_between(1, log_limit.saturating_sub(1), text).map(Some),
+    }
 }

@@ -7,6 +7,8 @@ mod ending;
 #[cfg(test)]
 mod filling;
 #[cfg(test)]
+mod full;
+#[cfg(test)]
 mod guest;
 #[cfg(test)]
 mod many;

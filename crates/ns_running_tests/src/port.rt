@@ -96,17 +96,17 @@ fn served<R: Threads + Wait + Clock + Sync + Net<Listener = TcpListener, Stream 
     notes: &Mutex<Vec<u8>>,
     output: Output,
 ) -> Result<(u8, Output), AllocError> {
-    let mut writer = Counted::new(output);
+    let writer = Counted::new(output);
     let mut errors = Counted::new(Notes { rt, bytes: notes });
     let drawers = drawers(alloc, service.connections)?;
     let blank = Blank::new(PARTS);
-    let status = serve::<Brand, _, _, _, _>(
+    let (status, writer) = serve::<Brand, _, _, _, _>(
         rt,
         alloc,
         service,
         drawers,
         blank,
-        &mut writer,
+        writer,
         &mut errors,
     );
     Ok((status, writer.into_inner()))
@@ -152,12 +152,29 @@ pub(crate) fn service(alloc: Global, connections: u64) -> Result<Service, AllocE
         connections,
         accept: Some(connections),
         log_limit: 10_000,
+        rotate: None,
     })
+}
+
+/// How many entries the log has, if each line in front of a segment has the number of those before it.
+pub(crate) fn entries_of(alloc: Global, log: &str) -> Result<Option<u64>, AllocError> {
+    let mut entries = 0;
+    for line in log.lines() {
+        if line.starts_with("{") {
+            entries += 1;
+        } else {
+            let head = format!(in alloc; "nsd-log 3 {entries} root")?;
+            if line != head.as_str() {
+                return Ok(None);
+            }
+        }
+    }
+    Ok(Some(entries))
 }
 
 /// Whether the server ended with exit status 0, and the last line says how many entries the printed log has.
 pub(crate) fn is_settled(alloc: Global, ending: &Ending) -> Result<bool, AllocError> {
-    let entries = ending.log().lines().count().saturating_sub(1);
+    let entries = entries_of(alloc, ending.log())?.unwrap_or(0);
     let line = format!(in alloc; "settled {entries}")?;
     Ok(ending.status == 0 && ending.errors().lines().last() == Some(line.as_str()))
 }

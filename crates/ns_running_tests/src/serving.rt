@@ -1,5 +1,5 @@
 // What a server over a port of the system's answers and prints. Expected bytes are written from the formats.
-use crate::port::{Output, is_settled, run, service};
+use crate::port::{Output, entries_of, is_settled, run, service};
 use crate::visits::{REGISTERED, Visit, text};
 use std::alloc::Global;
 use std::net::{SocketAddr, TcpListener};
@@ -98,5 +98,43 @@ fn port_in_use(rt: HostRuntime) -> Result<(), Fail> {
     assert_eq!(rt; ending.log(), "");
     assert_eq!(rt; ending.errors(), "read fault\n");
     assert_eq!(rt; ending.status, 3);
+    Ok(())
+}
+
+/// The log is given out whenever it has three entries or more: the text has its segments, one behind the other, and then the rest.
+#[test]
+fn rotates_while_it_serves(rt: HostRuntime) -> Result<(), Fail> {
+    let alloc: Global = rt.alloc();
+    let mut service = service(alloc, 8)?;
+    service.rotate = Some(3);
+    let output = Output::Open(Vec::new(alloc));
+    let ending = run(&rt, alloc, &service, output, 8, Visit::Asks)?;
+    assert_eq!(rt; ending.replies.len(), 8);
+    let heads = ending.log().matches("nsd-log 3 ").count();
+    assert!(rt; heads > 1, "{heads} segments");
+    assert!(rt; entries_of(alloc, ending.log())?.is_some_and(|entries| entries >= 16));
+    assert!(rt; is_settled(alloc, &ending)?);
+    Ok(())
+}
+
+/// A segment can't be written. The server goes on; at the end the log settles, and then comes the fault.
+#[test]
+fn a_segment_is_not_written(rt: HostRuntime) -> Result<(), Fail> {
+    let alloc: Global = rt.alloc();
+    let mut service = service(alloc, 8)?;
+    service.rotate = Some(3);
+    let ending = run(&rt, alloc, &service, Output::Broken, 8, Visit::Asks)?;
+    assert_eq!(rt; ending.replies.len(), 8);
+    for replies in ending.replies.iter() {
+        assert_eq!(rt;
+            text(replies.as_slice())
+                .matches("HTTP/1.1 200 OK\r\n")
+                .count(),
+            2
+        );
+    }
+    assert_eq!(rt; ending.status, 4);
+    assert!(rt; ending.errors().lines().last() == Some("write fault"));
+    assert!(rt; ending.errors().contains("\nsettled "));
     Ok(())
 }

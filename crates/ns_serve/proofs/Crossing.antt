@@ -18,5 +18,8 @@ House-sync a L g =
     let shared = Shared-sync L g in
     declared_sync (House.the_type a L g) (
       search (sendable, shared) depth 5,
-      (search (sendable, Door-sync) depth 5, (search (sendable, crosses) depth 20, (search (sendable, crosses) depth 20, tt))),
+      (
+        search (sendable, Door-sync) depth 5,
+        (search (sendable, crosses) depth 20, (search (sendable, crosses) depth 20, (search (sendable, crosses) depth 20, tt))),
+      ),
     )

@@ -1,17 +1,24 @@
 -- How a server ended, from its status and what was printed.
-use Rattle.std.specs.Prelude.{◌≡◌, ℕ, List, Option, Result, Ok, Err}
+use Rattle.std.specs.Prelude.{◌≡◌, ◌⊎◌, ℕ, List, [], ◌++◌, length, Option, Some, None, Result, Ok, Err, Bool, true, IfOk, IsOkAnd, IsTrue, OnOk}
 use Rattle.std.specs.Result.{IsErrOf}
 use Rattle.std.specs.declared.net.socket_addr.SocketAddr.{SocketAddr}
-use Rattle.std.proofs.Common.{ap, arith, inl, inr, refl, subst}
+use Rattle.std.proofs.Common.{ap, arith, inl, inr, refl, subst, sym}
+use Rattle.std.proofs.lemmas.List.{append-nil}
 use Rattle.ns_types.specs.State.Names.{Name}
-use Rattle.ns_shared.specs.Settling.{Settlement}
+use Rattle.ns_json.specs.Logs.{segment_text}
+use Rattle.ns_segments.specs.Segments.{Given}
+use Rattle.ns_shared.specs.Settling.{Settlement, present}
+use Rattle.ns_http.specs.Counts.{HasGrown}
+use Rattle.ns_http.specs.Output.{WritesAll, WritesPart}
 use Rattle.ns_http.specs.declared.counting.Counted.{Counted}
 use Rattle.ns_http.specs.declared.engine.ConnFault.{ConnFault}
-use Rattle.ns_faults.specs.Lines.{TriesToWrite, line_of, mismatch_line, status_of}
+use Rattle.ns_faults.specs.Lines.{FailsToWrite, TriesToWrite, line_of, mismatch_line, status_of}
 use Rattle.ns_faults.specs.declared.status.TheConstants.{SERVED, MISMATCH, WRITE_FAULT}
-use Rattle.ns_serve.specs.Ending.{EndsInPart, EndsSettled, IsChosen, IsEnd, IsLastLine, fault_line, fault_status}
+use Rattle.ns_serve.specs.Ending.{EndsBy, EndsInPart, EndsSettled, EndsUnsettled, IsChosen, IsEnd, IsLastLine, fault_line, fault_status}
+use Rattle.ns_serve.specs.Keeping.{WritesText, texts_of}
 use Rattle.ns_serve.specs.Opening.{opening_lines}
-use Rattle.ns_serve.specs.Printing.{PrintsPart, PrintsRun}
+use Rattle.ns_serve.specs.Printing.{IsRunOf, settled_line}
+use Rattle.ns_serve.proofs.Written.{text_then}
 use Rattle.ns_serve.specs.declared.fault.ServeFault.{ServeFault}
 
 abbrev fault_of : {T : Type 0} → Result T ServeFault → ServeFault
@@ -61,45 +68,87 @@ line_of_mismatch (ServeFault.Conn ConnFault.Write) e = absurd (omega (arith, e))
 line_of_mismatch (ServeFault.Conn ConnFault.Memory) e = absurd (omega (arith, e))
 line_of_mismatch ServeFault.Mismatch e = refl
 
+-- a log settled with all segments that were taken
+pub run_of : (kept secret : Name) (segments given : List Given) (is_whole : Bool) (r : Result Settlement ServeFault) → kept ≡ secret →
+    (is_whole ≡ true → segments ≡ given) → IfOk r (IsRunOf kept segments) → OnOk r (IsTrue is_whole) → IfOk r (IsRunOf secret given)
+run_of kept secret segments given is_whole (Ok s) same all run whole =
+    subst (λ x. IsRunOf x given s) same (subst (λ x. IsRunOf kept x s) (all whole) run)
+run_of kept secret segments given is_whole (Err e) same all run whole = tt
+
 -- ---- how it ended
 
 module _ {D W E : Type 0} (draws : D → List ℕ → D → Type 0) (contents : W → Option (List ℕ)) (error_text : E → Option (List ℕ))
     (given : Option Name) (drawers : List D) where
-  pub ends_settled : (address : SocketAddr) (secret : Name) (settlement : Settlement) (writer writer' : Counted W)
-      (errors opened errors' : Counted E) (lines line : List ℕ) → IsChosen draws given drawers secret →
-      lines ≡ opening_lines given address secret → TriesToWrite error_text errors opened lines →
-      PrintsRun contents secret settlement writer writer' line → TriesToWrite error_text opened errors' line →
-      EndsSettled draws contents error_text given drawers writer writer' errors errors'
-  ends_settled address secret settlement writer writer' errors opened errors' lines line chosen are wrote prints ended = record {
-    address = address;
-    secret = secret;
-    settlement = settlement;
-    opened = opened;
-    is_secret = chosen;
-    is_run = prints.is_run;
-    printed = prints.printed;
-    listens = subst (TriesToWrite error_text errors opened) are wrote;
-    settled = subst (TriesToWrite error_text opened errors') prints.counts ended;
-  }
+  pub part_of : (fault : Option ConnFault) (u v : Counted W) (text : List ℕ) → WritesText contents fault u v text → WritesPart contents u v text
+  part_of None u v text x = (text, [], sym (append-nil text), x)
+  part_of (Some ConnFault.Write) u v text x = x.0
+  part_of (Some ConnFault.Memory) u v text x = x
+  part_of (Some ConnFault.Read) u v text x = absurd x
 
-  pub ends_in_part : (secret : Name) (settlement : Settlement) (writer writer' : Counted W) → IsChosen draws given drawers secret →
-      PrintsPart contents secret settlement writer writer' → EndsInPart draws contents error_text given drawers writer writer'
-  ends_in_part secret settlement writer writer' chosen prints = record {
-    secret = secret;
-    settlement = settlement;
-    is_secret = chosen;
-    is_run = prints.is_run;
-    printed = prints.printed;
-  }
+  module _ (secret : Name) (segments : List Given) (fault : Option ConnFault) (writer mid writer' : Counted W)
+      (chosen : IsChosen draws given drawers secret) (writes : WritesText contents fault writer mid (texts_of secret segments))
+      (grows : HasGrown writer.counts mid.counts) where
+    -- all that was given out, and behind it what a fault says of the rest
+    behind : (rest : Option ConnFault) (text : List ℕ) → fault ≡ None → WritesText contents rest mid writer' text →
+        WritesText contents rest writer writer' (texts_of secret segments ++ text)
+    behind rest text whole printed = text_then contents rest writer mid writer' (texts_of secret segments) text grows
+        (subst (λ f. WritesText contents f writer mid (texts_of secret segments)) whole writes) printed
+
+    pub ends_settled : (settled : Result Settlement ServeFault) (address : SocketAddr) (errors opened errors' : Counted E) (lines : List ℕ) →
+        IfOk settled (IsRunOf secret segments) → fault ≡ None →
+        IsOkAnd settled (λ s. WritesAll contents mid writer' (segment_text secret s.given (present s))) →
+        IsOkAnd settled (λ s. TriesToWrite error_text opened errors' (settled_line (length s.log))) →
+        lines ≡ opening_lines given address secret → TriesToWrite error_text errors opened lines →
+        EndsSettled draws contents error_text given drawers writer writer' errors errors'
+    ends_settled (Ok s) address errors opened errors' lines run whole printed ended are wrote = record {
+      address = address;
+      secret = secret;
+      segments = segments;
+      settlement = s;
+      opened = opened;
+      is_secret = chosen;
+      is_run = run;
+      printed = behind None (segment_text secret s.given (present s)) whole printed;
+      listens = subst (TriesToWrite error_text errors opened) are wrote;
+      settled = ended;
+    }
+    ends_settled (Err e) address errors opened errors' lines run whole printed ended are wrote = absurd printed
+
+    pub ends_in_part : (settled : Result Settlement ServeFault) → IfOk settled (IsRunOf secret segments) →
+        ((fault ≡ Some ConnFault.Write) × (writer' ≡ mid)) ⊎ ((fault ≡ None)
+        × IsOkAnd settled (λ s. FailsToWrite contents mid writer' (segment_text secret s.given (present s)))) →
+        EndsInPart draws contents error_text given drawers writer writer'
+    ends_in_part settled run (inl cut) = record {
+      secret = secret;
+      segments = segments;
+      is_secret = chosen;
+      printed = inl (subst (λ v. FailsToWrite contents writer v (texts_of secret segments)) (sym cut.1)
+          (subst (λ f. WritesText contents f writer mid (texts_of secret segments)) cut.0 writes));
+    }
+    ends_in_part (Ok s) run (inr rest) = record {
+      secret = secret;
+      segments = segments;
+      is_secret = chosen;
+      printed = inr (s, run, behind (Some ConnFault.Write) (segment_text secret s.given (present s)) rest.0 rest.1);
+    }
+    ends_in_part (Err e) run (inr rest) = absurd rest.1
+
+    pub ends_unsettled : writer' ≡ mid → EndsUnsettled draws contents error_text given drawers writer writer'
+    ends_unsettled same = inr (
+      secret,
+      segments,
+      chosen,
+      subst (λ v. WritesPart contents writer v (texts_of secret segments)) (sym same) (part_of fault writer mid (texts_of secret segments) writes),
+    )
 
   -- behind the first lines
-  pub last_behind : (address : SocketAddr) (secret : Name) (errors opened errors' : Counted E) (lines line line' : List ℕ) →
+  pub last_behind : (address : SocketAddr) (secret : Name) (errors opened errors' : Counted E) (lines line : List ℕ) →
       IsChosen draws given drawers secret → lines ≡ opening_lines given address secret → TriesToWrite error_text errors opened lines →
-      TriesToWrite error_text opened errors' line → line ≡ line' → IsLastLine draws contents error_text given drawers errors errors' line'
-  last_behind address secret errors opened errors' lines line line' chosen are wrote ended is = record {
+      EndsBy error_text opened errors' line → IsLastLine draws contents error_text given drawers errors errors' line
+  last_behind address secret errors opened errors' lines line chosen are wrote ended = record {
     opened = opened;
     before = inr (address, secret, chosen, subst (TriesToWrite error_text errors opened) are wrote);
-    last = subst (TriesToWrite error_text opened errors') is ended;
+    last = ended;
   }
 
   -- with nothing before it
@@ -108,5 +157,5 @@ module _ {D W E : Type 0} (draws : D → List ℕ → D → Type 0) (contents : 
   last_alone errors errors' line line' ended is = record {
     opened = errors;
     before = inl refl;
-    last = subst (TriesToWrite error_text errors errors') is ended;
+    last = inl (subst (TriesToWrite error_text errors errors') is ended);
   }

@@ -1,3 +1,4 @@
 mod Crossing
 mod Ends
 mod Requests
+mod Written

@@ -1,18 +1,17 @@
 -- What the threads of a server do.
-use Rattle.std.specs.Prelude.{◌≡◌, ℕ, List, [], ◌∷◌, ◌++◌, Ok, map}
+use Rattle.std.specs.Prelude.{◌≡◌, ℕ, List, ◌++◌, Ok, map}
 use Rattle.std.specs.List.{range_with_len}
 use Rattle.ns_types.specs.declared.step.Step.{Step}
 use Rattle.ns_types.specs.Wire.Http.{Asked}
 use Rattle.ns_asked.specs.Asking.{asked}
 use Rattle.ns_asked.specs.Drawing.{DrawsFor}
-use Rattle.ns_workers.specs.Growing.{IsApply, IsOfWorker}
+use Rattle.ns_workers.specs.Growing.{IsOfWorker}
 use Rattle.ns_serve.specs.declared.duty.Duty.{Duty}
-use Rattle.ns_serve.specs.declared.duty.Duty.TheVariants.{Applier, Connections, Worker}
+use Rattle.ns_serve.specs.declared.duty.Duty.TheVariants.{Connections, Worker}
 
--- one serves connections for each drawer; then come so many workers, numbered from 0, and the applier
+-- one serves connections for each drawer; then come so many workers, numbered from 0
 abbrev pub duties_of : {D : Type 0} → List D → ℕ → List (Duty D)
-duties_of drawers workers =
-    map Connections drawers ++ map Worker (range_with_len 0 workers) ++ Applier ∷ []
+duties_of drawers workers = map Connections drawers ++ map Worker (range_with_len 0 workers)
 
 -- the step that a request asks for, with what is drawn for it
 pub record IsRequested {D : Type 0} (draws : D → List ℕ → D → Type 0) (step : Step) : Type 0 where
@@ -27,4 +26,3 @@ pub record IsRequested {D : Type 0} (draws : D → List ℕ → D → Type 0) (s
 abbrev pub IsDue : {D : Type 0} → (D → List ℕ → D → Type 0) → Duty D → Step → Type 0
 IsDue draws (Connections drawer) = IsRequested draws
 IsDue draws (Worker number) = IsOfWorker number
-IsDue draws Applier = IsApply

@@ -10,7 +10,7 @@ use crate::house::House;
 use ns_asked::Draws;
 use ns_clients::{Chair, Client};
 use ns_shared::Seat;
-use ns_workers::{Nowhere, Open, applier, worker};
+use ns_workers::{Open, worker};
 use std::alloc::Global;
 use std::rt::Clock;
 use std::sync::Wait;
@@ -23,13 +23,6 @@ pub enum Duty<D> {
     Connections(D),
     /// It is the worker of that number.
     Worker(u64),
-    Applier,
-}
-
-impl<D> Duty<D> {
-    pub fn is_of_connections(&self) -> bool {
-        matches!(self, Duty::Connections(_))
-    }
 }
 
 /// Serves connections, and gives the seat back.
@@ -51,7 +44,7 @@ fn attend<L: Ledger, R: Wait, D: Draws + Drop>(
 }
 
 /// Does a thread's duty, once all threads are there, and gives its seat back. At a fault no thread accepts a connection any
-/// more.
+/// more. The last thread of connections closes the server, so that the others end too.
 pub fn perform<L: Ledger, R: Wait + Clock, D: Draws + Drop>(
     rt: &R,
     alloc: Global,
@@ -70,14 +63,13 @@ pub fn perform<L: Ledger, R: Wait + Clock, D: Draws + Drop>(
             if ended.is_err() {
                 house.door.shut();
             }
+            if house.guests.leave() {
+                house.shared.close(rt);
+            }
             ended
         }
         Duty::Worker(number) => {
             worker(rt, alloc, house.shared, &Open, number, &mut seat);
-            Ok(seat)
-        }
-        Duty::Applier => {
-            applier(rt, alloc, house.shared, &mut Nowhere, &mut seat);
             Ok(seat)
         }
     }

@@ -1,5 +1,6 @@
 //! What the threads of a server share.
 
+use crate::guests::Guests;
 use crate::start::Start;
 use crate::tickets::Tickets;
 use ns_door::Door;
@@ -11,5 +12,6 @@ pub struct House<'a, L: Ledger> {
     pub shared: &'a Shared<L>,
     pub door: &'a Door,
     pub tickets: Tickets,
+    pub guests: Guests,
     pub start: Start,
 }

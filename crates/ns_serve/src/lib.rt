@@ -1,14 +1,17 @@
 //! A server on a TCP port, which settles what its threads did against its log when it ends.
 #![tactic(auto)]
 
+mod closing;
 mod connections;
 mod duty;
 mod fault;
+mod guests;
 mod house;
+mod keeper;
 mod opening;
-mod printing;
 mod seating;
 mod secret;
+mod segments;
 mod service;
 mod serving;
 mod start;

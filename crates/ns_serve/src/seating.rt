@@ -12,7 +12,7 @@ use std::sync::ledger::Ledger;
 /// A thread's duty, with its seat.
 pub type Job<L, D> = (Duty<D>, Seat<L>);
 
-/// The duties: a thread for the connections for each drawer, then so many workers, and the applier.
+/// The duties: a thread for the connections for each drawer, then so many workers.
 pub fn duties<D: Drop>(
     alloc: Global,
     workers: u64,
@@ -24,7 +24,6 @@ pub fn duties<D: Drop>(
     for number in 0..workers {
         duties.push(Duty::Worker(number))?;
     }
-    duties.push(Duty::Applier)?;
     Ok(duties)
 }
 

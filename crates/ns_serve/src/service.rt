@@ -18,4 +18,6 @@ pub struct Service {
     pub accept: Option<u64>,
     /// How many entries the log has at most, from 1 on.
     pub log_limit: u64,
+    /// With how many entries the log is rotated, from 1 on and below the limit. None: never.
+    pub rotate: Option<u64>,
 }

@@ -1,27 +1,24 @@
 //! A server on a TCP port.
 
-ghost use Rattle.std.specs.Prelude.{◌≡◌, ◌≢◌, ◌+◌, [], IfErr, IfOk, IsErrOf, string_bytes, vec_len};
-ghost use Rattle.ns_types.specs.Steps.{opening};
-ghost use Rattle.ns_shared.specs.Settling.{Settlement};
-ghost use Rattle.ns_faults.specs.Lines.{TriesToWrite, line_of, mismatch_line, status_of};
+ghost use Rattle.std.specs.Prelude.{◌≡◌, ◌≢◌, ◌+◌, Err, IsNone, None, Some, vec_len};
+ghost use Rattle.ns_http.specs.declared.engine.ConnFault.{ConnFault};
+ghost use Rattle.ns_http.specs.declared.engine.ConnFault.TheVariants as ConnFaults;
+ghost use Rattle.ns_faults.specs.Lines.{line_of, mismatch_line, status_of};
+ghost use Rattle.ns_serve.specs.Closing.{IsClosing};
 ghost use Rattle.ns_serve.specs.Opening.{begun_by};
-ghost use Rattle.ns_serve.specs.Printing.{PrintsPart, PrintsRun};
-ghost use Rattle.ns_serve.specs.Ending.{EndsInPart, EndsSettled, IsEnd, IsLastLine, fault_line, fault_status};
+ghost use Rattle.ns_serve.specs.Ending.{EndsInPart, EndsSettled, EndsUnsettled, IsEnd, IsLastLine};
+ghost use Rattle.ns_serve.specs.declared.fault.ServeFault.TheVariants as ServeFault;
 
-use crate::fault::ServeFault;
+use crate::closing::{Closing, conclude, settle};
+use crate::keeper::Keeper;
 use crate::opening::{Opened, open};
-use crate::printing::print_log;
 use crate::service::Service;
 use crate::threads::host;
 use ns_asked::Draws;
-use ns_core::Core;
-use ns_door::Door;
 use ns_faults::status::{MISMATCH, SERVED, WRITE_FAULT};
-use ns_faults::{print_fault, print_mismatch, print_text};
-use ns_held::Held;
-use ns_http::{ConnFault, Counted};
-use ns_shared::{Settled, Shared};
-use ns_types::name::Secret;
+use ns_faults::{print_fault, print_text};
+use ns_http::Counted;
+use ns_shared::Shared;
 use std::alloc::Global;
 use std::io::Write;
 use std::net::{Net, TcpListener, TcpStream};
@@ -30,39 +27,13 @@ use std::sync::Wait;
 use std::sync::ledger::{Blank, Ledger};
 use std::thread::Threads;
 
-/// Serves connections, and gives the log, which settled with what all threads were answered and is a run of the server that the
-/// secret opens.
-fn serve_settled<L: Ledger + Send + Sync, R: Threads + Wait + Clock + Sync, D: Draws + Drop + Send>(
-    rt: &R,
-    alloc: Global,
-    service: &Service,
-    door: &Door,
-    secret: &Secret,
-    held: Held,
-    draws: Vec<D>,
-    blank: Blank,
-) -> Result<Settled, ServeFault>
-    requires empty { held.log ≡ [] }
-    requires first { held.start ≡ 0 }
-    requires name { blank.name ≡ L.name }
-    requires parts { (blank.parts ≡ L.parts) × (L.parts ≡ 18446744073709551615) }
-    ensures begins { IfOk result (λ settled. settled.base ≡ opening secret.now) }
-    ensures no_write { result ≢ Err (ServeFault.Conn ConnFault.Write) }
-{
-    let shared = Shared::<L>::new(held, blank, None);
-    let seats = host(rt, alloc, &shared, door, service, draws)?;
-    let first = Core::new(alloc, secret)?;
-    let segments = Vec::new(alloc);
-    Ok(shared.end().settle(alloc, seats, &first, segments)?)
-}
-
-/// Serves connections, prints the log, and gives the line that says how many entries it has.
-#[tactic(none)]
-fn serve_printed<
+/// Serves connections and writes the segments that are given out meanwhile, until the threads have ended; then the log is settled
+/// with what all of them were answered.
+fn serve_settled<
     L: Ledger + Send + Sync,
     R: Threads + Wait + Clock + Sync,
     D: Draws + Drop + Send,
-    W: Write,
+    W: Write + Drop,
 >(
     rt: &R,
     alloc: Global,
@@ -70,17 +41,16 @@ fn serve_printed<
     opened: Opened,
     draws: Vec<D>,
     blank: Blank,
-    writer: &mut Counted<W>,
-) -> Result<String, ServeFault>
+    writer: Counted<W>,
+) -> Closing<W>
     requires begun { opened.held ≡ begun_by opened.secret service.now.log_limit }
     requires name { blank.name ≡ L.name }
     requires parts { (blank.parts ≡ L.parts) × (L.parts ≡ 18446744073709551615) }
-    ensures printed { IfOk result (λ line. (settlement : Settlement)
-        × PrintsRun W.contents opened.secret settlement writer.old writer.new (string_bytes line)) }
-    ensures write { IsErrOf result (ServeFault.Conn ConnFault.Write) → (settlement : Settlement)
-        × PrintsPart W.contents opened.secret settlement writer.old writer.new }
-    ensures unprinted { IfErr result (λ fault. fault ≢ ServeFault.Conn ConnFault.Write
-        → writer.new ≡ writer.old) }
+    ensures closing { IsClosing W.contents opened.secret writer result }
+    ensures secret { result.secret ≡ opened.secret }
+    ensures unrotated { IsNone service.now.rotate → (result.fault ≡ None) × (result.writer ≡ writer) }
+    ensures no_write { result.settled ≢ Err (ServeFault.Conn ConnFaults.Write) }
+    ensures no_read { result.fault ≢ Some ConnFaults.Read }
 {
     let Opened {
         door,
@@ -88,32 +58,43 @@ fn serve_printed<
         held,
         ..
     } = opened;
-    match serve_settled::<L, _, _>(rt, alloc, service, &door, &secret, held, draws, blank) {
-        Ok(settled) => print_log(alloc, &secret, &settled, writer),
-        Err(fault) => Err(fault),
+    let shared = Shared::<L>::new(held, blank, service.rotate);
+    let keeper = Keeper::new(alloc, secret, writer, service.accept.is_some());
+    let (seats, keeper) = host(rt, alloc, &shared, &door, service, draws, keeper);
+    let Keeper {
+        secret,
+        writer,
+        fault,
+        segments,
+        is_whole,
+        ..
+    } = keeper;
+    let settled = match seats {
+        Ok(seats) => settle(alloc, shared.end(), seats, &secret, segments, is_whole),
+        Err(fault) => {
+            drop(segments);
+            drop(shared);
+            Err(fault.into())
+        }
+    };
+    Closing {
+        settled,
+        fault,
+        secret,
+        writer,
     }
 }
 
-/// Writes the line of the fault, and says its exit status.
-fn print_serve_fault<E: Write>(fault: ServeFault, errors: &mut Counted<E>) -> u8
-    ensures status { result ≡ fault_status fault }
-    ensures line { TriesToWrite E.contents errors.old errors.new (fault_line fault) }
-{
-    match fault {
-        ServeFault::Conn(fault) => print_fault(fault, errors),
-        ServeFault::Mismatch => print_mismatch(errors),
-    }
-}
-
-/// Serves connections until as many were served as are asked for, and says the exit status. Then all that the threads were
-/// answered has to settle with the log, which is printed. Every fault is printed as a line, behind the lines that say where the
-/// server listens and which secret was drawn. Of the drawers the last draws the secret, and each other one has a thread that
+/// Serves connections until as many were served as are asked for, and says the exit status. Where the log is rotated its segments
+/// are written meanwhile. Then all that the threads were answered has to settle with the log, the rest of which is printed. Every
+/// fault is printed as a line, behind the lines that say where the server listens and which secret was drawn; that of a segment
+/// that could not be written comes last of all. Of the drawers the last draws the secret, and each other one has a thread that
 /// serves one connection after another.
 pub fn serve<
     L: Ledger + Send + Sync,
     R: Threads + Wait + Clock + Sync + Net<Listener = TcpListener, Stream = TcpStream>,
     D: Draws + Drop + Send,
-    W: Write,
+    W: Write + Drop,
     E: Write,
 >(
     rt: &R,
@@ -121,22 +102,26 @@ pub fn serve<
     service: &Service,
     draws: Vec<D>,
     blank: Blank,
-    writer: &mut Counted<W>,
+    writer: Counted<W>,
     errors: &mut Counted<E>,
-) -> u8
+) -> (u8, Counted<W>)
     requires drawers { vec_len draws ≡ service.now.connections + 1 }
     requires name { blank.name ≡ L.name }
     requires parts { (blank.parts ≡ L.parts) × (L.parts ≡ 18446744073709551615) }
-    ensures status { IsEnd result }
-    ensures settled { result ≡ SERVED → EndsSettled D.draws W.contents E.contents
-        service.now.bootstrap draws.items writer.old writer.new errors.old errors.new }
-    ensures write_fault { result ≡ WRITE_FAULT → EndsInPart D.draws W.contents E.contents
-        service.now.bootstrap draws.items writer.old writer.new }
-    ensures unprinted { result ≢ SERVED → result ≢ WRITE_FAULT → writer.new ≡ writer.old }
-    ensures fault_line { (fault : ConnFault) → result ≡ status_of fault
+    ensures status { IsEnd result.0 }
+    ensures settled { result.0 ≡ SERVED → EndsSettled D.draws W.contents E.contents
+        service.now.bootstrap draws.items writer result.1 errors.old errors.new }
+    ensures write_fault { result.0 ≡ WRITE_FAULT → EndsInPart D.draws W.contents E.contents
+        service.now.bootstrap draws.items writer result.1 }
+    ensures unsettled { result.0 ≢ SERVED → result.0 ≢ WRITE_FAULT
+        → EndsUnsettled D.draws W.contents E.contents
+        service.now.bootstrap draws.items writer result.1 }
+    ensures unprinted { IsNone service.now.rotate → result.0 ≢ SERVED → result.0 ≢ WRITE_FAULT
+        → result.1 ≡ writer }
+    ensures fault_line { (fault : ConnFault) → result.0 ≡ status_of fault
         → IsLastLine D.draws W.contents E.contents
         service.now.bootstrap draws.items errors.old errors.new (line_of fault) }
-    ensures mismatch { result ≡ MISMATCH → IsLastLine D.draws W.contents E.contents
+    ensures mismatch { result.0 ≡ MISMATCH → IsLastLine D.draws W.contents E.contents
         service.now.bootstrap draws.items errors.old errors.new mismatch_line }
 {
     let mut draws = draws;
@@ -145,14 +130,9 @@ pub fn serve<
     };
     let opened = match open(rt, alloc, service, &mut drawer) {
         Ok(opened) => opened,
-        Err(fault) => return print_fault(fault, errors),
+        Err(fault) => return (print_fault(fault, errors), writer),
     };
     print_text(errors, opened.lines.as_str().as_bytes());
-    match serve_printed::<L, _, _, _>(rt, alloc, service, opened, draws, blank, writer) {
-        Ok(line) => {
-            print_text(errors, line.as_str().as_bytes());
-            SERVED
-        }
-        Err(fault) => print_serve_fault(fault, errors),
-    }
+    let closing = serve_settled::<L, _, _, _>(rt, alloc, service, opened, draws, blank, writer);
+    conclude(alloc, closing, errors)
 }

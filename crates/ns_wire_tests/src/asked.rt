@@ -45,12 +45,12 @@ fn alone(rt: HostRuntime) {
     assert!(rt; is_alone(&last, u64::MAX));
 }
 
-/// Whether this server is asked for, with these workers, connections, connections to accept and entries.
+/// Whether this server is asked for, with these workers, connections, connections to accept, entries and entries to rotate at.
 fn is_serve(
     wanted: &Wanted,
     address: SocketAddr,
     bootstrap: Option<&str>,
-    numbers: (u64, u64, Option<u64>, u64),
+    numbers: (u64, u64, Option<u64>, u64, Option<u64>),
 ) -> bool {
     match wanted {
         Wanted::Serve(service) => {
@@ -65,6 +65,7 @@ fn is_serve(
                     service.connections,
                     service.accept,
                     service.log_limit,
+                    service.rotate,
                 ) == numbers
         }
         Wanted::Run(_) => false,
@@ -75,7 +76,7 @@ fn is_serve(
 fn serve(rt: HostRuntime) {
     let local = SocketAddr::from((Ipv4Addr::LOCALHOST, 4646));
     let plain = read(rt.alloc(), &["nsd", "serve", "--listen", "127.0.0.1:4646"]);
-    assert!(rt; is_serve(&plain, local, None, (2, 4, None, 1_000_000)));
+    assert!(rt; is_serve(&plain, local, None, (2, 4, None, 1_000_000, None)));
     let least = read(
         rt.alloc(),
         &[
@@ -91,7 +92,7 @@ fn serve(rt: HostRuntime) {
         ],
     );
     let free = SocketAddr::from((Ipv6Addr::LOCALHOST, 0));
-    assert!(rt; is_serve(&least, free, Some("root"), (1, 1, Some(1), 1)));
+    assert!(rt; is_serve(&least, free, Some("root"), (1, 1, Some(1), 1, None)));
     let most = read(
         rt.alloc(),
         &[
@@ -105,9 +106,18 @@ fn serve(rt: HostRuntime) {
             "18446744073709551615",
             "--log-limit",
             "18446744073709551615",
+            "--rotate",
+            "18446744073709551614",
             "--listen",
             "127.0.0.1:4646",
         ],
     );
-    assert!(rt; is_serve(&most, local, None, (63, 64, Some(u64::MAX), u64::MAX)));
+    assert!(rt;
+        is_serve(
+            &most,
+            local,
+            None,
+            (63, 64, Some(u64::MAX), u64::MAX, Some(u64::MAX - 1))
+        )
+    );
 }

@@ -55,6 +55,14 @@ Usage: nsd <COMMAND>
 For more information, try '--help'.
 ";
 
+const BAD_ROTATE: &str =
+    "error: the log is rotated with a decimal number of entries from 1 on, below the limit of the log
+
+Usage: nsd <COMMAND>
+
+For more information, try '--help'.
+";
+
 /// Whether `serve` with this word after a good address is bad, for this reason.
 fn is_bad(alloc: Global, word: &str, text: &str) -> bool {
     are_bad(
@@ -95,6 +103,9 @@ fn bad_words_of_serve(rt: HostRuntime) {
     ] {
         assert!(rt; is_bad(alloc, word, BAD_LOG_LIMIT));
     }
+    for word in ["--rotate=0", "--rotate=1000000", "--rotate=-1", "--rotate="] {
+        assert!(rt; is_bad(alloc, word, BAD_ROTATE));
+    }
 }
 
 pub(crate) const HELP: &str =
@@ -109,12 +120,15 @@ Options:
       --connections <N>     How many connections are served at once, 1 to 64: 4 without this word
       --accept <N>          After how many connections to end: never without this word
       --log-limit <N>       How many entries the log may have: 1000000 without this word
+      --rotate <N>          With how many entries the log is given out, below its limit: never without this word
   -h, --help                Print help
 
 A connection carries one HTTP/1.1 request after another, each answered as `pipe` answers it. Workers
 place what is ready, in threads of their own, and one thread applies their plans in turn.
 With --accept the server ends once so many connections have ended, and then holds what each thread
 was answered against the log.
+Without --rotate the server answers `log full` for ever once the log has as many entries as it may.
+With --rotate N it writes the log to standard output whenever it has N entries, and begins it anew.
 
 Example:
   nsd serve --listen 127.0.0.1:4646 --bootstrap root
@@ -125,7 +139,8 @@ Standard error gets
   bootstrap SECRET  the secret of the first management token, where it was drawn
   settled K         with --accept: the log has K entries, which are what the threads were answered
   mismatch          with --accept: the log is not what the threads were answered
-Standard output gets, with --accept, the log at the end, as `pipe --print log` prints it.
+Standard output gets the log, as `pipe --print log` prints it: with --rotate in segments meanwhile,
+and with --accept at the end, or what was not written by then.
 
 Exit statuses:
   0  served and settled

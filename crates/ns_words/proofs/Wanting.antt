@@ -12,7 +12,8 @@ use Rattle.ns_pipe.specs.declared.printed.Printed.{Printed}
 use Rattle.ns_serve.specs.declared.service.Service.{Service}
 use Rattle.ns_words.specs.declared.wanted.Wanted.{Wanted}
 use Rattle.ns_words.specs.Given.{Named, given_for}
-use Rattle.ns_words.specs.Serve.{IsServe}
+use Rattle.ns_given.specs.Values.{rotate_by}
+use Rattle.ns_words.specs.Serve.{IsServe, of_serve}
 use Rattle.ns_words.specs.Words.{IsAlone, IsMisgiven, IsPipe, IsWanted, program_words}
 
 some_unique : {A : Type 0} (o : Option A) (x y : A) → o ≡ Some x → o ≡ Some y → x ≡ y
@@ -28,6 +29,7 @@ serve_unique named s t x y =
     let connections = some_unique _ _ _ x.connects y.connects in
     let accept = some_unique _ _ _ x.ends y.ends in
     let log_limit = some_unique _ _ _ x.keeps y.keeps in
+    let rotate = some_unique _ _ _ (subst (λ n. rotate_by n (of_serve (codes "rotate") named) ≡ Some s.rotate) log_limit x.rotates) y.rotates in
     λ i. record {
       address = address i;
       bootstrap = bootstrap i;
@@ -35,6 +37,7 @@ serve_unique named s t x y =
       connections = connections i;
       accept = accept i;
       log_limit = log_limit i;
+      rotate = rotate i;
     }
 
 pipe_unique : (named : Named) (secret secret' : Text) (driven driven' : Driven) (printed printed' : Printed) →

@@ -32,17 +32,23 @@ fn host<
         + Sync
         + RandomSource
         + Net<Listener = TcpListener, Stream = TcpStream>,
-    W: Write,
+    W: Write + Drop,
     E: Write,
->(rt: &R, alloc: Global, service: &Service, writer: &mut Counted<W>, errors: &mut Counted<E>) -> u8
+>(
+    rt: &R,
+    alloc: Global,
+    service: &Service,
+    writer: Counted<W>,
+    errors: &mut Counted<E>,
+) -> (u8, Counted<W>)
     requires { service.now.connections ≤ 64 }
     ensures { let draws = ⟦<Random<StdRng> as Draws>⟧.draws in
         EndsHosted draws W.contents E.contents
-        service.now.bootstrap result writer.old writer.new errors.old errors.new }
+        service.now result.0 writer result.1 errors.old errors.new }
 {
     let draws = match generators(rt, alloc, service.connections + 1) {
         Ok(draws) => draws,
-        Err(fault) => return print_fault(fault, errors),
+        Err(fault) => return (print_fault(fault, errors), writer),
     };
     let blank = Blank::new(PARTS);
     serve::<Brand, _, _, _, _>(rt, alloc, service, draws, blank, writer, errors)
@@ -64,14 +70,13 @@ pub fn conclude<
     ensures { let draws = ⟦<Random<StdRng> as Draws>⟧.draws in MatchOutcome outcome
         (λ ended. (result ≡ ended) × (errors.new ≡ errors.old))
         (λ service reader writer. (result.reader ≡ uncounted reader)
-        × EndsHosted draws W.contents E.contents service.bootstrap
+        × EndsHosted draws W.contents E.contents service
         result.status (uncounted writer) result.writer errors.old errors.new) }
 {
     match outcome {
         Outcome::Ended(ended) => ended,
         Outcome::Serve(service, reader, writer) => {
-            let mut writer = Counted::new(writer);
-            let status = host(rt, alloc, &service, &mut writer, errors);
+            let (status, writer) = host(rt, alloc, &service, Counted::new(writer), errors);
             Ended {
                 status,
                 reader: Counted::new(reader),

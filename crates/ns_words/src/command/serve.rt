@@ -13,6 +13,8 @@ A connection carries one HTTP/1.1 request after another, each answered as `pipe`
 place what is ready, in threads of their own, and one thread applies their plans in turn.
 With --accept the server ends once so many connections have ended, and then holds what each thread
 was answered against the log.
+Without --rotate the server answers `log full` for ever once the log has as many entries as it may.
+With --rotate N it writes the log to standard output whenever it has N entries, and begins it anew.
 
 Example:
   nsd serve --listen 127.0.0.1:4646 --bootstrap root
@@ -23,7 +25,8 @@ Standard error gets
   bootstrap SECRET  the secret of the first management token, where it was drawn
   settled K         with --accept: the log has K entries, which are what the threads were answered
   mismatch          with --accept: the log is not what the threads were answered
-Standard output gets, with --accept, the log at the end, as `pipe --print log` prints it.
+Standard output gets the log, as `pipe --print log` prints it: with --rotate in segments meanwhile,
+and with --accept at the end, or what was not written by then.
 
 Exit statuses:
   0  served and settled
@@ -115,6 +118,18 @@ fn log_limit<'a>(alloc: Global) -> Arg<'a>
     )
 }
 
+fn rotate<'a>(alloc: Global) -> Arg<'a>
+    ensures rule { rule_of result ≡ option_rule (codes "rotate") }
+    ensures local { result.global ≡ false }
+{
+    option(
+        alloc,
+        "rotate",
+        "N",
+        "With how many entries the log is given out, below its limit: never without this word",
+    )
+}
+
 /// `serve` without its arguments.
 fn bare<'a>(alloc: Global) -> Command<'a>
     ensures shape { app_of result ≡ new_app (codes "serve") }
@@ -134,5 +149,6 @@ pub fn serve<'a>(alloc: Global) -> Result<Command<'a>, AllocError>
     let command = command.arg(workers(alloc))?;
     let command = command.arg(connections(alloc))?;
     let command = command.arg(accept(alloc))?;
-    command.arg(log_limit(alloc))
+    let command = command.arg(log_limit(alloc))?;
+    command.arg(rotate(alloc))
 }

@@ -10,7 +10,7 @@ use crate::words::pipe::BAD_SECRET;
 use crate::words::value::{given, refused};
 use clap::error::ErrorKind;
 use clap::{ArgMatches, Command, Error};
-use ns_given::{accept, connections, log_limit, secret, workers};
+use ns_given::{accept, connections, log_limit, rotate, secret, workers};
 use ns_serve::Service;
 use std::alloc::Global;
 use std::net::SocketAddr;
@@ -25,6 +25,9 @@ const BAD_ACCEPT: &str =
     "the connections to be accepted are a decimal number from 1 on, below 2^64";
 
 const BAD_LOG_LIMIT: &str = "the limit of the log is a decimal number from 1 on, below 2^64";
+
+const BAD_ROTATE: &str =
+    "the log is rotated with a decimal number of entries from 1 on, below the limit of the log";
 
 /// What `serve` is given besides this address, or the fault in it.
 pub fn serve_given(
@@ -57,6 +60,9 @@ pub fn serve_given(
     let Some(log_limit) = log_limit(given(matches, "serve", "log-limit")) else {
         return Err(refused(command, BAD_LOG_LIMIT));
     };
+    let Some(rotate) = rotate(log_limit, given(matches, "serve", "rotate")) else {
+        return Err(refused(command, BAD_ROTATE));
+    };
     Ok(Service {
         address,
         bootstrap,
@@ -64,5 +70,6 @@ pub fn serve_given(
         connections,
         accept,
         log_limit,
+        rotate,
     })
 }

@@ -2,7 +2,6 @@ use Rattle.std.proofs.Common.{◌≡◌, ℕ, List, Option, sym, subst}
 use Rattle.ns_http.specs.declared.counting.Counted.{Counted}
 use Rattle.ns_pipe.specs.declared.running.Ended.{Ended}
 use Rattle.ns_serve.specs.declared.service.Service.{Service}
-use Rattle.ns_types.specs.State.Names.{Name}
 use Rattle.nsd.specs.Hosting.{EndsHosted}
 use Rattle.ns_words.specs.Outcome.{MatchOutcome}
 use Rattle.ns_words.specs.declared.outcome.Outcome.{Outcome}
@@ -16,11 +15,11 @@ to_serve : {R W : Type 0} (outcome : Outcome R W) (service : Service) (reader : 
 to_serve outcome service reader writer HasEnded IsToServe is h = subst (λ o. MatchOutcome o HasEnded IsToServe) (sym is) h
 
 -- by an equal writer
-hosted_by : {D W E : Type 0} (draws : D → List ℕ → D → Type 0) (contents : W → Option (List ℕ)) (error_text : E → Option (List ℕ)) (given : Option Name)
+hosted_by : {D W E : Type 0} (draws : D → List ℕ → D → Type 0) (contents : W → Option (List ℕ)) (error_text : E → Option (List ℕ)) (service : Service)
     (status : ℕ) (w v writer' : Counted W) (errors errors' : Counted E) → w ≡ v →
-    EndsHosted draws contents error_text given status w writer' errors errors' → EndsHosted draws contents error_text given status v writer' errors errors'
-hosted_by draws contents error_text given status w v writer' errors errors' same h =
-    subst (λ x. EndsHosted draws contents error_text given status x writer' errors errors') same h
+    EndsHosted draws contents error_text service status w writer' errors errors' → EndsHosted draws contents error_text service status v writer' errors errors'
+hosted_by draws contents error_text service status w v writer' errors errors' same h =
+    subst (λ x. EndsHosted draws contents error_text service status x writer' errors errors') same h
 
 pub returns-in-Serve : goal.returns-in-Serve
 returns-in-Serve g c = to_serve _ _ _ _ _ _ c.in-Serve.is (

@@ -30,7 +30,7 @@ only_fault : {D W E : Type 0} (draws : D → List ℕ → D → Type 0) (content
 only_fault draws contents error_text given drawers errors errors' a b same wrote = record {
   opened = errors;
   before = inl refl;
-  last = subst (λ f. TriesToWrite error_text errors errors' (line_of f)) same wrote;
+  last = inl (subst (λ f. TriesToWrite error_text errors errors' (line_of f)) same wrote);
 }
 
 pub returns-in-Err : goal.returns-in-Err
@@ -38,7 +38,8 @@ returns-in-Err g c = record {
   is_end = subst IsEnd (sym c.print_fault.ensures.status) (end_of c.in-Err.fault);
   settled = λ e. absurd (not_served _ (sym c.print_fault.ensures.status ∙ e));
   write_fault = λ e. absurd (c.in-Err.ensures.fault (same_fault _ ConnFault.Write (sym c.print_fault.ensures.status ∙ e)));
-  unprinted = λ _ _. refl;
+  unsettled = λ _ _. ([], inl refl);
+  unprinted = λ _ _ _. refl;
   last_line = λ fault e.
       let same = same_fault c.in-Err.fault fault (sym c.print_fault.ensures.status ∙ e) in
       ([], only_fault _ _ _ _ _ _ _ _ _ same c.print_fault.ensures.line);
@@ -50,6 +51,7 @@ returns g c = record {
   is_end = c.serve.ensures.status;
   settled = λ e. (_, c.serve.ensures.settled e);
   write_fault = λ e. (_, c.serve.ensures.write_fault e);
+  unsettled = λ e f. (_, c.serve.ensures.unsettled e f);
   unprinted = c.serve.ensures.unprinted;
   last_line = λ fault e. (_, c.serve.ensures.fault_line fault e);
   mismatch = λ e. (_, c.serve.ensures.mismatch e);

@@ -1,0 +1,22 @@
+//! How many threads still serve connections.
+
+use std::sync::atomic::{AtomicU64, Ordering};
+
+/// The threads that serve connections and have not ended.
+#[derive(Drop)]
+pub struct Guests {
+    left: AtomicU64,
+}
+
+impl Guests {
+    pub fn new(count: u64) -> Guests {
+        Guests {
+            left: AtomicU64::new(count),
+        }
+    }
+
+    /// Notes that a thread ends. Whether it is the last.
+    pub fn leave(&self) -> bool {
+        self.left.fetch_sub(1, Ordering::SeqCst) == 1
+    }
+}

@@ -1,0 +1,92 @@
+//! What becomes of the segments of a server's log.
+
+ghost use Rattle.std.specs.Prelude.{◌≡◌, ◌++◌, [], ◌∷◌, None, true};
+ghost use Rattle.ns_http.specs.Counts.{HasGrown};
+ghost use Rattle.ns_serve.specs.Keeping.{IsTaken, WritesBy, text_of};
+
+use crate::segments::write_segment;
+use ns_http::{ConnFault, Counted};
+use ns_segments::Segment;
+use ns_types::name::Secret;
+use ns_workers::Keep;
+use std::alloc::Global;
+use std::io::Write;
+
+/// Writes each segment behind the one before, and keeps those that are settled at the end.
+#[derive(Drop)]
+pub struct Keeper<W> {
+    pub secret: Secret,
+    pub writer: Counted<W>,
+    /// Why the text ends too early. Nothing is written after it, since a log with a hole is none.
+    pub fault: Option<ConnFault>,
+    /// Whether segments are kept, as settling needs them.
+    pub keeps: bool,
+    pub segments: Vec<Segment>,
+    /// Whether all segments so far are kept.
+    pub is_whole: bool,
+}
+
+impl<W: Write> Keeper<W> {
+    pub fn new(alloc: Global, secret: Secret, writer: Counted<W>, keeps: bool) -> Keeper<W>
+        ensures secret { result.secret ≡ secret }
+        ensures writer { result.writer ≡ writer }
+        ensures fault { result.fault ≡ None }
+        ensures segments { result.segments.items ≡ [] }
+        ensures is_whole { result.is_whole ≡ true }
+    {
+        Keeper {
+            secret,
+            writer,
+            fault: None,
+            keeps,
+            segments: Vec::new(alloc),
+            is_whole: true,
+        }
+    }
+}
+
+/// Writes the text of the segment behind what was written before, unless there was a fault. The fault after it.
+fn write_next<W: Write>(
+    alloc: Global,
+    secret: &Secret,
+    segment: &Segment,
+    fault: Option<ConnFault>,
+    writer: &mut Counted<W>,
+) -> Option<ConnFault>
+    ensures writes { let text = text_of secret.now segment.now in
+        WritesBy W.contents fault result writer.old writer.new text }
+    ensures grows { HasGrown writer.old.counts writer.new.counts }
+{
+    if fault.is_some() {
+        return fault;
+    }
+    write_segment(alloc, secret, segment.start(), segment.entries(), writer).err()
+}
+
+/// Keeps the segment, where segments are kept and none is missing. Whether none is missing then.
+fn store(segments: &mut Vec<Segment>, segment: Segment, keeps: bool) -> bool
+    ensures { result ≡ true → segments.new.items ≡ segments.old.items ++ segment ∷ [] }
+{
+    if !keeps {
+        drop(segment);
+        return false;
+    }
+    segments.push(segment).is_ok()
+}
+
+impl<W: Write> Keep for Keeper<W> {
+    ghost takes = { λ old segment new. IsTaken W.contents old segment new };
+
+    fn keep(&mut self, alloc: Global, segment: Segment) {
+        let Keeper {
+            secret,
+            writer,
+            fault,
+            keeps,
+            segments,
+            is_whole,
+        } = self;
+        *fault = write_next(alloc, secret, &segment, *fault, writer);
+        *is_whole = store(segments, segment, *keeps && *is_whole) && *is_whole;
+    }
+}
