@@ -156,25 +156,9 @@ pub(crate) fn service(alloc: Global, connections: u64) -> Result<Service, AllocE
     })
 }
 
-/// How many entries the log has, if each line in front of a segment has the number of those before it.
-pub(crate) fn entries_of(alloc: Global, log: &str) -> Result<Option<u64>, AllocError> {
-    let mut entries = 0;
-    for line in log.lines() {
-        if line.starts_with("{") {
-            entries += 1;
-        } else {
-            let head = format!(in alloc; "nsd-log 3 {entries} root")?;
-            if line != head.as_str() {
-                return Ok(None);
-            }
-        }
-    }
-    Ok(Some(entries))
-}
-
 /// Whether the server ended with exit status 0, and the last line says how many entries the printed log has.
 pub(crate) fn is_settled(alloc: Global, ending: &Ending) -> Result<bool, AllocError> {
-    let entries = entries_of(alloc, ending.log())?.unwrap_or(0);
+    let entries = ending.log().matches("\n{").count();
     let line = format!(in alloc; "settled {entries}")?;
     Ok(ending.status == 0 && ending.errors().lines().last() == Some(line.as_str()))
 }

@@ -1,5 +1,5 @@
 // What a server over a port of the system's answers and prints. Expected bytes are written from the formats.
-use crate::port::{Output, entries_of, is_settled, run, service};
+use crate::port::{Output, is_settled, run, service};
 use crate::visits::{REGISTERED, Visit, text};
 use std::alloc::Global;
 use std::net::{SocketAddr, TcpListener};
@@ -112,7 +112,7 @@ fn rotates_while_it_serves(rt: HostRuntime) -> Result<(), Fail> {
     assert_eq!(rt; ending.replies.len(), 8);
     let heads = ending.log().matches("nsd-log 3 ").count();
     assert!(rt; heads > 1, "{heads} segments");
-    assert!(rt; entries_of(alloc, ending.log())?.is_some_and(|entries| entries >= 16));
+    assert!(rt; ending.log().matches("\n{").count() >= 16);
     assert!(rt; is_settled(alloc, &ending)?);
     Ok(())
 }
