@@ -23,6 +23,6 @@ hosted_by draws contents error_text service status w v writer' errors errors' sa
 
 pub returns-in-Serve : goal.returns-in-Serve
 returns-in-Serve g c = to_serve _ _ _ _ _ _ c.in-Serve.is (
-  uncounted_by _ _ c.new.ensures.inner c.new.ensures.counts,
-  hosted_by _ _ _ _ _ _ _ _ _ _ (uncounted_by _ _ c.new-writer.ensures.inner c.new-writer.ensures.counts) c.host-status.ensures,
+  uncounted_by _ _ c.new-in-Serve.ensures.inner c.new-in-Serve.ensures.counts,
+  hosted_by _ _ _ _ _ _ _ _ _ _ (uncounted_by _ _ c.new.ensures.inner c.new.ensures.counts) c.host-status.ensures,
 )
