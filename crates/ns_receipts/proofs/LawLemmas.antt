@@ -1,10 +1,10 @@
 -- Settling excludes faults, and one fault every other.
-use Rattle.std.proofs.Common.{◌≡◌, ◌<◌, ◌⊎◌, ◌∙◌, ℕ, Some, List, length, slice_get, sym, ap, subst, inl, inr, arith}
+use Rattle.std.proofs.Common.{◌≡◌, ◌<◌, ◌⊎◌, ◌∙◌, ℕ, Some, List, slice_get, sym, ap, subst, inl, inr, arith}
 use Rattle.std.proofs.lemmas.Bool.{cases_eq, cases_lt}
 use Rattle.ns_json.specs.Replies.{Entry}
 use Rattle.ns_receipts.specs.declared.receipt.Receipt.{Receipt}
 use Rattle.ns_receipts.specs.Laws.{SettledIsNotFaulted, OneFault}
-use Rattle.ns_receipts.specs.Settling.{Fits, FitBefore, IsAt, IsFault, IsMissing, IsUnfit, Settles}
+use Rattle.ns_receipts.specs.Settling.{Fits, IsAt, IsMissing, IsUnfit, Settles}
 use Rattle.ns_receipts.proofs.Marking.{same_receipt}
 use Rattle.ns_receipts.proofs.Seating.{all_fit, in_seat}
 

@@ -4,8 +4,10 @@
 mod agreement;
 mod fault;
 pub mod laws;
+mod past;
 mod receipt;
 
 pub use agreement::settle;
 pub use fault::SettleFault;
+pub use past::Past;
 pub use receipt::Receipt;

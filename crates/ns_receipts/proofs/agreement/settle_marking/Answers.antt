@@ -1,7 +1,6 @@
-use Rattle.std.proofs.Common.{◌≡◌, ◌<◌, ◌+◌, ◌∙◌, ℕ, Some, List, length, map, option_map, slice_get, vec_items, arith, inl, inr, refl, ap, subst, sym}
+use Rattle.std.proofs.Common.{◌≡◌, ◌∙◌, ℕ, Some, length, map, option_map, slice_get, vec_items, arith, inl, inr, refl, ap, subst, sym}
 use Rattle.std.proofs.lemmas.List.{length-map}
 use Rattle.std.proofs.lemmas.Option.{slice_get_read, slice_get-map}
-use Rattle.ns_receipts.specs.declared.receipt.Receipt.{Receipt}
 use Rattle.ns_receipts.specs.Marks.{AreMarks}
 use Rattle.ns_receipts.specs.Settling.{FitBefore}
 use Rattle.ns_receipts.proofs.Seating.{fit_in_seat, fit_next_seat, marks_next_seat, marked_by_name, named_by_marks, settles_by_fit, unfit_in_seat}
