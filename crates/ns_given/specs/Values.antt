@@ -52,3 +52,9 @@ log_limit_by = number_by 1000000 1 (2 ^ 64 - 1)
 abbrev pub rotate_by : ℕ → Option (List ℕ) → Option (Option ℕ)
 rotate_by limit None = Some None
 rotate_by limit (Some text) = option_map Some (number_between 1 (limit - 1) text)
+
+-- by entries alone, where nothing is said; else from one on, where it is rotated by entries
+abbrev pub rotate_bytes_by : Option ℕ → Option (List ℕ) → Option (Option ℕ)
+rotate_bytes_by rotate None = Some None
+rotate_bytes_by None (Some text) = None
+rotate_bytes_by (Some entries) (Some text) = option_map Some (number_between 1 (2 ^ 64 - 1) text)

@@ -1,7 +1,8 @@
 //! What is given to `serve`. None: a value is not what it has to be.
 
 ghost use Rattle.std.specs.Prelude.{◌≡◌, IfOk, option_map};
-ghost use Rattle.ns_given.specs.Values.{accept_by, connections_by, log_limit_by, rotate_by, secret_by, workers_by};
+ghost use Rattle.ns_given.specs.Values.{accept_by, connections_by, log_limit_by, rotate_by, rotate_bytes_by};
+ghost use Rattle.ns_given.specs.Values.{secret_by, workers_by};
 
 use crate::number::{number_between, number_by};
 use ns_types::name::Secret;
@@ -59,5 +60,16 @@ pub fn rotate(log_limit: u64, given: Option<&str>) -> Option<Option<u64>>
     match given {
         None => Some(None),
         Some(text) => number_between(1, log_limit.saturating_sub(1), text).map(Some),
+    }
+}
+
+/// With more than how many bytes of text the log is rotated as well, by what is given for it, beside how many entries.
+pub fn rotate_bytes(rotate: Option<u64>, given: Option<&str>) -> Option<Option<u64>>
+    ensures { result ≡ rotate_bytes_by rotate (option_map (λ s. s.now) given.entry) }
+{
+    match (rotate, given) {
+        (_, None) => Some(None),
+        (None, Some(_)) => None,
+        (Some(_), Some(text)) => number_between(1, u64::MAX, text).map(Some),
     }
 }

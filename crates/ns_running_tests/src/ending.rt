@@ -5,7 +5,7 @@ ghost use Rattle.std.specs.Prelude.{◌≡◌};
 use crate::guest::{guest, look, register, seat_of};
 use crate::server::{opened, settle};
 use ns_receipts::SettleFault;
-use ns_shared::{PARTS, Seat, Shared};
+use ns_shared::{PARTS, Retains, Seat, Shared};
 use std::alloc::Global;
 use std::marker::Brand;
 use std::process::Abort;
@@ -20,14 +20,18 @@ fn registered<L: Ledger, R: Wait + Abort>(
     alloc: Global,
     shared: &Shared<L>,
     id: &str,
-) -> Seat<L> {
+) -> Seat<L, Retains> {
     let mut guest = guest(rt, alloc, shared);
     drop(register(rt, alloc, &mut guest, JOBS, id));
     seat_of(guest)
 }
 
 /// The seat of a client that has seen the job `a`.
-fn shown<L: Ledger, R: Wait + Abort>(rt: &R, alloc: Global, shared: &Shared<L>) -> Seat<L> {
+fn shown<L: Ledger, R: Wait + Abort>(
+    rt: &R,
+    alloc: Global,
+    shared: &Shared<L>,
+) -> Seat<L, Retains> {
     let mut guest = guest(rt, alloc, shared);
     drop(look(rt, alloc, &mut guest, "/v1/job/a"));
     seat_of(guest)

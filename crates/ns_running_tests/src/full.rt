@@ -5,7 +5,7 @@ use crate::guest::{Guest, guest, look, register, seat, seat_of, write};
 use crate::server::core;
 use ns_held::Held;
 use ns_segments::Segment;
-use ns_shared::{PARTS, Seat, Shared};
+use ns_shared::{PARTS, Retains, Seat, Shared};
 use ns_workers::{Keep, Open, applier, worker};
 use std::alloc::Global;
 use std::marker::Brand;
@@ -99,7 +99,7 @@ fn fill<L: Ledger, R: Wait + Abort>(
     alloc: Global,
     shared: &Shared<L>,
     dam: &Dam,
-) -> Seat<L> {
+) -> Seat<L, Retains> {
     let mut guest = guest(rt, alloc, shared);
     drop(write(rt, alloc, &mut guest, NODE, CAPACITY));
     look_until(rt, alloc, &mut guest, true);
@@ -157,7 +157,7 @@ fn counted<L: Ledger + Send + Sync, R: Threads + Wait + Clock + Abort + Sync>(
     requires parts { (blank.parts ≡ L.parts) × (L.parts ≡ 18446744073709551615) }
 {
     let held = Held::new(alloc, core(rt, alloc), 8);
-    let shared = Shared::<L>::new(held, blank, Some(4));
+    let shared = Shared::<L>::new(held, blank, Some(4), None);
     let dam = Dam::new();
     performed(rt, alloc, &shared, &dam)
 }

@@ -2,7 +2,7 @@
 use ns_asked::Draws;
 use ns_clients::{Chair, Client, serve};
 use ns_http::Counted;
-use ns_shared::{Seat, Shared};
+use ns_shared::{Retains, Seat, Shared};
 use std::alloc::Global;
 use std::process::Abort;
 use std::sync::Wait;
@@ -23,14 +23,14 @@ impl Draws for SameBits {
 }
 
 /// A client with a seat of its own.
-pub(crate) type Guest<'a, L, R> = Client<Chair<'a, L, R>, SameBits>;
+pub(crate) type Guest<'a, L, R> = Client<Chair<'a, L, R, Retains>, SameBits>;
 
 /// A new seat.
 pub(crate) fn seat<L: Ledger, R: Wait + Abort>(
     rt: &R,
     alloc: Global,
     shared: &Shared<L>,
-) -> Seat<L> {
+) -> Seat<L, Retains> {
     shared.seat(rt, alloc).expect(rt, "a part of the ledger")
 }
 
@@ -44,7 +44,7 @@ pub(crate) fn guest<'a, L: Ledger, R: Wait + Abort>(
 }
 
 /// The client's seat.
-pub(crate) fn seat_of<L: Ledger, R: Wait>(guest: Guest<'_, L, R>) -> Seat<L> {
+pub(crate) fn seat_of<L: Ledger, R: Wait>(guest: Guest<'_, L, R>) -> Seat<L, Retains> {
     guest.into_seated().seat
 }
 

@@ -3,7 +3,7 @@ ghost use Rattle.std.specs.Prelude.{◌≡◌};
 
 use crate::guest::{guest, look, register, seat_of};
 use crate::server::{opened, settle};
-use ns_shared::{PARTS, Seat, Shared};
+use ns_shared::{PARTS, Retains, Seat, Shared};
 use std::alloc::Global;
 use std::marker::Brand;
 use std::process::Abort;
@@ -23,7 +23,7 @@ fn visit<L: Ledger, R: Wait + Clock + Abort>(
     shared: &Shared<L>,
     start: &Barrier,
     id: &str,
-) -> Seat<L> {
+) -> Seat<L, Retains> {
     let mut guest = guest(rt, alloc, shared);
     start.wait(rt);
     drop(register(rt, alloc, &mut guest, "/v1/jobs", id));
@@ -43,7 +43,7 @@ fn numbered<L: Ledger, R: Wait + Clock + Abort>(
     shared: &Shared<L>,
     start: &Barrier,
     number: usize,
-) -> Seat<L> {
+) -> Seat<L, Retains> {
     let id = format!(in alloc; "j{number}");
     let id = id.expect(rt, "memory");
     visit(rt, alloc, shared, start, id.as_str())
@@ -55,7 +55,7 @@ fn visited<L: Ledger + Send + Sync, R: Threads + Wait + Clock + Abort + Sync>(
     alloc: Global,
     shared: &Shared<L>,
     start: &Barrier,
-) -> Vec<Seat<L>> {
+) -> Vec<Seat<L, Retains>> {
     let seats = thread::map_indices(
         rt,
         alloc,

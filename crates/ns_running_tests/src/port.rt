@@ -153,6 +153,7 @@ pub(crate) fn service(alloc: Global, connections: u64) -> Result<Service, AllocE
         accept: Some(connections),
         log_limit: 10_000,
         rotate: None,
+        rotate_bytes: None,
     })
 }
 

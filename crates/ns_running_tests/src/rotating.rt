@@ -7,7 +7,7 @@ use ns_core::Core;
 use ns_held::Held;
 use ns_receipts::SettleFault;
 use ns_segments::Segment;
-use ns_shared::{PARTS, Seat, Settled, Shared};
+use ns_shared::{PARTS, Retains, Seat, Settled, Shared};
 use std::alloc::Global;
 use std::marker::Brand;
 use std::process::Abort;
@@ -34,7 +34,7 @@ fn register_thrice<L: Ledger, R: Wait + Abort>(
     rt: &R,
     alloc: Global,
     shared: &Shared<L>,
-) -> (Seat<L>, Segment) {
+) -> (Seat<L, Retains>, Segment) {
     let mut guest = guest(rt, alloc, shared);
     drop(register(rt, alloc, &mut guest, JOBS, "a"));
     drop(register(rt, alloc, &mut guest, JOBS, "a"));
@@ -49,7 +49,7 @@ fn register_thrice<L: Ledger, R: Wait + Abort>(
 }
 
 /// The third receipt names the place behind the segment, and the index of the third registration.
-fn check_third<L: Ledger, R: Abort>(rt: &R, seat: &Seat<L>) {
+fn check_third<L: Ledger, R: Abort>(rt: &R, seat: &Seat<L, Retains>) {
     let third = seat.receipts().get(2).expect(rt, "three receipts");
     assert!(rt; third.place == 2 && third.rendered.index == Some(3));
 }
@@ -68,7 +68,7 @@ fn settled<L: Ledger, R: Wait + Abort>(
     requires parts { (blank.parts ≡ L.parts) × (L.parts ≡ 18446744073709551615) }
 {
     let core = base.copy(alloc).expect(rt, "memory");
-    let shared = Shared::<L>::new(Held::new(alloc, core, 2), blank, None);
+    let shared = Shared::<L>::new(Held::new(alloc, core, 2), blank, None, None);
     let (seat, segment) = register_thrice(rt, alloc, &shared);
     check_third(rt, &seat);
     let mut seats = Vec::new(alloc);
@@ -98,4 +98,34 @@ fn the_log_of_another_server(rt: HostRuntime) {
     let new = core(&rt, alloc);
     let other = settled::<Brand, _>(&rt, alloc, &base, &new, true, Blank::new(PARTS));
     assert!(rt; other.err() == Some(SettleFault::Mismatch { seat: 1, place: 0 }));
+}
+
+/// Whether the log is due with one registration of less than 1000 bytes, where it is rotated with eight entries or past so many
+/// bytes of text. It is not due any more once it was rotated.
+fn is_due<L: Ledger, R: Wait + Abort>(
+    rt: &R,
+    alloc: Global,
+    rotates_past: Option<u64>,
+    blank: Blank,
+) -> bool
+    requires name { blank.name ≡ L.name }
+    requires parts { (blank.parts ≡ L.parts) × (L.parts ≡ 18446744073709551615) }
+{
+    let held = Held::new(alloc, core(rt, alloc), 9);
+    let shared = Shared::<L>::new(held, blank, Some(8), rotates_past);
+    assert!(rt; !shared.is_due(rt));
+    let mut guest = guest(rt, alloc, &shared);
+    drop(register(rt, alloc, &mut guest, "/v1/jobs", "a"));
+    let is_due = shared.is_due(rt);
+    drop(shared.rotate(rt, alloc).ok().expect(rt, "memory"));
+    assert!(rt; !shared.is_due(rt));
+    is_due
+}
+
+#[test]
+fn due_by_its_text(rt: HostRuntime) {
+    let alloc = rt.alloc();
+    assert!(rt; is_due::<Brand, _>(&rt, alloc, Some(100), Blank::new(PARTS)));
+    assert!(rt; !is_due::<Brand, _>(&rt, alloc, Some(1000), Blank::new(PARTS)));
+    assert!(rt; !is_due::<Brand, _>(&rt, alloc, None, Blank::new(PARTS)));
 }

@@ -5,7 +5,7 @@ ghost use Rattle.std.specs.Prelude.{◌≡◌};
 use crate::guest::{Guest, guest, look, register, seat, seat_of, set_up};
 use crate::meeting::{Inside, Meeting, await_that};
 use crate::server::{opened, settle};
-use ns_shared::{PARTS, Seat, Shared};
+use ns_shared::{PARTS, Retains, Seat, Shared};
 use ns_workers::{Nowhere, applier, worker};
 use std::alloc::Global;
 use std::marker::Brand;
@@ -71,7 +71,11 @@ fn expect_shown<L: Ledger, R: Wait + Abort>(
 
 /// Registers two jobs once both workers are there, and closes the server once both jobs are scheduled. The test fails where they are
 /// not.
-fn lead<L: Ledger, R: Wait + Clock + Abort>(rt: &R, alloc: Global, shared: &Shared<L>) -> Seat<L> {
+fn lead<L: Ledger, R: Wait + Clock + Abort>(
+    rt: &R,
+    alloc: Global,
+    shared: &Shared<L>,
+) -> Seat<L, Retains> {
     let mut guest = guest(rt, alloc, shared);
     await_that(rt, &|| shared.now(rt).workers == 2);
     set_up(rt, alloc, &mut guest);
@@ -92,7 +96,7 @@ fn perform<L: Ledger, R: Wait + Clock + Abort>(
     shared: &Shared<L>,
     meeting: &Meeting,
     number: usize,
-) -> Seat<L> {
+) -> Seat<L, Retains> {
     if number > 2 {
         return lead(rt, alloc, shared);
     }
@@ -112,7 +116,7 @@ fn performed<L: Ledger + Send + Sync, R: Threads + Wait + Clock + Abort + Sync>(
     alloc: Global,
     shared: &Shared<L>,
     meeting: &Meeting,
-) -> Vec<Seat<L>> {
+) -> Vec<Seat<L, Retains>> {
     let seats = thread::map_indices(
         rt,
         alloc,

@@ -4,7 +4,7 @@ ghost use Rattle.std.specs.Prelude.{◌≡◌};
 use ns_core::Core;
 use ns_held::Held;
 use ns_receipts::SettleFault;
-use ns_shared::{Seat, Settled, Shared};
+use ns_shared::{Retains, Seat, Settled, Shared};
 use ns_types::name::Secret;
 use std::alloc::Global;
 use std::process::Abort;
@@ -26,7 +26,7 @@ pub(crate) fn opened<L: Ledger, R: Abort>(
     requires name { blank.name ≡ L.name }
     requires parts { (blank.parts ≡ L.parts) × (L.parts ≡ 18446744073709551615) }
 {
-    Shared::new(Held::new(alloc, core(rt, alloc), limit), blank, None)
+    Shared::new(Held::new(alloc, core(rt, alloc), limit), blank, None, None)
 }
 
 /// What settling says of the seats of a server that was opened so, whose log was never given out.
@@ -34,7 +34,7 @@ pub(crate) fn settle<L: Ledger, R: Abort>(
     rt: &R,
     alloc: Global,
     shared: Shared<L>,
-    seats: Vec<Seat<L>>,
+    seats: Vec<Seat<L, Retains>>,
 ) -> Result<Settled, SettleFault>
     requires { L.parts ≡ 18446744073709551615 }
 {

@@ -117,6 +117,22 @@ fn rotates_while_it_serves(rt: HostRuntime) -> Result<(), Fail> {
     Ok(())
 }
 
+/// The same, where its text is what makes it due: with each entry.
+#[test]
+fn rotates_by_its_text(rt: HostRuntime) -> Result<(), Fail> {
+    let alloc: Global = rt.alloc();
+    let mut service = service(alloc, 8)?;
+    service.rotate = Some(1_000);
+    service.rotate_bytes = Some(1);
+    let output = Output::Open(Vec::new(alloc));
+    let ending = run(&rt, alloc, &service, output, 8, Visit::Asks)?;
+    assert_eq!(rt; ending.replies.len(), 8);
+    let heads = ending.log().matches("nsd-log 3 ").count();
+    assert!(rt; heads > 1, "{heads} segments");
+    assert!(rt; is_settled(alloc, &ending)?);
+    Ok(())
+}
+
 /// A segment can't be written. The server goes on; at the end the log settles, and then comes the fault.
 #[test]
 fn a_segment_is_not_written(rt: HostRuntime) -> Result<(), Fail> {

@@ -20,6 +20,7 @@ use Rattle.ns_serve.specs.Opening.{opening_lines}
 use Rattle.ns_serve.specs.Printing.{IsRunOf, settled_line}
 use Rattle.ns_serve.proofs.Written.{text_then}
 use Rattle.ns_serve.specs.declared.fault.ServeFault.{ServeFault}
+use Rattle.ns_serve.specs.declared.service.Service.{Service}
 
 abbrev fault_of : {T : Type 0} → Result T ServeFault → ServeFault
 fault_of (Ok x) = ServeFault.Mismatch
@@ -78,7 +79,7 @@ run_of kept secret segments given is_whole (Err e) same all run whole = tt
 -- ---- how it ended
 
 module _ {D W E : Type 0} (draws : D → List ℕ → D → Type 0) (contents : W → Option (List ℕ)) (error_text : E → Option (List ℕ))
-    (given : Option Name) (drawers : List D) where
+    (service : Service) (drawers : List D) where
   pub part_of : (fault : Option ConnFault) (u v : Counted W) (text : List ℕ) → WritesText contents fault u v text → WritesPart contents u v text
   part_of None u v text x = (text, [], sym (append-nil text), x)
   part_of (Some ConnFault.Write) u v text x = x.0
@@ -86,7 +87,7 @@ module _ {D W E : Type 0} (draws : D → List ℕ → D → Type 0) (contents : 
   part_of (Some ConnFault.Read) u v text x = absurd x
 
   module _ (secret : Name) (segments : List Given) (fault : Option ConnFault) (writer mid writer' : Counted W)
-      (chosen : IsChosen draws given drawers secret) (writes : WritesText contents fault writer mid (texts_of secret segments))
+      (chosen : IsChosen draws service.bootstrap drawers secret) (writes : WritesText contents fault writer mid (texts_of secret segments))
       (grows : HasGrown writer.counts mid.counts) where
     -- all that was given out, and behind it what a fault says of the rest
     behind : (rest : Option ConnFault) (text : List ℕ) → fault ≡ None → WritesText contents rest mid writer' text →
@@ -98,8 +99,8 @@ module _ {D W E : Type 0} (draws : D → List ℕ → D → Type 0) (contents : 
         IfOk settled (IsRunOf secret segments) → fault ≡ None →
         IsOkAnd settled (λ s. WritesAll contents mid writer' (segment_text secret s.given (present s))) →
         IsOkAnd settled (λ s. TriesToWrite error_text opened errors' (settled_line (length s.log))) →
-        lines ≡ opening_lines given address secret → TriesToWrite error_text errors opened lines →
-        EndsSettled draws contents error_text given drawers writer writer' errors errors'
+        lines ≡ opening_lines service address secret → TriesToWrite error_text errors opened lines →
+        EndsSettled draws contents error_text service drawers writer writer' errors errors'
     ends_settled (Ok s) address errors opened errors' lines run whole printed ended are wrote = record {
       address = address;
       secret = secret;
@@ -117,7 +118,7 @@ module _ {D W E : Type 0} (draws : D → List ℕ → D → Type 0) (contents : 
     pub ends_in_part : (settled : Result Settlement ServeFault) → IfOk settled (IsRunOf secret segments) →
         ((fault ≡ Some ConnFault.Write) × (writer' ≡ mid)) ⊎ ((fault ≡ None)
         × IsOkAnd settled (λ s. FailsToWrite contents mid writer' (segment_text secret s.given (present s)))) →
-        EndsInPart draws contents error_text given drawers writer writer'
+        EndsInPart draws contents error_text service drawers writer writer'
     ends_in_part settled run (inl cut) = record {
       secret = secret;
       segments = segments;
@@ -133,7 +134,7 @@ module _ {D W E : Type 0} (draws : D → List ℕ → D → Type 0) (contents : 
     }
     ends_in_part (Err e) run (inr rest) = absurd rest.1
 
-    pub ends_unsettled : writer' ≡ mid → EndsUnsettled draws contents error_text given drawers writer writer'
+    pub ends_unsettled : writer' ≡ mid → EndsUnsettled draws contents error_text service drawers writer writer'
     ends_unsettled same = inr (
       secret,
       segments,
@@ -143,8 +144,8 @@ module _ {D W E : Type 0} (draws : D → List ℕ → D → Type 0) (contents : 
 
   -- behind the first lines
   pub last_behind : (address : SocketAddr) (secret : Name) (errors opened errors' : Counted E) (lines line : List ℕ) →
-      IsChosen draws given drawers secret → lines ≡ opening_lines given address secret → TriesToWrite error_text errors opened lines →
-      EndsBy error_text opened errors' line → IsLastLine draws contents error_text given drawers errors errors' line
+      IsChosen draws service.bootstrap drawers secret → lines ≡ opening_lines service address secret → TriesToWrite error_text errors opened lines →
+      EndsBy error_text opened errors' line → IsLastLine draws contents error_text service drawers errors errors' line
   last_behind address secret errors opened errors' lines line chosen are wrote ended = record {
     opened = opened;
     before = inr (address, secret, chosen, subst (TriesToWrite error_text errors opened) are wrote);
@@ -153,7 +154,7 @@ module _ {D W E : Type 0} (draws : D → List ℕ → D → Type 0) (contents : 
 
   -- with nothing before it
   pub last_alone : (errors errors' : Counted E) (line line' : List ℕ) → TriesToWrite error_text errors errors' line → line ≡ line' →
-      IsLastLine draws contents error_text given drawers errors errors' line'
+      IsLastLine draws contents error_text service drawers errors errors' line'
   last_alone errors errors' line line' ended is = record {
     opened = errors;
     before = inl refl;

@@ -12,6 +12,7 @@ use Rattle.ns_serve.specs.Keeping.{texts_of}
 use Rattle.ns_serve.specs.Opening.{IsSecret, opening_lines}
 use Rattle.ns_serve.specs.Printing.{IsRunOf, settled_line, whole_text}
 use Rattle.ns_serve.specs.declared.fault.ServeFault.{ServeFault}
+use Rattle.ns_serve.specs.declared.service.Service.{Service}
 
 -- the exit status of a server
 abbrev pub IsEnd : ℕ → Type 0
@@ -43,7 +44,7 @@ EndsBy {E} error_text errors errors' line = TriesToWrite error_text errors error
     × TriesToWrite error_text mid errors' line)
 
 module _ {D W E : Type 0} (draws : D → List ℕ → D → Type 0) (contents : W → Option (List ℕ))
-    (error_text : E → Option (List ℕ)) (given : Option Name) (drawers : List D) where
+    (error_text : E → Option (List ℕ)) (service : Service) (drawers : List D) where
   -- The log of a run was printed, its segments first; to standard error, where the server listens, and how many entries
   -- the log has.
   pub record EndsSettled (writer writer' : Counted W) (errors errors' : Counted E) : Type 0 where
@@ -52,17 +53,17 @@ module _ {D W E : Type 0} (draws : D → List ℕ → D → Type 0) (contents : 
     pub segments : List Given
     pub settlement : Settlement
     pub opened : Counted E
-    pub is_secret : IsChosen draws given drawers secret
+    pub is_secret : IsChosen draws service.bootstrap drawers secret
     pub is_run : IsRunOf secret segments settlement
     pub printed : WritesAll contents writer writer' (whole_text secret segments settlement)
-    pub listens : TriesToWrite error_text errors opened (opening_lines given address secret)
+    pub listens : TriesToWrite error_text errors opened (opening_lines service address secret)
     pub settled : TriesToWrite error_text opened errors' (settled_line (length settlement.log))
 
   -- a first part was printed, of segments or of the log of a run, and then the writer failed
   pub record EndsInPart (writer writer' : Counted W) : Type 0 where
     pub secret : Name
     pub segments : List Given
-    pub is_secret : IsChosen draws given drawers secret
+    pub is_secret : IsChosen draws service.bootstrap drawers secret
     pub printed : FailsToWrite contents writer writer' (texts_of secret segments)
         ⊎ ((s : Settlement) × IsRunOf secret segments s
         × FailsToWrite contents writer writer' (whole_text secret segments s))
@@ -70,11 +71,11 @@ module _ {D W E : Type 0} (draws : D → List ℕ → D → Type 0) (contents : 
   -- segments were printed at most, or a first part of them
   abbrev pub EndsUnsettled : Counted W → Counted W → Type 0
   EndsUnsettled writer writer' = (writer' ≡ writer) ⊎ ((secret : Name) × (segments : List Given)
-      × IsChosen draws given drawers secret × WritesPart contents writer writer' (texts_of secret segments))
+      × IsChosen draws service.bootstrap drawers secret × WritesPart contents writer writer' (texts_of secret segments))
 
   -- this line was written last, and before it, if anything, where the server listens and how settling ended
   pub record IsLastLine (errors errors' : Counted E) (line : List ℕ) : Type 0 where
     pub opened : Counted E
-    pub before : (opened ≡ errors) ⊎ ((address : SocketAddr) × (secret : Name) × IsChosen draws given drawers secret
-        × TriesToWrite error_text errors opened (opening_lines given address secret))
+    pub before : (opened ≡ errors) ⊎ ((address : SocketAddr) × (secret : Name) × IsChosen draws service.bootstrap drawers secret
+        × TriesToWrite error_text errors opened (opening_lines service address secret))
     pub last : EndsBy error_text opened errors' line

@@ -1,11 +1,12 @@
 -- How a server begins: by which secret it is opened, and what it prints before it serves.
-use Rattle.std.specs.Prelude.{◌≡◌, ℕ, List, [], ◌++◌, Option, Some, None, codes, length}
+use Rattle.std.specs.Prelude.{◌≡◌, ℕ, List, [], ◌++◌, Option, Some, None, codes, decimal, length}
 use Rattle.std.specs.Net.Text.{socket_text}
 use Rattle.std.specs.declared.net.socket_addr.SocketAddr.{SocketAddr}
 use Rattle.ns_types.specs.State.Names.{Name}
 use Rattle.ns_types.specs.Steps.{opening}
 use Rattle.ns_held.specs.Logs.{History}
 use Rattle.ns_asked.specs.Drawing.{random_id}
+use Rattle.ns_serve.specs.declared.service.Service.{Service}
 
 -- ---- the secret of the first management token
 
@@ -34,7 +35,22 @@ listening_line address = codes "listening " ++ socket_text address ++ codes "\n"
 abbrev pub bootstrap_line : Name → List ℕ
 bootstrap_line secret = codes "bootstrap " ++ secret ++ codes "\n"
 
--- where it listens; and then the secret, where it was drawn
-abbrev pub opening_lines : Option Name → SocketAddr → Name → List ℕ
-opening_lines (Some given) address secret = listening_line address
-opening_lines None address secret = listening_line address ++ bootstrap_line secret
+-- that it stops with so many entries
+abbrev pub limit_line : ℕ → List ℕ
+limit_line limit = codes "log limit " ++ decimal limit
+    ++ codes ": after so many entries each request is answered 503, unless --rotate is given\n"
+
+-- of a server with that secret, if it was drawn
+abbrev pub secret_lines : Option Name → Name → List ℕ
+secret_lines (Some given) secret = []
+secret_lines None secret = bootstrap_line secret
+
+-- of a server that ends after so many connections, and whose log is rotated
+abbrev pub limit_lines : Option ℕ → Option ℕ → ℕ → List ℕ
+limit_lines None None limit = limit_line limit
+limit_lines _ _ limit = []
+
+-- where it listens; then the secret, where it was drawn; and then that it stops, where it is to end by itself only so
+abbrev pub opening_lines : Service → SocketAddr → Name → List ℕ
+opening_lines service address secret = listening_line address ++ secret_lines service.bootstrap secret
+    ++ limit_lines service.accept service.rotate service.log_limit

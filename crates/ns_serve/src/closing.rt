@@ -19,7 +19,7 @@ use ns_faults::{print_fault, print_mismatch, print_text};
 use ns_http::{ConnFault, Counted, write_all};
 use ns_log::segment_text;
 use ns_segments::Segment;
-use ns_shared::{Ended, Seat, Settled};
+use ns_shared::{Ended, Retains, Seat, Settled};
 use ns_types::name::Secret;
 use std::alloc::{AllocError, Global};
 use std::io::Write;
@@ -40,7 +40,7 @@ pub struct Closing<W> {
 pub(crate) fn settle<L: Ledger>(
     alloc: Global,
     ended: Ended<L>,
-    seats: Vec<Seat<L>>,
+    seats: Vec<Seat<L, Retains>>,
     secret: &Secret,
     segments: Vec<Segment>,
     is_whole: bool,

@@ -7,6 +7,7 @@ use crate::house::House;
 use ns_asked::Draws;
 use ns_clients::{Chair, Client, serve};
 use ns_http::Counted;
+use ns_shared::Retention;
 use std::alloc::Global;
 use std::io;
 use std::net::TcpStream;
@@ -14,13 +15,13 @@ use std::sync::Wait;
 use std::sync::ledger::Ledger;
 
 /// A client of a shared server, with the seat of its thread.
-pub type Guest<'a, L, R, D> = Client<Chair<'a, L, R>, D>;
+pub type Guest<'a, L, R, D, M> = Client<Chair<'a, L, R, M>, D>;
 
 /// Answers the requests of a connection. How it ends concerns nobody else.
-fn converse<L: Ledger, R: Wait, D: Draws>(
+fn converse<L: Ledger, R: Wait, D: Draws, M: Retention>(
     alloc: Global,
     stream: &TcpStream,
-    guest: &mut Guest<'_, L, R, D>,
+    guest: &mut Guest<'_, L, R, D, M>,
 )
     ensures { Grows (IsRequested D.draws) guest.old.seated.seat guest.new.seated.seat }
 {
@@ -32,11 +33,11 @@ fn converse<L: Ledger, R: Wait, D: Draws>(
 }
 
 /// Serves one connection after another, as long as there are tickets. It fails where no more connections can be accepted.
-pub fn serve_connections<L: Ledger, R: Wait, D: Draws>(
+pub fn serve_connections<L: Ledger, R: Wait, D: Draws, M: Retention>(
     rt: &R,
     alloc: Global,
     house: &House<L>,
-    guest: &mut Guest<'_, L, R, D>,
+    guest: &mut Guest<'_, L, R, D, M>,
 ) -> io::Result<()>
     ensures { Grows (IsRequested D.draws) guest.old.seated.seat guest.new.seated.seat }
 {

@@ -9,7 +9,7 @@ use crate::fault::HostFault;
 use crate::house::House;
 use ns_asked::Draws;
 use ns_clients::{Chair, Client};
-use ns_shared::Seat;
+use ns_shared::{Retention, Seat};
 use ns_workers::{Open, worker};
 use std::alloc::Global;
 use std::rt::Clock;
@@ -26,13 +26,13 @@ pub enum Duty<D> {
 }
 
 /// Serves connections, and gives the seat back.
-fn attend<L: Ledger, R: Wait, D: Draws + Drop>(
+fn attend<L: Ledger, R: Wait, D: Draws + Drop, M: Retention>(
     rt: &R,
     alloc: Global,
     house: &House<L>,
     drawer: D,
-    seat: Seat<L>,
-) -> Result<Seat<L>, HostFault>
+    seat: Seat<L, M>,
+) -> Result<Seat<L, M>, HostFault>
     ensures { IfOk result (Grows (IsRequested D.draws) seat) }
 {
     let shared = house.shared;
@@ -45,13 +45,13 @@ fn attend<L: Ledger, R: Wait, D: Draws + Drop>(
 
 /// Does a thread's duty, once all threads are there, and gives its seat back. At a fault no thread accepts a connection any
 /// more. The last thread of connections closes the server, so that the others end too.
-pub fn perform<L: Ledger, R: Wait + Clock, D: Draws + Drop>(
+pub fn perform<L: Ledger, R: Wait + Clock, D: Draws + Drop, M: Retention>(
     rt: &R,
     alloc: Global,
     house: &House<L>,
     duty: Duty<D>,
-    mut seat: Seat<L>,
-) -> Result<Seat<L>, HostFault>
+    mut seat: Seat<L, M>,
+) -> Result<Seat<L, M>, HostFault>
     ensures { IfOk result (Grows (IsDue D.draws duty) seat) }
 {
     if !house.start.wait(rt) {

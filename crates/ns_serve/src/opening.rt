@@ -1,8 +1,8 @@
 //! The begin of a server.
 
-ghost use Rattle.std.specs.Prelude.{◌≡◌, ◌≢◌, Err, IfOk, string_bytes};
+ghost use Rattle.std.specs.Prelude.{◌≡◌, ◌≢◌, ◌++◌, Err, IfOk, OnOk, string_bytes};
 ghost use Rattle.ns_http.specs.declared.engine.ConnFault.TheVariants as ConnFault;
-ghost use Rattle.ns_serve.specs.Opening.{IsSecret, begun_by, opening_lines};
+ghost use Rattle.ns_serve.specs.Opening.{IsSecret, begun_by, limit_lines, opening_lines, secret_lines};
 
 use crate::secret::chosen_secret;
 use crate::service::Service;
@@ -25,22 +25,51 @@ pub struct Opened {
     pub lines: String,
 }
 
-/// Where it listens, and the secret where none was given.
+/// Adds the secret, where none was given.
+fn push_secret(
+    lines: &mut String,
+    given: &Option<Secret>,
+    secret: &Secret,
+) -> Result<(), AllocError>
+    ensures { OnOk result (string_bytes lines.new
+        ≡ string_bytes lines.old ++ secret_lines given.now secret.now) }
+{
+    if given.is_some() {
+        return Ok(());
+    }
+    let secret = secret.get().as_str();
+    writeln!(lines, "bootstrap {secret}")
+}
+
+/// Adds that the server stops with a full log, where it would run for ever without one.
+fn push_limit(lines: &mut String, service: &Service) -> Result<(), AllocError>
+    ensures { let s = service.now in OnOk result (string_bytes lines.new
+        ≡ string_bytes lines.old ++ limit_lines s.accept s.rotate s.log_limit) }
+{
+    if service.accept.is_some() || service.rotate.is_some() {
+        return Ok(());
+    }
+    let limit = service.log_limit;
+    writeln!(
+        lines,
+        "log limit {limit}: after so many entries each request is answered 503, unless --rotate is given"
+    )
+}
+
+/// Where it listens, the secret where none was given, and that it stops with a full log where it does.
 fn opening_lines(
     alloc: Global,
-    given: &Option<Secret>,
+    service: &Service,
     address: SocketAddr,
     secret: &Secret,
 ) -> Result<String, AllocError>
     ensures { IfOk result (λ lines.
-        string_bytes lines ≡ opening_lines given.now address secret.now) }
+        string_bytes lines ≡ opening_lines service.now address secret.now) }
 {
     let mut lines = String::new(alloc);
     writeln!(lines, "listening {address}")?;
-    if given.is_none() {
-        let secret = secret.get().as_str();
-        writeln!(lines, "bootstrap {secret}")?;
-    }
+    push_secret(&mut lines, &service.bootstrap, secret)?;
+    push_limit(&mut lines, service)?;
     Ok(lines)
 }
 
@@ -54,7 +83,7 @@ pub fn open<R: Net<Listener = TcpListener, Stream = TcpStream>, D: Draws>(
     ensures secret { IfOk result (λ opened.
         IsSecret D.draws service.now.bootstrap drawer.old opened.secret) }
     ensures lines { IfOk result (λ opened. string_bytes opened.lines
-        ≡ opening_lines service.now.bootstrap opened.address opened.secret) }
+        ≡ opening_lines service.now opened.address opened.secret) }
     ensures server { IfOk result (λ opened.
         opened.held ≡ begun_by opened.secret service.now.log_limit) }
     ensures no_write { result ≢ Err ConnFault.Write }
@@ -66,7 +95,7 @@ pub fn open<R: Net<Listener = TcpListener, Stream = TcpStream>, D: Draws>(
         return Err(ConnFault::Read);
     };
     let secret = chosen_secret(alloc, &service.bootstrap, drawer)?;
-    let lines = opening_lines(alloc, &service.bootstrap, address, &secret)?;
+    let lines = opening_lines(alloc, service, address, &secret)?;
     let held = Held::new(alloc, Core::new(alloc, &secret)?, service.log_limit);
     Ok(Opened {
         door,

@@ -4,13 +4,13 @@ ghost use Rattle.std.specs.Prelude.{◌≡◌, [], IfOk, map};
 ghost use Rattle.ns_serve.specs.Duties.{duties_of};
 
 use crate::duty::Duty;
-use ns_shared::{Seat, Shared};
+use ns_shared::{Retention, Seat, Shared};
 use std::alloc::{AllocError, Global};
 use std::sync::Wait;
 use std::sync::ledger::Ledger;
 
 /// A thread's duty, with its seat.
-pub type Job<L, D> = (Duty<D>, Seat<L>);
+pub type Job<L, D, M> = (Duty<D>, Seat<L, M>);
 
 /// The duties: a thread for the connections for each drawer, then so many workers.
 pub fn duties<D: Drop>(
@@ -28,12 +28,12 @@ pub fn duties<D: Drop>(
 }
 
 /// Each duty with a seat that has no receipts.
-pub fn seated<L: Ledger, R: Wait, D: Drop>(
+pub fn seated<L: Ledger, R: Wait, D: Drop, M: Retention>(
     rt: &R,
     alloc: Global,
     shared: &Shared<L>,
     duties: Vec<Duty<D>>,
-) -> Result<Vec<Job<L, D>>, AllocError>
+) -> Result<Vec<Job<L, D, M>>, AllocError>
     ensures { IfOk result (λ jobs. jobs.items ≡ map (λ duty. (duty, [])) duties.items) }
 {
     let mut jobs = Vec::new(alloc);

@@ -20,4 +20,6 @@ pub struct Service {
     pub log_limit: u64,
     /// With how many entries the log is rotated, from 1 on and below the limit. None: never.
     pub rotate: Option<u64>,
+    /// It is rotated as well where its entries have more than so many bytes of text, from 1 on. None where it is not by entries.
+    pub rotate_bytes: Option<u64>,
 }

@@ -15,7 +15,7 @@ use crate::start::Start;
 use crate::tickets::Tickets;
 use ns_asked::Draws;
 use ns_door::Door;
-use ns_shared::{Seat, Shared};
+use ns_shared::{Retention, Seat, Shared};
 use ns_workers::{Keep, applier};
 use std::alloc::{AllocError, Global};
 use std::rt::Clock;
@@ -25,12 +25,12 @@ use std::thread;
 use std::thread::{JoinHandle, Threads};
 
 /// A thread, and what it gives back.
-type Running<L> = JoinHandle<Result<Seat<L>, HostFault>>;
+type Running<L, M> = JoinHandle<Result<Seat<L, M>, HostFault>>;
 
 /// Keeps the seat that a thread gave back.
-fn keep<L: Ledger>(
-    seats: &mut Vec<Seat<L>>,
-    ended: Result<Seat<L>, HostFault>,
+fn keep<L: Ledger, M: Retention>(
+    seats: &mut Vec<Seat<L, M>>,
+    ended: Result<Seat<L, M>, HostFault>,
 ) -> Result<(), HostFault>
     ensures { OnOk result (vec_len seats.new ≡ vec_len seats.old + 1) }
 {
@@ -52,11 +52,11 @@ fn worse_of(before: Option<HostFault>, next: HostFault) -> HostFault
 }
 
 /// Joins the threads, and gives their seats in their order.
-fn join<L: Ledger, R: Threads + Wait>(
+fn join<L: Ledger, R: Threads + Wait, M: Retention>(
     rt: &R,
     alloc: Global,
-    running: Vec<Running<L>>,
-) -> Result<Vec<Seat<L>>, HostFault>
+    running: Vec<Running<L, M>>,
+) -> Result<Vec<Seat<L, M>>, HostFault>
     ensures { IfOk result (λ seats. vec_len seats ≡ vec_len running) }
 {
     let mut seats = Vec::new(alloc);
@@ -73,13 +73,13 @@ fn join<L: Ledger, R: Threads + Wait>(
 }
 
 /// Joins the threads, and gives their seats in their order and the applier's behind. It fails where a thread could not be made.
-fn gather<L: Ledger, R: Threads + Wait>(
+fn gather<L: Ledger, R: Threads + Wait, M: Retention>(
     rt: &R,
     alloc: Global,
-    running: Vec<Running<L>>,
+    running: Vec<Running<L, M>>,
     is_full: bool,
-    seat: Seat<L>,
-) -> Result<Vec<Seat<L>>, HostFault>
+    seat: Seat<L, M>,
+) -> Result<Vec<Seat<L, M>>, HostFault>
     ensures full { OnOk result (IsTrue is_full) }
     ensures seats { IfOk result (λ seats. vec_len seats ≡ vec_len running + 1) }
 {
@@ -94,15 +94,15 @@ fn gather<L: Ledger, R: Threads + Wait>(
 }
 
 /// Runs the applier beside the threads, unless one could not be made, and then joins them.
-fn apply_beside<L: Ledger, K: Keep + Drop, R: Threads + Wait + Clock>(
+fn apply_beside<L: Ledger, K: Keep + Drop, R: Threads + Wait + Clock, M: Retention>(
     rt: &R,
     alloc: Global,
     shared: &Shared<L>,
-    running: Vec<Running<L>>,
+    running: Vec<Running<L, M>>,
     is_full: bool,
-    mut seat: Seat<L>,
+    mut seat: Seat<L, M>,
     mut keeper: K,
-) -> (Result<Vec<Seat<L>>, HostFault>, K)
+) -> (Result<Vec<Seat<L, M>>, HostFault>, K)
     ensures full { OnOk result.0 (IsTrue is_full) }
     ensures seats { IfOk result.0 (λ seats. vec_len seats ≡ vec_len running + 1) }
     ensures takes { TakesSome K.takes keeper result.1 }
@@ -121,14 +121,15 @@ fn run<
     R: Threads + Wait + Clock + Sync,
     D: Draws + Drop + Send,
     K: Keep + Drop,
+    M: Retention + Send,
 >(
     rt: &R,
     alloc: Global,
     house: &House<L>,
-    jobs: Vec<Job<L, D>>,
-    seat: Seat<L>,
+    jobs: Vec<Job<L, D, M>>,
+    seat: Seat<L, M>,
     keeper: K,
-) -> (Result<Vec<Seat<L>>, HostFault>, K)
+) -> (Result<Vec<Seat<L, M>>, HostFault>, K)
     ensures seats { IfOk result.0 (λ seats. vec_len seats ≡ vec_len jobs + 1) }
     ensures takes { TakesSome K.takes keeper result.1 }
     ensures never { IsNone house.now.shared.now.rotates_at → result.1 ≡ keeper }
@@ -136,8 +137,8 @@ fn run<
     thread::scope(
         thread::scope_env(),
         rt,
-        move |scope| -> (Result<Vec<Seat<L>>, HostFault>, K)
-            requires { IsSync R.row × IsSend D.row }
+        move |scope| -> (Result<Vec<Seat<L, M>>, HostFault>, K)
+            requires { IsSync R.row × IsSend D.row × IsSend M.row }
             ensures { IfOk result.0 (λ seats. vec_len seats ≡ vec_len jobs + 1)
                 × TakesSome K.takes keeper result.1
                 × (IsNone house.entry.now.shared.now.rotates_at → result.1 ≡ keeper) }
@@ -159,13 +160,13 @@ fn run<
 }
 
 /// Each thread's duty with a seat, and a seat for the applier.
-fn prepare<L: Ledger, R: Wait, D: Draws + Drop>(
+fn prepare<L: Ledger, R: Wait, D: Draws + Drop, M: Retention>(
     rt: &R,
     alloc: Global,
     shared: &Shared<L>,
     workers: u64,
     draws: Vec<D>,
-) -> Result<(Vec<Job<L, D>>, Seat<L>), AllocError>
+) -> Result<(Vec<Job<L, D, M>>, Seat<L, M>), AllocError>
     ensures { IfOk result (λ made. vec_len made.0 ≡ vec_len draws + workers) }
 {
     let duties = duties(alloc, workers, draws)?;
@@ -182,6 +183,7 @@ pub fn host<
     R: Threads + Wait + Clock + Sync,
     D: Draws + Drop + Send,
     K: Keep + Drop,
+    M: Retention + Send,
 >(
     rt: &R,
     alloc: Global,
@@ -190,7 +192,7 @@ pub fn host<
     service: &Service,
     draws: Vec<D>,
     keeper: K,
-) -> (Result<Vec<Seat<L>>, HostFault>, K)
+) -> (Result<Vec<Seat<L, M>>, HostFault>, K)
     ensures seats { IfOk result.0
         (λ seats. vec_len seats ≡ vec_len draws + service.now.workers + 1) }
     ensures takes { TakesSome K.takes keeper result.1 }

@@ -1,6 +1,6 @@
 -- A call that makes a step adds one entry, for whose answer there was room, and any other adds none.
 use Rattle.std.specs.Prelude.{◌≡◌, ◌+◌, ℕ, Bool, true, false, if◌then◌else◌, length, List, Option, Result, Some, None, Ok, Err, IfOk, OnErr}
-use Rattle.std.proofs.Common.{refl, ap, sym, subst, ◌∙◌, arith, inl, inr, length-append, [], ◌∷◌}
+use Rattle.std.proofs.Common.{refl, ap, sym, subst, ◌∙◌, arith, inl, inr, length-append, [], ◌∷◌, ◌++◌, append_assoc}
 use Rattle.ns_types.specs.declared.refusal.Refusal.{Refusal}
 use Rattle.ns_types.specs.declared.reply.Rendered.{Rendered}
 use Rattle.ns_types.specs.declared.reply.Response.{Response}
@@ -76,11 +76,26 @@ received_length place step None receipts = omega arith
 received_length place step (Some rendered) receipts =
     let more = length-append receipts (receipt place step rendered ∷ []) in omega (arith, more)
 
-pub received_same : (place place' : ℕ) (step step' : Step) (r r' : Option Rendered) (receipts receipts' : List Receipt) →
+received_same : (place place' : ℕ) (step step' : Step) (r r' : Option Rendered) (receipts receipts' : List Receipt) →
     place ≡ place' → step ≡ step' → r ≡ r' → receipts ≡ receipts' → received place step r receipts ≡ received place' step' r' receipts'
 received_same place place' step step' r r' receipts receipts' p s q l =
     ap (λ x. received x step r receipts) p ∙ ap (λ x. received place' x r receipts) s ∙ ap (λ x. received place' step' x receipts) q
     ∙ ap (received place' step' r') l
+
+-- ---- a seat, whose first receipts are no longer in memory
+
+received_behind : (past : List Receipt) (place : ℕ) (step : Step) (rendered : Option Rendered) (receipts : List Receipt) →
+    past ++ received place step rendered receipts ≡ received place step rendered (past ++ receipts)
+received_behind past place step None receipts = refl
+received_behind past place step (Some rendered) receipts = sym (append_assoc past receipts (receipt place step rendered ∷ []))
+
+-- what those in memory gain, the seat gains
+pub seat_received : (past before mid after seat : List Receipt) (place place' : ℕ) (step step' : Step) (r r' : Option Rendered) →
+    after ≡ received place step r mid → mid ≡ before → past ++ before ≡ seat → place ≡ place' → step ≡ step' → r ≡ r' →
+    past ++ after ≡ received place' step' r' seat
+seat_received past before mid after seat place place' step step' r r' is same view p s q =
+    ap (λ xs. past ++ xs) is ∙ received_behind past place step r mid ∙
+    received_same place place' step step' r r' (past ++ mid) seat p s q (ap (λ xs. past ++ xs) same ∙ view)
 
 -- before the step
 pub begin_asked : (A X : Type 0) (step : Step) (old : History) (refusal : Refusal) → Begins {X = X} (length old.log) old.limit (Err refusal) →

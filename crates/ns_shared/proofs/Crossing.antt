@@ -28,7 +28,7 @@ module _ (L : RattleType) (g : Ghosts L.Denot) where
   Desk-send : IsSend (Struct (shape (Desk.the_type L g)))
   Desk-send =
       let plain : IsSend (Enum (variants_of.shape Stage.the_type)) = search sendable depth 20 in
-      struct_send (shape (Desk.the_type L g)) (Ended-send, (search sendable, (search sendable, (search sendable, (plain, tt)))))
+      struct_send (shape (Desk.the_type L g)) (Ended-send, (search sendable, (search sendable, (search sendable, (search sendable, (plain, tt))))))
 
   pub Shared-sync : IsSync (Shared.the_row L g)
   Shared-sync = search (sendable, crosses, Desk-send) depth 20

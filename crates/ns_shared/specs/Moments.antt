@@ -1,6 +1,6 @@
 -- How it stands with those who share a server: whom a call wakes, and who entered and left.
-use Rattle.std.specs.Prelude.{ℕ, ◌+◌, ◌-◌, ◌%◌, ◌^◌, ◌==◌, Bool, true, false, ◌||◌, if◌then◌else◌, is_some, length}
-use Rattle.std.specs.Prelude.{Option, Some, None}
+use Rattle.std.specs.Prelude.{ℕ, ◌+◌, ◌-◌, ◌%◌, ◌^◌, ◌==◌, Bool, true, false, ◌&&◌, ◌||◌, if◌then◌else◌, is_some, length, min}
+use Rattle.std.specs.Prelude.{Option, Some, None, nat_le, nat_lt}
 use Rattle.ns_types.specs.State.Rows.{World}
 use Rattle.ns_held.specs.Logs.{History}
 use Rattle.ns_types.specs.Working.Looks.{served_ready}
@@ -29,6 +29,16 @@ stirs wakes rotates_at is_closed h = is_stirred wakes is_closed h.state.world ||
 -- one change more, where there is; the number wraps
 abbrev pub changes_after : Bool → ℕ → ℕ
 changes_after stirred changes = if stirred then (changes + 1) % 2 ^ 64 else changes
+
+-- ---- the bytes of text of the log's entries, as far as they were counted
+
+-- so many more; the number ends with 64 bits
+abbrev pub bytes_after : ℕ → ℕ → ℕ
+bytes_after bytes more = min (bytes + more) (2 ^ 64 - 1)
+
+-- whether they pass the limit just now
+abbrev pub passes : ℕ → ℕ → ℕ → Bool
+passes limit old new = nat_le old limit && nat_lt limit new
 
 -- ---- who entered and left; the number of workers wraps
 

@@ -1,9 +1,10 @@
 //! What lies under the lock of a shared server.
 
-ghost use Rattle.std.specs.Prelude.{◌≡◌, false, is_some, length, true};
+ghost use Rattle.std.specs.Option.{option_map_or};
+ghost use Rattle.std.specs.Prelude.{◌≡◌, false, is_some, length, nat_lt, true};
 ghost use Rattle.ns_types.specs.Working.Looks.{served_ready};
 ghost use Rattle.ns_shared.specs.declared.changes.Stage.TheVariants as Stage;
-ghost use Rattle.ns_shared.specs.Moments.{changes_after, is_due, is_left, is_stirred, stirs};
+ghost use Rattle.ns_shared.specs.Moments.{bytes_after, changes_after, is_due, is_left, is_stirred, passes, stirs};
 ghost use Rattle.ns_shared.specs.Moments.{stage_entered, stage_left, workers_entered, workers_left};
 
 use crate::changes::{Moment, Role, Stage, Wakes};
@@ -14,6 +15,8 @@ use std::sync::ledger::Ledger;
 #[derive(Drop)]
 pub(crate) struct Desk<L: Ledger> {
     pub(crate) kept: Ended<L>,
+    /// How many bytes of text the entries of the log have, as far as they were counted.
+    pub(crate) bytes: u64,
     /// How many changes there were that others wait for. It wraps.
     pub(crate) changes: u64,
     pub(crate) is_closed: bool,
@@ -27,6 +30,7 @@ impl<L: Ledger> Desk<L> {
     pub(crate) fn new(kept: Ended<L>) -> Desk<L>
         ensures { result ≡ record {
           kept = kept;
+          bytes = 0;
           changes = 0;
           is_closed = false;
           workers = 0;
@@ -35,6 +39,7 @@ impl<L: Ledger> Desk<L> {
     {
         Desk {
             kept,
+            bytes: 0,
             changes: 0,
             is_closed: false,
             workers: 0,
@@ -97,6 +102,36 @@ impl<L: Ledger> Desk<L> {
             self.new ≡ record self.old { changes = changes_after stirred self.old.changes } }
     {
         if !self.is_stirred(wakes) && !self.is_due(rotates_at) {
+            return false;
+        }
+        self.changes = self.changes.wrapping_add(1);
+        true
+    }
+
+    /// Whether the entries have more bytes of text than the log is rotated past.
+    pub(crate) fn is_heavy(&self, rotates_past: Option<u64>) -> bool
+        ensures { result ≡ option_map_or (λ limit. nat_lt limit self.now.bytes) rotates_past false }
+    {
+        match rotates_past {
+            Some(limit) => self.bytes > limit,
+            None => false,
+        }
+    }
+
+    /// Counts so many bytes of text more, and a change where they pass the limit just now. Whether they do.
+    pub(crate) fn weigh(&mut self, more: u64, limit: u64) -> bool
+        ensures passed { let bytes = bytes_after self.old.bytes more in
+            result ≡ passes limit self.old.bytes bytes }
+        ensures desk { let bytes = bytes_after self.old.bytes more in
+            let passed = passes limit self.old.bytes bytes in
+            self.new ≡ record self.old {
+              bytes = bytes;
+              changes = changes_after passed self.old.changes;
+            } }
+    {
+        let before = self.bytes;
+        self.bytes = before.saturating_add(more);
+        if before > limit || self.bytes <= limit {
             return false;
         }
         self.changes = self.changes.wrapping_add(1);

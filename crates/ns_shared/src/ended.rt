@@ -7,13 +7,16 @@ ghost use Rattle.ns_held.specs.Logs.{next_place};
 ghost use Rattle.ns_held.specs.Rotation.{IsRotated};
 ghost use Rattle.ns_shared.specs.Receiving.{LogsAsked, answered, received};
 
+use crate::retention::Retention;
 use crate::seat::{Seat, prepare_copy, receive_given};
 use ns_held::Held;
+use ns_receipts::Past;
 use ns_segments::Segment;
 use ns_types::refusal::Refusal;
 use ns_types::reply::Response;
 use ns_types::step::Step;
 use std::alloc::Global;
+use std::marker::PhantomData;
 use std::sync::ledger::{Blank, Book, Ledger, Share};
 
 /// The parts of the ledger: one for each seat.
@@ -53,7 +56,7 @@ impl<L: Ledger> Ended<L> {
     }
 
     /// A seat with no receipts, unless no part is left for it.
-    pub(crate) fn seat(&mut self, alloc: Global) -> Option<Seat<L>>
+    pub(crate) fn seat<M: Retention>(&mut self, alloc: Global) -> Option<Seat<L, M>>
         ensures seat { IfSome result (λ seat. seat ≡ []) }
         ensures counted { IfSome result (λ _. self.new.seats ≡ self.old.seats + 1) }
         ensures none { IfNone result (self.old.seats ≡ 18446744073709551615) }
@@ -66,17 +69,19 @@ impl<L: Ledger> Ended<L> {
         *seats += 1;
         let share = rest.split_off(1, 0);
         Some(Seat {
+            past: Past::new(),
             receipts: Vec::new(alloc),
             share,
+            retention: PhantomData,
         })
     }
 
     /// Makes the step that a request asks for, and adds its receipt.
     #[tactic(none)]
-    pub(crate) fn take(
+    pub(crate) fn take<M: Retention>(
         &mut self,
         alloc: Global,
-        seat: &mut Seat<L>,
+        seat: &mut Seat<L, M>,
         step: Step,
     ) -> Result<Response, Refusal>
         requires { IsServed step }
@@ -85,7 +90,11 @@ impl<L: Ledger> Ended<L> {
             seat.new ≡ received place step (answered result) seat.old }
     {
         let Ended { held, book, .. } = self;
-        let Seat { receipts, share } = seat;
+        let Seat {
+            receipts,
+            share,
+            ..
+        } = seat;
         let copy = match prepare_copy(held, receipts, &step) {
             Ok(copy) => copy,
             Err(refusal) => {

@@ -1,4 +1,4 @@
-//! A server that threads share, with its log. Each caller has a seat, which keeps what it was answered.
+//! A server that threads share, with its log. Each caller has a seat, which has what it was answered.
 #![tactic(auto)]
 
 mod changes;
@@ -7,6 +7,7 @@ mod desk;
 mod ended;
 mod looking;
 mod ready;
+mod retention;
 mod seat;
 mod settling;
 mod shared;
@@ -15,6 +16,7 @@ mod work;
 pub use changes::{Busy, Moment, Planner, Role};
 pub use ended::{Ended, PARTS};
 pub use looking::WORKERS_END;
+pub use retention::{Forgets, Retains, Retention};
 pub use seat::Seat;
 pub use settling::Settled;
 pub use shared::Shared;

@@ -1,38 +1,98 @@
 //! What one caller was answered.
 
-ghost use Rattle.std.specs.Prelude.{◌≡◌, ◌+◌, ◌<◌, IfOk, OnOk, length, vec_len, vec_capacity};
+ghost use Rattle.std.specs.Prelude.{◌≡◌, ◌+◌, ◌++◌, ◌<◌, [], IfOk, IfSome, OnOk, false, length, true};
+ghost use Rattle.std.specs.Prelude.{vec_capacity, vec_len};
+ghost use Rattle.ns_json.specs.Logs.{line_of};
+ghost use Rattle.ns_log.specs.Lines.{entry_text};
+ghost use Rattle.ns_receipts.specs.Settling.{entry_of};
 ghost use Rattle.ns_held.specs.Noting.{Begins};
 ghost use Rattle.ns_shared.specs.Receiving.{count, receipt_of, received, response_of};
 
+use crate::retention::{Retains, Retention};
 use ns_held::Held;
-use ns_receipts::Receipt;
+use ns_log::entry_line;
+use ns_receipts::{Past, Receipt};
 use ns_steps_copied::copied_step;
 use ns_types::refusal::Refusal;
 use ns_types::reply::{Rendered, Response};
 use ns_types::step::Step;
-use std::marker::Model;
+use std::alloc::Global;
+use std::marker::{Model, PhantomData};
 use std::sync::ledger::{Book, Ledger, Share};
 
-/// The receipts of one caller, in the order of its calls. Contracts see them alone. Their number is its share of the
-/// ledger's total.
+/// The receipts of one caller, in the order of its calls. Contracts see them alone, those that are no longer in memory too. Their
+/// number is its share of the ledger's total.
 #[derive(Drop)]
-pub struct Seat<L: Ledger> {
+pub struct Seat<L: Ledger, M: Retention> {
+    /// Those that are no longer in memory, which come first.
+    pub(crate) past: Past,
     pub(crate) receipts: Vec<Receipt>,
     pub(crate) share: Share<L>,
+    pub(crate) retention: PhantomData<M>,
 }
 
-impl<L: Ledger> Model for Seat<L> {
-    ghost use Rattle.std.specs.Prelude.{◌≡◌, List, length};
+impl<L: Ledger, M: Retention> Model for Seat<L, M> {
+    ghost use Rattle.std.specs.Prelude.{◌≡◌, ◌+◌, ◌++◌, List, [], length, true};
     ghost use Rattle.ns_receipts.specs.declared.receipt.Receipt.{Receipt};
 
     ghost Value = { List Receipt };
 
-    ghost view = { λ s. s.receipts.items };
+    ghost view = { λ s. s.past.receipts ++ s.receipts.items };
 
-    ghost invariant = { λ s. (s.share.parts ≡ 1) × (s.share.amount ≡ length s.receipts.items) };
+    ghost invariant = { λ s. (s.share.parts ≡ 1)
+        × (s.share.amount ≡ length s.past.receipts + length s.receipts.items)
+        × (M.retains ≡ true → s.past.receipts ≡ []) };
 }
 
-impl<L: Ledger> Seat<L> {
+/// Those that need not stay in memory go.
+fn forget<M: Retention>(past: &mut Past, receipts: &mut Vec<Receipt>)
+    ensures all { past.new.receipts ++ receipts.new.items ≡ past.old.receipts ++ receipts.old.items }
+    ensures number { length past.new.receipts + vec_len receipts.new
+        ≡ length past.old.receipts + vec_len receipts.old }
+    ensures retains { M.retains ≡ true → past.new.receipts ≡ past.old.receipts }
+    ensures forgets { M.retains ≡ false → receipts.new.items ≡ [] }
+{
+    if M::retains() {
+        return;
+    }
+    *past = Past::with(past, receipts);
+    receipts.clear();
+}
+
+/// How many bytes the line of the receipt's entry has in the log's text, if there is memory to render it.
+fn line_bytes(alloc: Global, receipt: &Receipt) -> Option<u64>
+    ensures { let line = line_of (entry_text (entry_of receipt.now)) in
+        IfSome result (λ bytes. bytes ≡ length line) }
+{
+    match entry_line(alloc, &receipt.step, &receipt.rendered) {
+        Ok(line) => Some(line.len() as u64),
+        Err(_) => None,
+    }
+}
+
+impl<L: Ledger, M: Retention> Seat<L, M> {
+    /// Receipts that need not stay in memory go from it. It is no call, and the seat has them as before. How many stay in memory.
+    pub(crate) fn forget(&mut self) -> usize
+        ensures { self.new ≡ self.old }
+    {
+        forget::<M>(&mut self.past, &mut self.receipts);
+        self.receipts.len()
+    }
+
+    /// How many bytes of text the entry has that was added last, where it was added since so many receipts were in memory, and there
+    /// is memory to render it.
+    pub(crate) fn added_bytes(&self, alloc: Global, before: usize) -> u64 {
+        if self.receipts.len() == before {
+            return 0;
+        }
+        match self.receipts.last() {
+            Some(receipt) => line_bytes(alloc, receipt).unwrap_or(0),
+            None => 0,
+        }
+    }
+}
+
+impl<L: Ledger> Seat<L, Retains> {
     /// The receipts so far, in the order of the calls.
     pub fn receipts(&self) -> &[Receipt]
         ensures { result.now ≡ self.now }

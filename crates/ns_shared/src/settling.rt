@@ -12,6 +12,7 @@ ghost use Rattle.ns_shared.specs.Ending.{held_of};
 ghost use Rattle.ns_shared.specs.Settling.{IsMismatch, IsOf, IsRun, SettlesNot, present};
 
 use crate::ended::Ended;
+use crate::retention::Retains;
 use crate::seat::Seat;
 use ns_core::Core;
 use ns_held::Held;
@@ -104,7 +105,7 @@ impl Settled {
 fn take_in<L: Ledger>(
     alloc: Global,
     rest: &mut Share<L>,
-    seats: Vec<Seat<L>>,
+    seats: Vec<Seat<L, Retains>>,
 ) -> Result<Vec<Vec<Receipt>>, AllocError>
     ensures receipts { IfOk result (λ lists. map vec_items lists.items ≡ seats.items) }
     ensures parts { OnOk result (rest.new.parts ≡ rest.old.parts + vec_len seats) }
@@ -113,7 +114,12 @@ fn take_in<L: Ledger>(
 {
     let mut lists = Vec::new(alloc);
     for seat in seats {
-        let Seat { receipts, share } = seat;
+        let Seat {
+            past: _past,
+            receipts,
+            share,
+            retention: _,
+        } = seat;
         rest.merge(share);
         lists.push(receipts)?;
     }
@@ -124,7 +130,7 @@ fn take_in<L: Ledger>(
 fn hand_in<L: Ledger>(
     alloc: Global,
     ended: Ended<L>,
-    seats: Vec<Seat<L>>,
+    seats: Vec<Seat<L, Retains>>,
 ) -> Result<(Held, Vec<Vec<Receipt>>), AllocError>
     requires { L.parts ≡ 18446744073709551615 }
     ensures held { IfOk result (λ given. given.0 ≡ ended.held) }
@@ -202,7 +208,7 @@ impl<L: Ledger> Ended<L> {
     pub fn settle(
         self,
         alloc: Global,
-        seats: Vec<Seat<L>>,
+        seats: Vec<Seat<L, Retains>>,
         first: &Core,
         segments: Vec<Segment>,
     ) -> Result<Settled, SettleFault>

@@ -1,6 +1,6 @@
 //! A server that threads share.
 
-ghost use Rattle.std.specs.Prelude.{◌≡◌, ◌≢◌, [], IfErr, IfSome};
+ghost use Rattle.std.specs.Prelude.{◌≡◌, ◌≢◌, [], IfErr, IfSome, IsFalse, IsNone};
 ghost use Rattle.ns_types.specs.declared.refusal.Refusal.TheVariants as Refusal;
 ghost use Rattle.ns_types.specs.declared.step.Step.TheVariants as Step;
 ghost use Rattle.ns_drive.specs.Calls.{snapped};
@@ -12,6 +12,7 @@ use crate::changes::{Busy, Moment, Planner, Role, Wakes};
 use crate::desk::Desk;
 use crate::ended::Ended;
 use crate::looking;
+use crate::retention::Retention;
 use crate::seat::Seat;
 use ns_answers::may_change;
 use ns_held::Held;
@@ -35,6 +36,8 @@ pub struct Shared<L: Ledger> {
     changed: Condvar,
     /// With how many entries the log is rotated. None: never.
     pub rotates_at: Option<u64>,
+    /// It is rotated as well where its entries have more than so many bytes of text.
+    pub rotates_past: Option<u64>,
 }
 
 impl<L: Ledger> Drop for Shared<L> {
@@ -43,33 +46,41 @@ impl<L: Ledger> Drop for Shared<L> {
             desk: _desk,
             changed: _changed,
             rotates_at: _,
+            rotates_past: _,
         } = self;
     }
 }
 
 impl<L: Ledger> Shared<L> {
     /// Shares a server whose log begins, counted by this ledger. Who adds an entry wakes the applier where the log has as many as
-    /// it is rotated at.
-    pub fn new(held: Held, blank: Blank, rotates_at: Option<u64>) -> Shared<L>
+    /// it is rotated at, or more than so many bytes of text.
+    pub fn new(
+        held: Held,
+        blank: Blank,
+        rotates_at: Option<u64>,
+        rotates_past: Option<u64>,
+    ) -> Shared<L>
         requires empty { held.log ≡ [] }
         requires first { held.start ≡ 0 }
         requires name { blank.name ≡ L.name }
         requires parts { (blank.parts ≡ L.parts) × (L.parts ≡ 18446744073709551615) }
-        ensures { result.rotates_at ≡ rotates_at }
+        ensures entries { result.rotates_at ≡ rotates_at }
+        ensures bytes { result.rotates_past ≡ rotates_past }
     {
         let desk = Desk::new(Ended::new(held, blank));
         Shared {
             desk: Mutex::new(desk),
             changed: Condvar::new(),
             rotates_at,
+            rotates_past,
         }
     }
 
     /// A seat with no receipts, unless 2^64 - 1 seats were made.
-    pub fn seat<R: Wait>(&self, rt: &R, alloc: Global) -> Option<Seat<L>>
+    pub fn seat<R: Wait, M: Retention>(&self, rt: &R, alloc: Global) -> Option<Seat<L, M>>
         ensures { IfSome result (λ seat. seat ≡ []) }
     {
-        self.desk.lock(rt).kept.seat(alloc)
+        self.desk.lock(rt).kept.seat::<M>(alloc)
     }
 
     /// Wakes those who wait, if there is something to do for them. Changes are counted exactly where it does.
@@ -83,12 +94,30 @@ impl<L: Ledger> Shared<L> {
         }
     }
 
-    /// Makes the step that a request asks for.
-    pub fn take<R: Wait>(
+    /// Counts the bytes of text of the entry that was added last, where the log is rotated by them, and wakes those who wait where
+    /// they pass its limit just now. The entry is rendered with no lock held.
+    fn weigh<R: Wait, M: Retention>(
         &self,
         rt: &R,
         alloc: Global,
-        seat: &mut Seat<L>,
+        seat: &Seat<L, M>,
+        before: usize,
+    ) {
+        let Some(limit) = self.rotates_past else {
+            return;
+        };
+        let more = seat.added_bytes(alloc, before);
+        if self.desk.lock(rt).weigh(more, limit) {
+            self.changed.notify_all();
+        }
+    }
+
+    /// Makes the step that a request asks for.
+    pub fn take<R: Wait, M: Retention>(
+        &self,
+        rt: &R,
+        alloc: Global,
+        seat: &mut Seat<L, M>,
         step: Step,
     ) -> Result<Response, Refusal>
         requires { IsServed step }
@@ -99,18 +128,21 @@ impl<L: Ledger> Shared<L> {
         } else {
             Wakes::Nobody
         };
+        let before = seat.forget();
         let mut desk = self.desk.lock(rt);
         let answer = desk.kept.take(alloc, seat, step);
         self.wake(&mut desk, wakes);
+        drop(desk);
+        self.weigh(rt, alloc, seat, before);
         answer
     }
 
     /// Makes the step in which a worker takes the evaluation of that number in the namespace, which is served next.
-    pub fn dequeue<R: Wait>(
+    pub fn dequeue<R: Wait, M: Retention>(
         &self,
         rt: &R,
         alloc: Global,
-        seat: &mut Seat<L>,
+        seat: &mut Seat<L, M>,
         worker: u64,
         namespace: &Text,
         evaluation: u64,
@@ -118,39 +150,45 @@ impl<L: Ledger> Shared<L> {
         ensures { let step = Step.Dequeue worker namespace.now evaluation in
             Receives step seat.old result seat.new }
     {
+        let before = seat.forget();
         let mut desk = self.desk.lock(rt);
         let answer = desk
             .kept
             .dequeue(alloc, seat, worker, namespace, evaluation);
         self.wake(&mut desk, Wakes::Nobody);
+        drop(desk);
+        self.weigh(rt, alloc, seat, before);
         answer
     }
 
     /// Makes the step in which a worker takes a snapshot of its evaluation: one value, which its row keeps and the caller
     /// reads.
-    pub fn snap<R: Wait>(
+    pub fn snap<R: Wait, M: Retention>(
         &self,
         rt: &R,
         alloc: Global,
-        seat: &mut Seat<L>,
+        seat: &mut Seat<L, M>,
         worker: u64,
         namespace: &Text,
     ) -> Result<shared::Shared<Snapshot>, Refusal>
         ensures { let step = Step.Snap worker namespace.now in
             Receives step seat.old (snapped result) seat.new }
     {
+        let before = seat.forget();
         let mut desk = self.desk.lock(rt);
         let seen = desk.kept.snap(alloc, seat, worker, namespace);
         self.wake(&mut desk, Wakes::Nobody);
+        drop(desk);
+        self.weigh(rt, alloc, seat, before);
         seen
     }
 
     /// Makes the step in which a worker hands in the plan of its snapshot.
-    pub fn submit<R: Wait>(
+    pub fn submit<R: Wait, M: Retention>(
         &self,
         rt: &R,
         alloc: Global,
-        seat: &mut Seat<L>,
+        seat: &mut Seat<L, M>,
         worker: u64,
         namespace: &Text,
         planned: Planned,
@@ -158,36 +196,42 @@ impl<L: Ledger> Shared<L> {
         ensures { let step = Step.Submit worker namespace.now in
             Receives step seat.old result seat.new }
     {
+        let before = seat.forget();
         let mut desk = self.desk.lock(rt);
         let answer = desk.kept.submit(alloc, seat, worker, namespace, planned);
         self.wake(&mut desk, Wakes::All);
+        drop(desk);
+        self.weigh(rt, alloc, seat, before);
         answer
     }
 
     /// Makes the step in which the plan that a worker handed in is applied.
-    pub fn apply<R: Wait>(
+    pub fn apply<R: Wait, M: Retention>(
         &self,
         rt: &R,
         alloc: Global,
-        seat: &mut Seat<L>,
+        seat: &mut Seat<L, M>,
         worker: u64,
         namespace: &Text,
     ) -> Result<Reply, Refusal>
         ensures { let step = Step.Apply worker namespace.now in
             Receives step seat.old result seat.new }
     {
+        let before = seat.forget();
         let mut desk = self.desk.lock(rt);
         let answer = desk.kept.apply(alloc, seat, worker, namespace);
         self.wake(&mut desk, Wakes::All);
+        drop(desk);
+        self.weigh(rt, alloc, seat, before);
         answer
     }
 
     /// Makes the step in which a worker finishes its evaluation, by the plan of its snapshot.
-    pub fn finish<R: Wait>(
+    pub fn finish<R: Wait, M: Retention>(
         &self,
         rt: &R,
         alloc: Global,
-        seat: &mut Seat<L>,
+        seat: &mut Seat<L, M>,
         worker: u64,
         namespace: &Text,
         planned: &Planned,
@@ -195,27 +239,33 @@ impl<L: Ledger> Shared<L> {
         ensures { let step = Step.Finish worker namespace.now in
             Receives step seat.old result seat.new }
     {
+        let before = seat.forget();
         let mut desk = self.desk.lock(rt);
         let answer = desk.kept.finish(alloc, seat, worker, namespace, planned);
         self.wake(&mut desk, Wakes::WhereServedOrClosed);
+        drop(desk);
+        self.weigh(rt, alloc, seat, before);
         answer
     }
 
     /// Makes the step in which a worker gives its evaluation of the namespace back.
-    pub fn nack<R: Wait>(
+    pub fn nack<R: Wait, M: Retention>(
         &self,
         rt: &R,
         alloc: Global,
-        seat: &mut Seat<L>,
+        seat: &mut Seat<L, M>,
         worker: u64,
         namespace: &Text,
     ) -> Result<Reply, Refusal>
         ensures { let step = Step.Nack worker namespace.now in
             Receives step seat.old result seat.new }
     {
+        let before = seat.forget();
         let mut desk = self.desk.lock(rt);
         let answer = desk.kept.nack(alloc, seat, worker, namespace);
         self.wake(&mut desk, Wakes::WhereServedOrClosed);
+        drop(desk);
+        self.weigh(rt, alloc, seat, before);
         answer
     }
 
@@ -223,12 +273,26 @@ impl<L: Ledger> Shared<L> {
     pub fn rotate<R: Wait>(&self, rt: &R, alloc: Global) -> Result<Segment, Refusal>
         ensures { IfErr result (λ refusal. refusal ≡ Refusal.Memory) }
     {
-        self.desk.lock(rt).kept.rotate(alloc)
+        let mut desk = self.desk.lock(rt);
+        let segment = desk.kept.rotate(alloc)?;
+        desk.bytes = 0;
+        Ok(segment)
     }
 
     /// How many entries the log has now.
     pub fn entries<R: Wait>(&self, rt: &R) -> u64 {
         self.desk.lock(rt).kept.entries()
+    }
+
+    /// Whether the log has as many entries as it is rotated at or more, or more bytes of text than it is rotated past.
+    pub fn is_due<R: Wait>(&self, rt: &R) -> bool
+        ensures { IsNone self.now.rotates_at → IsFalse result }
+    {
+        let Some(entries) = self.rotates_at else {
+            return false;
+        };
+        let desk = self.desk.lock(rt);
+        desk.kept.entries() >= entries || desk.is_heavy(self.rotates_past)
     }
 
     /// The evaluation that is served next.
@@ -291,6 +355,7 @@ impl<L: Ledger> Shared<L> {
             desk,
             changed: _changed,
             rotates_at: _,
+            rotates_past: _,
         } = self;
         let Desk { kept, .. } = desk.into_inner();
         kept

@@ -13,6 +13,7 @@ ghost use Rattle.ns_shared.specs.Receiving.{Receives, count, received};
 
 use crate::ended::Ended;
 use crate::ready::{Ready, prepare_work, receive_answer};
+use crate::retention::Retention;
 use crate::seat::Seat;
 use ns_held::snapped;
 use ns_log::Entry;
@@ -57,10 +58,10 @@ fn receive_snapped<L: Ledger>(
 }
 
 impl<L: Ledger> Ended<L> {
-    pub(crate) fn dequeue(
+    pub(crate) fn dequeue<M: Retention>(
         &mut self,
         alloc: Global,
-        seat: &mut Seat<L>,
+        seat: &mut Seat<L, M>,
         worker: u64,
         namespace: &Text,
         evaluation: u64,
@@ -74,7 +75,11 @@ impl<L: Ledger> Ended<L> {
             Receives step seat.old result seat.new }
     {
         let Ended { held, book, .. } = self;
-        let Seat { receipts, share } = seat;
+        let Seat {
+            receipts,
+            share,
+            ..
+        } = seat;
         let ready = prepare_work(
             alloc,
             held,
@@ -89,10 +94,10 @@ impl<L: Ledger> Ended<L> {
         answer
     }
 
-    pub(crate) fn snap(
+    pub(crate) fn snap<M: Retention>(
         &mut self,
         alloc: Global,
-        seat: &mut Seat<L>,
+        seat: &mut Seat<L, M>,
         worker: u64,
         namespace: &Text,
     ) -> Result<Shared<Snapshot>, Refusal>
@@ -107,17 +112,21 @@ impl<L: Ledger> Ended<L> {
             Receives step seat.old (snapped result) seat.new }
     {
         let Ended { held, book, .. } = self;
-        let Seat { receipts, share } = seat;
+        let Seat {
+            receipts,
+            share,
+            ..
+        } = seat;
         let ready = prepare_work(alloc, held, receipts, Work::Snap, worker, namespace, None)?;
         let seen = held.snap(alloc, worker, namespace);
         receive_snapped(receipts, share, book, held.log(), ready, &seen);
         seen
     }
 
-    pub(crate) fn submit(
+    pub(crate) fn submit<M: Retention>(
         &mut self,
         alloc: Global,
-        seat: &mut Seat<L>,
+        seat: &mut Seat<L, M>,
         worker: u64,
         namespace: &Text,
         planned: Planned,
@@ -131,7 +140,11 @@ impl<L: Ledger> Ended<L> {
             Receives step seat.old result seat.new }
     {
         let Ended { held, book, .. } = self;
-        let Seat { receipts, share } = seat;
+        let Seat {
+            receipts,
+            share,
+            ..
+        } = seat;
         let prepared = prepare_work(alloc, held, receipts, Work::Submit, worker, namespace, None);
         let ready = match prepared {
             Ok(ready) => ready,
@@ -145,10 +158,10 @@ impl<L: Ledger> Ended<L> {
         answer
     }
 
-    pub(crate) fn apply(
+    pub(crate) fn apply<M: Retention>(
         &mut self,
         alloc: Global,
-        seat: &mut Seat<L>,
+        seat: &mut Seat<L, M>,
         worker: u64,
         namespace: &Text,
     ) -> Result<Reply, Refusal>
@@ -161,7 +174,11 @@ impl<L: Ledger> Ended<L> {
             Receives step seat.old result seat.new }
     {
         let Ended { held, book, .. } = self;
-        let Seat { receipts, share } = seat;
+        let Seat {
+            receipts,
+            share,
+            ..
+        } = seat;
         let row = held.core().worker_at(worker, namespace);
         let ready = prepare_work(alloc, held, receipts, Work::Apply, worker, namespace, row)?;
         let answer = held.apply(alloc, worker, namespace);
@@ -169,10 +186,10 @@ impl<L: Ledger> Ended<L> {
         answer
     }
 
-    pub(crate) fn finish(
+    pub(crate) fn finish<M: Retention>(
         &mut self,
         alloc: Global,
-        seat: &mut Seat<L>,
+        seat: &mut Seat<L, M>,
         worker: u64,
         namespace: &Text,
         planned: &Planned,
@@ -186,17 +203,21 @@ impl<L: Ledger> Ended<L> {
             Receives step seat.old result seat.new }
     {
         let Ended { held, book, .. } = self;
-        let Seat { receipts, share } = seat;
+        let Seat {
+            receipts,
+            share,
+            ..
+        } = seat;
         let ready = prepare_work(alloc, held, receipts, Work::Finish, worker, namespace, None)?;
         let answer = held.finish(alloc, worker, namespace, planned);
         receive_answer(receipts, share, book, held.log(), ready, &answer);
         answer
     }
 
-    pub(crate) fn nack(
+    pub(crate) fn nack<M: Retention>(
         &mut self,
         alloc: Global,
-        seat: &mut Seat<L>,
+        seat: &mut Seat<L, M>,
         worker: u64,
         namespace: &Text,
     ) -> Result<Reply, Refusal>
@@ -209,7 +230,11 @@ impl<L: Ledger> Ended<L> {
             Receives step seat.old result seat.new }
     {
         let Ended { held, book, .. } = self;
-        let Seat { receipts, share } = seat;
+        let Seat {
+            receipts,
+            share,
+            ..
+        } = seat;
         let ready = prepare_work(alloc, held, receipts, Work::Nack, worker, namespace, None)?;
         let answer = held.nack(alloc, worker, namespace);
         receive_answer(receipts, share, book, held.log(), ready, &answer);

@@ -45,12 +45,13 @@ fn alone(rt: HostRuntime) {
     assert!(rt; is_alone(&last, u64::MAX));
 }
 
-/// Whether this server is asked for, with these workers, connections, connections to accept, entries and entries to rotate at.
+/// Whether this server is asked for, with these workers, connections, connections to accept, entries, and entries and bytes to
+/// rotate at.
 fn is_serve(
     wanted: &Wanted,
     address: SocketAddr,
     bootstrap: Option<&str>,
-    numbers: (u64, u64, Option<u64>, u64, Option<u64>),
+    numbers: (u64, u64, Option<u64>, u64, Option<u64>, Option<u64>),
 ) -> bool {
     match wanted {
         Wanted::Serve(service) => {
@@ -66,6 +67,7 @@ fn is_serve(
                     service.accept,
                     service.log_limit,
                     service.rotate,
+                    service.rotate_bytes,
                 ) == numbers
         }
         Wanted::Run(_) => false,
@@ -76,7 +78,7 @@ fn is_serve(
 fn serve(rt: HostRuntime) {
     let local = SocketAddr::from((Ipv4Addr::LOCALHOST, 4646));
     let plain = read(rt.alloc(), &["nsd", "serve", "--listen", "127.0.0.1:4646"]);
-    assert!(rt; is_serve(&plain, local, None, (2, 4, None, 1_000_000, None)));
+    assert!(rt; is_serve(&plain, local, None, (2, 4, None, 1_000_000, None, None)));
     let least = read(
         rt.alloc(),
         &[
@@ -92,7 +94,7 @@ fn serve(rt: HostRuntime) {
         ],
     );
     let free = SocketAddr::from((Ipv6Addr::LOCALHOST, 0));
-    assert!(rt; is_serve(&least, free, Some("root"), (1, 1, Some(1), 1, None)));
+    assert!(rt; is_serve(&least, free, Some("root"), (1, 1, Some(1), 1, None, None)));
     let most = read(
         rt.alloc(),
         &[
@@ -108,6 +110,8 @@ fn serve(rt: HostRuntime) {
             "18446744073709551615",
             "--rotate",
             "18446744073709551614",
+            "--rotate-bytes",
+            "18446744073709551615",
             "--listen",
             "127.0.0.1:4646",
         ],
@@ -117,7 +121,14 @@ fn serve(rt: HostRuntime) {
             &most,
             local,
             None,
-            (63, 64, Some(u64::MAX), u64::MAX, Some(u64::MAX - 1))
+            (
+                63,
+                64,
+                Some(u64::MAX),
+                u64::MAX,
+                Some(u64::MAX - 1),
+                Some(u64::MAX)
+            )
         )
     );
 }

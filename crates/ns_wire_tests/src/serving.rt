@@ -63,6 +63,14 @@ Usage: nsd <COMMAND>
 For more information, try '--help'.
 ";
 
+const BAD_ROTATE_BYTES: &str =
+    "error: beside --rotate, the bytes that the log is rotated past are a decimal number from 1 on, below 2^64
+
+Usage: nsd <COMMAND>
+
+For more information, try '--help'.
+";
+
 /// Whether `serve` with this word after a good address is bad, for this reason.
 fn is_bad(alloc: Global, word: &str, text: &str) -> bool {
     are_bad(
@@ -106,6 +114,18 @@ fn bad_words_of_serve(rt: HostRuntime) {
     for word in ["--rotate=0", "--rotate=1000000", "--rotate=-1", "--rotate="] {
         assert!(rt; is_bad(alloc, word, BAD_ROTATE));
     }
+    assert!(rt; is_bad(alloc, "--rotate-bytes=1", BAD_ROTATE_BYTES));
+    for word in ["--rotate-bytes=0", "--rotate-bytes=18446744073709551616"] {
+        let words = [
+            "nsd",
+            "serve",
+            "--listen",
+            "127.0.0.1:0",
+            "--rotate=1",
+            word,
+        ];
+        assert!(rt; are_bad(alloc, &words, BAD_ROTATE_BYTES));
+    }
 }
 
 pub(crate) const HELP: &str =
@@ -121,6 +141,7 @@ Options:
       --accept <N>          After how many connections to end: never without this word
       --log-limit <N>       How many entries the log may have: 1000000 without this word
       --rotate <N>          With how many entries the log is given out, below its limit: never without this word
+      --rotate-bytes <B>    Past how many bytes of text the log is given out as well, beside --rotate
   -h, --help                Print help
 
 A connection carries one HTTP/1.1 request after another, each answered as `pipe` answers it. Workers
@@ -128,15 +149,17 @@ place what is ready, in threads of their own, and one thread applies their plans
 With --accept the server ends once so many connections have ended, and then holds what each thread
 was answered against the log.
 Without --rotate the server answers `log full` for ever once the log has as many entries as it may.
-With --rotate N it writes the log to standard output whenever it has N entries, and begins it anew.
+With --rotate N it writes the log to standard output whenever it has N entries, and begins it anew;
+with --rotate-bytes B also whenever they have more than B bytes of text.
 
 Example:
-  nsd serve --listen 127.0.0.1:4646 --bootstrap root
+  nsd serve --listen 127.0.0.1:4646 --bootstrap root --rotate 100000 > nsd.log
   curl -H 'X-Nomad-Token: root' http://127.0.0.1:4646/v1/jobs
 
 Standard error gets
   listening ADDR    where the server listens, once it does
   bootstrap SECRET  the secret of the first management token, where it was drawn
+  log limit N       without --rotate and --accept: that the server stops with a full log
   settled K         with --accept: the log has K entries, which are what the threads were answered
   mismatch          with --accept: the log is not what the threads were answered
 Standard output gets the log, as `pipe --print log` prints it: with --rotate in segments meanwhile,

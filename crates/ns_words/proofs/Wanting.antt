@@ -12,7 +12,7 @@ use Rattle.ns_pipe.specs.declared.printed.Printed.{Printed}
 use Rattle.ns_serve.specs.declared.service.Service.{Service}
 use Rattle.ns_words.specs.declared.wanted.Wanted.{Wanted}
 use Rattle.ns_words.specs.Given.{Named, given_for}
-use Rattle.ns_given.specs.Values.{rotate_by}
+use Rattle.ns_given.specs.Values.{rotate_by, rotate_bytes_by}
 use Rattle.ns_words.specs.Serve.{IsServe, of_serve}
 use Rattle.ns_words.specs.Words.{IsAlone, IsMisgiven, IsPipe, IsWanted, program_words}
 
@@ -30,6 +30,8 @@ serve_unique named s t x y =
     let accept = some_unique _ _ _ x.ends y.ends in
     let log_limit = some_unique _ _ _ x.keeps y.keeps in
     let rotate = some_unique _ _ _ (subst (λ n. rotate_by n (of_serve (codes "rotate") named) ≡ Some s.rotate) log_limit x.rotates) y.rotates in
+    let rotate_bytes = some_unique _ _ _
+    (subst (λ r. rotate_bytes_by r (of_serve (codes "rotate-bytes") named) ≡ Some s.rotate_bytes) rotate x.weighs) y.weighs in
     λ i. record {
       address = address i;
       bootstrap = bootstrap i;
@@ -38,6 +40,7 @@ serve_unique named s t x y =
       accept = accept i;
       log_limit = log_limit i;
       rotate = rotate i;
+      rotate_bytes = rotate_bytes i;
     }
 
 pipe_unique : (named : Named) (secret secret' : Text) (driven driven' : Driven) (printed printed' : Printed) →

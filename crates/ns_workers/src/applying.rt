@@ -7,7 +7,7 @@ ghost use Rattle.ns_workers.specs.Keeping.{TakesSome};
 
 use crate::keep::Keep;
 use crate::pausing::pause;
-use ns_shared::{Moment, Planner, Role, Seat, Shared};
+use ns_shared::{Moment, Planner, Retention, Role, Seat, Shared};
 use ns_types::refusal::Refusal;
 use ns_types::reply::Reply;
 use std::alloc::Global;
@@ -51,11 +51,11 @@ fn outlasts_full<L: Ledger, R: Wait + Clock>(rt: &R, shared: &Shared<L>) -> bool
 }
 
 /// Applies the plan. Whether the applier goes on.
-fn apply<L: Ledger, R: Wait + Clock>(
+fn apply<L: Ledger, R: Wait + Clock, M: Retention>(
     rt: &R,
     alloc: Global,
     shared: &Shared<L>,
-    seat: &mut Seat<L>,
+    seat: &mut Seat<L, M>,
     planner: &Planner,
 ) -> bool
     ensures { Grows (IsApplyOf planner.now) seat.old seat.new }
@@ -94,16 +94,6 @@ fn await_plan<L: Ledger, R: Wait>(rt: &R, shared: &Shared<L>, seen: Moment) -> b
     true
 }
 
-/// Whether the log has as many entries as it is rotated at, or more.
-fn is_due<L: Ledger, R: Wait>(rt: &R, shared: &Shared<L>) -> bool
-    ensures { IsNone shared.now.rotates_at → IsFalse result }
-{
-    match shared.rotates_at {
-        Some(entries) => shared.entries(rt) >= entries,
-        None => false,
-    }
-}
-
 /// Rotates the log where that is due, and hands the segment to the keeper with no lock held. False: memory is wanting, so that it
 /// has to be tried again.
 fn rotate<L: Ledger, K: Keep, R: Wait>(
@@ -115,7 +105,7 @@ fn rotate<L: Ledger, K: Keep, R: Wait>(
     ensures takes { TakesSome K.takes keeper.old keeper.new }
     ensures never { IsNone shared.now.rotates_at → IsTrue result × (keeper.new ≡ keeper.old) }
 {
-    if !is_due(rt, shared) {
+    if !shared.is_due(rt) {
         return true;
     }
     match shared.rotate(rt, alloc) {
@@ -129,11 +119,11 @@ fn rotate<L: Ledger, K: Keep, R: Wait>(
 
 /// Applies the plan that is served next, or waits. Whether the applier goes on. The count of changes is taken before it
 /// looks, so no change is missed.
-fn apply_next<L: Ledger, R: Wait + Clock>(
+fn apply_next<L: Ledger, R: Wait + Clock, M: Retention>(
     rt: &R,
     alloc: Global,
     shared: &Shared<L>,
-    seat: &mut Seat<L>,
+    seat: &mut Seat<L, M>,
     seen: Moment,
 ) -> bool
     ensures { Grows IsApply seat.old seat.new }
@@ -149,12 +139,12 @@ fn apply_next<L: Ledger, R: Wait + Clock>(
 }
 
 /// Rotates the log where that is due, and then applies the plan that is served next, or waits. Whether the applier goes on.
-fn step<L: Ledger, K: Keep, R: Wait + Clock>(
+fn step<L: Ledger, K: Keep, R: Wait + Clock, M: Retention>(
     rt: &R,
     alloc: Global,
     shared: &Shared<L>,
     keeper: &mut K,
-    seat: &mut Seat<L>,
+    seat: &mut Seat<L, M>,
 ) -> bool
     ensures grows { Grows IsApply seat.old seat.new }
     ensures takes { TakesSome K.takes keeper.old keeper.new }
@@ -168,17 +158,17 @@ fn step<L: Ledger, K: Keep, R: Wait + Clock>(
     apply_next(rt, alloc, shared, seat, seen)
 }
 
-/// Applies one plan after another, and rotates the log before a plan, where it has as many entries as it is rotated at or more. The
-/// keeper takes the segments. For want of memory it tries again after a pause. Where a counter is full, or the log for ever, it
+/// Applies one plan after another, and rotates the log before a plan, where it has as many entries as it is rotated at or more, or
+/// more bytes of text than it is rotated past. The keeper takes the segments. For want of memory it tries again after a pause. Where a counter is full, or the log for ever, it
 /// closes the server and ends; it ends as well once the server is closed, no plan waits and no worker is left.
 ///
 /// It has to run beside the workers: one whose plan waits goes on only once it was applied, or the applier has ended.
-pub fn applier<L: Ledger, K: Keep, R: Wait + Clock>(
+pub fn applier<L: Ledger, K: Keep, R: Wait + Clock, M: Retention>(
     rt: &R,
     alloc: Global,
     shared: &Shared<L>,
     keeper: &mut K,
-    seat: &mut Seat<L>,
+    seat: &mut Seat<L, M>,
 )
     ensures grows { Grows IsApply seat.old seat.new }
     ensures takes { TakesSome K.takes keeper.old keeper.new }

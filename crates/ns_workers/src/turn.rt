@@ -7,7 +7,7 @@ ghost use Rattle.ns_workers.specs.Growing.{Grows, IsOfWorker};
 use crate::gate::{Gate, Point};
 use crate::halt::Halt;
 use ns_drive::Kept;
-use ns_shared::{Busy, Moment, Seat, Shared, WORKERS_END};
+use ns_shared::{Busy, Moment, Retention, Seat, Shared, WORKERS_END};
 use ns_types::planned::Planned;
 use ns_types::text::Text;
 use ns_types::worker::Phase;
@@ -39,7 +39,7 @@ impl<'a, L: Ledger, G: Gate, R: Wait> Post<'a, L, G, R> {
     }
 
     /// Takes what is served, or waits for it until the server is closed.
-    fn take(&self, seat: &mut Seat<L>, seen: Moment) -> Result<(), Halt>
+    fn take<M: Retention>(&self, seat: &mut Seat<L, M>, seen: Moment) -> Result<(), Halt>
         ensures grows { Grows (IsOfWorker self.now.number) seat.old seat.new }
         ensures closed { IsTrue seen.is_closed → IsErrOf result Halt.Ends }
         ensures past { 64 ≤ self.now.number → IsErrOf result Halt.Ends }
@@ -65,7 +65,12 @@ impl<'a, L: Ledger, G: Gate, R: Wait> Post<'a, L, G, R> {
     }
 
     /// Takes a snapshot of the worker's evaluation.
-    fn look(&self, seat: &mut Seat<L>, kept: &mut Kept, namespace: &Text) -> Result<(), Halt>
+    fn look<M: Retention>(
+        &self,
+        seat: &mut Seat<L, M>,
+        kept: &mut Kept,
+        namespace: &Text,
+    ) -> Result<(), Halt>
         ensures { Grows (IsOfWorker self.now.number) seat.old seat.new }
     {
         let seen = self
@@ -87,7 +92,12 @@ impl<'a, L: Ledger, G: Gate, R: Wait> Post<'a, L, G, R> {
     }
 
     /// Ends the evaluation by the plan that was made last.
-    fn finish(&self, seat: &mut Seat<L>, kept: &mut Kept, namespace: &Text) -> Result<(), Halt>
+    fn finish<M: Retention>(
+        &self,
+        seat: &mut Seat<L, M>,
+        kept: &mut Kept,
+        namespace: &Text,
+    ) -> Result<(), Halt>
         ensures { Grows (IsOfWorker self.now.number) seat.old seat.new }
     {
         let planned = self.planned(kept)?;
@@ -99,7 +109,12 @@ impl<'a, L: Ledger, G: Gate, R: Wait> Post<'a, L, G, R> {
     }
 
     /// Hands in the plan, or finishes where it does nothing.
-    fn place(&self, seat: &mut Seat<L>, kept: &mut Kept, namespace: &Text) -> Result<(), Halt>
+    fn place<M: Retention>(
+        &self,
+        seat: &mut Seat<L, M>,
+        kept: &mut Kept,
+        namespace: &Text,
+    ) -> Result<(), Halt>
         ensures { Grows (IsOfWorker self.now.number) seat.old seat.new }
     {
         let planned = self.planned(kept)?;
@@ -127,9 +142,9 @@ impl<'a, L: Ledger, G: Gate, R: Wait> Post<'a, L, G, R> {
     }
 
     /// Makes the step that the worker's phase asks for.
-    fn work(
+    fn work<M: Retention>(
         &self,
-        seat: &mut Seat<L>,
+        seat: &mut Seat<L, M>,
         kept: &mut Kept,
         busy: &Busy,
         seen: Moment,
@@ -148,7 +163,7 @@ impl<'a, L: Ledger, G: Gate, R: Wait> Post<'a, L, G, R> {
     }
 
     /// Makes the step that is due, or waits. The count of changes is taken before it looks, so no change is missed.
-    pub fn turn(&self, seat: &mut Seat<L>, kept: &mut Kept) -> Result<(), Halt>
+    pub fn turn<M: Retention>(&self, seat: &mut Seat<L, M>, kept: &mut Kept) -> Result<(), Halt>
         ensures { Grows (IsOfWorker self.now.number) seat.old seat.new }
     {
         let seen = self.shared.now(self.rt);
@@ -159,7 +174,11 @@ impl<'a, L: Ledger, G: Gate, R: Wait> Post<'a, L, G, R> {
     }
 
     /// Gives the worker's evaluation back, if it has one.
-    pub fn give_back(&self, seat: &mut Seat<L>, kept: &mut Kept) -> Result<(), Halt>
+    pub fn give_back<M: Retention>(
+        &self,
+        seat: &mut Seat<L, M>,
+        kept: &mut Kept,
+    ) -> Result<(), Halt>
         ensures { Grows (IsOfWorker self.now.number) seat.old seat.new }
     {
         let Some(busy) = self.shared.busy(self.rt, self.number)? else {

@@ -9,7 +9,7 @@ use crate::halt::Halt;
 use crate::pausing::pause;
 use crate::turn::Post;
 use ns_drive::Kept;
-use ns_shared::{Role, Seat, Shared};
+use ns_shared::{Retention, Role, Seat, Shared};
 use std::alloc::Global;
 use std::rt::Clock;
 use std::sync::Wait;
@@ -27,9 +27,9 @@ fn await_rotation<L: Ledger, G: Gate, R: Wait + Clock>(post: &Post<'_, L, G, R>)
 }
 
 /// Gives the evaluation back, and pauses. Whether the worker goes on: not where a counter is full, or the log for ever.
-fn goes_on_later<L: Ledger, G: Gate, R: Wait + Clock>(
+fn goes_on_later<L: Ledger, G: Gate, R: Wait + Clock, M: Retention>(
     post: &Post<'_, L, G, R>,
-    seat: &mut Seat<L>,
+    seat: &mut Seat<L, M>,
     kept: &mut Kept,
 ) -> bool
     ensures { Grows (IsOfWorker post.now.number) seat.old seat.new }
@@ -45,9 +45,9 @@ fn goes_on_later<L: Ledger, G: Gate, R: Wait + Clock>(
 }
 
 /// Whether the worker goes on, after it gave its evaluation back where that is due.
-fn goes_on<L: Ledger, G: Gate, R: Wait + Clock>(
+fn goes_on<L: Ledger, G: Gate, R: Wait + Clock, M: Retention>(
     post: &Post<'_, L, G, R>,
-    seat: &mut Seat<L>,
+    seat: &mut Seat<L, M>,
     kept: &mut Kept,
     halt: Halt,
 ) -> bool
@@ -71,9 +71,9 @@ fn goes_on<L: Ledger, G: Gate, R: Wait + Clock>(
 }
 
 /// A turn. Whether the worker goes on.
-fn step<L: Ledger, G: Gate, R: Wait + Clock>(
+fn step<L: Ledger, G: Gate, R: Wait + Clock, M: Retention>(
     post: &Post<'_, L, G, R>,
-    seat: &mut Seat<L>,
+    seat: &mut Seat<L, M>,
     kept: &mut Kept,
 ) -> bool
     ensures { Grows (IsOfWorker post.now.number) seat.old seat.new }
@@ -91,13 +91,13 @@ fn step<L: Ledger, G: Gate, R: Wait + Clock>(
 ///
 /// Each worker has a number of its own, below 64: one with another number ends at once. One that enters once the server is
 /// closed takes nothing, so none need have entered before the applier may end.
-pub fn worker<L: Ledger, G: Gate, R: Wait + Clock>(
+pub fn worker<L: Ledger, G: Gate, R: Wait + Clock, M: Retention>(
     rt: &R,
     alloc: Global,
     shared: &Shared<L>,
     gate: &G,
     number: u64,
-    seat: &mut Seat<L>,
+    seat: &mut Seat<L, M>,
 )
     ensures { Grows (IsOfWorker number) seat.old seat.new }
 {

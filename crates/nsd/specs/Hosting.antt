@@ -17,13 +17,13 @@ pub record EndsHosted {D W E : Type 0} (draws : D → List ℕ → D → Type 0)
     (errors errors' : Counted E) : Type 0 where
   pub is_end : IsEnd status
   pub settled : status ≡ SERVED → ForSomeDrawers draws (λ drawers.
-      EndsSettled draws contents error_text service.bootstrap drawers writer writer' errors errors')
+      EndsSettled draws contents error_text service drawers writer writer' errors errors')
   pub write_fault : status ≡ WRITE_FAULT → ForSomeDrawers draws (λ drawers.
-      EndsInPart draws contents error_text service.bootstrap drawers writer writer')
+      EndsInPart draws contents error_text service drawers writer writer')
   pub unsettled : status ≢ SERVED → status ≢ WRITE_FAULT → ForSomeDrawers draws (λ drawers.
-      EndsUnsettled draws contents error_text service.bootstrap drawers writer writer')
+      EndsUnsettled draws contents error_text service drawers writer writer')
   pub unprinted : IsNone service.rotate → status ≢ SERVED → status ≢ WRITE_FAULT → writer' ≡ writer
   pub last_line : (fault : ConnFault) → status ≡ status_of fault → ForSomeDrawers draws (λ drawers.
-      IsLastLine draws contents error_text service.bootstrap drawers errors errors' (line_of fault))
+      IsLastLine draws contents error_text service drawers errors errors' (line_of fault))
   pub mismatch : status ≡ MISMATCH → ForSomeDrawers draws (λ drawers.
-      IsLastLine draws contents error_text service.bootstrap drawers errors errors' mismatch_line)
+      IsLastLine draws contents error_text service drawers errors errors' mismatch_line)

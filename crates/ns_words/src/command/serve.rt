@@ -14,15 +14,17 @@ place what is ready, in threads of their own, and one thread applies their plans
 With --accept the server ends once so many connections have ended, and then holds what each thread
 was answered against the log.
 Without --rotate the server answers `log full` for ever once the log has as many entries as it may.
-With --rotate N it writes the log to standard output whenever it has N entries, and begins it anew.
+With --rotate N it writes the log to standard output whenever it has N entries, and begins it anew;
+with --rotate-bytes B also whenever they have more than B bytes of text.
 
 Example:
-  nsd serve --listen 127.0.0.1:4646 --bootstrap root
+  nsd serve --listen 127.0.0.1:4646 --bootstrap root --rotate 100000 > nsd.log
   curl -H 'X-Nomad-Token: root' http://127.0.0.1:4646/v1/jobs
 
 Standard error gets
   listening ADDR    where the server listens, once it does
   bootstrap SECRET  the secret of the first management token, where it was drawn
+  log limit N       without --rotate and --accept: that the server stops with a full log
   settled K         with --accept: the log has K entries, which are what the threads were answered
   mismatch          with --accept: the log is not what the threads were answered
 Standard output gets the log, as `pipe --print log` prints it: with --rotate in segments meanwhile,
@@ -130,6 +132,18 @@ fn rotate<'a>(alloc: Global) -> Arg<'a>
     )
 }
 
+fn rotate_bytes<'a>(alloc: Global) -> Arg<'a>
+    ensures rule { rule_of result ≡ option_rule (codes "rotate-bytes") }
+    ensures local { result.global ≡ false }
+{
+    option(
+        alloc,
+        "rotate-bytes",
+        "B",
+        "Past how many bytes of text the log is given out as well, beside --rotate",
+    )
+}
+
 /// `serve` without its arguments.
 fn bare<'a>(alloc: Global) -> Command<'a>
     ensures shape { app_of result ≡ new_app (codes "serve") }
@@ -150,5 +164,6 @@ pub fn serve<'a>(alloc: Global) -> Result<Command<'a>, AllocError>
     let command = command.arg(connections(alloc))?;
     let command = command.arg(accept(alloc))?;
     let command = command.arg(log_limit(alloc))?;
-    command.arg(rotate(alloc))
+    let command = command.arg(rotate(alloc))?;
+    command.arg(rotate_bytes(alloc))
 }

@@ -10,7 +10,7 @@ use crate::words::pipe::BAD_SECRET;
 use crate::words::value::{given, refused};
 use clap::error::ErrorKind;
 use clap::{ArgMatches, Command, Error};
-use ns_given::{accept, connections, log_limit, rotate, secret, workers};
+use ns_given::{accept, connections, log_limit, rotate, rotate_bytes, secret, workers};
 use ns_serve::Service;
 use std::alloc::Global;
 use std::net::SocketAddr;
@@ -28,6 +28,9 @@ const BAD_LOG_LIMIT: &str = "the limit of the log is a decimal number from 1 on,
 
 const BAD_ROTATE: &str =
     "the log is rotated with a decimal number of entries from 1 on, below the limit of the log";
+
+const BAD_ROTATE_BYTES: &str =
+    "beside --rotate, the bytes that the log is rotated past are a decimal number from 1 on, below 2^64";
 
 /// What `serve` is given besides this address, or the fault in it.
 pub fn serve_given(
@@ -63,6 +66,9 @@ pub fn serve_given(
     let Some(rotate) = rotate(log_limit, given(matches, "serve", "rotate")) else {
         return Err(refused(command, BAD_ROTATE));
     };
+    let Some(rotate_bytes) = rotate_bytes(rotate, given(matches, "serve", "rotate-bytes")) else {
+        return Err(refused(command, BAD_ROTATE_BYTES));
+    };
     Ok(Service {
         address,
         bootstrap,
@@ -71,5 +77,6 @@ pub fn serve_given(
         accept,
         log_limit,
         rotate,
+        rotate_bytes,
     })
 }

@@ -4,7 +4,7 @@ use Rattle.ns_faults.proofs.Faults.{same_fault}
 use Rattle.ns_http.specs.declared.counting.Counted.{Counted}
 use Rattle.ns_http.specs.declared.engine.ConnFault.{ConnFault}
 use Rattle.ns_serve.specs.Ending.{IsEnd, IsLastLine}
-use Rattle.ns_types.specs.State.Names.{Name}
+use Rattle.ns_serve.specs.declared.service.Service.{Service}
 use Rattle.nsd.proofs.host.host.Goals as goal
 
 -- a fault by its status
@@ -25,9 +25,9 @@ no_mismatch ConnFault.Memory e = omega (arith, e)
 
 -- nothing was written before this line
 only_fault : {D W E : Type 0} (draws : D → List ℕ → D → Type 0) (contents : W → Option (List ℕ)) (error_text : E → Option (List ℕ))
-    (given : Option Name) (drawers : List D) (errors errors' : Counted E) (a b : ConnFault) → a ≡ b →
-    TriesToWrite error_text errors errors' (line_of a) → IsLastLine draws contents error_text given drawers errors errors' (line_of b)
-only_fault draws contents error_text given drawers errors errors' a b same wrote = record {
+    (service : Service) (drawers : List D) (errors errors' : Counted E) (a b : ConnFault) → a ≡ b →
+    TriesToWrite error_text errors errors' (line_of a) → IsLastLine draws contents error_text service drawers errors errors' (line_of b)
+only_fault draws contents error_text service drawers errors errors' a b same wrote = record {
   opened = errors;
   before = inl refl;
   last = inl (subst (λ f. TriesToWrite error_text errors errors' (line_of f)) same wrote);

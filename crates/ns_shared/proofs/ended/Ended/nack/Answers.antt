@@ -1,10 +1,10 @@
-use Rattle.std.proofs.Common.{ap, arith, refl, ◌∙◌}
+use Rattle.std.proofs.Common.{ap, arith, refl, ◌++◌}
 use Rattle.ns_types.specs.declared.step.Step.TheVariants as Step
 use Rattle.ns_held.specs.Logs.{next_place}
 use Rattle.ns_held.specs.Rendered.{rendered_step}
 use Rattle.ns_held.proofs.Adding.{logs_adds}
 use Rattle.ns_shared.specs.declared.ready.Ready.{Ready}
-use Rattle.ns_shared.proofs.Adding.{adds_count, adds_room, received_same}
+use Rattle.ns_shared.proofs.Adding.{adds_count, adds_room, seat_received}
 use Rattle.ns_shared.proofs.Entries.{entry_behind}
 use Rattle.ns_shared.proofs.Refusing.{gains, logs_refused}
 use Rattle.ns_shared.proofs.ended.Ended.nack.Goals as goal
@@ -34,15 +34,15 @@ invariant_of-self-2-clause-counted g c = omega (
 )
 
 pub returns-clause-received : goal.returns-clause-received
-returns-clause-received g c = c.receive_answer.ensures.receipts ∙ received_same c.in_ok-ready.ready.place (next_place c.args.self.now.held)
-    c.in_ok-ready.ready.step (Step.Nack c.args.worker c.args.namespace.now)
-    (rendered_step c.nack-answer.result) (rendered_step c.nack-answer.result) c.prepare_work.new.receipts.items c.args.seat.now
+returns-clause-received g c = seat_received c.seat.inside.past.receipts c.seat.inside.receipts.items c.prepare_work.new.receipts.items
+    c.receive_answer.new.receipts.items c.args.seat.now c.in_ok-ready.ready.place (next_place c.args.self.now.held)
+    c.in_ok-ready.ready.step (Step.Nack c.args.worker c.args.namespace.now) (rendered_step c.nack-answer.result) (rendered_step c.nack-answer.result)
+    c.receive_answer.ensures.receipts c.in_ok-ready.ensures.same c.seat.view_is
     (ap (λ (r : Ready). r.place) c.in_ok-ready.ensures.made) (ap (λ (r : Ready). r.step) c.in_ok-ready.ensures.made) refl
-    (c.in_ok-ready.ensures.same ∙ c.seat.view_is)
 
 pub returns-clause-seat : goal.returns-clause-seat
 returns-clause-seat g c = gains (Step.Nack c.args.worker c.args.namespace.now) (next_place c.args.self.now.held) c.nack-answer.result
-    c.args.seat.now c.receive_answer.new.receipts.items
+    c.args.seat.now (c.seat.inside.past.receipts ++ c.receive_answer.new.receipts.items)
     (logs_refused (Step.Nack c.args.worker c.args.namespace.now) c.args.self.now.held c.nack-answer.result c.nack-answer.new.self
     c.nack-answer.ensures)
     (returns-clause-received g c)

@@ -1,10 +1,10 @@
-use Rattle.std.proofs.Common.{ap, arith, refl, ◌∙◌}
+use Rattle.std.proofs.Common.{ap, arith, refl, ◌++◌}
 use Rattle.ns_types.specs.declared.step.Step.TheVariants as Step
 use Rattle.ns_held.specs.Logs.{next_place}
 use Rattle.ns_held.specs.Rendered.{rendered_step}
 use Rattle.ns_held.proofs.Adding.{submit_adds}
 use Rattle.ns_shared.specs.declared.ready.Ready.{Ready}
-use Rattle.ns_shared.proofs.Adding.{adds_count, adds_room, received_same}
+use Rattle.ns_shared.proofs.Adding.{adds_count, adds_room, seat_received}
 use Rattle.ns_shared.proofs.Entries.{entry_behind}
 use Rattle.ns_shared.proofs.Refusing.{gains, submit_refused}
 use Rattle.ns_shared.proofs.ended.Ended.submit.Goals as goal
@@ -34,15 +34,15 @@ invariant_of-self-2-clause-counted g c = omega (
 )
 
 pub returns-clause-received : goal.returns-clause-received
-returns-clause-received g c = c.receive_answer.ensures.receipts ∙ received_same c.in-Ok.ready.place (next_place c.args.self.now.held)
-    c.in-Ok.ready.step (Step.Submit c.args.worker c.args.namespace.now)
-    (rendered_step c.submit-answer.result) (rendered_step c.submit-answer.result) c.prepare_work-prepared.new.receipts.items c.args.seat.now
+returns-clause-received g c = seat_received c.seat.inside.past.receipts c.seat.inside.receipts.items c.prepare_work-prepared.new.receipts.items
+    c.receive_answer.new.receipts.items c.args.seat.now c.in-Ok.ready.place (next_place c.args.self.now.held)
+    c.in-Ok.ready.step (Step.Submit c.args.worker c.args.namespace.now) (rendered_step c.submit-answer.result) (rendered_step c.submit-answer.result)
+    c.receive_answer.ensures.receipts c.in-Ok.ensures.same c.seat.view_is
     (ap (λ (r : Ready). r.place) c.in-Ok.ensures.made) (ap (λ (r : Ready). r.step) c.in-Ok.ensures.made) refl
-    (c.in-Ok.ensures.same ∙ c.seat.view_is)
 
 pub returns-clause-seat : goal.returns-clause-seat
 returns-clause-seat g c = gains (Step.Submit c.args.worker c.args.namespace.now) (next_place c.args.self.now.held) c.submit-answer.result
-    c.args.seat.now c.receive_answer.new.receipts.items
+    c.args.seat.now (c.seat.inside.past.receipts ++ c.receive_answer.new.receipts.items)
     (submit_refused c.args.worker c.args.namespace.now c.args.planned c.args.self.now.held c.submit-answer.result c.submit-answer.new.self
     c.submit-answer.ensures)
     (returns-clause-received g c)

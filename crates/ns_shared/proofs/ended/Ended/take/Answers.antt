@@ -1,22 +1,26 @@
-use Rattle.std.proofs.Common.{ap, arith, sym, subst, length, ◌∙◌}
+use Rattle.std.proofs.Common.{ap, arith, sym, subst, length, ◌∙◌, ◌+◌, ◌++◌}
 use Rattle.std.specs.contracts.alloc.Global.{the_row}
 use Rattle.ns_types.specs.declared.step.Step.{Step}
 use Rattle.ns_held.specs.Logs.{next_place}
 use Rattle.ns_shared.specs.Receiving.{LogsAsked, answered, count, receipt_of, response_of}
-use Rattle.ns_shared.proofs.Adding.{asked_count, begin_asked, given_asked, given_same, received_length, received_same}
+use Rattle.ns_shared.proofs.Adding.{asked_count, begin_asked, given_asked, given_same, received_length, seat_received}
 use Rattle.ns_shared.proofs.ended.Ended.take.Goals as goal
 
 pub invariant_of-self : goal.invariant_of-self
 invariant_of-self g c = record { counted = c.args.self.now.counted; parted = c.args.self.now.parted; unused = c.args.self.now.unused }
 
 pub invariant_of-seat : goal.invariant_of-seat
-invariant_of-seat g c = (c.seat.invariant.0, c.seat.invariant.1 ∙ ap length (sym c.prepare_copy.ensures.same))
+invariant_of-seat g c = (
+  c.seat.invariant.0,
+  c.seat.invariant.1 ∙ ap (λ xs. length c.seat.inside.past.receipts + length xs) (sym c.prepare_copy.ensures.same),
+  c.seat.invariant.2,
+)
 
 pub returns-in-Err-clause-logged : goal.returns-in-Err-clause-logged
 returns-in-Err-clause-logged g c = begin_asked the_row.Denot Step c.args.step c.args.self.now.held c.in-Err.refusal c.in-Err.ensures.begins
 
 pub returns-in-Err-clause-received : goal.returns-in-Err-clause-received
-returns-in-Err-clause-received g c = c.prepare_copy.ensures.same ∙ c.seat.view_is
+returns-in-Err-clause-received g c = ap (λ xs. c.seat.inside.past.receipts ++ xs) c.prepare_copy.ensures.same ∙ c.seat.view_is
 
 pub take_rendered-given-requires : goal.take_rendered-given-requires
 take_rendered-given-requires g c = c.requires
@@ -52,6 +56,7 @@ invariant_of-seat-2 g c = (
     received_length c.next_place-place.result c.in-Ok.copy (receipt_of c.take_rendered-given.result) c.prepare_copy.new.receipts.items,
     c.receive_given.ensures.amount,
   ),
+  c.seat.invariant.2,
 )
 
 pub returns-clause-logged : goal.returns-clause-logged
@@ -60,10 +65,10 @@ returns-clause-logged g c =
     (given_asked c.args.step c.args.self.now.held c.take_rendered-given.result c.take_rendered-given.new.self c.take_rendered-given.ensures)
 
 pub returns-clause-received : goal.returns-clause-received
-returns-clause-received g c = c.receive_given.ensures.receipts ∙ received_same c.next_place-place.result (next_place c.args.self.now.held)
+returns-clause-received g c = seat_received c.seat.inside.past.receipts c.seat.inside.receipts.items c.prepare_copy.new.receipts.items
+    c.receive_given.new.receipts.items c.args.seat.now c.next_place-place.result (next_place c.args.self.now.held)
     c.in-Ok.copy c.args.step (receipt_of c.take_rendered-given.result) (answered c.receive_given.result)
-    c.prepare_copy.new.receipts.items c.args.seat.now
+    c.receive_given.ensures.receipts c.prepare_copy.ensures.same c.seat.view_is
     c.next_place-place.ensures c.in-Ok.ensures.step
     (given_same c.args.step c.args.self.now.held c.take_rendered-given.result c.take_rendered-given.new.self c.take_rendered-given.ensures
     ∙ ap answered (sym c.receive_given.ensures.response))
-    (c.prepare_copy.ensures.same ∙ c.seat.view_is)

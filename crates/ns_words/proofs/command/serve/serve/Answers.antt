@@ -11,7 +11,8 @@ returns-clause-shape c =
     let fourth = c.in_ok-command-4.ensures.shape c.connections.ensures.local ∙ ap₂ with_rule third c.connections.ensures.rule in
     let fifth = c.in_ok-command-5.ensures.shape c.accept.ensures.local ∙ ap₂ with_rule fourth c.accept.ensures.rule in
     let sixth = c.in_ok-command-6.ensures.shape c.log_limit.ensures.local ∙ ap₂ with_rule fifth c.log_limit.ensures.rule in
-    IfOk-weaker c.arg-7.result _ _ (λ _ adds. adds.shape c.rotate.ensures.local ∙ ap₂ with_rule sixth c.rotate.ensures.rule) c.arg-7.ensures
+    let seventh = c.in_ok-command-7.ensures.shape c.rotate.ensures.local ∙ ap₂ with_rule sixth c.rotate.ensures.rule in
+    IfOk-weaker c.arg-8.result _ _ (λ _ adds. adds.shape c.rotate_bytes.ensures.local ∙ ap₂ with_rule seventh c.rotate_bytes.ensures.rule) c.arg-8.ensures
 
 abbrev or_else : Bool → Bool → Bool
 or_else a b = a || b
@@ -24,4 +25,5 @@ returns-clause-local c =
     let fourth = c.in_ok-command-4.ensures.globals ∙ ap₂ or_else third c.connections.ensures.local in
     let fifth = c.in_ok-command-5.ensures.globals ∙ ap₂ or_else fourth c.accept.ensures.local in
     let sixth = c.in_ok-command-6.ensures.globals ∙ ap₂ or_else fifth c.log_limit.ensures.local in
-    IfOk-weaker c.arg-7.result _ _ (λ _ adds. adds.globals ∙ ap₂ or_else sixth c.rotate.ensures.local) c.arg-7.ensures
+    let seventh = c.in_ok-command-7.ensures.globals ∙ ap₂ or_else sixth c.rotate.ensures.local in
+    IfOk-weaker c.arg-8.result _ _ (λ _ adds. adds.globals ∙ ap₂ or_else seventh c.rotate_bytes.ensures.local) c.arg-8.ensures

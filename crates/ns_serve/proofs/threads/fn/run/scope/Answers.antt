@@ -26,7 +26,7 @@ spawn-requires-send-F g c κs within =
     ∷ Global.the_row
     ∷ (Field.shr_ref_field six (House.the_row seven (param 0 g.row.L) g.L.Ledger) tt).row
     ∷ Duty.the_row (param 2 g.row.D)
-    ∷ Seat.the_row (param 0 g.row.L) g.L.Ledger
+    ∷ Seat.the_row (param 0 g.row.L) (param 4 g.row.M) g.L.Ledger g.M.Retention
     ∷ [] in
     param_send 1 _ (arg_send _ Exit.no _ (declared_send (Tuple.type_at _ captured) (
       search (sendable, c.requires.0) depth 6,
@@ -37,7 +37,11 @@ spawn-requires-send-F g c κs within =
               (shr_send _ _ _ (House-sync seven (param 0 g.row.L) g.L.Ledger)),
           (
             as_row_send (Field.row_field (Duty.the_row (param 2 g.row.D))) (search (duty.the_send, c.requires.1) depth 4),
-            (search (sendable, seat.the_send) depth 6, tt),
+            (
+              as_row_send (Field.row_field (Seat.the_row (param 0 g.row.L) (param 4 g.row.M) g.L.Ledger g.M.Retention))
+                  (search (seat.the_send, c.requires.2) depth 4),
+              tt,
+            ),
           ),
         ),
       ),
