@@ -28,9 +28,9 @@ PLACE = "127.0.0.1:4646"
 AGAIN = "# ask again until it says:"
 DONE = "---- done ----"
 SECONDS = 10
-COMMAND = re.compile(r"curl |while curl |wait$|\./nsd |[a-z]+=")
+COMMAND = re.compile(r"curl |while curl |wait$|\./nsd |grep |[a-z]+=")
 DRAWN = re.compile(r"[0-9a-f]{8}-[0-9a-f]{4}-4[0-9a-f]{3}-[89ab][0-9a-f]{3}-[0-9a-f]{12}")
-COUNTED = re.compile(r"^(settled|premise fails at) \d+$")
+COUNTED = re.compile(r"^(settled |premise fails at |)\d+$")
 
 
 class Command:
@@ -44,7 +44,7 @@ class Command:
 
 
 def alike(line):
-    return COUNTED.sub(r"\1 *", DRAWN.sub("*", line))
+    return COUNTED.sub(r"\1*", DRAWN.sub("*", line))
 
 
 def read(page):

@@ -1,0 +1,102 @@
+"""Prints what a rotation costs a server that is read from.
+
+    python3 bench/rotation.py            both of the following
+    python3 bench/rotation.py reads      reads a second with `--rotate 100000` and with a log that is never given out, 10 rounds of each
+    python3 bench/rotation.py stops      how long a rotation stops reads, beside 1,000,000 live allocations
+
+For the first, rounds of 500,000 reads of one job follow each other in turn, 1,000 over one connection at a time; the medians are
+compared, and where that with rotation is below 0.95 of the other the exit status is 1. For the second, reads are made by the hundred,
+so that a rotation falls into one of a thousand such hundreds. Of each thousand the longest counts, with rotation and without; where
+the medians of these differ by more than a hundred reads take, the exit status is 1.
+"""
+
+import json
+import statistics
+import sys
+import time
+
+from driven import MHZ, jobs, nodes, places_in, request
+from served import BATCH, Served
+
+ROUNDS = 10
+READS = 500_000
+HUNDRED = 100
+LIMIT = ["--log-limit", "100000000"]
+ROTATE = ["--rotate", "100000"]
+JOBS = 1_000
+
+
+def rate(connection):
+    read = request("GET", "/v1/job/web")
+    reply = connection.ask(read)
+    start = time.perf_counter()
+    for _ in range(READS // BATCH):
+        connection.repeat(read, reply, BATCH)
+    return READS / (time.perf_counter() - start)
+
+
+def compared():
+    rates = {}
+    for turn in range(ROUNDS):
+        for arguments in (ROTATE, []):
+            server = Served([*LIMIT, *arguments])
+            connection = server.opened()
+            rates.setdefault(bool(arguments), []).append(rate(connection))
+            server.end()
+    rotated, plain = statistics.median(rates[True]), statistics.median(rates[False])
+    print(f"reads a second: {rotated:.0f} with rotation, {plain:.0f} without, {rotated / plain:.3f} of it")
+    return rotated >= 0.95 * plain
+
+
+def used(connection):
+    """Of all nodes, in MHz."""
+    body = connection.ask(request("GET", "/v1/node/pool/default/nodes")).split(b"\r\n\r\n", 1)[1]
+    return sum(node["Used"]["CPU"] for node in json.loads(body))
+
+
+def filled(arguments):
+    """A server with 1,000,000 live allocations and some, of 1,000 jobs of 1,000, over 1,000 nodes, and how many they are."""
+    server = Served([*LIMIT, *arguments])
+    connection = server.opened()
+    connection.all(nodes(places_in(JOBS)))
+    for job in jobs("big", JOBS, 20, 1):
+        connection.ask(job)
+    while (found := used(connection) // MHZ) < JOBS * 1_000:
+        time.sleep(0.5)
+    return server, connection, found
+
+
+def longest(connection, thousands):
+    """The longest of each thousand of hundreds of reads, and the median of all."""
+    read = request("GET", "/v1/job/web")
+    reply = connection.ask(read)
+    times, ends = [], []
+    for _ in range(thousands):
+        for _ in range(1_000):
+            start = time.perf_counter()
+            connection.repeat(read, reply, HUNDRED)
+            times.append(time.perf_counter() - start)
+        ends.append(max(times[-1_000:]))
+    return statistics.median(ends), statistics.median(times)
+
+
+def stops():
+    found = {}
+    for arguments in (ROTATE, []):
+        server, connection, allocations = filled(arguments)
+        found[bool(arguments)] = longest(connection, 31)
+        server.end()
+    rotated, plain, hundred = found[True][0], found[False][0], found[False][1]
+    print(f"beside {allocations} live allocations a hundred reads take {hundred * 1e6:.0f} microseconds; the longest of a thousand "
+          f"hundreds {rotated * 1e6:.0f} with one rotation among them, {plain * 1e6:.0f} without")
+    return rotated - plain <= hundred
+
+
+def main(words):
+    parts = {"reads": compared, "stops": stops}
+    results = [parts[word]() for word in words or parts]
+    return 0 if all(results) else 1
+
+
+if __name__ == "__main__":
+    sys.exit(main(sys.argv[1:]))
