@@ -1,8 +1,7 @@
 """Prints what a rotation costs a server that is read from.
 
-    python3 bench/rotation.py            both of the following
     python3 bench/rotation.py reads      reads a second with `--rotate 100000` and with a log that is never given out, 10 rounds of each
-    python3 bench/rotation.py stops      how long a rotation stops reads, beside 1,000,000 live allocations
+    python3 bench/rotation.py stops 100  how long a rotation stops reads, beside so many thousand live allocations
 
 For the first, rounds of 500,000 reads of one job follow each other in turn, 1,000 over one connection at a time; the medians are
 compared, and where that with rotation is below 0.95 of the other the exit status is 1. For the second, reads are made by the hundred,
@@ -23,7 +22,6 @@ READS = 500_000
 HUNDRED = 100
 LIMIT = ["--log-limit", "100000000"]
 ROTATE = ["--rotate", "100000"]
-JOBS = 1_000
 
 
 def rate(connection):
@@ -54,14 +52,17 @@ def used(connection):
     return sum(node["Used"]["CPU"] for node in json.loads(body))
 
 
-def filled(arguments):
-    """A server with 1,000,000 live allocations and some, of 1,000 jobs of 1,000, over 1,000 nodes, and how many they are."""
-    server = Served([*LIMIT, *arguments])
+def filled(arguments, thousands):
+    """A server with so many thousand live allocations, of as many jobs, over 1,000 nodes, and how many they are. One worker places
+    them, since two would find nodes full that they both saw with room."""
+    server = Served([*LIMIT, "--workers", "1", *arguments])
     connection = server.opened()
-    connection.all(nodes(places_in(JOBS)))
-    for job in jobs("big", JOBS, 20, 1):
+    # one node is there, and a pool has 1,000 at most
+    connection.all(nodes(places_in(thousands) + 2)[1:])
+    connection.ask(request("PUT", "/v1/namespace", {"Name": "big"}))
+    for job in jobs("big", thousands, 20, 1, "big"):
         connection.ask(job)
-    while (found := used(connection) // MHZ) < JOBS * 1_000:
+    while (found := used(connection) // MHZ) < thousands * 1_000:
         time.sleep(0.5)
     return server, connection, found
 
@@ -80,10 +81,10 @@ def longest(connection, thousands):
     return statistics.median(ends), statistics.median(times)
 
 
-def stops():
+def stops(thousands):
     found = {}
     for arguments in (ROTATE, []):
-        server, connection, allocations = filled(arguments)
+        server, connection, allocations = filled(arguments, thousands)
         found[bool(arguments)] = longest(connection, 31)
         server.end()
     rotated, plain, hundred = found[True][0], found[False][0], found[False][1]
@@ -93,9 +94,8 @@ def stops():
 
 
 def main(words):
-    parts = {"reads": compared, "stops": stops}
-    results = [parts[word]() for word in words or parts]
-    return 0 if all(results) else 1
+    is_right = stops(int(words[1])) if words[:1] == ["stops"] else compared()
+    return 0 if is_right else 1
 
 
 if __name__ == "__main__":
